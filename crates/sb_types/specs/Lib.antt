@@ -1,0 +1,9 @@
+pub mod Text
+pub mod Value
+pub mod Content
+pub mod Records
+pub mod Runs
+pub mod Writes
+pub mod Lengths
+pub mod Limits
+pub mod Faults

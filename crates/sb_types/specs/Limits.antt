@@ -1,0 +1,50 @@
+-- Which parts make an entry, a block, a delta or settings.
+use Rattle.std.specs.Prelude.{ℕ, ◌+◌, ◌-◌, ◌^◌, Bool, true, ◌&&◌, ◌==◌, nat_le, nat_lt, List, [], ◌∷◌, length}
+use Rattle.std.specs.List.{list_all}
+use Rattle.std.specs.Ordering.{nat_cmp, is_lt}
+use Rattle.std.specs.Cmp.Lexicographic.{slice_cmp}
+use Rattle.sb_types.specs.declared.entry.Slot.{Slot}
+use Rattle.sb_types.specs.declared.entry.Slot.TheVariants.{Set, Removed}
+use Rattle.sb_types.specs.declared.limits.TheConstants.{ENTRIES_MOST, PAYLOAD_MOST, BUDGET_LEAST, BUDGET_MOST, VERSION_MOST, SEATS_MOST, WORKERS_MOST}
+use Rattle.sb_types.specs.Text.{is_between, is_name, is_key}
+use Rattle.sb_types.specs.Value.{is_value}
+use Rattle.sb_types.specs.Records.{Entry, Block, Settings}
+use Rattle.sb_types.specs.Runs.{are_ascending, are_distinct, last_version}
+use Rattle.sb_types.specs.Lengths.{delta_length}
+
+abbrev pub is_slot : Slot → Bool
+is_slot (Set value) = is_value value
+is_slot Removed = true
+
+abbrev pub is_entry : Entry → Bool
+is_entry e = is_key e.key && is_between 1 (2 ^ 64 - 1) e.version && is_slot e.slot
+
+-- from 1 to 65,535 entries, ascending above after, each key once
+abbrev pub are_block_entries : ℕ → List Entry → Bool
+are_block_entries after entries = is_between 1 ENTRIES_MOST (length entries) && are_ascending after entries && are_distinct entries
+
+-- the block of these entries
+abbrev pub block_of_entries : List ℕ → ℕ → List Entry → Block
+block_of_entries owner after entries = record { owner = owner; floor = 0; after = after; upto = last_version after entries; entries = entries }
+
+-- a block that a delta may carry
+abbrev pub is_delta_block : Block → Bool
+is_delta_block b = is_name b.owner && list_all is_entry b.entries && are_block_entries b.after b.entries && b.floor == 0 && b.upto == last_version b.after b.entries
+
+abbrev pub text_lt : List ℕ → List ℕ → Bool
+text_lt a b = is_lt (slice_cmp nat_cmp a b)
+
+-- each owner's name is behind the one before, and the first behind last
+abbrev pub are_owners_above : List ℕ → List Block → Bool
+are_owners_above last [] = true
+are_owners_above last (b ∷ bs) = text_lt last b.owner && are_owners_above b.owner bs
+
+-- owners ascend, and the payload is within its limit (no name is empty, so that each is behind the empty text)
+abbrev pub are_delta_blocks : List Block → Bool
+are_delta_blocks blocks = are_owners_above [] blocks && nat_le (delta_length blocks) PAYLOAD_MOST
+
+abbrev pub is_delta : List Block → Bool
+is_delta blocks = list_all is_delta_block blocks && are_delta_blocks blocks
+
+abbrev pub are_settings : Settings → Bool
+are_settings s = is_name s.cluster && is_between BUDGET_LEAST BUDGET_MOST s.budget && is_between 1 VERSION_MOST s.max_version && is_between 1 SEATS_MOST s.seats && is_between 1 WORKERS_MOST s.workers

@@ -1,0 +1,88 @@
+-- Lists of entries: their order, their keys, and their parts.
+use Rattle.std.specs.Prelude.{◌≡◌, ℕ, ◌≤◌, ◌<◌, ◌+◌, Bool, true, false, ◌&&◌, ◌||◌, not, nat_lt, nat_le, nat_eq, List, [], ◌∷◌, ◌++◌, ◌⊎◌, filter, find, Option, Some, None}
+use Rattle.std.specs.Cmp.Lexicographic.{pointwise}
+use Rattle.std.specs.List.{list_any, list_all}
+use Rattle.sb_types.specs.declared.entry.Slot.{Slot}
+use Rattle.sb_types.specs.declared.entry.Slot.TheVariants.{Set, Removed}
+use Rattle.sb_types.specs.Value.{Value}
+use Rattle.sb_types.specs.Records.{Entry, Table, Block}
+
+-- the element stands in the list
+abbrev pub Stands : {X : Type 0} → List X → X → Type 0
+Stands [] e = ⊥
+Stands (x ∷ xs) e = (x ≡ e) ⊎ Stands xs e
+
+-- each version is above the one before, and the first above last
+abbrev pub are_ascending : ℕ → List Entry → Bool
+are_ascending last [] = true
+are_ascending last (x ∷ xs) = nat_lt last x.version && are_ascending x.version xs
+
+abbrev pub has_key : List ℕ → List Entry → Bool
+has_key key entries = list_any (λ entry. pointwise nat_eq entry.key key) entries
+
+-- no key stands twice
+abbrev pub are_distinct : List Entry → Bool
+are_distinct [] = true
+are_distinct (entry ∷ entries) = not (has_key entry.key entries) && are_distinct entries
+
+abbrev pub last_version : ℕ → List Entry → ℕ
+last_version before [] = before
+last_version before (entry ∷ entries) = last_version entry.version entries
+
+-- the entries above a version
+abbrev pub above : ℕ → List Entry → List Entry
+above version entries = filter (λ entry. nat_lt version entry.version) entries
+
+-- the entries up to a version
+abbrev pub within : ℕ → List Entry → List Entry
+within version entries = filter (λ entry. nat_le entry.version version) entries
+
+-- the entries under none of these entries' keys
+abbrev pub without : List Entry → List Entry → List Entry
+without others entries = filter (λ entry. not (has_key entry.key others)) entries
+
+-- the entries under one of these entries' keys
+abbrev pub only : List Entry → List Entry → List Entry
+only others entries = filter (λ entry. has_key entry.key others) entries
+
+abbrev pub is_set : Slot → Bool
+is_set (Set value) = true
+is_set Removed = false
+
+-- the entries that are no marker at or below the floor
+abbrev pub live : ℕ → List Entry → List Entry
+live floor entries = filter (λ entry. is_set entry.slot || nat_lt floor entry.version) entries
+
+-- the entries with others entered, each in place of its key's
+abbrev pub entered : List Entry → List Entry → List Entry
+entered entries others = without others entries ++ others
+
+-- a list of entries of versions above after, at most upto: ascending, one a key
+pub record IsRun (after upto : ℕ) (entries : List Entry) : Type 0 where
+  pub ascending : are_ascending after entries ≡ true
+  pub most : last_version after entries ≤ upto
+  pub distinct : are_distinct entries ≡ true
+
+pub record IsTable (t : Table) : Type 0 where
+  pub run : IsRun 0 t.held t.entries
+  pub floor : t.floor ≤ t.held
+
+pub record IsBlock (b : Block) : Type 0 where
+  pub run : IsRun b.after b.upto b.entries
+  pub order : b.after < b.upto
+
+-- the entry under a key, where there is one
+abbrev pub entry_at : List ℕ → List Entry → Option Entry
+entry_at key entries = find (λ entry. pointwise nat_eq entry.key key) entries
+
+abbrev pub set_at : ℕ → Slot → Option (Value × ℕ)
+set_at version (Set value) = Some (value, version)
+set_at version Removed = None
+
+abbrev pub shown_of : Option Entry → Option (Value × ℕ)
+shown_of None = None
+shown_of (Some e) = set_at e.version e.slot
+
+-- what a reader is shown of a key: the value and its version, or nothing for a marker or an absent key
+abbrev pub shown_at : List ℕ → List Entry → Option (Value × ℕ)
+shown_at key entries = shown_of (entry_at key entries)

@@ -1,0 +1,121 @@
+ghost use Rattle.std.specs.Prelude.{◌≡◌, ◌≤◌, true, Ok};
+ghost use Rattle.sb_types.specs.Lengths.{slot_length, entry_length};
+ghost use Rattle.sb_types.specs.Limits.{is_slot, is_entry};
+ghost use Rattle.sb_types.specs.Faults.{Gives};
+
+use crate::fault::Fault;
+use crate::text::Key;
+use crate::value::Value;
+use std::alloc::Global;
+use std::marker::Model;
+
+/// What stands under a key: a value, or the marker of a removal.
+#[derive(Debug, Drop)]
+pub enum Slot {
+    Set(Value),
+    Removed,
+}
+
+/// A write of an owner: what it puts under a key.
+#[derive(Debug, Drop)]
+pub struct Write {
+    pub key: Key,
+    pub slot: Slot,
+}
+
+/// A write with its version, which is at least 1.
+#[derive(Debug, Drop)]
+pub struct Entry {
+    key: Key,
+    version: u64,
+    slot: Slot,
+}
+
+impl Model for Entry {
+    ghost use Rattle.std.specs.Prelude.{◌≡◌, true};
+    ghost use Rattle.sb_types.specs.Records as records;
+
+    ghost Value = { records.Entry };
+
+    ghost use Rattle.sb_types.specs.Limits.{is_entry};
+
+    ghost view = { λ e. record { key = e.key; version = e.version; slot = e.slot } };
+
+    ghost invariant = { λ e. is_entry (record { key = e.key; version = e.version; slot = e.slot }) ≡ true };
+}
+
+impl Slot {
+    /// An equal slot. `NoMemory`.
+    pub fn copy(&self, alloc: Global) -> Result<Slot, Fault>
+        ensures { Gives result (Ok self.now) }
+    {
+        match self {
+            Slot::Set(value) => Ok(Slot::Set(value.copy(alloc)?)),
+            Slot::Removed => Ok(Slot::Removed),
+        }
+    }
+
+    /// How many bytes it takes in a message, its tag not counted: 0 for a removal, else 1 to 129.
+    pub fn encoded_length(&self) -> u64
+        ensures length { result ≡ slot_length self.now }
+        ensures slot { is_slot self.now ≡ true }
+        ensures most { result ≤ 129 }
+    {
+        match self {
+            Slot::Set(value) => value.encoded_length(),
+            Slot::Removed => 0,
+        }
+    }
+}
+
+impl Entry {
+    pub fn new(key: Key, version: u64, slot: Slot) -> Entry
+        requires { 1 ≤ version }
+        ensures { result ≡ record { key = key; version = version; slot = slot } }
+    {
+        let _ = key.bytes();
+        let _ = slot.encoded_length();
+        Entry { key, version, slot }
+    }
+
+    pub fn key(&self) -> &Key
+        ensures key { result.now ≡ self.now.key }
+        ensures entry { is_entry self.now ≡ true }
+    {
+        &self.key
+    }
+
+    pub fn version(&self) -> u64
+        ensures version { result ≡ self.now.version }
+        ensures entry { is_entry self.now ≡ true }
+    {
+        self.version
+    }
+
+    pub fn slot(&self) -> &Slot
+        ensures slot { result.now ≡ self.now.slot }
+        ensures entry { is_entry self.now ≡ true }
+    {
+        &self.slot
+    }
+
+    /// An equal entry. `NoMemory`.
+    pub fn copy(&self, alloc: Global) -> Result<Entry, Fault>
+        ensures { Gives result (Ok self.now) }
+    {
+        Ok(Entry {
+            key: self.key,
+            version: self.version,
+            slot: self.slot.copy(alloc)?,
+        })
+    }
+
+    /// How many bytes it takes in a message: 11 to 203.
+    pub fn encoded_length(&self) -> u64
+        ensures length { result ≡ entry_length self.now }
+        ensures entry { is_entry self.now ≡ true }
+        ensures most { result ≤ 203 }
+    {
+        10 + self.key.bytes().len() as u64 + self.slot.encoded_length()
+    }
+}

@@ -1,0 +1,52 @@
+//! The limits of the directory and the numbers of its format, each in one place.
+
+/// The most bytes of a node's, an owner's or a cluster's name.
+pub const NAME_MOST: usize = 32;
+
+/// The most bytes of a key, and of a prefix of keys.
+pub const KEY_MOST: usize = 64;
+
+/// The most bytes of an address.
+pub const ADDR_MOST: usize = 128;
+
+/// The greatest weight.
+pub const WEIGHT_MOST: u64 = 9_223_372_036_854_775_807;
+
+/// The most owners that a node holds, itself included.
+pub const OWNERS_MOST: usize = 1_024;
+
+/// The most keys of one owner, removal markers counted.
+pub const KEYS_MOST: usize = 4_096;
+
+/// The most entries of one block.
+pub const ENTRIES_MOST: usize = 65_535;
+
+/// The greatest version that settings may allow.
+pub const VERSION_MOST: u64 = 1_099_511_627_775;
+
+/// The most seats of a directory.
+pub const SEATS_MOST: u64 = 64;
+
+/// The most workers of a node.
+pub const WORKERS_MOST: u64 = 62;
+
+/// The least budget: the largest delta of one entry fits it.
+pub const BUDGET_LEAST: u64 = 256;
+
+/// The greatest budget, which is the length of the longest frame.
+pub const BUDGET_MOST: u64 = 65_536;
+
+/// The first byte of a frame.
+pub const FRAME_MARK: u8 = 0xa7;
+
+/// The second byte of a frame, the version of the format.
+pub const FRAME_VERSION: u8 = 1;
+
+/// The bytes of a frame before its payload.
+pub const HEADER_LENGTH: u64 = 6;
+
+/// The longest payload of a frame.
+pub const PAYLOAD_MOST: u64 = 65_530;
+
+/// The greatest tag of a slot.
+pub const TAG_MOST: u8 = 3;

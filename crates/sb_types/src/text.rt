@@ -1,0 +1,157 @@
+ghost use Rattle.std.specs.Prelude.{◌≡◌, true, if◌then◌else◌, Ok, Err};
+ghost use Rattle.std.specs.List.{list_all};
+ghost use Rattle.sb_types.specs.Text.{is_name_byte, is_key_byte, is_name, is_key, is_prefix};
+
+use crate::fault::Fault;
+use crate::inline::Inline;
+use crate::limits::{KEY_MOST, NAME_MOST};
+use std::marker::Model;
+
+fn test_name_byte(byte: u8) -> bool
+    ensures { result ≡ is_name_byte byte }
+{
+    matches!(byte, b'a'..=b'z' | b'0'..=b'9' | b'-')
+}
+
+fn test_key_byte(byte: u8) -> bool
+    ensures { result ≡ is_key_byte byte }
+{
+    matches!(byte, b'a'..=b'z' | b'0'..=b'9' | b'.' | b'_' | b'/' | b'-')
+}
+
+fn has_name_bytes(text: &[u8]) -> bool
+    ensures { result ≡ list_all is_name_byte text.now }
+{
+    text.iter().all(|byte| test_name_byte(*byte))
+}
+
+fn has_key_bytes(text: &[u8]) -> bool
+    ensures { result ≡ list_all is_key_byte text.now }
+{
+    text.iter().all(|byte| test_key_byte(*byte))
+}
+
+/// The name of a node, which is also the owner of what it writes, or of a cluster: 1 to 32 of the
+/// bytes `a-z`, `0-9` and `-`. Names are ordered by their bytes.
+#[derive(Clone, Copy, Debug, PartialEq, Eq, PartialOrd, Ord)]
+pub struct Name {
+    text: Inline<NAME_MOST>,
+}
+
+impl Model for Name {
+    ghost use Rattle.std.specs.Prelude.{◌≡◌, ℕ, List, true};
+    ghost use Rattle.sb_types.specs.Text.{is_name};
+
+    ghost Value = { List ℕ };
+
+    ghost view = { λ name. name.text };
+
+    ghost invariant = { λ name. is_name name.text ≡ true };
+
+    ghost inverse = { λ text. record { text = text } };
+}
+
+impl Name {
+    /// Reads a name. `BadName` where the text is not one.
+    pub fn read(text: &[u8]) -> Result<Name, Fault>
+        ensures { result ≡ (if is_name text.now then Ok text.now else Err Fault.BadName) }
+    {
+        if text.is_empty() || text.len() > NAME_MOST || !has_name_bytes(text) {
+            return Err(Fault::BadName);
+        }
+        Ok(Name {
+            text: Inline::new(text),
+        })
+    }
+
+    /// The bytes of its text.
+    pub fn bytes(&self) -> &[u8]
+        ensures text { result.now ≡ self.now }
+        ensures name { is_name self.now ≡ true }
+    {
+        self.text.bytes()
+    }
+}
+
+/// What an owner keeps a value under: 1 to 64 of the bytes `a-z`, `0-9`, `.`, `_`, `/` and `-`. Keys
+/// are ordered by their bytes.
+#[derive(Clone, Copy, Debug, PartialEq, Eq, PartialOrd, Ord)]
+pub struct Key {
+    text: Inline<KEY_MOST>,
+}
+
+impl Model for Key {
+    ghost use Rattle.std.specs.Prelude.{◌≡◌, ℕ, List, true};
+    ghost use Rattle.sb_types.specs.Text.{is_key};
+
+    ghost Value = { List ℕ };
+
+    ghost view = { λ key. key.text };
+
+    ghost invariant = { λ key. is_key key.text ≡ true };
+
+    ghost inverse = { λ text. record { text = text } };
+}
+
+impl Key {
+    /// Reads a key. `BadKey` where the text is not one.
+    pub fn read(text: &[u8]) -> Result<Key, Fault>
+        ensures { result ≡ (if is_key text.now then Ok text.now else Err Fault.BadKey) }
+    {
+        if text.is_empty() || text.len() > KEY_MOST || !has_key_bytes(text) {
+            return Err(Fault::BadKey);
+        }
+        Ok(Key {
+            text: Inline::new(text),
+        })
+    }
+
+    /// The bytes of its text.
+    pub fn bytes(&self) -> &[u8]
+        ensures text { result.now ≡ self.now }
+        ensures key { is_key self.now ≡ true }
+    {
+        self.text.bytes()
+    }
+}
+
+/// The beginning of keys: 0 to 64 of the bytes of keys.
+#[derive(Clone, Copy, Debug, PartialEq, Eq, PartialOrd, Ord)]
+pub struct Prefix {
+    text: Inline<KEY_MOST>,
+}
+
+impl Model for Prefix {
+    ghost use Rattle.std.specs.Prelude.{◌≡◌, ℕ, List, true};
+    ghost use Rattle.sb_types.specs.Text.{is_prefix};
+
+    ghost Value = { List ℕ };
+
+    ghost view = { λ prefix. prefix.text };
+
+    ghost invariant = { λ prefix. is_prefix prefix.text ≡ true };
+
+    ghost inverse = { λ text. record { text = text } };
+}
+
+impl Prefix {
+    /// Reads a prefix. `BadKey` where the text is not one.
+    pub fn read(text: &[u8]) -> Result<Prefix, Fault>
+        ensures { result ≡ (if is_prefix text.now then Ok text.now else Err Fault.BadKey) }
+    {
+        if text.len() > KEY_MOST || !has_key_bytes(text) {
+            return Err(Fault::BadKey);
+        }
+        Ok(Prefix {
+            text: Inline::new(text),
+        })
+    }
+
+    /// The bytes of its text.
+    pub fn bytes(&self) -> &[u8]
+        ensures text { result.now ≡ self.now }
+        ensures prefix { is_prefix self.now ≡ true }
+    {
+        self.text.bytes()
+    }
+}

@@ -1,0 +1,143 @@
+ghost use Rattle.std.specs.Prelude.{◌≡◌, ◌≢◌, ◌≤◌, ◌==◌, codes, true, false, if◌then◌else◌, Ok, Err, IfOk, IfErr};
+ghost use Rattle.std.specs.Option.{option_copied};
+ghost use Rattle.std.specs.List.{list_all};
+ghost use Rattle.sb_types.specs.Text.{is_addr, is_addr_byte};
+ghost use Rattle.sb_types.specs.Value as values;
+ghost use Rattle.sb_types.specs.Lengths.{value_length};
+ghost use Rattle.sb_types.specs.Faults.{Gives};
+
+use crate::fault::Fault;
+use crate::limits::{ADDR_MOST, WEIGHT_MOST};
+use std::alloc::Global;
+use std::marker::Model;
+
+#[derive(Debug, Drop, PartialEq, Eq)]
+enum Content {
+    Addr(Vec<u8>),
+    Weight(u64),
+    Flag(bool),
+}
+
+/// What an owner keeps under a key: an address of 1 to 128 printing bytes, a weight below 2^63, or a flag.
+#[derive(Debug, Drop)]
+pub struct Value {
+    content: Content,
+}
+
+impl Model for Value {
+    ghost use Rattle.std.specs.Prelude.{◌≡◌, true};
+    ghost use Rattle.sb_types.specs.Value as values;
+
+    ghost Value = { values.Value };
+
+    ghost use Rattle.sb_types.specs.Content.{seen};
+
+    ghost view = { λ value. seen value.content };
+
+    ghost invariant = { λ value. values.is_value (seen value.content) ≡ true };
+}
+
+fn test_addr_byte(byte: u8) -> bool
+    ensures { result ≡ is_addr_byte byte }
+{
+    matches!(byte, 0x21..=0x7e)
+}
+
+fn has_addr_bytes(text: &[u8]) -> bool
+    ensures { result ≡ list_all is_addr_byte text.now }
+{
+    text.iter().all(|byte| test_addr_byte(*byte))
+}
+
+impl Value {
+    /// An address. `BadValue` where the text is not one; then `NoMemory`.
+    pub fn addr(alloc: Global, text: &[u8]) -> Result<Value, Fault>
+        ensures { Gives result (if is_addr text.now then Ok (values.Addr text.now) else Err Fault.BadValue) }
+    {
+        if text.is_empty() || text.len() > ADDR_MOST || !has_addr_bytes(text) {
+            return Err(Fault::BadValue);
+        }
+        Ok(Value {
+            content: Content::Addr(Vec::from_slice(alloc, text)?),
+        })
+    }
+
+    /// A weight. `BadValue` from 2^63 on.
+    pub fn weight(weight: u64) -> Result<Value, Fault>
+        ensures { result ≡ (if values.is_value (values.Weight weight) then Ok (values.Weight weight) else Err Fault.BadValue) }
+    {
+        if weight > WEIGHT_MOST {
+            return Err(Fault::BadValue);
+        }
+        Ok(Value {
+            content: Content::Weight(weight),
+        })
+    }
+
+    pub fn flag(flag: bool) -> Value
+        ensures { result ≡ values.Flag flag }
+    {
+        Value {
+            content: Content::Flag(flag),
+        }
+    }
+
+    /// The address, where it is one.
+    pub fn as_addr(&self) -> Option<&[u8]>
+        ensures text { option_copied result ≡ values.addr_of self.now }
+        ensures value { values.is_value self.now ≡ true }
+    {
+        match &self.content {
+            Content::Addr(text) => Some(text.as_slice()),
+            _ => None,
+        }
+    }
+
+    /// The weight, where it is one.
+    pub fn as_weight(&self) -> Option<u64>
+        ensures weight { result ≡ values.weight_of self.now }
+        ensures value { values.is_value self.now ≡ true }
+    {
+        match &self.content {
+            Content::Weight(weight) => Some(*weight),
+            _ => None,
+        }
+    }
+
+    /// The flag, where it is one.
+    pub fn as_flag(&self) -> Option<bool>
+        ensures flag { result ≡ values.flag_of self.now }
+        ensures value { values.is_value self.now ≡ true }
+    {
+        match &self.content {
+            Content::Flag(flag) => Some(*flag),
+            _ => None,
+        }
+    }
+
+    /// An equal value. `NoMemory`.
+    pub fn copy(&self, alloc: Global) -> Result<Value, Fault>
+        ensures { Gives result (Ok self.now) }
+    {
+        Ok(Value {
+            content: match &self.content {
+                Content::Addr(text) => Content::Addr(Vec::from_slice(alloc, text)?),
+                Content::Weight(weight) => Content::Weight(*weight),
+                Content::Flag(flag) => Content::Flag(*flag),
+            },
+        })
+    }
+
+    /// How many bytes it takes in a message: 2 to 129.
+    pub fn encoded_length(&self) -> u64
+        ensures length { result ≡ value_length self.now }
+        ensures value { values.is_value self.now ≡ true }
+        ensures most { result ≤ 129 }
+    {
+        match &self.content {
+            Content::Addr(text) => 1 + text.len() as u64,
+            Content::Weight(_) => 8,
+            Content::Flag(_) => 1,
+        }
+    }
+}
