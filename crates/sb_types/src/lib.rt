@@ -16,6 +16,6 @@ pub use limits::{
     KEY_MOST, KEYS_MOST, NAME_MOST, OWNERS_MOST, PAYLOAD_MOST, SEATS_MOST, TAG_MOST, VERSION_MOST,
     WEIGHT_MOST, WORKERS_MOST,
 };
-pub use settings::Order;
+pub use settings::{Order, RawSettings, Settings};
 pub use text::{Key, Name, Prefix};
 pub use value::Value;
