@@ -1,6 +1,9 @@
 //! x
 #![tactic(auto)]
 
+mod block;
+mod delta;
+mod distinct;
 mod entry;
 mod fault;
 mod inline;
@@ -9,6 +12,8 @@ mod settings;
 mod text;
 mod value;
 
+pub use block::Block;
+pub use delta::Delta;
 pub use entry::{Entry, Slot, Write};
 pub use fault::Fault;
 pub use limits::{
