@@ -74,7 +74,7 @@ impl Block {
         if entries.is_empty()
             || entries.len() > ENTRIES_MOST
             || !do_ascend(after, &entries)
-            || !are_keys_distinct(after, &mut entries)
+            || !are_keys_distinct(&mut entries)
         {
             return Err(Fault::Malformed(3));
         }

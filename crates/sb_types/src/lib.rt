@@ -1,4 +1,6 @@
-//! x
+//! The values of the directory: names, keys, values, entries, blocks, deltas, settings and faults.
+//!
+//! Each type keeps its limits, and contracts see it as plain data: the records of `specs/`.
 #![tactic(auto)]
 
 mod block;
@@ -24,3 +26,6 @@ pub use limits::{
 pub use settings::{Order, RawSettings, Settings};
 pub use text::{Key, Name, Prefix};
 pub use value::Value;
+
+#[cfg(test)]
+mod tests;
