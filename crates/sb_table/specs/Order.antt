@@ -1,0 +1,19 @@
+-- Entries in the order of their keys.
+use Rattle.std.specs.Prelude.{ℕ, List, [], ◌∷◌, nat_eq, filter, if◌then◌else◌}
+use Rattle.std.specs.List.{starts_with}
+use Rattle.sb_types.specs.Limits.{text_lt}
+use Rattle.sb_types.specs.Records.{Entry}
+
+-- the entries under the keys that begin so
+abbrev pub under : List ℕ → List Entry → List Entry
+under prefix entries = filter (λ entry. starts_with nat_eq entry.key prefix) entries
+
+-- the entry laid before the first of a greater key
+abbrev pub put_by_key : Entry → List Entry → List Entry
+put_by_key e [] = e ∷ []
+put_by_key e (x ∷ xs) = if text_lt e.key x.key then e ∷ x ∷ xs else x ∷ put_by_key e xs
+
+-- the entries in ascending order of their keys
+abbrev pub by_key : List Entry → List Entry
+by_key [] = []
+by_key (e ∷ es) = put_by_key e (by_key es)
