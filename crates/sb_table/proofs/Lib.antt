@@ -1,2 +1,3 @@
 pub mod Ascent
 pub mod Enter
+pub mod Plain

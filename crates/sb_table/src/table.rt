@@ -1,5 +1,6 @@
-ghost use Rattle.std.specs.Prelude.{◌≡◌, ◌<◌, ◌≤◌, ◌==◌, true, [], if◌then◌else◌, Ok, Err, OnOk, OnErr, IfErr, ◌∷◌, length, drop};
+ghost use Rattle.std.specs.Prelude.{◌≡◌, ◌<◌, ◌≤◌, ◌==◌, true, [], if◌then◌else◌, Ok, Err, OnOk, OnErr, IfErr, ◌∷◌, length, drop, nat_eq, position};
 ghost use Rattle.std.specs.Option.{option_map};
+ghost use Rattle.std.specs.Cmp.Lexicographic.{pointwise};
 ghost use Rattle.sb_types.specs.Faults.{Gives};
 ghost use Rattle.sb_types.specs.Runs.{above, are_ascending, are_distinct, entered, entry_at, has_key};
 ghost use Rattle.sb_table.specs.Plain.{IsPlainTable, plain_table, with_entry, is_full_for, version_and_slot};
@@ -57,7 +58,10 @@ impl Table {
         ensures version { result ≡ self.now.held }
         ensures table { IsPlainTable self.now }
     {
-        self.entries.last().map_or(0, |entry| entry.version())
+        match self.entries.last() {
+            Some(entry) => entry.version(),
+            None => 0,
+        }
     }
 
     /// How many keys there are, removed ones counted.
@@ -99,6 +103,12 @@ fn holds_key(entries: &[Entry], key: &Key) -> bool
     entries.iter().any(|entry| entry.key() == key)
 }
 
+fn place_of(entries: &[Entry], key: &Key) -> Option<usize>
+    ensures { result ≡ position (λ held. pointwise nat_eq held.key key.now) entries.now }
+{
+    entries.iter().position(|held| held.key() == key)
+}
+
 /// Puts an entry behind all others, and takes out what its key had.
 fn enter(entries: &mut Vec<Entry>, entry: Entry) -> Result<(), Fault>
     requires { are_distinct entries.old.items ≡ true }
@@ -106,8 +116,7 @@ fn enter(entries: &mut Vec<Entry>, entry: Entry) -> Result<(), Fault>
     ensures err { OnErr result (entries.new.items ≡ entries.old.items) }
     ensures fault { IfErr result (λ fault. fault ≡ Fault.NoMemory) }
 {
-    let key = entry.key();
-    let place = entries.iter().position(|held| held.key() == key);
+    let place = place_of(entries, entry.key());
     entries.push(entry)?;
     if let Some(place) = place {
         entries.remove(place);
