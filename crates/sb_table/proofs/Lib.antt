@@ -1,3 +1,5 @@
 pub mod Ascent
 pub mod Enter
 pub mod Plain
+pub mod Texts
+pub mod ByKey

@@ -2,7 +2,9 @@
 #![tactic(auto)]
 
 mod after;
+mod prefixed;
 mod table;
 
 pub use after::After;
+pub use prefixed::Prefixed;
 pub use table::Table;

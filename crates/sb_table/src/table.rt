@@ -4,9 +4,11 @@ ghost use Rattle.std.specs.Cmp.Lexicographic.{pointwise};
 ghost use Rattle.sb_types.specs.Faults.{Gives};
 ghost use Rattle.sb_types.specs.Runs.{above, are_ascending, are_distinct, entered, entry_at, has_key};
 ghost use Rattle.sb_table.specs.Plain.{IsPlainTable, plain_table, with_entry, is_full_for, version_and_slot};
+ghost use Rattle.sb_table.specs.Order.{by_key, under};
 
 use crate::after::After;
-use sb_types::{Entry, Fault, KEYS_MOST, Key, Slot};
+use crate::prefixed::Prefixed;
+use sb_types::{Entry, Fault, KEYS_MOST, Key, Prefix, Slot};
 use std::alloc::Global;
 use std::marker::Model;
 
@@ -94,6 +96,14 @@ impl Table {
         ensures table { IsPlainTable self.now }
     {
         After::new(&self.entries[first_above(&self.entries, version)..])
+    }
+
+    /// The entries under the keys that begin with the prefix, in ascending order of their keys.
+    pub fn prefix(&self, prefix: &Prefix) -> Prefixed<'_>
+        ensures entries { result ≡ by_key (under prefix.now self.now.entries) }
+        ensures table { IsPlainTable self.now }
+    {
+        Prefixed::new(&self.entries, *prefix)
     }
 }
 
