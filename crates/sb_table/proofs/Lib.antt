@@ -3,3 +3,5 @@ pub mod Enter
 pub mod Plain
 pub mod Texts
 pub mod ByKey
+pub mod Lookup
+pub mod Sorting

@@ -2,6 +2,7 @@
 #![tactic(auto)]
 
 mod after;
+pub mod laws;
 mod prefixed;
 mod table;
 

@@ -33,7 +33,8 @@ impl Model for Table {
 impl Table {
     /// A table of nothing. It takes no memory.
     pub fn new(alloc: Global) -> Table
-        ensures { result ≡ plain_table [] }
+        ensures nothing { result ≡ plain_table [] }
+        ensures table { IsPlainTable result }
     {
         Table {
             entries: Vec::new(alloc),
