@@ -22,7 +22,7 @@ BAD_VALUES = [
     "addr " + "x" * 129, "addr \x7f", "addr x\r", "addr é", "addr a\x1fb", "addr a\tb",
     "weight 9223372036854775808", f"weight {GREATEST}", f"weight {GREATEST + 1}", "weight 00", "weight 01", "weight -1", "weight +1", "weight 1.0", "weight 0x1",
     "weight x", "weight " + "9" * 40, "weight 5\r", "weight ٣", "flag True", "flag 1", "flag no", "flag true\r", "weights 5", "Addr x", "text x", "removed x", "removed removed",
-]  # fmt: skip
+]
 GOOD_VALUES = ["addr " + "x" * 128, "addr !", "addr ~", "addr " + ADDR_BYTES, "weight 0", "weight 1", "weight 9223372036854775807", "weight 9223372036854775806", "flag true", "flag false"]
 BAD_NUMBERS = ["-1", "+1", "x", "1x", "0x1", "1_0", "1.0", str(GREATEST + 1), "9" * 30, "٣", "1\r", "\x00"]
 
@@ -92,7 +92,7 @@ class Life:
             f"give {self.node()} {self.node()} {rng.choice(BAD_NUMBERS)}", f"put {self.node()} k removed", f"put {self.node()} k addr a b",
             f"del {self.node()} k", f"commit {self.node()} k weight 1", f"take {self.node()}", f"upto {self.node()} a", "connect a 1", "show 1",
             self.lines[0], "world 256 breadth 100 a b", "world",
-        ]  # fmt: skip
+        ]
         return rng.choice(ways)
 
     def live(self, count, faulty=0.0):
@@ -144,7 +144,7 @@ def worlds(rng):
         f"world {good} {' '.join(names)}", f"world {rng.choice(BAD_SETTINGS)} {' '.join(names)}", f"world {rng.choice(BAD_SETTINGS)} a", f"world {good} a b a",
         f"world {good}", f"world {good} ", f"world {good}  a", f"world {rng.choice(BAD_NUMBERS)} breadth 5 a", f"world 256 depth {rng.choice(BAD_NUMBERS)} a",
         "world 256 Breadth 5 a", "world 256 random 5 a", "world 256 5 a", f"World {good} a", f" world {good} a", "world", "put a k weight 1", "\r", " ", f"world {good} a\r",
-    ])  # fmt: skip
+    ])
     return [""] * rng.randint(0, 2) + [line, "put a k weight 1", "read a a k"]
 
 
