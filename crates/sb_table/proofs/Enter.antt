@@ -69,11 +69,10 @@ length-without_lt e (x ∷ xs) some =
     (λ behind. omega (arith, length-without_lt e xs behind)) (or_cases (pointwise nat_eq x.key e.key) (has_key e.key xs) some))
     (λ _. omega (arith, length-without_le e xs))
 
--- what is taken out of one key's place is what stands under it
-remove_at : (e : Entry) (es ys : List Entry) → are_distinct es ≡ true → position_or_len (λ held. pointwise nat_eq held.key e.key) es < length es
-    → remove (es ++ ys) (position_or_len (λ held. pointwise nat_eq held.key e.key) es) ≡ without (e ∷ []) es ++ ys
-remove_at e [] ys apart lt = absurd (omega arith)
-remove_at e (x ∷ xs) ys apart lt =
+remove_at : (e : Entry) (es : List Entry) → are_distinct es ≡ true → position_or_len (λ held. pointwise nat_eq held.key e.key) es < length es
+    → remove es (position_or_len (λ held. pointwise nat_eq held.key e.key) es) ≡ without (e ∷ []) es
+remove_at e [] apart lt = absurd (omega arith)
+remove_at e (x ∷ xs) apart lt =
     let parts = and_parts (not (has_key x.key xs)) (are_distinct xs) apart in
     let place = position_or_len (λ (held : Entry). pointwise nat_eq held.key e.key) xs in
     let same = pointwise nat_eq x.key e.key in
@@ -84,12 +83,12 @@ remove_at e (x ∷ xs) ys apart lt =
     let alone : has_key e.key xs ≡ false = subst (λ (key : List ℕ). has_key key xs ≡ false) ((bytes_decides x.key e.key).0 here) (not-true (has_key x.key xs) parts.0) in
     let gone : kept ≡ false = not_from_true (pointwise nat_eq e.key x.key || false) (or_left (pointwise nat_eq e.key x.key) false (symmetry ∙ here)) in
     rw (cond-false (not same) (1 + place) 0 (not_from_true same here), cond-false kept (x ∷ without (e ∷ []) xs) (without (e ∷ []) xs) gone)
-    (ap (λ (es : List Entry). es ++ ys) (sym (without-none e xs alone))))
+    (sym (without-none e xs alone)))
     (λ other.
     let stays : kept ≡ true = not_from_false (pointwise nat_eq e.key x.key || false) (or_from (pointwise nat_eq e.key x.key) false (symmetry ∙ other) refl) in
     let behind : cond (not same) (1 + place) 0 ≡ suc place = cond-true (not same) (1 + place) 0 (not_from_false same other) ∙ omega arith in
     rw (behind, cond-true kept (x ∷ without (e ∷ []) xs) (without (e ∷ []) xs) stays)
-    (ap (λ (es : List Entry). x ∷ es) (remove_at e xs ys parts.1 (omega (arith, lt, behind)))))
+    (ap (λ (es : List Entry). x ∷ es) (remove_at e xs parts.1 (omega (arith, lt, behind)))))
     (cases_Bool same)
 
 position_or_len-none : (e : Entry) (es : List Entry) → length es ≤ position_or_len (λ held. pointwise nat_eq held.key e.key) es → has_key e.key es ≡ false
@@ -103,23 +102,23 @@ position_or_len-none e (x ∷ xs) le =
     (position_or_len-none e xs (omega (arith, le, cond-true (not same) (1 + place) 0 (not_from_false same other)))))
     (cases_Bool same)
 
--- the entry laid behind the others, and what stood in the place of its key taken out
-pub entered_at : (e : Entry) (es : List Entry) (place : ℕ) → are_distinct es ≡ true → position (λ held. pointwise nat_eq held.key e.key) es ≡ Some place
-    → remove (es ++ e ∷ []) place ≡ entered es (e ∷ [])
-entered_at e es place apart found =
+-- to take out what stands in the place of a key is to take out what stands under it
+pub without-found : (e : Entry) (es : List Entry) (place : ℕ) → are_distinct es ≡ true → position (λ held. pointwise nat_eq held.key e.key) es ≡ Some place
+    → remove es place ≡ without (e ∷ []) es
+without-found e es place apart found =
     let at = position_or_len (λ (held : Entry). pointwise nat_eq held.key e.key) es in
     ⊎_elim
     (λ lt. let same : at ≡ place = cc (found, cond-true (nat_lt at (length es)) (Some at) None lt) in
-    subst (λ (n : ℕ). remove (es ++ e ∷ []) n ≡ entered es (e ∷ [])) same (remove_at e es (e ∷ []) apart (ltb-true at (length es) lt)))
+    subst (λ (n : ℕ). remove es n ≡ without (e ∷ []) es) same (remove_at e es apart (ltb-true at (length es) lt)))
     (λ past. absurd (cc (found, cond-false (nat_lt at (length es)) (Some at) None past)))
     (cases_Bool (nat_lt at (length es)))
 
-pub entered_new : (e : Entry) (es : List Entry) → position (λ held. pointwise nat_eq held.key e.key) es ≡ None → es ++ e ∷ [] ≡ entered es (e ∷ [])
-entered_new e es missed =
+pub without-missed : (e : Entry) (es : List Entry) → position (λ held. pointwise nat_eq held.key e.key) es ≡ None → es ≡ without (e ∷ []) es
+without-missed e es missed =
     let at = position_or_len (λ (held : Entry). pointwise nat_eq held.key e.key) es in
     ⊎_elim
     (λ lt. absurd (cc (missed, cond-true (nat_lt at (length es)) (Some at) None lt)))
-    (λ past. ap (λ (kept : List Entry). kept ++ e ∷ []) (sym (without-none e es (position_or_len-none e es (ltb-false at (length es) past)))))
+    (λ past. sym (without-none e es (position_or_len-none e es (ltb-false at (length es) past))))
     (cases_Bool (nat_lt at (length es)))
 
 pub length-entered : (e : Entry) (es : List Entry) (most : ℕ) → length es ≤ most → (not (has_key e.key es) && nat_le most (length es)) ≡ false → length (entered es (e ∷ [])) ≤ most

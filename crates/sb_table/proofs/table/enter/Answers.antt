@@ -1,17 +1,20 @@
-use Rattle.std.proofs.Common.{◌≡◌, List, ap, sym, ◌∙◌}
-use Rattle.std.specs.List.{remove}
+use Rattle.std.proofs.Common.{◌≡◌, List, [], ◌∷◌, ◌++◌, ap, sym, ◌∙◌}
 use Rattle.sb_types.specs.Records.{Entry}
-use Rattle.sb_table.proofs.Enter.{entered_at, entered_new}
+use Rattle.sb_types.specs.Runs.{without}
+use Rattle.sb_table.proofs.Enter.{without-found, without-missed}
 use Rattle.sb_table.proofs.table.enter.Goals as goal
+use Rattle.sb_table.proofs.table.enter.Goals.{in-Some+in-Set+in-Addr-1, in-Some+in-Set+in-Weight-1, in-Some+in-Removed-1, in_default}
 
-pub returns-in_default-clause-ok : goal.returns-in_default-clause-ok
-returns-in_default-clause-ok c =
-    let place = rw (c.key.ensures.key, c.deref.ensures.value) at c.place_of-place.ensures in
-    c.in_ok-push.ensures.items ∙ entered_new c.args.entry c.args.entries.now.items (sym place ∙ c.in_default.is)
-
-pub returns-in-Some-clause-ok : goal.returns-in-Some-clause-ok
-returns-in-Some-clause-ok c =
-    let place = rw (c.key.ensures.key, c.deref.ensures.value) at c.place_of-place.ensures in
-    c.remove.ensures.items
-    ∙ ap (λ (es : List Entry). remove es c.in-Some.place) c.in_ok-push.ensures.items
-    ∙ entered_at c.args.entry c.args.entries.now.items c.in-Some.place c.requires (sym place ∙ c.in-Some.is)
+pub returns-clause-ok : goal.returns-clause-ok
+returns-clause-ok c =
+    let e = c.args.entry in
+    let old = c.args.entries.now.items in
+    let place = sym (rw (c.key.ensures.key, c.deref.ensures.value) at c.place_of.ensures) in
+    let kept : c.match-place_of.entries.items ≡ without (e ∷ []) old =
+      elim c.match-place_of.branch [
+        in-Some+in-Set+in-Addr-1 w ↦ ap (λ v. v.items) w.entries-is ∙ w.remove.ensures.items ∙ without-found e old w.in-Some.place c.requires (place ∙ w.in-Some.is)
+        | in-Some+in-Set+in-Weight-1 w ↦ ap (λ v. v.items) w.entries-is ∙ w.remove.ensures.items ∙ without-found e old w.in-Some.place c.requires (place ∙ w.in-Some.is)
+        | in-Some+in-Removed-1 w ↦ ap (λ v. v.items) w.entries-is ∙ w.remove.ensures.items ∙ without-found e old w.in-Some.place c.requires (place ∙ w.in-Some.is)
+        | in_default w ↦ ap (λ v. v.items) w.entries-is ∙ without-missed e old (place ∙ w.in_default.is)
+      ] in
+    c.in_ok-push.ensures.items ∙ ap (λ (es : List Entry). es ++ e ∷ []) kept
