@@ -1,0 +1,207 @@
+//! What is left of a payload, read from left to right.
+
+ghost use Rattle.std.specs.Prelude.{◌≡◌, length, IfOk};
+ghost use Rattle.std.specs.Int.{w16, w64};
+ghost use Rattle.sb_types.specs.Text.{is_name, is_key, is_addr};
+ghost use Rattle.sb_codec.specs.Refusal.{Reads};
+ghost use Rattle.sb_codec.specs.Fields.{byte_at, bytes_at, number_at, list_at, times_at};
+ghost use Rattle.sb_codec.specs.Reading.{name_at, key_at, addr_at, weight_at, flag_at, slot_at, entry_at};
+
+use crate::numbers::{TAG_ADDR, TAG_FLAG, TAG_REMOVED, TAG_WEIGHT};
+use crate::refusal::Refusal;
+use sb_types::{Entry, Key, Name, Slot, Value};
+use std::alloc::Global;
+use std::marker::Model;
+
+/// What a counted list holds.
+pub(crate) trait Spelled: Drop {
+    ghost use Rattle.std.specs.Prelude.{ℕ, ◌<◌};
+    ghost use Rattle.sb_codec.specs.Refusal.{Reads};
+    ghost use Rattle.sb_codec.specs.Fields.{Field};
+
+    ghost field: { Field Self };
+
+    ghost LEAST: { ℕ };
+
+    /// The fewest bytes that one takes.
+    const LEAST: usize;
+
+    fn read(alloc: Global, fields: &mut Fields<'_>) -> Result<Self, Refusal>
+        ensures { Reads (λ x. x) (field fields.old) result fields.new };
+
+    ghost least: { 0 < LEAST };
+}
+
+impl Spelled for Entry {
+    ghost use Rattle.std.specs.Prelude.{◌<◌};
+    ghost use Rattle.std.proofs.Common.{lit<};
+    ghost use Rattle.sb_codec.specs.Reading.{entry_at};
+
+    ghost field = { entry_at };
+
+    ghost LEAST = { 11 };
+
+    const LEAST: usize = 11;
+
+    ghost least = { lit< tt };
+
+    fn read(alloc: Global, fields: &mut Fields<'_>) -> Result<Entry, Refusal> {
+        fields.entry(alloc)
+    }
+}
+
+/// The bytes that are still to be read. After a refusal they are none that matter.
+pub(crate) struct Fields<'a> {
+    rest: &'a [u8],
+}
+
+impl<'a> Model for Fields<'a> {
+    ghost use Rattle.std.specs.Prelude.{ℕ, List};
+
+    ghost Value = { List ℕ };
+
+    ghost view = { λ fields. fields.rest.now };
+}
+
+impl<'a> Fields<'a> {
+    pub(crate) fn new(rest: &'a [u8]) -> Fields<'a>
+        ensures { result ≡ rest.now }
+    {
+        Fields { rest }
+    }
+
+    #[tactic(auto, unfolding(crate::specs::Fields::byte_at))]
+    pub(crate) fn byte(&mut self) -> Result<u8, Refusal>
+        ensures { Reads (λ x. x) (byte_at self.old) result self.new }
+    {
+        match self.rest {
+            [] => Err(Refusal::Malformed),
+            [byte, rest @ ..] => {
+                self.rest = rest;
+                Ok(*byte)
+            }
+        }
+    }
+
+    #[tactic(auto, unfolding(crate::specs::Fields::bytes_at))]
+    fn bytes(&mut self, count: usize) -> Result<&'a [u8], Refusal>
+        ensures read { Reads (λ x. x.now) (bytes_at count self.old) result self.new }
+        ensures length { IfOk result (λ x. length x.now ≡ count) }
+    {
+        if self.rest.len() < count {
+            return Err(Refusal::Malformed);
+        }
+        let (front, rest) = self.rest.split_at(count);
+        self.rest = rest;
+        Ok(front)
+    }
+
+    #[tactic(auto, unfolding(crate::specs::Fields::number_at))]
+    pub(crate) fn u16(&mut self) -> Result<u16, Refusal>
+        ensures { Reads (λ x. x) (number_at w16 self.old) result self.new }
+    {
+        let front = self.bytes(2)?;
+        Ok(u16::from_be_bytes([front[0], front[1]]))
+    }
+
+    #[tactic(auto, unfolding(crate::specs::Fields::number_at))]
+    pub(crate) fn u64(&mut self) -> Result<u64, Refusal>
+        ensures { Reads (λ x. x) (number_at w64 self.old) result self.new }
+    {
+        let front = self.bytes(8)?;
+        Ok(u64::from_be_bytes([
+            front[0], front[1], front[2], front[3], front[4], front[5], front[6], front[7],
+        ]))
+    }
+
+    #[tactic(auto, unfolding(crate::specs::Reading::name_at))]
+    pub(crate) fn name(&mut self) -> Result<Name, Refusal>
+        ensures { Reads (λ x. x) (name_at self.old) result self.new }
+    {
+        let len = self.byte()?;
+        let text = self.bytes(usize::from(len))?;
+        Ok(Name::read(text)?)
+    }
+
+    #[tactic(auto, unfolding(crate::specs::Reading::key_at))]
+    pub(crate) fn key(&mut self) -> Result<Key, Refusal>
+        ensures { Reads (λ x. x) (key_at self.old) result self.new }
+    {
+        let len = self.byte()?;
+        let text = self.bytes(usize::from(len))?;
+        Ok(Key::read(text)?)
+    }
+
+    #[tactic(auto, unfolding(crate::specs::Reading::addr_at))]
+    fn addr(&mut self, alloc: Global) -> Result<Value, Refusal>
+        ensures { Reads (λ x. x) (addr_at self.old) result self.new }
+    {
+        let len = self.byte()?;
+        let text = self.bytes(usize::from(len))?;
+        Ok(Value::addr(alloc, text)?)
+    }
+
+    #[tactic(auto, unfolding(crate::specs::Reading::weight_at))]
+    fn weight(&mut self) -> Result<Value, Refusal>
+        ensures { Reads (λ x. x) (weight_at self.old) result self.new }
+    {
+        let weight = self.u64()?;
+        Ok(Value::weight(weight)?)
+    }
+
+    #[tactic(auto, unfolding(crate::specs::Reading::flag_at))]
+    fn flag(&mut self) -> Result<Value, Refusal>
+        ensures { Reads (λ x. x) (flag_at self.old) result self.new }
+    {
+        match self.byte()? {
+            0 => Ok(Value::flag(false)),
+            1 => Ok(Value::flag(true)),
+            _ => Err(Refusal::Malformed),
+        }
+    }
+
+    #[tactic(auto, unfolding(crate::specs::Reading::slot_at))]
+    pub(crate) fn slot(&mut self, alloc: Global) -> Result<Slot, Refusal>
+        ensures { Reads (λ x. x) (slot_at self.old) result self.new }
+    {
+        match self.byte()? {
+            TAG_REMOVED => Ok(Slot::Removed),
+            TAG_ADDR => Ok(Slot::Set(self.addr(alloc)?)),
+            TAG_WEIGHT => Ok(Slot::Set(self.weight()?)),
+            TAG_FLAG => Ok(Slot::Set(self.flag()?)),
+            _ => Err(Refusal::Malformed),
+        }
+    }
+
+    #[tactic(auto, unfolding(crate::specs::Reading::entry_at))]
+    pub(crate) fn entry(&mut self, alloc: Global) -> Result<Entry, Refusal>
+        ensures { Reads (λ x. x) (entry_at self.old) result self.new }
+    {
+        let key = self.key()?;
+        let version = self.u64()?;
+        if version == 0 {
+            return Err(Refusal::Malformed);
+        }
+        let slot = self.slot(alloc)?;
+        Ok(Entry::new(key, version, slot))
+    }
+
+    #[tactic(auto, unfolding(crate::specs::Fields::list_at))]
+    pub(crate) fn list<T: Spelled>(&mut self, alloc: Global) -> Result<Vec<T>, Refusal>
+        ensures { Reads (λ v. v.items) (list_at T.field self.old) result self.new }
+    {
+        let count = self.u16()?;
+        self.times(alloc, count)
+    }
+
+    fn times<T: Spelled>(&mut self, alloc: Global, count: u16) -> Result<Vec<T>, Refusal>
+        ensures { Reads (λ v. v.items) (times_at T.field count self.old) result self.new }
+    {
+        let room = self.rest.len() / T::LEAST;
+        let mut items = Vec::with_capacity(alloc, room.min(usize::from(count)))?;
+        for _ in 0..count {
+            items.push(T::read(alloc, self)?)?;
+        }
+        Ok(items)
+    }
+}

@@ -1,0 +1,8 @@
+//! The one spelling of each message, and its reading.
+#![tactic(auto)]
+
+mod fields;
+mod numbers;
+mod refusal;
+
+pub use numbers::{TAG_ADDR, TAG_FLAG, TAG_REMOVED, TAG_WEIGHT};
