@@ -1,1 +1,4 @@
 pub mod Loop
+pub mod Taken
+pub mod Again
+pub mod Parts

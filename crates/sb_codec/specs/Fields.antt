@@ -25,7 +25,7 @@ made_at make field = lead_at field (λ x. given_at (make x))
 
 -- two fields
 abbrev pub then_at : {A B : Type 0} → Field A → Field B → Field (A × B)
-then_at first second = lead_at first (λ x. lead_at second (λ y. given_at (x, y)))
+then_at first second = lead_at first (λ x. made_at (λ y. (x, y)) second)
 
 -- a field whose value passes a test
 abbrev pub where_at : {A : Type 0} → (A → Bool) → Field A → Field A
@@ -34,7 +34,7 @@ where_at test field = lead_at field (λ x. if test x then given_at x else none_a
 -- the same field so many times
 unfoldable pub times_at : {A : Type 0} → Field A → ℕ → Field (List A)
 times_at field zero = given_at []
-times_at field (suc n) = lead_at field (λ x. lead_at (times_at field n) (λ xs. given_at (x ∷ xs)))
+times_at field (suc n) = lead_at field (λ x. made_at (λ xs. x ∷ xs) (times_at field n))
 
 unfoldable pub byte_at : Field ℕ
 byte_at [] = None

@@ -5,7 +5,7 @@ use Rattle.std.specs.Int.{Width, w16, w64, to_be_bytes}
 use Rattle.sb_types.specs.declared.entry.Slot.{Slot}
 use Rattle.sb_types.specs.declared.entry.Slot.TheVariants.{Set, Removed}
 use Rattle.sb_types.specs.Value.{Value, Addr, Weight, Flag}
-use Rattle.sb_types.specs.Records.{Entry}
+use Rattle.sb_types.specs.Records.{Entry, Block}
 use Rattle.sb_codec.specs.declared.numbers.TheConstants.{TAG_REMOVED, TAG_ADDR, TAG_WEIGHT, TAG_FLAG}
 
 -- a number of the width, high byte first
@@ -24,12 +24,23 @@ unfoldable pub flag : Bool → List ℕ
 flag false = 0 ∷ []
 flag true = 1 ∷ []
 
--- a tag, and the value where there is one
+abbrev pub tag_of : Value → ℕ
+tag_of (Addr bytes) = TAG_ADDR
+tag_of (Weight weight) = TAG_WEIGHT
+tag_of (Flag set) = TAG_FLAG
+
+unfoldable pub content : Value → List ℕ
+content (Addr bytes) = text bytes
+content (Weight weight) = number w64 weight
+content (Flag set) = flag set
+
+-- a tag, and what the value holds
 unfoldable pub slot : Slot → List ℕ
 slot Removed = TAG_REMOVED ∷ []
-slot (Set (Addr bytes)) = TAG_ADDR ∷ text bytes
-slot (Set (Weight weight)) = TAG_WEIGHT ∷ number w64 weight
-slot (Set (Flag set)) = TAG_FLAG ∷ flag set
+slot (Set value) = tag_of value ∷ content value
 
 unfoldable pub entry : Entry → List ℕ
 entry e = text e.key ++ (number w64 e.version ++ slot e.slot)
+
+unfoldable pub block : Block → List ℕ
+block b = text b.owner ++ (number w64 b.after ++ list entry b.entries)
