@@ -2,3 +2,4 @@ pub mod Loop
 pub mod Taken
 pub mod Again
 pub mod Parts
+pub mod Values

@@ -9,46 +9,10 @@ ghost use Rattle.sb_codec.specs.Reading.{name_at, key_at, addr_at, weight_at, fl
 
 use crate::numbers::{TAG_ADDR, TAG_FLAG, TAG_REMOVED, TAG_WEIGHT};
 use crate::refusal::Refusal;
+use crate::spelled::Spelled;
 use sb_types::{Entry, Key, Name, Slot, Value};
 use std::alloc::Global;
 use std::marker::Model;
-
-/// What a counted list holds.
-pub(crate) trait Spelled: Drop {
-    ghost use Rattle.std.specs.Prelude.{ℕ, ◌<◌};
-    ghost use Rattle.sb_codec.specs.Refusal.{Reads};
-    ghost use Rattle.sb_codec.specs.Fields.{Field};
-
-    ghost field: { Field Self };
-
-    ghost LEAST: { ℕ };
-
-    /// The fewest bytes that one takes.
-    const LEAST: usize;
-
-    fn read(alloc: Global, fields: &mut Fields<'_>) -> Result<Self, Refusal>
-        ensures { Reads (λ x. x) (field fields.old) result fields.new };
-
-    ghost least: { 0 < LEAST };
-}
-
-impl Spelled for Entry {
-    ghost use Rattle.std.specs.Prelude.{◌<◌};
-    ghost use Rattle.std.proofs.Common.{lit<};
-    ghost use Rattle.sb_codec.specs.Reading.{entry_at};
-
-    ghost field = { entry_at };
-
-    ghost LEAST = { 11 };
-
-    const LEAST: usize = 11;
-
-    ghost least = { lit< tt };
-
-    fn read(alloc: Global, fields: &mut Fields<'_>) -> Result<Entry, Refusal> {
-        fields.entry(alloc)
-    }
-}
 
 /// The bytes that are still to be read. After a refusal they are none that matter.
 pub(crate) struct Fields<'a> {

@@ -4,5 +4,7 @@
 mod fields;
 mod numbers;
 mod refusal;
+mod spelled;
+mod writing;
 
 pub use numbers::{TAG_ADDR, TAG_FLAG, TAG_REMOVED, TAG_WEIGHT};
