@@ -57,7 +57,7 @@ unfolding weight_at content
 weight_takes = fits_takes (where_takes (made_takes {Q = λ v. tag_of v ≡ TAG_WEIGHT} Weight (number_takes wide64) (λ n lt. (refl, refl)))) (λ v fits. (fits.1, fits.0))
 
 pub flag_takes : Takes (IsTagged TAG_FLAG) content flag_at
-unfolding flag_at content flag
+unfolding flag_at content
 flag_takes = tagged_takes flag_cases (given_case 0 (Flag false) (refl, refl) refl, (given_case 1 (Flag true) (refl, refl) refl, tt))
 
 pub slot_takes : Takes (λ s. is_slot s ≡ true) slot slot_at
@@ -70,7 +70,7 @@ weight_below : (n : ℕ) → is_value (Weight n) ≡ true → n < 2 ^ 64
 weight_below n fits = omega (arith, ltb-true n (2 ^ 63) fits)
 
 pub flag_again : (b : Bool) → Again flag_at (content (Flag b)) (Flag b)
-unfolding flag_at content flag
+unfolding flag_at content
 flag_again false = tagged_again flag_cases 0 (given_again (Flag false))
 flag_again true = tagged_again flag_cases 1 (given_again (Flag true))
 

@@ -1,6 +1,8 @@
 -- How a value is spelled, by what its readers tell.
 use Rattle.std.proofs.Common.{◌≡◌, ℕ, Bool, true, false, List, [], ◌∷◌, Option, Some, None, refl, ap}
-use Rattle.std.specs.Int.{w64, from_bool}
+use Rattle.std.specs.Bool.{beq}
+use Rattle.std.specs.Option.{option_eq}
+use Rattle.std.specs.Int.{w64}
 use Rattle.sb_types.specs.Value.{Value, Addr, Weight, Flag, addr_of, weight_of, flag_of}
 use Rattle.sb_codec.specs.declared.numbers.TheConstants.{TAG_ADDR, TAG_WEIGHT, TAG_FLAG}
 use Rattle.sb_codec.specs.Spelling.{number, text, flag, tag_of, content}
@@ -17,5 +19,9 @@ weight_spelled (Addr t) n e = absurd cc
 weight_spelled (Weight m) n e = cc
 weight_spelled (Flag b) n e = absurd cc
 
-pub flag_spelled : (v : Value) → None ≡ addr_of v → None ≡ weight_of v → ?
-flag_spelled v = ?
+pub flag_spelled : (v : Value) → None ≡ addr_of v → None ≡ weight_of v → tag_of v ∷ content v ≡ TAG_FLAG ∷ flag (option_eq beq (flag_of v) (Some true))
+unfolding content
+flag_spelled (Addr t) a w = absurd cc
+flag_spelled (Weight n) a w = absurd cc
+flag_spelled (Flag false) a w = refl
+flag_spelled (Flag true) a w = refl

@@ -19,3 +19,8 @@ Reads view read (Err refusal) rest = Fails refusal read
 abbrev pub refusal_of : Fault → Refusal
 refusal_of NoMemory = Memory
 refusal_of _ = Malformed
+
+-- the same, of all of the bytes
+abbrev pub ReadsWhole : {X : Type 0} → Option X → Result X Refusal → Type 0
+ReadsWhole read (Ok x) = read ≡ Some x
+ReadsWhole read (Err refusal) = Fails refusal read

@@ -1,7 +1,7 @@
 -- The bytes of the parts of a message, one spelling for each.
-use Rattle.std.specs.Prelude.{ℕ, Bool, true, false, List, [], ◌∷◌, ◌++◌, length}
+use Rattle.std.specs.Prelude.{ℕ, Bool, List, [], ◌∷◌, ◌++◌, length}
 use Rattle.std.specs.List.{flat_map}
-use Rattle.std.specs.Int.{Width, w16, w64, to_be_bytes}
+use Rattle.std.specs.Int.{Width, w16, w64, to_be_bytes, from_bool}
 use Rattle.sb_types.specs.declared.entry.Slot.{Slot}
 use Rattle.sb_types.specs.declared.entry.Slot.TheVariants.{Set, Removed}
 use Rattle.sb_types.specs.Value.{Value, Addr, Weight, Flag}
@@ -20,9 +20,9 @@ text bytes = length bytes ∷ bytes
 abbrev pub list : {A : Type 0} → (A → List ℕ) → List A → List ℕ
 list each items = number w16 (length items) ++ flat_map each items
 
-unfoldable pub flag : Bool → List ℕ
-flag false = 0 ∷ []
-flag true = 1 ∷ []
+-- 0 for false, 1 for true
+abbrev pub flag : Bool → List ℕ
+flag set = from_bool set ∷ []
 
 abbrev pub tag_of : Value → ℕ
 tag_of (Addr bytes) = TAG_ADDR

@@ -1,20 +1,23 @@
 //! What is left of a payload, read from left to right.
 
-ghost use Rattle.std.specs.Prelude.{◌≡◌, length, IfOk};
+ghost use Rattle.std.specs.Prelude.{◌≡◌, ◌==◌, length, IfOk};
 ghost use Rattle.std.specs.Int.{w16, w64};
 ghost use Rattle.sb_types.specs.Text.{is_name, is_key, is_addr};
 ghost use Rattle.sb_codec.specs.Refusal.{Reads};
 ghost use Rattle.sb_codec.specs.Fields.{byte_at, bytes_at, number_at, list_at, times_at};
-ghost use Rattle.sb_codec.specs.Reading.{name_at, key_at, addr_at, weight_at, flag_at, slot_at, entry_at};
+ghost use Rattle.sb_codec.specs.Reading.{name_at, key_at, addr_at, weight_at, flag_at, slot_at, entry_at, block_at, delta_at};
+ghost use Rattle.sb_codec.specs.Messages.{message_at};
 
-use crate::numbers::{TAG_ADDR, TAG_FLAG, TAG_REMOVED, TAG_WEIGHT};
+use crate::message::Message;
+use crate::numbers::{KIND_DELTA, TAG_ADDR, TAG_FLAG, TAG_REMOVED, TAG_WEIGHT};
 use crate::refusal::Refusal;
 use crate::spelled::Spelled;
-use sb_types::{Entry, Key, Name, Slot, Value};
+use sb_types::{Block, Delta, Entry, Key, Name, Slot, Value};
 use std::alloc::Global;
 use std::marker::Model;
 
 /// The bytes that are still to be read. After a refusal they are none that matter.
+#[derive(Drop)]
 pub(crate) struct Fields<'a> {
     rest: &'a [u8],
 }
@@ -32,6 +35,12 @@ impl<'a> Fields<'a> {
         ensures { result ≡ rest.now }
     {
         Fields { rest }
+    }
+
+    pub(crate) fn is_empty(&self) -> bool
+        ensures { result ≡ (length self.now == 0) }
+    {
+        self.rest.is_empty()
     }
 
     #[tactic(auto, unfolding(crate::specs::Fields::byte_at))]
@@ -148,6 +157,34 @@ impl<'a> Fields<'a> {
         }
         let slot = self.slot(alloc)?;
         Ok(Entry::new(key, version, slot))
+    }
+
+    #[tactic(auto, unfolding(crate::specs::Reading::block_at))]
+    pub(crate) fn block(&mut self, alloc: Global) -> Result<Block, Refusal>
+        ensures { Reads (λ x. x) (block_at self.old) result self.new }
+    {
+        let owner = self.name()?;
+        let after = self.u64()?;
+        let entries = self.list(alloc)?;
+        Ok(Block::new(owner, after, entries)?)
+    }
+
+    #[tactic(auto, unfolding(crate::specs::Reading::delta_at))]
+    fn delta(&mut self, alloc: Global) -> Result<Delta, Refusal>
+        ensures { Reads (λ x. x) (delta_at self.old) result self.new }
+    {
+        let blocks = self.list(alloc)?;
+        Ok(Delta::new(blocks)?)
+    }
+
+    #[tactic(auto, unfolding(crate::specs::Messages::message_at))]
+    pub(crate) fn message(&mut self, alloc: Global) -> Result<Message, Refusal>
+        ensures { Reads (λ x. x) (message_at self.old) result self.new }
+    {
+        match self.byte()? {
+            KIND_DELTA => Ok(Message::Delta(self.delta(alloc)?)),
+            _ => Err(Refusal::Malformed),
+        }
     }
 
     #[tactic(auto, unfolding(crate::specs::Fields::list_at))]

@@ -1,6 +1,9 @@
 //! The numbers of kinds and tags, each in one place.
 
-/// The tag of a removal, with no value.
+/// The kind of a delta: the first byte of its payload.
+pub const KIND_DELTA: u8 = 3;
+
+/// The tag of a removal, which has no value.
 pub const TAG_REMOVED: u8 = 0;
 
 /// The tag of an address.

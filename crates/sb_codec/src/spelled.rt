@@ -2,8 +2,8 @@
 
 use crate::fields::Fields;
 use crate::refusal::Refusal;
-use crate::writing::write_entry;
-use sb_types::Entry;
+use crate::writing::{write_block, write_entry};
+use sb_types::{Block, Entry};
 use std::alloc::{AllocError, Global};
 
 /// What a counted list holds.
@@ -52,5 +52,30 @@ impl Spelled for Entry {
 
     fn write(&self, out: &mut Vec<u8>) -> Result<(), AllocError> {
         write_entry(out, self)
+    }
+}
+
+impl Spelled for Block {
+    ghost use Rattle.std.specs.Prelude.{◌<◌};
+    ghost use Rattle.std.proofs.Common.{lit<};
+    ghost use Rattle.sb_codec.specs.Spelling.{block};
+    ghost use Rattle.sb_codec.specs.Reading.{block_at};
+
+    ghost spelling = { block };
+
+    ghost field = { block_at };
+
+    ghost LEAST = { 23 };
+
+    const LEAST: usize = 23;
+
+    ghost least = { lit< tt };
+
+    fn read(alloc: Global, fields: &mut Fields<'_>) -> Result<Block, Refusal> {
+        fields.block(alloc)
+    }
+
+    fn write(&self, out: &mut Vec<u8>) -> Result<(), AllocError> {
+        write_block(out, self)
     }
 }

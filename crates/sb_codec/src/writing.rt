@@ -2,11 +2,11 @@
 
 ghost use Rattle.std.specs.Prelude.{◌≡◌, ◌<◌, ◌++◌, ◌∷◌, length, OnOk};
 ghost use Rattle.std.specs.Int.{w16, w64};
-ghost use Rattle.sb_codec.specs.Spelling.{number, text, list, tag_of, content, slot, entry};
+ghost use Rattle.sb_codec.specs.Spelling.{number, text, list, flag, tag_of, content, slot, entry, block};
 
 use crate::numbers::{TAG_ADDR, TAG_FLAG, TAG_REMOVED, TAG_WEIGHT};
 use crate::spelled::Spelled;
-use sb_types::{Entry, Slot, Value};
+use sb_types::{Block, Entry, Slot, Value};
 use std::alloc::AllocError;
 
 #[tactic(auto, unfolding(crate::specs::Spelling::number))]
@@ -31,6 +31,12 @@ fn write_text(out: &mut Vec<u8>, bytes: &[u8]) -> Result<(), AllocError>
     out.extend_from_slice(bytes)
 }
 
+fn write_flag(out: &mut Vec<u8>, set: bool) -> Result<(), AllocError>
+    ensures { OnOk result (out.new.items ≡ out.old.items ++ flag set) }
+{
+    Ok(out.push(u8::from(set))?)
+}
+
 fn write_value(out: &mut Vec<u8>, value: &Value) -> Result<(), AllocError>
     ensures { OnOk result (out.new.items ≡ out.old.items ++ tag_of value.now ∷ content value.now) }
 {
@@ -43,8 +49,7 @@ fn write_value(out: &mut Vec<u8>, value: &Value) -> Result<(), AllocError>
         return write_u64(out, weight);
     }
     out.push(TAG_FLAG)?;
-    out.push(u8::from(value.as_flag() == Some(true)))?;
-    Ok(())
+    write_flag(out, value.as_flag() == Some(true))
 }
 
 #[tactic(auto, unfolding(crate::specs::Spelling::slot))]
@@ -65,6 +70,15 @@ pub(crate) fn write_entry(out: &mut Vec<u8>, written: &Entry) -> Result<(), Allo
     write_text(out, written.key().bytes())?;
     write_u64(out, written.version())?;
     write_slot(out, written.slot())
+}
+
+#[tactic(auto, unfolding(crate::specs::Spelling::block))]
+pub(crate) fn write_block(out: &mut Vec<u8>, written: &Block) -> Result<(), AllocError>
+    ensures { OnOk result (out.new.items ≡ out.old.items ++ block written.now) }
+{
+    write_text(out, written.owner().bytes())?;
+    write_u64(out, written.after())?;
+    write_list(out, written.entries())
 }
 
 pub(crate) fn write_list<T: Spelled>(out: &mut Vec<u8>, items: &[T]) -> Result<(), AllocError>

@@ -1,6 +1,6 @@
 use Rattle.std.proofs.Common.{arith}
 use Rattle.std.proofs.lemmas.Grind.{common_steps}
-use Rattle.sb_codec.proofs.Values.{addr_spelled, weight_spelled}
+use Rattle.sb_codec.proofs.Values.{addr_spelled, weight_spelled, flag_spelled}
 use Rattle.sb_codec.proofs.writing.write_value.Goals as goal
 
 pub returns-in-Some : goal.returns-in-Some
@@ -10,4 +10,4 @@ pub returns-in-Some-as_weight : goal.returns-in-Some-as_weight
 returns-in-Some-as_weight c = rw (weight_spelled c.args.value.now c.in-Some-as_weight.weight c.in-Some-as_weight.ensures.weight) (grind (arith, common_steps))
 
 pub returns : goal.returns
-returns c = let a = c.eq.ensures in let b = c.from.ensures in let d = c.as_flag.ensures.flag in let f = c.in_default.ensures.text in let g = c.in_default-as_weight.ensures.weight in let h = c.in_default.not-Some in let i = c.push-3.ensures.items in ?
+returns c = rw (flag_spelled c.args.value.now c.in_default.ensures.text c.in_default-as_weight.ensures.weight) (grind (arith, common_steps))
