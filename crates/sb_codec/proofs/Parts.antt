@@ -158,9 +158,16 @@ count_below : (blocks : List Block) → length blocks ≤ sum_by block_length bl
 count_below [] = omega arith
 count_below (b ∷ blocks) = rw sum_by-cons (omega (arith, count_below blocks))
 
+pub delta_parts : (blocks : List Block) → is_delta blocks ≡ true → (list_all is_delta_block blocks ≡ true) × (are_delta_blocks blocks ≡ true) × (delta_length blocks ≤ PAYLOAD_MOST)
+delta_parts blocks fits =
+    let parts = and_parts (list_all is_delta_block blocks) (are_delta_blocks blocks) fits in
+    (parts.0, parts.1, leb-true (delta_length blocks) PAYLOAD_MOST (and_parts (are_owners_above [] blocks) (nat_le (delta_length blocks) PAYLOAD_MOST) parts.1).1)
+
+pub few_blocks : (blocks : List Block) → is_delta blocks ≡ true → length blocks < 2 ^ 16
+few_blocks blocks fits = let within = (delta_parts blocks fits).2 in omega (arith, count_below blocks)
+
 pub delta_again : (blocks : List Block) → is_delta blocks ≡ true → Again delta_at (list block blocks) blocks
 unfolding delta_at
 delta_again blocks fits =
-    let parts = and_parts (list_all is_delta_block blocks) (are_delta_blocks blocks) fits in
-    let within = leb-true (delta_length blocks) PAYLOAD_MOST (and_parts (are_owners_above [] blocks) (nat_le (delta_length blocks) PAYLOAD_MOST) parts.1).1 in
-    where_again are_delta_blocks parts.1 (list_again block_again blocks (omega (arith, count_below blocks)) (all_parts is_delta_block blocks parts.0))
+    let parts = delta_parts blocks fits in
+    where_again are_delta_blocks parts.1 (list_again block_again blocks (few_blocks blocks fits) (all_parts is_delta_block blocks parts.0))
