@@ -47,8 +47,9 @@ pub number_again : {w : Width} {limit : ℕ} → IsWide w limit → (n : ℕ) �
 unfolding number number_at
 number_again {w} wide n lt = record { read = λ rest. rw ((bytes_again (to_be_bytes w n) (byte_len w) (wide.len n)).read rest, wide.again n lt) refl }
 
-pub text_again : (test : List ℕ → Bool) (t : List ℕ) → test t ≡ true → Again (text_at test) (text t) t
-text_again test t passes = where_again test passes (lead_again bytes_at (byte_again (length t)) (bytes_again t (length t) refl))
+pub text_again : (t : List ℕ) → Again text_at (text t) t
+unfolding text_at
+text_again t = lead_again bytes_at (byte_again (length t)) (bytes_again t (length t) refl)
 
 pub list_again : {A : Type 0} {P : A → Type 0} {field : Field A} {s : A → List ℕ} → ((x : A) → P x → Again field (s x) x) → (xs : List A) → length xs < 2 ^ 16 → AllByRecursion P xs → Again (list_at field) (list s xs) xs
 unfolding list_at

@@ -21,26 +21,23 @@ use Rattle.sb_codec.specs.Reading.{name_at, key_at, addr_at, weight_at, flag_cas
 use Rattle.sb_codec.proofs.Taken.{Takes, wide64, fits_takes, made_takes, then_takes, where_takes, number_takes, text_takes, list_takes, tagged_takes, made_case, given_case}
 use Rattle.sb_codec.proofs.Again.{Again, given_again, made_again, then_again, where_again, number_again, text_again, list_again, tagged_again}
 
-abbrev Holds : {A : Type 0} → (A → Bool) → A → Type 0
-Holds test x = test x ≡ true
-
 -- ---- texts
 
 pub name_takes : Takes (λ t. is_name t ≡ true) text name_at
 unfolding name_at
-name_takes = text_takes
+name_takes = fits_takes (where_takes text_takes) (λ t fits. fits.1)
 
 pub name_again : (t : List ℕ) → is_name t ≡ true → Again name_at (text t) t
 unfolding name_at
-name_again t fits = text_again is_name t fits
+name_again t fits = where_again is_name fits (text_again t)
 
 pub key_takes : Takes (λ t. is_key t ≡ true) text key_at
 unfolding key_at
-key_takes = text_takes
+key_takes = fits_takes (where_takes text_takes) (λ t fits. fits.1)
 
 pub key_again : (t : List ℕ) → is_key t ≡ true → Again key_at (text t) t
 unfolding key_at
-key_again t fits = text_again is_key t fits
+key_again t fits = where_again is_key fits (text_again t)
 
 -- ---- values
 
@@ -50,7 +47,7 @@ IsTagged tag v = (is_value v ≡ true) × (tag_of v ≡ tag)
 
 pub addr_takes : Takes (IsTagged TAG_ADDR) content addr_at
 unfolding addr_at content
-addr_takes = made_takes Addr text_takes (λ t fits. ((fits, refl), refl))
+addr_takes = fits_takes (where_takes (made_takes {Q = λ v. tag_of v ≡ TAG_ADDR} Addr text_takes (λ t lt. (refl, refl)))) (λ v fits. (fits.1, fits.0))
 
 pub weight_takes : Takes (IsTagged TAG_WEIGHT) content weight_at
 unfolding weight_at content
@@ -77,7 +74,7 @@ flag_again true = tagged_again flag_cases 1 (given_again (Flag true))
 pub slot_again : (s : Slot) → is_slot s ≡ true → Again slot_at (slot s) s
 unfolding slot_at slot addr_at weight_at content
 slot_again Removed fits = tagged_again slot_cases TAG_REMOVED (given_again Removed)
-slot_again (Set (Addr t)) fits = tagged_again slot_cases TAG_ADDR (made_again Set (made_again Addr (text_again is_addr t fits)))
+slot_again (Set (Addr t)) fits = tagged_again slot_cases TAG_ADDR (made_again Set (where_again is_value fits (made_again Addr (text_again t))))
 slot_again (Set (Weight n)) fits = tagged_again slot_cases TAG_WEIGHT (made_again Set (where_again is_value fits (made_again Weight (number_again wide64 n (weight_below n fits)))))
 slot_again (Set (Flag b)) fits = tagged_again slot_cases TAG_FLAG (made_again Set (flag_again b))
 

@@ -137,8 +137,9 @@ number_takes {w} wide = made_takes (from_be_bytes w) (bytes_takes (byte_len w)) 
 
 -- ---- texts, lists and tags
 
-pub text_takes : {test : List ℕ → Bool} → Takes (λ t. test t ≡ true) text (text_at test)
-text_takes = fits_takes (where_takes (lead_takes {Q = λ t. length t < 256} text byte_takes (λ n lt. fits_takes (bytes_takes n) (λ t fits. (rw fits.0 lt, ap (λ (k : ℕ). k ∷ t) fits.0))))) (λ t p. p.1)
+pub text_takes : Takes (λ t. length t < 256) text text_at
+unfolding text_at
+text_takes = lead_takes text byte_takes (λ n lt. fits_takes (bytes_takes n) (λ t fits. (rw fits.0 lt, ap (λ (k : ℕ). k ∷ t) fits.0)))
 
 pub list_takes : {A : Type 0} {P : A → Type 0} {s : A → List ℕ} {field : Field A} → Takes P s field → Takes (λ xs. (length xs < 2 ^ 16) × AllByRecursion P xs) (list s) (list_at field)
 unfolding list_at

@@ -48,9 +48,9 @@ bytes_at count bytes = if nat_lt (length bytes) count then None else Some (take 
 unfoldable pub number_at : Width → Field ℕ
 number_at w = made_at (from_be_bytes w) (bytes_at (byte_len w))
 
--- a length byte and that many bytes, which pass a test
-abbrev pub text_at : (List ℕ → Bool) → Field (List ℕ)
-text_at test = where_at test (lead_at byte_at bytes_at)
+-- a length byte, and that many bytes
+unfoldable pub text_at : Field (List ℕ)
+text_at = lead_at byte_at bytes_at
 
 -- a count, and that many times a field
 unfoldable pub list_at : {A : Type 0} → Field A → Field (List A)

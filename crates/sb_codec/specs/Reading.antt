@@ -3,7 +3,7 @@ use Rattle.std.specs.Prelude.{ℕ, Bool, true, false, nat_le, List, [], ◌∷�
 use Rattle.std.specs.Int.{w16, w64}
 use Rattle.sb_types.specs.declared.entry.Slot.{Slot}
 use Rattle.sb_types.specs.declared.entry.Slot.TheVariants.{Set, Removed}
-use Rattle.sb_types.specs.Text.{is_name, is_key, is_addr}
+use Rattle.sb_types.specs.Text.{is_name, is_key}
 use Rattle.sb_types.specs.Value.{Value, Addr, Weight, Flag, is_value}
 use Rattle.sb_types.specs.Records.{Entry, Block}
 use Rattle.sb_types.specs.Limits.{are_block_entries, block_of_entries, are_delta_blocks}
@@ -11,13 +11,13 @@ use Rattle.sb_codec.specs.declared.numbers.TheConstants.{TAG_REMOVED, TAG_ADDR, 
 use Rattle.sb_codec.specs.Fields.{Field, given_at, made_at, then_at, where_at, number_at, text_at, list_at, tagged_at}
 
 unfoldable pub name_at : Field (List ℕ)
-name_at = text_at is_name
+name_at = where_at is_name text_at
 
 unfoldable pub key_at : Field (List ℕ)
-key_at = text_at is_key
+key_at = where_at is_key text_at
 
 unfoldable pub addr_at : Field Value
-addr_at = made_at Addr (text_at is_addr)
+addr_at = where_at is_value (made_at Addr text_at)
 
 unfoldable pub weight_at : Field Value
 weight_at = where_at is_value (made_at Weight (number_at w64))

@@ -2,9 +2,8 @@
 
 ghost use Rattle.std.specs.Prelude.{◌≡◌, ◌==◌, length, IfOk};
 ghost use Rattle.std.specs.Int.{w16, w64};
-ghost use Rattle.sb_types.specs.Text.{is_name, is_key, is_addr};
 ghost use Rattle.sb_codec.specs.Refusal.{Reads};
-ghost use Rattle.sb_codec.specs.Fields.{byte_at, bytes_at, number_at, list_at, times_at};
+ghost use Rattle.sb_codec.specs.Fields.{byte_at, bytes_at, number_at, text_at, list_at, times_at};
 ghost use Rattle.sb_codec.specs.Reading.{name_at, key_at, addr_at, weight_at, flag_at, slot_at, entry_at, block_at, delta_at};
 ghost use Rattle.sb_codec.specs.Messages.{message_at};
 
@@ -16,7 +15,7 @@ use sb_types::{Block, Delta, Entry, Key, Name, Slot, Value};
 use std::alloc::Global;
 use std::marker::Model;
 
-/// The bytes that are still to be read. After a refusal they are none that matter.
+/// The bytes that are still to be read. After a refusal they say nothing.
 #[derive(Drop)]
 pub(crate) struct Fields<'a> {
     rest: &'a [u8],
@@ -87,39 +86,40 @@ impl<'a> Fields<'a> {
         ]))
     }
 
+    #[tactic(auto, unfolding(crate::specs::Fields::text_at))]
+    fn text(&mut self) -> Result<&'a [u8], Refusal>
+        ensures { Reads (λ x. x.now) (text_at self.old) result self.new }
+    {
+        let len = self.byte()?;
+        self.bytes(usize::from(len))
+    }
+
     #[tactic(auto, unfolding(crate::specs::Reading::name_at))]
     pub(crate) fn name(&mut self) -> Result<Name, Refusal>
         ensures { Reads (λ x. x) (name_at self.old) result self.new }
     {
-        let len = self.byte()?;
-        let text = self.bytes(usize::from(len))?;
-        Ok(Name::read(text)?)
+        Ok(Name::read(self.text()?)?)
     }
 
     #[tactic(auto, unfolding(crate::specs::Reading::key_at))]
     pub(crate) fn key(&mut self) -> Result<Key, Refusal>
         ensures { Reads (λ x. x) (key_at self.old) result self.new }
     {
-        let len = self.byte()?;
-        let text = self.bytes(usize::from(len))?;
-        Ok(Key::read(text)?)
+        Ok(Key::read(self.text()?)?)
     }
 
     #[tactic(auto, unfolding(crate::specs::Reading::addr_at))]
     fn addr(&mut self, alloc: Global) -> Result<Value, Refusal>
         ensures { Reads (λ x. x) (addr_at self.old) result self.new }
     {
-        let len = self.byte()?;
-        let text = self.bytes(usize::from(len))?;
-        Ok(Value::addr(alloc, text)?)
+        Ok(Value::addr(alloc, self.text()?)?)
     }
 
     #[tactic(auto, unfolding(crate::specs::Reading::weight_at))]
     fn weight(&mut self) -> Result<Value, Refusal>
         ensures { Reads (λ x. x) (weight_at self.old) result self.new }
     {
-        let weight = self.u64()?;
-        Ok(Value::weight(weight)?)
+        Ok(Value::weight(self.u64()?)?)
     }
 
     #[tactic(auto, unfolding(crate::specs::Reading::flag_at))]
