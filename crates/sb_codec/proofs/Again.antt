@@ -39,8 +39,8 @@ pub bytes_again : (xs : List ℕ) (n : ℕ) → length xs ≡ n → Again (bytes
 unfolding bytes_at
 bytes_again xs n len = record {
   read = λ rest.
-    let long : ltb (length (xs ++ rest)) n ≡ false = le-ltb _ _ (omega (arith, length-append xs rest)) in
-    rw (long, take_at xs rest n len, drop_at xs rest n len) refl;
+      let long : ltb (length (xs ++ rest)) n ≡ false = le-ltb _ _ (omega (arith, length-append xs rest)) in
+      rw (long, take_at xs rest n len, drop_at xs rest n len) refl;
 }
 
 pub number_again : {w : Width} {limit : ℕ} → IsWide w limit → (n : ℕ) → n < limit → Again (number_at w) (number w n) n

@@ -123,12 +123,12 @@ impl<'a> Fields<'a> {
     }
 
     #[tactic(auto, unfolding(crate::specs::Reading::flag_at))]
-    fn flag(&mut self) -> Result<Value, Refusal>
+    fn flag(&mut self) -> Result<bool, Refusal>
         ensures { Reads (λ x. x) (flag_at self.old) result self.new }
     {
         match self.byte()? {
-            0 => Ok(Value::flag(false)),
-            1 => Ok(Value::flag(true)),
+            0 => Ok(false),
+            1 => Ok(true),
             _ => Err(Refusal::Malformed),
         }
     }
@@ -141,7 +141,7 @@ impl<'a> Fields<'a> {
             TAG_REMOVED => Ok(Slot::Removed),
             TAG_ADDR => Ok(Slot::Set(self.addr(alloc)?)),
             TAG_WEIGHT => Ok(Slot::Set(self.weight()?)),
-            TAG_FLAG => Ok(Slot::Set(self.flag()?)),
+            TAG_FLAG => Ok(Slot::Set(Value::flag(self.flag()?))),
             _ => Err(Refusal::Malformed),
         }
     }

@@ -14,3 +14,6 @@ pub use decode::decode_payload;
 pub use encode::encode_payload;
 pub use message::Message;
 pub use numbers::{KIND_DELTA, TAG_ADDR, TAG_FLAG, TAG_REMOVED, TAG_WEIGHT};
+
+#[cfg(test)]
+mod tests;
