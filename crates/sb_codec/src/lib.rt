@@ -4,6 +4,7 @@
 mod decode;
 mod encode;
 mod fields;
+mod laws;
 mod message;
 mod numbers;
 mod refusal;
@@ -12,6 +13,7 @@ mod writing;
 
 pub use decode::decode_payload;
 pub use encode::encode_payload;
+pub use laws::one_payload_each;
 pub use message::Message;
 pub use numbers::{KIND_DELTA, TAG_ADDR, TAG_FLAG, TAG_REMOVED, TAG_WEIGHT};
 

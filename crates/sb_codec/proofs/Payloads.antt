@@ -21,9 +21,9 @@ use Rattle.sb_codec.specs.declared.message.Message.{Message}
 use Rattle.sb_codec.specs.declared.message.Message.TheVariants.{Delta}
 use Rattle.sb_codec.specs.declared.numbers.TheConstants.{KIND_DELTA}
 use Rattle.sb_codec.specs.Spelling.{number, text, list, content, slot, entry, block}
-use Rattle.sb_codec.specs.Fields.{Field, whole}
+use Rattle.sb_codec.specs.Fields.{AreBytes, whole}
 use Rattle.sb_codec.specs.Messages.{spelling, is_message, Spells, IsSole, fault_of, message_cases, message_at, reading}
-use Rattle.sb_codec.proofs.Taken.{AreBytes, Takes, tagged_takes, made_case}
+use Rattle.sb_codec.proofs.Taken.{Takes, tagged_takes, made_case}
 use Rattle.sb_codec.proofs.Again.{Again, made_again, tagged_again}
 use Rattle.sb_codec.proofs.Parts.{delta_parts, delta_takes, delta_again}
 
@@ -115,3 +115,7 @@ if_found payload (Err fault) are gives = tt
 pub if_sole : (payload : List ℕ) (result : Result Message Fault) → AreBytes payload → Gives result (reading payload) → IfOk result (λ m. IsSole payload m)
 if_sole payload (Ok m) are gives = is_sole payload m (is_found payload m are gives)
 if_sole payload (Err fault) are gives = tt
+
+pub some_bytes : (payload : List ℕ) (m : Message) → Spells payload m → 1 ≤ length payload
+unfolding spelling
+some_bytes payload (Delta blocks) spells = rw spells.bytes (omega arith)
