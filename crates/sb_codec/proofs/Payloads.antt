@@ -1,10 +1,10 @@
 -- A payload is read as a message exactly where it spells it.
-use Rattle.std.proofs.Common.{◌≡◌, ℕ, ◌+◌, ◌≤◌, ◌<◌, ◌^◌, Bool, true, ◌==◌, if◌then◌else◌, List, [], ◌∷◌, ◌++◌, length, Option, Some, None, Result, Ok, Err, refl, sym, ap, subst, ◌∙◌, arith, length-append}
+use Rattle.std.proofs.Common.{◌≡◌, ℕ, ◌+◌, ◌≤◌, true, ◌==◌, if◌then◌else◌, List, [], ◌∷◌, ◌++◌, length, Option, Some, None, Result, Ok, Err, refl, sym, ap, ◌∙◌, arith, length-append}
 use Rattle.std.specs.Prelude.{ok_or, IfOk, sum_by}
 use Rattle.std.specs.Option.{option_and_then}
 use Rattle.std.specs.List.{flat_map}
-use Rattle.std.specs.Int.{w16, w64, to_be_bytes}
-use Rattle.std.proofs.lemmas.Bool.{and_parts, leb-true, eqb-true}
+use Rattle.std.specs.Int.{w16, w64}
+use Rattle.std.proofs.lemmas.Bool.{eqb-true}
 use Rattle.std.proofs.lemmas.List.{append-nil, nil_from_length}
 use Rattle.std.proofs.lemmas.Option.{cond_some}
 use Rattle.std.proofs.lemmas.List.Sums.{sum_by-cons}
@@ -12,10 +12,9 @@ use Rattle.sb_types.specs.declared.entry.Slot.{Slot}
 use Rattle.sb_types.specs.declared.entry.Slot.TheVariants.{Set, Removed}
 use Rattle.sb_types.specs.declared.fault.Fault.{Fault}
 use Rattle.sb_types.specs.declared.limits.TheConstants.{PAYLOAD_MOST}
-use Rattle.sb_types.specs.Value.{Value, Addr, Weight, Flag}
+use Rattle.sb_types.specs.Value.{Addr, Weight, Flag}
 use Rattle.sb_types.specs.Records.{Entry, Block}
-use Rattle.sb_types.specs.Lengths.{slot_length, entry_length, block_length, delta_length}
-use Rattle.sb_types.specs.Limits.{is_delta_block, are_delta_blocks, are_owners_above, is_delta}
+use Rattle.sb_types.specs.Lengths.{slot_length, entry_length, block_length}
 use Rattle.sb_types.specs.Faults.{Gives}
 use Rattle.sb_codec.specs.declared.message.Message.{Message}
 use Rattle.sb_codec.specs.declared.message.Message.TheVariants.{Delta}

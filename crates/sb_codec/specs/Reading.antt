@@ -1,6 +1,6 @@
 -- The parts of a message, read.
 use Rattle.std.specs.Prelude.{ℕ, Bool, true, false, nat_le, List, [], ◌∷◌}
-use Rattle.std.specs.Int.{w16, w64}
+use Rattle.std.specs.Int.{w64}
 use Rattle.sb_types.specs.declared.entry.Slot.{Slot}
 use Rattle.sb_types.specs.declared.entry.Slot.TheVariants.{Set, Removed}
 use Rattle.sb_types.specs.Text.{is_name, is_key}

@@ -13,5 +13,4 @@ pub fn one_payload_each()
     ensures least { (payload : List ℕ) (message : Message) → Spells payload message → 1 ≤ length payload }
     ensures read { (payload : List ℕ) (message : Message) → Spells payload message → reading payload ≡ Ok message }
     ensures found { (payload : List ℕ) (message : Message) → AreBytes payload → reading payload ≡ Ok message → Spells payload message }
-{
-}
+{}
