@@ -8,7 +8,7 @@ use Rattle.sb_types.specs.Text.{is_between}
 use Rattle.sb_codec.specs.declared.message.Message.{Message}
 use Rattle.sb_codec.specs.Spelling.{number}
 use Rattle.sb_codec.specs.Fields.{Field, byte_at, number_at, bytes_at}
-use Rattle.sb_codec.specs.Messages.{spelling, reading}
+use Rattle.sb_codec.specs.Messages.{spelling, is_message, reading}
 
 -- the mark, the version and the payload's length, and the payload
 unfoldable pub framed : List ℕ → List ℕ
@@ -29,6 +29,11 @@ pub record IsFramed (bytes payload rest : List ℕ) : Type 0 where
 -- a whole payload stands in front
 abbrev pub HasPayload : List ℕ → Type 0
 HasPayload bytes = (payload : List ℕ) × (rest : List ℕ) × IsFramed bytes payload rest
+
+-- the frame of a message stands in front, and then a rest
+pub record Leads (bytes : List ℕ) (message : Message) (rest : List ℕ) : Type 0 where
+  pub limits : is_message message ≡ true
+  pub laid : bytes ≡ frame message ++ rest
 
 -- What stands at the front of bytes: less than a frame, the frame of a message and a rest, or no frame.
 pub data Front : Type 0 where
@@ -60,3 +65,9 @@ front_after_mark mark bytes = if mark == FRAME_MARK then once (byte_at bytes) fr
 -- The mark is looked at as soon as it has come, then the version, the length and the payload.
 unfoldable pub front_of : List ℕ → Front
 front_of bytes = once (byte_at bytes) front_after_mark
+
+-- what stands at the front once more bytes have come: only what was too short may become something else
+abbrev pub Extends : Front → List ℕ → Front → Type 0
+Extends short more new = Unit {0}
+Extends (whole message rest) more new = new ≡ whole message (rest ++ more)
+Extends (bad fault) more new = new ≡ bad fault

@@ -5,7 +5,7 @@ use Rattle.sb_types.specs.declared.fault.Fault.{Fault}
 use Rattle.sb_types.specs.declared.fault.Fault.TheVariants.{NoMemory, Closed}
 use Rattle.sb_codec.specs.declared.message.Message.{Message}
 use Rattle.sb_codec.specs.Messages.{is_message}
-use Rattle.sb_frames.specs.Frames.{frame, short, whole, bad, front_of, HasPayload}
+use Rattle.sb_frames.specs.Frames.{frame, short, whole, bad, front_of, HasPayload, Leads}
 
 -- a stream as far as it has come: the bytes that were not taken out yet; or nothing more, after a fault
 pub data Stream : Type 0 where
@@ -18,23 +18,23 @@ Feeds shut piece result new = (result ≡ Err Closed) × (new ≡ shut)
 Feeds (open_with held) piece (Ok _) new = new ≡ open_with (held ++ piece)
 Feeds (open_with held) piece (Err fault) new = (fault ≡ NoMemory) × (new ≡ open_with held)
 
--- what is taken out of the bytes that are held
+-- the message whose frame stands first in what is held is taken out
+pub record Hands (held : List ℕ) (message : Message) (new : Stream) : Type 0 where
+  pub rest : List ℕ
+  pub leads : Leads held message rest
+  pub front : front_of held ≡ whole message rest
+  pub left : new ≡ open_with rest
+
+-- what comes of a call for the next message, where these bytes are held
 abbrev pub Takes : List ℕ → Result (Option Message) Fault → Stream → Type 0
+Takes held (Ok (Some message)) new = Hands held message new
 Takes held (Ok None) new = (front_of held ≡ short) × (new ≡ open_with held)
-Takes held (Ok (Some message)) new = (rest : List ℕ) × (front_of held ≡ whole message rest) × (new ≡ open_with rest)
--- for want of memory nothing changes, and a payload was there to be read
+-- want of memory changes nothing, and a whole payload was there to be read
 Takes held (Err fault) new = ((front_of held ≡ bad fault) × (new ≡ shut)) ⊎ ((fault ≡ NoMemory) × HasPayload held × (new ≡ open_with held))
 
 abbrev pub TakesNext : Stream → Result (Option Message) Fault → Stream → Type 0
 TakesNext shut result new = (result ≡ Err Closed) × (new ≡ shut)
 TakesNext (open_with held) result new = Takes held result new
-
--- the message's frame stood first, and the bytes behind it are held
-pub record Hands (old : Stream) (message : Message) (new : Stream) : Type 0 where
-  pub rest : List ℕ
-  pub limits : is_message message ≡ true
-  pub laid : old ≡ open_with (frame message ++ rest)
-  pub left : new ≡ open_with rest
 
 -- the stream is these messages, and then a rest that begins with no message's frame
 pub record Splits (stream : List ℕ) (messages : List Message) (rest : List ℕ) : Type 0 where

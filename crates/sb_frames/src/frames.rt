@@ -1,5 +1,5 @@
-ghost use Rattle.std.specs.Prelude.{◌≡◌, [], IfOk, IfSome};
-ghost use Rattle.sb_frames.specs.Streams.{open_with, Feeds, TakesNext, Hands};
+ghost use Rattle.std.specs.Prelude.{◌≡◌, []};
+ghost use Rattle.sb_frames.specs.Streams.{open_with, Feeds, TakesNext};
 
 use crate::front::message_in;
 use sb_codec::Message;
@@ -61,8 +61,7 @@ impl Frames {
     /// comes next, as soon as it can be told, and it is closed from then on; `NoMemory` of a whole
     /// frame, with nothing changed.
     pub fn next(&mut self) -> Result<Option<Message>, Fault>
-        ensures answer { TakesNext self.old result self.new }
-        ensures hands { IfOk result (λ found. IfSome found (λ message. Hands self.old message self.new)) }
+        ensures { TakesNext self.old result self.new }
     {
         if self.is_closed {
             return Err(Fault::Closed);

@@ -1,7 +1,7 @@
 //! What stands at the front of bytes.
 
 ghost use Rattle.std.specs.Prelude.{◌≡◌, ◌+◌, ◌≤◌, ◌⊎◌, drop, length, IfOk, IfErr, IfNone, IfSome};
-ghost use Rattle.sb_frames.specs.Frames.{short, whole, bad, front_of, IsFramed, HasPayload};
+ghost use Rattle.sb_frames.specs.Frames.{short, bad, front_of, IsFramed, HasPayload, Leads};
 
 use sb_codec::{Message, decode_payload};
 use sb_types::{FRAME_MARK, FRAME_VERSION, Fault, HEADER_LENGTH, PAYLOAD_MOST};
@@ -42,8 +42,8 @@ fn payload_in(bytes: &[u8]) -> Result<Option<&[u8]>, Fault>
 /// The message of the first frame, where all of it has come, and the frame's length.
 pub(crate) fn message_in(alloc: Global, bytes: &[u8]) -> Result<Option<(Message, usize)>, Fault>
     ensures none { IfOk result (λ found. IfNone found (front_of bytes.now ≡ short)) }
-    ensures message { IfOk result (λ found. IfSome found (λ m.
-        (front_of bytes.now ≡ whole m.0 (drop m.1 bytes.now)) × (m.1 ≤ length bytes.now))) }
+    ensures leads { IfOk result (λ found. IfSome found (λ m. Leads bytes.now m.0 (drop m.1 bytes.now))) }
+    ensures within { IfOk result (λ found. IfSome found (λ m. m.1 ≤ length bytes.now)) }
     ensures fault { IfErr result (λ fault. (front_of bytes.now ≡ bad fault)
         ⊎ ((fault ≡ Fault.NoMemory) × HasPayload bytes.now)) }
 {
