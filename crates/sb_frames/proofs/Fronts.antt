@@ -199,11 +199,9 @@ whole_frame bytes m rest are e =
 
 -- ---- a payload that was read, or refused
 
-pub leads : (bytes payload rest : List ℕ) (m : Message) → AreBytes payload → IsFramed bytes payload rest → reading payload ≡ Ok m → Leads bytes m rest
+pub leads : (bytes payload rest : List ℕ) (m : Message) → IsFramed bytes payload rest → Spells payload m → Leads bytes m rest
 unfolding frame
-leads bytes payload rest m are is read =
-    let spells = is_found payload m are read in
-    record { limits = spells.limits; laid = is.laid ∙ ap (λ p. framed p ++ rest) spells.bytes }
+leads bytes payload rest m is spells = record { limits = spells.limits; laid = is.laid ∙ ap (λ p. framed p ++ rest) spells.bytes }
 
 pub within_bytes : (bytes payload rest : List ℕ) → IsFramed bytes payload rest → 6 + length payload ≤ length bytes
 within_bytes bytes payload rest is = omega (arith, ap length is.laid, length-append (framed payload) rest, length-framed payload)
@@ -262,11 +260,11 @@ not_for_memory bytes fault e = subst NotMemory e (front_known bytes)
 
 -- ---- more bytes change no verdict
 
-not_none : {A : Type 0} (b : Bool) (x y : A) (rest others : List ℕ) → (if b then None else Some (x, rest)) ≡ Some (y, others) → (b ≡ false) × (x ≡ y) × (rest ≡ others)
+not_none : {A : Type 0} (b : Bool) (x y : A) (rest others : List ℕ) → if◌then◌else◌ {A = Option (A × List ℕ)} b None (Some (x, rest)) ≡ Some (y, others) → (b ≡ false) × (x ≡ y) × (rest ≡ others)
 not_none true x y rest others e = absurd cc
 not_none false x y rest others e = let same = some_pair_parts x y rest others e in (refl, same.0, same.1)
 
-some_parts : (read : Option (List ℕ × List ℕ)) (n : ℕ) (rest : List ℕ) → option_and_then (λ x. Some (from_be_bytes w32 x.0, x.1)) read ≡ Some (n, rest) → (x : List ℕ) × (read ≡ Some (x, rest)) × (from_be_bytes w32 x ≡ n)
+some_parts : (read : Option (List ℕ × List ℕ)) (n : ℕ) (rest : List ℕ) → option_and_then {U = ℕ × List ℕ} (λ x. Some (from_be_bytes w32 x.0, x.1)) read ≡ Some (n, rest) → (x : List ℕ) × (read ≡ Some (x, rest)) × (from_be_bytes w32 x ≡ n)
 some_parts None n rest e = absurd cc
 some_parts (Some x) n rest e = let same = some_pair_parts (from_be_bytes w32 x.0) n x.1 rest e in (x.0, rw (← same.1) refl, same.0)
 
