@@ -1,7 +1,7 @@
 -- What stands at the front of bytes.
 use Rattle.std.proofs.Common.{◌≡◌, ◌≢◌, ℕ, ◌+◌, ◌^◌, ◌<◌, ◌≤◌, Bool, true, false, ◌==◌, ltb, if◌then◌else◌, List, [], ◌∷◌, ◌++◌, length, get_or, take, drop, Option, Some, None, Result, Ok, Err, refl, sym, ap, subst, ◌∙◌, inl, inr, ◌⊎◌, append_assoc, arith, length-append, length-take}
 use Rattle.std.specs.Int.{w32, byte_len, from_be_bytes, to_be_bytes}
-use Rattle.std.specs.Prelude.{ok_or}
+use Rattle.std.specs.Prelude.{ok_or, All}
 use Rattle.std.specs.Option.{option_and_then}
 use Rattle.std.proofs.lemmas.Bool.{and_parts, cases_lt, leb-true, le-leb, lt-ltb, le-ltb, ltb-false, eqb-true, ne_eqb}
 use Rattle.std.proofs.lemmas.Bool.Decides.{nat_tests}
@@ -28,7 +28,7 @@ wide32 = record {
   again = from_be_bytes-to_be_bytes_4;
 }
 
-fits_length : (count : ℕ) → is_payload_length count ≡ true → (1 ≤ count) × (count ≤ 65530)
+pub fits_length : (count : ℕ) → is_payload_length count ≡ true → (1 ≤ count) × (count ≤ 65530)
 fits_length count fits = let parts = and_parts _ _ fits in (leb-true _ _ parts.0, leb-true _ _ parts.1)
 
 -- ---- a payload behind its header
@@ -115,17 +115,17 @@ pub before_payload : (bytes count rest : List ℕ) (n : ℕ) → HasLength bytes
 unfolding bytes_at
 before_payload bytes count rest n has is some most few = rw (at_length bytes count rest n has is, length_fits n some most, lt-ltb (length rest) n few) refl
 
-pub behind : (bytes front rest : List ℕ) → bytes ≡ front ++ rest → AreBytes bytes → AreBytes rest
+behind : (bytes front rest : List ℕ) → bytes ≡ front ++ rest → AreBytes bytes → AreBytes rest
 behind bytes front rest e are i = rw (← get_or-append-add front rest i 0, ← e) (are (length front + i))
 
-pub in_front : (bytes front rest : List ℕ) → bytes ≡ front ++ rest → AreBytes bytes → AreBytes front
+in_front : (bytes front rest : List ℕ) → bytes ≡ front ++ rest → AreBytes bytes → AreBytes front
 in_front bytes front rest e are i =
     elim (cases_lt i (length front)) [
       | inl lt ↦ rw (← get_or_append_left front rest 0 i lt, ← e) (are i)
       | inr le ↦ rw (get_or_past front i 0 le) (omega arith)
     ]
 
-length-framed : (payload : List ℕ) → length (framed payload) ≡ 6 + length payload
+pub length-framed : (payload : List ℕ) → length (framed payload) ≡ 6 + length payload
 unfolding framed number
 length-framed payload = omega (arith, length-append (number w32 (length payload)) payload, wide32.len (length payload))
 
@@ -188,14 +188,21 @@ whole_version bytes m rest are e =
     let back = whole_length one.1 m rest (behind bytes (one.0 ∷ []) one.1 cut are) fits.1 in
     (back.0, cut ∙ ap (λ n. n ∷ one.1) (eqb-true one.0 FRAME_VERSION fits.0) ∙ ap (λ (x : List ℕ). FRAME_VERSION ∷ x) back.1)
 
-pub whole_frame : (bytes : List ℕ) (m : Message) (rest : List ℕ) → AreBytes bytes → front_of bytes ≡ whole m rest → (is_message m ≡ true) × (bytes ≡ frame m ++ rest)
+pub whole_frame : (bytes : List ℕ) (m : Message) (rest : List ℕ) → AreBytes bytes → front_of bytes ≡ whole m rest → Leads bytes m rest
 unfolding front_of frame framed
 whole_frame bytes m rest are e =
     let one = once_whole (byte_at bytes) front_after_mark m rest e in
     let fits = chosen_whole (one.0 == FRAME_MARK) (once (byte_at one.1) front_after_version) BadMark m rest one.3 in
     let cut = (byte_takes.parts bytes one.0 one.1 are one.2).1 in
     let back = whole_version one.1 m rest (behind bytes (one.0 ∷ []) one.1 cut are) fits.1 in
-    (back.0, cut ∙ ap (λ n. n ∷ one.1) (eqb-true one.0 FRAME_MARK fits.0) ∙ ap (λ (x : List ℕ). FRAME_MARK ∷ x) back.1)
+    record { limits = back.0; laid = cut ∙ ap (λ n. n ∷ one.1) (eqb-true one.0 FRAME_MARK fits.0) ∙ ap (λ (x : List ℕ). FRAME_MARK ∷ x) back.1 }
+
+pub are_bytes : (bytes : List ℕ) → All (λ byte. byte < 256) bytes → AreBytes bytes
+are_bytes bytes all i =
+    elim (cases_lt i (length bytes)) [
+      | inl lt ↦ all i 0 lt
+      | inr le ↦ rw (get_or_past bytes i 0 le) (omega arith)
+    ]
 
 -- ---- a payload that was read, or refused
 

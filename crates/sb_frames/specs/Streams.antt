@@ -1,6 +1,6 @@
 -- What is held of a stream, and how a stream is read.
-use Rattle.std.specs.Prelude.{◌≡◌, ◌≢◌, ℕ, true, List, ◌++◌, ◌⊎◌, All, Option, Some, None, Result, Ok, Err}
-use Rattle.std.specs.List.{flat_map}
+use Rattle.std.specs.Prelude.{◌≡◌, ◌≢◌, ℕ, true, List, ◌++◌, ◌⊎◌, Option, Some, None, Result, Ok, Err}
+use Rattle.std.specs.List.{flat_map, list_all}
 use Rattle.sb_types.specs.declared.fault.Fault.{Fault}
 use Rattle.sb_types.specs.declared.fault.Fault.TheVariants.{NoMemory, Closed}
 use Rattle.sb_codec.specs.declared.message.Message.{Message}
@@ -39,5 +39,5 @@ TakesNext (open_with held) result new = Takes held result new
 -- the stream is these messages, and then a rest that begins with no message's frame
 pub record Splits (stream : List ℕ) (messages : List Message) (rest : List ℕ) : Type 0 where
   pub whole : stream ≡ flat_map frame messages ++ rest
-  pub each : All (λ message. is_message message ≡ true) messages
+  pub each : list_all is_message messages ≡ true
   pub partial : (message : Message) (more : List ℕ) → is_message message ≡ true → rest ≢ frame message ++ more

@@ -9,6 +9,9 @@ mod sending;
 pub use frames::Frames;
 pub use laws::{
     faults_are_of_the_bytes, frames_are_read, frames_have_a_length, only_frames_are_read,
-    parts_of_frames_are_short, streams_have_one_reading, verdicts_stand,
+    parts_of_frames_are_short, pieces_do_not_matter, streams_have_one_reading, verdicts_stand,
 };
 pub use sending::send;
+
+#[cfg(test)]
+mod tests;
