@@ -1,6 +1,6 @@
 //! A reader of which only so many reads may be made.
-ghost use Rattle.std.specs.Prelude.{◌≡◌, ◌+◌, ◌<◌, ◌≤◌, length, IfOk};
-ghost use Rattle.attrdir.specs.Reads.{FailsRead};
+ghost use Rattle.std.specs.Prelude.{◌≡◌, ◌<◌, ◌≤◌, length, IfOk, OnOk, IfErr};
+ghost use Rattle.attrdir.specs.Reads.{AreCounted, IsRunFault};
 
 use crate::steps::Steps;
 use sb_types::Fault;
@@ -28,10 +28,10 @@ impl<R: Read> Counted<R> {
         bytes: &mut [u8],
         steps: &mut Steps<L>,
     ) -> Result<usize, Fault>
-        ensures steps { steps.new + self.new.left ≡ steps.old + self.old.left }
+        ensures counted { AreCounted steps.old self.old.left steps.new self.new.left }
         ensures count { IfOk result (λ count. count ≤ length bytes.new) }
-        ensures made { IfOk result (λ _. self.new.left < self.old.left) }
-        ensures fault { FailsRead result self.new.left }
+        ensures made { OnOk result (self.new.left < self.old.left) }
+        ensures fault { IfErr result (IsRunFault steps.old steps.new self.old.left) }
     {
         while self.left > 0 {
             self.left -= 1;

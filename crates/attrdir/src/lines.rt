@@ -1,5 +1,8 @@
 //! The lines of a script.
-ghost use Rattle.std.specs.Prelude.{◌≡◌, ◌+◌, ◌<◌, ◌≤◌, vec_len};
+ghost use Rattle.std.specs.Prelude.{◌≡◌, ◌+◌, ◌<◌, ◌≤◌, true, vec_len, IfOk, OnOk, IfErr};
+ghost use Rattle.attrdir.specs.declared.lines.TheConstants.{ROOM};
+ghost use Rattle.attrdir.specs.Reads.{AreCounted, IsRunFault};
+ghost use Rattle.attrdir.specs.Script.{bytes_to_come};
 
 use crate::counted::Counted;
 use crate::steps::Steps;
@@ -22,12 +25,17 @@ pub(crate) struct Lines<R> {
     ended: bool,
     line: Vec<u8>,
     number: u64,
+    ghost room: { vec_len bytes ≡ ROOM },
+    ghost begun: { at ≤ end },
+    ghost within: { end ≤ ROOM },
 }
 
 impl<R: Read> Lines<R> {
     pub(crate) fn new(alloc: Global, reader: R, max_reads: u64) -> Result<Lines<R>, Fault>
     where
         R: Drop,
+        ensures reads { IfOk result (λ lines. lines.reader.left ≡ max_reads) }
+        ensures fault { IfErr result (λ fault. fault ≡ Fault.NoMemory) }
     {
         Ok(Lines {
             reader: Counted::new(reader, max_reads),
@@ -51,7 +59,11 @@ impl<R: Read> Lines<R> {
     }
 
     /// Goes on to the next line that is not empty, where there is one.
-    pub(crate) fn advance<L: Ledger>(&mut self, steps: &mut Steps<L>) -> Result<bool, Fault> {
+    pub(crate) fn advance<L: Ledger>(&mut self, steps: &mut Steps<L>) -> Result<bool, Fault>
+        ensures counted { AreCounted steps.old self.old.reader.left steps.new self.new.reader.left }
+        ensures met { IfOk result (λ met. met ≡ true → bytes_to_come self.new.reader.left self.new.at self.new.end < bytes_to_come self.old.reader.left self.old.at self.old.end) }
+        ensures fault { IfErr result (IsRunFault steps.old steps.new self.old.reader.left) }
+    {
         while self.next_line(steps)? {
             if !self.line.is_empty() {
                 return Ok(true);
@@ -61,7 +73,11 @@ impl<R: Read> Lines<R> {
     }
 
     /// Goes on to the next line, empty or not.
-    fn next_line<L: Ledger>(&mut self, steps: &mut Steps<L>) -> Result<bool, Fault> {
+    fn next_line<L: Ledger>(&mut self, steps: &mut Steps<L>) -> Result<bool, Fault>
+        ensures counted { AreCounted steps.old self.old.reader.left steps.new self.new.reader.left }
+        ensures met { IfOk result (λ met. met ≡ true → bytes_to_come self.new.reader.left self.new.at self.new.end < bytes_to_come self.old.reader.left self.old.at self.old.end) }
+        ensures fault { IfErr result (IsRunFault steps.old steps.new self.old.reader.left) }
+    {
         self.line.clear();
         self.number = self.number.saturating_add(1);
         while self.refill(steps)? {
@@ -73,7 +89,13 @@ impl<R: Read> Lines<R> {
     }
 
     /// Reads where nothing is left of what was read before. Says whether there is something now.
-    fn refill<L: Ledger>(&mut self, steps: &mut Steps<L>) -> Result<bool, Fault> {
+    fn refill<L: Ledger>(&mut self, steps: &mut Steps<L>) -> Result<bool, Fault>
+        ensures counted { AreCounted steps.old self.old.reader.left steps.new self.new.reader.left }
+        ensures more { IfOk result (λ more. more ≡ true → self.new.at < self.new.end) }
+        ensures fewer { bytes_to_come self.new.reader.left self.new.at self.new.end ≤ bytes_to_come self.old.reader.left self.old.at self.old.end }
+        ensures line { self.new.line ≡ self.old.line }
+        ensures fault { IfErr result (IsRunFault steps.old steps.new self.old.reader.left) }
+    {
         if self.at == self.end && !self.ended {
             self.end = self.reader.read(&mut self.bytes, steps)?;
             self.at = 0;
@@ -83,7 +105,13 @@ impl<R: Read> Lines<R> {
     }
 
     /// Adds to the line what was read of it. Says whether that is all of it.
-    fn take_piece(&mut self) -> Result<bool, Fault> {
+    fn take_piece(&mut self) -> Result<bool, Fault>
+        requires { self.old.at < self.old.end }
+        ensures reader { self.new.reader ≡ self.old.reader }
+        ensures taken { OnOk result (vec_len self.new.line + bytes_to_come self.new.reader.left self.new.at self.new.end ≤ vec_len self.old.line + bytes_to_come self.old.reader.left self.old.at self.old.end) }
+        ensures fewer { OnOk result (bytes_to_come self.new.reader.left self.new.at self.new.end < bytes_to_come self.old.reader.left self.old.at self.old.end) }
+        ensures fault { IfErr result (λ fault. fault ≡ Fault.NoMemory) }
+    {
         let rest = &self.bytes[self.at..self.end];
         match rest.iter().position(|byte| *byte == b'\n') {
             Some(place) => {

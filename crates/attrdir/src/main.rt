@@ -13,6 +13,9 @@ mod sim;
 mod steps;
 mod world;
 
+#[cfg(test)]
+mod tests;
+
 use std::process::ExitCode;
 
 /// The exit status of a run that had a fault.

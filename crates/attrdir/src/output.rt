@@ -1,5 +1,6 @@
 //! The answers of a script, on their way out.
-ghost use Rattle.std.specs.Prelude.{◌≤◌, vec_len};
+ghost use Rattle.std.specs.Prelude.{◌≡◌, ◌≤◌, vec_len, IfErr};
+ghost use Rattle.attrdir.specs.declared.output.TheConstants.{ROOM};
 
 use sb_types::Fault;
 use std::alloc::Global;
@@ -42,6 +43,7 @@ impl<W: Write> Output<W> {
     pub(crate) fn new(alloc: Global, writer: W) -> Result<Output<W>, Fault>
     where
         W: Drop,
+        ensures { IfErr result (λ fault. fault ≡ Fault.NoMemory) }
     {
         Ok(Output {
             writer: Counting { writer, taken: 0 },
@@ -50,18 +52,28 @@ impl<W: Write> Output<W> {
     }
 
     /// Prints a line. `WriteFailed`, with how many bytes were written in all.
-    pub(crate) fn print<D: Display + Drop>(&mut self, line: D) -> Result<(), Fault> {
-        let printed = self.writeln(line);
-        printed.map_err(|_| self.fault())
+    pub(crate) fn print<D: Display + Drop>(&mut self, line: D) -> Result<(), Fault>
+        ensures { IfErr result (λ fault. fault ≡ Fault.WriteFailed self.new.writer.taken) }
+    {
+        match self.writeln(line) {
+            Ok(()) => Ok(()),
+            Err(_) => Err(self.fault()),
+        }
     }
 
     /// Writes what waits. `WriteFailed`, with how many bytes were written in all.
-    pub(crate) fn finish(&mut self) -> Result<(), Fault> {
-        let finished = self.flush();
-        finished.map_err(|_| self.fault())
+    pub(crate) fn finish(&mut self) -> Result<(), Fault>
+        ensures { IfErr result (λ fault. fault ≡ Fault.WriteFailed self.new.writer.taken) }
+    {
+        match self.flush() {
+            Ok(()) => Ok(()),
+            Err(_) => Err(self.fault()),
+        }
     }
 
-    fn fault(&self) -> Fault {
+    fn fault(&self) -> Fault
+        ensures { result ≡ Fault.WriteFailed self.now.writer.taken }
+    {
         Fault::WriteFailed(self.writer.taken)
     }
 

@@ -1,5 +1,6 @@
 //! The run of a script.
-ghost use Rattle.std.specs.Prelude.{◌≡◌, ◌+◌, ◌≤◌};
+ghost use Rattle.std.specs.Prelude.{◌≡◌, ◌+◌, ◌<◌, ◌≤◌, true, IfErr};
+ghost use Rattle.attrdir.specs.Reads.{AreCounted, IsRunFault, is_run_fault};
 
 use crate::lines::Lines;
 use crate::output::Output;
@@ -10,7 +11,8 @@ use crate::world::World;
 use sb_types::Fault;
 use std::alloc::Global;
 use std::io::{Read, Write};
-use std::sync::ledger::Ledger;
+use std::marker::Brand;
+use std::sync::ledger::{Blank, Ledger};
 
 /// How a script ended.
 #[derive(Clone, Copy, Debug, PartialEq, Eq)]
@@ -47,6 +49,7 @@ pub fn sim_run<R: Read + Drop, W: Write + Drop, L: Ledger>(
     steps: &mut Steps<L>,
 ) -> Result<Ending, Fault>
     ensures reads { steps.new ≤ steps.old + max_reads }
+    ensures fault { IfErr result (IsRunFault steps.old steps.new max_reads) }
 {
     let mut lines = Lines::new(alloc, reader, max_reads)?;
     let mut output = Output::new(alloc, writer)?;
@@ -57,12 +60,44 @@ pub fn sim_run<R: Read + Drop, W: Write + Drop, L: Ledger>(
     Ok(ending)
 }
 
+/// Runs a script for a caller that does not count the reads.
+pub fn sim_run_uncounted<R: Read + Drop, W: Write + Drop>(
+    alloc: Global,
+    reader: R,
+    writer: W,
+    max_reads: u64,
+) -> Result<Ending, Fault>
+    ensures { IfErr result (λ fault. is_run_fault fault ≡ true) }
+{
+    run_on::<R, W, Brand>(alloc, reader, writer, max_reads, Blank::new(1))
+}
+
+/// Runs a script, and counts its reads in a ledger of their own.
+fn run_on<R: Read + Drop, W: Write + Drop, L: Ledger>(
+    alloc: Global,
+    reader: R,
+    writer: W,
+    max_reads: u64,
+    blank: Blank,
+) -> Result<Ending, Fault>
+    requires name { blank.name ≡ L.name }
+    requires parts { blank.parts ≡ L.parts }
+    requires some { 0 < blank.parts }
+    ensures { IfErr result (λ fault. is_run_fault fault ≡ true) }
+{
+    let mut steps = Steps::<L>::new(blank);
+    sim_run(alloc, reader, writer, max_reads, &mut steps)
+}
+
 fn play<R: Read, W: Write, L: Ledger>(
     alloc: Global,
     lines: &mut Lines<R>,
     output: &mut Output<W>,
     steps: &mut Steps<L>,
-) -> Result<Ending, Fault> {
+) -> Result<Ending, Fault>
+    ensures counted { AreCounted steps.old lines.old.reader.left steps.new lines.new.reader.left }
+    ensures fault { IfErr result (IsRunFault steps.old steps.new lines.old.reader.left) }
+{
     if !lines.advance(steps)? {
         return Ok(Ending::Whole);
     }
@@ -85,7 +120,9 @@ fn play<R: Read, W: Write, L: Ledger>(
 }
 
 /// Ends the run at a line that is no command.
-fn end_at<W: Write>(number: u64, output: &mut Output<W>) -> Result<Ending, Fault> {
+fn end_at<W: Write>(number: u64, output: &mut Output<W>) -> Result<Ending, Fault>
+    ensures { IfErr result (λ fault. fault ≡ Fault.WriteFailed output.new.writer.taken) }
+{
     output.print(format_args!("line {number}"))?;
     Ok(Ending::WrongLine)
 }
