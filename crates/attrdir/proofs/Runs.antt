@@ -5,31 +5,31 @@ use Rattle.sb_types.specs.Faults.{number_of}
 use Rattle.attrdir.specs.Reads.{AreCounted, IsRunFault, is_run_fault}
 
 -- want of memory is a fault of a run at any time
-pub IsRunFault-memory : (steps steps' allowed : ℕ) (fault : Fault) → fault ≡ NoMemory → IsRunFault steps steps' allowed fault
-IsRunFault-memory steps steps' allowed fault e = record {
+pub memory_fault : (steps steps' allowed : ℕ) (fault : Fault) → fault ≡ NoMemory → IsRunFault steps steps' allowed fault
+memory_fault steps steps' allowed fault e = record {
   kind = rw e refl;
-  read = λ r. let bad : 1 ≡ 16 = ap number_of (rw (← e) r) in absurd (omega (arith, bad));
-  spent = λ r. let bad : 1 ≡ 29 = ap number_of (rw (← e) r) in absurd (omega (arith, bad))
+  read = λ r. let same : NoMemory ≡ ReadFailed = rw (← e) r in let bad : 1 ≡ 16 = ap number_of same in absurd (omega (arith, bad));
+  spent = λ r. let same : NoMemory ≡ TurnsSpent = rw (← e) r in let bad : 1 ≡ 29 = ap number_of same in absurd (omega (arith, bad))
 }
 
 -- so is a failed write
-pub IsRunFault-write : (steps steps' allowed count : ℕ) (fault : Fault) → fault ≡ WriteFailed count → IsRunFault steps steps' allowed fault
-IsRunFault-write steps steps' allowed count fault e = record {
+pub write_fault : (steps steps' allowed count : ℕ) (fault : Fault) → fault ≡ WriteFailed count → IsRunFault steps steps' allowed fault
+write_fault steps steps' allowed count fault e = record {
   kind = rw e refl;
-  read = λ r. let bad : 17 ≡ 16 = ap number_of (rw (← e) r) in absurd (omega (arith, bad));
-  spent = λ r. let bad : 17 ≡ 29 = ap number_of (rw (← e) r) in absurd (omega (arith, bad))
+  read = λ r. let same : WriteFailed count ≡ ReadFailed = rw (← e) r in let bad : 17 ≡ 16 = ap number_of same in absurd (omega (arith, bad));
+  spent = λ r. let same : WriteFailed count ≡ TurnsSpent = rw (← e) r in let bad : 17 ≡ 29 = ap number_of same in absurd (omega (arith, bad))
 }
 
 -- a fault after reads that went well
-pub IsRunFault-later : (steps left steps' left' steps'' : ℕ) (fault : Fault)
+pub fault_later : (steps left steps' left' steps'' : ℕ) (fault : Fault)
   → AreCounted steps left steps' left' → IsRunFault steps' steps'' left' fault → IsRunFault steps steps'' left fault
-IsRunFault-later steps left steps' left' steps'' fault before f = record {
+fault_later steps left steps' left' steps'' fault before f = record {
   kind = f.kind;
   read = λ r. let later = f.read r in omega (arith, before.sum, before.fewer, later);
   spent = λ r. let all = f.spent r in omega (arith, before.sum, before.fewer, all)
 }
 
-pub AreCounted-later : (steps left steps' left' steps'' left'' : ℕ)
+pub counted_later : (steps left steps' left' steps'' left'' : ℕ)
   → AreCounted steps left steps' left' → AreCounted steps' left' steps'' left'' → AreCounted steps left steps'' left''
-AreCounted-later steps left steps' left' steps'' left'' before after =
+counted_later steps left steps' left' steps'' left'' before after =
   record { sum = omega (arith, before.sum, after.sum); fewer = omega (arith, before.fewer, after.fewer) }

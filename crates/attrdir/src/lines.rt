@@ -59,6 +59,7 @@ impl<R: Read> Lines<R> {
     }
 
     /// Goes on to the next line that is not empty, where there is one.
+    #[tactic(auto, using(crate::proofs::Runs::counted_later, crate::proofs::Runs::fault_later))]
     pub(crate) fn advance<L: Ledger>(&mut self, steps: &mut Steps<L>) -> Result<bool, Fault>
         ensures counted { AreCounted steps.old self.old.reader.left steps.new self.new.reader.left }
         ensures met { IfOk result (λ met. met ≡ true → bytes_to_come self.new.reader.left self.new.at self.new.end < bytes_to_come self.old.reader.left self.old.at self.old.end) }
@@ -73,6 +74,7 @@ impl<R: Read> Lines<R> {
     }
 
     /// Goes on to the next line, empty or not.
+    #[tactic(auto, using(crate::proofs::Runs::counted_later, crate::proofs::Runs::fault_later, crate::proofs::Runs::memory_fault))]
     fn next_line<L: Ledger>(&mut self, steps: &mut Steps<L>) -> Result<bool, Fault>
         ensures counted { AreCounted steps.old self.old.reader.left steps.new self.new.reader.left }
         ensures met { IfOk result (λ met. met ≡ true → bytes_to_come self.new.reader.left self.new.at self.new.end < bytes_to_come self.old.reader.left self.old.at self.old.end) }

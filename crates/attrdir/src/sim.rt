@@ -41,6 +41,7 @@ impl Ending {
 /// The faults of lines are printed. The run's own come back: `ReadFailed`; `WriteFailed`, with how many
 /// bytes were written; `TurnsSpent` where the script takes more reads; `NoMemory`. What was printed before
 /// the end of the run has been written, but for what a failed write left.
+#[tactic(auto, using(crate::proofs::Runs::memory_fault, crate::proofs::Runs::write_fault))]
 pub fn sim_run<R: Read + Drop, W: Write + Drop, L: Ledger>(
     alloc: Global,
     reader: R,
@@ -89,6 +90,7 @@ fn run_on<R: Read + Drop, W: Write + Drop, L: Ledger>(
     sim_run(alloc, reader, writer, max_reads, &mut steps)
 }
 
+#[tactic(auto, using(crate::proofs::Runs::counted_later, crate::proofs::Runs::fault_later, crate::proofs::Runs::write_fault))]
 fn play<R: Read, W: Write, L: Ledger>(
     alloc: Global,
     lines: &mut Lines<R>,
