@@ -3,7 +3,6 @@
 
 mod command_line;
 mod counted;
-mod frame;
 mod lines;
 mod node;
 mod output;

@@ -1,9 +1,9 @@
 //! A world of nodes in memory, and what the commands of a script do to it.
-use crate::frame::frame_of;
 use crate::node::Node;
 use crate::parse::{Command, WorldLine};
 use crate::print::{Answer, GiveEnd};
 use sb_codec::Message;
+use sb_frames::frame_of;
 use sb_types::{Delta, Fault, Key, Name, OWNERS_MOST, RawSettings, Settings, Value};
 use std::alloc::Global;
 use std::collections::BTreeMap;
