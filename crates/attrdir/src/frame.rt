@@ -1,15 +1,13 @@
-//! A message as a frame.
-use sb_codec::{Message, encode_payload};
-use sb_types::{FRAME_MARK, FRAME_VERSION, Fault};
+//! A message as the bytes that are sent.
+use sb_codec::Message;
+use sb_frames::send;
+use sb_types::{BUDGET_MOST, Fault};
 use std::alloc::Global;
 
 /// The frame of a message. `NoMemory`.
 pub(crate) fn frame_of(alloc: Global, message: &Message) -> Result<Vec<u8>, Fault> {
-    let payload = encode_payload(alloc, message)?;
-    let mut frame = Vec::new(alloc);
-    frame.push(FRAME_MARK)?;
-    frame.push(FRAME_VERSION)?;
-    frame.extend_from_slice(&(payload.len() as u32).to_be_bytes())?;
-    frame.extend_from_slice(&payload)?;
+    // room for the longest frame, so that writing it takes no memory
+    let mut frame = Vec::with_capacity(alloc, BUDGET_MOST as usize)?;
+    send(alloc, &mut frame, message)?;
     Ok(frame)
 }
