@@ -9,7 +9,7 @@ pub memory_fault : (steps steps' allowed : ℕ) (fault : Fault) → fault ≡ No
 memory_fault steps steps' allowed fault e = record {
   kind = rw e refl;
   read = λ r. let same : NoMemory ≡ ReadFailed = rw (← e) r in let bad : 1 ≡ 16 = ap number_of same in absurd (omega (arith, bad));
-  spent = λ r. let same : NoMemory ≡ TurnsSpent = rw (← e) r in let bad : 1 ≡ 29 = ap number_of same in absurd (omega (arith, bad))
+  spent = λ r. let same : NoMemory ≡ TurnsSpent = rw (← e) r in let bad : 1 ≡ 29 = ap number_of same in absurd (omega (arith, bad));
 }
 
 -- so is a failed write
@@ -17,19 +17,19 @@ pub write_fault : (steps steps' allowed count : ℕ) (fault : Fault) → fault �
 write_fault steps steps' allowed count fault e = record {
   kind = rw e refl;
   read = λ r. let same : WriteFailed count ≡ ReadFailed = rw (← e) r in let bad : 17 ≡ 16 = ap number_of same in absurd (omega (arith, bad));
-  spent = λ r. let same : WriteFailed count ≡ TurnsSpent = rw (← e) r in let bad : 17 ≡ 29 = ap number_of same in absurd (omega (arith, bad))
+  spent = λ r. let same : WriteFailed count ≡ TurnsSpent = rw (← e) r in let bad : 17 ≡ 29 = ap number_of same in absurd (omega (arith, bad));
 }
 
 -- a fault after reads that went well
 pub fault_later : (steps left steps' left' steps'' : ℕ) (fault : Fault)
-  → AreCounted steps left steps' left' → IsRunFault steps' steps'' left' fault → IsRunFault steps steps'' left fault
+    → AreCounted steps left steps' left' → IsRunFault steps' steps'' left' fault → IsRunFault steps steps'' left fault
 fault_later steps left steps' left' steps'' fault before f = record {
   kind = f.kind;
   read = λ r. let later = f.read r in omega (arith, before.sum, before.fewer, later);
-  spent = λ r. let all = f.spent r in omega (arith, before.sum, before.fewer, all)
+  spent = λ r. let all = f.spent r in omega (arith, before.sum, before.fewer, all);
 }
 
 pub counted_later : (steps left steps' left' steps'' left'' : ℕ)
-  → AreCounted steps left steps' left' → AreCounted steps' left' steps'' left'' → AreCounted steps left steps'' left''
+    → AreCounted steps left steps' left' → AreCounted steps' left' steps'' left'' → AreCounted steps left steps'' left''
 counted_later steps left steps' left' steps'' left'' before after =
-  record { sum = omega (arith, before.sum, after.sum); fewer = omega (arith, before.fewer, after.fewer) }
+    record { sum = omega (arith, before.sum, after.sum); fewer = omega (arith, before.fewer, after.fewer) }

@@ -10,10 +10,9 @@ mod parse;
 mod print;
 mod sim;
 mod steps;
-mod world;
-
 #[cfg(test)]
 mod tests;
+mod world;
 
 use std::process::ExitCode;
 

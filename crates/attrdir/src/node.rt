@@ -63,8 +63,7 @@ impl Node {
                 Fault::TableFull
             });
         }
-        self.own
-            .push(Entry::new(key, last + 1, Slot::Set(value)))?;
+        self.own.push(Entry::new(key, last + 1, Slot::Set(value)))?;
         Ok(last + 1)
     }
 

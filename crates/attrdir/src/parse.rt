@@ -65,8 +65,7 @@ impl<'a> WorldLine<'a> {
     pub(crate) fn parse(words: &'a [&'a [u8]]) -> Option<WorldLine<'a>> {
         match words {
             [b"world", budget, order, max_version, names @ ..]
-                if are_words(words) && !names.is_empty() =>
-            {
+                if are_words(words) && !names.is_empty() => {
                 Some(WorldLine {
                     budget: number_of(budget)?,
                     order: order_of(order)?,

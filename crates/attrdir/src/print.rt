@@ -9,7 +9,10 @@ pub(crate) enum Answer<'a> {
     /// A write has this version.
     Version(u64),
     /// A frame was sent, and ended so.
-    Given { frame: Vec<u8>, end: GiveEnd },
+    Given {
+        frame: Vec<u8>,
+        end: GiveEnd,
+    },
     /// An owner has this value under a key.
     Found {
         owner: Name,

@@ -65,7 +65,11 @@ impl Write for ClosingWriter {
 fn a_write_goes_from_node_to_node(rt: HostRuntime) -> Result<(), Fail> {
     let alloc = rt.alloc();
     let script = format!(in alloc; "{EXAMPLE}give a b 1\ngive a b 0")?;
-    let wanted = format!(in alloc; "{PRINTED}a7010000000303{:04}\nnothing\n{}\nstale\n", 0, &PRINTED[10..90])?;
+    let wanted = format!(in alloc;
+        "{PRINTED}a7010000000303{:04}\nnothing\n{}\nstale\n",
+        0,
+        &PRINTED[10..90]
+    )?;
     let (ending, printed) = run(alloc, &script)?;
     assert_eq!(rt; ending, Ending::Whole);
     assert_eq!(rt; printed.as_slice(), wanted.as_bytes());
@@ -77,7 +81,11 @@ fn a_wrong_line_ends_the_run(rt: HostRuntime) -> Result<(), Fail> {
     let alloc = rt.alloc();
     for (script, status, wanted) in [
         ("", 0, ""),
-        ("world 256 breadth 100 a\n\nread a a\nput a w flag true\n", 2, "line 3\n"),
+        (
+            "world 256 breadth 100 a\n\nread a a\nput a w flag true\n",
+            2,
+            "line 3\n",
+        ),
         ("world 255 breadth 100 a", 3, "fault 5\n"),
     ] {
         let (ending, printed) = run(alloc, script)?;
@@ -117,5 +125,73 @@ fn a_failed_write_says_how_much_was_written(rt: HostRuntime) -> Result<(), Fail>
     let writer = ClosingWriter { left: 17 };
     let ended = sim_run_uncounted(rt.alloc(), EXAMPLE.as_bytes(), writer, 100);
     assert_eq!(rt; ended, Err(Fault::WriteFailed(17)));
+    Ok(())
+}
+
+/// A writer that takes no memory, of so many bytes at most.
+#[derive(Drop)]
+struct Page {
+    bytes: [u8; 256],
+    used: usize,
+}
+
+impl Write for Page {
+    fn write(&mut self, bytes: &[u8]) -> io::Result<usize> {
+        let mut count = 0;
+        for (place, byte) in self.bytes.iter_mut().skip(self.used).zip(bytes) {
+            *place = *byte;
+            count += 1;
+        }
+        self.used += count;
+        Ok(count)
+    }
+
+    fn flush(&mut self) -> io::Result<()> {
+        Ok(())
+    }
+}
+
+fn are_lines(printed: &[u8], lines: &[&str]) -> bool {
+    let mut rest = printed;
+    for line in lines {
+        match rest.strip_prefix(line.as_bytes()) {
+            Some([b'\n', after @ ..]) => rest = after,
+            _ => return false,
+        }
+    }
+    rest.is_empty()
+}
+
+const FRAME: &str =
+    "a7010000002203000101610000000000000000000101770000000000000001020000000000000005";
+
+const EMPTY_FRAME: &str = "a70100000003030000";
+
+#[test]
+fn any_memory_may_be_refused(rt: HostRuntime) -> Result<(), Fail> {
+    let mut page = Page {
+        bytes: [0; 256],
+        used: 0,
+    };
+    let ended = sim_run_uncounted(rt.alloc(), EXAMPLE.as_bytes(), &mut page, 100);
+    let printed = page.bytes.get(..page.used).unwrap_or(&[]);
+    let whole = ["version 1", FRAME, "taken 1", "a w 1 weight 5"];
+    let allowed = match ended {
+        Ok(Ending::Whole) => [
+            whole.as_slice(),
+            &["fault 1", EMPTY_FRAME, "nothing", "none"],
+            &["version 1", "fault 1", "none"],
+            &["version 1", FRAME, "no-memory 0", "none"],
+            &["version 1", FRAME, "taken 1", "fault 1"],
+        ]
+        .iter()
+        .any(|lines| are_lines(printed, lines)),
+        Ok(Ending::NoWorld) => are_lines(printed, &["fault 1"]),
+        Err(Fault::NoMemory) => {
+            [0, 1, 3].iter().any(|count| are_lines(printed, whole.get(..*count).unwrap_or(&[])))
+        }
+        _ => false,
+    };
+    assert!(rt; allowed, "{ended:?}");
     Ok(())
 }
