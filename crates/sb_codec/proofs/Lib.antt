@@ -3,4 +3,4 @@ pub mod Taken
 pub mod Again
 pub mod Parts
 pub mod Values
-pub mod Payloads
+pub mod Laws

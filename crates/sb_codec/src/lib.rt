@@ -4,18 +4,18 @@
 mod decode;
 mod encode;
 mod fields;
-mod laws;
 mod message;
 mod numbers;
+mod payloads;
 mod refusal;
 mod spelled;
 mod writing;
 
 pub use decode::decode_payload;
 pub use encode::encode_payload;
-pub use laws::one_payload_each;
 pub use message::Message;
 pub use numbers::{KIND_DELTA, TAG_ADDR, TAG_FLAG, TAG_REMOVED, TAG_WEIGHT};
+pub use payloads::one_payload_each;
 
 #[cfg(test)]
 mod tests;

@@ -1,6 +1,6 @@
 use Rattle.std.proofs.Common.{arith, subst}
 use Rattle.sb_types.specs.Faults.{Gives}
-use Rattle.sb_codec.proofs.Payloads.{if_found, if_sole, is_read}
+use Rattle.sb_codec.proofs.Laws.{if_found, if_sole, is_read}
 use Rattle.sb_codec.proofs.decode.decode_payload.Goals as goal
 
 pub returns-clause-found : goal.returns-clause-found

@@ -1,6 +1,6 @@
 use Rattle.std.proofs.Common.{rules}
 use Rattle.sb_codec.specs.Messages.{Spells}
-use Rattle.sb_codec.proofs.Payloads.{is_sole}
+use Rattle.sb_codec.proofs.Laws.{is_sole}
 use Rattle.sb_codec.proofs.encode.encode_payload.Goals as goal
 
 pub returns-clause-sole : goal.returns-clause-sole

@@ -3,7 +3,7 @@ use Rattle.std.proofs.lemmas.Grind.{common_steps}
 use Rattle.sb_codec.specs.declared.message.Message.TheVariants.{Delta}
 use Rattle.sb_codec.specs.Messages.{spelling}
 use Rattle.sb_codec.proofs.Parts.{few_blocks}
-use Rattle.sb_codec.proofs.Payloads.{is_spelled}
+use Rattle.sb_codec.proofs.Laws.{is_spelled}
 use Rattle.sb_codec.proofs.encode.write_delta.Goals as goal
 
 pub write_list-requires : goal.write_list-requires

@@ -1,7 +1,7 @@
 use Rattle.std.proofs.Common.{refl}
 use Rattle.sb_codec.specs.Messages.{spelling}
-use Rattle.sb_codec.proofs.Payloads.{is_spelled, is_sole, some_bytes, is_read, is_found}
-use Rattle.sb_codec.proofs.laws.one_payload_each.Goals as goal
+use Rattle.sb_codec.proofs.Laws.{is_spelled, is_sole, some_bytes, is_read, is_found}
+use Rattle.sb_codec.proofs.payloads.one_payload_each.Goals as goal
 
 pub returns-clause-spelled : goal.returns-clause-spelled
 returns-clause-spelled c = λ message fits. is_spelled (spelling message) message fits refl
