@@ -17,7 +17,7 @@ use Rattle.sb_codec.specs.Fields.{AreBytes, Field, byte_at, number_at, bytes_at,
 use Rattle.sb_codec.specs.Messages.{spelling, is_message, Spells, is_kind, fault_of, message_at, reading}
 use Rattle.sb_codec.proofs.Taken.{IsWide, byte_takes, bytes_takes, number_takes}
 use Rattle.sb_codec.proofs.Again.{bytes_again, number_again}
-use Rattle.sb_codec.proofs.Payloads.{is_spelled, is_found, is_read}
+use Rattle.sb_codec.proofs.Laws.{is_spelled, is_found, is_read}
 use Rattle.sb_frames.specs.Frames.{framed, frame, is_payload_length, IsFramed, HasPayload, Leads, Extends, Front, short, whole, bad, once, front_by, front_of_payload, front_after_length, front_after_version, front_after_mark, front_of}
 
 wide32 : IsWide w32 (2 ^ 32)
