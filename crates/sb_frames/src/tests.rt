@@ -171,11 +171,17 @@ fn frames_go_out_whole(rt: HostRuntime) -> Result<(), Fail> {
     assert!(rt; narrow.has_written(FRAME));
 
     let mut failing = Narrow::new(17, 5);
-    assert_eq!(rt; sent(alloc, &mut failing, &message), Err(Fault::WriteFailed(17)));
+    assert_eq!(rt;
+        sent(alloc, &mut failing, &message),
+        Err(Fault::WriteFailed(17))
+    );
     assert!(rt; failing.has_written(&FRAME[..17]));
 
     let mut full = Narrow::new(64, 0);
-    assert_eq!(rt; sent(alloc, &mut full, &message), Err(Fault::WriteFailed(0)));
+    assert_eq!(rt;
+        sent(alloc, &mut full, &message),
+        Err(Fault::WriteFailed(0))
+    );
     assert!(rt; full.has_written(b""));
     Ok(())
 }
