@@ -82,6 +82,12 @@ fn are_covered(from: Option<&Name>, until: Option<&Name>, pairs: &[Pair]) -> boo
     pairs.iter().all(|pair| is_covered(from, until, &pair.owner))
 }
 
+fn owner_of(pair: &Pair) -> Name
+    ensures { result ≡ pair.now.owner }
+{
+    pair.owner
+}
+
 fn do_bounds_ascend(from: Option<&Name>, until: Option<&Name>) -> bool
     ensures { result ≡ is_range (option_copied from.entry) (option_copied until.entry) }
 {
@@ -234,7 +240,7 @@ impl Digest {
     pub fn number(&self, owner: &Name) -> u64
         ensures { result ≡ number self.now owner.now }
     {
-        match self.pairs.binary_search_by(|pair| pair.owner.cmp(owner)) {
+        match self.pairs.binary_search_by_key(owner, |pair| owner_of(pair)) {
             Ok(place) => self.pairs[place].version,
             Err(_) => 0,
         }
