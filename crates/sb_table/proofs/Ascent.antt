@@ -12,8 +12,8 @@ are_ascending-filter p low last (x ∷ xs) le up =
     let parts = and_parts (nat_lt last x.version) (are_ascending x.version xs) up in
     let above : last < x.version = ltb-true last x.version parts.0 in
     cond_both (p x) (x ∷ filter p xs) (filter p xs) (λ es. are_ascending low es ≡ true)
-      (λ _. and_from (nat_lt low x.version) (are_ascending x.version (filter p xs)) (lt-ltb low x.version (omega arith)) (are_ascending-filter p x.version x.version xs (omega arith) parts.1))
-      (λ _. are_ascending-filter p low x.version xs (omega arith) parts.1)
+    (λ _. and_from (nat_lt low x.version) (are_ascending x.version (filter p xs)) (lt-ltb low x.version (omega arith)) (are_ascending-filter p x.version x.version xs (omega arith) parts.1))
+    (λ _. are_ascending-filter p low x.version xs (omega arith) parts.1)
 
 pub last_version-filter : (p : Entry → Bool) (low last : ℕ) (es : List Entry) → low ≤ last → are_ascending last es ≡ true → last_version low (filter p es) ≤ last_version last es
 last_version-filter p low last [] le up = le
@@ -21,8 +21,8 @@ last_version-filter p low last (x ∷ xs) le up =
     let parts = and_parts (nat_lt last x.version) (are_ascending x.version xs) up in
     let above : last < x.version = ltb-true last x.version parts.0 in
     cond_both (p x) (x ∷ filter p xs) (filter p xs) (λ es. last_version low es ≤ last_version x.version xs)
-      (λ _. last_version-filter p x.version x.version xs (omega arith) parts.1)
-      (λ _. last_version-filter p low x.version xs (omega arith) parts.1)
+    (λ _. last_version-filter p x.version x.version xs (omega arith) parts.1)
+    (λ _. last_version-filter p low x.version xs (omega arith) parts.1)
 
 pub are_ascending-push : (last : ℕ) (es : List Entry) (e : Entry) → are_ascending last es ≡ true → last_version last es < e.version → are_ascending last (es ++ e ∷ []) ≡ true
 are_ascending-push last [] e up lt = and_from (nat_lt last e.version) true (lt-ltb last e.version lt) refl

@@ -11,19 +11,19 @@ Stands-entry_at key [] e found = absurd (cc)
 Stands-entry_at key (x ∷ xs) e found =
     let same = pointwise nat_eq x.key key in
     ⊎_elim
-      (λ here. inl (cc (found, cond-true same (Some x) (entry_at key xs) here)))
-      (λ other. inr (Stands-entry_at key xs e (sym (cond-false same (Some x) (entry_at key xs) other) ∙ found)))
-      (cases_Bool same)
+    (λ here. inl (cc (found, cond-true same (Some x) (entry_at key xs) here)))
+    (λ other. inr (Stands-entry_at key xs e (sym (cond-false same (Some x) (entry_at key xs) other) ∙ found)))
+    (cases_Bool same)
 
 pub key-entry_at : (key : List ℕ) (es : List Entry) (e : Entry) → entry_at key es ≡ Some e → e.key ≡ key
 key-entry_at key [] e found = absurd (cc)
 key-entry_at key (x ∷ xs) e found =
     let same = pointwise nat_eq x.key key in
     ⊎_elim
-      (λ here. let x_is_e : x ≡ e = cc (found, cond-true same (Some x) (entry_at key xs) here) in
-        sym (ap (λ (y : Entry). y.key) x_is_e) ∙ (bytes_decides x.key key).0 here)
-      (λ other. key-entry_at key xs e (sym (cond-false same (Some x) (entry_at key xs) other) ∙ found))
-      (cases_Bool same)
+    (λ here. let x_is_e : x ≡ e = cc (found, cond-true same (Some x) (entry_at key xs) here) in
+    sym (ap (λ (y : Entry). y.key) x_is_e) ∙ (bytes_decides x.key key).0 here)
+    (λ other. key-entry_at key xs e (sym (cond-false same (Some x) (entry_at key xs) other) ∙ found))
+    (cases_Bool same)
 
 apart_from : (key : List ℕ) (xs : List Entry) (e : Entry) → has_key key xs ≡ false → Stands xs e → pointwise nat_eq e.key key ≡ false
 apart_from key [] e none stands = absurd stands
@@ -35,11 +35,11 @@ pub entry_at-stands : (es : List Entry) (e : Entry) → are_distinct es ≡ true
 entry_at-stands [] e apart stands = absurd stands
 entry_at-stands (x ∷ xs) e apart (inl same) =
     subst (λ (y : Entry). entry_at y.key (x ∷ xs) ≡ Some y) same
-      (cond-true (pointwise nat_eq x.key x.key) (Some x) (entry_at x.key xs) (nat_list_eq_equiv.refl x.key))
+    (cond-true (pointwise nat_eq x.key x.key) (Some x) (entry_at x.key xs) (nat_list_eq_equiv.refl x.key))
 entry_at-stands (x ∷ xs) e apart (inr behind) =
     let parts = and_parts (not (has_key x.key xs)) (are_distinct xs) apart in
     cond-false (pointwise nat_eq x.key e.key) (Some x) (entry_at e.key xs)
-      (nat_list_eq_equiv.symm x.key e.key ∙ apart_from x.key xs e (not-true (has_key x.key xs) parts.0) behind)
+    (nat_list_eq_equiv.symm x.key e.key ∙ apart_from x.key xs e (not-true (has_key x.key xs) parts.0) behind)
     ∙ entry_at-stands xs e parts.1 behind
 
 pub entry_at-none : (key : List ℕ) (es : List Entry) → has_key key es ≡ false → entry_at key es ≡ None
@@ -55,12 +55,12 @@ entry_at-entered_same (x ∷ xs) e =
     let same = pointwise nat_eq e.key x.key in
     let rest = entered xs (e ∷ []) in
     ⊎_elim
-      (λ kept. ap (λ (zs : List Entry). entry_at e.key (zs ++ e ∷ [])) (cond-true (not (same || false)) (x ∷ without (e ∷ []) xs) (without (e ∷ []) xs) kept)
-        ∙ cond-false (pointwise nat_eq x.key e.key) (Some x) (entry_at e.key rest) (nat_list_eq_equiv.symm x.key e.key ∙ (or_parts same false (not-true (same || false) kept)).0)
-        ∙ entry_at-entered_same xs e)
-      (λ gone. ap (λ (zs : List Entry). entry_at e.key (zs ++ e ∷ [])) (cond-false (not (same || false)) (x ∷ without (e ∷ []) xs) (without (e ∷ []) xs) gone)
-        ∙ entry_at-entered_same xs e)
-      (cases_Bool (not (same || false)))
+    (λ kept. ap (λ (zs : List Entry). entry_at e.key (zs ++ e ∷ [])) (cond-true (not (same || false)) (x ∷ without (e ∷ []) xs) (without (e ∷ []) xs) kept)
+    ∙ cond-false (pointwise nat_eq x.key e.key) (Some x) (entry_at e.key rest) (nat_list_eq_equiv.symm x.key e.key ∙ (or_parts same false (not-true (same || false) kept)).0)
+    ∙ entry_at-entered_same xs e)
+    (λ gone. ap (λ (zs : List Entry). entry_at e.key (zs ++ e ∷ [])) (cond-false (not (same || false)) (x ∷ without (e ∷ []) xs) (without (e ∷ []) xs) gone)
+    ∙ entry_at-entered_same xs e)
+    (cases_Bool (not (same || false)))
 
 pub entry_at-entered_other : (key : List ℕ) (es : List Entry) (e : Entry) → key ≢ e.key → entry_at key (entered es (e ∷ [])) ≡ entry_at key es
 entry_at-entered_other key [] e other =
@@ -70,11 +70,11 @@ entry_at-entered_other key (x ∷ xs) e other =
     let same = pointwise nat_eq e.key x.key in
     let rest = entered xs (e ∷ []) in
     ⊎_elim
-      (λ kept. ap (λ (zs : List Entry). entry_at key (zs ++ e ∷ [])) (cond-true (not (same || false)) (x ∷ without (e ∷ []) xs) (without (e ∷ []) xs) kept)
-        ∙ ap (cond here (Some x)) (entry_at-entered_other key xs e other))
-      (λ gone.
-        let x_is_e : e.key ≡ x.key = ⊎_elim (λ yes. (bytes_decides e.key x.key).0 yes) (λ never. absurd (cc never)) (or_cases same false (not-false (same || false) gone)) in
-        ap (λ (zs : List Entry). entry_at key (zs ++ e ∷ [])) (cond-false (not (same || false)) (x ∷ without (e ∷ []) xs) (without (e ∷ []) xs) gone)
-        ∙ entry_at-entered_other key xs e other
-        ∙ sym (cond-false here (Some x) (entry_at key xs) (false_from_ne_true here (λ yes. other (sym ((bytes_decides x.key key).0 yes) ∙ sym x_is_e)))))
-      (cases_Bool (not (same || false)))
+    (λ kept. ap (λ (zs : List Entry). entry_at key (zs ++ e ∷ [])) (cond-true (not (same || false)) (x ∷ without (e ∷ []) xs) (without (e ∷ []) xs) kept)
+    ∙ ap (cond here (Some x)) (entry_at-entered_other key xs e other))
+    (λ gone.
+    let x_is_e : e.key ≡ x.key = ⊎_elim (λ yes. (bytes_decides e.key x.key).0 yes) (λ never. absurd (cc never)) (or_cases same false (not-false (same || false) gone)) in
+    ap (λ (zs : List Entry). entry_at key (zs ++ e ∷ [])) (cond-false (not (same || false)) (x ∷ without (e ∷ []) xs) (without (e ∷ []) xs) gone)
+    ∙ entry_at-entered_other key xs e other
+    ∙ sym (cond-false here (Some x) (entry_at key xs) (false_from_ne_true here (λ yes. other (sym ((bytes_decides x.key key).0 yes) ∙ sym x_is_e)))))
+    (cases_Bool (not (same || false)))

@@ -14,9 +14,9 @@ IsPermutation-put_by_key : (e : Entry) (zs : List Entry) → IsPermutation (e �
 IsPermutation-put_by_key e [] = IsPermutation-refl (e ∷ [])
 IsPermutation-put_by_key e (z ∷ zs) =
     cond_both (text_lt z.key e.key) (z ∷ put_by_key e zs) (e ∷ z ∷ zs) (λ es. IsPermutation (e ∷ z ∷ zs) es)
-      (λ _. IsPermutation-trans (e ∷ z ∷ zs) (z ∷ e ∷ zs) (z ∷ put_by_key e zs) (IsPermutation-middle (e ∷ []) z zs)
-        (IsPermutation-cons z (e ∷ zs) (put_by_key e zs) (IsPermutation-put_by_key e zs)))
-      (λ _. IsPermutation-refl (e ∷ z ∷ zs))
+    (λ _. IsPermutation-trans (e ∷ z ∷ zs) (z ∷ e ∷ zs) (z ∷ put_by_key e zs) (IsPermutation-middle (e ∷ []) z zs)
+    (IsPermutation-cons z (e ∷ zs) (put_by_key e zs) (IsPermutation-put_by_key e zs)))
+    (λ _. IsPermutation-refl (e ∷ z ∷ zs))
 
 pub IsPermutation-by_key : (es : List Entry) → IsPermutation es (by_key es)
 IsPermutation-by_key [] = IsPermutation-refl []
@@ -41,8 +41,8 @@ IsInOrder-put_by_key : (e : Entry) (zs : List Entry) → IsInOrder zs → IsInOr
 IsInOrder-put_by_key e [] ordered = (tt, tt)
 IsInOrder-put_by_key e (z ∷ zs) ordered =
     cond_both (text_lt z.key e.key) (z ∷ put_by_key e zs) (e ∷ z ∷ zs) IsInOrder
-      (λ lt. (FollowsOn-put_by_key z e zs lt ordered.0, IsInOrder-put_by_key e zs ordered.1))
-      (λ ge. (ge, ordered))
+    (λ lt. (FollowsOn-put_by_key z e zs lt ordered.0, IsInOrder-put_by_key e zs ordered.1))
+    (λ ge. (ge, ordered))
 
 IsInOrder-by_key : (es : List Entry) → IsInOrder (by_key es)
 IsInOrder-by_key [] = tt

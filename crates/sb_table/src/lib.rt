@@ -9,3 +9,6 @@ mod table;
 pub use after::After;
 pub use prefixed::Prefixed;
 pub use table::Table;
+
+#[cfg(test)]
+mod tests;

@@ -46,6 +46,7 @@ impl Table {
     pub fn push(&mut self, entry: Entry) -> Result<(), Fault>
         requires { self.old.held < entry.version }
         ensures answer { Gives result (if is_full_for entry.key self.old.entries then Err Fault.TableFull else Ok tt) }
+        ensures full { is_full_for entry.key self.old.entries ≡ true → result ≡ Err Fault.TableFull }
         ensures ok { OnOk result (self.new ≡ with_entry self.old entry) }
         ensures err { OnErr result (self.new ≡ self.old) }
         ensures table { IsPlainTable self.new }
@@ -120,18 +121,17 @@ fn place_of(entries: &[Entry], key: &Key) -> Option<usize>
     entries.iter().position(|held| held.key() == key)
 }
 
-/// Puts an entry behind all others, and takes out what its key had.
+/// Puts an entry behind all others, in the room of what its key had.
 fn enter(entries: &mut Vec<Entry>, entry: Entry) -> Result<(), Fault>
     requires { are_distinct entries.old.items ≡ true }
     ensures ok { OnOk result (entries.new.items ≡ entered entries.old.items (entry ∷ [])) }
     ensures err { OnErr result (entries.new.items ≡ entries.old.items) }
     ensures fault { IfErr result (λ fault. fault ≡ Fault.NoMemory) }
 {
-    let place = place_of(entries, entry.key());
-    entries.push(entry)?;
-    if let Some(place) = place {
+    if let Some(place) = place_of(entries, entry.key()) {
         entries.remove(place);
     }
+    entries.push(entry)?;
     Ok(())
 }
 

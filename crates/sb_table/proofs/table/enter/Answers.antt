@@ -1,17 +1,16 @@
-use Rattle.std.proofs.Common.{◌≡◌, List, ap, sym, ◌∙◌}
+use Rattle.std.proofs.Common.{◌≡◌, ℕ, List, [], ◌∷◌, ◌++◌, Some, None, ap, sym, ◌∙◌, arith}
 use Rattle.std.specs.List.{remove}
 use Rattle.sb_types.specs.Records.{Entry}
-use Rattle.sb_table.proofs.Enter.{entered_at, entered_new}
+use Rattle.sb_types.specs.Runs.{without}
+use Rattle.sb_table.proofs.Enter.{without-found, without-missed}
 use Rattle.sb_table.proofs.table.enter.Goals as goal
 
-pub returns-in_default-clause-ok : goal.returns-in_default-clause-ok
-returns-in_default-clause-ok c =
-    let place = rw (c.key.ensures.key, c.deref.ensures.value) at c.place_of-place.ensures in
-    c.in_ok-push.ensures.items ∙ entered_new c.args.entry c.args.entries.now.items (sym place ∙ c.in_default.is)
-
-pub returns-in-Some-clause-ok : goal.returns-in-Some-clause-ok
-returns-in-Some-clause-ok c =
-    let place = rw (c.key.ensures.key, c.deref.ensures.value) at c.place_of-place.ensures in
-    c.remove.ensures.items
-    ∙ ap (λ (es : List Entry). remove es c.in-Some.place) c.in_ok-push.ensures.items
-    ∙ entered_at c.args.entry c.args.entries.now.items c.in-Some.place c.requires (sym place ∙ c.in-Some.is)
+pub returns-clause-ok : goal.returns-clause-ok
+returns-clause-ok c =
+    let e = c.args.entry in
+    let old = c.args.entries.now.items in
+    let place = sym (rw (c.key.ensures.key, c.deref.ensures.value) at c.place_of.ensures) in
+    let found : (at : ℕ) → c.place_of.result ≡ Some at → remove old at ≡ without (e ∷ []) old = λ at is. without-found e old at c.requires (place ∙ is) in
+    let missed : c.place_of.result ≡ None → old ≡ without (e ∷ []) old = λ is. without-missed e old (place ∙ is) in
+    let kept : c.match-place_of.entries.items ≡ without (e ∷ []) old = grind (arith, found, missed) in
+    c.in_ok-push.ensures.items ∙ ap (λ (es : List Entry). es ++ e ∷ []) kept
