@@ -80,7 +80,7 @@ slot_again (Set (Flag set)) fits = tagged_again slot_cases TAG_FLAG (made_again 
 
 -- ---- entries
 
-between_parts : (least most n : ℕ) → is_between least most n ≡ true → (least ≤ n) × (n ≤ most)
+pub between_parts : (least most n : ℕ) → is_between least most n ≡ true → (least ≤ n) × (n ≤ most)
 between_parts least most n fits = let parts = and_parts (nat_le least n) (nat_le n most) fits in (leb-true least n parts.0, leb-true n most parts.1)
 
 entry_parts : (e : Entry) → is_entry e ≡ true → (is_key e.key ≡ true) × (1 ≤ e.version) × (e.version < 2 ^ 64) × (is_slot e.slot ≡ true)

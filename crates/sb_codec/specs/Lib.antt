@@ -1,3 +1,4 @@
+pub mod Limits
 pub mod Spelling
 pub mod Fields
 pub mod Reading

@@ -1,6 +1,7 @@
 -- The parts of a message, read.
 use Rattle.std.specs.Prelude.{ℕ, Bool, true, false, nat_le, List, [], ◌∷◌}
 use Rattle.std.specs.Int.{w16, w64}
+use Rattle.sb_types.specs.declared.entry.Write.{Write}
 use Rattle.sb_types.specs.declared.entry.Slot.{Slot}
 use Rattle.sb_types.specs.declared.entry.Slot.TheVariants.{Set, Removed}
 use Rattle.sb_types.specs.Text.{is_name, is_key}
@@ -8,7 +9,9 @@ use Rattle.sb_types.specs.Value.{Value, Addr, Weight, Flag, is_value}
 use Rattle.sb_types.specs.Records.{Entry, Block}
 use Rattle.sb_types.specs.Limits.{are_block_entries, block_of_entries, are_delta_blocks}
 use Rattle.sb_codec.specs.declared.numbers.TheConstants.{TAG_REMOVED, TAG_ADDR, TAG_WEIGHT, TAG_FLAG}
-use Rattle.sb_codec.specs.Fields.{Field, given_at, made_at, then_at, where_at, number_at, text_at, list_at, tagged_at}
+use Rattle.sb_codec.specs.declared.message.hello.Hello.{Hello}
+use Rattle.sb_codec.specs.Limits.{is_reason, is_version, is_fault_number}
+use Rattle.sb_codec.specs.Fields.{Field, given_at, made_at, then_at, where_at, byte_at, number_at, text_at, list_at, tagged_at}
 
 unfoldable pub name_at : Field (List ℕ)
 name_at = where_at is_name text_at
@@ -54,3 +57,24 @@ block_at = made_at block_of (where_at are_block_parts (then_at name_at (then_at 
 
 unfoldable pub delta_at : Field (List Block)
 delta_at = where_at are_delta_blocks (list_at block_at)
+
+abbrev pub hello_of : List ℕ × List ℕ → Hello
+hello_of h = record { cluster = h.0; node = h.1 }
+
+unfoldable pub hello_at : Field Hello
+hello_at = made_at hello_of (then_at name_at name_at)
+
+unfoldable pub bye_at : Field ℕ
+bye_at = where_at is_reason byte_at
+
+abbrev pub write_of : List ℕ × Slot → Write
+write_of w = record { key = w.0; slot = w.1 }
+
+unfoldable pub write_at : Field Write
+write_at = made_at write_of (then_at key_at slot_at)
+
+unfoldable pub done_at : Field ℕ
+done_at = where_at is_version (number_at w64)
+
+unfoldable pub refused_at : Field ℕ
+refused_at = where_at is_fault_number byte_at

@@ -2,11 +2,13 @@
 use Rattle.std.specs.Prelude.{ℕ, Bool, List, [], ◌∷◌, ◌++◌, length}
 use Rattle.std.specs.List.{flat_map}
 use Rattle.std.specs.Int.{Width, w16, w64, to_be_bytes, from_bool}
+use Rattle.sb_types.specs.declared.entry.Write.{Write}
 use Rattle.sb_types.specs.declared.entry.Slot.{Slot}
 use Rattle.sb_types.specs.declared.entry.Slot.TheVariants.{Set, Removed}
 use Rattle.sb_types.specs.Value.{Value, Addr, Weight, Flag}
 use Rattle.sb_types.specs.Records.{Entry, Block}
 use Rattle.sb_codec.specs.declared.numbers.TheConstants.{TAG_REMOVED, TAG_ADDR, TAG_WEIGHT, TAG_FLAG}
+use Rattle.sb_codec.specs.declared.message.hello.Hello.{Hello}
 
 -- a number of the width, high byte first
 unfoldable pub number : Width → ℕ → List ℕ
@@ -44,3 +46,9 @@ entry e = text e.key ++ (number w64 e.version ++ slot e.slot)
 
 unfoldable pub block : Block → List ℕ
 block b = text b.owner ++ (number w64 b.after ++ list entry b.entries)
+
+unfoldable pub hello : Hello → List ℕ
+hello h = text h.cluster ++ text h.node
+
+unfoldable pub write : Write → List ℕ
+write w = text w.key ++ slot w.slot

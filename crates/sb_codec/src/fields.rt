@@ -4,14 +4,17 @@ ghost use Rattle.std.specs.Prelude.{◌≡◌, ◌==◌, length, IfOk};
 ghost use Rattle.std.specs.Int.{w16, w64};
 ghost use Rattle.sb_codec.specs.Refusal.{Reads};
 ghost use Rattle.sb_codec.specs.Fields.{byte_at, bytes_at, number_at, text_at, list_at, times_at};
-ghost use Rattle.sb_codec.specs.Reading.{name_at, key_at, addr_at, weight_at, flag_at, slot_at, entry_at, block_at, delta_at};
+ghost use Rattle.sb_codec.specs.Reading.{name_at, key_at, addr_at, weight_at, flag_at, slot_at, entry_at, block_at, delta_at, hello_at, bye_at, write_at, done_at, refused_at};
 ghost use Rattle.sb_codec.specs.Messages.{message_at};
 
-use crate::message::Message;
-use crate::numbers::{KIND_DELTA, TAG_ADDR, TAG_FLAG, TAG_REMOVED, TAG_WEIGHT};
+use crate::message::{Bye, Done, Hello, Message, Refused};
+use crate::numbers::{
+    KIND_BYE, KIND_DELTA, KIND_DONE, KIND_HELLO, KIND_PUT, KIND_REFUSED, TAG_ADDR, TAG_FLAG,
+    TAG_REMOVED, TAG_WEIGHT,
+};
 use crate::refusal::Refusal;
 use crate::spelled::Spelled;
-use sb_types::{Block, Delta, Entry, Key, Name, Slot, Value};
+use sb_types::{Block, Delta, Entry, Key, Name, Slot, Value, Write};
 use std::alloc::Global;
 use std::marker::Model;
 
@@ -177,12 +180,56 @@ impl<'a> Fields<'a> {
         Ok(Delta::new(blocks)?)
     }
 
+    #[tactic(auto, unfolding(crate::specs::Reading::hello_at))]
+    fn hello(&mut self) -> Result<Hello, Refusal>
+        ensures { Reads (λ x. x) (hello_at self.old) result self.new }
+    {
+        let cluster = self.name()?;
+        let node = self.name()?;
+        Ok(Hello { cluster, node })
+    }
+
+    #[tactic(auto, unfolding(crate::specs::Reading::bye_at))]
+    fn bye(&mut self) -> Result<Bye, Refusal>
+        ensures { Reads (λ x. x) (bye_at self.old) result self.new }
+    {
+        Ok(Bye::new(self.byte()?)?)
+    }
+
+    #[tactic(auto, unfolding(crate::specs::Reading::write_at))]
+    fn write(&mut self, alloc: Global) -> Result<Write, Refusal>
+        ensures { Reads (λ x. x) (write_at self.old) result self.new }
+    {
+        let key = self.key()?;
+        let slot = self.slot(alloc)?;
+        Ok(Write { key, slot })
+    }
+
+    #[tactic(auto, unfolding(crate::specs::Reading::done_at))]
+    fn done(&mut self) -> Result<Done, Refusal>
+        ensures { Reads (λ x. x) (done_at self.old) result self.new }
+    {
+        Ok(Done::new(self.u64()?)?)
+    }
+
+    #[tactic(auto, unfolding(crate::specs::Reading::refused_at))]
+    fn refused(&mut self) -> Result<Refused, Refusal>
+        ensures { Reads (λ x. x) (refused_at self.old) result self.new }
+    {
+        Ok(Refused::new(self.byte()?)?)
+    }
+
     #[tactic(auto, unfolding(crate::specs::Messages::message_at))]
     pub(crate) fn message(&mut self, alloc: Global) -> Result<Message, Refusal>
         ensures { Reads (λ x. x) (message_at self.old) result self.new }
     {
         match self.byte()? {
+            KIND_HELLO => Ok(Message::Hello(self.hello()?)),
             KIND_DELTA => Ok(Message::Delta(self.delta(alloc)?)),
+            KIND_BYE => Ok(Message::Bye(self.bye()?)),
+            KIND_PUT => Ok(Message::Put(self.write(alloc)?)),
+            KIND_DONE => Ok(Message::Done(self.done()?)),
+            KIND_REFUSED => Ok(Message::Refused(self.refused()?)),
             _ => Err(Refusal::Malformed),
         }
     }

@@ -17,13 +17,13 @@ fn write_u16(out: &mut Vec<u8>, n: u16) -> Result<(), AllocError>
 }
 
 #[tactic(auto, unfolding(crate::specs::Spelling::number))]
-fn write_u64(out: &mut Vec<u8>, n: u64) -> Result<(), AllocError>
+pub(crate) fn write_u64(out: &mut Vec<u8>, n: u64) -> Result<(), AllocError>
     ensures { OnOk result (out.new.items ≡ out.old.items ++ number w64 n) }
 {
     out.extend_from_slice(&n.to_be_bytes())
 }
 
-fn write_text(out: &mut Vec<u8>, bytes: &[u8]) -> Result<(), AllocError>
+pub(crate) fn write_text(out: &mut Vec<u8>, bytes: &[u8]) -> Result<(), AllocError>
     requires { length bytes.now < 256 }
     ensures { OnOk result (out.new.items ≡ out.old.items ++ text bytes.now) }
 {
@@ -53,7 +53,7 @@ fn write_value(out: &mut Vec<u8>, value: &Value) -> Result<(), AllocError>
 }
 
 #[tactic(auto, unfolding(crate::specs::Spelling::slot))]
-fn write_slot(out: &mut Vec<u8>, value: &Slot) -> Result<(), AllocError>
+pub(crate) fn write_slot(out: &mut Vec<u8>, value: &Slot) -> Result<(), AllocError>
     ensures { OnOk result (out.new.items ≡ out.old.items ++ slot value.now) }
 {
     match value {
