@@ -8,14 +8,14 @@ use Rattle.std.proofs.lemmas.Option.{cond_some}
 use Rattle.sb_types.specs.declared.fault.Fault.{Fault}
 use Rattle.sb_types.specs.Faults.{Gives}
 use Rattle.sb_codec.specs.declared.message.Message.{Message}
-use Rattle.sb_codec.specs.declared.message.Message.TheVariants.{Hello, Delta, Bye, Put, Done, Refused}
-use Rattle.sb_codec.specs.declared.numbers.TheConstants.{KIND_HELLO, KIND_DELTA, KIND_BYE, KIND_PUT, KIND_DONE, KIND_REFUSED}
+use Rattle.sb_codec.specs.declared.message.Message.TheVariants.{Hello, Digest, Delta, Bye, Ask, Rows, Put, Done, Refused}
+use Rattle.sb_codec.specs.declared.numbers.TheConstants.{KIND_HELLO, KIND_DIGEST, KIND_DELTA, KIND_BYE, KIND_ASK, KIND_ROWS, KIND_PUT, KIND_DONE, KIND_REFUSED}
 use Rattle.sb_codec.specs.Fields.{Field, whole}
 use Rattle.sb_codec.specs.Messages.{spelling, is_message, Spells, IsSole, fault_of, message_cases, message_at, reading}
 use Rattle.sb_codec.proofs.Taken.{AreBytes, Takes, tagged_takes, made_case}
 use Rattle.sb_codec.proofs.Again.{Again, made_again, tagged_again}
 use Rattle.sb_codec.proofs.Parts.{delta_takes, delta_again}
-use Rattle.sb_codec.proofs.Bodies.{hello_takes, hello_again, bye_takes, bye_again, write_takes, write_again, done_takes, done_again, refused_takes, refused_again}
+use Rattle.sb_codec.proofs.Bodies.{hello_takes, hello_again, digest_takes, digest_again, bye_takes, bye_again, ask_takes, ask_again, page_takes, page_again, write_takes, write_again, done_takes, done_again, refused_takes, refused_again}
 use Rattle.sb_codec.proofs.Sizes.{spelling-most}
 
 pub message_takes : Takes (λ m. is_message m ≡ true) spelling message_at
@@ -23,18 +23,24 @@ unfolding message_at spelling
 message_takes =
     tagged_takes message_cases
     ( made_case KIND_HELLO Hello hello_takes (λ h fits. (fits, refl))
+    , (made_case KIND_DIGEST Digest digest_takes (λ d fits. (fits, refl))
     , (made_case KIND_DELTA Delta delta_takes (λ blocks fits. (fits, refl))
     , (made_case KIND_BYE Bye bye_takes (λ reason fits. (fits, refl))
+    , (made_case KIND_ASK Ask ask_takes (λ a fits. (fits, refl))
+    , (made_case KIND_ROWS Rows page_takes (λ p fits. (fits, refl))
     , (made_case KIND_PUT Put write_takes (λ w fits. (fits, refl))
     , (made_case KIND_DONE Done done_takes (λ version fits. (fits, refl))
     , (made_case KIND_REFUSED Refused refused_takes (λ fault fits. (fits, refl))
-    , tt))))))
+    , tt)))))))))
 
 pub message_again : (m : Message) → is_message m ≡ true → Again message_at (spelling m) m
 unfolding message_at spelling
 message_again (Hello h) fits = tagged_again message_cases KIND_HELLO (made_again Hello (hello_again h fits))
+message_again (Digest d) fits = tagged_again message_cases KIND_DIGEST (made_again Digest (digest_again d fits))
 message_again (Delta blocks) fits = tagged_again message_cases KIND_DELTA (made_again Delta (delta_again blocks fits))
 message_again (Bye reason) fits = tagged_again message_cases KIND_BYE (made_again Bye (bye_again reason fits))
+message_again (Ask a) fits = tagged_again message_cases KIND_ASK (made_again Ask (ask_again a fits))
+message_again (Rows p) fits = tagged_again message_cases KIND_ROWS (made_again Rows (page_again p fits))
 message_again (Put w) fits = tagged_again message_cases KIND_PUT (made_again Put (write_again w fits))
 message_again (Done version) fits = tagged_again message_cases KIND_DONE (made_again Done (done_again version fits))
 message_again (Refused fault) fits = tagged_again message_cases KIND_REFUSED (made_again Refused (refused_again fault fits))

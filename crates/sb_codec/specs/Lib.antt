@@ -1,3 +1,5 @@
+pub mod Records
+pub mod Lengths
 pub mod Limits
 pub mod Spelling
 pub mod Fields

@@ -9,7 +9,10 @@ ghost use Rattle.sb_codec.specs.Refusal.{ReadsWhole};
 
 use crate::fields::Fields;
 use crate::message::Message;
-use crate::numbers::{KIND_BYE, KIND_DELTA, KIND_DONE, KIND_HELLO, KIND_PUT, KIND_REFUSED};
+use crate::numbers::{
+    KIND_ASK, KIND_BYE, KIND_DELTA, KIND_DIGEST, KIND_DONE, KIND_HELLO, KIND_PUT, KIND_REFUSED,
+    KIND_ROWS,
+};
 use crate::refusal::Refusal;
 use sb_types::Fault;
 use std::alloc::Global;
@@ -19,7 +22,15 @@ fn test_kind(kind: u8) -> bool
 {
     matches!(
         kind,
-        KIND_HELLO | KIND_DELTA | KIND_BYE | KIND_PUT | KIND_DONE | KIND_REFUSED
+        KIND_HELLO
+            | KIND_DIGEST
+            | KIND_DELTA
+            | KIND_BYE
+            | KIND_ASK
+            | KIND_ROWS
+            | KIND_PUT
+            | KIND_DONE
+            | KIND_REFUSED
     )
 }
 

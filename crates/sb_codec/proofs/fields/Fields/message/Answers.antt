@@ -6,6 +6,10 @@ pub returns-in_ok-hello-in-1 : goal.returns-in_ok-hello-in-1
 unfolding message_at
 returns-in_ok-hello-in-1 c = rw (c.in_ok-byte.ensures, c.in-1.is, c.in_ok-hello-in-1.ensures) refl
 
+pub returns-in_ok-digest-in-2 : goal.returns-in_ok-digest-in-2
+unfolding message_at
+returns-in_ok-digest-in-2 c = rw (c.in_ok-byte.ensures, c.in-2.is, c.in_ok-digest-in-2.ensures) refl
+
 pub returns-in_ok-delta-in-3 : goal.returns-in_ok-delta-in-3
 unfolding message_at
 returns-in_ok-delta-in-3 c = rw (c.in_ok-byte.ensures, c.in-3.is, c.in_ok-delta-in-3.ensures) refl
@@ -13,6 +17,14 @@ returns-in_ok-delta-in-3 c = rw (c.in_ok-byte.ensures, c.in-3.is, c.in_ok-delta-
 pub returns-in_ok-bye-in-4 : goal.returns-in_ok-bye-in-4
 unfolding message_at
 returns-in_ok-bye-in-4 c = rw (c.in_ok-byte.ensures, c.in-4.is, c.in_ok-bye-in-4.ensures) refl
+
+pub returns-in_ok-ask-in-16 : goal.returns-in_ok-ask-in-16
+unfolding message_at
+returns-in_ok-ask-in-16 c = rw (c.in_ok-byte.ensures, c.in-16.is, c.in_ok-ask-in-16.ensures) refl
+
+pub returns-in_ok-rows-in-17 : goal.returns-in_ok-rows-in-17
+unfolding message_at
+returns-in_ok-rows-in-17 c = rw (c.in_ok-byte.ensures, c.in-17.is, c.in_ok-rows-in-17.ensures) refl
 
 pub returns-in_ok-write-in-18 : goal.returns-in_ok-write-in-18
 unfolding message_at
