@@ -119,10 +119,10 @@ pub digest_takes : Takes (λ d. is_digest d ≡ true) digest digest_at
 unfolding digest_at digest
 digest_takes =
     fits_takes
-    ( where_takes
-      ( made_takes {Q = λ d. (is_bound d.from && is_bound d.until && list_all is_pair d.pairs) ≡ true} digest_of_parts
-        (then_takes flag_takes (then_takes (optional_takes is_name) (then_takes (optional_takes is_name) (list_takes pair_takes))))
-        (λ d fits. (and_from _ _ (and_from _ _ (bound_from d.1.0 fits.1.0) (bound_from d.1.1.0 fits.1.1.0)) (all_from is_pair d.1.1.1 fits.1.1.1.1), refl))))
+    (where_takes
+    (made_takes {Q = λ d. (is_bound d.from && is_bound d.until && list_all is_pair d.pairs) ≡ true} digest_of_parts
+    (then_takes flag_takes (then_takes (optional_takes is_name) (then_takes (optional_takes is_name) (list_takes pair_takes))))
+    (λ d fits. (and_from _ _ (and_from _ _ (bound_from d.1.0 fits.1.0) (bound_from d.1.1.0 fits.1.1.0)) (all_from is_pair d.1.1.1 fits.1.1.1.1), refl))))
     (λ d fits. and_from _ _ fits.0 fits.1)
 
 pub digest_within : (d : Digest) → is_digest d ≡ true → digest_length d ≤ PAYLOAD_MOST
@@ -188,11 +188,16 @@ ask_again a fits =
 value_takes : Takes (λ v. is_value v ≡ true) value value_at
 unfolding value_at content
 value_takes =
-    tagged_takes value_cases
-    ( fits_takes addr_takes (λ v fits. (fits.0, ap (λ (tag : ℕ). tag ∷ content v) fits.1))
-    , (fits_takes weight_takes (λ v fits. (fits.0, ap (λ (tag : ℕ). tag ∷ content v) fits.1))
-    , (made_case TAG_FLAG Flag flag_takes (λ set fits. (refl, refl))
-    , tt)))
+    tagged_takes value_cases (
+      fits_takes addr_takes (λ v fits. (fits.0, ap (λ (tag : ℕ). tag ∷ content v) fits.1)),
+      (
+        fits_takes weight_takes (λ v fits. (fits.0, ap (λ (tag : ℕ). tag ∷ content v) fits.1)),
+        (
+          made_case TAG_FLAG Flag flag_takes (λ set fits. (refl, refl)),
+          tt,
+        ),
+      ),
+    )
 
 value_again : (v : Value) → is_value v ≡ true → Again value_at (value v) v
 unfolding value_at addr_at weight_at content

@@ -21,17 +21,34 @@ use Rattle.sb_codec.proofs.Sizes.{spelling-most}
 pub message_takes : Takes (λ m. is_message m ≡ true) spelling message_at
 unfolding message_at spelling
 message_takes =
-    tagged_takes message_cases
-    ( made_case KIND_HELLO Hello hello_takes (λ h fits. (fits, refl))
-    , (made_case KIND_DIGEST Digest digest_takes (λ d fits. (fits, refl))
-    , (made_case KIND_DELTA Delta delta_takes (λ blocks fits. (fits, refl))
-    , (made_case KIND_BYE Bye bye_takes (λ reason fits. (fits, refl))
-    , (made_case KIND_ASK Ask ask_takes (λ a fits. (fits, refl))
-    , (made_case KIND_ROWS Rows page_takes (λ p fits. (fits, refl))
-    , (made_case KIND_PUT Put write_takes (λ w fits. (fits, refl))
-    , (made_case KIND_DONE Done done_takes (λ version fits. (fits, refl))
-    , (made_case KIND_REFUSED Refused refused_takes (λ fault fits. (fits, refl))
-    , tt)))))))))
+    tagged_takes message_cases (
+      made_case KIND_HELLO Hello hello_takes (λ h fits. (fits, refl)),
+      (
+        made_case KIND_DIGEST Digest digest_takes (λ d fits. (fits, refl)),
+        (
+          made_case KIND_DELTA Delta delta_takes (λ blocks fits. (fits, refl)),
+          (
+            made_case KIND_BYE Bye bye_takes (λ reason fits. (fits, refl)),
+            (
+              made_case KIND_ASK Ask ask_takes (λ a fits. (fits, refl)),
+              (
+                made_case KIND_ROWS Rows page_takes (λ p fits. (fits, refl)),
+                (
+                  made_case KIND_PUT Put write_takes (λ w fits. (fits, refl)),
+                  (
+                    made_case KIND_DONE Done done_takes (λ version fits. (fits, refl)),
+                    (
+                      made_case KIND_REFUSED Refused refused_takes (λ fault fits. (fits, refl)),
+                      tt,
+                    ),
+                  ),
+                ),
+              ),
+            ),
+          ),
+        ),
+      ),
+    )
 
 pub message_again : (m : Message) → is_message m ≡ true → Again message_at (spelling m) m
 unfolding message_at spelling

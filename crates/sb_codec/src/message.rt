@@ -7,15 +7,14 @@ mod hello;
 mod refused;
 mod rows;
 
-use sb_digest::Digest;
-use sb_types::{Delta, Write};
-
 pub use ask::Ask;
 pub use bye::Bye;
 pub use done::Done;
 pub use hello::Hello;
 pub use refused::Refused;
 pub use rows::{Row, Rows};
+use sb_digest::Digest;
+use sb_types::{Delta, Write};
 
 /// What one node sends to another, or a control socket and its caller to each other.
 #[derive(Debug, Drop)]

@@ -1,8 +1,8 @@
 //! What counted lists hold.
 
 use crate::fields::Fields;
-use crate::refusal::Refusal;
 use crate::message::Row;
+use crate::refusal::Refusal;
 use crate::writing::{write_block, write_entry, write_pair, write_row};
 use sb_digest::Pair;
 use sb_types::{Block, Entry};
