@@ -1,22 +1,20 @@
 -- The two laws for each part of a message.
-use Rattle.std.proofs.Common.{◌≡◌, ℕ, zero, suc, ◌+◌, ◌-◌, ◌^◌, ◌<◌, ◌≤◌, Bool, true, false, ◌&&◌, ◌==◌, List, [], ◌∷◌, ◌++◌, length, refl, sym, ap, subst, ◌∙◌, arith}
+use Rattle.std.proofs.Common.{◌≡◌, ℕ, ◌-◌, ◌^◌, ◌<◌, ◌≤◌, Bool, true, false, ◌&&◌, ◌==◌, List, [], ◌∷◌, length, refl, ap, subst, arith}
 use Rattle.std.specs.Prelude.{nat_le, nat_lt, sum_by}
 use Rattle.std.specs.List.{list_all, AllByRecursion}
-use Rattle.std.specs.Int.{w16, w64}
 use Rattle.std.proofs.lemmas.Bool.{and_parts, and_from, le-leb, leb-true, ltb-true, eqb-true, eq-eqb}
 use Rattle.std.proofs.lemmas.List.Sums.{sum_by-cons}
 use Rattle.sb_types.specs.declared.entry.Slot.{Slot}
 use Rattle.sb_types.specs.declared.entry.Slot.TheVariants.{Set, Removed}
 use Rattle.sb_types.specs.declared.limits.TheConstants.{ENTRIES_MOST, PAYLOAD_MOST}
-use Rattle.sb_types.specs.Text.{is_between, is_name, is_key, is_addr}
+use Rattle.sb_types.specs.Text.{is_between, is_name, is_key}
 use Rattle.sb_types.specs.Value.{Value, Addr, Weight, Flag, is_value}
 use Rattle.sb_types.specs.Records.{Entry, Block}
 use Rattle.sb_types.specs.Runs.{are_ascending, are_distinct, last_version}
 use Rattle.sb_types.specs.Lengths.{block_length, delta_length}
 use Rattle.sb_types.specs.Limits.{is_slot, is_entry, are_block_entries, block_of_entries, is_delta_block, are_owners_above, are_delta_blocks, is_delta}
 use Rattle.sb_codec.specs.declared.numbers.TheConstants.{TAG_REMOVED, TAG_ADDR, TAG_WEIGHT, TAG_FLAG}
-use Rattle.sb_codec.specs.Spelling.{number, text, list, flag, tag_of, content, slot, entry, block}
-use Rattle.sb_codec.specs.Fields.{Field, given_at, made_at, then_at, where_at, number_at, list_at}
+use Rattle.sb_codec.specs.Spelling.{text, list, flag, tag_of, content, slot, entry, block}
 use Rattle.sb_codec.specs.Reading.{name_at, key_at, addr_at, weight_at, flag_cases, flag_at, flag_slot, slot_cases, slot_at, entry_of, entry_at, are_block_parts, block_of, block_at, delta_at}
 use Rattle.sb_codec.proofs.Taken.{Takes, wide64, fits_takes, made_takes, then_takes, where_takes, number_takes, text_takes, list_takes, tagged_takes, made_case, given_case}
 use Rattle.sb_codec.proofs.Again.{Again, given_again, made_again, then_again, where_again, number_again, text_again, list_again, tagged_again}

@@ -1,5 +1,5 @@
 -- What is read fits, and the bytes are its spelling with the rest behind it.
-use Rattle.std.proofs.Common.{◌≡◌, ℕ, zero, suc, ◌+◌, ◌^◌, ◌<◌, ◌≤◌, Bool, true, false, ◌==◌, ltb, if◌then◌else◌, List, [], ◌∷◌, ◌++◌, length, get_or, take, drop, Option, Some, None, refl, sym, ap, subst, ◌∙◌, append_assoc, arith, inl, inr}
+use Rattle.std.proofs.Common.{◌≡◌, ℕ, zero, suc, ◌+◌, ◌^◌, ◌<◌, ◌≤◌, Bool, true, false, ◌==◌, ltb, if◌then◌else◌, List, [], ◌∷◌, ◌++◌, length, take, drop, Option, Some, None, refl, sym, ap, subst, ◌∙◌, append_assoc, arith, inl, inr}
 use Rattle.std.specs.Option.{option_and_then}
 use Rattle.std.specs.List.{flat_map, AllByRecursion}
 use Rattle.std.specs.Int.{Width, w16, w64, byte_len, from_be_bytes, to_be_bytes}
@@ -8,10 +8,8 @@ use Rattle.std.proofs.lemmas.List.{append-nil, take-append-drop, length-take, ge
 use Rattle.std.proofs.lemmas.Option.{some_pair_parts}
 use Rattle.std.proofs.lemmas.Nat.{be_bytes_2, be_bytes_8, from_be_bytes-to_be_bytes_2, from_be_bytes-to_be_bytes_8}
 use Rattle.sb_codec.specs.Spelling.{number, text, list}
+pub use Rattle.sb_codec.specs.Fields.{AreBytes}
 use Rattle.sb_codec.specs.Fields.{Field, none_at, given_at, lead_at, made_at, then_at, where_at, times_at, byte_at, bytes_at, number_at, text_at, list_at, case_at, tagged_at}
-
-abbrev pub AreBytes : List ℕ → Type 0
-AreBytes bytes = (i : ℕ) → get_or bytes i 0 < 256
 
 pub record Takes {A : Type 0} (Fits : A → Type 0) (spell : A → List ℕ) (field : Field A) : Type 0 where
   pub parts : (bytes : List ℕ) (x : A) (rest : List ℕ) → AreBytes bytes → field bytes ≡ Some (x, rest) → Fits x × (bytes ≡ spell x ++ rest)

@@ -37,13 +37,11 @@ fn test_kind(kind: u8) -> bool
 fn fault(payload: &[u8]) -> Fault
     ensures { result ≡ fault_of payload.now }
 {
-    let [kind, ..] = payload else {
-        return Fault::UnknownKind(0);
-    };
-    if test_kind(*kind) {
-        return Fault::Malformed(*kind);
+    match payload {
+        [] => Fault::UnknownKind(0),
+        [kind, ..] if test_kind(*kind) => Fault::Malformed(*kind),
+        [kind, ..] => Fault::UnknownKind(*kind),
     }
-    Fault::UnknownKind(*kind)
 }
 
 fn read_whole(alloc: Global, payload: &[u8]) -> Result<Message, Refusal>

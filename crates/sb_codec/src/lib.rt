@@ -6,6 +6,7 @@ mod encode;
 mod fields;
 mod message;
 mod numbers;
+mod payloads;
 mod refusal;
 mod spelled;
 mod writing;
@@ -18,6 +19,7 @@ pub use numbers::{
     KIND_PUT, KIND_REFUSED, KIND_ROWS, REASON_MOST, REASON_ROUNDS_DONE, TAG_ADDR, TAG_FLAG,
     TAG_REMOVED, TAG_WEIGHT,
 };
+pub use payloads::one_payload_each;
 
 #[cfg(test)]
 mod tests;

@@ -14,10 +14,10 @@ use sb_types::{Block, Entry, Key, Name, Slot, Value};
 use std::alloc::AllocError;
 
 #[tactic(auto, unfolding(crate::specs::Spelling::number))]
-fn write_u16(out: &mut Vec<u8>, n: u16) -> Result<(), AllocError>
-    ensures { OnOk result (out.new.items ≡ out.old.items ++ number w16 n) }
+fn write_u16(out: &mut Vec<u8>, count: u16) -> Result<(), AllocError>
+    ensures { OnOk result (out.new.items ≡ out.old.items ++ number w16 count) }
 {
-    out.extend_from_slice(&n.to_be_bytes())
+    out.extend_from_slice(&count.to_be_bytes())
 }
 
 #[tactic(auto, unfolding(crate::specs::Spelling::number))]
@@ -126,11 +126,11 @@ pub(crate) fn write_pair(out: &mut Vec<u8>, written: &Pair) -> Result<(), AllocE
 }
 
 #[tactic(auto, unfolding(crate::specs::Spelling::row))]
-pub(crate) fn write_row(out: &mut Vec<u8>, written: &Row) -> Result<(), AllocError>
-    ensures { OnOk result (out.new.items ≡ out.old.items ++ row written.now) }
+pub(crate) fn write_row(out: &mut Vec<u8>, listed: &Row) -> Result<(), AllocError>
+    ensures { OnOk result (out.new.items ≡ out.old.items ++ row listed.now) }
 {
-    write_text(out, written.owner().bytes())?;
-    write_text(out, written.key().bytes())?;
-    write_u64(out, written.version())?;
-    write_value(out, written.value())
+    write_text(out, listed.owner().bytes())?;
+    write_text(out, listed.key().bytes())?;
+    write_u64(out, listed.version())?;
+    write_value(out, listed.value())
 }

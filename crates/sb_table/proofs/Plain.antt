@@ -1,9 +1,9 @@
 -- A table stays one when an entry is entered.
-use Rattle.std.proofs.Common.{◌≡◌, ℕ, ◌+◌, ◌<◌, ◌≤◌, ◌-◌, false, List, [], ◌∷◌, ◌++◌, length, Option, Some, None, Result, Ok, Err, refl, sym, ap, subst, ◌∙◌, arith, zero, suc, not, OnOk, OnErr, slice_get}
+use Rattle.std.proofs.Common.{◌≡◌, ℕ, ◌<◌, ◌-◌, false, List, [], ◌∷◌, ◌++◌, length, Some, Result, Ok, Err, refl, sym, ap, subst, ◌∙◌, arith, zero, suc, not, OnOk, OnErr, slice_get}
 use Rattle.sb_types.specs.declared.fault.Fault.{Fault}
 use Rattle.sb_types.specs.declared.limits.TheConstants.{KEYS_MOST}
 use Rattle.sb_types.specs.Records.{Entry, Table}
-use Rattle.sb_types.specs.Runs.{IsRun, entered, has_key, last_version, without}
+use Rattle.sb_types.specs.Runs.{entered, has_key, last_version, without}
 use Rattle.sb_table.specs.Plain.{IsPlainTable, plain_table, with_entry, is_full_for}
 use Rattle.sb_table.proofs.Ascent.{are_ascending-filter, are_ascending-push, last_version-filter, last_version-push}
 use Rattle.sb_table.proofs.Enter.{are_distinct-entered, length-entered}

@@ -1,5 +1,5 @@
 -- That the entries by key are the entries, sorted by key.
-use Rattle.std.proofs.Common.{◌≡◌, ℕ, ◌+◌, ◌<◌, ◌≤◌, true, false, List, [], ◌∷◌, length, get_or, cond, zero, suc, refl, arith}
+use Rattle.std.proofs.Common.{◌≡◌, ℕ, ◌+◌, ◌<◌, true, false, List, [], ◌∷◌, length, get_or, zero, suc, arith}
 use Rattle.std.proofs.lemmas.Bool.{cond_both}
 use Rattle.std.proofs.lemmas.List.Sorted.{IsPermutation-refl, IsPermutation-cons, IsPermutation-middle, IsPermutation-trans}
 use Rattle.std.specs.Cmp.Lexicographic.{slice_cmp}
@@ -34,15 +34,13 @@ IsInOrder (x ∷ xs) = FollowsOn x xs × IsInOrder xs
 
 FollowsOn-put_by_key : (x e : Entry) (zs : List Entry) → text_lt x.key e.key ≡ true → FollowsOn x zs → FollowsOn x (put_by_key e zs)
 FollowsOn-put_by_key x e [] lt follows = text_lt-back x.key e.key lt
-FollowsOn-put_by_key x e (z ∷ zs) lt follows =
-    cond_both (text_lt z.key e.key) (z ∷ put_by_key e zs) (e ∷ z ∷ zs) (FollowsOn x) (λ _. follows) (λ _. text_lt-back x.key e.key lt)
+FollowsOn-put_by_key x e (z ∷ zs) lt follows = cond_both (text_lt z.key e.key) (z ∷ put_by_key e zs) (e ∷ z ∷ zs) (FollowsOn x) (λ _. follows) (λ _. text_lt-back x.key e.key lt)
 
 IsInOrder-put_by_key : (e : Entry) (zs : List Entry) → IsInOrder zs → IsInOrder (put_by_key e zs)
 IsInOrder-put_by_key e [] ordered = (tt, tt)
 IsInOrder-put_by_key e (z ∷ zs) ordered =
     cond_both (text_lt z.key e.key) (z ∷ put_by_key e zs) (e ∷ z ∷ zs) IsInOrder
-    (λ lt. (FollowsOn-put_by_key z e zs lt ordered.0, IsInOrder-put_by_key e zs ordered.1))
-    (λ ge. (ge, ordered))
+    (λ lt. (FollowsOn-put_by_key z e zs lt ordered.0, IsInOrder-put_by_key e zs ordered.1)) (λ ge. (ge, ordered))
 
 IsInOrder-by_key : (es : List Entry) → IsInOrder (by_key es)
 IsInOrder-by_key [] = tt

@@ -24,5 +24,6 @@ with_entry t e = record { held = e.version; floor = t.floor; entries = entered t
 abbrev pub is_full_for : List ℕ → List Entry → Bool
 is_full_for key entries = not (has_key key entries) && nat_le KEYS_MOST (length entries)
 
+-- what a look-up gives of the entry that it finds
 abbrev pub version_and_slot : Entry → ℕ × Slot
 version_and_slot e = (e.version, e.slot)

@@ -4,13 +4,14 @@ ghost use Rattle.std.specs.Cmp.Lexicographic.{slice_cmp};
 ghost use Rattle.std.specs.Ordering.{nat_cmp};
 ghost use Rattle.std.specs.List.Sorted.{IsSortedByKey};
 ghost use Rattle.sb_types.specs.Records as records;
-ghost use Rattle.sb_types.specs.Runs.{Stands, are_distinct, entered, entry_at, has_key};
+ghost use Rattle.sb_types.specs.Runs.{IsTable, Stands, are_distinct, entered, entry_at, has_key};
 ghost use Rattle.sb_table.specs.Plain.{IsPlainTable, is_full_for, with_entry};
 ghost use Rattle.sb_table.specs.Order.{by_key};
 
-/// A table in which a later entry is entered is a table.
+/// A table in which a later entry is entered is a table, and each keeps what crates above ask of tables with a floor.
 pub fn entering_keeps_tables()
-    ensures { (t : records.Table) (e : records.Entry) → IsPlainTable t → t.held < e.version → is_full_for e.key t.entries ≡ false → IsPlainTable (with_entry t e) }
+    ensures entered { (t : records.Table) (e : records.Entry) → IsPlainTable t → t.held < e.version → is_full_for e.key t.entries ≡ false → IsPlainTable (with_entry t e) }
+    ensures table { (t : records.Table) → IsPlainTable t → IsTable t }
 {}
 
 /// What is found under a key stands under it, and what stands is found.

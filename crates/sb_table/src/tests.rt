@@ -1,7 +1,10 @@
-ghost use Rattle.std.specs.Prelude.{◌≤◌};
+ghost use Rattle.std.specs.Prelude.{◌≡◌, ◌≤◌, IfOk, map};
+ghost use Rattle.sb_types.specs.Runs.{above};
+ghost use Rattle.sb_table.specs.Order.{by_key, under};
 
 use crate::Table;
 use sb_types::{Entry, Fault, KEYS_MOST, Key, Prefix, Slot, Value};
+use std::alloc::{AllocError, Global};
 use std::process::Abort;
 use std::test::Fail;
 
@@ -37,6 +40,25 @@ fn weight_at(table: &Table, key: &[u8]) -> Option<(u64, Option<u64>)> {
     }
 }
 
+// What the iterators say reaches their callers.
+fn versions_after(alloc: Global, table: &Table, version: u64) -> Result<Vec<u64>, AllocError>
+    ensures { IfOk result (λ v. v.items ≡ map (λ e. e.version) (above version table.now.entries)) }
+{
+    table
+        .after(version)
+        .map(|entry| entry.version())
+        .collect(alloc)
+}
+
+fn versions_under(alloc: Global, table: &Table, prefix: &Prefix) -> Result<Vec<u64>, AllocError>
+    ensures { IfOk result (λ v. v.items ≡ map (λ e. e.version) (by_key (under prefix.now table.now.entries))) }
+{
+    table
+        .prefix(prefix)
+        .map(|entry| entry.version())
+        .collect(alloc)
+}
+
 #[test]
 fn later_writes_take_the_place_of_earlier(rt: HostRuntime) -> Result<(), Fail> {
     let alloc = rt.alloc();
@@ -58,10 +80,7 @@ fn later_writes_take_the_place_of_earlier(rt: HostRuntime) -> Result<(), Fail> {
         (3, &[4]),
         (4, &[]),
     ] {
-        let versions: Vec<u64> = table
-            .after(version)
-            .map(|entry| entry.version())
-            .collect(alloc)?;
+        let versions = versions_after(alloc, &table, version)?;
         assert_eq!(rt; versions.as_slice(), above, "above {version}");
     }
     Ok(())
@@ -85,10 +104,7 @@ fn a_prefix_gives_its_keys_in_order(rt: HostRuntime) -> Result<(), Fail> {
     ] {
         match Prefix::read(text) {
             Ok(prefix) => {
-                let versions: Vec<u64> = table
-                    .prefix(&prefix)
-                    .map(|entry| entry.version())
-                    .collect(alloc)?;
+                let versions = versions_under(alloc, &table, &prefix)?;
                 assert_eq!(rt; versions.as_slice(), wanted);
             }
             Err(fault) => return Err(fault.into()),

@@ -1,6 +1,5 @@
 use Rattle.std.proofs.Common.{◌≡◌, ◌<◌, false, arith}
 use Rattle.std.proofs.lemmas.Grind.{common_steps}
-use Rattle.sb_types.specs.Records.{Table}
 use Rattle.sb_types.specs.Runs.{last_version}
 use Rattle.sb_table.specs.Plain.{is_full_for}
 use Rattle.sb_table.proofs.Plain.{IsPlainTable-pushed, plain_table-pushed}

@@ -1,4 +1,4 @@
-use Rattle.std.proofs.Common.{◌≡◌, ◌-◌, Some, length, slice_get, sym, ◌∙◌, ap}
+use Rattle.std.proofs.Common.{sym, ◌∙◌, ap}
 use Rattle.sb_types.specs.Records.{Table}
 use Rattle.sb_table.proofs.Plain.{last_version-last}
 use Rattle.sb_table.proofs.table.Table.upto.Goals as goal

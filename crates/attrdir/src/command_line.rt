@@ -1,0 +1,75 @@
+//! The command line of the program.
+use crate::sim::sim_run_uncounted;
+use clap::Command;
+use clap::error::ErrorKind;
+use sb_types::Fault;
+use std::alloc::{AllocError, Global};
+use std::{env, io};
+
+/// How many reads a script may take.
+const MAX_READS: u64 = 1_000_000;
+
+/// The exit status of a command line that is wrong.
+const USAGE_STATUS: u8 = 2;
+
+const EXAMPLE: &str = "Example:
+  $ printf 'world 256 breadth 100 a b\\nput a w weight 5\\ngive a b 0\\nread b a w\\n' | attrdir sim
+  version 1
+  a7010000002203000101610000000000000000000101770000000000000001020000000000000005
+  taken 1
+  a w 1 weight 5";
+
+const SCRIPT: &str = "The lines of a script:
+  world BUDGET ORDER MAX NAME..  makes the nodes; it comes first
+  put N K KIND VALUE             node N writes under the key K: addr TEXT, weight NUMBER or flag true|false
+  give A B V                     node A sends node B what it wrote above the version V
+  read N O K                     node N reads what owner O has under the key K
+
+The exit status is 0 after a whole script, 2 after a line that is none of these, and 3 after a fault.
+
+Example:
+  $ printf 'world 256 breadth 100 a b\\nput a w weight 5\\ngive a b 0\\nread b a w\\n' | attrdir sim
+  version 1
+  a7010000002203000101610000000000000000000101770000000000000001020000000000000005
+  taken 1
+  a w 1 weight 5";
+
+fn command<'a>(alloc: Global) -> Result<Command<'a>, AllocError> {
+    let sim = Command::new(alloc, "sim")
+        .about("Runs a script of nodes, from standard input to standard output")
+        .after_help(SCRIPT);
+    Command::new(alloc, "attrdir")
+        .version("0.1.0")
+        .about("A directory of the attributes of nodes")
+        .after_help(EXAMPLE)
+        .subcommand_required(true)
+        .subcommand(sim)
+}
+
+/// Does what the command line says, and answers the exit status.
+pub(crate) fn run(rt: &HostRuntime) -> Result<u8, Fault> {
+    let alloc = rt.alloc();
+    let args = match env::args(rt) {
+        Ok(args) => args,
+        Err(error) if error.kind() == io::ErrorKind::OutOfMemory => return Err(Fault::NoMemory),
+        Err(_) => {
+            let _ = eprintln!(rt; "error: an argument is not UTF-8");
+            return Ok(USAGE_STATUS);
+        }
+    };
+    let words: Vec<String> = args.collect(alloc)?;
+    let error = match command(alloc)?.try_get_matches_from(words.as_slice()) {
+        Ok(_) => {
+            let ending = sim_run_uncounted(alloc, rt.stdin(), rt.stdout(), MAX_READS)?;
+            return Ok(ending.status());
+        }
+        Err(error) => error,
+    };
+    if error.kind() == ErrorKind::OutOfMemory {
+        return Err(Fault::NoMemory);
+    }
+    match error.print(rt) {
+        Ok(()) => Ok(error.exit_code() as u8),
+        Err(_) => Err(Fault::WriteFailed(0)),
+    }
+}

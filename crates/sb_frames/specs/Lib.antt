@@ -1,0 +1,4 @@
+pub mod Frames
+pub mod Streams
+pub mod Runs
+pub mod Sending

@@ -1,0 +1,40 @@
+-- What comes of any calls, in any order, with any pieces.
+use Rattle.std.specs.Prelude.{◌≡◌, ℕ, true, List, [], ◌∷◌, ◌++◌, Option, Some, Result, Ok, Err}
+use Rattle.sb_types.specs.declared.fault.Fault.{Fault}
+use Rattle.sb_codec.specs.declared.message.Message.{Message}
+use Rattle.sb_frames.specs.Frames.{short, bad, front_of}
+use Rattle.sb_frames.specs.Streams.{Stream, open_with, shut, Feeds, TakesNext}
+
+-- a call, and what it answered
+pub data Call : Type 0 where
+  feed : List ℕ → Result (Unit {0}) Fault → Call
+  next : Result (Option Message) Fault → Call
+
+-- the calls may be made one after the other, with these answers
+abbrev pub Run : Stream → List Call → Stream → Type 0
+Run old [] new = new ≡ old
+Run old (feed piece answer ∷ calls) new = (mid : Stream) × Feeds old piece answer mid × Run mid calls new
+Run old (next answer ∷ calls) new = (mid : Stream) × TakesNext old answer mid × Run mid calls new
+
+-- the bytes that were fed
+abbrev pub fed : List Call → List ℕ
+fed [] = []
+fed (feed piece (Ok done) ∷ calls) = piece ++ fed calls
+fed (feed piece (Err fault) ∷ calls) = fed calls
+fed (next answer ∷ calls) = fed calls
+
+-- the messages that were taken out
+abbrev pub taken : List Call → List Message
+taken [] = []
+taken (next (Ok (Some message)) ∷ calls) = message ∷ taken calls
+taken (_ ∷ calls) = taken calls
+
+-- the rest is held; or, where no more is, it begins with a faulty frame
+abbrev pub IsLeft : List ℕ → Stream → Type 0
+IsLeft rest (open_with held) = held ≡ rest
+IsLeft rest shut = (fault : Fault) × (front_of rest ≡ bad fault)
+
+-- no message is left to be taken out
+abbrev pub IsSpent : Stream → Type 0
+IsSpent (open_with held) = front_of held ≡ short
+IsSpent shut = Unit {0}

@@ -1,0 +1,82 @@
+ghost use Rattle.std.specs.Prelude.{◌≡◌, []};
+ghost use Rattle.sb_frames.specs.Streams.{open_with, Feeds, TakesNext};
+
+use crate::front::message_in;
+use sb_codec::Message;
+use sb_types::Fault;
+use std::alloc::Global;
+use std::marker::Model;
+
+/// The messages of one stream of bytes, which comes in any pieces. After a faulty frame it is closed.
+#[derive(Debug, Drop)]
+pub struct Frames {
+    bytes: Vec<u8>,
+    /// How many of the bytes were taken out.
+    taken: usize,
+    is_closed: bool,
+}
+
+impl Model for Frames {
+    ghost use Rattle.std.specs.Prelude.{◌≤◌, if◌then◌else◌, drop, length};
+    ghost use Rattle.sb_frames.specs.Streams.{Stream, open_with, shut};
+
+    ghost Value = { Stream };
+
+    ghost view = { λ f. if f.is_closed then shut else open_with (drop f.taken f.bytes.items) };
+
+    ghost invariant = { λ f. f.taken ≤ length f.bytes.items };
+}
+
+impl Frames {
+    /// Nothing is held yet. It takes no memory.
+    pub fn new(alloc: Global) -> Frames
+        ensures { result ≡ open_with [] }
+    {
+        Frames {
+            bytes: Vec::new(alloc),
+            taken: 0,
+            is_closed: false,
+        }
+    }
+
+    /// Takes the next piece of the stream. `Closed` after a faulty frame; `NoMemory`, with nothing
+    /// changed.
+    pub fn feed(&mut self, piece: &[u8]) -> Result<(), Fault>
+        ensures { Feeds self.old piece.now result self.new }
+    {
+        if self.is_closed {
+            return Err(Fault::Closed);
+        }
+        // No byte is moved more often than a byte before it was taken out.
+        if self.taken >= self.bytes.len() - self.taken {
+            self.bytes.drain(..self.taken);
+            self.taken = 0;
+        }
+        self.bytes.extend_from_slice(piece)?;
+        Ok(())
+    }
+
+    /// The next message, taken out; nothing where less than a frame is held. `Closed` after a faulty
+    /// frame; `BadMark`, `BadVersion`, `BadLength`, `UnknownKind` or `Malformed` of the frame that
+    /// comes next, as soon as it can be told, and it is closed from then on; `NoMemory` of a whole
+    /// frame, with nothing changed.
+    pub fn next(&mut self) -> Result<Option<Message>, Fault>
+        ensures { TakesNext self.old result self.new }
+    {
+        if self.is_closed {
+            return Err(Fault::Closed);
+        }
+        let alloc = *self.bytes.allocator();
+        match message_in(alloc, &self.bytes[self.taken..]) {
+            Ok(Some((message, length))) => {
+                self.taken += length;
+                Ok(Some(message))
+            }
+            Ok(None) => Ok(None),
+            Err(fault) => {
+                self.is_closed = !matches!(fault, Fault::NoMemory);
+                Err(fault)
+            }
+        }
+    }
+}

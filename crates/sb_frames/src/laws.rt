@@ -1,0 +1,62 @@
+//! What is true of frames, and of streams of them.
+
+ghost use Rattle.std.specs.Prelude.{◌≡◌, ◌≢◌, ℕ, ◌+◌, ◌<◌, ◌≤◌, true, List, [], ◌++◌, length, take, All};
+ghost use Rattle.std.specs.List.{flat_map, list_all};
+ghost use Rattle.sb_types.specs.declared.fault.Fault.{Fault};
+ghost use Rattle.sb_codec.specs.declared.message.Message.{Message};
+ghost use Rattle.sb_codec.specs.Messages.{spelling, is_message};
+ghost use Rattle.sb_frames.specs.Frames.{frame, short, whole, bad, front_of, Leads, Extends};
+ghost use Rattle.sb_frames.specs.Streams.{Stream, open_with, Splits};
+ghost use Rattle.sb_frames.specs.Runs.{Call, Run, fed, taken, IsLeft, IsSpent};
+
+use sb_types::{BUDGET_MOST, HEADER_LENGTH};
+
+/// A message's frame is read as that message, whatever stands behind it.
+pub fn frames_are_read()
+    ensures { (message : Message) (rest : List ℕ) → is_message message ≡ true → front_of (frame message ++ rest) ≡ whole message rest }
+{}
+
+/// What is read as a message is its frame, and the message is within its limits.
+pub fn only_frames_are_read()
+    ensures { (bytes : List ℕ) (message : Message) (rest : List ℕ) →
+        All (λ byte. byte < 256) bytes → front_of bytes ≡ whole message rest → Leads bytes message rest }
+{}
+
+/// No frame is empty: it has its header, and a payload within the limits.
+pub fn frames_have_a_length()
+    ensures length { (message : Message) → length (frame message) ≡ HEADER_LENGTH + length (spelling message) }
+    ensures limits { (message : Message) → is_message message ≡ true →
+        (HEADER_LENGTH < length (frame message)) × (length (frame message) ≤ BUDGET_MOST) }
+{}
+
+/// Once a frame is whole or faulty, no bytes behind it change that.
+pub fn verdicts_stand()
+    ensures { (bytes more : List ℕ) → Extends (front_of bytes) more (front_of (bytes ++ more)) }
+{}
+
+/// Less than a message's frame is neither read nor refused.
+pub fn parts_of_frames_are_short()
+    ensures { (message : Message) (count : ℕ) → is_message message ≡ true → count < length (frame message) →
+        front_of (take count (frame message)) ≡ short }
+{}
+
+/// No frame is faulty for want of memory.
+pub fn faults_are_of_the_bytes()
+    ensures { (bytes : List ℕ) (fault : Fault) → front_of bytes ≡ bad fault → fault ≢ Fault.NoMemory }
+{}
+
+/// A stream has one reading: up to a rest that begins with no frame it is these messages and no others.
+pub fn streams_have_one_reading()
+    ensures { (stream : List ℕ) (messages others : List Message) (rest other : List ℕ) →
+        Splits stream messages rest → Splits stream others other → (others ≡ messages) × (other ≡ rest) }
+{}
+
+/// Whatever calls are made, with whatever pieces, the bytes that were fed are the messages that were taken
+/// out and a rest, which is held or begins with a faulty frame. Once no message is left to be taken out,
+/// they are the messages of the one reading of those bytes.
+pub fn pieces_do_not_matter()
+    ensures accounted { (calls : List Call) (new : Stream) → Run (open_with []) calls new →
+        (rest : List ℕ) × (fed calls ≡ flat_map frame (taken calls) ++ rest) × (list_all is_message (taken calls) ≡ true) × IsLeft rest new }
+    ensures splits { (calls : List Call) (new : Stream) → Run (open_with []) calls new → IsSpent new →
+        (rest : List ℕ) × IsLeft rest new × Splits (fed calls) (taken calls) rest }
+{}

@@ -1,0 +1,47 @@
+//! A message onto a writer.
+
+ghost use Rattle.std.specs.Prelude.{◌≡◌, IfOk, IfErr};
+ghost use Rattle.sb_frames.specs.Frames.{frame};
+ghost use Rattle.sb_frames.specs.Sending.{Sends};
+
+use sb_codec::{Message, encode_payload};
+use sb_types::{FRAME_MARK, FRAME_VERSION, Fault, HEADER_LENGTH};
+use std::alloc::Global;
+use std::io::Write;
+
+/// The frame of the message, in one buffer. `NoMemory` is its only fault.
+pub fn frame_of(alloc: Global, message: &Message) -> Result<Vec<u8>, Fault>
+    ensures frame { IfOk result (λ v. v.items ≡ frame message.now) }
+    ensures fault { IfErr result (λ fault. fault ≡ Fault.NoMemory) }
+{
+    let payload = encode_payload(alloc, message)?;
+    let length = payload.len() as u32;
+    let mut frame = Vec::with_capacity(alloc, HEADER_LENGTH as usize + payload.len())?;
+    frame.extend_from_slice(&[FRAME_MARK, FRAME_VERSION])?;
+    frame.extend_from_slice(&length.to_be_bytes())?;
+    frame.extend_from_slice(&payload)?;
+    Ok(frame)
+}
+
+/// Writes all of the bytes, or says how many were written.
+fn write_counted<W: Write>(writer: &mut W, bytes: &[u8]) -> Result<(), Fault>
+    ensures { Sends (W.contents writer.old) (W.contents writer.new) bytes.now result }
+{
+    let mut count = 0;
+    while count < bytes.len() {
+        match writer.write(&bytes[count..]) {
+            Ok(0) | Err(_) => return Err(Fault::WriteFailed(count as u64)),
+            Ok(written) => count += written,
+        }
+    }
+    Ok(())
+}
+
+/// Writes the message's frame. `NoMemory`, with nothing written; `WriteFailed` with how many bytes of
+/// the frame were written, always fewer than all. A write that takes no byte has failed.
+pub fn send<W: Write>(alloc: Global, writer: &mut W, message: &Message) -> Result<(), Fault>
+    ensures { Sends (W.contents writer.old) (W.contents writer.new) (frame message.now) result }
+{
+    let frame = frame_of(alloc, message)?;
+    write_counted(writer, &frame)
+}

@@ -1,0 +1,187 @@
+use super::*;
+use sb_codec::Message;
+use sb_types::{Block, Delta, Entry, Fault, Key, Name, Slot, Value};
+use std::alloc::Global;
+use std::io::{self, ErrorKind, Write};
+use std::test::Fail;
+
+/// One block of the owner a, after 0, with the weight 5 under w as version 1.
+const FRAME: &[u8] = b"\xa7\x01\x00\x00\x00\x22\x03\x00\x01\x01a\x00\x00\x00\x00\x00\x00\x00\x00\
+    \x00\x01\x01w\x00\x00\x00\x00\x00\x00\x00\x01\x02\x00\x00\x00\x00\x00\x00\x00\x05";
+
+/// A block of b, and then one of a.
+const DESCENDING: &[u8] = b"\xa7\x01\x00\x00\x00\x41\x03\x00\x02\
+    \x01b\x00\x00\x00\x00\x00\x00\x00\x00\
+    \x00\x01\x01w\x00\x00\x00\x00\x00\x00\x00\x01\x02\x00\x00\x00\x00\x00\x00\x00\x05\
+    \x01a\x00\x00\x00\x00\x00\x00\x00\x00\
+    \x00\x01\x01w\x00\x00\x00\x00\x00\x00\x00\x01\x02\x00\x00\x00\x00\x00\x00\x00\x05";
+
+/// Takes at most so many bytes in each write, and fails once it has no room.
+struct Narrow {
+    bytes: [u8; 64],
+    written: usize,
+    room: usize,
+    step: usize,
+}
+
+impl Narrow {
+    fn new(room: usize, step: usize) -> Narrow {
+        Narrow {
+            bytes: [0; 64],
+            written: 0,
+            room,
+            step,
+        }
+    }
+
+    fn has_written(&self, expected: &[u8]) -> bool {
+        self.bytes.get(..self.written) == Some(expected)
+    }
+}
+
+impl Write for Narrow {
+    fn write(&mut self, buf: &[u8]) -> io::Result<usize> {
+        let mut count = 0;
+        for byte in buf {
+            if count == self.step {
+                break;
+            }
+            if self.written >= self.room || self.written >= 64 {
+                break;
+            }
+            self.bytes[self.written] = *byte;
+            self.written += 1;
+            count += 1;
+        }
+        if count == 0 && self.step > 0 {
+            return Err(ErrorKind::BrokenPipe.into());
+        }
+        Ok(count)
+    }
+
+    fn flush(&mut self) -> io::Result<()> {
+        Ok(())
+    }
+}
+
+// Each call is made once more where memory was refused: nothing may have changed.
+
+fn fed(frames: &mut Frames, piece: &[u8]) -> Result<(), Fault> {
+    match frames.feed(piece) {
+        Err(Fault::NoMemory) => frames.feed(piece),
+        answer => answer,
+    }
+}
+
+fn taken(frames: &mut Frames) -> Result<Option<Message>, Fault> {
+    match frames.next() {
+        Err(Fault::NoMemory) => frames.next(),
+        answer => answer,
+    }
+}
+
+fn sent(alloc: Global, writer: &mut Narrow, message: &Message) -> Result<(), Fault> {
+    match send(alloc, writer, message) {
+        Err(Fault::NoMemory) => send(alloc, writer, message),
+        answer => answer,
+    }
+}
+
+fn made(alloc: Global) -> Result<Message, Fault> {
+    let entry = Entry::new(Key::read(b"w")?, 1, Slot::Set(Value::weight(5)?));
+    let block = Block::new(Name::read(b"a")?, 0, vec![in alloc; entry]?)?;
+    Ok(Message::Delta(Delta::new(vec![in alloc; block]?)?))
+}
+
+fn message(alloc: Global) -> Result<Message, Fault> {
+    match made(alloc) {
+        Err(Fault::NoMemory) => made(alloc),
+        answer => answer,
+    }
+}
+
+/// How many messages come next, up to four, each that of `FRAME`.
+fn count_messages(alloc: Global, frames: &mut Frames) -> Result<usize, Fault> {
+    for count in 0..4usize {
+        let Some(message) = taken(frames)? else {
+            return Ok(count);
+        };
+        let mut writer = Narrow::new(64, 64);
+        sent(alloc, &mut writer, &message)?;
+        if !writer.has_written(FRAME) {
+            return Err(Fault::Malformed(0));
+        }
+    }
+    Ok(4)
+}
+
+#[test]
+fn a_frame_in_any_pieces(rt: HostRuntime) -> Result<(), Fail> {
+    let alloc = rt.alloc();
+    assert_eq!(rt; FRAME.len(), 40);
+    let mut frames = Frames::new(alloc);
+    for byte in FRAME {
+        assert_eq!(rt; count_messages(alloc, &mut frames)?, 0);
+        fed(&mut frames, &[*byte])?;
+    }
+    assert_eq!(rt; count_messages(alloc, &mut frames)?, 1);
+
+    let (front, last) = FRAME.split_at(39);
+    fed(&mut frames, front)?;
+    assert_eq!(rt; count_messages(alloc, &mut frames)?, 0);
+    fed(&mut frames, last)?;
+    assert_eq!(rt; count_messages(alloc, &mut frames)?, 1);
+
+    let mut twice = [0; 80];
+    twice[..40].copy_from_slice(FRAME);
+    twice[40..].copy_from_slice(FRAME);
+    fed(&mut frames, &twice)?;
+    assert_eq!(rt; count_messages(alloc, &mut frames)?, 2);
+    assert_eq!(rt; count_messages(alloc, &mut frames)?, 0);
+    Ok(())
+}
+
+#[test]
+fn faulty_frames_close(rt: HostRuntime) -> Result<(), Fail> {
+    let alloc = rt.alloc();
+    for (bytes, fault) in [
+        (b"\xa6".as_slice(), Fault::BadMark),
+        (b"\xa7\x09", Fault::BadVersion),
+        (b"\xa7\x01\x00\x00\x00\x00", Fault::BadLength),
+        (b"\xa7\x01\x00\x00\xff\xfb", Fault::BadLength),
+        (b"\xa7\x01\x00\x00\x00\x01\x55", Fault::UnknownKind(0x55)),
+        (DESCENDING, Fault::Malformed(3)),
+    ] {
+        let mut frames = Frames::new(alloc);
+        fed(&mut frames, bytes)?;
+        let answer = taken(&mut frames);
+        assert!(rt; matches!(answer, Err(found) if found == fault), "{bytes:?}");
+        assert_eq!(rt; frames.feed(FRAME), Err(Fault::Closed));
+        assert!(rt; matches!(frames.next(), Err(Fault::Closed)));
+    }
+    Ok(())
+}
+
+#[test]
+fn frames_go_out_whole(rt: HostRuntime) -> Result<(), Fail> {
+    let alloc = rt.alloc();
+    let message = message(alloc)?;
+    let mut narrow = Narrow::new(64, 7);
+    sent(alloc, &mut narrow, &message)?;
+    assert!(rt; narrow.has_written(FRAME));
+
+    let mut failing = Narrow::new(17, 5);
+    assert_eq!(rt;
+        sent(alloc, &mut failing, &message),
+        Err(Fault::WriteFailed(17))
+    );
+    assert!(rt; failing.has_written(&FRAME[..17]));
+
+    let mut full = Narrow::new(64, 0);
+    assert_eq!(rt;
+        sent(alloc, &mut full, &message),
+        Err(Fault::WriteFailed(0))
+    );
+    assert!(rt; full.has_written(b""));
+    Ok(())
+}
