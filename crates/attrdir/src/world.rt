@@ -95,7 +95,9 @@ impl World {
         };
         let message = Message::Delta(node.offer(alloc, after)?);
         let frame = frame_of(alloc, &message)?;
-        let Message::Delta(delta) = message;
+        let Message::Delta(delta) = message else {
+            unreachable!();
+        };
         let end = if taker == giver {
             GiveEnd::SameName
         } else {

@@ -1,0 +1,4 @@
+pub mod Digests
+pub mod Lengths
+pub mod Limits
+pub mod Fronts
