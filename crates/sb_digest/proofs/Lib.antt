@@ -1,3 +1,5 @@
 pub mod Texts
 pub mod Ascending
 pub mod Searching
+pub mod Longest
+pub mod Cutting

@@ -82,7 +82,7 @@ fn are_covered(from: Option<&Name>, until: Option<&Name>, pairs: &[Pair]) -> boo
     pairs.iter().all(|pair| is_covered(from, until, &pair.owner))
 }
 
-fn owner_of(pair: &Pair) -> Name
+pub(crate) fn owner_of(pair: &Pair) -> Name
     ensures { result ≡ pair.now.owner }
 {
     pair.owner
@@ -112,7 +112,7 @@ fn do_owners_ascend(pairs: &[Pair]) -> bool
 }
 
 /// How many bytes a bound takes in a message.
-fn length_of_bound(bound: Option<&Name>) -> u64
+pub(crate) fn length_of_bound(bound: Option<&Name>) -> u64
     ensures length { result ≡ bound_length (option_copied bound.entry) }
     ensures most { result ≤ 33 }
     ensures bound { is_bound (option_copied bound.entry) ≡ true }
@@ -180,6 +180,27 @@ impl Digest {
             pairs,
             length,
         })
+    }
+
+    /// The digest of parts that make one, which takes so many bytes.
+    pub(crate) fn of_parts(
+        want: bool,
+        from: Option<Name>,
+        until: Option<Name>,
+        pairs: Vec<Pair>,
+        length: u64,
+    ) -> Digest
+        requires digest { is_digest (digest_of want from until pairs.items) ≡ true }
+        requires length { length ≡ digest_length (digest_of want from until pairs.items) }
+        ensures { result ≡ digest_of want from until pairs.items }
+    {
+        Digest {
+            want,
+            from,
+            until,
+            pairs,
+            length,
+        }
     }
 
     /// Whether a digest is wanted in answer.

@@ -2,5 +2,6 @@
 #![tactic(auto)]
 
 mod digest;
+mod front;
 
 pub use digest::{Digest, Pair};
