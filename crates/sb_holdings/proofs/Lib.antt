@@ -1,3 +1,6 @@
 pub mod Lists
 pub mod Order
 pub mod Telling
+pub mod Swapping
+pub mod Parts
+pub mod Steps
