@@ -4,3 +4,4 @@ pub mod Telling
 pub mod Swapping
 pub mod Parts
 pub mod Steps
+pub mod Replays

@@ -1,5 +1,5 @@
 -- What one event does to what is held of one owner.
-use Rattle.std.proofs.Common.{◌≡◌, ℕ, zero, suc, ◌+◌, ◌<◌, ◌≤◌, max, true, false, cond, List, [], ◌∷◌, length, ◌⊎◌, inl, inr, ⊎_elim, refl, sym, ap, subst, Option, Some, None, IfSome, nat_lt, nat_le, nat_eq, arith, ltb-true, leb-true, eqb-true, ltb-false, lt-ltb}
+use Rattle.std.proofs.Common.{◌≡◌, ℕ, zero, suc, ◌+◌, ◌<◌, ◌≤◌, max, true, false, cond, List, [], ◌∷◌, length, ◌⊎◌, inl, inr, ⊎_elim, refl, sym, ap, subst, ◌∙◌, Option, Some, None, IfSome, nat_lt, nat_le, nat_eq, arith, ltb-true, leb-true, eqb-true, ltb-false, lt-ltb}
 use Rattle.std.proofs.lemmas.Bool.{and_parts, and_from, cond_both}
 use Rattle.sb_types.specs.declared.entry.Write.{Write}
 use Rattle.sb_types.specs.Records.{Entry, Table, Stage, Block, Holder}
@@ -160,3 +160,88 @@ module _ (h : Holder) (b : Block) (i : IsHolder h) (is : IsBlock b) (beyond : h.
         (goes_on_joins s e)
         (λ _. cond_both (nat_lt s.floor b.floor) (begins b) None (λ o. IfSome o (Joins h b)) (λ _. begins_joins) (λ _. tt))
 
+dropped : {writes : List Write} {assumed : Type 0} (h : Holder) → IsHolder h → Step writes assumed h (record { shown = h.shown; stage = None })
+dropped h i = record {
+  is = record { shown = i.shown; stage = tt };
+  onward = stays h.shown;
+  holds = λ _ t. record { shown = t.shown; stage = tt };
+}
+
+module _ (writes : List Write) (h : Holder) (b p : Block) (s : Stage) (i : IsHolder h) (j : Joins h b s) (part : IsPart b s.progress p) where
+  with_run : IsRun 0 p.upto (entered s.entries p.entries)
+  with_run = run_entered j.run part.run
+
+  with_tells : Honest writes b → HolderHolds writes h → HoldsStage writes (stage_with s p)
+  with_tells honest t =
+      let new : Tells writes s.floor s.progress p.upto p.entries = rw (part.floor ∙ sym j.floor) at (part.honest writes honest) in
+      tells_entered j.run part.run (j.holds writes honest t) new
+
+  stage_step : Step writes (Honest writes b) h (record { shown = h.shown; stage = Some (stage_with s p) })
+  stage_step = record {
+    is = record { shown = i.shown; stage = (with_run, j.beyond) };
+    onward = stays h.shown;
+    holds = λ honest t. record { shown = t.shown; stage = with_tells honest t };
+  }
+
+  swap_step : s.floor ≤ p.upto → Step writes (Honest writes b) h (record { shown = swapped h.shown (stage_with s p); stage = None })
+  swap_step l = record {
+    is = record {
+      shown = record { run = swapped_run i.shown.run with_run s.floor (omega (arith, j.beyond)); floor = l };
+      stage = tt;
+    };
+    onward = record {
+      held = omega (arith, j.beyond);
+      each = swapped_each s.floor h.shown.held h.shown.entries (entered s.entries p.entries);
+    };
+    holds = λ honest t. record {
+      shown = swapped_tells i.shown.run with_run i.shown.floor j.beyond t.shown (with_tells honest t);
+      stage = tt;
+    };
+  }
+
+  settled_step : Step writes (Honest writes b) h (settled h (stage_with s p))
+  settled_step = cond_both (nat_le s.floor p.upto) _ _ (Step writes (Honest writes b) h) (λ l. swap_step (leb-true s.floor p.upto l)) (λ _. stage_step)
+
+-- ---- a block, by its end
+
+module _ (writes : List Write) (h : Holder) (b : Block) (i : IsHolder h) (is : IsBlock b) where
+  staged_all_step : (o : Option Stage) → IfSome o (Joins h b) → Step writes (Honest writes b) h (staged_all h b o)
+  staged_all_step None j = unchanged i
+  staged_all_step (Some s) j =
+      settled_step writes h b (part_above s.progress b) s i j (part_is b s.progress is j.after (omega (arith, j.order)))
+
+  staged_front_step : (n : ℕ) (o : Option Stage) → IfSome o (Joins h b) → Step writes (Honest writes b) h (staged_front n h b o)
+  staged_front_step zero o j = unchanged i
+  staged_front_step (suc n) None j = unchanged i
+  staged_front_step (suc n) (Some s) j =
+      stage_step writes h b (front (suc n) (part_above s.progress b)) s i j (front_is (suc n) b s.progress is j.after (omega (arith, j.order)))
+
+  staged_refused_step : (n : ℕ) (o : Option Stage) → IfSome o (Joins h b) → Step writes (Honest writes b) h (staged_refused n h b o)
+  staged_refused_step n None j = unchanged i
+  staged_refused_step n (Some s) j =
+      cond_both (nat_lt n (length (above s.progress b.entries))) _ _ (Step writes (Honest writes b) h) (λ _. staged_front_step n (Some s) j) (λ _. dropped h i)
+
+  routed_step : (p : Block) (staged : Option Stage → Holder) →
+      (b.after ≤ h.shown.held → h.shown.held ≤ b.upto → IsPart b h.shown.held p) →
+      ((o : Option Stage) → IfSome o (Joins h b) → Step writes (Honest writes b) h (staged o)) →
+      Step writes (Honest writes b) h (routed h b (shown_with h p) staged)
+  routed_step p staged to_shown to_stage =
+      cond_both (joins_shown h.shown b) (shown_with h p) _ (Step writes (Honest writes b) h)
+        (λ joins.
+          let parts = and_parts _ _ joins in
+          let more = and_parts _ _ parts.1 in
+          let new = ltb-true h.shown.held b.upto more.1 in
+          shown_step writes h b p i (to_shown (leb-true b.after h.shown.held more.0) (omega (arith, new))) (leb-true b.floor h.shown.held parts.0))
+        (λ _. cond_both (nat_lt h.shown.held b.floor) _ h (Step writes (Honest writes b) h)
+          (λ beyond. to_stage (stage_for h.stage b) (stage_joins h b i is (ltb-true h.shown.held b.floor beyond) h.stage refl))
+          (λ _. unchanged i))
+
+  pub treat_step : (end : BlockEnd) → Step writes (Honest writes b) h (treat h b end)
+  treat_step Own = unchanged i
+  treat_step (OwnAhead upto) = unchanged i
+  treat_step Gap = unchanged i
+  treat_step Stale = unchanged i
+  treat_step OwnersFull = unchanged i
+  treat_step (Taken n) = routed_step _ _ (part_is b h.shown.held is) staged_all_step
+  treat_step (TooManyKeys n) = routed_step _ _ (front_is n b h.shown.held is) (staged_front_step n)
+  treat_step (NoMemory n) = routed_step _ _ (front_is n b h.shown.held is) (staged_refused_step n)
