@@ -5,3 +5,4 @@ pub mod Swapping
 pub mod Parts
 pub mod Steps
 pub mod Replays
+pub mod Nodes

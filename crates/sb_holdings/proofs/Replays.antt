@@ -28,8 +28,12 @@ later a b i o = record {
     (o.each y t);
 }
 
-AllTrue : List Write → List Event → Type 0
-AllTrue writes events = (event : Event) → Stands events event → TrueEvent writes event
+pub two_steps : {writes : List Write} {first second both : Type 0} {h k l : Holder} → (both → first) → (both → second) → Step writes first h k → Step writes second k l → Step writes both h l
+two_steps {h = h} {k = k} {l = l} a b s t = record {
+  is = t.is;
+  onward = chained h.shown k.shown l.shown s.onward t.onward;
+  holds = λ both true. t.holds (b both) (s.holds (a both) true);
+}
 
 pub replay_step : (writes : List Write) (h : Holder) (events : List Event) → IsHolder h → ((event : Event) → Stands events event → IsEvent event) →
     Step writes ((event : Event) → Stands events event → TrueEvent writes event) h (replay h events)
@@ -37,8 +41,4 @@ replay_step writes h [] i is = unchanged i
 replay_step writes h (event ∷ events) i is =
     let one = happens_step writes h event i (is event (inl refl)) in
     let rest = replay_step writes (happens h event) events one.is (λ e s. is e (inr s)) in
-    record {
-      is = rest.is;
-      onward = chained h.shown _ _ one.onward rest.onward;
-      holds = λ each t. rest.holds (λ e s. each e (inr s)) (one.holds (each event (inl refl)) t);
-    }
+    two_steps (λ each. each event (inl refl)) (λ each e s. each e (inr s)) one rest
