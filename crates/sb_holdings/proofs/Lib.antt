@@ -6,3 +6,7 @@ pub mod Parts
 pub mod Steps
 pub mod Replays
 pub mod Nodes
+pub mod Lasting
+pub mod Entering
+pub mod Numbered
+pub mod ByVersion

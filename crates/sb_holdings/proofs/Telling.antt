@@ -16,7 +16,7 @@ use Rattle.sb_holdings.proofs.Order.{front_whole, greatest, run_after, run_upto,
 pub within_writes : {writes : List Write} (e : Entry) → Written writes e → e.version ≤ length writes
 within_writes {writes} e w = omega (arith, slice_get_within writes (e.version - 1) _ w.found, w.counted)
 
-same_parts : (a b : Entry) → a.version ≡ b.version → a.key ≡ b.key → a.slot ≡ b.slot → a ≡ b
+pub same_parts : (a b : Entry) → a.version ≡ b.version → a.key ≡ b.key → a.slot ≡ b.slot → a ≡ b
 same_parts a b v k s = λ i. record { key = k i; version = v i; slot = s i }
 
 pub one_write : {writes : List Write} (a b : Entry) → Written writes a → Written writes b → a.version ≡ b.version → a ≡ b
