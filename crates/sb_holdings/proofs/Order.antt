@@ -10,8 +10,8 @@ use Rattle.sb_holdings.proofs.Lists.{left, right, either, taken, kept, of_kept, 
 pub lower : (a b : ℕ) (es : List Entry) → a ≤ b → are_ascending b es ≡ true → are_ascending a es ≡ true
 lower a b [] l h = refl
 lower a b (x ∷ xs) l h =
-    let p = and_parts _ _ h in
-    and_from _ _ (lt-ltb a x.version (omega (arith, ltb-true b x.version p.0))) p.1
+    let first = ltb-true b x.version (and_parts _ _ h).0 in
+    and_from _ _ (lt-ltb a x.version (omega arith)) (and_parts _ _ h).1
 
 pub behind : (a : ℕ) (es : List Entry) (e : Entry) → are_ascending a es ≡ true → Stands es e → a < e.version
 behind a [] e h s = absurd s
