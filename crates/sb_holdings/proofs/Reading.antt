@@ -38,7 +38,9 @@ shown_none None f = refl
 shown_none (Some x) f = ap (set_at x.version) (f x refl)
 
 set_entry : (version at : ℕ) (slot : Slot) (value : Value) → set_at version slot ≡ Some (value, at) → (slot ≡ Set value) × (version ≡ at)
-set_entry version at (Set v) value e = (?x, ?y)
+set_entry version at (Set v) value e =
+    let same : ◌≡◌ {A = Value × ℕ} (v, version) (value, at) = cc in
+    (ap (λ (p : Value × ℕ). Set p.0) same, ap (λ (p : Value × ℕ). p.1) same)
 set_entry version at Removed value e = absurd (cc)
 
 shown_entry : (o : Option Entry) (value : Value) (version : ℕ) → shown_of o ≡ Some (value, version) → (e : Entry) × (o ≡ Some e) × (e.slot ≡ Set value) × (e.version ≡ version)
