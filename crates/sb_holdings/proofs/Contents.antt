@@ -40,11 +40,10 @@ distinct_last (x ∷ xs) =
       (λ new. and_from _ _ (not_from_false _ (lacks x.key (last_each xs) (λ e s k. false≢true (sym new ∙ has x.key xs e (last_stands xs e s) k)))) (distinct_last xs))
 
 -- an entry is its key's last, or one of its key is above it
-LastOrNot : List Entry → List Entry → Entry → Type 0
+abbrev LastOrNot : List Entry → List Entry → Entry → Type 0
 LastOrNot es lasts e = Stands lasts e ⊎ ((b : Entry) × Stands es b × (b.key ≡ e.key) × (e.version < b.version))
 
 last_or_not : (a : ℕ) (es : List Entry) (e : Entry) → are_ascending a es ≡ true → Stands es e → LastOrNot es (last_each es) e
-unfolding LastOrNot
 last_or_not a [] e h s = absurd s
 last_or_not a (x ∷ xs) e h (inl p) =
     cond_both (has_key x.key xs) (last_each xs) (x ∷ last_each xs) (λ lasts. LastOrNot (x ∷ xs) lasts e)
