@@ -10,6 +10,6 @@ pub mod Lasting
 pub mod Entering
 pub mod Numbered
 pub mod ByVersion
-pub mod Reading
-pub mod Contents
-pub mod Offers
+pub mod Shown
+pub mod Content
+pub mod Offered
