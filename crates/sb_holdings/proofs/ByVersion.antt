@@ -1,6 +1,5 @@
 -- What entries tell, said entry by entry, is what they tell version by version.
-use Rattle.std.proofs.Common.{◌≡◌, ℕ, zero, suc, ◌-◌, ◌<◌, ◌≤◌, List, [], ◌∷◌, length, ◌⊎◌, ◌↔◌, inl, inr, ⊎_elim, refl, sym, ap, ◌∙◌, subst, Some, None, slice_get, get_or, arith}
-use Rattle.std.proofs.lemmas.Option.{slice_get-get_or}
+use Rattle.std.proofs.Common.{◌≡◌, ℕ, zero, suc, ◌-◌, ◌<◌, ◌≤◌, List, [], ◌∷◌, length, ◌⊎◌, inl, inr, ⊎_elim, refl, sym, ap, ◌∙◌, subst, Some, slice_get, arith}
 use Rattle.std.proofs.lemmas.Bool.{cases_order}
 use Rattle.sb_types.specs.declared.entry.Write.{Write}
 use Rattle.sb_types.specs.Records.{Entry}
@@ -87,17 +86,17 @@ module _ (writes : List Write) where
       where
         told : (n : ℕ) → (w : Write) × Written writes (entry_of n w) → after < n → n ≤ upto → ((e : Entry) × Stands entries e × (e.version ≡ n)) ⊎ (SupersededAt writes n ⊎ GoneAt writes floor n)
         told n p lo hi = ⊎_elim
-          (λ s. inl (entry_of n p.0, s, refl))
-          (λ rest. inr (⊎_elim (λ s. inl (superseded_at _ p.1 s)) (λ g. ⊎_elim (λ s. inl (superseded_at _ p.1 s)) (λ last. inr (gone_at _ p.1 g last)) (superseded_or_last writes (entry_of n p.0))) rest))
-          (t.whole (entry_of n p.0) p.1 lo hi)
+            (λ s. inl (entry_of n p.0, s, refl))
+            (λ rest. inr (⊎_elim (λ s. inl (superseded_at _ p.1 s)) (λ g. ⊎_elim (λ s. inl (superseded_at _ p.1 s)) (λ last. inr (gone_at _ p.1 g last)) (superseded_or_last writes (entry_of n p.0))) rest))
+            (t.whole (entry_of n p.0) p.1 lo hi)
 
         latest : (n : ℕ) (gone : GoneAt writes floor n) (x : Entry) → Written writes (entry_of n gone.write) → Stands entries x → x.key ≡ gone.write.key → x.version ≡ n
         latest n gone x w s k = ⊎_elim (λ same. same)
-          (λ apart. ⊎_elim
+            (λ apart. ⊎_elim
             (λ older. absurd (gone.last (superseded_at _ w (t.past (entry_of n gone.write) x w (gone.removed, gone.under) s k older))))
             (λ newer. absurd (gone.last (superseded_at _ w (x, t.true_each x s, k, newer))))
             apart)
-          (cases_order x.version n)
+            (cases_order x.version n)
 
     pub by_entry : TellsByVersion writes floor after upto entries → Tells writes floor after upto entries
     unfolding gone_at
@@ -106,11 +105,11 @@ module _ (writes : List Write) where
       reach_floor = t.reach_floor;
       true_each = λ e s. written_at writes e (t.true_each e s);
       whole = λ e w lo hi. ⊎_elim
-        (λ f. inl (subst (Stands entries) (one_write f.0 e (written_at writes f.0 (t.true_each f.0 f.1)) w f.2) f.1))
-        (λ rest. inr (⊎_elim (λ s. inl (superseded_by e w s)) (λ g. inr (gone_by e w g)) rest))
-        (t.whole e.version lo hi);
+          (λ f. inl (subst (Stands entries) (one_write f.0 e (written_at writes f.0 (t.true_each f.0 f.1)) w f.2) f.1))
+          (λ rest. inr (⊎_elim (λ s. inl (superseded_by e w s)) (λ g. inr (gone_by e w g)) rest))
+          (t.whole e.version lo hi);
       past = λ e x w g s k o. ⊎_elim
-        (λ super. super)
-        (λ last. absurd (omega (arith, o, t.past e.version (gone_at e w g last) x s k)))
-        (superseded_or_last writes e);
+          (λ super. super)
+          (λ last. absurd (omega (arith, o, t.past e.version (gone_at e w g last) x s k)))
+          (superseded_or_last writes e);
     }

@@ -1,8 +1,7 @@
 -- What stands in a list, and in the parts of a list of entries.
-use Rattle.std.proofs.Common.{◌≡◌, ℕ, suc, zero, ◌<◌, ◌≤◌, Bool, true, false, cond, not, ◌||◌, List, [], ◌∷◌, ◌++◌, take, filter, ◌⊎◌, inl, inr, ⊎_elim, refl, sym, ap, ◌∙◌, nat_eq, nat_lt, nat_le, arith, lt-ltb, ltb-true, le-leb, leb-true, ltb-false}
+use Rattle.std.proofs.Common.{◌≡◌, ℕ, suc, zero, ◌<◌, ◌≤◌, Bool, true, false, cond, not, ◌||◌, List, [], ◌∷◌, ◌++◌, take, filter, ◌⊎◌, inl, inr, ⊎_elim, refl, sym, ap, ◌∙◌, nat_eq, nat_lt, lt-ltb, ltb-true, le-leb, leb-true, ltb-false}
 use Rattle.std.proofs.lemmas.Bool.{or_cases, or_left, or_right, not-true, cases_Bool, false_from_ne_true, false≢true}
-use Rattle.std.specs.List.{list_any}
-use Rattle.std.specs.Cmp.{nat_eq_equiv, unsigned_Decides}
+use Rattle.std.specs.Cmp.{unsigned_Decides}
 use Rattle.std.specs.Cmp.Lexicographic.{pointwise, pointwise_decides}
 use Rattle.sb_types.specs.declared.entry.Slot.{Slot}
 use Rattle.sb_types.specs.declared.entry.Slot.TheVariants.{Set, Removed}
@@ -49,8 +48,8 @@ module _ {X : Type 0} where
   of_kept p [] e s = absurd s
   of_kept p (x ∷ xs) e s =
       ⊎_elim (λ h. (inl h.1, sym (ap p h.1) ∙ h.0))
-        (λ r. let k = of_kept p xs e r in (inr k.0, k.1))
-        (chosen (p x) x (filter p xs) e s)
+      (λ r. let k = of_kept p xs e r in (inr k.0, k.1))
+      (chosen (p x) x (filter p xs) e s)
 
 -- ---- keys
 
@@ -64,8 +63,8 @@ pub keyed : (key : List ℕ) (es : List Entry) → has_key key es ≡ true → (
 keyed key [] h = absurd (false≢true h)
 keyed key (x ∷ xs) h =
     ⊎_elim (λ p. (x, inl refl, same_text x.key key p))
-      (λ r. let k = keyed key xs r in (k.0, inr k.1, k.2))
-      (or_cases (pointwise nat_eq x.key key) (has_key key xs) h)
+    (λ r. let k = keyed key xs r in (k.0, inr k.1, k.2))
+    (or_cases (pointwise nat_eq x.key key) (has_key key xs) h)
 
 pub has : (key : List ℕ) (es : List Entry) (e : Entry) → Stands es e → e.key ≡ key → has_key key es ≡ true
 has key [] e s k = absurd s
@@ -112,8 +111,8 @@ of_live floor es e s = (of_kept _ es e s).0
 pub in_entered : (es bs : List Entry) (e : Entry) → Stands es e → Stands (entered es bs) e ⊎ ((b : Entry) × Stands bs b × (b.key ≡ e.key))
 in_entered es bs e s =
     ⊎_elim (λ h. inr (keyed e.key bs h))
-      (λ h. inl (left (without bs es) bs e (kept _ es e s (ap not h))))
-      (cases_Bool (has_key e.key bs))
+    (λ h. inl (left (without bs es) bs e (kept _ es e s (ap not h))))
+    (cases_Bool (has_key e.key bs))
 
 pub of_entered : (es bs : List Entry) (e : Entry) → Stands (entered es bs) e → Stands es e ⊎ Stands bs e
 of_entered es bs e s = ⊎_elim (λ l. inl (of_kept _ es e l).0) inr (either (without bs es) bs e s)

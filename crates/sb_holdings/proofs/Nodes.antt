@@ -1,6 +1,6 @@
 -- Whole runs of events, on a node.
-use Rattle.std.proofs.Common.{◌≡◌, ℕ, Bool, true, false, cond, List, [], ◌∷◌, length, inl, inr, ⊎_elim, refl, sym, ap, ◌∙◌, subst, Option, Some, None, is_some, is_none, unwrap_or, nat_eq, eqb-true, nat_cmp}
-use Rattle.std.proofs.lemmas.Bool.{and_parts, cond_both, cases_Bool, false≢true, true≢false}
+use Rattle.std.proofs.Common.{◌≡◌, ℕ, Bool, true, false, cond, List, [], ◌∷◌, length, inl, inr, refl, sym, subst, Option, Some, None, is_none, unwrap_or, nat_eq, eqb-true, nat_cmp}
+use Rattle.std.proofs.lemmas.Bool.{and_parts, cond_both, false≢true}
 use Rattle.std.proofs.lemmas.List.{nil_from_length}
 use Rattle.std.proofs.lemmas.Cmp.{nat_list_cmp_total}
 use Rattle.std.specs.Ordering.{eq_by_cmp}
@@ -8,14 +8,13 @@ use Rattle.std.specs.Cmp.{unsigned_ties}
 use Rattle.std.specs.Cmp.Lexicographic.{pointwise, slice_cmp, lists_ties}
 use Rattle.std.specs.FinMap.{FinMap, get, insert, remove, get-insert, get-remove}
 use Rattle.sb_types.specs.declared.entry.Write.{Write}
-use Rattle.sb_types.specs.Records.{Entry, Table, Stage, Block, Holder}
+use Rattle.sb_types.specs.Records.{Stage, Block, Holder}
 use Rattle.sb_types.specs.Runs.{Stands}
-use Rattle.sb_types.specs.Writes.{Written, Honest, IsHolder, HolderHolds}
+use Rattle.sb_types.specs.Writes.{Honest, IsHolder}
 use Rattle.sb_holdings.specs.declared.ends.BlockEnd.{BlockEnd}
 use Rattle.sb_holdings.specs.declared.ends.BlockEnd.TheVariants.{Own, OwnAhead, Gap, Stale, OwnersFull, Taken, TooManyKeys, NoMemory}
-use Rattle.sb_holdings.specs.Taken.{treat}
-use Rattle.sb_holdings.specs.Nodes.{Node, nothing, is_nothing, holder_of, with_holder, taken, treat_at, NodeEvent, Wrote, Took, happens_at, replay_at, IsNodeEvent, TrueAt, IsNode, NodeHolds}
-use Rattle.sb_holdings.proofs.Lists.{same_text, text_same}
+use Rattle.sb_holdings.specs.Nodes.{Node, nothing, is_nothing, holder_of, with_holder, taken, NodeEvent, Wrote, Took, happens_at, replay_at, IsNodeEvent, TrueAt, IsNode}
+use Rattle.sb_holdings.proofs.Lists.{same_text}
 use Rattle.sb_holdings.proofs.Steps.{Step, unchanged, own_step, treat_step}
 use Rattle.sb_holdings.proofs.Replays.{two_steps}
 
@@ -51,18 +50,18 @@ module _ (owners : FinMap (slice_cmp nat_cmp) Holder) (owner : List ℕ) (h : Ho
   holder_of_with : (q : List ℕ) → holder_of (with_holder owners owner h) q ≡ cond (pointwise nat_eq q owner) h (holder_of owners q)
   holder_of_with q =
       cond_both (is_nothing h) (remove owners owner) (insert owners owner h) (λ m. unwrap_or (get m q) nothing ≡ cond (pointwise nat_eq q owner) h (unwrap_or (get owners q) nothing))
-        (λ none. rw (get-remove nat_list_cmp_total owners owner q, same_test q) (found (pointwise nat_eq q owner) (get owners q) (is_nothing_is h none)))
-        (λ _. rw (get-insert nat_list_cmp_total owners owner h q, same_test q) (put (pointwise nat_eq q owner) (get owners q)))
+      (λ none. rw (get-remove nat_list_cmp_total owners owner q, same_test q) (found (pointwise nat_eq q owner) (get owners q) (is_nothing_is h none)))
+      (λ _. rw (get-insert nat_list_cmp_total owners owner h q, same_test q) (put (pointwise nat_eq q owner) (get owners q)))
 
 -- one owner's holder is replaced
 put_step : (writes : List ℕ → List Write) (owners : FinMap (slice_cmp nat_cmp) Holder) (owner : List ℕ) (h : Holder) (assumed : Type 0) →
     ((q : List ℕ) → IsHolder (holder_of owners q)) → Step (writes owner) assumed (holder_of owners owner) h →
     (q : List ℕ) → Step (writes q) assumed (holder_of owners q) (holder_of (with_holder owners owner h) q)
-put_step writes owners owner h assumed is step q = 
+put_step writes owners owner h assumed is step q =
     rw (holder_of_with owners owner h q)
-      (cond_both (pointwise nat_eq q owner) h (holder_of owners q) (Step (writes q) assumed (holder_of owners q))
-        (λ same. subst (λ (o : List ℕ). Step (writes o) assumed (holder_of owners o) h) (sym (same_text q owner same)) step)
-        (λ _. unchanged (is q)))
+    (cond_both (pointwise nat_eq q owner) h (holder_of owners q) (Step (writes q) assumed (holder_of owners q))
+    (λ same. subst (λ (o : List ℕ). Step (writes o) assumed (holder_of owners o) h) (sym (same_text q owner same)) step)
+    (λ _. unchanged (is q)))
 
 -- ---- events
 
@@ -71,8 +70,8 @@ module _ (writes : List ℕ → List Write) (node : Node) (is : IsNode node) whe
       Step (writes q) (Honest (writes b.owner) b) (holder_of node.owners q) (holder_of (taken node b end).owners q)
   taken_step b end i q =
       cond_both (pointwise nat_eq b.owner node.me) node _ (λ (n : Node). Step (writes q) (Honest (writes b.owner) b) (holder_of node.owners q) (holder_of n.owners q))
-        (λ _. unchanged (is q))
-        (λ _. put_step writes node.owners b.owner _ _ is (treat_step (writes b.owner) (holder_of node.owners b.owner) b (is b.owner) i end) q)
+      (λ _. unchanged (is q))
+      (λ _. put_step writes node.owners b.owner _ _ is (treat_step (writes b.owner) (holder_of node.owners b.owner) b (is b.owner) i end) q)
 
   happens_at_step : (event : NodeEvent) → IsNodeEvent event → (q : List ℕ) → Step (writes q) (TrueAt writes node.me event) (holder_of node.owners q) (holder_of (happens_at node event).owners q)
   happens_at_step (Wrote e) i q = put_step writes node.owners node.me _ _ is (own_step (writes node.me) (holder_of node.owners node.me) e (is node.me)) q

@@ -1,5 +1,5 @@
 -- The entries of all writes, numbered: the written ones and no others; so it is decided whether one was superseded.
-use Rattle.std.proofs.Common.{◌≡◌, ℕ, zero, suc, ◌+◌, ◌-◌, ◌<◌, ◌≤◌, true, List, [], ◌∷◌, length, ◌⊎◌, inl, inr, ⊎_elim, refl, sym, ap, ◌∙◌, Some, None, slice_get, arith, lt-ltb}
+use Rattle.std.proofs.Common.{◌≡◌, ℕ, zero, suc, ◌+◌, ◌-◌, true, List, [], ◌∷◌, ◌⊎◌, inl, inr, ⊎_elim, refl, sym, ap, ◌∙◌, Some, slice_get, arith, lt-ltb}
 use Rattle.std.proofs.lemmas.Bool.{cases_Bool, and_from, false≢true}
 use Rattle.sb_types.specs.declared.entry.Write.{Write}
 use Rattle.sb_types.specs.Records.{Entry}
@@ -44,11 +44,11 @@ numbered_ascends v (w ∷ ws) = and_from _ _ (lt-ltb v (v + 1) (omega arith)) (n
 pub superseded_or_last : (writes : List Write) (e : Entry) → Superseded writes e ⊎ (Superseded writes e → ⊥)
 superseded_or_last writes e =
     ⊎_elim
-      (λ h. let k = keyed e.key later h in
-        let a = of_above e.version (numbered 0 writes) k.0 k.1 in
-        inl (k.0, of_numbered writes k.0 a.0, k.2, a.1))
-      (λ h. inr (λ s. false≢true (sym h ∙ has e.key later s.0 (in_above e.version (numbered 0 writes) s.0 (in_numbered writes s.0 s.1) s.3) s.2)))
-      (cases_Bool (has_key e.key later))
+    (λ h. let k = keyed e.key later h in
+    let a = of_above e.version (numbered 0 writes) k.0 k.1 in
+    inl (k.0, of_numbered writes k.0 a.0, k.2, a.1))
+    (λ h. inr (λ s. false≢true (sym h ∙ has e.key later s.0 (in_above e.version (numbered 0 writes) s.0 (in_numbered writes s.0 s.1) s.3) s.2)))
+    (cases_Bool (has_key e.key later))
   where
     later : List Entry
     later = above e.version (numbered 0 writes)

@@ -1,7 +1,7 @@
 -- The blocks of a front of what is offered, and what is available of each owner.
-use Rattle.std.proofs.Common.{◌≡◌, ℕ, zero, suc, ◌<◌, ◌≤◌, Bool, true, false, cond, not, ◌||◌, List, [], ◌∷◌, ◌++◌, map, take, drop, length, filter, filter_map, ◌⊎◌, inl, inr, ⊎_elim, refl, sym, ap, ap₂, ◌∙◌, subst, subst₂, Some, None, nat_eq, nat_lt, arith, ltb-true, lt-ltb, if◌then◌else◌, append-nil, take-append-drop}
-use Rattle.std.proofs.lemmas.Bool.{and_parts, cond_both, or_cases, or_left, or_right, or_parts, not-true, false≢true, false_from_ne_true, cases_Bool}
-use Rattle.std.proofs.lemmas.List.{take-map, drop-map, take_at, drop_at, take_all, drop_all}
+use Rattle.std.proofs.Common.{◌≡◌, ℕ, suc, ◌<◌, Bool, true, false, List, [], ◌∷◌, ◌++◌, map, take, drop, length, filter, inl, inr, ⊎_elim, refl, sym, ap, ap₂, ◌∙◌, subst, subst₂, Some, None, nat_eq, nat_lt, arith, ltb-true, lt-ltb, if◌then◌else◌, append-nil, take-append-drop}
+use Rattle.std.proofs.lemmas.Bool.{and_parts, cond_both, or_left, or_right, or_parts, not-true, false≢true, false_from_ne_true}
+use Rattle.std.proofs.lemmas.List.{take-map, drop-map, take_at, drop_at}
 use Rattle.std.proofs.lemmas.List.Elements.{filter-append}
 use Rattle.std.specs.Cmp.Lexicographic.{pointwise}
 use Rattle.sb_types.specs.declared.entry.Write.{Write}
@@ -10,7 +10,7 @@ use Rattle.sb_types.specs.Runs.{Stands, above, last_version, IsRun, IsTable, IsB
 use Rattle.sb_types.specs.Writes.{Tells, Holds, Honest}
 use Rattle.sb_holdings.specs.Offers.{Item, items_from, items_of, of_owner, entries_of, block_from, block_of, is_named, are_named_once, available}
 use Rattle.sb_holdings.proofs.Lists.{left, of_above, same_text, text_same}
-use Rattle.sb_holdings.proofs.Order.{run_above, run_front, run_after, run_upto, front_most}
+use Rattle.sb_holdings.proofs.Order.{run_above, run_front, run_after, run_upto}
 use Rattle.sb_holdings.proofs.Telling.{tells_above, tells_front}
 
 module _ (owner : List ℕ) (t : Table) (number : ℕ) where
@@ -69,8 +69,8 @@ module _ (owner : List ℕ) (t : Table) (number : ℕ) (front rest : List Item) 
 
   more_held : number < t.held
   more_held = some_offered owner t number (above number t.entries) first
-    (λ e a. let o = of_above number t.entries e a in omega (arith, o.1, run_upto e i.run o.0))
-    (subst (λ items. Stands items first) joined (left (of_owner owner front) (of_owner owner rest) first s))
+      (λ e a. let o = of_above number t.entries e a in omega (arith, o.1, run_upto e i.run o.0))
+      (subst (λ items. Stands items first) joined (left (of_owner owner front) (of_owner owner rest) first s))
 
   run : IsRun number t.held (above number t.entries)
   run = let l = more_held in run_above number (omega arith) i.run
@@ -80,8 +80,8 @@ module _ (owner : List ℕ) (t : Table) (number : ℕ) (front rest : List Item) 
 
   pub offer_is : IsBlock (block_of owner front rest)
   offer_is = blocks owner t number IsBlock (above number t.entries) (of_owner owner front) (of_owner owner rest) first joined s more_held
-    (record { run = run; order = more_held })
-    (λ k e a. record { run = run_front k run; order = front_order k e a })
+      (record { run = run; order = more_held })
+      (λ k e a. record { run = run_front k run; order = front_order k e a })
 
   pub offer_honest : (writes : List Write) → Holds writes t → Honest writes (block_of owner front rest)
   offer_honest writes h =
@@ -108,9 +108,9 @@ module _ (owner : List ℕ) (t : Table) (number : ℕ) where
   items_owner : (es : List Entry) (item : Item) → Stands (items_from owner t number es) item → item.owner ≡ owner
   items_owner [] item s =
       cond_both (nat_lt number t.held) (news owner t number ∷ []) [] (λ items. Stands items item → item.owner ≡ owner)
-        (λ _ one. ⊎_elim (λ p. sym (ap (λ (x : Item). x.owner) p)) (λ none. absurd none) one)
-        (λ _ none. absurd none)
-        s
+      (λ _ one. ⊎_elim (λ p. sym (ap (λ (x : Item). x.owner) p)) (λ none. absurd none) one)
+      (λ _ none. absurd none)
+      s
   items_owner (e ∷ es) item s = mapped_owner (e ∷ es) item s
 
   of_its_owner : of_owner owner (items_of owner t number) ≡ items_of owner t number
@@ -151,9 +151,9 @@ module _ (covers : List ℕ → Bool) (number : List ℕ → Table → ℕ) wher
       let alone : is_named q.0 ps ≡ false = not-true _ (and_parts _ _ d).0 in
       let covered : covers q.0 ≡ true = ap (λ (r : List ℕ × Holder). covers r.0) e ∙ c in
       subst (λ (r : List ℕ × Holder). of_owner r.0 (available covers number (q ∷ ps)) ≡ items_of r.0 r.1.shown (number r.0 r.1.shown)) e
-        (filter-append (λ item. pointwise nat_eq item.owner q.0) (offered_of q) (available covers number ps)
-        ∙ ap₂ (λ a b. a ++ b) (own_offer q covered) (unnamed ps q.0 alone)
-        ∙ append-nil _)
+      (filter-append (λ item. pointwise nat_eq item.owner q.0) (offered_of q) (available covers number ps)
+      ∙ ap₂ (λ a b. a ++ b) (own_offer q covered) (unnamed ps q.0 alone)
+      ∙ append-nil _)
   available_of (q ∷ ps) p d (inr s) c =
       let alone : is_named q.0 ps ≡ false = not-true _ (and_parts _ _ d).0 in
       let other : pointwise nat_eq q.0 p.0 ≡ false = false_from_ne_true _ (λ t. false≢true (sym alone ∙ rw (same_text q.0 p.0 t) (named ps p s))) in

@@ -1,9 +1,9 @@
 -- The order of entries by version, and that no key stands twice, in parts of a list and in lists joined.
-use Rattle.std.proofs.Common.{◌≡◌, ℕ, suc, zero, ◌<◌, ◌≤◌, ◌-◌, Bool, true, false, cond, not, ◌&&◌, List, [], ◌∷◌, ◌++◌, take, filter, ◌⊎◌, inl, inr, ⊎_elim, refl, sym, ap, ◌∙◌, nat_eq, nat_lt, arith, lt-ltb, ltb-true}
-use Rattle.std.proofs.lemmas.Bool.{and_parts, and_from, not_from_false, not-true}
+use Rattle.std.proofs.Common.{◌≡◌, ℕ, suc, zero, ◌<◌, ◌≤◌, Bool, true, false, cond, not, List, [], ◌∷◌, ◌++◌, take, filter, inl, inr, ⊎_elim, refl, sym, ap, ◌∙◌, nat_lt, arith, lt-ltb, ltb-true}
+use Rattle.std.proofs.lemmas.Bool.{and_parts, and_from, not_from_false}
 use Rattle.sb_types.specs.Records.{Entry}
-use Rattle.sb_types.specs.Runs.{Stands, are_ascending, has_key, are_distinct, last_version, above, without, entered, IsRun}
-use Rattle.sb_holdings.proofs.Lists.{left, right, either, taken, kept, of_kept, keyed, has, lacks, not_there, of_above, of_entered}
+use Rattle.sb_types.specs.Runs.{Stands, are_ascending, has_key, are_distinct, last_version, above, entered, IsRun}
+use Rattle.sb_holdings.proofs.Lists.{either, taken, of_kept, lacks, not_there, of_above}
 
 -- ---- ascending
 
@@ -83,20 +83,20 @@ pub distinct_kept : (p : Entry → Bool) (es : List Entry) → are_distinct es �
 distinct_kept p [] d = refl
 distinct_kept p (x ∷ xs) d =
     sifted_keys (p x) x (filter p xs) (distinct_kept p xs (and_parts _ _ d).1)
-      (λ e s k. not_there x.key xs e (and_parts _ _ d).0 (of_kept p xs e s).0 k)
+    (λ e s k. not_there x.key xs e (and_parts _ _ d).0 (of_kept p xs e s).0 k)
 
 pub distinct_taken : (n : ℕ) (es : List Entry) → are_distinct es ≡ true → are_distinct (take n es) ≡ true
 distinct_taken zero es d = refl
 distinct_taken (suc n) [] d = refl
 distinct_taken (suc n) (x ∷ xs) d =
     new_key x (take n xs) (distinct_taken n xs (and_parts _ _ d).1)
-      (λ e s k. not_there x.key xs e (and_parts _ _ d).0 (taken n xs e s) k)
+    (λ e s k. not_there x.key xs e (and_parts _ _ d).0 (taken n xs e s) k)
 
 pub distinct_joined : (xs ys : List Entry) → are_distinct xs ≡ true → are_distinct ys ≡ true → ((x y : Entry) → Stands xs x → Stands ys y → x.key ≡ y.key → ⊥) → are_distinct (xs ++ ys) ≡ true
 distinct_joined [] ys d f apart = f
 distinct_joined (x ∷ xs) ys d f apart =
     new_key x (xs ++ ys) (distinct_joined xs ys (and_parts _ _ d).1 f (λ e y s t k. apart e y (inr s) t k))
-      (λ e s k. ⊎_elim (λ l. not_there x.key xs e (and_parts _ _ d).0 l k) (λ r. apart x e (inl refl) r (sym k)) (either xs ys e s))
+    (λ e s k. ⊎_elim (λ l. not_there x.key xs e (and_parts _ _ d).0 l k) (λ r. apart x e (inl refl) r (sym k)) (either xs ys e s))
 
 -- ---- runs
 
@@ -143,11 +143,11 @@ pub run_joined : {a m u : ℕ} {xs ys : List Entry} → IsRun a m xs → IsRun m
 run_joined {a} {m} {u} {xs} {ys} r t apart = record {
   ascending = ascending_joined a m xs ys (run_order r) (λ e s. run_upto e r s) r.ascending t.ascending;
   most = at_most a u (xs ++ ys) (omega (arith, run_order r, run_order t))
-    (λ e s. ⊎_elim (λ l. omega (arith, run_upto e r l, run_order t)) (λ q. run_upto e t q) (either xs ys e s));
+      (λ e s. ⊎_elim (λ l. omega (arith, run_upto e r l, run_order t)) (λ q. run_upto e t q) (either xs ys e s));
   distinct = distinct_joined xs ys r.distinct t.distinct apart;
 }
 
 pub run_entered : {a m u : ℕ} {es bs : List Entry} → IsRun a m es → IsRun m u bs → IsRun a u (entered es bs)
 run_entered {a} {m} {u} {es} {bs} r t =
     run_joined (run_kept (λ entry. not (has_key entry.key bs)) r) t
-      (λ x y s b k. not_there x.key bs y (of_kept _ es x s).1 b (sym k))
+    (λ x y s b k. not_there x.key bs y (of_kept _ es x s).1 b (sym k))

@@ -1,9 +1,9 @@
 -- Whole runs of events, on one owner.
-use Rattle.std.proofs.Common.{◌≡◌, ◌<◌, ◌≤◌, List, [], ◌∷◌, inl, inr, ⊎_elim, refl, sym, ap, ◌∙◌, arith}
+use Rattle.std.proofs.Common.{List, [], ◌∷◌, inl, inr, ⊎_elim, refl, ap, arith}
 use Rattle.sb_types.specs.declared.entry.Write.{Write}
 use Rattle.sb_types.specs.Records.{Entry, Table, Holder}
 use Rattle.sb_types.specs.Runs.{Stands, IsTable}
-use Rattle.sb_types.specs.Writes.{IsHolder, HolderHolds}
+use Rattle.sb_types.specs.Writes.{IsHolder}
 use Rattle.sb_holdings.specs.Events.{Event, Owned, Came, happens, replay, IsEvent, TrueEvent}
 use Rattle.sb_holdings.specs.Progress.{Onward, Later}
 use Rattle.sb_holdings.proofs.Order.{run_upto, run_one}
@@ -23,9 +23,9 @@ pub later : (a b : Table) → IsTable a → Onward a b → Later a b
 later a b i o = record {
   held = o.held;
   versions = λ x y s t k. ⊎_elim
-    (λ old. omega (arith, ap (λ (e : Entry). e.version) (run_one x y i.run s old k)))
-    (λ new. omega (arith, new, run_upto x i.run s))
-    (o.each y t);
+      (λ old. omega (arith, ap (λ (e : Entry). e.version) (run_one x y i.run s old k)))
+      (λ new. omega (arith, new, run_upto x i.run s))
+      (o.each y t);
 }
 
 pub two_steps : {writes : List Write} {first second both : Type 0} {h k l : Holder} → (both → first) → (both → second) → Step writes first h k → Step writes second k l → Step writes both h l

@@ -1,5 +1,5 @@
 -- What a read of a table that holds gives.
-use Rattle.std.proofs.Common.{◌≡◌, ℕ, ◌<◌, ◌≤◌, Bool, true, false, cond, List, [], ◌∷◌, find, ◌⊎◌, inl, inr, ⊎_elim, refl, sym, ap, ◌∙◌, subst, Option, Some, None, nat_eq, arith}
+use Rattle.std.proofs.Common.{◌≡◌, ℕ, ◌≤◌, Bool, true, false, cond, List, [], ◌∷◌, ◌⊎◌, inl, inr, ⊎_elim, refl, sym, ap, ◌∙◌, subst, Option, Some, None, nat_eq}
 use Rattle.std.proofs.lemmas.Bool.{cases_order, and_parts, false_from_ne_true}
 use Rattle.std.specs.Cmp.Lexicographic.{pointwise}
 use Rattle.sb_types.specs.declared.entry.Slot.{Slot}
@@ -8,9 +8,8 @@ use Rattle.sb_types.specs.declared.entry.Write.{Write}
 use Rattle.sb_types.specs.Value.{Value}
 use Rattle.sb_types.specs.Records.{Entry, Table}
 use Rattle.sb_types.specs.Runs.{Stands, IsTable, are_distinct, entry_at, set_at, shown_of, shown_at}
-use Rattle.sb_types.specs.Writes.{Written, Superseded, Gone, Tells, Holds}
+use Rattle.sb_types.specs.Writes.{Written, Superseded, Gone, Holds}
 use Rattle.sb_holdings.proofs.Lists.{same_text, text_same, not_there}
-use Rattle.sb_holdings.proofs.Order.{run_one}
 use Rattle.sb_holdings.proofs.Telling.{one_write, same_parts}
 
 first_found : (b : Bool) (x : Entry) (o : Option Entry) (e : Entry) → cond b (Some x) o ≡ Some e → ((b ≡ true) × (x ≡ e)) ⊎ (o ≡ Some e)
@@ -22,8 +21,8 @@ found_stands : (key : List ℕ) (es : List Entry) (e : Entry) → entry_at key e
 found_stands key [] e f = absurd (cc)
 found_stands key (x ∷ xs) e f =
     ⊎_elim (λ h. (inl h.1, sym (ap (λ (y : Entry). y.key) h.1) ∙ same_text x.key key h.0))
-      (λ r. let k = found_stands key xs e r in (inr k.0, k.1))
-      (first_found (pointwise nat_eq x.key key) x (entry_at key xs) e f)
+    (λ r. let k = found_stands key xs e r in (inr k.0, k.1))
+    (first_found (pointwise nat_eq x.key key) x (entry_at key xs) e f)
 
 -- and what stands is found
 stands_found : (es : List Entry) (e : Entry) → are_distinct es ≡ true → Stands es e → entry_at e.key es ≡ Some e
@@ -62,12 +61,12 @@ module _ (writes : List Write) (t : Table) (e : Entry) (i : IsTable t) (h : Hold
       marker x f =
           let s = found_stands e.key t.entries x f in
           ⊎_elim
-            (λ same. ap (λ (y : Entry). y.slot) (one_write x e (h.true_each x s.0) w same) ∙ g.0)
-            (λ apart. absurd (⊎_elim (λ older. last (h.past e x w g s.0 s.1 older)) (λ newer. last (x, h.true_each x s.0, s.1, newer)) apart))
-            (cases_order x.version e.version)
+          (λ same. ap (λ (y : Entry). y.slot) (one_write x e (h.true_each x s.0) w same) ∙ g.0)
+          (λ apart. absurd (⊎_elim (λ older. last (h.past e x w g s.0 s.1 older)) (λ newer. last (x, h.true_each x s.0, s.1, newer)) apart))
+          (cases_order x.version e.version)
 
   pub read_exact : e.version ≤ t.held → shown_at e.key t.entries ≡ set_at e.version e.slot
   read_exact l = ⊎_elim
-    (λ s. ap shown_of (stands_found t.entries e i.run.distinct s))
-    (λ rest. ⊎_elim (λ s. absurd (last s)) read_gone rest)
-    (h.whole e w w.counted l)
+      (λ s. ap shown_of (stands_found t.entries e i.run.distinct s))
+      (λ rest. ⊎_elim (λ s. absurd (last s)) read_gone rest)
+      (h.whole e w w.counted l)

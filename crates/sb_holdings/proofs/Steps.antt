@@ -1,14 +1,14 @@
 -- What one event does to what is held of one owner.
-use Rattle.std.proofs.Common.{◌≡◌, ℕ, zero, suc, ◌+◌, ◌<◌, ◌≤◌, max, true, false, cond, List, [], ◌∷◌, length, ◌⊎◌, inl, inr, ⊎_elim, refl, sym, ap, subst, ◌∙◌, Option, Some, None, IfSome, nat_lt, nat_le, nat_eq, arith, ltb-true, leb-true, eqb-true, ltb-false, lt-ltb}
+use Rattle.std.proofs.Common.{◌≡◌, ℕ, zero, suc, ◌+◌, ◌<◌, ◌≤◌, max, true, cond, List, [], ◌∷◌, length, inl, inr, ⊎_elim, refl, sym, ap, subst, ◌∙◌, Option, Some, None, IfSome, nat_lt, nat_le, nat_eq, arith, ltb-true, leb-true, eqb-true, lt-ltb}
 use Rattle.std.proofs.lemmas.Bool.{and_parts, and_from, cond_both}
 use Rattle.sb_types.specs.declared.entry.Write.{Write}
 use Rattle.sb_types.specs.Records.{Entry, Table, Stage, Block, Holder}
-use Rattle.sb_types.specs.Runs.{Stands, live, above, entered, is_set, IsRun, IsTable, IsBlock}
-use Rattle.sb_types.specs.Writes.{Written, Tells, Holds, HoldsStage, Honest, IsHolder, HolderHolds}
+use Rattle.sb_types.specs.Runs.{live, above, entered, IsRun, IsBlock}
+use Rattle.sb_types.specs.Writes.{Written, Tells, HoldsStage, Honest, IsHolder, HolderHolds}
 use Rattle.sb_holdings.specs.declared.ends.BlockEnd.{BlockEnd}
 use Rattle.sb_holdings.specs.declared.ends.BlockEnd.TheVariants.{Own, OwnAhead, Gap, Stale, OwnersFull, Taken, TooManyKeys, NoMemory}
 use Rattle.sb_holdings.specs.Blocks.{part_above, front}
-use Rattle.sb_holdings.specs.Shown.{joined, joins_shown, stage_beyond, shown_with, pushed, own}
+use Rattle.sb_holdings.specs.Shown.{joins_shown, stage_beyond, shown_with, pushed, own}
 use Rattle.sb_holdings.specs.Stages.{new_stage, goes_on, begins, stage_for, stage_with, swapped, settled, staged_all, staged_front, staged_refused}
 use Rattle.sb_holdings.specs.Taken.{routed, treat}
 use Rattle.sb_holdings.specs.Progress.{Onward}
@@ -44,8 +44,8 @@ beyond_holds writes held (Some s) p = cond_both (nat_lt held s.floor) (Some s) N
 joined_tells : {writes : List Write} {before floor held upto : ℕ} {entries others : List Entry} → IsRun 0 held entries → IsRun held upto others → before ≤ held → floor ≤ held → Tells writes before 0 held entries → Tells writes floor held upto others → Tells writes (max before floor) 0 upto (entered (live (max before floor) entries) others)
 joined_tells {before = before} {floor = floor} r q l m t n =
     tells_entered (run_kept _ r) q
-      (tells_live (tells_raised (max before floor) (omega arith) (omega arith) r t))
-      (tells_raised_below (max before floor) (omega arith) (omega arith) q n)
+    (tells_live (tells_raised (max before floor) (omega arith) (omega arith) r t))
+    (tells_raised_below (max before floor) (omega arith) (omega arith) q n)
 
 pub shown_step : (writes : List Write) (h : Holder) (b p : Block) → IsHolder h → IsPart b h.shown.held p → b.floor ≤ h.shown.held → Step writes (Honest writes b) h (shown_with h p)
 shown_step writes h b p i part l = record {
@@ -84,23 +84,23 @@ pub own_step : (writes : List Write) (h : Holder) (e : Entry) → IsHolder h →
 own_step writes h e i = cond_both (nat_eq e.version (h.shown.held + 1)) _ h (Step writes (Written writes e) h) (λ is. next (eqb-true e.version (h.shown.held + 1) is)) (λ _. unchanged i)
   where
     next : e.version ≡ h.shown.held + 1 → Step writes (Written writes e) h (record { shown = pushed h.shown e; stage = stage_beyond e.version h.stage })
-    next v = 
-      let l : h.shown.held < e.version = omega arith in
-      let one = one_run h.shown.held e l in
-      record {
-        is = record {
-          shown = record { run = run_entered i.shown.run one; floor = omega (arith, i.shown.floor) };
-          stage = beyond_is h.shown.held e.version h.stage i.stage;
-        };
-        onward = record {
-          held = omega arith;
-          each = λ x s. ⊎_elim inl (λ new. inr (run_after x one new)) (of_entered h.shown.entries (e ∷ []) x s);
-        };
-        holds = λ w t. record {
-          shown = tells_entered i.shown.run one t.shown (one_tells h.shown.floor h.shown.held e i.shown.floor v w);
-          stage = beyond_holds writes e.version h.stage t.stage;
-        };
-      }
+    next v =
+        let l : h.shown.held < e.version = omega arith in
+        let one = one_run h.shown.held e l in
+        record {
+          is = record {
+            shown = record { run = run_entered i.shown.run one; floor = omega (arith, i.shown.floor) };
+            stage = beyond_is h.shown.held e.version h.stage i.stage;
+          };
+          onward = record {
+            held = omega arith;
+            each = λ x s. ⊎_elim inl (λ new. inr (run_after x one new)) (of_entered h.shown.entries (e ∷ []) x s);
+          };
+          holds = λ w t. record {
+            shown = tells_entered i.shown.run one t.shown (one_tells h.shown.floor h.shown.held e i.shown.floor v w);
+            stage = beyond_holds writes e.version h.stage t.stage;
+          };
+        }
 
 -- ---- to the stage
 
@@ -157,8 +157,8 @@ module _ (h : Holder) (b : Block) (i : IsHolder h) (is : IsBlock b) (beyond : h.
   stage_joins None e = begins_joins
   stage_joins (Some s) e =
       cond_both (goes_on s b) (Some s) (cond (nat_lt s.floor b.floor) (begins b) None) (λ o. IfSome o (Joins h b))
-        (goes_on_joins s e)
-        (λ _. cond_both (nat_lt s.floor b.floor) (begins b) None (λ o. IfSome o (Joins h b)) (λ _. begins_joins) (λ _. tt))
+      (goes_on_joins s e)
+      (λ _. cond_both (nat_lt s.floor b.floor) (begins b) None (λ o. IfSome o (Joins h b)) (λ _. begins_joins) (λ _. tt))
 
 dropped : {writes : List Write} {assumed : Type 0} (h : Holder) → IsHolder h → Step writes assumed h (record { shown = h.shown; stage = None })
 dropped h i = record {
@@ -227,14 +227,14 @@ module _ (writes : List Write) (h : Holder) (b : Block) (i : IsHolder h) (is : I
       Step writes (Honest writes b) h (routed h b (shown_with h p) staged)
   routed_step p staged to_shown to_stage =
       cond_both (joins_shown h.shown b) (shown_with h p) _ (Step writes (Honest writes b) h)
-        (λ joins.
-          let parts = and_parts _ _ joins in
-          let more = and_parts _ _ parts.1 in
-          let new = ltb-true h.shown.held b.upto more.1 in
-          shown_step writes h b p i (to_shown (leb-true b.after h.shown.held more.0) (omega (arith, new))) (leb-true b.floor h.shown.held parts.0))
-        (λ _. cond_both (nat_lt h.shown.held b.floor) _ h (Step writes (Honest writes b) h)
-          (λ beyond. to_stage (stage_for h.stage b) (stage_joins h b i is (ltb-true h.shown.held b.floor beyond) h.stage refl))
-          (λ _. unchanged i))
+      (λ joins.
+      let parts = and_parts _ _ joins in
+      let more = and_parts _ _ parts.1 in
+      let new = ltb-true h.shown.held b.upto more.1 in
+      shown_step writes h b p i (to_shown (leb-true b.after h.shown.held more.0) (omega (arith, new))) (leb-true b.floor h.shown.held parts.0))
+      (λ _. cond_both (nat_lt h.shown.held b.floor) _ h (Step writes (Honest writes b) h)
+      (λ beyond. to_stage (stage_for h.stage b) (stage_joins h b i is (ltb-true h.shown.held b.floor beyond) h.stage refl))
+      (λ _. unchanged i))
 
   pub treat_step : (end : BlockEnd) → Step writes (Honest writes b) h (treat h b end)
   treat_step Own = unchanged i

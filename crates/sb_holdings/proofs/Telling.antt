@@ -1,15 +1,13 @@
 -- What follows of what entries tell: for parts of them, for a higher floor, and for entries entered.
-use Rattle.std.proofs.Common.{◌≡◌, ℕ, suc, zero, ◌<◌, ◌≤◌, ◌-◌, List, [], ◌∷◌, ◌++◌, length, take, ◌⊎◌, inl, inr, ⊎_elim, refl, sym, ap, ◌∙◌, Some, slice_get, arith}
+use Rattle.std.proofs.Common.{◌≡◌, ℕ, ◌<◌, ◌≤◌, ◌-◌, List, length, take, ◌⊎◌, inl, inr, ⊎_elim, ap, Some, slice_get, arith}
 use Rattle.std.proofs.lemmas.Option.{slice_get_within}
 use Rattle.std.proofs.lemmas.Bool.{cases_lt}
-use Rattle.sb_types.specs.declared.entry.Slot.{Slot}
-use Rattle.sb_types.specs.declared.entry.Slot.TheVariants.{Removed}
 use Rattle.sb_types.specs.declared.entry.Write.{Write}
 use Rattle.sb_types.specs.Records.{Entry}
-use Rattle.sb_types.specs.Runs.{Stands, are_ascending, last_version, above, within, only, live, entered, IsRun}
+use Rattle.sb_types.specs.Runs.{Stands, last_version, above, live, entered, IsRun}
 use Rattle.sb_types.specs.Writes.{Written, Superseded, Gone, Tells}
-use Rattle.sb_holdings.proofs.Lists.{left, right, either, taken, in_above, of_above, in_within, of_within, in_only, of_only, in_live, of_live, in_entered, of_entered}
-use Rattle.sb_holdings.proofs.Order.{front_whole, greatest, run_after, run_upto, run_one, run_order, front_most}
+use Rattle.sb_holdings.proofs.Lists.{right, taken, in_above, of_above, in_live, of_live, in_entered, of_entered}
+use Rattle.sb_holdings.proofs.Order.{front_whole, run_after, run_one, run_order, front_most}
 
 -- ---- writes
 
@@ -66,9 +64,9 @@ tells_raised {writes} {floor} {upto} {entries} to l m r t = record {
   true_each = t.true_each;
   whole = λ e w lo hi. ⊎_elim inl (λ q. ⊎_elim (λ s. inr (inl s)) (λ g. inr (inr (g.0, omega (arith, g.1)))) q) (t.whole e w lo hi);
   past = λ e x w g s k o. ⊎_elim
-    (λ there. absurd (omega (arith, o, ap (λ (y : Entry). y.version) (run_one x e r s there k))))
-    (λ q. ⊎_elim (λ super. super) (λ gone. t.past e x w gone s k o) q)
-    (t.whole e w w.counted (omega (arith, g.1)));
+      (λ there. absurd (omega (arith, o, ap (λ (y : Entry). y.version) (run_one x e r s there k))))
+      (λ q. ⊎_elim (λ super. super) (λ gone. t.past e x w gone s k o) q)
+      (t.whole e w w.counted (omega (arith, g.1)));
 }
 
 -- and as far as nothing is told yet
@@ -88,9 +86,9 @@ tells_entered {writes} {floor} {after} {between} {upto} {entries} {others} r q t
   reach_floor = n.reach_floor;
   true_each = λ e s. ⊎_elim (t.true_each e) (n.true_each e) (of_entered entries others e s);
   whole = λ e w lo hi. ⊎_elim
-    (λ new. ⊎_elim (λ s. inl (right _ others e s)) inr (n.whole e w new hi))
-    (λ old. ⊎_elim (λ s. replaced e old (in_entered entries others e s)) inr (t.whole e w lo old))
-    (cases_lt between e.version);
+      (λ new. ⊎_elim (λ s. inl (right _ others e s)) inr (n.whole e w new hi))
+      (λ old. ⊎_elim (λ s. replaced e old (in_entered entries others e s)) inr (t.whole e w lo old))
+      (cases_lt between e.version);
   past = λ e x w g s k o. ⊎_elim (λ old. t.past e x w g old k o) (λ new. n.past e x w g new k o) (of_entered entries others x s);
 }
   where

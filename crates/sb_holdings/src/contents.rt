@@ -10,5 +10,4 @@ ghost use Rattle.sb_holdings.specs.Contents.{content_table};
 pub fn contents_hold()
     ensures holds { (writes : List Write) (floor : ℕ) → floor ≤ length writes → Holds writes (content_table floor writes) }
     ensures is { (writes : List Write) (floor : ℕ) → floor ≤ length writes → IsTable (content_table floor writes) }
-{
-}
+{}

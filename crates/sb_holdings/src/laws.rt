@@ -17,34 +17,29 @@ ghost use Rattle.sb_holdings.specs.ByVersion.{TellsByVersion};
 pub fn truth_lasts()
     ensures table { (writes more : List Write) (t : Table) → Holds writes t → Holds (writes ++ more) t }
     ensures block { (writes more : List Write) (b : Block) → Honest writes b → Honest (writes ++ more) b }
-{
-}
+{}
 
 /// To enter entries one by one, each in place of its key's, is to enter them at once.
 pub fn one_by_one()
     ensures { (entries others : List Entry) → are_distinct others ≡ true → entered_each entries others ≡ entered entries others }
-{
-}
+{}
 
 /// What is held stays true, whichever honest block comes and whatever its end.
 pub fn blocks_keep_truth()
     ensures holds { (writes : List Write) (h : Holder) (b : Block) (end : BlockEnd) → IsHolder h → IsBlock b → HolderHolds writes h → Honest writes b → HolderHolds writes (treat h b end) }
     ensures is { (h : Holder) (b : Block) (end : BlockEnd) → IsHolder h → IsBlock b → IsHolder (treat h b end) }
-{
-}
+{}
 
 /// Over any events, honest or not, held does not fall and no key's version does.
 pub fn nothing_goes_back()
     ensures later { (h : Holder) (events : List Event) → IsHolder h → ((event : Event) → Stands events event → IsEvent event) → Later h.shown (replay h events).shown }
     ensures is { (h : Holder) (events : List Event) → IsHolder h → ((event : Event) → Stands events event → IsEvent event) → IsHolder (replay h events) }
-{
-}
+{}
 
 /// What honest blocks and committed writes leave of an owner is true.
 pub fn replays_hold()
     ensures { (writes : List Write) (h : Holder) (events : List Event) → IsHolder h → HolderHolds writes h → ((event : Event) → Stands events event → IsEvent event × TrueEvent writes event) → HolderHolds writes (replay h events) }
-{
-}
+{}
 
 /// Over a node's whole run, what honest blocks and committed writes leave of each owner is true; and whatever
 /// blocks come, held does not fall for any owner and no key's version does.
@@ -52,11 +47,9 @@ pub fn nodes_hold()
     ensures holds { (writes : List ℕ → List Write) (node : Node) (events : List NodeEvent) → IsNode node → NodeHolds writes node → ((event : NodeEvent) → Stands events event → IsNodeEvent event × TrueAt writes node.me event) → NodeHolds writes (replay_at node events) }
     ensures later { (node : Node) (events : List NodeEvent) → IsNode node → ((event : NodeEvent) → Stands events event → IsNodeEvent event) → (owner : List ℕ) → Later (holder_of node.owners owner).shown (holder_of (replay_at node events).owners owner).shown }
     ensures is { (node : Node) (events : List NodeEvent) → IsNode node → ((event : NodeEvent) → Stands events event → IsNodeEvent event) → IsNode (replay_at node events) }
-{
-}
+{}
 
 /// The two ways to say what entries tell of writes are one: entry by entry, and version by version.
 pub fn one_meaning()
     ensures { (writes : List Write) (floor after upto : ℕ) (entries : List Entry) → Tells writes floor after upto entries ↔ TellsByVersion writes floor after upto entries }
-{
-}
+{}

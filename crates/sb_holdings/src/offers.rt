@@ -11,11 +11,9 @@ ghost use Rattle.sb_holdings.specs.Offers.{Item, of_owner, items_of, block_of, a
 pub fn offers_are_honest()
     ensures offered { (writes : List Write) (t : Table) (number : ℕ) (owner : List ℕ) (front rest : List Item) (first : Item) → IsTable t → Holds writes t → of_owner owner (front ++ rest) ≡ items_of owner t number → Stands (of_owner owner front) first → Honest writes (block_of owner front rest) }
     ensures is { (t : Table) (number : ℕ) (owner : List ℕ) (front rest : List Item) (first : Item) → IsTable t → of_owner owner (front ++ rest) ≡ items_of owner t number → Stands (of_owner owner front) first → IsBlock (block_of owner front rest) }
-{
-}
+{}
 
 /// Of each covered owner exactly its items are available, in ascending version.
 pub fn available_by_owner()
     ensures { (covers : List ℕ → Bool) (number : List ℕ → Table → ℕ) (owners : List (List ℕ × Holder)) (p : List ℕ × Holder) → are_named_once owners ≡ true → Stands owners p → covers p.0 ≡ true → of_owner p.0 (available covers number owners) ≡ items_of p.0 p.1.shown (number p.0 p.1.shown) }
-{
-}
+{}
