@@ -4,6 +4,9 @@ pub mod Telling
 pub mod Swapping
 pub mod Parts
 pub mod Steps
+pub mod Joining
+pub mod Staging
+pub mod Treating
 pub mod Replays
 pub mod Nodes
 pub mod Lasting

@@ -13,10 +13,11 @@ use Rattle.sb_types.specs.Runs.{Stands}
 use Rattle.sb_types.specs.Writes.{Honest, IsHolder}
 use Rattle.sb_holdings.specs.declared.ends.BlockEnd.{BlockEnd}
 use Rattle.sb_holdings.specs.declared.ends.BlockEnd.TheVariants.{Own, OwnAhead, Gap, Stale, OwnersFull, Taken, TooManyKeys, NoMemory}
-use Rattle.sb_holdings.specs.Nodes.{Node, nothing, is_nothing, holder_of, with_holder, taken, NodeEvent, Wrote, Took, happens_at, replay_at, IsNodeEvent, TrueAt, IsNode}
+use Rattle.sb_holdings.specs.Nodes.{Node, nothing, is_nothing, holder_of, with_holder, taken, NodeEvent, Wrote, Took, happens_at, replay_at, IsNodeEvent, TrueAt, AreNodeEvents, AllTrueAt, IsNode}
 use Rattle.sb_holdings.proofs.Lists.{same_text}
-use Rattle.sb_holdings.proofs.Steps.{Step, unchanged, own_step, treat_step}
-use Rattle.sb_holdings.proofs.Replays.{two_steps}
+use Rattle.sb_holdings.proofs.Steps.{Step, unchanged, two_steps}
+use Rattle.sb_holdings.proofs.Joining.{own_step}
+use Rattle.sb_holdings.proofs.Treating.{treat_step}
 
 -- ---- the map of owners
 
@@ -98,8 +99,8 @@ same_me node (Took b (Taken n)) = same_me_taken node b (Taken n)
 same_me node (Took b (TooManyKeys n)) = same_me_taken node b (TooManyKeys n)
 same_me node (Took b (NoMemory n)) = same_me_taken node b (NoMemory n)
 
-pub replay_at_step : (writes : List ℕ → List Write) (node : Node) (events : List NodeEvent) → IsNode node → ((event : NodeEvent) → Stands events event → IsNodeEvent event) → (q : List ℕ) →
-    Step (writes q) ((event : NodeEvent) → Stands events event → TrueAt writes node.me event) (holder_of node.owners q) (holder_of (replay_at node events).owners q)
+pub replay_at_step : (writes : List ℕ → List Write) (node : Node) (events : List NodeEvent) → IsNode node → AreNodeEvents events → (q : List ℕ) →
+    Step (writes q) (AllTrueAt writes node.me events) (holder_of node.owners q) (holder_of (replay_at node events).owners q)
 replay_at_step writes node [] is each q = unchanged (is q)
 replay_at_step writes node (event ∷ events) is each q =
     let one = happens_at_step writes node is event (each event (inl refl)) in

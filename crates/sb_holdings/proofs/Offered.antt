@@ -1,6 +1,6 @@
 -- The blocks of a front of what is offered, and what is available of each owner.
 use Rattle.std.proofs.Common.{◌≡◌, ℕ, suc, ◌<◌, Bool, true, false, List, [], ◌∷◌, ◌++◌, map, take, drop, length, filter, inl, inr, ⊎_elim, refl, sym, ap, ap₂, ◌∙◌, subst, subst₂, Some, None, nat_eq, nat_lt, arith, ltb-true, lt-ltb, if◌then◌else◌, append-nil, take-append-drop}
-use Rattle.std.proofs.lemmas.Bool.{and_parts, cond_both, or_left, or_right, or_parts, not-true, false≢true, false_from_ne_true}
+use Rattle.std.proofs.lemmas.Bool.{and_parts, cond_both, or_left, or_right, or_parts, not-true, false≢true, true≢false, false_from_ne_true}
 use Rattle.std.proofs.lemmas.List.{take-map, drop-map, take_at, drop_at}
 use Rattle.std.proofs.lemmas.List.Elements.{filter-append}
 use Rattle.std.specs.Cmp.Lexicographic.{pointwise}
@@ -132,13 +132,27 @@ module _ (covers : List ℕ → Bool) (number : List ℕ → Table → ℕ) wher
   unfolding offered_of
   other_offer p q other = cond_both (covers p.0) _ [] (λ items. of_owner q items ≡ []) (λ _. of_another p.0 p.1.shown (number p.0 p.1.shown) q other) (λ _. refl)
 
-  unnamed : (ps : List (List ℕ × Holder)) (q : List ℕ) → is_named q ps ≡ false → of_owner q (available covers number ps) ≡ []
+  pub unnamed : (ps : List (List ℕ × Holder)) (q : List ℕ) → is_named q ps ≡ false → of_owner q (available covers number ps) ≡ []
   unfolding offered_of
   unnamed [] q h = refl
   unnamed (p ∷ ps) q h =
       let parts = or_parts (pointwise nat_eq p.0 q) (is_named q ps) h in
       filter-append (λ item. pointwise nat_eq item.owner q) (offered_of p) (available covers number ps)
       ∙ ap₂ (λ a b. a ++ b) (other_offer p q parts.0) (unnamed ps q parts.1)
+
+  uncovered_offer : (p : List ℕ × Holder) (q : List ℕ) → covers q ≡ false → of_owner q (offered_of p) ≡ []
+  unfolding offered_of
+  uncovered_offer p q none =
+      cond_both (covers p.0) _ [] (λ items. of_owner q items ≡ [])
+      (λ covered. of_another p.0 p.1.shown (number p.0 p.1.shown) q (false_from_ne_true _ (λ t. true≢false (sym covered ∙ ap covers (same_text p.0 q t) ∙ none))))
+      (λ _. refl)
+
+  pub uncovered : (ps : List (List ℕ × Holder)) (q : List ℕ) → covers q ≡ false → of_owner q (available covers number ps) ≡ []
+  unfolding offered_of
+  uncovered [] q none = refl
+  uncovered (p ∷ ps) q none =
+      filter-append (λ item. pointwise nat_eq item.owner q) (offered_of p) (available covers number ps)
+      ∙ ap₂ (λ a b. a ++ b) (uncovered_offer p q none) (uncovered ps q none)
 
   own_offer : (p : List ℕ × Holder) → covers p.0 ≡ true → of_owner p.0 (offered_of p) ≡ items_of p.0 p.1.shown (number p.0 p.1.shown)
   unfolding offered_of

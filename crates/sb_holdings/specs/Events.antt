@@ -2,7 +2,7 @@
 use Rattle.std.specs.Prelude.{List, [], ◌∷◌}
 use Rattle.sb_types.specs.declared.entry.Write.{Write}
 use Rattle.sb_types.specs.Records.{Entry, Block, Holder}
-use Rattle.sb_types.specs.Runs.{IsBlock}
+use Rattle.sb_types.specs.Runs.{Stands, IsBlock}
 use Rattle.sb_types.specs.Writes.{Written, Honest}
 use Rattle.sb_holdings.specs.declared.ends.BlockEnd.{BlockEnd}
 use Rattle.sb_holdings.specs.Shown.{own}
@@ -29,3 +29,9 @@ IsEvent (Came b end) = IsBlock b
 abbrev pub TrueEvent : List Write → Event → Type 0
 TrueEvent writes (Owned e) = Written writes e
 TrueEvent writes (Came b end) = Honest writes b
+
+abbrev pub AreEvents : List Event → Type 0
+AreEvents events = (event : Event) → Stands events event → IsEvent event
+
+abbrev pub AllTrue : List Write → List Event → Type 0
+AllTrue writes events = (event : Event) → Stands events event → TrueEvent writes event

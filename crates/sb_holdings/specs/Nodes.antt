@@ -5,12 +5,13 @@ use Rattle.std.specs.Cmp.Lexicographic.{slice_cmp, pointwise}
 use Rattle.std.specs.FinMap.{FinMap, get, insert, remove}
 use Rattle.sb_types.specs.declared.entry.Write.{Write}
 use Rattle.sb_types.specs.Records.{Entry, Block, Holder}
-use Rattle.sb_types.specs.Runs.{IsBlock}
+use Rattle.sb_types.specs.Runs.{Stands, IsBlock}
 use Rattle.sb_types.specs.Writes.{Written, Honest, IsHolder, HolderHolds}
 use Rattle.sb_holdings.specs.declared.ends.BlockEnd.{BlockEnd}
 use Rattle.sb_holdings.specs.declared.ends.BlockEnd.TheVariants.{Own, OwnAhead, Gap, Stale, OwnersFull, Taken, TooManyKeys, NoMemory}
 use Rattle.sb_holdings.specs.Shown.{own}
 use Rattle.sb_holdings.specs.Taken.{treat}
+use Rattle.sb_holdings.specs.Progress.{Later}
 
 -- the node's own name, what it holds of each owner, and the greatest version under its name that it did not write
 pub record Node : Type 0 where
@@ -74,8 +75,18 @@ abbrev pub TrueAt : (List ℕ → List Write) → List ℕ → NodeEvent → Typ
 TrueAt writes me (Wrote e) = Written (writes me) e
 TrueAt writes me (Took b end) = Honest (writes b.owner) b
 
+abbrev pub AreNodeEvents : List NodeEvent → Type 0
+AreNodeEvents events = (event : NodeEvent) → Stands events event → IsNodeEvent event
+
+abbrev pub AllTrueAt : (List ℕ → List Write) → List ℕ → List NodeEvent → Type 0
+AllTrueAt writes me events = (event : NodeEvent) → Stands events event → TrueAt writes me event
+
 abbrev pub IsNode : Node → Type 0
 IsNode node = (owner : List ℕ) → IsHolder (holder_of node.owners owner)
 
 abbrev pub NodeHolds : (List ℕ → List Write) → Node → Type 0
 NodeHolds writes node = (owner : List ℕ) → HolderHolds (writes owner) (holder_of node.owners owner)
+
+-- of no owner does what is known go back
+abbrev pub NodeLater : Node → Node → Type 0
+NodeLater old new = (owner : List ℕ) → Later (holder_of old.owners owner).shown (holder_of new.owners owner).shown

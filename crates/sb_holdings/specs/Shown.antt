@@ -20,9 +20,9 @@ abbrev pub shown_with : Holder → Block → Holder
 shown_with h b = record { shown = joined h.shown b; stage = stage_beyond b.upto h.stage }
 
 -- one more entry, in place of its key's
-abbrev pub pushed : Table → Entry → Table
-pushed t e = record { held = e.version; floor = t.floor; entries = entered t.entries (e ∷ []) }
+abbrev pub with_entry : Table → Entry → Table
+with_entry t e = record { held = e.version; floor = t.floor; entries = entered t.entries (e ∷ []) }
 
 -- the owner's own write, where it is the next; another changes nothing
 abbrev pub own : Holder → Entry → Holder
-own h e = if nat_eq e.version (h.shown.held + 1) then record { shown = pushed h.shown e; stage = stage_beyond e.version h.stage } else h
+own h e = if nat_eq e.version (h.shown.held + 1) then record { shown = with_entry h.shown e; stage = stage_beyond e.version h.stage } else h

@@ -3,13 +3,13 @@
 ghost use Rattle.std.specs.Prelude.{◌≡◌, ℕ, true, List, ◌++◌, ◌↔◌};
 ghost use Rattle.sb_types.specs.declared.entry.Write.{Write};
 ghost use Rattle.sb_types.specs.Records.{Entry, Table, Block, Holder};
-ghost use Rattle.sb_types.specs.Runs.{Stands, are_distinct, entered, IsBlock};
+ghost use Rattle.sb_types.specs.Runs.{are_distinct, entered, IsBlock};
 ghost use Rattle.sb_types.specs.Writes.{Tells, Holds, Honest, IsHolder, HolderHolds};
 ghost use Rattle.sb_holdings.specs.declared.ends.BlockEnd.{BlockEnd};
 ghost use Rattle.sb_holdings.specs.Taken.{treat};
-ghost use Rattle.sb_holdings.specs.Events.{Event, replay, IsEvent, TrueEvent};
+ghost use Rattle.sb_holdings.specs.Events.{Event, replay, AreEvents, AllTrue};
 ghost use Rattle.sb_holdings.specs.Progress.{Later};
-ghost use Rattle.sb_holdings.specs.Nodes.{Node, NodeEvent, IsNodeEvent, TrueAt, IsNode, NodeHolds, holder_of, replay_at};
+ghost use Rattle.sb_holdings.specs.Nodes.{Node, NodeEvent, replay_at, AreNodeEvents, AllTrueAt, IsNode, NodeHolds, NodeLater};
 ghost use Rattle.sb_holdings.specs.Entering.{entered_each};
 ghost use Rattle.sb_holdings.specs.ByVersion.{TellsByVersion};
 
@@ -26,30 +26,34 @@ pub fn one_by_one()
 
 /// What is held stays true, whichever honest block comes and whatever its end.
 pub fn blocks_keep_truth()
-    ensures holds { (writes : List Write) (h : Holder) (b : Block) (end : BlockEnd) → IsHolder h → IsBlock b → HolderHolds writes h → Honest writes b → HolderHolds writes (treat h b end) }
+    ensures holds { (writes : List Write) (h : Holder) (b : Block) (end : BlockEnd) →
+        IsHolder h → IsBlock b → HolderHolds writes h → Honest writes b → HolderHolds writes (treat h b end) }
     ensures is { (h : Holder) (b : Block) (end : BlockEnd) → IsHolder h → IsBlock b → IsHolder (treat h b end) }
 {}
 
 /// Over any events, honest or not, held does not fall and no key's version does.
 pub fn nothing_goes_back()
-    ensures later { (h : Holder) (events : List Event) → IsHolder h → ((event : Event) → Stands events event → IsEvent event) → Later h.shown (replay h events).shown }
-    ensures is { (h : Holder) (events : List Event) → IsHolder h → ((event : Event) → Stands events event → IsEvent event) → IsHolder (replay h events) }
+    ensures later { (h : Holder) (events : List Event) → IsHolder h → AreEvents events → Later h.shown (replay h events).shown }
+    ensures is { (h : Holder) (events : List Event) → IsHolder h → AreEvents events → IsHolder (replay h events) }
 {}
 
 /// What honest blocks and committed writes leave of an owner is true.
 pub fn replays_hold()
-    ensures { (writes : List Write) (h : Holder) (events : List Event) → IsHolder h → HolderHolds writes h → ((event : Event) → Stands events event → IsEvent event × TrueEvent writes event) → HolderHolds writes (replay h events) }
+    ensures { (writes : List Write) (h : Holder) (events : List Event) →
+        IsHolder h → AreEvents events → HolderHolds writes h → AllTrue writes events → HolderHolds writes (replay h events) }
 {}
 
 /// Over a node's whole run, what honest blocks and committed writes leave of each owner is true; and whatever
 /// blocks come, held does not fall for any owner and no key's version does.
 pub fn nodes_hold()
-    ensures holds { (writes : List ℕ → List Write) (node : Node) (events : List NodeEvent) → IsNode node → NodeHolds writes node → ((event : NodeEvent) → Stands events event → IsNodeEvent event × TrueAt writes node.me event) → NodeHolds writes (replay_at node events) }
-    ensures later { (node : Node) (events : List NodeEvent) → IsNode node → ((event : NodeEvent) → Stands events event → IsNodeEvent event) → (owner : List ℕ) → Later (holder_of node.owners owner).shown (holder_of (replay_at node events).owners owner).shown }
-    ensures is { (node : Node) (events : List NodeEvent) → IsNode node → ((event : NodeEvent) → Stands events event → IsNodeEvent event) → IsNode (replay_at node events) }
+    ensures holds { (writes : List ℕ → List Write) (node : Node) (events : List NodeEvent) →
+        IsNode node → AreNodeEvents events → NodeHolds writes node → AllTrueAt writes node.me events → NodeHolds writes (replay_at node events) }
+    ensures later { (node : Node) (events : List NodeEvent) → IsNode node → AreNodeEvents events → NodeLater node (replay_at node events) }
+    ensures is { (node : Node) (events : List NodeEvent) → IsNode node → AreNodeEvents events → IsNode (replay_at node events) }
 {}
 
 /// The two ways to say what entries tell of writes are one: entry by entry, and version by version.
 pub fn one_meaning()
-    ensures { (writes : List Write) (floor after upto : ℕ) (entries : List Entry) → Tells writes floor after upto entries ↔ TellsByVersion writes floor after upto entries }
+    ensures { (writes : List Write) (floor after upto : ℕ) (entries : List Entry) →
+        Tells writes floor after upto entries ↔ TellsByVersion writes floor after upto entries }
 {}

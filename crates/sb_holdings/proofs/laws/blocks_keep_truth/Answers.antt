@@ -1,5 +1,5 @@
 use Rattle.std.proofs.Common.{[]}
-use Rattle.sb_holdings.proofs.Steps.{treat_step}
+use Rattle.sb_holdings.proofs.Treating.{treat_step}
 use Rattle.sb_holdings.proofs.laws.blocks_keep_truth.Goals as goal
 
 pub returns-clause-holds : goal.returns-clause-holds

@@ -1,5 +1,6 @@
 use Rattle.std.proofs.Common.{[]}
-use Rattle.sb_holdings.proofs.Replays.{replay_step, later}
+use Rattle.sb_holdings.proofs.Steps.{later}
+use Rattle.sb_holdings.proofs.Replays.{replay_step}
 use Rattle.sb_holdings.proofs.laws.nothing_goes_back.Goals as goal
 
 pub returns-clause-later : goal.returns-clause-later
