@@ -7,3 +7,4 @@ pub mod Writes
 pub mod Lengths
 pub mod Limits
 pub mod Faults
+pub mod Given

@@ -1,3 +1,13 @@
+ghost use Rattle.std.specs.Prelude.{◌≡◌, true, if◌then◌else◌, Ok, Err};
+ghost use Rattle.sb_types.specs.Text as numbers;
+ghost use Rattle.sb_types.specs.Limits.{are_settings};
+ghost use Rattle.sb_types.specs.Given.{given};
+
+use crate::fault::Fault;
+use crate::limits::{BUDGET_LEAST, BUDGET_MOST, SEATS_MOST, VERSION_MOST, WORKERS_MOST};
+use crate::text::Name;
+use std::marker::Model;
+
 /// In which order a delta lists what is available.
 #[derive(Clone, Copy, Debug, PartialEq, Eq)]
 pub enum Order {
@@ -5,4 +15,126 @@ pub enum Order {
     Breadth,
     /// All of one owner before the next, the owner with most entries first.
     Depth,
+}
+
+/// Settings as they are given, not yet tested.
+#[derive(Clone, Copy, Debug)]
+pub struct RawSettings<'a> {
+    /// The cluster's name.
+    pub cluster: &'a [u8],
+    /// The greatest length of one frame in bytes, 256 to 65,536.
+    pub budget: u64,
+    pub order: Order,
+    /// The greatest version that the owner's log may give, 1 to 2^40 - 1.
+    pub max_version: u64,
+    /// How many readers a directory has, 1 to 64.
+    pub seats: u64,
+    /// How many connections a node serves at once, 1 to 62.
+    pub workers: u64,
+}
+
+/// Settings within their limits.
+#[derive(Clone, Copy, Debug)]
+pub struct Settings {
+    cluster: Name,
+    budget: u64,
+    order: Order,
+    max_version: u64,
+    seats: u64,
+    workers: u64,
+}
+
+impl Model for Settings {
+    ghost use Rattle.std.specs.Prelude.{◌≡◌, true};
+    ghost use Rattle.sb_types.specs.Records as records;
+
+    ghost Value = { records.Settings };
+
+    ghost use Rattle.sb_types.specs.Limits.{are_settings};
+
+    ghost view = { λ s. record { cluster = s.cluster; budget = s.budget; order = s.order; max_version = s.max_version; seats = s.seats; workers = s.workers } };
+
+    ghost invariant = { λ s. are_settings (record { cluster = s.cluster; budget = s.budget; order = s.order; max_version = s.max_version; seats = s.seats; workers = s.workers }) ≡ true };
+
+    ghost inverse = { λ s. record { cluster = s.cluster; budget = s.budget; order = s.order; max_version = s.max_version; seats = s.seats; workers = s.workers } };
+}
+
+fn is_between(least: u64, most: u64, number: u64) -> bool
+    ensures { result ≡ numbers.is_between least most number }
+{
+    least <= number && number <= most
+}
+
+impl Settings {
+    /// The settings, where each is within its limits. `BadSetting` where one is not.
+    pub fn check(raw: RawSettings) -> Result<Settings, Fault>
+        ensures { result ≡ (if are_settings (given raw.entry) then Ok (given raw.entry) else Err Fault.BadSetting) }
+    {
+        let Ok(cluster) = Name::read(raw.cluster) else {
+            return Err(Fault::BadSetting);
+        };
+        if !is_between(BUDGET_LEAST, BUDGET_MOST, raw.budget)
+            || !is_between(1, VERSION_MOST, raw.max_version)
+            || !is_between(1, SEATS_MOST, raw.seats)
+            || !is_between(1, WORKERS_MOST, raw.workers)
+        {
+            return Err(Fault::BadSetting);
+        }
+        Ok(Settings {
+            cluster,
+            budget: raw.budget,
+            order: raw.order,
+            max_version: raw.max_version,
+            seats: raw.seats,
+            workers: raw.workers,
+        })
+    }
+
+    /// The cluster's name.
+    pub fn cluster(&self) -> Name
+        ensures cluster { result ≡ self.now.cluster }
+        ensures settings { are_settings self.now ≡ true }
+    {
+        self.cluster
+    }
+
+    /// The greatest length of one frame in bytes.
+    pub fn budget(&self) -> u64
+        ensures budget { result ≡ self.now.budget }
+        ensures settings { are_settings self.now ≡ true }
+    {
+        self.budget
+    }
+
+    /// The order of what a delta lists.
+    pub fn order(&self) -> Order
+        ensures order { result ≡ self.now.order }
+        ensures settings { are_settings self.now ≡ true }
+    {
+        self.order
+    }
+
+    /// The greatest version that the owner's log gives.
+    pub fn max_version(&self) -> u64
+        ensures version { result ≡ self.now.max_version }
+        ensures settings { are_settings self.now ≡ true }
+    {
+        self.max_version
+    }
+
+    /// How many readers a directory has.
+    pub fn seats(&self) -> u64
+        ensures seats { result ≡ self.now.seats }
+        ensures settings { are_settings self.now ≡ true }
+    {
+        self.seats
+    }
+
+    /// How many connections a node serves at once.
+    pub fn workers(&self) -> u64
+        ensures workers { result ≡ self.now.workers }
+        ensures settings { are_settings self.now ≡ true }
+    {
+        self.workers
+    }
 }

@@ -1,4 +1,4 @@
-ghost use Rattle.std.specs.Prelude.{◌≡◌, ◌≢◌, ◌≤◌, ◌==◌, codes, true, false, if◌then◌else◌, Ok, Err, IfOk, IfErr};
+ghost use Rattle.std.specs.Prelude.{◌≡◌, ◌≢◌, ℕ, ◌≤◌, ◌^◌, nat_lt, Bool, codes, decimal, true, false, if◌then◌else◌, Ok, Err, IfOk, IfErr};
 ghost use Rattle.std.specs.Option.{option_copied};
 ghost use Rattle.std.specs.List.{list_all};
 ghost use Rattle.sb_types.specs.Text.{is_addr, is_addr_byte};
@@ -82,6 +82,22 @@ impl Value {
         }
     }
 
+    /// Reads the two words of a value in a script: `addr TEXT`, `weight N` or `flag true|false`, where N
+    /// is decimal, with no sign and no leading zero. `BadValue` where they are another kind or content;
+    /// then `NoMemory`.
+    pub fn from_words(alloc: Global, kind: &[u8], word: &[u8]) -> Result<Value, Fault>
+        ensures found { IfOk result (λ value. (values.is_value value ≡ true) × (values.words_of value ≡ (kind.now, word.now))) }
+        ensures only { (value : values.Value) → values.is_value value ≡ true → values.words_of value ≡ (kind.now, word.now) → Gives result (Ok value) }
+        ensures fault { IfErr result (λ fault. fault ≢ Fault.NoMemory → fault ≡ Fault.BadValue) }
+    {
+        match kind {
+            b"addr" => Value::addr(alloc, word),
+            b"weight" => read_weight(word),
+            b"flag" => read_flag(word),
+            _ => Err(Fault::BadValue),
+        }
+    }
+
     /// The address, where it is one.
     pub fn as_addr(&self) -> Option<&[u8]>
         ensures text { option_copied result ≡ values.addr_of self.now }
@@ -140,4 +156,33 @@ impl Value {
             Content::Flag(_) => 1,
         }
     }
+}
+
+fn read_flag(word: &[u8]) -> Result<Value, Fault>
+    ensures found { IfOk result (λ value. (values.is_value value ≡ true) × (values.words_of value ≡ (codes "flag", word.now))) }
+    ensures only { (flag : Bool) → values.flag_word flag ≡ word.now → result ≡ Ok (values.Flag flag) }
+    ensures fault { IfErr result (λ fault. fault ≡ Fault.BadValue) }
+{
+    match word {
+        b"true" => Ok(Value::flag(true)),
+        b"false" => Ok(Value::flag(false)),
+        _ => Err(Fault::BadValue),
+    }
+}
+
+fn read_weight(word: &[u8]) -> Result<Value, Fault>
+    ensures found { IfOk result (λ value. (values.is_value value ≡ true) × (values.words_of value ≡ (codes "weight", word.now))) }
+    ensures only { (weight : ℕ) → nat_lt weight (2 ^ 63) ≡ true → decimal weight ≡ word.now → result ≡ Ok (values.Weight weight) }
+    ensures fault { IfErr result (λ fault. fault ≡ Fault.BadValue) }
+{
+    let Ok(text) = str::from_utf8(word) else {
+        return Err(Fault::BadValue);
+    };
+    let Ok(weight) = text.parse::<u64>() else {
+        return Err(Fault::BadValue);
+    };
+    if itoa::Buffer::new().format(weight).as_bytes() != word {
+        return Err(Fault::BadValue);
+    }
+    Value::weight(weight)
 }

@@ -1,4 +1,4 @@
-use Rattle.std.proofs.Common.{◌≡◌, ◌+◌, ◌-◌, ◌++◌, ℕ, List, length, drop, sym, ap, ◌∙◌, arith, take, length-append}
+use Rattle.std.proofs.Common.{◌≡◌, ◌-◌, ◌++◌, ℕ, List, length, drop, sym, ap, ◌∙◌, arith, length-append}
 use Rattle.std.proofs.Math.ListN.{replicate}
 use Rattle.std.proofs.lemmas.List.{drop-replicate, length-replicate, take_at}
 use Rattle.sb_types.proofs.inline.Inline.new.Goals as goal

@@ -1,0 +1,134 @@
+ghost use Rattle.std.specs.Prelude.{◌≡◌, ◌≤◌, ◌+◌, ◌*◌, length, true, if◌then◌else◌, Ok, Err};
+ghost use Rattle.std.specs.List.{list_all};
+ghost use Rattle.sb_types.specs.Runs.{are_ascending};
+ghost use Rattle.sb_types.specs.Lengths.{entries_length, block_length};
+ghost use Rattle.sb_types.specs.Limits.{is_entry, are_block_entries, block_of_entries, is_delta_block};
+
+use crate::distinct::are_keys_distinct;
+use crate::entry::Entry;
+use crate::fault::Fault;
+use crate::limits::ENTRIES_MOST;
+use crate::text::Name;
+use std::marker::Model;
+
+/// A part of one owner's writes: its entries above the version `after`, in ascending version, each key
+/// once. It has 1 to 65,535 entries.
+#[derive(Debug, Drop)]
+pub struct Block {
+    owner: Name,
+    after: u64,
+    entries: Vec<Entry>,
+    /// How many bytes the entries take.
+    length: u64,
+}
+
+impl Model for Block {
+    ghost use Rattle.std.specs.Prelude.{◌≡◌, ◌≤◌, ◌*◌, true};
+    ghost use Rattle.sb_types.specs.Records as records;
+
+    ghost Value = { records.Block };
+
+    ghost use Rattle.sb_types.specs.Lengths.{entries_length};
+    ghost use Rattle.sb_types.specs.Limits.{block_of_entries, is_delta_block};
+
+    ghost view = { λ b. block_of_entries b.owner b.after b.entries.items };
+
+    ghost invariant = { λ b. (is_delta_block (block_of_entries b.owner b.after b.entries.items) ≡ true) × (b.length ≡ entries_length b.entries.items) × (b.length ≤ 203 * 65535) };
+}
+
+fn do_ascend(after: u64, entries: &[Entry]) -> bool
+    ensures { result ≡ are_ascending after entries.now }
+{
+    let mut last = after;
+    for entry in entries {
+        let version = entry.version();
+        if version <= last {
+            return false;
+        }
+        last = version;
+    }
+    true
+}
+
+/// How many bytes the entries take in a message.
+fn length_of(entries: &[Entry]) -> u64
+    requires { length entries.now ≤ ENTRIES_MOST }
+    ensures length { result ≡ entries_length entries.now }
+    ensures each { list_all is_entry entries.now ≡ true }
+    ensures most { result ≤ 203 * length entries.now }
+{
+    let mut total = 0;
+    for entry in entries {
+        total += entry.encoded_length();
+    }
+    total
+}
+
+impl Block {
+    /// A block of these entries. `Malformed(3)`, the entries dropped, where there are none or more than
+    /// 65,535, where a version is not above the one before, the first not above `after`, or where a key
+    /// stands twice. It takes no memory.
+    #[tactic(auto, using(crate::proofs::DistinctKeys::ascending_from_zero))]
+    pub fn new(owner: Name, after: u64, mut entries: Vec<Entry>) -> Result<Block, Fault>
+        ensures { result ≡ (if are_block_entries after entries.items then Ok (block_of_entries owner after entries.items) else Err (Fault.Malformed 3)) }
+    {
+        if entries.is_empty()
+            || entries.len() > ENTRIES_MOST
+            || !do_ascend(after, &entries)
+            || !are_keys_distinct(&mut entries)
+        {
+            return Err(Fault::Malformed(3));
+        }
+        let _ = owner.bytes();
+        let length = length_of(&entries);
+        Ok(Block {
+            owner,
+            after,
+            entries,
+            length,
+        })
+    }
+
+    /// Whose writes these are.
+    pub fn owner(&self) -> &Name
+        ensures owner { result.now ≡ self.now.owner }
+        ensures block { is_delta_block self.now ≡ true }
+    {
+        &self.owner
+    }
+
+    /// The version that the block begins after.
+    pub fn after(&self) -> u64
+        ensures after { result ≡ self.now.after }
+        ensures block { is_delta_block self.now ≡ true }
+    {
+        self.after
+    }
+
+    /// The version that the block reaches: that of its last entry.
+    pub fn upto(&self) -> u64
+        ensures upto { result ≡ self.now.upto }
+        ensures block { is_delta_block self.now ≡ true }
+    {
+        match self.entries() {
+            [.., last] => last.version(),
+            [] => self.after,
+        }
+    }
+
+    pub fn entries(&self) -> &[Entry]
+        ensures entries { result.now ≡ self.now.entries }
+        ensures block { is_delta_block self.now ≡ true }
+    {
+        &self.entries
+    }
+
+    /// How many bytes it takes in a message.
+    pub fn encoded_length(&self) -> u64
+        ensures length { result ≡ block_length self.now }
+        ensures block { is_delta_block self.now ≡ true }
+        ensures most { result ≤ 203 * ENTRIES_MOST + 43 }
+    {
+        self.length + 11 + self.owner.bytes().len() as u64
+    }
+}

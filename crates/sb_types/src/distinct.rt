@@ -1,0 +1,17 @@
+ghost use Rattle.std.specs.Prelude.{◌≡◌, true};
+ghost use Rattle.sb_types.specs.Runs.{are_ascending, are_distinct};
+
+use crate::entry::Entry;
+
+/// Whether no two entries have the same key, of entries in order of version. It takes no memory: the
+/// entries are sorted by key, neighbours compared, and sorted back.
+pub(crate) fn are_keys_distinct(entries: &mut [Entry]) -> bool
+    requires { are_ascending 0 entries.old ≡ true }
+    ensures value { result ≡ are_distinct entries.old }
+    ensures same { entries.new ≡ entries.old }
+{
+    entries.sort_unstable_by(|entry, other| entry.key().cmp(other.key()));
+    let distinct = entries.is_sorted_by(|entry, next| entry.key() < next.key());
+    entries.sort_unstable_by_key(|entry| entry.version());
+    distinct
+}

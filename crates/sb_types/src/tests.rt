@@ -1,0 +1,344 @@
+ghost use Rattle.std.specs.Prelude.{◌≤◌};
+
+use super::*;
+use std::alloc::Global;
+use std::test::Fail;
+
+const MAX_32: &[u8] = b"abcdefghijklmnopqrstuvwxyz-01234";
+
+const MAX_64: &[u8] = b"abcdefghijklmnopqrstuvwxyz012345.bcdefghijklmnopqrstuvwxyz_/-789";
+
+fn entry(alloc: Global, key: &[u8], version: u64, weight: u64) -> Result<Entry, Fault>
+    requires { 1 ≤ version }
+{
+    let slot = Slot::Set(Value::weight(weight)?);
+    let _ = alloc;
+    Ok(Entry::new(Key::read(key)?, version, slot))
+}
+
+#[test]
+fn names_within_their_limits(rt: HostRuntime) -> Result<(), Fail> {
+    assert_eq!(rt; Name::read(MAX_32)?.bytes(), MAX_32);
+    assert_eq!(rt; Name::read(b"a")?.bytes(), b"a".as_slice());
+    for text in [
+        b"".as_slice(),
+        b"abcdefghijklmnopqrstuvwxyz-012345",
+        b"A",
+        b"a.b",
+        b"a b",
+        b"\xc3\xa4",
+    ] {
+        assert!(rt; matches!(Name::read(text), Err(Fault::BadName)), "{text:?}");
+    }
+    assert!(rt; Name::read(b"a")? < Name::read(b"a-")?);
+    assert!(rt; Name::read(b"a9")? < Name::read(b"b")?);
+    Ok(())
+}
+
+#[test]
+fn keys_and_prefixes_within_their_limits(rt: HostRuntime) -> Result<(), Fail> {
+    assert_eq!(rt; Key::read(MAX_64)?.bytes(), MAX_64);
+    assert_eq!(rt; Prefix::read(MAX_64)?.bytes(), MAX_64);
+    assert_eq!(rt; Prefix::read(b"")?.bytes(), b"".as_slice());
+    assert!(rt; matches!(Key::read(b""), Err(Fault::BadKey)));
+    let long = [b'k'; 65];
+    for text in [long.as_slice(), b"A", b"a b", b"a:b"] {
+        assert!(rt; matches!(Key::read(text), Err(Fault::BadKey)), "{text:?}");
+        assert!(rt;
+            matches!(Prefix::read(text), Err(Fault::BadKey)),
+            "{text:?}"
+        );
+    }
+    assert!(rt; Key::read(b"net")? < Key::read(b"net/a")?);
+    Ok(())
+}
+
+#[test]
+fn values_within_their_limits(rt: HostRuntime) -> Result<(), Fail> {
+    let alloc = rt.alloc();
+    let long = [b'p'; 129];
+    let addr = Value::addr(alloc, &long[..128])?;
+    assert_eq!(rt; addr.as_addr(), Some(&long[..128]));
+    assert_eq!(rt; addr.encoded_length(), 129);
+    assert_eq!(rt; addr.as_weight(), None);
+    for text in [b"".as_slice(), &long, b"a b", b"\x7f", b"\x20"] {
+        assert!(rt;
+            matches!(Value::addr(alloc, text), Err(Fault::BadValue)),
+            "{text:?}"
+        );
+    }
+    assert_eq!(rt;
+        Value::weight(9_223_372_036_854_775_807)?.as_weight(),
+        Some(9_223_372_036_854_775_807)
+    );
+    assert!(rt;
+        matches!(
+            Value::weight(9_223_372_036_854_775_808),
+            Err(Fault::BadValue)
+        )
+    );
+    assert_eq!(rt; Value::flag(true).as_flag(), Some(true));
+    Ok(())
+}
+
+#[test]
+fn values_from_words(rt: HostRuntime) -> Result<(), Fail> {
+    let alloc = rt.alloc();
+    assert_eq!(rt;
+        Value::from_words(alloc, b"addr", b"10.0.0.1:80")?.as_addr(),
+        Some(b"10.0.0.1:80".as_slice())
+    );
+    assert_eq!(rt;
+        Value::from_words(alloc, b"weight", b"0")?.as_weight(),
+        Some(0)
+    );
+    assert_eq!(rt;
+        Value::from_words(alloc, b"weight", b"9223372036854775807")?.as_weight(),
+        Some(9_223_372_036_854_775_807)
+    );
+    assert_eq!(rt;
+        Value::from_words(alloc, b"flag", b"true")?.as_flag(),
+        Some(true)
+    );
+    assert_eq!(rt;
+        Value::from_words(alloc, b"flag", b"false")?.as_flag(),
+        Some(false)
+    );
+    let wrong = [
+        (b"weight".as_slice(), b"".as_slice()),
+        (b"weight", b"+1"),
+        (b"weight", b"-1"),
+        (b"weight", b"01"),
+        (b"weight", b"9223372036854775808"),
+        (b"weight", b"18446744073709551616"),
+        (b"weight", b"\xff"),
+        (b"flag", b"True"),
+        (b"flag", b"1"),
+        (b"addr", b""),
+        (b"text", b"x"),
+        (b"removed", b""),
+    ];
+    for (kind, word) in wrong {
+        assert!(rt;
+            matches!(Value::from_words(alloc, kind, word), Err(Fault::BadValue)),
+            "{kind:?} {word:?}"
+        );
+    }
+    Ok(())
+}
+
+#[test]
+fn copies_are_equal(rt: HostRuntime) -> Result<(), Fail> {
+    let alloc = rt.alloc();
+    let first = Entry::new(
+        Key::read(b"net/a")?,
+        7,
+        Slot::Set(Value::addr(alloc, b"host:1")?),
+    );
+    let copy = first.copy(alloc)?;
+    assert_eq!(rt; *copy.key(), Key::read(b"net/a")?);
+    assert_eq!(rt; copy.version(), 7);
+    match copy.slot() {
+        Slot::Set(value) => assert_eq!(rt; value.as_addr(), Some(b"host:1".as_slice())),
+        Slot::Removed => assert!(rt; false),
+    }
+    assert_eq!(rt; copy.encoded_length(), 10 + 5 + 7);
+    assert_eq!(rt; Value::weight(5)?.copy(alloc)?.as_weight(), Some(5));
+    assert_eq!(rt; Value::flag(true).copy(alloc)?.as_flag(), Some(true));
+    assert!(rt; matches!(Slot::Removed.copy(alloc)?, Slot::Removed));
+    Ok(())
+}
+
+#[test]
+fn blocks_within_their_limits(rt: HostRuntime) -> Result<(), Fail> {
+    let alloc = rt.alloc();
+    let owner = Name::read(b"a")?;
+    let good = Block::new(
+        owner,
+        0,
+        vec![in alloc; entry(alloc, b"x", 1, 5)?, entry(alloc, b"y", 3, 6)?]?,
+    )?;
+    assert_eq!(rt; *good.owner(), owner);
+    assert_eq!(rt; good.after(), 0);
+    assert_eq!(rt; good.upto(), 3);
+    assert_eq!(rt; good.entries().len(), 2);
+    assert_eq!(rt; good.encoded_length(), 12 + 19 + 19);
+    let wrong = [
+        Block::new(owner, 0, Vec::new(alloc)),
+        Block::new(
+            owner,
+            0,
+            vec![in alloc; entry(alloc, b"x", 2, 5)?, entry(alloc, b"y", 1, 5)?]?,
+        ),
+        Block::new(
+            owner,
+            0,
+            vec![in alloc; entry(alloc, b"x", 2, 5)?, entry(alloc, b"y", 2, 5)?]?,
+        ),
+        Block::new(owner, 1, vec![in alloc; entry(alloc, b"x", 1, 5)?]?),
+        Block::new(
+            owner,
+            0,
+            vec![in alloc;
+                entry(alloc, b"x", 1, 5)?,
+                entry(alloc, b"y", 2, 5)?,
+                entry(alloc, b"x", 3, 5)?,
+            ]?,
+        ),
+    ];
+    for block in wrong {
+        assert!(rt; matches!(block, Err(Fault::Malformed(3))));
+    }
+    let last = Block::new(
+        owner,
+        u64::MAX - 1,
+        vec![in alloc; entry(alloc, b"x", u64::MAX, 5)?]?,
+    )?;
+    assert_eq!(rt; last.upto(), u64::MAX);
+    Ok(())
+}
+
+#[test]
+fn deltas_within_their_limits(rt: HostRuntime) -> Result<(), Fail> {
+    let alloc = rt.alloc();
+    let empty = Delta::new(Vec::new(alloc))?;
+    assert_eq!(rt; empty.encoded_length(), 3);
+    let names = [b"a".as_slice(), b"a-", b"b"];
+    let mut blocks = Vec::new(alloc);
+    for name in names {
+        blocks.push(Block::new(
+            Name::read(name)?,
+            0,
+            vec![in alloc; entry(alloc, b"w", 1, 5)?]?,
+        )?)?;
+    }
+    let delta = Delta::new(blocks)?;
+    assert_eq!(rt; delta.encoded_length(), 3 + 31 + 32 + 31);
+    for (block, name) in delta.blocks().iter().zip(names) {
+        assert_eq!(rt; block.owner().bytes(), name);
+    }
+    for (first, second) in [(b"b".as_slice(), b"a".as_slice()), (b"a", b"a")] {
+        let first = Block::new(
+            Name::read(first)?,
+            0,
+            vec![in alloc; entry(alloc, b"w", 1, 5)?]?,
+        )?;
+        let second = Block::new(
+            Name::read(second)?,
+            0,
+            vec![in alloc; entry(alloc, b"w", 1, 5)?]?,
+        )?;
+        assert!(rt;
+            matches!(
+                Delta::new(vec![in alloc; first, second]?),
+                Err(Fault::Malformed(3))
+            )
+        );
+    }
+    Ok(())
+}
+
+/// An entry of an address of this length, under a key of the version's four hexadecimal digits.
+fn addressed(alloc: Global, version: u16, length: usize) -> Result<Entry, Fault>
+    requires { 1 ≤ version }
+{
+    let key = format!(in alloc; "{version:04x}")?;
+    let text = [b'p'; 128];
+    let slot = Slot::Set(Value::addr(alloc, text.get(..length).unwrap_or(&[]))?);
+    Ok(Entry::new(Key::read(key.as_bytes())?, u64::from(version), slot))
+}
+
+/// 15 bytes of heads, 1,000 entries of 65 bytes, three of 143, and one of 15 and the last length.
+fn long_delta(alloc: Global, last: usize) -> Result<Delta, Fault> {
+    let mut entries = Vec::new(alloc);
+    for version in 1..1_001u16 {
+        entries.push(addressed(alloc, version, 50)?)?;
+    }
+    for version in 1_001..1_004u16 {
+        entries.push(addressed(alloc, version, 128)?)?;
+    }
+    entries.push(addressed(alloc, 1_004, last)?)?;
+    let block = Block::new(Name::read(b"a")?, 0, entries)?;
+    Delta::new(vec![in alloc; block]?)
+}
+
+#[test]
+fn the_longest_delta(rt: HostRuntime) -> Result<(), Fail> {
+    let alloc = rt.alloc();
+    assert_eq!(rt; long_delta(alloc, 71)?.encoded_length(), 65_530);
+    assert!(rt; matches!(long_delta(alloc, 72), Err(Fault::Malformed(3))));
+    Ok(())
+}
+
+#[test]
+fn settings_within_their_limits(rt: HostRuntime) -> Result<(), Fail> {
+    let raw = RawSettings {
+        cluster: b"c1",
+        budget: 256,
+        order: Order::Depth,
+        max_version: 1_099_511_627_775,
+        seats: 64,
+        workers: 62,
+    };
+    let settings = Settings::check(raw)?;
+    assert_eq!(rt; settings.cluster(), Name::read(b"c1")?);
+    assert_eq!(rt; settings.budget(), 256);
+    assert_eq!(rt; settings.order(), Order::Depth);
+    assert_eq!(rt; settings.max_version(), 1_099_511_627_775);
+    assert_eq!(rt; settings.seats(), 64);
+    assert_eq!(rt; settings.workers(), 62);
+    Settings::check(RawSettings {
+        budget: 65_536,
+        max_version: 1,
+        seats: 1,
+        workers: 1,
+        ..raw
+    })?;
+    let wrong = [
+        RawSettings {
+            cluster: b"",
+            ..raw
+        },
+        RawSettings {
+            cluster: b"C",
+            ..raw
+        },
+        RawSettings { budget: 255, ..raw },
+        RawSettings {
+            budget: 65_537,
+            ..raw
+        },
+        RawSettings {
+            max_version: 0,
+            ..raw
+        },
+        RawSettings {
+            max_version: 1_099_511_627_776,
+            ..raw
+        },
+        RawSettings { seats: 0, ..raw },
+        RawSettings { seats: 65, ..raw },
+        RawSettings { workers: 0, ..raw },
+        RawSettings { workers: 63, ..raw },
+    ];
+    for raw in wrong {
+        assert!(rt; matches!(Settings::check(raw), Err(Fault::BadSetting)));
+    }
+    Ok(())
+}
+
+#[test]
+fn faults_say_what_to_do(rt: HostRuntime) -> Result<(), Fail> {
+    let alloc = rt.alloc();
+    assert_eq!(rt; Fault::NoMemory.number(), 1);
+    assert_eq!(rt; Fault::OutOfTurn(2).number(), 31);
+    assert_eq!(rt;
+        Fault::Malformed(3).to_string(alloc)?.as_str(),
+        "a message of kind 3 breaks the format"
+    );
+    assert_eq!(rt;
+        Fault::WriteFailed(17).to_string(alloc)?.as_str(),
+        "writing failed after 17 bytes"
+    );
+    Ok(())
+}
