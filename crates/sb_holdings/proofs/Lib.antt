@@ -16,3 +16,4 @@ pub mod ByVersion
 pub mod Shown
 pub mod Content
 pub mod Offered
+pub mod ByOwner

@@ -9,3 +9,4 @@ pub mod Entering
 pub mod ByVersion
 pub mod Contents
 pub mod Offers
+pub mod Held
