@@ -23,7 +23,8 @@ use Rattle.std.specs.FinMap.{FinMap, get, keys, contains_key, entries, len, inse
 use Rattle.sb_types.specs.declared.limits.TheConstants.{OWNERS_MOST}
 use Rattle.sb_types.specs.Records.{Table, Holder}
 use Rattle.sb_table.specs.Plain.{IsPlainTable}
-use Rattle.sb_holdings.specs.Held.{Held, alone, held_of, IsPlainHolder, IsHoldings, table_of, is_from, tables_from}
+use Rattle.sb_holdings.specs.Held.{Held}
+use Rattle.sb_holdings.specs.Plain.{alone, held_of, IsPlainHolder, IsHoldings, table_of, is_from, tables_from}
 
 -- the order of names
 abbrev pub by_text : List ℕ → List ℕ → Ordering

@@ -1,46 +1,51 @@
--- What a node holds, of all owners.
-use Rattle.std.specs.Prelude.{◌≡◌, ℕ, ◌≤◌, ◌<◌, Bool, true, false, nat_eq, List, map, filter, length, Option, Some, None, IfSome}
-use Rattle.std.specs.Option.{option_map}
-use Rattle.std.specs.Ordering.{nat_cmp, is_le}
+-- What a node holds, of all owners, and how it changes.
+use Rattle.std.specs.Prelude.{ℕ, Bool, ◌&&◌, nat_eq, if◌then◌else◌, List, [], length, None, is_none, unwrap_or}
+use Rattle.std.specs.Ordering.{nat_cmp}
 use Rattle.std.specs.Cmp.Lexicographic.{slice_cmp, pointwise}
-use Rattle.std.specs.FinMap.{FinMap, get, contains_key, entries, len, from_sorted}
-use Rattle.sb_types.specs.declared.limits.TheConstants.{OWNERS_MOST}
-use Rattle.sb_types.specs.Records.{Table, Holder}
-use Rattle.sb_table.specs.Plain.{IsPlainTable}
+use Rattle.std.specs.FinMap.{FinMap, get, insert, remove}
+use Rattle.sb_types.specs.Records.{Entry, Block, Holder}
+use Rattle.sb_holdings.specs.declared.ends.BlockEnd.{BlockEnd}
+use Rattle.sb_holdings.specs.declared.ends.BlockEnd.TheVariants.{Own, OwnAhead, Gap, Stale, OwnersFull, Taken, TooManyKeys, NoMemory}
+use Rattle.sb_holdings.specs.Shown.{own}
+use Rattle.sb_holdings.specs.Taken.{treat}
 
--- the own name, and what is held of each owner
+-- the node's own name, and what it holds of each owner
 pub record Held : Type 0 where
   pub me : List ℕ
   pub owners : FinMap (slice_cmp nat_cmp) Holder
 
--- the table, and no stage beside it
-abbrev pub alone : Table → Holder
-alone t = record { shown = t; stage = None }
+-- what is held of an owner that is not known
+abbrev pub nothing : Holder
+nothing = record { shown = record { held = 0; floor = 0; entries = [] }; stage = None }
 
--- these tables, whose owners' names ascend
-abbrev pub held_of : List ℕ → List (List ℕ × Table) → Held
-held_of me tables = record { me = me; owners = from_sorted (map (λ p. (p.0, alone p.1)) tables) }
+abbrev pub is_nothing : Holder → Bool
+is_nothing h = nat_eq h.shown.held 0 && (nat_eq h.shown.floor 0 && (nat_eq (length h.shown.entries) 0 && is_none h.stage))
 
-pub record IsPlainHolder (h : Holder) : Type 0 where
-  pub shown : IsPlainTable h.shown
-  pub stage : h.stage ≡ None
+abbrev pub holder_of : FinMap (slice_cmp nat_cmp) Holder → List ℕ → Holder
+holder_of owners owner = unwrap_or (get owners owner) nothing
 
--- the own name is held, no other owner without an entry, and not too many
-pub record IsHoldings (h : Held) : Type 0 where
-  pub own : contains_key h.owners h.me ≡ true
-  pub each : (owner : List ℕ) → IfSome (get h.owners owner) IsPlainHolder
-  pub others : (owner : List ℕ) → pointwise nat_eq owner h.me ≡ false → IfSome (get h.owners owner) (λ holder. 0 < length holder.shown.entries)
-  pub few : len h.owners ≤ OWNERS_MOST
+-- an owner of whom nothing is held does not stand in the map
+abbrev pub with_holder : FinMap (slice_cmp nat_cmp) Holder → List ℕ → Holder → FinMap (slice_cmp nat_cmp) Holder
+with_holder owners owner h = if is_nothing h then remove owners owner else insert owners owner h
 
--- the table that is shown of an owner
-abbrev pub table_of : Held → List ℕ → Option Table
-table_of h owner = option_map (λ holder. holder.shown) (get h.owners owner)
+abbrev pub with_owner : Held → List ℕ → Holder → Held
+with_owner held owner h = record { me = held.me; owners = with_holder held.owners owner h }
 
--- whether the name is the first or behind it, where there is a first
-abbrev pub is_from : Option (List ℕ) → List ℕ → Bool
-is_from None owner = true
-is_from (Some first) owner = is_le (slice_cmp nat_cmp first owner)
+-- after the node's own write
+abbrev pub written : Held → Entry → Held
+written held e = with_owner held held.me (own (holder_of held.owners held.me) e)
 
--- the owners from the first on, each with its table
-abbrev pub tables_from : Option (List ℕ) → Held → List (List ℕ × Table)
-tables_from first h = map (λ p. (p.0, p.1.shown)) (filter (λ p. is_from first p.0) (entries h.owners))
+-- no block of the node's own name is taken
+abbrev pub taken : Held → Block → BlockEnd → Held
+taken held b end = if pointwise nat_eq b.owner held.me then held else with_owner held b.owner (treat (holder_of held.owners b.owner) b end)
+
+-- after a block that was ended so
+abbrev pub treated : Held → Block → BlockEnd → Held
+treated held b Own = held
+treated held b (OwnAhead upto) = held
+treated held b Gap = held
+treated held b Stale = held
+treated held b OwnersFull = held
+treated held b (Taken n) = taken held b (Taken n)
+treated held b (TooManyKeys n) = taken held b (TooManyKeys n)
+treated held b (NoMemory n) = taken held b (NoMemory n)

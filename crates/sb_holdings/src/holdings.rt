@@ -6,8 +6,8 @@ ghost use Rattle.std.specs.List.Sorted.{IsStrictlySortedBy};
 ghost use Rattle.std.specs.Option.{option_copied};
 ghost use Rattle.sb_types.specs.Faults.{Gives};
 ghost use Rattle.std.specs.Map.{keys_of};
-ghost use Rattle.sb_holdings.specs.Held.{IsHoldings, held_of, table_of, tables_from};
-ghost use Rattle.sb_holdings.specs.Nodes.{holder_of};
+ghost use Rattle.sb_holdings.specs.Held.{holder_of};
+ghost use Rattle.sb_holdings.specs.Plain.{IsHoldings, held_of, table_of, tables_from};
 
 use crate::owners::{Owners, Tables};
 use sb_table::Table;
@@ -28,7 +28,8 @@ impl Model for Holdings {
     ghost use Rattle.std.specs.Ordering.{nat_cmp};
     ghost use Rattle.std.specs.Cmp.Lexicographic.{slice_cmp};
     ghost use Rattle.std.specs.BTreeMap.{IsOrdered};
-    ghost use Rattle.sb_holdings.specs.Held.{Held, held_of, IsHoldings};
+    ghost use Rattle.sb_holdings.specs.Held.{Held};
+    ghost use Rattle.sb_holdings.specs.Plain.{held_of, IsHoldings};
 
     ghost use Rattle.std.specs.Coded.{codes};
     ghost use Rattle.std.specs.FinMap.{code};

@@ -1,5 +1,6 @@
 use Rattle.std.proofs.Common.{◌≡◌, ap, sym, ◌∙◌}
-use Rattle.sb_holdings.specs.Held.{Held, table_of}
+use Rattle.sb_holdings.specs.Held.{Held}
+use Rattle.sb_holdings.specs.Plain.{table_of}
 use Rattle.sb_holdings.proofs.ByOwner.{table_of-held_of}
 use Rattle.sb_holdings.proofs.holdings.Holdings.table.Goals as goal
 
