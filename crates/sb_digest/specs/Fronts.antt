@@ -3,7 +3,8 @@ use Rattle.std.specs.Prelude.{◌≡◌, ℕ, ◌+◌, ◌≤◌, ◌<◌, Bool,
 use Rattle.std.specs.List.{list_all}
 use Rattle.std.specs.Option.{option_map}
 use Rattle.sb_types.specs.declared.limits.TheConstants.{BUDGET_LEAST, BUDGET_MOST}
-use Rattle.sb_digest.specs.Digests.{Pair, Digest, digest_of, is_from}
+use Rattle.sb_holdings.specs.Plain.{is_from}
+use Rattle.sb_digest.specs.Digests.{Pair, Digest, digest_of}
 use Rattle.sb_digest.specs.Lengths.{frame_length}
 use Rattle.sb_digest.specs.Limits.{are_pairs_above, is_bound, is_pair}
 
