@@ -3,3 +3,4 @@ pub mod Ascending
 pub mod Searching
 pub mod Longest
 pub mod Cutting
+pub mod Gathering

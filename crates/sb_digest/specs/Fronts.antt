@@ -3,6 +3,7 @@ use Rattle.std.specs.Prelude.{◌≡◌, ℕ, ◌+◌, ◌≤◌, ◌<◌, Bool,
 use Rattle.std.specs.List.{list_all}
 use Rattle.std.specs.Option.{option_map}
 use Rattle.sb_types.specs.declared.limits.TheConstants.{BUDGET_LEAST, BUDGET_MOST}
+use Rattle.sb_types.specs.Limits.{text_lt}
 use Rattle.sb_holdings.specs.Plain.{is_from}
 use Rattle.sb_digest.specs.Digests.{Pair, Digest, digest_of}
 use Rattle.sb_digest.specs.Lengths.{frame_length}
@@ -35,7 +36,7 @@ has_room f = nat_le (frame_length (digest_of true f.from None f.pairs)) (f.budge
 
 -- the pair's owner is in the range, and behind the owners so far
 abbrev pub comes_next : Front → Pair → Bool
-comes_next f pair = is_from f.from pair.owner && are_pairs_above [] (f.pairs ++ pair ∷ [])
+comes_next f pair = is_from f.from pair.owner && list_all (λ before. text_lt before.owner pair.owner) f.pairs
 
 pub record IsFront (f : Front) : Type 0 where
   pub least : BUDGET_LEAST ≤ f.budget

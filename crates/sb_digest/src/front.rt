@@ -98,7 +98,8 @@ impl Front {
 
     /// The digest where no pair comes any more.
     pub(crate) fn finish(self, want: bool) -> Digest
-        ensures { IsLongestFront self.budget want self.from self.pairs result }
+        ensures longest { IsLongestFront self.budget want self.from self.pairs result }
+        ensures goes { 0 < length self.pairs → 0 < length result.pairs }
     {
         if HEADER_LENGTH + self.length > self.budget {
             return self.cut(want);
