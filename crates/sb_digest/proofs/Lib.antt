@@ -4,3 +4,4 @@ pub mod Searching
 pub mod Longest
 pub mod Cutting
 pub mod Gathering
+pub mod Telling

@@ -34,3 +34,11 @@ apart-from_Greater a b h = texts_ties a b ∙ ap is_eq h
 
 pub same-from_Equal : (a b : List ℕ) → slice_cmp nat_cmp a b ≡ Equal → pointwise nat_eq a b ≡ true
 same-from_Equal a b h = texts_ties a b ∙ ap is_eq h
+
+equal : (r : Ordering) → is_eq r ≡ true → r ≡ Equal
+equal Less h = absurd (cc)
+equal Equal h = refl
+equal Greater h = absurd (cc)
+
+pub same-from_pointwise : (a b : List ℕ) → pointwise nat_eq a b ≡ true → a ≡ b
+same-from_pointwise a b h = slice_cmp-IsAntisymmetric nat_cmp-IsAntisymmetric a b (equal (slice_cmp nat_cmp a b) (sym (texts_ties a b) ∙ h))

@@ -233,7 +233,7 @@ impl Digest {
         ensures next { result ≡ self.now.until }
         ensures digest { is_digest self.now ≡ true }
     {
-        self.until
+        self.until()
     }
 
     pub fn pairs(&self) -> &[Pair]

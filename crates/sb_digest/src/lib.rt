@@ -4,6 +4,10 @@
 mod building;
 mod digest;
 mod front;
+pub mod laws;
 
 pub use building::build;
 pub use digest::{Digest, Pair};
+
+#[cfg(test)]
+mod tests;
