@@ -137,13 +137,14 @@ struct Page {
 
 impl Write for Page {
     fn write(&mut self, bytes: &[u8]) -> io::Result<usize> {
-        let mut count = 0;
-        for (place, byte) in self.bytes.iter_mut().skip(self.used).zip(bytes) {
-            *place = *byte;
-            count += 1;
+        for byte in bytes {
+            if self.used >= self.bytes.len() {
+                return Err(io::Error::from(ErrorKind::WriteZero));
+            }
+            self.bytes[self.used] = *byte;
+            self.used += 1;
         }
-        self.used += count;
-        Ok(count)
+        Ok(bytes.len())
     }
 
     fn flush(&mut self) -> io::Result<()> {

@@ -95,10 +95,15 @@ impl World {
         };
         let message = Message::Delta(node.offer(alloc, after)?);
         let frame = frame_of(alloc, &message)?;
+        if taker == giver {
+            return Ok(Answer::Given {
+                frame,
+                end: GiveEnd::SameName,
+            });
+        }
         let end = match &message {
-            _ if taker == giver => GiveEnd::SameName,
             Message::Delta(delta) => self.deliver(alloc, taker, delta),
-            _ => GiveEnd::Nothing,
+            _ => unreachable!(),
         };
         Ok(Answer::Given { frame, end })
     }

@@ -1,5 +1,5 @@
 -- A payload is read as a message exactly where it spells it.
-use Rattle.std.proofs.Common.{◌≡◌, ℕ, ◌≤◌, true, ◌==◌, if◌then◌else◌, List, [], ◌∷◌, ◌++◌, length, Option, Some, None, Result, Ok, Err, refl, sym, ap, ◌∙◌, arith}
+use Rattle.std.proofs.Common.{◌≡◌, ℕ, ◌≤◌, Bool, true, ◌==◌, if◌then◌else◌, List, [], ◌∷◌, ◌++◌, length, Option, Some, None, Result, Ok, Err, refl, sym, ap, ◌∙◌, arith}
 use Rattle.std.specs.Prelude.{ok_or, IfOk}
 use Rattle.std.specs.Option.{option_and_then}
 use Rattle.std.proofs.lemmas.Bool.{eqb-true}
@@ -10,7 +10,7 @@ use Rattle.sb_types.specs.Faults.{Gives}
 use Rattle.sb_codec.specs.declared.message.Message.{Message}
 use Rattle.sb_codec.specs.declared.message.Message.TheVariants.{Hello, Digest, Delta, Bye, Ask, Rows, Put, Done, Refused}
 use Rattle.sb_codec.specs.declared.numbers.TheConstants.{KIND_HELLO, KIND_DIGEST, KIND_DELTA, KIND_BYE, KIND_ASK, KIND_ROWS, KIND_PUT, KIND_DONE, KIND_REFUSED}
-use Rattle.sb_codec.specs.Fields.{AreBytes, whole}
+use Rattle.sb_codec.specs.Fields.{AreBytes, Field, whole}
 use Rattle.sb_codec.specs.Messages.{spelling, is_message, Spells, IsSole, fault_of, message_cases, message_at, reading}
 use Rattle.sb_codec.proofs.Taken.{Takes, tagged_takes, made_case}
 use Rattle.sb_codec.proofs.Again.{Again, made_again, tagged_again}
@@ -103,17 +103,14 @@ pub if_sole : (payload : List ℕ) (result : Result Message Fault) → AreBytes 
 if_sole payload (Ok m) are gives = is_sole payload m (is_found payload m are gives)
 if_sole payload (Err fault) are gives = tt
 
-has_kind : (m : Message) → 1 ≤ length (spelling m)
-unfolding spelling
-has_kind (Hello h) = omega arith
-has_kind (Digest d) = omega arith
-has_kind (Delta blocks) = omega arith
-has_kind (Bye reason) = omega arith
-has_kind (Ask a) = omega arith
-has_kind (Rows p) = omega arith
-has_kind (Put w) = omega arith
-has_kind (Done version) = omega arith
-has_kind (Refused fault) = omega arith
-
 pub some_bytes : (payload : List ℕ) (m : Message) → Spells payload m → 1 ≤ length payload
-some_bytes payload m spells = rw spells.bytes (has_kind m)
+unfolding spelling
+some_bytes payload (Hello greeting) spells = rw spells.bytes (omega arith)
+some_bytes payload (Digest told) spells = rw spells.bytes (omega arith)
+some_bytes payload (Delta blocks) spells = rw spells.bytes (omega arith)
+some_bytes payload (Bye reason) spells = rw spells.bytes (omega arith)
+some_bytes payload (Ask asked) spells = rw spells.bytes (omega arith)
+some_bytes payload (Rows rows) spells = rw spells.bytes (omega arith)
+some_bytes payload (Put wanted) spells = rw spells.bytes (omega arith)
+some_bytes payload (Done version) spells = rw spells.bytes (omega arith)
+some_bytes payload (Refused fault) spells = rw spells.bytes (omega arith)

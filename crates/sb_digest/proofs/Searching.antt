@@ -22,7 +22,8 @@ found name (p ∷ ps) (suc i) d rises l same =
     let is = slice_cmp-IsAntisymmetric nat_cmp-IsAntisymmetric (get_or ps i d).owner name same in
     cond-false _ _ _ (apart-from_Less p.owner name (rw is at less)) ∙ found name ps i d (sorted_tail by_owner p ps rises) (omega arith) same
 
-missing : (name : List ℕ) (ps : List Pair) → ((k : ℕ) (d : Pair) → k < length ps → pointwise nat_eq (get_or ps k d).owner name ≡ false) → pair_at name ps ≡ None
+-- no pair is the name's
+pub missing : (name : List ℕ) (ps : List Pair) → ((k : ℕ) (d : Pair) → k < length ps → pointwise nat_eq (get_or ps k d).owner name ≡ false) → pair_at name ps ≡ None
 missing name [] apart = refl
 missing name (p ∷ ps) apart = cond-false _ _ _ (apart 0 p (omega arith)) ∙ missing name ps (λ k d l. apart (suc k) d (omega arith))
 

@@ -1,9 +1,9 @@
 -- Digests as plain data, and how they are read.
 use Rattle.std.specs.Prelude.{ℕ, Bool, true, ◌&&◌, List, find, nat_eq, Option, Some, None}
 use Rattle.std.specs.Option.{option_map_or}
-use Rattle.std.specs.Ordering.{nat_cmp, is_le}
-use Rattle.std.specs.Cmp.Lexicographic.{slice_cmp, pointwise}
+use Rattle.std.specs.Cmp.Lexicographic.{pointwise}
 use Rattle.sb_types.specs.Limits.{text_lt}
+use Rattle.sb_holdings.specs.Plain.{is_from}
 
 -- how far an owner's writes are held: up to a version, and of a table that is to take the place of the
 -- shown one its floor and how far it has come
@@ -27,14 +27,7 @@ plain_pair owner held = record { owner = owner; held = held; floor = 0; progress
 abbrev pub digest_of : Bool → Option (List ℕ) → Option (List ℕ) → List Pair → Digest
 digest_of want from until pairs = record { want = want; from = from; until = until; pairs = pairs }
 
-abbrev pub text_le : List ℕ → List ℕ → Bool
-text_le a b = is_le (slice_cmp nat_cmp a b)
-
--- each name is at or above no bound
-abbrev pub is_from : Option (List ℕ) → List ℕ → Bool
-is_from None name = true
-is_from (Some from) name = text_le from name
-
+-- each name is below no bound
 abbrev pub is_below : Option (List ℕ) → List ℕ → Bool
 is_below None name = true
 is_below (Some until) name = text_lt name until

@@ -2,3 +2,4 @@ pub mod Digests
 pub mod Lengths
 pub mod Limits
 pub mod Fronts
+pub mod Pairs

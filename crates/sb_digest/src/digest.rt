@@ -1,7 +1,8 @@
 ghost use Rattle.std.specs.Prelude.{◌≡◌, ◌≤◌, ◌+◌, ◌&&◌, [], nat_le, true, Some, None, OnSome, sum_by, if◌then◌else◌, Ok, Err};
 ghost use Rattle.std.specs.List.{list_all};
 ghost use Rattle.std.specs.Option.{option_copied};
-ghost use Rattle.sb_digest.specs.Digests.{digest_of, is_from, is_below, covers, number};
+ghost use Rattle.sb_holdings.specs.Plain.{is_from};
+ghost use Rattle.sb_digest.specs.Digests.{digest_of, is_below, covers, number};
 ghost use Rattle.sb_digest.specs.Lengths.{bound_length, pair_length, digest_length};
 ghost use Rattle.sb_digest.specs.Limits.{are_pairs_above, is_range, are_digest_parts, is_bound, is_pair, is_digest};
 
@@ -82,7 +83,7 @@ fn are_covered(from: Option<&Name>, until: Option<&Name>, pairs: &[Pair]) -> boo
     pairs.iter().all(|pair| is_covered(from, until, &pair.owner))
 }
 
-fn owner_of(pair: &Pair) -> Name
+pub(crate) fn owner_of(pair: &Pair) -> Name
     ensures { result ≡ pair.now.owner }
 {
     pair.owner
@@ -112,7 +113,7 @@ fn do_owners_ascend(pairs: &[Pair]) -> bool
 }
 
 /// How many bytes a bound takes in a message.
-fn length_of_bound(bound: Option<&Name>) -> u64
+pub(crate) fn length_of_bound(bound: Option<&Name>) -> u64
     ensures length { result ≡ bound_length (option_copied bound.entry) }
     ensures most { result ≤ 33 }
     ensures bound { is_bound (option_copied bound.entry) ≡ true }
@@ -182,6 +183,27 @@ impl Digest {
         })
     }
 
+    /// The digest of parts that make one, which takes so many bytes.
+    pub(crate) fn of_parts(
+        want: bool,
+        from: Option<Name>,
+        until: Option<Name>,
+        pairs: Vec<Pair>,
+        length: u64,
+    ) -> Digest
+        requires digest { is_digest (digest_of want from until pairs.items) ≡ true }
+        requires length { length ≡ digest_length (digest_of want from until pairs.items) }
+        ensures { result ≡ digest_of want from until pairs.items }
+    {
+        Digest {
+            want,
+            from,
+            until,
+            pairs,
+            length,
+        }
+    }
+
     /// Whether a digest is wanted in answer.
     pub fn want(&self) -> bool
         ensures want { result ≡ self.now.want }
@@ -211,7 +233,7 @@ impl Digest {
         ensures next { result ≡ self.now.until }
         ensures digest { is_digest self.now ≡ true }
     {
-        self.until
+        self.until()
     }
 
     pub fn pairs(&self) -> &[Pair]

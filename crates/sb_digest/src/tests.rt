@@ -1,0 +1,114 @@
+use super::*;
+use sb_holdings::Holdings;
+use sb_table::Table;
+use sb_types::{Fault, Name};
+use std::alloc::Global;
+use std::test::Fail;
+
+/// Pairs of these owners, with the versions 1, 2 and so on.
+fn pairs(alloc: Global, owners: &[Name]) -> Result<Vec<Pair>, Fault> {
+    let mut pairs = Vec::new(alloc);
+    for (version, owner) in (1..).zip(owners) {
+        pairs.push(Pair {
+            owner: *owner,
+            version,
+        })?;
+    }
+    Ok(pairs)
+}
+
+fn six_owners() -> Result<[Name; 6], Fault> {
+    Ok([
+        Name::read(&[b'a'; 32])?,
+        Name::read(&[b'b'; 32])?,
+        Name::read(&[b'c'; 32])?,
+        Name::read(&[b'd'; 32])?,
+        Name::read(&[b'e'; 32])?,
+        Name::read(&[b'f'; 32])?,
+    ])
+}
+
+#[test]
+fn lengths_of_frames(rt: HostRuntime) -> Result<(), Fail> {
+    let alloc = rt.alloc();
+    let owners = six_owners()?;
+    let first = Digest::new(true, None, Some(owners[5]), pairs(alloc, &owners[..5])?)?;
+    assert_eq!(rt; first.encoded_length(), 243);
+    let next = Digest::new(true, first.next_from(), None, pairs(alloc, &owners[5..])?)?;
+    assert_eq!(rt; next.encoded_length(), 79);
+    let all = Digest::new(false, None, None, pairs(alloc, &owners)?)?;
+    assert_eq!(rt; all.encoded_length(), 252);
+    Ok(())
+}
+
+#[test]
+fn parts_that_make_no_digest(rt: HostRuntime) -> Result<(), Fail> {
+    let alloc = rt.alloc();
+    let [a, b, c] = [Name::read(b"a")?, Name::read(b"b")?, Name::read(b"c")?];
+    for (from, until, owners) in [
+        (None, Some(b), [a, b].as_slice()),
+        (None, Some(b), [a, c].as_slice()),
+        (Some(b), None, [a, b].as_slice()),
+        (Some(b), Some(b), [].as_slice()),
+        (Some(c), Some(b), [].as_slice()),
+        (None, None, [a, a].as_slice()),
+        (None, None, [b, a].as_slice()),
+    ] {
+        let digest = Digest::new(true, from, until, pairs(alloc, owners)?);
+        assert!(rt; matches!(digest, Err(Fault::Malformed(2))));
+    }
+    Ok(())
+}
+
+#[test]
+fn a_digest_is_read(rt: HostRuntime) -> Result<(), Fail> {
+    let alloc = rt.alloc();
+    let [a, b, c, d] = [
+        Name::read(b"a")?,
+        Name::read(b"b")?,
+        Name::read(b"c")?,
+        Name::read(b"d")?,
+    ];
+    let digest = Digest::new(false, Some(b), Some(d), pairs(alloc, &[b, c])?)?;
+    assert!(rt; !digest.want());
+    assert_eq!(rt; digest.from(), Some(b));
+    assert_eq!(rt; digest.until(), Some(d));
+    assert_eq!(rt; digest.next_from(), Some(d));
+    assert_eq!(rt; digest.pairs().len(), 2);
+    assert!(rt; digest.covers(&b) && digest.covers(&c));
+    assert!(rt; !digest.covers(&a) && !digest.covers(&d));
+    assert_eq!(rt; digest.number(&b), 1);
+    assert_eq!(rt; digest.number(&c), 2);
+    assert_eq!(rt; digest.number(&d), 0);
+    Ok(())
+}
+
+/// The digest, asked for once more where memory was refused.
+fn asked(alloc: Global, holdings: &Holdings, from: Option<&Name>) -> Result<Digest, Fault> {
+    match build(alloc, holdings, from.copied(), true, 256) {
+        Err(Fault::NoMemory) => build(alloc, holdings, from.copied(), true, 256),
+        built => built,
+    }
+}
+
+#[test]
+fn a_new_node_tells_of_itself(rt: HostRuntime) -> Result<(), Fail> {
+    let alloc = rt.alloc();
+    let [a, b] = [Name::read(b"a")?, Name::read(b"b")?];
+    let holdings = match Holdings::new(alloc, a, Table::new(alloc)) {
+        Err(Fault::NoMemory) => Holdings::new(alloc, a, Table::new(alloc))?,
+        made => made?,
+    };
+    let digest = asked(alloc, &holdings, None)?;
+    assert!(rt; digest.want());
+    assert_eq!(rt; digest.from(), None);
+    assert_eq!(rt; digest.until(), None);
+    assert!(rt; matches!(digest.pairs(), [pair] if pair.owner == a && pair.version == 0));
+    assert_eq!(rt; digest.encoded_length(), 16);
+
+    let rest = asked(alloc, &holdings, Some(&b))?;
+    assert_eq!(rt; rest.from(), Some(b));
+    assert_eq!(rt; rest.until(), None);
+    assert!(rt; rest.pairs().is_empty());
+    Ok(())
+}

@@ -1,0 +1,21 @@
+//! What a node holds of each owner's writes, how it takes a block of them, and what stays true.
+#![tactic(auto)]
+
+mod contents;
+mod ends;
+mod holdings;
+mod laws;
+mod offers;
+mod owners;
+mod reading;
+
+pub use contents::contents_hold;
+pub use ends::BlockEnd;
+pub use holdings::Holdings;
+pub use laws::{
+    blocks_keep_truth, nodes_hold, nothing_goes_back, one_by_one, one_meaning, replays_hold,
+    truth_lasts,
+};
+pub use offers::{available_by_owner, offers_are_honest};
+pub use owners::{Owners, Tables};
+pub use reading::reads_are_true;
