@@ -37,11 +37,13 @@ fn test_kind(kind: u8) -> bool
 fn fault(payload: &[u8]) -> Fault
     ensures { result ≡ fault_of payload.now }
 {
-    match payload {
-        [] => Fault::UnknownKind(0),
-        [kind, ..] if test_kind(*kind) => Fault::Malformed(*kind),
-        [kind, ..] => Fault::UnknownKind(*kind),
+    let [kind, ..] = payload else {
+        return Fault::UnknownKind(0);
+    };
+    if test_kind(*kind) {
+        return Fault::Malformed(*kind);
     }
+    Fault::UnknownKind(*kind)
 }
 
 fn read_whole(alloc: Global, payload: &[u8]) -> Result<Message, Refusal>

@@ -68,6 +68,11 @@ fn is_payload(alloc: Global, message: &Message, words: &str) -> Result<bool, Fau
     Ok(encode_payload(alloc, message)? == expected && again(alloc, words)?)
 }
 
+/// Why the words are no payload.
+fn fault_of(alloc: Global, words: &str) -> Option<Fault> {
+    decode_payload(alloc, &bytes(alloc, words)?).err()
+}
+
 fn pair(owner: &[u8], version: u64) -> Result<Pair, Fault> {
     Ok(Pair {
         owner: Name::read(owner)?,
@@ -259,67 +264,97 @@ fn what_messages_say(rt: HostRuntime) -> Result<(), Fail> {
 }
 
 #[test]
-fn payloads_of_other_kinds_that_break_the_format(rt: HostRuntime) -> Result<(), Fail> {
+fn payloads_of_other_kinds_that_break_the_format(rt: HostRuntime) {
     let alloc = rt.alloc();
     let wrong = [
         // a cluster of 33 bytes; no node; a node with a capital
-        "01 21 616161616161616161616161616161616161616161616161616161616161616161 0161",
-        "01 026331",
-        "01 026331 0141",
+        (
+            0x01,
+            "01 21 616161616161616161616161616161616161616161616161616161616161616161 0161",
+        ),
+        (0x01, "01 026331"),
+        (0x01, "01 026331 0141"),
         // want 2; a pair at until; above it; below from; bounds that are equal; owners twice, descending
-        "02 02 00 00 0000",
-        "02 00 00 0162 0001 0162 0000000000000000",
-        "02 00 00 0162 0001 0163 0000000000000000",
-        "02 00 0162 00 0001 0161 0000000000000000",
-        "02 00 0162 0162 0000",
-        "02 00 00 00 0002 0161 0000000000000000 0161 0000000000000000",
-        "02 00 00 00 0002 0162 0000000000000000 0161 0000000000000000",
+        (0x02, "02 02 00 00 0000"),
+        (0x02, "02 00 00 0162 0001 0162 0000000000000000"),
+        (0x02, "02 00 00 0162 0001 0163 0000000000000000"),
+        (0x02, "02 00 0162 00 0001 0161 0000000000000000"),
+        (0x02, "02 00 0162 0162 0000"),
+        (
+            0x02,
+            "02 00 00 00 0002 0161 0000000000000000 0161 0000000000000000",
+        ),
+        (
+            0x02,
+            "02 00 00 00 0002 0162 0000000000000000 0161 0000000000000000",
+        ),
         // the reasons 0 and 6; none
-        "04 00",
-        "04 06",
-        "04",
+        (0x04, "04 00"),
+        (0x04, "04 06"),
+        (0x04, "04"),
         // an owner with no key; a key with no owner; an owner, a prefix and a key with a capital
-        "10 00 00 0161 00",
-        "10 00 00 00 0177",
-        "10 0141 00 00 00",
-        "10 00 0141 00 00",
-        "10 00 00 0161 0141",
+        (0x10, "10 00 00 0161 00"),
+        (0x10, "10 00 00 00 0177"),
+        (0x10, "10 0141 00 00 00"),
+        (0x10, "10 00 0141 00 00"),
+        (0x10, "10 00 00 0161 0141"),
         // more is 2; a version of 0; the tag 0; owners b, then a; keys w, then v; w twice
-        "11 02 0000",
-        "11 00 0001 0161 0177 0000000000000000 03 00",
-        "11 00 0001 0161 0177 0000000000000001 00",
-        "11 00 0002 0162 0177 0000000000000001 03 00 0161 0177 0000000000000001 03 00",
-        "11 00 0002 0161 0177 0000000000000001 03 00 0161 0176 0000000000000001 03 00",
-        "11 00 0002 0161 0177 0000000000000001 03 00 0161 0177 0000000000000002 03 00",
+        (0x11, "11 02 0000"),
+        (0x11, "11 00 0001 0161 0177 0000000000000000 03 00"),
+        (0x11, "11 00 0001 0161 0177 0000000000000001 00"),
+        (
+            0x11,
+            "11 00 0002 0162 0177 0000000000000001 03 00 0161 0177 0000000000000001 03 00",
+        ),
+        (
+            0x11,
+            "11 00 0002 0161 0177 0000000000000001 03 00 0161 0176 0000000000000001 03 00",
+        ),
+        (
+            0x11,
+            "11 00 0002 0161 0177 0000000000000001 03 00 0161 0177 0000000000000002 03 00",
+        ),
         // a flag of 2; an empty key; the tag 4
-        "12 0177 03 02",
-        "12 00 00",
-        "12 0177 04",
+        (0x12, "12 0177 03 02"),
+        (0x12, "12 00 00"),
+        (0x12, "12 0177 04"),
         // the version 0; the numbers 0 and 32
-        "13 0000000000000000",
-        "14 00",
-        "14 20",
+        (0x13, "13 0000000000000000"),
+        (0x14, "14 00"),
+        (0x14, "14 20"),
         // one more byte
-        "01 026331 0161 00",
-        "02 01 00 00 0001 0161 0000000000000000 00",
-        "04 01 00",
-        "10 00 00 00 00 00",
-        "11 00 0001 0161 0177 0000000000000001 02 0000000000000005 00",
-        "12 0177 02 0000000000000005 00",
-        "13 0000000000000001 00",
-        "14 0d 00",
+        (0x01, "01 026331 0161 00"),
+        (0x02, "02 01 00 00 0001 0161 0000000000000000 00"),
+        (0x04, "04 01 00"),
+        (0x10, "10 00 00 00 00 00"),
+        (
+            0x11,
+            "11 00 0001 0161 0177 0000000000000001 02 0000000000000005 00",
+        ),
+        (0x12, "12 0177 02 0000000000000005 00"),
+        (0x13, "13 0000000000000001 00"),
+        (0x14, "14 0d 00"),
     ];
-    for words in wrong {
-        let payload = bytes(alloc, words).ok_or("no memory")?;
-        let kind = payload.first().copied().ok_or("no kind")?;
-        let fault = decode_payload(alloc, &payload).err();
-        assert_eq!(rt; fault, Some(Fault::Malformed(kind)), "{words}");
+    for (kind, words) in wrong {
+        assert_eq!(rt;
+            fault_of(alloc, words),
+            Some(Fault::Malformed(kind)),
+            "{words}"
+        );
     }
-    for kind in [0x00, 0x05, 0x0f, 0x15, 0xff] {
-        let fault = decode_payload(alloc, &[kind, 0x01]).err();
-        assert_eq!(rt; fault, Some(Fault::UnknownKind(kind)));
+    for (kind, words) in [
+        (0x00, "00"),
+        (0x05, "05 01"),
+        (0x0f, "0f"),
+        (0x15, "15 01"),
+        (0xff, "ff"),
+    ] {
+        assert_eq!(rt;
+            fault_of(alloc, words),
+            Some(Fault::UnknownKind(kind)),
+            "{words}"
+        );
     }
-    Ok(())
 }
 
 /// Passes with any one allocation refused: each call then gives `NoMemory`, or what it gives with memory.

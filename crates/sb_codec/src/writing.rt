@@ -126,11 +126,11 @@ pub(crate) fn write_pair(out: &mut Vec<u8>, written: &Pair) -> Result<(), AllocE
 }
 
 #[tactic(auto, unfolding(crate::specs::Spelling::row))]
-pub(crate) fn write_row(out: &mut Vec<u8>, listed: &Row) -> Result<(), AllocError>
-    ensures { OnOk result (out.new.items ≡ out.old.items ++ row listed.now) }
+pub(crate) fn write_row(out: &mut Vec<u8>, written: &Row) -> Result<(), AllocError>
+    ensures { OnOk result (out.new.items ≡ out.old.items ++ row written.now) }
 {
-    write_text(out, listed.owner().bytes())?;
-    write_text(out, listed.key().bytes())?;
-    write_u64(out, listed.version())?;
-    write_value(out, listed.value())
+    write_text(out, written.owner().bytes())?;
+    write_text(out, written.key().bytes())?;
+    write_u64(out, written.version())?;
+    write_value(out, written.value())
 }
