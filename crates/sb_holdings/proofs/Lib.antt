@@ -17,3 +17,4 @@ pub mod Shown
 pub mod Content
 pub mod Offered
 pub mod ByOwner
+pub mod Entered

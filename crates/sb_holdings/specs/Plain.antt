@@ -5,13 +5,18 @@ use Rattle.std.specs.Ordering.{nat_cmp, is_le}
 use Rattle.std.specs.Cmp.Lexicographic.{slice_cmp, pointwise}
 use Rattle.std.specs.FinMap.{get, contains_key, entries, len, from_sorted}
 use Rattle.sb_types.specs.declared.limits.TheConstants.{OWNERS_MOST}
-use Rattle.sb_types.specs.Records.{Table, Holder}
+use Rattle.sb_types.specs.Records.{Entry, Table, Holder}
+use Rattle.sb_types.specs.Runs.{entered, last_version}
 use Rattle.sb_table.specs.Plain.{IsPlainTable}
 use Rattle.sb_holdings.specs.Held.{Held}
 
 -- the table, and no stage beside it
 abbrev pub alone : Table → Holder
 alone t = record { shown = t; stage = None }
+
+-- the table with others entered, each in place of its key's
+abbrev pub with_entries : Table → List Entry → Table
+with_entries t others = record { held = last_version t.held others; floor = t.floor; entries = entered t.entries others }
 
 -- the own name, and these tables, whose owners' names ascend
 abbrev pub held_of : List ℕ → List (List ℕ × Table) → Held

@@ -6,7 +6,7 @@ ghost use Rattle.std.specs.List.Sorted.{IsStrictlySortedBy};
 ghost use Rattle.std.specs.Option.{option_copied};
 ghost use Rattle.sb_types.specs.Faults.{Gives};
 ghost use Rattle.std.specs.Map.{keys_of};
-ghost use Rattle.sb_holdings.specs.Held.{holder_of};
+ghost use Rattle.sb_holdings.specs.Held.{shown_of};
 ghost use Rattle.sb_holdings.specs.Plain.{IsHoldings, held_of, table_of, tables_from};
 
 use crate::owners::{Owners, Tables};
@@ -74,7 +74,7 @@ impl Holdings {
 
     /// The version up to which an owner is held, 0 where it is not.
     pub fn upto(&self, owner: &Name) -> u64
-        ensures version { result ≡ (holder_of self.now.owners owner.now).shown.held }
+        ensures version { result ≡ (shown_of self.now owner.now).held }
         ensures holdings { IsHoldings self.now }
     {
         match self.table(owner) {

@@ -3,6 +3,7 @@
 
 mod contents;
 mod ends;
+mod enter;
 mod holdings;
 mod laws;
 mod offers;
