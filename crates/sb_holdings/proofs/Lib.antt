@@ -18,3 +18,5 @@ pub mod Content
 pub mod Offered
 pub mod ByOwner
 pub mod Entered
+pub mod Changed
+pub mod Ended
