@@ -20,3 +20,4 @@ pub mod ByOwner
 pub mod Entered
 pub mod Changed
 pub mod Ended
+pub mod Lent

@@ -1,0 +1,89 @@
+-- Holdings of which one table was lent and changed.
+use Rattle.std.proofs.Common.{◌≡◌, ℕ, ◌+◌, ◌≤◌, ◌<◌, ◌%◌, ◌^◌, Bool, true, false, cond, not, ◌||◌, List, [], ◌∷◌, ◌++◌, length, length-append, Option, Some, None, IsSome, IfSome, is_some, unwrap_or, Result, Ok, Err, OnOk, OnErr, refl, sym, ap, subst, ◌∙◌, nat_eq, nat_lt, arith, eq-eqb}
+use Rattle.std.proofs.lemmas.Bool.{cond-true, or_left}
+use Rattle.std.proofs.lemmas.Map.Steps.{set_value_same}
+use Rattle.std.specs.Option.{option_map}
+use Rattle.std.specs.BTreeMap.{BTreeMap, WritesThrough}
+use Rattle.std.specs.Ordering.{nat_cmp}
+use Rattle.std.specs.Cmp.Lexicographic.{pointwise}
+use Rattle.std.specs.FinMap.{get, contains_key, len}
+use Rattle.sb_types.specs.declared.limits.TheConstants.{OWNERS_MOST}
+use Rattle.sb_types.specs.declared.fault.Fault.{Fault}
+use Rattle.sb_types.specs.Records.{Entry, Table, Holder}
+use Rattle.sb_types.specs.Runs.{entered, without}
+use Rattle.sb_table.specs.Plain.{IsPlainTable, with_entry}
+use Rattle.sb_holdings.specs.Held.{Held, nothing, shown_of, with_owner, written}
+use Rattle.sb_holdings.specs.Shown.{own}
+use Rattle.sb_holdings.specs.Plain.{alone, held_of, with_entries, with_entered, IsHoldings}
+use Rattle.sb_holdings.specs.Ends.{has_place}
+use Rattle.sb_holdings.proofs.ByOwner.{by_text, Ascend, found, get-held_of}
+use Rattle.sb_holdings.proofs.Changed.{shown-plain, holder-alone, held_of-with, IsHoldings-with}
+use Rattle.sb_holdings.proofs.Entering.{one_by_one}
+
+module _ (me owner : List ℕ) (tables : List (List ℕ × Table)) (t : Table) (up : Ascend tables) (at : found tables owner ≡ Some t) where
+  got : get (held_of me tables).owners owner ≡ Some (alone t)
+  got = get-held_of me tables up owner ∙ ap (option_map alone) at
+
+  pub shown-found : shown_of (held_of me tables) owner ≡ t
+  shown-found = ap (λ (o : Option Holder). (unwrap_or o nothing).shown) got
+
+  pub shown-lent : (held : Held) → held_of me tables ≡ held → shown_of held owner ≡ t
+  shown-lent held is = ap (λ (h : Held). shown_of h owner) (sym is) ∙ shown-found
+
+  pub plain-found : IsHoldings (held_of me tables) → IsPlainTable t
+  plain-found is = subst IsPlainTable shown-found (shown-plain (held_of me tables) is owner)
+
+  pub place-found : has_place (held_of me tables) owner ≡ true
+  place-found = or_left (contains_key (held_of me tables).owners owner) _ (ap is_some got)
+
+  -- the table of another owner is not empty
+  pub some-found : IsHoldings (held_of me tables) → pointwise nat_eq owner me ≡ false → 0 < length t.entries
+  some-found is other = subst (λ (o : Option Holder). IfSome o (λ h. 0 < length h.shown.entries)) got (is.others owner other)
+
+-- an owner that is not held
+pub unknown-lent : (held : Held) (me owner : List ℕ) (tables : List (List ℕ × Table)) → Ascend tables → found tables owner ≡ None → held_of me tables ≡ held → get held.owners owner ≡ None
+unknown-lent held me owner tables up none is = ap (λ (h : Held). get h.owners owner) (sym is) ∙ get-held_of me tables up owner ∙ ap (option_map alone) none
+
+module _ (me owner : List ℕ) (old new : BTreeMap (List ℕ) Table) (t w : Table) (up : Ascend old.entries) (at : found old.entries owner ≡ Some t) (through : WritesThrough by_text (by_text owner) old w new) where
+  pub lent-with : 0 < length w.entries → held_of me new.entries ≡ with_owner (held_of me old.entries) owner (alone w)
+  lent-with some = held_of-with me owner w old.entries new.entries up through.4 some (through.3 (ap is_some at)).0
+
+  pub lent-same : w ≡ t → held_of me new.entries ≡ held_of me old.entries
+  lent-same same = ap (held_of me) (through.0 ∙ set_value_same _ old.entries w (at ∙ ap (λ (u : Table). Some u) (sym same)))
+
+-- what is entered stays
+pub entered-some : (entries others : List Entry) → 0 < length entries → 0 < length (entered entries others)
+entered-some entries [] some = subst (λ (es : List Entry). 0 < length es) (one_by_one entries [] refl) some
+entered-some entries (e ∷ es) some = omega (arith, length-append (without (e ∷ es) entries) (e ∷ es))
+
+-- ---- the table of another owner
+
+module _ (me owner : List ℕ) (old new : BTreeMap (List ℕ) Table) (t w : Table) (up : Ascend old.entries) (at : found old.entries owner ≡ Some t) (through : WritesThrough by_text (by_text owner) old w new)
+    (others : List Entry) (is : IsHoldings (held_of me old.entries)) (other : pointwise nat_eq owner me ≡ false) (entered : w ≡ with_entries t others) where
+  some : 0 < length w.entries
+  some = subst (λ (u : Table). 0 < length u.entries) (sym entered) (entered-some t.entries others (some-found me owner old.entries t up at is other))
+
+  with-lent : held_of me new.entries ≡ with_owner (held_of me old.entries) owner (alone w)
+  with-lent = lent-with me owner old new t w up at through some
+
+  pub with_entered-lent : held_of me new.entries ≡ with_entered (held_of me old.entries) owner others
+  with_entered-lent =
+      with-lent ∙ ap (λ (u : Table). with_owner (held_of me old.entries) owner (alone u)) entered
+      ∙ ap (λ (u : Table). with_owner (held_of me old.entries) owner (alone (with_entries u others))) (sym (shown-found me owner old.entries t up at))
+
+  pub IsHoldings-lent : IsPlainTable w → IsHoldings (held_of me new.entries)
+  IsHoldings-lent plain = subst IsHoldings (sym with-lent) (IsHoldings-with (held_of me old.entries) owner w some is plain (place-found me owner old.entries t up at))
+
+-- ---- the own table
+
+is_some-alone : (o : Option Table) → is_some (option_map alone o) ≡ is_some o
+is_some-alone None = refl
+is_some-alone (Some t) = refl
+
+pub found-own : (me : List ℕ) (tables : List (List ℕ × Table)) → Ascend tables → IsHoldings (held_of me tables) → is_some (found tables me) ≡ true
+found-own me tables up is = sym (is_some-alone (found tables me)) ∙ ap is_some (sym (get-held_of me tables up me)) ∙ is.own
+
+pub written-next : (held : Held) (e : Entry) → IsHoldings held → e.version ≡ (shown_of held held.me).held + 1 → written held e ≡ with_owner held held.me (alone (with_entry (shown_of held held.me) e))
+written-next held e is next =
+    ap (λ (h : Holder). with_owner held held.me (own h e)) (holder-alone held is held.me)
+    ∙ ap (with_owner held held.me) (cond-true (nat_eq e.version ((shown_of held held.me).held + 1)) _ (alone (shown_of held held.me)) (eq-eqb e.version _ next))
