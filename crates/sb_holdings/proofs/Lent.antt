@@ -1,23 +1,25 @@
 -- Holdings of which one table was lent and changed.
 use Rattle.std.proofs.Common.{◌≡◌, ℕ, ◌+◌, ◌≤◌, ◌<◌, ◌%◌, ◌^◌, Bool, true, false, cond, not, ◌||◌, List, [], ◌∷◌, ◌++◌, length, length-append, Option, Some, None, IsSome, IfSome, is_some, unwrap_or, Result, Ok, Err, OnOk, OnErr, refl, sym, ap, subst, ◌∙◌, nat_eq, nat_lt, arith, eq-eqb}
 use Rattle.std.proofs.lemmas.Bool.{cond-true, or_left}
+use Rattle.std.proofs.lemmas.List.{nil_from_length}
 use Rattle.std.proofs.lemmas.Map.Steps.{set_value_same}
 use Rattle.std.specs.Option.{option_map}
-use Rattle.std.specs.BTreeMap.{BTreeMap, WritesThrough}
+use Rattle.std.specs.BTreeMap.{BTreeMap, WritesThrough, Updates}
 use Rattle.std.specs.Ordering.{nat_cmp}
 use Rattle.std.specs.Cmp.Lexicographic.{pointwise}
 use Rattle.std.specs.FinMap.{get, contains_key, len}
 use Rattle.sb_types.specs.declared.limits.TheConstants.{OWNERS_MOST}
 use Rattle.sb_types.specs.declared.fault.Fault.{Fault}
+use Rattle.sb_types.specs.declared.fault.Fault.TheVariants.{TableFull}
 use Rattle.sb_types.specs.Records.{Entry, Table, Holder}
 use Rattle.sb_types.specs.Runs.{entered, without}
-use Rattle.sb_table.specs.Plain.{IsPlainTable, with_entry}
+use Rattle.sb_table.specs.Plain.{IsPlainTable, with_entry, is_full_for}
 use Rattle.sb_holdings.specs.Held.{Held, nothing, shown_of, with_owner, written}
 use Rattle.sb_holdings.specs.Shown.{own}
-use Rattle.sb_holdings.specs.Plain.{alone, held_of, with_entries, with_entered, IsHoldings}
+use Rattle.sb_holdings.specs.Plain.{alone, held_of, with_entries, with_entered, IsHoldings, next_version, own_answer}
 use Rattle.sb_holdings.specs.Ends.{has_place}
-use Rattle.sb_holdings.proofs.ByOwner.{by_text, Ascend, found, get-held_of}
-use Rattle.sb_holdings.proofs.Changed.{shown-plain, holder-alone, held_of-with, IsHoldings-with}
+use Rattle.sb_holdings.proofs.ByOwner.{by_text, Ascend, found, get-held_of, len-held_of}
+use Rattle.sb_holdings.proofs.Changed.{shown-plain, holder-alone, with_owner-nothing, held_of-with, IsHoldings-with}
 use Rattle.sb_holdings.proofs.Entering.{one_by_one}
 
 module _ (me owner : List ℕ) (tables : List (List ℕ × Table)) (t : Table) (up : Ascend tables) (at : found tables owner ≡ Some t) where
@@ -74,11 +76,40 @@ module _ (me owner : List ℕ) (old new : BTreeMap (List ℕ) Table) (t w : Tabl
   pub IsHoldings-lent : IsPlainTable w → IsHoldings (held_of me new.entries)
   IsHoldings-lent plain = subst IsHoldings (sym with-lent) (IsHoldings-with (held_of me old.entries) owner w some is plain (place-found me owner old.entries t up at))
 
--- ---- the own table
+-- ---- the table of a new owner
 
 is_some-alone : (o : Option Table) → is_some (option_map alone o) ≡ is_some o
 is_some-alone None = refl
 is_some-alone (Some t) = refl
+
+pub added-nothing : (held : Held) (owner : List ℕ) (others : List Entry) → get held.owners owner ≡ None → length others ≡ 0 → with_entered held owner others ≡ held
+added-nothing held owner others unknown none =
+    ap (with_entered held owner) (nil_from_length others none)
+    ∙ with_owner-nothing held owner (with_entries (shown_of held owner) []) unknown (ap (λ (o : Option Holder). alone (with_entries (unwrap_or o nothing).shown [])) unknown)
+
+module _ (held : Held) (me owner : List ℕ) (old new : BTreeMap (List ℕ) Table) (w : Table) (others : List Entry) (up : Ascend old.entries) (up_new : Ascend new.entries) (updates : Updates by_text old new owner (Some w))
+    (some : 0 < length w.entries) (entered : w ≡ with_entries nothing.shown others) (view : held_of me old.entries ≡ held) where
+  added : held_of me new.entries ≡ with_owner held owner (alone w)
+  added = held_of-with me owner w old.entries new.entries up up_new some updates.0 ∙ ap (λ (h : Held). with_owner h owner (alone w)) view
+
+  pub with_entered-added : get held.owners owner ≡ None → held_of me new.entries ≡ with_entered held owner others
+  with_entered-added unknown =
+      added ∙ ap (λ (u : Table). with_owner held owner (alone u)) entered
+      ∙ ap (λ (o : Option Holder). with_owner held owner (alone (with_entries (unwrap_or o nothing).shown others))) (sym unknown)
+
+  pub IsHoldings-added : IsHoldings held → IsPlainTable w → has_place held owner ≡ true → IsHoldings (held_of me new.entries)
+  IsHoldings-added is plain place = subst IsHoldings (sym added) (IsHoldings-with held owner w some is plain place)
+
+-- ---- whether an owner has a place
+
+pub has_place-found : (held : Held) (me owner : List ℕ) (tables : List (List ℕ × Table)) → Ascend tables → held_of me tables ≡ held → has_place held owner ≡ (is_some (found tables owner) || nat_lt (length tables) OWNERS_MOST)
+has_place-found held me owner tables up view =
+    ap (λ (h : Held). has_place h owner) (sym view)
+    ∙ ap (λ (o : Option Holder). is_some o || nat_lt (len (held_of me tables).owners) OWNERS_MOST) (get-held_of me tables up owner)
+    ∙ ap (λ (b : Bool). b || nat_lt (len (held_of me tables).owners) OWNERS_MOST) (is_some-alone (found tables owner))
+    ∙ ap (λ (n : ℕ). is_some (found tables owner) || nat_lt n OWNERS_MOST) (len-held_of me tables up)
+
+-- ---- the own table
 
 pub found-own : (me : List ℕ) (tables : List (List ℕ × Table)) → Ascend tables → IsHoldings (held_of me tables) → is_some (found tables me) ≡ true
 found-own me tables up is = sym (is_some-alone (found tables me)) ∙ ap is_some (sym (get-held_of me tables up me)) ∙ is.own
@@ -87,3 +118,34 @@ pub written-next : (held : Held) (e : Entry) → IsHoldings held → e.version �
 written-next held e is next =
     ap (λ (h : Holder). with_owner held held.me (own h e)) (holder-alone held is held.me)
     ∙ ap (with_owner held held.me) (cond-true (nat_eq e.version ((shown_of held held.me).held + 1)) _ (alone (shown_of held held.me)) (eq-eqb e.version _ next))
+
+pub next-version : (version held : ℕ) → held < 2 ^ 64 → 1 ≤ version → version ≡ (held + 1) % 2 ^ 64 → version ≡ held + 1
+next-version version held fits counted next = omega arith
+
+pub own_answer-next : (held : Held) (e : Entry) → e.version ≡ next_version (shown_of held held.me).held →
+    own_answer held e ≡ cond (is_full_for e.key (shown_of held held.me).entries) (Err TableFull) (Ok tt)
+own_answer-next held e next = ?
+
+module _ (held : Held) (me : List ℕ) (old new : BTreeMap (List ℕ) Table) (t w : Table) (up : Ascend old.entries) (at : found old.entries me ≡ Some t) (through : WritesThrough by_text (by_text me) old w new)
+    (is : IsHoldings (held_of me old.entries)) (view : held_of me old.entries ≡ held) (e : Entry) where
+  own-entered : w ≡ with_entry t e → held_of me new.entries ≡ with_owner (held_of me old.entries) me (alone w)
+  own-entered ok = lent-with me me old new t w up at through (omega (arith, ap (λ (u : Table). length u.entries) ok, length-append (without (e ∷ []) t.entries) (e ∷ [])))
+
+  pub own-ok : (r : Result (Unit {0}) Fault) → OnOk r (w ≡ with_entry t e) → e.version ≡ t.held + 1 → OnOk r (held_of me new.entries ≡ written held e)
+  own-ok (Err fault) ok next = tt
+  own-ok (Ok u) ok next =
+      let shown = shown-found me me old.entries t up at in
+      own-entered ok
+      ∙ ap (λ (v : Table). with_owner (held_of me old.entries) me (alone v)) (ok ∙ ap (λ (v : Table). with_entry v e) (sym shown))
+      ∙ sym (written-next (held_of me old.entries) e is (next ∙ ap (λ (v : Table). v.held + 1) (sym shown)))
+      ∙ ap (λ (h : Held). written h e) view
+
+  pub own-err : (r : Result (Unit {0}) Fault) → OnErr r (w ≡ t) → OnErr r (held_of me new.entries ≡ held)
+  own-err (Ok u) err = tt
+  own-err (Err fault) err = lent-same me me old new t w up at through err ∙ view
+
+  pub own-is : (r : Result (Unit {0}) Fault) → OnOk r (w ≡ with_entry t e) → OnErr r (w ≡ t) → IsPlainTable w → IsHoldings (held_of me new.entries)
+  own-is (Err fault) ok err plain = subst IsHoldings (sym (lent-same me me old new t w up at through err)) is
+  own-is (Ok u) ok err plain =
+      subst IsHoldings (sym (own-entered ok))
+        (IsHoldings-with (held_of me old.entries) me w (omega (arith, ap (λ (u : Table). length u.entries) ok, length-append (without (e ∷ []) t.entries) (e ∷ []))) is plain (place-found me me old.entries t up at))

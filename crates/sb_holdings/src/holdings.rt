@@ -143,6 +143,7 @@ impl Holdings {
         ensures effect { IfSome result (λ end. treated self.now block.now end ≡ self.now) }
         ensures joins { IfNone result (JoinsOn self.now block.now) }
         ensures place { IfNone result (has_place self.now block.now.owner ≡ true) }
+        ensures holdings { IsHoldings self.now }
     {
         let owner = block.owner();
         let upto = block.upto();
