@@ -11,6 +11,7 @@ use Rattle.std.specs.Cmp.Lexicographic.{slice_cmp, pointwise, texts_ties, bytes_
 use Rattle.std.specs.FinMap.{FinMap, get, contains_key, len, insert, remove, get-insert, get-remove, get_tied, len-insert, same_map, slice_cmp-IsAntisymmetric, nat_cmp-IsAntisymmetric}
 use Rattle.sb_types.specs.declared.limits.TheConstants.{OWNERS_MOST}
 use Rattle.sb_types.specs.Records.{Table, Holder}
+use Rattle.sb_types.specs.Writes.{IsHolder}
 use Rattle.sb_table.specs.Plain.{IsPlainTable}
 use Rattle.sb_holdings.specs.Held.{Held, nothing, is_nothing, holder_of, shown_of, with_holder, with_owner}
 use Rattle.sb_holdings.specs.Plain.{alone, held_of, IsPlainHolder, IsHoldings}
@@ -33,6 +34,12 @@ module _ (held : Held) (is : IsHoldings held) (owner : List ℕ) where
 
   pub shown-plain : IsPlainTable (shown_of held owner)
   shown-plain = (plain_or_nothing (get held.owners owner) (is.each owner)).1
+
+IsHolder-plain : (t : Table) → IsPlainTable t → IsHolder (alone t)
+IsHolder-plain t plain = record { shown = record { run = plain.run; floor = omega (arith, plain.floor) }; stage = tt }
+
+pub IsHolder-held : (held : Held) → IsHoldings held → (owner : List ℕ) → IsHolder (holder_of held.owners owner)
+IsHolder-held held is owner = subst IsHolder (sym (holder-alone held is owner)) (IsHolder-plain (shown_of held owner) (shown-plain held is owner))
 
 -- ---- another table in its place
 

@@ -1,10 +1,10 @@
 -- What a block that joins on leaves, by its end.
 use Rattle.std.proofs.Common.{◌≡◌, ℕ, ◌+◌, ◌≤◌, ◌<◌, max, Bool, true, false, cond, ◌&&◌, ◌||◌, ◌==◌, nat_le, nat_lt, List, [], ◌∷◌, ◌++◌, length, take, filter, Option, Some, None, refl, sym, ap, subst, ◌∙◌, arith, le-leb, lt-ltb}
-use Rattle.std.proofs.lemmas.Bool.{and_parts, and_from, cond-true, cond-false, cond_both, ltb-true, ltb-false, eqb-true, or_right}
+use Rattle.std.proofs.lemmas.Bool.{and_parts, and_from, cond-true, cond-false, cond_both, leb-true, ltb-true, ltb-false, eqb-true, or_right}
 use Rattle.std.proofs.lemmas.List.{take_all}
 use Rattle.sb_types.specs.Records.{Entry, Table, Stage, Block, Holder}
 use Rattle.sb_types.specs.Limits.{is_delta_block}
-use Rattle.sb_types.specs.Runs.{are_ascending, are_distinct, above, entered, live, last_version, is_set}
+use Rattle.sb_types.specs.Runs.{IsRun, IsBlock, are_ascending, are_distinct, above, entered, live, last_version, is_set}
 use Rattle.sb_table.specs.Plain.{IsPlainTable}
 use Rattle.sb_holdings.specs.declared.ends.BlockEnd.{BlockEnd}
 use Rattle.sb_holdings.specs.declared.ends.BlockEnd.TheVariants.{Own, OwnAhead, Gap, Stale, OwnersFull, Taken, TooManyKeys, NoMemory}
@@ -13,8 +13,9 @@ use Rattle.sb_holdings.specs.Shown.{joins_shown, joined, shown_with}
 use Rattle.sb_holdings.specs.Stages.{staged_all, staged_front, staged_refused}
 use Rattle.sb_holdings.specs.Taken.{routed, treat}
 use Rattle.sb_holdings.specs.Held.{Held, holder_of, shown_of, with_owner, taken, treated}
-use Rattle.sb_holdings.specs.Plain.{alone, with_entries, IsHoldings}
-use Rattle.sb_holdings.specs.Ends.{is_own, JoinsOn, Enters, entered_count, IsTaken, Fits}
+use Rattle.sb_holdings.specs.Plain.{alone, with_entries, with_entered, IsHoldings}
+use Rattle.sb_holdings.specs.Ends.{is_own, JoinsOn, Enters, entered_count}
+use Rattle.sb_holdings.proofs.Order.{least, lower, run_above}
 use Rattle.sb_holdings.proofs.Changed.{holder-alone, shown-plain}
 
 -- ---- blocks without a floor
@@ -110,17 +111,57 @@ treated-taken held b (TooManyKeys n) entries new e = refl
 treated-taken held b (NoMemory n) entries new e = refl
 
 -- what a block that joins on leaves
-pub treated-entered : (held : Held) (b : Block) (end : BlockEnd) → IsHoldings held → is_delta_block b ≡ true → JoinsOn held b →
+treated-entered : (held : Held) (b : Block) (end : BlockEnd) → IsHoldings held → is_delta_block b ≡ true → JoinsOn held b →
     Enters (shown_of held b.owner).entries (above (shown_of held b.owner).held b.entries) end →
     treated held b end ≡ with_owner held b.owner (alone (with_entries (shown_of held b.owner) (take (entered_count end) (above (shown_of held b.owner).held b.entries))))
 treated-entered held b end is block joins enters = treated-taken held b end _ _ enters ∙ taken-entered held b end is (block-plain b block) joins enters
 
-pub Fits-taken : (held : Held) (b : Block) (end : BlockEnd) → IsTaken held b end → Fits held b end
-Fits-taken held b Own is = absurd is.enters
-Fits-taken held b (OwnAhead upto) is = absurd is.enters
-Fits-taken held b Gap is = absurd is.enters
-Fits-taken held b Stale is = absurd is.enters
-Fits-taken held b OwnersFull is = absurd is.enters
-Fits-taken held b (Taken n) is = is
-Fits-taken held b (TooManyKeys n) is = is
-Fits-taken held b (NoMemory n) is = is
+-- the same of entries and an owner that are those of the block
+pub with_entered-treated : (held : Held) (b : Block) (end : BlockEnd) (owner : List ℕ) (new : List Entry) → IsHoldings held → is_delta_block b ≡ true → JoinsOn held b →
+    owner ≡ b.owner → new ≡ above (shown_of held b.owner).held b.entries → Enters (shown_of held owner).entries new end → with_entered held owner (take (entered_count end) new) ≡ treated held b end
+with_entered-treated held b end owner new is block joins same_owner same_new enters =
+    ap (λ (o : List ℕ). with_entered held o (take (entered_count end) new)) same_owner
+    ∙ ap (λ (es : List Entry). with_entered held b.owner (take (entered_count end) es)) same_new
+    ∙ sym (treated-entered held b end is block joins (subst (λ (es : List Entry). Enters (shown_of held b.owner).entries es end) same_new (subst (λ (o : List ℕ). Enters (shown_of held o).entries new end) same_owner enters)))
+
+-- ---- a block of a delta
+
+last-after : (after : ℕ) (es : List Entry) → are_ascending after es ≡ true → 1 ≤ length es → after < last_version after es
+last-after after [] up some = absurd (omega arith)
+last-after after (e ∷ es) up some =
+    let parts = and_parts (nat_lt after e.version) (are_ascending e.version es) up in
+    omega (arith, ltb-true after e.version parts.0, least e.version es parts.1)
+
+pub IsBlock-delta : (b : Block) → is_delta_block b ≡ true → IsBlock b
+IsBlock-delta b is =
+    let plain = block-plain b is in
+    let entries = and_parts _ _ (and_parts _ _ (and_parts _ _ is).0).0 in
+    let some = leb-true 1 (length b.entries) (and_parts _ _ (and_parts _ _ (and_parts _ _ entries.1).0).0).0 in
+    record {
+      run = record { ascending = plain.ascending; most = omega (arith, plain.upto); distinct = plain.distinct };
+      order = omega (arith, plain.upto, last-after b.after b.entries plain.ascending some);
+    }
+
+-- ---- the entries of a block above a version
+
+above-some : (after version : ℕ) (es : List Entry) → are_ascending after es ≡ true → after ≤ version → version < last_version after es → 0 < length (above version es)
+above-some after version [] up le more = absurd (omega arith)
+above-some after version (e ∷ es) up le more =
+    let parts = and_parts (nat_lt after e.version) (are_ascending e.version es) up in
+    cond_both (nat_lt version e.version) (e ∷ above version es) (above version es) (λ (xs : List Entry). 0 < length xs)
+      (λ _. omega arith)
+      (λ held. above-some e.version version es parts.1 (ltb-false version e.version held) more)
+
+module _ (b : Block) (is : is_delta_block b ≡ true) where
+  plain : IsPlainBlock b
+  plain = block-plain b is
+
+  pub block-ascending : are_ascending 0 b.entries ≡ true
+  block-ascending = lower 0 b.after b.entries (omega arith) plain.ascending
+
+  module _ (version : ℕ) (after : b.after ≤ version) (more : version < b.upto) where
+    pub new-some : 0 < length (above version b.entries)
+    new-some = above-some b.after version b.entries plain.ascending after (omega (arith, more, plain.upto))
+
+    pub new-run : IsRun version b.upto (above version b.entries)
+    new-run = run_above version (omega (arith, more)) (record { ascending = plain.ascending; most = omega (arith, plain.upto); distinct = plain.distinct })

@@ -1,6 +1,6 @@
 -- Holdings of which one table was lent and changed.
-use Rattle.std.proofs.Common.{◌≡◌, ℕ, ◌+◌, ◌≤◌, ◌<◌, ◌%◌, ◌^◌, Bool, true, false, cond, not, ◌||◌, List, [], ◌∷◌, ◌++◌, length, length-append, Option, Some, None, IsSome, IfSome, is_some, unwrap_or, Result, Ok, Err, OnOk, OnErr, refl, sym, ap, subst, ◌∙◌, nat_eq, nat_lt, arith, eq-eqb}
-use Rattle.std.proofs.lemmas.Bool.{cond-true, or_left}
+use Rattle.std.proofs.Common.{◌≡◌, ℕ, ◌+◌, ◌≤◌, ◌<◌, ◌%◌, ◌^◌, Bool, true, false, cond, not, ◌||◌, ◌==◌, List, [], ◌∷◌, ◌++◌, length, length-append, Option, Some, None, IsSome, IfSome, is_some, unwrap_or, Result, Ok, Err, OnOk, OnErr, refl, sym, ap, subst, ◌∙◌, nat_eq, nat_lt, arith, eq-eqb}
+use Rattle.std.proofs.lemmas.Bool.{cond-true, cond-false, or_left, and_parts, leb-true}
 use Rattle.std.proofs.lemmas.List.{nil_from_length}
 use Rattle.std.proofs.lemmas.Map.Steps.{set_value_same}
 use Rattle.std.specs.Option.{option_map}
@@ -10,8 +10,9 @@ use Rattle.std.specs.Cmp.Lexicographic.{pointwise}
 use Rattle.std.specs.FinMap.{get, contains_key, len}
 use Rattle.sb_types.specs.declared.limits.TheConstants.{OWNERS_MOST}
 use Rattle.sb_types.specs.declared.fault.Fault.{Fault}
-use Rattle.sb_types.specs.declared.fault.Fault.TheVariants.{TableFull}
+use Rattle.sb_types.specs.declared.fault.Fault.TheVariants.{OutOfTurn, TableFull}
 use Rattle.sb_types.specs.Records.{Entry, Table, Holder}
+use Rattle.sb_types.specs.Limits.{is_entry}
 use Rattle.sb_types.specs.Runs.{entered, without}
 use Rattle.sb_table.specs.Plain.{IsPlainTable, with_entry, is_full_for}
 use Rattle.sb_holdings.specs.Held.{Held, nothing, shown_of, with_owner, written}
@@ -78,9 +79,9 @@ module _ (me owner : List ℕ) (old new : BTreeMap (List ℕ) Table) (t w : Tabl
 
 -- ---- the table of a new owner
 
-is_some-alone : (o : Option Table) → is_some (option_map alone o) ≡ is_some o
-is_some-alone None = refl
-is_some-alone (Some t) = refl
+pub is_some-map : {A B : Type 0} (f : A → B) (o : Option A) → is_some (option_map f o) ≡ is_some o
+is_some-map f None = refl
+is_some-map f (Some x) = refl
 
 pub added-nothing : (held : Held) (owner : List ℕ) (others : List Entry) → get held.owners owner ≡ None → length others ≡ 0 → with_entered held owner others ≡ held
 added-nothing held owner others unknown none =
@@ -106,25 +107,38 @@ pub has_place-found : (held : Held) (me owner : List ℕ) (tables : List (List �
 has_place-found held me owner tables up view =
     ap (λ (h : Held). has_place h owner) (sym view)
     ∙ ap (λ (o : Option Holder). is_some o || nat_lt (len (held_of me tables).owners) OWNERS_MOST) (get-held_of me tables up owner)
-    ∙ ap (λ (b : Bool). b || nat_lt (len (held_of me tables).owners) OWNERS_MOST) (is_some-alone (found tables owner))
+    ∙ ap (λ (b : Bool). b || nat_lt (len (held_of me tables).owners) OWNERS_MOST) (is_some-map alone (found tables owner))
     ∙ ap (λ (n : ℕ). is_some (found tables owner) || nat_lt n OWNERS_MOST) (len-held_of me tables up)
 
 -- ---- the own table
 
 pub found-own : (me : List ℕ) (tables : List (List ℕ × Table)) → Ascend tables → IsHoldings (held_of me tables) → is_some (found tables me) ≡ true
-found-own me tables up is = sym (is_some-alone (found tables me)) ∙ ap is_some (sym (get-held_of me tables up me)) ∙ is.own
+found-own me tables up is = sym (is_some-map alone (found tables me)) ∙ ap is_some (sym (get-held_of me tables up me)) ∙ is.own
 
 pub written-next : (held : Held) (e : Entry) → IsHoldings held → e.version ≡ (shown_of held held.me).held + 1 → written held e ≡ with_owner held held.me (alone (with_entry (shown_of held held.me) e))
 written-next held e is next =
     ap (λ (h : Holder). with_owner held held.me (own h e)) (holder-alone held is held.me)
     ∙ ap (with_owner held held.me) (cond-true (nat_eq e.version ((shown_of held held.me).held + 1)) _ (alone (shown_of held held.me)) (eq-eqb e.version _ next))
 
-pub next-version : (version held : ℕ) → held < 2 ^ 64 → 1 ≤ version → version ≡ (held + 1) % 2 ^ 64 → version ≡ held + 1
+next-version : (version held : ℕ) → held < 2 ^ 64 → 1 ≤ version → version ≡ next_version held → version ≡ held + 1
 next-version version held fits counted next = omega arith
 
-pub own_answer-next : (held : Held) (e : Entry) → e.version ≡ next_version (shown_of held held.me).held →
+pub entry-next : (e : Entry) (held : ℕ) → is_entry e ≡ true → held < 2 ^ 64 → e.version ≡ next_version held → e.version ≡ held + 1
+entry-next e held is fits next =
+    next-version e.version held fits (leb-true 1 e.version (and_parts _ _ (and_parts _ _ (and_parts _ _ is).0).1).0) next
+
+own_answer-next : (held : Held) (e : Entry) → e.version ≡ next_version (shown_of held held.me).held →
     own_answer held e ≡ cond (is_full_for e.key (shown_of held held.me).entries) (Err TableFull) (Ok tt)
-own_answer-next held e next = ?
+own_answer-next held e next =
+    cond-false (not (e.version == next_version (shown_of held held.me).held)) (Err (OutOfTurn (next_version (shown_of held held.me).held))) _ (ap not (eq-eqb e.version _ next))
+
+-- what the own table answers is the answer
+pub own_answer-lent : (held : Held) (me : List ℕ) (tables : List (List ℕ × Table)) (t : Table) → Ascend tables → found tables me ≡ Some t → held_of me tables ≡ held → (e : Entry) → e.version ≡ next_version t.held →
+    cond (is_full_for e.key t.entries) (Err TableFull) (Ok tt) ≡ own_answer held e
+own_answer-lent held me tables t up at view e next =
+    let shown = shown-found me me tables t up at in
+    sym (own_answer-next (held_of me tables) e (next ∙ ap (λ (u : Table). next_version u.held) (sym shown)) ∙ ap (λ (u : Table). cond (is_full_for e.key u.entries) (Err TableFull) (Ok tt)) shown)
+    ∙ ap (λ (h : Held). own_answer h e) view
 
 module _ (held : Held) (me : List ℕ) (old new : BTreeMap (List ℕ) Table) (t w : Table) (up : Ascend old.entries) (at : found old.entries me ≡ Some t) (through : WritesThrough by_text (by_text me) old w new)
     (is : IsHoldings (held_of me old.entries)) (view : held_of me old.entries ≡ held) (e : Entry) where
