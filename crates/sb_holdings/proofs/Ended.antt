@@ -164,4 +164,6 @@ module _ (b : Block) (is : is_delta_block b ≡ true) where
     new-some = above-some b.after version b.entries plain.ascending after (omega (arith, more, plain.upto))
 
     pub new-run : IsRun version b.upto (above version b.entries)
-    new-run = run_above version (omega (arith, more)) (record { ascending = plain.ascending; most = omega (arith, plain.upto); distinct = plain.distinct })
+    new-run =
+        let run : IsRun b.after b.upto b.entries = record { ascending = plain.ascending; most = omega (arith, plain.upto); distinct = plain.distinct } in
+        run_above version (omega (arith, more)) run

@@ -1,4 +1,4 @@
-use Rattle.std.proofs.Common.{◌≡◌, ◌<◌, ◌+◌, List, ℕ, Bool, true, cond, Option, Some, IsSome, Result, Ok, Err, is_some, refl, sym, ap, subst, ◌∙◌, arith}
+use Rattle.std.proofs.Common.{◌≡◌, ◌<◌, ◌+◌, List, ℕ, Bool, true, cond, Option, Some, IsSome, Result, Ok, Err, is_some, refl, sym, ap, subst, ◌∙◌, arith, MutBor}
 use Rattle.std.specs.Option.{option_copied_mut}
 use Rattle.sb_types.specs.Records.{Entry, Table}
 use Rattle.sb_types.specs.Faults.{Gives}
@@ -10,7 +10,7 @@ use Rattle.sb_holdings.proofs.holdings.Holdings.push_own.Goals as goal
 
 pub unwrap-requires : goal.unwrap-requires
 unwrap-requires c =
-    sym (is_some-map (λ x. x.now) c.get_mut.result) ∙ ap is_some c.get_mut.ensures.value ∙ found-own c.self.inside.me c.self.inside.tables.entries c.self.invariant.0 c.self.invariant.1
+    sym (is_some-map (λ (x : MutBor Table). x.now) c.get_mut.result) ∙ ap is_some c.get_mut.ensures.value ∙ found-own c.self.inside.me c.self.inside.tables.entries c.self.invariant.0 c.self.invariant.1
 
 pub push-requires : goal.push-requires
 push-requires c =
