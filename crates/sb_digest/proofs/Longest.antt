@@ -1,15 +1,16 @@
 -- Which front of a list of pairs is the longest within a budget.
-use Rattle.std.proofs.Common.{◌≡◌, ℕ, ◌+◌, ◌-◌, ◌*◌, ◌<◌, ◌≤◌, Bool, true, leb, List, [], ◌∷◌, ◌++◌, length, take, get_or, Option, Some, None, refl, sym, ap, ◌∙◌, subst, arith, inl, inr, length-append, append_assoc}
+use Rattle.std.proofs.Common.{◌≡◌, ℕ, ◌+◌, ◌-◌, ◌*◌, ◌^◌, ◌<◌, ◌≤◌, Bool, true, leb, List, [], ◌∷◌, ◌++◌, length, take, get_or, Option, Some, None, refl, sym, ap, ◌∙◌, subst, arith, inl, inr, length-append, append_assoc}
 use Rattle.std.specs.List.{sum_by, slice_get, list_all}
 use Rattle.std.specs.Option.{option_map}
 use Rattle.std.proofs.lemmas.Bool.{cases_lt, and_parts, leb-true}
 use Rattle.std.proofs.lemmas.List.{take_all, take-take, take_at, take-append-le, get_or_append_left}
 use Rattle.std.proofs.lemmas.List.Sums.{sum_by-cons, sum_by_more, sum_by-take-le}
 use Rattle.std.proofs.lemmas.Option.{slice_get-get_or, slice_get_past}
+use Rattle.sb_types.specs.declared.limits.TheConstants.{PAYLOAD_MOST}
 use Rattle.sb_types.specs.Text.{is_name, is_name_byte}
 use Rattle.sb_digest.specs.Digests.{Pair, Digest, digest_of}
 use Rattle.sb_digest.specs.Lengths.{bound_length, pair_length, digest_length, frame_length}
-use Rattle.sb_digest.specs.Limits.{is_bound, is_pair}
+use Rattle.sb_digest.specs.Limits.{is_bound, is_pair, are_digest_parts, is_digest}
 use Rattle.sb_digest.specs.Fronts.{front_of, IsLongestFront}
 
 abbrev pub nobody : Pair
@@ -104,3 +105,13 @@ pairs_length-most (p ∷ ps) is =
 
 pub frame_length-most : (want : Bool) (from : Option (List ℕ)) (ps : List Pair) → is_bound from ≡ true → list_all is_pair ps ≡ true → frame_length (digest_of want from None ps) ≤ 44 + 41 * length ps
 frame_length-most want from ps bound pairs = omega (arith, bound_length-most from bound, pairs_length-most ps pairs)
+
+pairs_length-least : (ps : List Pair) → 9 * length ps ≤ sum_by pair_length ps
+pairs_length-least [] = omega arith
+pairs_length-least (p ∷ ps) = omega (arith, sum_by-cons pair_length p ps, pairs_length-least ps)
+
+-- a payload has no room for more
+pub few_pairs : (d : Digest) → is_digest d ≡ true → length d.pairs < 2 ^ 16
+few_pairs d is =
+    let parts = (and_parts _ (are_digest_parts d) is).1 in
+    omega (arith, leb-true (digest_length d) PAYLOAD_MOST (and_parts _ (leb (digest_length d) PAYLOAD_MOST) parts).1, pairs_length-least d.pairs)

@@ -9,11 +9,11 @@ use Rattle.sb_digest.specs.Digests.{Pair, Digest, digest_of}
 use Rattle.sb_digest.specs.Lengths.{frame_length}
 use Rattle.sb_digest.specs.Limits.{are_pairs_above, is_bound, is_pair}
 
--- the first pairs, up to the name of the next: with no next, of all names from the first bound on
+-- the first pairs, up to the name of the next; of all pairs there is no next, and the range has no end
 abbrev pub front_of : Bool → Option (List ℕ) → List Pair → ℕ → Digest
 front_of want from pairs count = digest_of want from (option_map (λ pair. pair.owner) (slice_get pairs count)) (take count pairs)
 
--- the front of most pairs whose frame is within the budget
+-- the front of most pairs, of those whose frames are within the budget
 pub record IsLongestFront (budget : ℕ) (want : Bool) (from : Option (List ℕ)) (pairs : List Pair) (d : Digest) : Type 0 where
   pub count : ℕ
   pub most : count ≤ length pairs
@@ -30,7 +30,7 @@ pub record Front : Type 0 where
 abbrev pub with_pair : Front → Pair → Front
 with_pair f pair = record { budget = f.budget; from = f.from; pairs = f.pairs ++ pair ∷ [] }
 
--- without its last pair a digest is within the budget: to end before a pair takes nine bytes less than the pair
+-- a digest of all pairs but the last is within the budget: to end before a pair takes nine bytes less than the pair
 abbrev pub has_room : Front → Bool
 has_room f = nat_le (frame_length (digest_of true f.from None f.pairs)) (f.budget + 9)
 

@@ -83,7 +83,7 @@ fn are_covered(from: Option<&Name>, until: Option<&Name>, pairs: &[Pair]) -> boo
     pairs.iter().all(|pair| is_covered(from, until, &pair.owner))
 }
 
-pub(crate) fn owner_of(pair: &Pair) -> Name
+fn owner_of(pair: &Pair) -> Name
     ensures { result ≡ pair.now.owner }
 {
     pair.owner

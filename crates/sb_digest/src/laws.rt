@@ -1,10 +1,17 @@
 //! What follows from the definitions alone, for the crates above. The functions do nothing: each clause is a law.
-ghost use Rattle.std.specs.Prelude.{◌≡◌, ℕ, Bool, true, List, Option};
+ghost use Rattle.std.specs.Prelude.{◌≡◌, ℕ, ◌<◌, ◌^◌, Bool, true, List, length, Option};
 ghost use Rattle.sb_holdings.specs.Held.{Held, holder_of};
 ghost use Rattle.sb_digest.specs.Digests as digests;
 ghost use Rattle.sb_digest.specs.Digests.{covers, number};
+ghost use Rattle.sb_digest.specs.Limits.{is_digest};
 ghost use Rattle.sb_digest.specs.Fronts.{IsLongestFront};
 ghost use Rattle.sb_digest.specs.Pairs.{pairs_from};
+
+/// The number of a digest's pairs takes two bytes.
+pub fn digests_have_few_pairs()
+    ensures { (d : digests.Digest) → is_digest d ≡ true → length d.pairs < 2 ^ 16 }
+{
+}
 
 /// Of a list of pairs one front is the longest within a budget.
 pub fn one_front_is_longest()
