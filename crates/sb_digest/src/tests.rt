@@ -32,43 +32,51 @@ fn six_owners() -> Result<[Name; 6], Fault> {
 fn lengths_of_frames(rt: HostRuntime) -> Result<(), Fail> {
     let alloc = rt.alloc();
     let owners = six_owners()?;
-    let first = Digest::new(true, None, Some(owners[5]), pairs(alloc, &owners[..5])?)?;
+    let (five, sixth) = owners.split_at(5);
+    let first = Digest::new(true, None, Some(owners[5]), pairs(alloc, five)?)?;
     assert_eq!(rt; first.encoded_length(), 243);
-    let next = Digest::new(true, first.next_from(), None, pairs(alloc, &owners[5..])?)?;
+    let next = Digest::new(true, first.next_from(), None, pairs(alloc, sixth)?)?;
     assert_eq!(rt; next.encoded_length(), 79);
     let all = Digest::new(false, None, None, pairs(alloc, &owners)?)?;
     assert_eq!(rt; all.encoded_length(), 252);
     Ok(())
 }
 
+/// Whether the parts are refused.
+fn is_refused(
+    alloc: Global,
+    from: Option<Name>,
+    until: Option<Name>,
+    owners: &[Name],
+) -> Result<bool, Fault> {
+    let digest = Digest::new(true, from, until, pairs(alloc, owners)?);
+    Ok(matches!(digest, Err(Fault::Malformed(2))))
+}
+
 #[test]
 fn parts_that_make_no_digest(rt: HostRuntime) -> Result<(), Fail> {
     let alloc = rt.alloc();
-    let [a, b, c] = [Name::read(b"a")?, Name::read(b"b")?, Name::read(b"c")?];
-    for (from, until, owners) in [
-        (None, Some(b), [a, b].as_slice()),
-        (None, Some(b), [a, c].as_slice()),
-        (Some(b), None, [a, b].as_slice()),
-        (Some(b), Some(b), [].as_slice()),
-        (Some(c), Some(b), [].as_slice()),
-        (None, None, [a, a].as_slice()),
-        (None, None, [b, a].as_slice()),
-    ] {
-        let digest = Digest::new(true, from, until, pairs(alloc, owners)?);
-        assert!(rt; matches!(digest, Err(Fault::Malformed(2))));
-    }
+    let a = Name::read(b"a")?;
+    let b = Name::read(b"b")?;
+    let c = Name::read(b"c")?;
+    assert!(rt; is_refused(alloc, None, Some(b), &[a, b])?);
+    assert!(rt; is_refused(alloc, None, Some(b), &[a, c])?);
+    assert!(rt; is_refused(alloc, Some(b), None, &[a, b])?);
+    assert!(rt; is_refused(alloc, Some(b), Some(b), &[])?);
+    assert!(rt; is_refused(alloc, Some(c), Some(b), &[])?);
+    assert!(rt; is_refused(alloc, None, None, &[a, a])?);
+    assert!(rt; is_refused(alloc, None, None, &[b, a])?);
+    assert!(rt; !is_refused(alloc, Some(a), Some(c), &[a, b])?);
     Ok(())
 }
 
 #[test]
 fn a_digest_is_read(rt: HostRuntime) -> Result<(), Fail> {
     let alloc = rt.alloc();
-    let [a, b, c, d] = [
-        Name::read(b"a")?,
-        Name::read(b"b")?,
-        Name::read(b"c")?,
-        Name::read(b"d")?,
-    ];
+    let a = Name::read(b"a")?;
+    let b = Name::read(b"b")?;
+    let c = Name::read(b"c")?;
+    let d = Name::read(b"d")?;
     let digest = Digest::new(false, Some(b), Some(d), pairs(alloc, &[b, c])?)?;
     assert!(rt; !digest.want());
     assert_eq!(rt; digest.from(), Some(b));
@@ -94,7 +102,8 @@ fn asked(alloc: Global, holdings: &Holdings, from: Option<&Name>) -> Result<Dige
 #[test]
 fn a_new_node_tells_of_itself(rt: HostRuntime) -> Result<(), Fail> {
     let alloc = rt.alloc();
-    let [a, b] = [Name::read(b"a")?, Name::read(b"b")?];
+    let a = Name::read(b"a")?;
+    let b = Name::read(b"b")?;
     let holdings = match Holdings::new(alloc, a, Table::new(alloc)) {
         Err(Fault::NoMemory) => Holdings::new(alloc, a, Table::new(alloc))?,
         made => made?,
