@@ -8,7 +8,8 @@ use Rattle.sb_types.specs.Writes.{Written, Tells, HoldsStage, Honest, IsHolder, 
 use Rattle.sb_holdings.specs.declared.ends.BlockEnd.{BlockEnd}
 use Rattle.sb_holdings.specs.declared.ends.BlockEnd.TheVariants.{Own, OwnAhead, Gap, Stale, OwnersFull, Taken, TooManyKeys, NoMemory}
 use Rattle.sb_holdings.specs.Blocks.{part_above, front}
-use Rattle.sb_holdings.specs.Shown.{joins_shown, stage_beyond, shown_with, with_entry, own}
+use Rattle.sb_table.specs.Plain.{with_entry}
+use Rattle.sb_holdings.specs.Shown.{joins_shown, stage_beyond, shown_with, own}
 use Rattle.sb_holdings.specs.Stages.{new_stage, goes_on, begins, stage_for, stage_with, swapped, settled, staged_all, staged_front, staged_refused}
 use Rattle.sb_holdings.specs.Taken.{routed, treat}
 use Rattle.sb_holdings.specs.Progress.{Onward}

@@ -17,3 +17,7 @@ pub mod Shown
 pub mod Content
 pub mod Offered
 pub mod ByOwner
+pub mod Entered
+pub mod Changed
+pub mod Ended
+pub mod Lent

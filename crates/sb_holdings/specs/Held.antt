@@ -3,7 +3,7 @@ use Rattle.std.specs.Prelude.{ℕ, Bool, ◌&&◌, nat_eq, if◌then◌else◌, 
 use Rattle.std.specs.Ordering.{nat_cmp}
 use Rattle.std.specs.Cmp.Lexicographic.{slice_cmp, pointwise}
 use Rattle.std.specs.FinMap.{FinMap, get, insert, remove}
-use Rattle.sb_types.specs.Records.{Entry, Block, Holder}
+use Rattle.sb_types.specs.Records.{Entry, Table, Block, Holder}
 use Rattle.sb_holdings.specs.declared.ends.BlockEnd.{BlockEnd}
 use Rattle.sb_holdings.specs.declared.ends.BlockEnd.TheVariants.{Own, OwnAhead, Gap, Stale, OwnersFull, Taken, TooManyKeys, NoMemory}
 use Rattle.sb_holdings.specs.Shown.{own}
@@ -23,6 +23,9 @@ is_nothing h = nat_eq h.shown.held 0 && (nat_eq h.shown.floor 0 && (nat_eq (leng
 
 abbrev pub holder_of : FinMap (slice_cmp nat_cmp) Holder → List ℕ → Holder
 holder_of owners owner = unwrap_or (get owners owner) nothing
+
+abbrev pub shown_of : Held → List ℕ → Table
+shown_of held owner = (holder_of held.owners owner).shown
 
 -- an owner of whom nothing is held does not stand in the map
 abbrev pub with_holder : FinMap (slice_cmp nat_cmp) Holder → List ℕ → Holder → FinMap (slice_cmp nat_cmp) Holder

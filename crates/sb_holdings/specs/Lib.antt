@@ -11,3 +11,4 @@ pub mod ByVersion
 pub mod Contents
 pub mod Offers
 pub mod Plain
+pub mod Ends

@@ -1,7 +1,8 @@
 -- How a block joins the shown table of its owner.
-use Rattle.std.specs.Prelude.{ℕ, ◌+◌, max, Bool, ◌&&◌, nat_lt, nat_le, nat_eq, if◌then◌else◌, [], ◌∷◌, Option, Some, None}
+use Rattle.std.specs.Prelude.{ℕ, ◌+◌, max, Bool, ◌&&◌, nat_lt, nat_le, nat_eq, if◌then◌else◌, Option, Some, None}
 use Rattle.sb_types.specs.Records.{Entry, Table, Stage, Block, Holder}
 use Rattle.sb_types.specs.Runs.{entered, live}
+use Rattle.sb_table.specs.Plain.{with_entry}
 
 -- no write between what is held and the block is missing, the block tells of more, and what its floor let go is passed
 abbrev pub joins_shown : Table → Block → Bool
@@ -18,10 +19,6 @@ stage_beyond held (Some s) = if nat_lt held s.floor then Some s else None
 
 abbrev pub shown_with : Holder → Block → Holder
 shown_with h b = record { shown = joined h.shown b; stage = stage_beyond b.upto h.stage }
-
--- one more entry, in place of its key's
-abbrev pub with_entry : Table → Entry → Table
-with_entry t e = record { held = e.version; floor = t.floor; entries = entered t.entries (e ∷ []) }
 
 -- the owner's own write, where it is the next; another changes nothing
 abbrev pub own : Holder → Entry → Holder

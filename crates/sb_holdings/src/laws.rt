@@ -1,14 +1,17 @@
 //! What stays true of the writes that a node holds.
 
-ghost use Rattle.std.specs.Prelude.{◌≡◌, ℕ, true, List, ◌++◌, ◌↔◌};
+ghost use Rattle.std.specs.Prelude.{◌≡◌, ℕ, true, List, ◌++◌, ◌↔◌, Option};
 ghost use Rattle.sb_types.specs.declared.entry.Write.{Write};
 ghost use Rattle.sb_types.specs.Records.{Entry, Table, Block, Holder};
+ghost use Rattle.sb_types.specs.Limits.{is_delta_block};
 ghost use Rattle.sb_types.specs.Runs.{are_distinct, entered, IsBlock};
 ghost use Rattle.sb_types.specs.Writes.{Tells, Holds, Honest, IsHolder, HolderHolds};
 ghost use Rattle.sb_holdings.specs.declared.ends.BlockEnd.{BlockEnd};
 ghost use Rattle.sb_holdings.specs.Taken.{treat};
 ghost use Rattle.sb_holdings.specs.Events.{Event, replay, AreEvents, AllTrue};
 ghost use Rattle.sb_holdings.specs.Progress.{Later};
+ghost use Rattle.sb_holdings.specs.Held.{Held};
+ghost use Rattle.sb_holdings.specs.Plain.{IsHoldings};
 ghost use Rattle.sb_holdings.specs.Nodes.{Node, NodeEvent, replay_at, AreNodeEvents, AllTrueAt, IsNode, NodeHolds, NodeLater};
 ghost use Rattle.sb_holdings.specs.Entering.{entered_each};
 ghost use Rattle.sb_holdings.specs.ByVersion.{TellsByVersion};
@@ -56,4 +59,10 @@ pub fn nodes_hold()
 pub fn one_meaning()
     ensures { (writes : List Write) (floor after upto : ℕ) (entries : List Entry) →
         Tells writes floor after upto entries ↔ TellsByVersion writes floor after upto entries }
+{}
+
+/// A node's laws hold of what is held: whatever its conflict, holdings make a node, and a delta's blocks are blocks.
+pub fn holdings_make_nodes()
+    ensures node { (held : Held) (conflict : Option ℕ) → IsHoldings held → IsNode (record { held = held; conflict = conflict }) }
+    ensures block { (b : Block) → is_delta_block b ≡ true → IsBlock b }
 {}

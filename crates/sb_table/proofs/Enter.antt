@@ -1,6 +1,6 @@
 -- What entering an entry in place of its key's does to keys and counts.
 use Rattle.std.proofs.Common.{◌≡◌, ℕ, ◌+◌, ◌<◌, ◌≤◌, Bool, true, false, not, ◌||◌, ◌&&◌, List, [], ◌∷◌, ◌++◌, length, filter, cond, nat_eq, nat_lt, nat_le, suc, Option, Some, None, length-append, refl, sym, ap, subst, ◌∙◌, ⊎_elim, arith}
-use Rattle.std.proofs.lemmas.Bool.{and_parts, and_from, or_parts, or_from, or_left, or_cases, both_ways, cases_Bool, cond-true, cond-false, cond_both, and_cases, leb-false, ltb-true, ltb-false, not-true, not-false, not_from_true, not_from_false}
+use Rattle.std.proofs.lemmas.Bool.{and_parts, and_from, or_parts, or_from, or_left, or_cases, both_ways, cases_Bool, cond-true, cond-false, cond_both, and_cases, leb-true, leb-false, ltb-true, ltb-false, not-true, not-false, not_from_true, not_from_false}
 use Rattle.std.proofs.lemmas.Cmp.{nat_list_eq_equiv}
 use Rattle.std.proofs.lemmas.List.Folds.{list_any-append}
 use Rattle.std.specs.Cmp.Lexicographic.{pointwise, bytes_decides}
@@ -129,3 +129,9 @@ length-entered e es most le room =
       (λ held. omega (arith, long, length-without_lt e es (not-false (has_key e.key es) held)))
       (λ few. omega (arith, long, length-without_le e es, leb-false most (length es) few))
       (and_cases (not (has_key e.key es)) (nat_le most (length es)) room)
+
+pub length-entered_full : (e : Entry) (es : List Entry) (most : ℕ) → (not (has_key e.key es) && nat_le most (length es)) ≡ true → most < length (entered es (e ∷ []))
+length-entered_full e es most full =
+    let parts = and_parts (not (has_key e.key es)) (nat_le most (length es)) full in
+    let none = without-none e es (not-true (has_key e.key es) parts.0) in
+    omega (arith, leb-true most (length es) parts.1, length-append (without (e ∷ []) es) (e ∷ []), ap length none)

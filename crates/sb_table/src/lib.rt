@@ -8,4 +8,4 @@ mod table;
 
 pub use after::After;
 pub use prefixed::Prefixed;
-pub use table::Table;
+pub use table::{Table, entries_above};
