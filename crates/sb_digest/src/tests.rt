@@ -1,12 +1,14 @@
+ghost use Rattle.std.specs.Prelude.{◌≤◌};
+
 use super::*;
 use sb_holdings::Holdings;
 use sb_table::Table;
-use sb_types::{Fault, Name};
+use sb_types::{BUDGET_LEAST, BUDGET_MOST, Block, Entry, Fault, Key, Name, Slot, Value};
 use std::alloc::Global;
 use std::test::Fail;
 
 /// Pairs of these owners, with the versions 1, 2 and so on.
-fn pairs(alloc: Global, owners: &[Name]) -> Result<Vec<Pair>, Fault> {
+fn gathered(alloc: Global, owners: &[Name]) -> Result<Vec<Pair>, Fault> {
     let mut pairs = Vec::new(alloc);
     for (version, owner) in (1..).zip(owners) {
         pairs.push(Pair {
@@ -15,6 +17,14 @@ fn pairs(alloc: Global, owners: &[Name]) -> Result<Vec<Pair>, Fault> {
         })?;
     }
     Ok(pairs)
+}
+
+/// The pairs, gathered once more where memory was refused.
+fn pairs(alloc: Global, owners: &[Name]) -> Result<Vec<Pair>, Fault> {
+    match gathered(alloc, owners) {
+        Err(Fault::NoMemory) => gathered(alloc, owners),
+        pairs => pairs,
+    }
 }
 
 fn six_owners() -> Result<[Name; 6], Fault> {
@@ -92,10 +102,26 @@ fn a_digest_is_read(rt: HostRuntime) -> Result<(), Fail> {
 }
 
 /// The digest, asked for once more where memory was refused.
-fn asked(alloc: Global, holdings: &Holdings, from: Option<&Name>) -> Result<Digest, Fault> {
-    match build(alloc, holdings, from.copied(), true, 256) {
-        Err(Fault::NoMemory) => build(alloc, holdings, from.copied(), true, 256),
+fn asked(
+    alloc: Global,
+    holdings: &Holdings,
+    from: Option<&Name>,
+    budget: u64,
+) -> Result<Digest, Fault>
+    requires least { BUDGET_LEAST ≤ budget }
+    requires most { budget ≤ BUDGET_MOST }
+{
+    match build(alloc, holdings, from.copied(), true, budget) {
+        Err(Fault::NoMemory) => build(alloc, holdings, from.copied(), true, budget),
         built => built,
+    }
+}
+
+/// What a node holds that knows of no other.
+fn alone(alloc: Global, me: Name) -> Result<Holdings, Fault> {
+    match Holdings::new(alloc, me, Table::new(alloc)) {
+        Err(Fault::NoMemory) => Holdings::new(alloc, me, Table::new(alloc)),
+        made => made,
     }
 }
 
@@ -104,20 +130,63 @@ fn a_new_node_tells_of_itself(rt: HostRuntime) -> Result<(), Fail> {
     let alloc = rt.alloc();
     let a = Name::read(b"a")?;
     let b = Name::read(b"b")?;
-    let holdings = match Holdings::new(alloc, a, Table::new(alloc)) {
-        Err(Fault::NoMemory) => Holdings::new(alloc, a, Table::new(alloc))?,
-        made => made?,
-    };
-    let digest = asked(alloc, &holdings, None)?;
+    let holdings = alone(alloc, a)?;
+    let digest = asked(alloc, &holdings, None, 256)?;
     assert!(rt; digest.want());
     assert_eq!(rt; digest.from(), None);
     assert_eq!(rt; digest.until(), None);
-    assert!(rt; matches!(digest.pairs(), [pair] if pair.owner == a && pair.version == 0));
+    assert_eq!(rt; digest.pairs().len(), 1);
+    assert!(rt; digest.pairs().iter().all(|pair| pair.owner == a && pair.version == 0));
     assert_eq!(rt; digest.encoded_length(), 16);
 
-    let rest = asked(alloc, &holdings, Some(&b))?;
+    let rest = asked(alloc, &holdings, Some(&b), 256)?;
     assert_eq!(rt; rest.from(), Some(b));
     assert_eq!(rt; rest.until(), None);
     assert!(rt; rest.pairs().is_empty());
+    Ok(())
+}
+
+/// An owner's first write.
+fn first_write(alloc: Global, owner: &Name) -> Result<Block, Fault> {
+    let mut entries = Vec::new(alloc);
+    let slot = Slot::Set(Value::flag(true));
+    entries.push(Entry::new(Key::read(b"up")?, 1, slot))?;
+    Block::new(*owner, 0, entries)
+}
+
+/// Takes the owner's first write: twice, so that it is held also where memory was refused once.
+fn hold(alloc: Global, holdings: &mut Holdings, owner: &Name) {
+    for _ in 0..2 {
+        if let Ok(block) = first_write(alloc, owner) {
+            holdings.apply_block(&block);
+        }
+    }
+}
+
+#[test]
+fn six_owners_take_two_digests(rt: HostRuntime) -> Result<(), Fail> {
+    let alloc = rt.alloc();
+    let owners = six_owners()?;
+    let mut holdings = alone(alloc, owners[0])?;
+    for owner in &owners {
+        hold(alloc, &mut holdings, owner);
+    }
+    let first = asked(alloc, &holdings, None, 256)?;
+    assert_eq!(rt; first.pairs().len(), 5);
+    assert_eq!(rt; first.until(), Some(owners[5]));
+    assert_eq!(rt; first.encoded_length(), 243);
+    assert_eq!(rt; first.number(&owners[0]), 0);
+    assert_eq!(rt; first.number(&owners[4]), 1);
+
+    let next = asked(alloc, &holdings, first.next_from().as_ref(), 256)?;
+    assert_eq!(rt; next.from(), Some(owners[5]));
+    assert_eq!(rt; next.pairs().len(), 1);
+    assert_eq!(rt; next.until(), None);
+    assert_eq!(rt; next.encoded_length(), 79);
+
+    let all = asked(alloc, &holdings, None, 258)?;
+    assert_eq!(rt; all.pairs().len(), 6);
+    assert_eq!(rt; all.until(), None);
+    assert_eq!(rt; all.encoded_length(), 252);
     Ok(())
 }
