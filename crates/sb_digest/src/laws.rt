@@ -1,6 +1,6 @@
 //! What follows from the definitions alone, for the crates above. The functions do nothing: each clause is a law.
 ghost use Rattle.std.specs.Prelude.{◌≡◌, ℕ, ◌<◌, ◌^◌, Bool, true, List, length, Option};
-ghost use Rattle.sb_holdings.specs.Held.{Held, holder_of};
+ghost use Rattle.sb_holdings.specs.Held.{Held, shown_of};
 ghost use Rattle.sb_digest.specs.Digests as digests;
 ghost use Rattle.sb_digest.specs.Digests.{covers, number};
 ghost use Rattle.sb_digest.specs.Limits.{is_digest};
@@ -24,6 +24,6 @@ pub fn one_front_is_longest()
 pub fn digests_are_true()
     ensures { (held : Held) (budget : ℕ) (want : Bool) (from : Option (List ℕ)) (d : digests.Digest) (owner : List ℕ) →
         IsLongestFront budget want from (pairs_from from held) d → covers d owner ≡ true →
-        number d owner ≡ (holder_of held.owners owner).shown.held }
+        number d owner ≡ (shown_of held owner).held }
 {
 }

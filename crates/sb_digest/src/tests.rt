@@ -1,12 +1,14 @@
+ghost use Rattle.std.specs.Prelude.{◌≤◌};
+
 use super::*;
 use sb_holdings::Holdings;
 use sb_table::Table;
-use sb_types::{Fault, Name};
+use sb_types::{BUDGET_LEAST, BUDGET_MOST, Block, Entry, Fault, Key, Name, Slot, Value};
 use std::alloc::Global;
 use std::test::Fail;
 
 /// Pairs of these owners, with the versions 1, 2 and so on.
-fn pairs(alloc: Global, owners: &[Name]) -> Result<Vec<Pair>, Fault> {
+fn gathered(alloc: Global, owners: &[Name]) -> Result<Vec<Pair>, Fault> {
     let mut pairs = Vec::new(alloc);
     for (version, owner) in (1..).zip(owners) {
         pairs.push(Pair {
@@ -15,6 +17,14 @@ fn pairs(alloc: Global, owners: &[Name]) -> Result<Vec<Pair>, Fault> {
         })?;
     }
     Ok(pairs)
+}
+
+/// The pairs, gathered once more where memory was refused.
+fn pairs(alloc: Global, owners: &[Name]) -> Result<Vec<Pair>, Fault> {
+    match gathered(alloc, owners) {
+        Err(Fault::NoMemory) => gathered(alloc, owners),
+        pairs => pairs,
+    }
 }
 
 fn six_owners() -> Result<[Name; 6], Fault> {
@@ -32,43 +42,51 @@ fn six_owners() -> Result<[Name; 6], Fault> {
 fn lengths_of_frames(rt: HostRuntime) -> Result<(), Fail> {
     let alloc = rt.alloc();
     let owners = six_owners()?;
-    let first = Digest::new(true, None, Some(owners[5]), pairs(alloc, &owners[..5])?)?;
+    let (five, sixth) = owners.split_at(5);
+    let first = Digest::new(true, None, Some(owners[5]), pairs(alloc, five)?)?;
     assert_eq!(rt; first.encoded_length(), 243);
-    let next = Digest::new(true, first.next_from(), None, pairs(alloc, &owners[5..])?)?;
+    let next = Digest::new(true, first.next_from(), None, pairs(alloc, sixth)?)?;
     assert_eq!(rt; next.encoded_length(), 79);
     let all = Digest::new(false, None, None, pairs(alloc, &owners)?)?;
     assert_eq!(rt; all.encoded_length(), 252);
     Ok(())
 }
 
+/// Whether the parts are refused.
+fn is_refused(
+    alloc: Global,
+    from: Option<Name>,
+    until: Option<Name>,
+    owners: &[Name],
+) -> Result<bool, Fault> {
+    let digest = Digest::new(true, from, until, pairs(alloc, owners)?);
+    Ok(matches!(digest, Err(Fault::Malformed(2))))
+}
+
 #[test]
 fn parts_that_make_no_digest(rt: HostRuntime) -> Result<(), Fail> {
     let alloc = rt.alloc();
-    let [a, b, c] = [Name::read(b"a")?, Name::read(b"b")?, Name::read(b"c")?];
-    for (from, until, owners) in [
-        (None, Some(b), [a, b].as_slice()),
-        (None, Some(b), [a, c].as_slice()),
-        (Some(b), None, [a, b].as_slice()),
-        (Some(b), Some(b), [].as_slice()),
-        (Some(c), Some(b), [].as_slice()),
-        (None, None, [a, a].as_slice()),
-        (None, None, [b, a].as_slice()),
-    ] {
-        let digest = Digest::new(true, from, until, pairs(alloc, owners)?);
-        assert!(rt; matches!(digest, Err(Fault::Malformed(2))));
-    }
+    let a = Name::read(b"a")?;
+    let b = Name::read(b"b")?;
+    let c = Name::read(b"c")?;
+    assert!(rt; is_refused(alloc, None, Some(b), &[a, b])?);
+    assert!(rt; is_refused(alloc, None, Some(b), &[a, c])?);
+    assert!(rt; is_refused(alloc, Some(b), None, &[a, b])?);
+    assert!(rt; is_refused(alloc, Some(b), Some(b), &[])?);
+    assert!(rt; is_refused(alloc, Some(c), Some(b), &[])?);
+    assert!(rt; is_refused(alloc, None, None, &[a, a])?);
+    assert!(rt; is_refused(alloc, None, None, &[b, a])?);
+    assert!(rt; !is_refused(alloc, Some(a), Some(c), &[a, b])?);
     Ok(())
 }
 
 #[test]
 fn a_digest_is_read(rt: HostRuntime) -> Result<(), Fail> {
     let alloc = rt.alloc();
-    let [a, b, c, d] = [
-        Name::read(b"a")?,
-        Name::read(b"b")?,
-        Name::read(b"c")?,
-        Name::read(b"d")?,
-    ];
+    let a = Name::read(b"a")?;
+    let b = Name::read(b"b")?;
+    let c = Name::read(b"c")?;
+    let d = Name::read(b"d")?;
     let digest = Digest::new(false, Some(b), Some(d), pairs(alloc, &[b, c])?)?;
     assert!(rt; !digest.want());
     assert_eq!(rt; digest.from(), Some(b));
@@ -84,31 +102,91 @@ fn a_digest_is_read(rt: HostRuntime) -> Result<(), Fail> {
 }
 
 /// The digest, asked for once more where memory was refused.
-fn asked(alloc: Global, holdings: &Holdings, from: Option<&Name>) -> Result<Digest, Fault> {
-    match build(alloc, holdings, from.copied(), true, 256) {
-        Err(Fault::NoMemory) => build(alloc, holdings, from.copied(), true, 256),
+fn asked(
+    alloc: Global,
+    holdings: &Holdings,
+    from: Option<&Name>,
+    budget: u64,
+) -> Result<Digest, Fault>
+    requires least { BUDGET_LEAST ≤ budget }
+    requires most { budget ≤ BUDGET_MOST }
+{
+    match build(alloc, holdings, from.copied(), true, budget) {
+        Err(Fault::NoMemory) => build(alloc, holdings, from.copied(), true, budget),
         built => built,
+    }
+}
+
+/// What a node holds that knows of no other.
+fn alone(alloc: Global, me: Name) -> Result<Holdings, Fault> {
+    match Holdings::new(alloc, me, Table::new(alloc)) {
+        Err(Fault::NoMemory) => Holdings::new(alloc, me, Table::new(alloc)),
+        made => made,
     }
 }
 
 #[test]
 fn a_new_node_tells_of_itself(rt: HostRuntime) -> Result<(), Fail> {
     let alloc = rt.alloc();
-    let [a, b] = [Name::read(b"a")?, Name::read(b"b")?];
-    let holdings = match Holdings::new(alloc, a, Table::new(alloc)) {
-        Err(Fault::NoMemory) => Holdings::new(alloc, a, Table::new(alloc))?,
-        made => made?,
-    };
-    let digest = asked(alloc, &holdings, None)?;
+    let a = Name::read(b"a")?;
+    let b = Name::read(b"b")?;
+    let holdings = alone(alloc, a)?;
+    let digest = asked(alloc, &holdings, None, 256)?;
     assert!(rt; digest.want());
     assert_eq!(rt; digest.from(), None);
     assert_eq!(rt; digest.until(), None);
-    assert!(rt; matches!(digest.pairs(), [pair] if pair.owner == a && pair.version == 0));
+    assert_eq!(rt; digest.pairs().len(), 1);
+    assert!(rt; digest.pairs().iter().all(|pair| pair.owner == a && pair.version == 0));
     assert_eq!(rt; digest.encoded_length(), 16);
 
-    let rest = asked(alloc, &holdings, Some(&b))?;
+    let rest = asked(alloc, &holdings, Some(&b), 256)?;
     assert_eq!(rt; rest.from(), Some(b));
     assert_eq!(rt; rest.until(), None);
     assert!(rt; rest.pairs().is_empty());
+    Ok(())
+}
+
+/// An owner's first write.
+fn first_write(alloc: Global, owner: &Name) -> Result<Block, Fault> {
+    let mut entries = Vec::new(alloc);
+    let slot = Slot::Set(Value::flag(true));
+    entries.push(Entry::new(Key::read(b"up")?, 1, slot))?;
+    Block::new(*owner, 0, entries)
+}
+
+/// Takes the owner's first write: twice, so that it is held also where memory was refused once.
+fn hold(alloc: Global, holdings: &mut Holdings, owner: &Name) {
+    for _ in 0..2 {
+        if let Ok(block) = first_write(alloc, owner) {
+            holdings.apply_block(&block);
+        }
+    }
+}
+
+#[test]
+fn six_owners_take_two_digests(rt: HostRuntime) -> Result<(), Fail> {
+    let alloc = rt.alloc();
+    let owners = six_owners()?;
+    let mut holdings = alone(alloc, owners[0])?;
+    for owner in &owners {
+        hold(alloc, &mut holdings, owner);
+    }
+    let first = asked(alloc, &holdings, None, 256)?;
+    assert_eq!(rt; first.pairs().len(), 5);
+    assert_eq!(rt; first.until(), Some(owners[5]));
+    assert_eq!(rt; first.encoded_length(), 243);
+    assert_eq!(rt; first.number(&owners[0]), 0);
+    assert_eq!(rt; first.number(&owners[4]), 1);
+
+    let next = asked(alloc, &holdings, first.next_from().as_ref(), 256)?;
+    assert_eq!(rt; next.from(), Some(owners[5]));
+    assert_eq!(rt; next.pairs().len(), 1);
+    assert_eq!(rt; next.until(), None);
+    assert_eq!(rt; next.encoded_length(), 79);
+
+    let all = asked(alloc, &holdings, None, 258)?;
+    assert_eq!(rt; all.pairs().len(), 6);
+    assert_eq!(rt; all.until(), None);
+    assert_eq!(rt; all.encoded_length(), 252);
     Ok(())
 }
