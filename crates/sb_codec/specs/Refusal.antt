@@ -1,0 +1,26 @@
+-- What a reader gives.
+use Rattle.std.specs.Prelude.{◌≡◌, ℕ, List, Option, Some, None, Result, Ok, Err}
+use Rattle.sb_types.specs.declared.fault.Fault.{Fault}
+use Rattle.sb_types.specs.declared.fault.Fault.TheVariants.{NoMemory}
+use Rattle.sb_codec.specs.declared.refusal.Refusal.{Refusal}
+use Rattle.sb_codec.specs.declared.refusal.Refusal.TheVariants.{Memory, Malformed}
+
+-- there is nothing to read, unless there was no memory
+abbrev pub Fails : {Y : Type 0} → Refusal → Option Y → Type 0
+Fails Memory read = Unit {0}
+Fails Malformed read = read ≡ None
+
+-- the result, seen by view, and the bytes behind it are what was to be read, unless there was no memory
+abbrev pub Reads : {X Y : Type 0} → (X → Y) → Option (Y × List ℕ) → Result X Refusal → List ℕ → Type 0
+Reads view read (Ok x) rest = read ≡ Some (view x, rest)
+Reads view read (Err refusal) rest = Fails refusal read
+
+-- a value that a test refused is malformed
+abbrev pub refusal_of : Fault → Refusal
+refusal_of NoMemory = Memory
+refusal_of _ = Malformed
+
+-- the same, of all of the bytes
+abbrev pub ReadsWhole : {X : Type 0} → Option X → Result X Refusal → Type 0
+ReadsWhole read (Ok x) = read ≡ Some x
+ReadsWhole read (Err refusal) = Fails refusal read

@@ -1,0 +1,62 @@
+//! A message out of its payload.
+
+ghost use Rattle.std.specs.Prelude.{◌≡◌, IfOk, Ok};
+ghost use Rattle.sb_types.specs.Faults.{Gives};
+ghost use Rattle.sb_codec.specs.declared.message.Message.{Message};
+ghost use Rattle.sb_codec.specs.Fields.{whole};
+ghost use Rattle.sb_codec.specs.Messages.{Spells, IsSole, fault_of, message_at, reading};
+ghost use Rattle.sb_codec.specs.Refusal.{ReadsWhole};
+
+use crate::fields::Fields;
+use crate::message::Message;
+use crate::numbers::KIND_DELTA;
+use crate::refusal::Refusal;
+use sb_types::Fault;
+use std::alloc::Global;
+
+fn fault(payload: &[u8]) -> Fault
+    ensures { result ≡ fault_of payload.now }
+{
+    match payload {
+        [] => Fault::UnknownKind(0),
+        [KIND_DELTA, ..] => Fault::Malformed(KIND_DELTA),
+        [kind, ..] => Fault::UnknownKind(*kind),
+    }
+}
+
+fn read_whole(alloc: Global, payload: &[u8]) -> Result<Message, Refusal>
+    ensures { ReadsWhole (whole message_at payload.now) result }
+{
+    let mut fields = Fields::new(payload);
+    let message = fields.message(alloc)?;
+    if !fields.is_empty() {
+        return Err(Refusal::Malformed);
+    }
+    Ok(message)
+}
+
+#[tactic(auto, unfolding(crate::specs::Messages::reading))]
+fn read(alloc: Global, payload: &[u8]) -> Result<Message, Fault>
+    ensures { Gives result (reading payload.now) }
+{
+    match read_whole(alloc, payload) {
+        Ok(message) => Ok(message),
+        Err(Refusal::Memory) => Err(Fault::NoMemory),
+        Err(Refusal::Malformed) => Err(fault(payload)),
+    }
+}
+
+/// The message that the payload spells, all of its bytes. `UnknownKind` of the first byte, or of 0 where
+/// there is none, where it begins no kind; `Malformed` of the kind where no message is spelled so;
+/// `NoMemory`, for which alone a payload that spells a message is refused.
+pub fn decode_payload(alloc: Global, payload: &[u8]) -> Result<Message, Fault>
+    // What is read is spelled so, and nothing else is.
+    ensures found { IfOk result (λ message. Spells payload.now message) }
+    ensures sole { IfOk result (λ message. IsSole payload.now message) }
+    // What is spelled so is read, unless memory runs out.
+    ensures only { (message : Message) → Spells payload.now message → Gives result (Ok message) }
+    // Which fault it is.
+    ensures exact { Gives result (reading payload.now) }
+{
+    read(alloc, payload)
+}

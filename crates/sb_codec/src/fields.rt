@@ -1,0 +1,208 @@
+//! What is left of a payload, read from left to right.
+
+ghost use Rattle.std.specs.Prelude.{◌≡◌, ◌==◌, length, IfOk};
+ghost use Rattle.std.specs.Int.{w16, w64};
+ghost use Rattle.sb_codec.specs.Refusal.{Reads};
+ghost use Rattle.sb_codec.specs.Fields.{byte_at, bytes_at, number_at, text_at, list_at, times_at};
+ghost use Rattle.sb_codec.specs.Reading.{name_at, key_at, addr_at, weight_at, flag_at, slot_at, entry_at, block_at, delta_at};
+ghost use Rattle.sb_codec.specs.Messages.{message_at};
+
+use crate::message::Message;
+use crate::numbers::{KIND_DELTA, TAG_ADDR, TAG_FLAG, TAG_REMOVED, TAG_WEIGHT};
+use crate::refusal::Refusal;
+use crate::spelled::Spelled;
+use sb_types::{Block, Delta, Entry, Key, Name, Slot, Value};
+use std::alloc::Global;
+use std::marker::Model;
+
+/// The bytes that are still to be read. After a refusal they say nothing.
+#[derive(Drop)]
+pub(crate) struct Fields<'a> {
+    rest: &'a [u8],
+}
+
+impl<'a> Model for Fields<'a> {
+    ghost use Rattle.std.specs.Prelude.{ℕ, List};
+
+    ghost Value = { List ℕ };
+
+    ghost view = { λ fields. fields.rest.now };
+}
+
+impl<'a> Fields<'a> {
+    pub(crate) fn new(rest: &'a [u8]) -> Fields<'a>
+        ensures { result ≡ rest.now }
+    {
+        Fields { rest }
+    }
+
+    pub(crate) fn is_empty(&self) -> bool
+        ensures { result ≡ (length self.now == 0) }
+    {
+        self.rest.is_empty()
+    }
+
+    #[tactic(auto, unfolding(crate::specs::Fields::byte_at))]
+    pub(crate) fn byte(&mut self) -> Result<u8, Refusal>
+        ensures { Reads (λ x. x) (byte_at self.old) result self.new }
+    {
+        match self.rest {
+            [] => Err(Refusal::Malformed),
+            [byte, rest @ ..] => {
+                self.rest = rest;
+                Ok(*byte)
+            }
+        }
+    }
+
+    #[tactic(auto, unfolding(crate::specs::Fields::bytes_at))]
+    fn bytes(&mut self, count: usize) -> Result<&'a [u8], Refusal>
+        ensures read { Reads (λ x. x.now) (bytes_at count self.old) result self.new }
+        ensures length { IfOk result (λ x. length x.now ≡ count) }
+    {
+        if self.rest.len() < count {
+            return Err(Refusal::Malformed);
+        }
+        let (front, rest) = self.rest.split_at(count);
+        self.rest = rest;
+        Ok(front)
+    }
+
+    #[tactic(auto, unfolding(crate::specs::Fields::number_at))]
+    pub(crate) fn u16(&mut self) -> Result<u16, Refusal>
+        ensures { Reads (λ x. x) (number_at w16 self.old) result self.new }
+    {
+        let front = self.bytes(2)?;
+        Ok(u16::from_be_bytes([front[0], front[1]]))
+    }
+
+    #[tactic(auto, unfolding(crate::specs::Fields::number_at))]
+    pub(crate) fn u64(&mut self) -> Result<u64, Refusal>
+        ensures { Reads (λ x. x) (number_at w64 self.old) result self.new }
+    {
+        let front = self.bytes(8)?;
+        Ok(u64::from_be_bytes([
+            front[0], front[1], front[2], front[3], front[4], front[5], front[6], front[7],
+        ]))
+    }
+
+    #[tactic(auto, unfolding(crate::specs::Fields::text_at))]
+    fn text(&mut self) -> Result<&'a [u8], Refusal>
+        ensures { Reads (λ x. x.now) (text_at self.old) result self.new }
+    {
+        let len = self.byte()?;
+        self.bytes(usize::from(len))
+    }
+
+    #[tactic(auto, unfolding(crate::specs::Reading::name_at))]
+    pub(crate) fn name(&mut self) -> Result<Name, Refusal>
+        ensures { Reads (λ x. x) (name_at self.old) result self.new }
+    {
+        Ok(Name::read(self.text()?)?)
+    }
+
+    #[tactic(auto, unfolding(crate::specs::Reading::key_at))]
+    pub(crate) fn key(&mut self) -> Result<Key, Refusal>
+        ensures { Reads (λ x. x) (key_at self.old) result self.new }
+    {
+        Ok(Key::read(self.text()?)?)
+    }
+
+    #[tactic(auto, unfolding(crate::specs::Reading::addr_at))]
+    fn addr(&mut self, alloc: Global) -> Result<Value, Refusal>
+        ensures { Reads (λ x. x) (addr_at self.old) result self.new }
+    {
+        Ok(Value::addr(alloc, self.text()?)?)
+    }
+
+    #[tactic(auto, unfolding(crate::specs::Reading::weight_at))]
+    fn weight(&mut self) -> Result<Value, Refusal>
+        ensures { Reads (λ x. x) (weight_at self.old) result self.new }
+    {
+        Ok(Value::weight(self.u64()?)?)
+    }
+
+    #[tactic(auto, unfolding(crate::specs::Reading::flag_at))]
+    fn flag(&mut self) -> Result<Value, Refusal>
+        ensures { Reads (λ x. x) (flag_at self.old) result self.new }
+    {
+        match self.byte()? {
+            0 => Ok(Value::flag(false)),
+            1 => Ok(Value::flag(true)),
+            _ => Err(Refusal::Malformed),
+        }
+    }
+
+    #[tactic(auto, unfolding(crate::specs::Reading::slot_at))]
+    pub(crate) fn slot(&mut self, alloc: Global) -> Result<Slot, Refusal>
+        ensures { Reads (λ x. x) (slot_at self.old) result self.new }
+    {
+        match self.byte()? {
+            TAG_REMOVED => Ok(Slot::Removed),
+            TAG_ADDR => Ok(Slot::Set(self.addr(alloc)?)),
+            TAG_WEIGHT => Ok(Slot::Set(self.weight()?)),
+            TAG_FLAG => Ok(Slot::Set(self.flag()?)),
+            _ => Err(Refusal::Malformed),
+        }
+    }
+
+    #[tactic(auto, unfolding(crate::specs::Reading::entry_at))]
+    pub(crate) fn entry(&mut self, alloc: Global) -> Result<Entry, Refusal>
+        ensures { Reads (λ x. x) (entry_at self.old) result self.new }
+    {
+        let key = self.key()?;
+        let version = self.u64()?;
+        if version == 0 {
+            return Err(Refusal::Malformed);
+        }
+        let slot = self.slot(alloc)?;
+        Ok(Entry::new(key, version, slot))
+    }
+
+    #[tactic(auto, unfolding(crate::specs::Reading::block_at))]
+    pub(crate) fn block(&mut self, alloc: Global) -> Result<Block, Refusal>
+        ensures { Reads (λ x. x) (block_at self.old) result self.new }
+    {
+        let owner = self.name()?;
+        let after = self.u64()?;
+        let entries = self.list(alloc)?;
+        Ok(Block::new(owner, after, entries)?)
+    }
+
+    #[tactic(auto, unfolding(crate::specs::Reading::delta_at))]
+    fn delta(&mut self, alloc: Global) -> Result<Delta, Refusal>
+        ensures { Reads (λ x. x) (delta_at self.old) result self.new }
+    {
+        let blocks = self.list(alloc)?;
+        Ok(Delta::new(blocks)?)
+    }
+
+    #[tactic(auto, unfolding(crate::specs::Messages::message_at))]
+    pub(crate) fn message(&mut self, alloc: Global) -> Result<Message, Refusal>
+        ensures { Reads (λ x. x) (message_at self.old) result self.new }
+    {
+        match self.byte()? {
+            KIND_DELTA => Ok(Message::Delta(self.delta(alloc)?)),
+            _ => Err(Refusal::Malformed),
+        }
+    }
+
+    #[tactic(auto, unfolding(crate::specs::Fields::list_at))]
+    pub(crate) fn list<T: Spelled>(&mut self, alloc: Global) -> Result<Vec<T>, Refusal>
+        ensures { Reads (λ v. v.items) (list_at T.field self.old) result self.new }
+    {
+        let count = self.u16()?;
+        self.times(alloc, count)
+    }
+
+    fn times<T: Spelled>(&mut self, alloc: Global, count: u16) -> Result<Vec<T>, Refusal>
+        ensures { Reads (λ v. v.items) (times_at T.field count self.old) result self.new }
+    {
+        let room = self.rest.len() / T::LEAST;
+        let mut items = Vec::with_capacity(alloc, room.min(usize::from(count)))?;
+        for _ in 0..count {
+            items.push(T::read(alloc, self)?)?;
+        }
+        Ok(items)
+    }
+}

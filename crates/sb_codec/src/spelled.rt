@@ -1,0 +1,81 @@
+//! What counted lists hold.
+
+use crate::fields::Fields;
+use crate::refusal::Refusal;
+use crate::writing::{write_block, write_entry};
+use sb_types::{Block, Entry};
+use std::alloc::{AllocError, Global};
+
+/// What a counted list holds.
+pub(crate) trait Spelled: Drop {
+    ghost use Rattle.std.specs.Prelude.{◌≡◌, ℕ, ◌<◌, List, ◌++◌, OnOk};
+    ghost use Rattle.sb_codec.specs.Refusal.{Reads};
+    ghost use Rattle.sb_codec.specs.Fields.{Field};
+
+    ghost spelling: { Self → List ℕ };
+
+    ghost field: { Field Self };
+
+    ghost LEAST: { ℕ };
+
+    /// The fewest bytes that one takes.
+    const LEAST: usize;
+
+    fn read(alloc: Global, fields: &mut Fields<'_>) -> Result<Self, Refusal>
+        ensures { Reads (λ x. x) (field fields.old) result fields.new };
+
+    fn write(&self, out: &mut Vec<u8>) -> Result<(), AllocError>
+        ensures { OnOk result (out.new.items ≡ out.old.items ++ spelling self.now) };
+
+    ghost least: { 0 < LEAST };
+}
+
+impl Spelled for Entry {
+    ghost use Rattle.std.specs.Prelude.{◌<◌};
+    ghost use Rattle.std.proofs.Common.{lit<};
+    ghost use Rattle.sb_codec.specs.Spelling.{entry};
+    ghost use Rattle.sb_codec.specs.Reading.{entry_at};
+
+    ghost spelling = { entry };
+
+    ghost field = { entry_at };
+
+    ghost LEAST = { 11 };
+
+    const LEAST: usize = 11;
+
+    ghost least = { lit< tt };
+
+    fn read(alloc: Global, fields: &mut Fields<'_>) -> Result<Entry, Refusal> {
+        fields.entry(alloc)
+    }
+
+    fn write(&self, out: &mut Vec<u8>) -> Result<(), AllocError> {
+        write_entry(out, self)
+    }
+}
+
+impl Spelled for Block {
+    ghost use Rattle.std.specs.Prelude.{◌<◌};
+    ghost use Rattle.std.proofs.Common.{lit<};
+    ghost use Rattle.sb_codec.specs.Spelling.{block};
+    ghost use Rattle.sb_codec.specs.Reading.{block_at};
+
+    ghost spelling = { block };
+
+    ghost field = { block_at };
+
+    ghost LEAST = { 23 };
+
+    const LEAST: usize = 23;
+
+    ghost least = { lit< tt };
+
+    fn read(alloc: Global, fields: &mut Fields<'_>) -> Result<Block, Refusal> {
+        fields.block(alloc)
+    }
+
+    fn write(&self, out: &mut Vec<u8>) -> Result<(), AllocError> {
+        write_block(out, self)
+    }
+}

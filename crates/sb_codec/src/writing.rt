@@ -1,0 +1,93 @@
+//! The parts of a message, written.
+
+ghost use Rattle.std.specs.Prelude.{◌≡◌, ◌<◌, ◌++◌, ◌∷◌, length, OnOk};
+ghost use Rattle.std.specs.Int.{w16, w64};
+ghost use Rattle.sb_codec.specs.Spelling.{number, text, list, flag, tag_of, content, slot, entry, block};
+
+use crate::numbers::{TAG_ADDR, TAG_FLAG, TAG_REMOVED, TAG_WEIGHT};
+use crate::spelled::Spelled;
+use sb_types::{Block, Entry, Slot, Value};
+use std::alloc::AllocError;
+
+#[tactic(auto, unfolding(crate::specs::Spelling::number))]
+fn write_u16(out: &mut Vec<u8>, n: u16) -> Result<(), AllocError>
+    ensures { OnOk result (out.new.items ≡ out.old.items ++ number w16 n) }
+{
+    out.extend_from_slice(&n.to_be_bytes())
+}
+
+#[tactic(auto, unfolding(crate::specs::Spelling::number))]
+fn write_u64(out: &mut Vec<u8>, n: u64) -> Result<(), AllocError>
+    ensures { OnOk result (out.new.items ≡ out.old.items ++ number w64 n) }
+{
+    out.extend_from_slice(&n.to_be_bytes())
+}
+
+fn write_text(out: &mut Vec<u8>, bytes: &[u8]) -> Result<(), AllocError>
+    requires { length bytes.now < 256 }
+    ensures { OnOk result (out.new.items ≡ out.old.items ++ text bytes.now) }
+{
+    out.push(bytes.len() as u8)?;
+    out.extend_from_slice(bytes)
+}
+
+fn write_flag(out: &mut Vec<u8>, set: bool) -> Result<(), AllocError>
+    ensures { OnOk result (out.new.items ≡ out.old.items ++ flag set) }
+{
+    Ok(out.push(u8::from(set))?)
+}
+
+fn write_value(out: &mut Vec<u8>, value: &Value) -> Result<(), AllocError>
+    ensures { OnOk result (out.new.items ≡ out.old.items ++ tag_of value.now ∷ content value.now) }
+{
+    if let Some(bytes) = value.as_addr() {
+        out.push(TAG_ADDR)?;
+        return write_text(out, bytes);
+    }
+    if let Some(weight) = value.as_weight() {
+        out.push(TAG_WEIGHT)?;
+        return write_u64(out, weight);
+    }
+    out.push(TAG_FLAG)?;
+    write_flag(out, value.as_flag() == Some(true))
+}
+
+#[tactic(auto, unfolding(crate::specs::Spelling::slot))]
+fn write_slot(out: &mut Vec<u8>, value: &Slot) -> Result<(), AllocError>
+    ensures { OnOk result (out.new.items ≡ out.old.items ++ slot value.now) }
+{
+    match value {
+        Slot::Removed => out.push(TAG_REMOVED)?,
+        Slot::Set(value) => write_value(out, value)?,
+    }
+    Ok(())
+}
+
+#[tactic(auto, unfolding(crate::specs::Spelling::entry))]
+pub(crate) fn write_entry(out: &mut Vec<u8>, written: &Entry) -> Result<(), AllocError>
+    ensures { OnOk result (out.new.items ≡ out.old.items ++ entry written.now) }
+{
+    write_text(out, written.key().bytes())?;
+    write_u64(out, written.version())?;
+    write_slot(out, written.slot())
+}
+
+#[tactic(auto, unfolding(crate::specs::Spelling::block))]
+pub(crate) fn write_block(out: &mut Vec<u8>, written: &Block) -> Result<(), AllocError>
+    ensures { OnOk result (out.new.items ≡ out.old.items ++ block written.now) }
+{
+    write_text(out, written.owner().bytes())?;
+    write_u64(out, written.after())?;
+    write_list(out, written.entries())
+}
+
+pub(crate) fn write_list<T: Spelled>(out: &mut Vec<u8>, items: &[T]) -> Result<(), AllocError>
+    requires { length items.now < 65536 }
+    ensures { OnOk result (out.new.items ≡ out.old.items ++ list T.spelling items.now) }
+{
+    write_u16(out, items.len() as u16)?;
+    for item in items {
+        item.write(out)?;
+    }
+    Ok(())
+}
