@@ -15,4 +15,3 @@ pub mod Numbered
 pub mod ByVersion
 pub mod Shown
 pub mod Content
-pub mod Offered

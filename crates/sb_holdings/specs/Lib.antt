@@ -8,4 +8,3 @@ pub mod Nodes
 pub mod Entering
 pub mod ByVersion
 pub mod Contents
-pub mod Offers

@@ -4,7 +4,6 @@
 mod contents;
 mod ends;
 mod laws;
-mod offers;
 mod reading;
 
 pub use contents::contents_hold;
@@ -13,5 +12,4 @@ pub use laws::{
     blocks_keep_truth, nodes_hold, nothing_goes_back, one_by_one, one_meaning, replays_hold,
     truth_lasts,
 };
-pub use offers::{available_by_owner, offers_are_honest};
 pub use reading::reads_are_true;

@@ -5,7 +5,7 @@ ghost use Rattle.sb_types.specs.declared.entry.Write.{Write};
 ghost use Rattle.sb_types.specs.Records.{Table, Holder};
 ghost use Rattle.sb_types.specs.Runs.{Stands, IsTable, IsBlock};
 ghost use Rattle.sb_types.specs.Writes.{Holds, Honest};
-ghost use Rattle.sb_holdings.specs.Offers.{Item, of_owner, items_of, block_of, is_named, are_named_once, available};
+ghost use Rattle.sb_budget.specs.Offers.{Item, of_owner, items_of, block_of, is_named, are_named_once, available};
 
 /// Each block of a front of what is offered of a table that holds is honest.
 pub fn offers_are_honest()

@@ -1,0 +1,10 @@
+//! What a node offers a peer, the orders in which it is sent, and the part that fits a budget.
+#![tactic(auto)]
+
+mod laws;
+mod offered;
+mod order;
+
+pub use laws::{available_by_owner, offers_are_honest};
+pub use offered::Offered;
+pub use order::{DeltaOrder, orders_keep_owners};
