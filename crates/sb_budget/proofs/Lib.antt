@@ -1,2 +1,4 @@
 pub mod OfferLemmas
 pub mod OrderLemmas
+pub mod PlaceLemmas
+pub mod GatherLemmas

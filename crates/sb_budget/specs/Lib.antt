@@ -1,2 +1,4 @@
 pub mod Offers
 pub mod Orders
+pub mod Cut
+pub mod Gathered

@@ -1,6 +1,7 @@
 //! What a node offers a peer, the orders in which it is sent, and the part that fits a budget.
 #![tactic(auto)]
 
+mod gathered;
 mod laws;
 mod offered;
 mod order;
