@@ -2,3 +2,4 @@ pub mod OfferLemmas
 pub mod OrderLemmas
 pub mod PlaceLemmas
 pub mod GatherLemmas
+pub mod CutLemmas

@@ -9,7 +9,7 @@ use Rattle.std.proofs.lemmas.Cmp.{nat_list_cmp_total, tied_itself}
 use Rattle.std.proofs.Math.ListN.{length-set}
 use Rattle.std.proofs.lemmas.List.Edits.{length-insert}
 use Rattle.std.proofs.lemmas.List.Sorted.{searchable_from_sorted}
-use Rattle.std.proofs.lemmas.List.Sums.{sum_by-set, sum_by-insert, sum_by_push}
+use Rattle.std.proofs.lemmas.List.Sums.{sum_by-cons, sum_by-set, sum_by-insert, sum_by_push}
 use Rattle.sb_types.specs.Records.{Entry, Block}
 use Rattle.sb_types.specs.Lengths.{entry_length, entries_length, block_length}
 use Rattle.sb_types.specs.Limits.{text_lt, are_owners_above}
@@ -119,3 +119,30 @@ module _ (o : Offered) where
       go Less e rest = and_from _ _ (and_parts _ _ up).0 (rest (lt_from_Less b.owner o.owner e))
       go Equal e rest = up
       go Greater e rest = and_from _ _ t (and_from _ _ (lt_from_Greater b.owner o.owner e) (and_parts (text_lt last b.owner) (are_owners_above b.owner bs) up).1)
+
+-- each owner is above the one before
+abbrev pub are_ordered : List Block → Bool
+are_ordered [] = true
+are_ordered (b ∷ bs) = are_owners_above b.owner bs
+
+pub ordered_above : (last : List ℕ) (bs : List Block) → are_owners_above last bs ≡ true → are_ordered bs ≡ true
+ordered_above last [] up = refl
+ordered_above last (b ∷ bs) up = (and_parts (text_lt last b.owner) _ up).1
+
+pub joined_ordered : (o : Offered) (bs : List Block) → are_ordered bs ≡ true → are_ordered (joined o bs) ≡ true
+joined_ordered o [] up = refl
+joined_ordered o (b ∷ bs) up = go (text_cmp b.owner o.owner) refl
+  where
+    go : (r : Ordering) → text_cmp b.owner o.owner ≡ r → are_ordered (match_ordering r (b ∷ joined o bs) (grown b o.entry ∷ bs) (begun o ∷ b ∷ bs)) ≡ true
+    go Less e = joined_above o b.owner bs (lt_from_Less b.owner o.owner e) up
+    go Equal e = up
+    go Greater e = and_from _ _ (lt_from_Greater b.owner o.owner e) up
+
+pub joined_no_less : (o : Offered) (bs : List Block) → sum_by block_length bs ≤ sum_by block_length (joined o bs)
+joined_no_less o [] = omega arith
+joined_no_less o (b ∷ bs) = go (text_cmp b.owner o.owner) (joined_no_less o bs)
+  where
+    go : (r : Ordering) → sum_by block_length bs ≤ sum_by block_length (joined o bs) → sum_by block_length (b ∷ bs) ≤ sum_by block_length (match_ordering r (b ∷ joined o bs) (grown b o.entry ∷ bs) (begun o ∷ b ∷ bs))
+    go Less more = omega (arith, sum_by-cons block_length b bs, sum_by-cons block_length b (joined o bs))
+    go Equal more = omega (arith, sum_by-cons block_length b bs, sum_by-cons block_length (grown b o.entry) bs, one_more b.entries o.entry)
+    go Greater more = omega (arith, sum_by-cons block_length (begun o) (b ∷ bs))

@@ -1,11 +1,13 @@
 //! What a node offers a peer, the orders in which it is sent, and the part that fits a budget.
 #![tactic(auto)]
 
+mod delta;
 mod gathered;
 mod laws;
 mod offered;
 mod order;
 
+pub use delta::cut;
 pub use laws::{available_by_owner, offers_are_honest};
 pub use offered::Offered;
 pub use order::{DeltaOrder, orders_keep_owners};
