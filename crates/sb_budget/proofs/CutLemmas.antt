@@ -1,14 +1,16 @@
 -- The longest front that fits, by one item after another.
-use Rattle.std.proofs.Common.{◌≡◌, ℕ, suc, ◌+◌, ◌<◌, ◌≤◌, ◌-◌, true, List, [], ◌∷◌, ◌++◌, length, take, drop, get_or, inl, inr, refl, sym, ap, subst, ◌∙◌, arith, append-nil, append_assoc, take-append-drop, length-append, Result}
+use Rattle.std.proofs.Common.{◌≡◌, ℕ, suc, ◌+◌, ◌<◌, ◌≤◌, ◌-◌, true, List, [], ◌∷◌, ◌++◌, length, map, take, drop, get_or, ◌⊎◌, inl, inr, refl, sym, ap, ap₂, subst, ◌∙◌, arith, append-nil, append_assoc, take-append-drop, length-append, Result, Option, Some, None, true≢false}
 use Rattle.std.specs.Prelude.{sum_by, All}
 use Rattle.std.specs.List.Sorted.{IsSearchInRange, IsBinarySearchResult}
 use Rattle.std.proofs.Math.Seq.{take-append-add, take-append_seam, take-length, drop-cons}
-use Rattle.std.proofs.lemmas.Bool.{and_from, le-leb}
-use Rattle.std.proofs.lemmas.List.{length-map, length_push}
+use Rattle.std.specs.Option.{SomeIff}
+use Rattle.std.proofs.lemmas.Bool.{and_from, le-leb, cases_lt}
+use Rattle.std.proofs.lemmas.List.{length-map, length_push, map-id}
 use Rattle.sb_types.specs.declared.limits.TheConstants.{PAYLOAD_MOST, BUDGET_LEAST, BUDGET_MOST}
 use Rattle.sb_types.specs.Records.{Block}
 use Rattle.sb_types.specs.Runs.{Stands}
 use Rattle.sb_types.specs.Lengths.{block_length, delta_length}
+use Rattle.sb_types.specs.Text.{is_name}
 use Rattle.sb_types.specs.Limits.{are_owners_above, are_block_entries, are_delta_blocks, text_lt}
 use Rattle.sb_holdings.proofs.Lists.{right, taken}
 use Rattle.sb_budget.specs.declared.offered.Offered.{Offered}
@@ -109,3 +111,22 @@ gathering_more budget room left offered front blocks x rest place so_far whole i
 
 pub is_delta_of : (budget : ℕ) (items : List Offered) (blocks : List Block) → budget ≤ BUDGET_MOST → IsCut budget (items_of_all items) blocks → are_owners_above [] blocks ≡ true → are_delta_blocks blocks ≡ true
 is_delta_of budget items blocks most cut ascending = and_from _ _ ascending (le-leb (delta_length blocks) PAYLOAD_MOST (omega (arith, cut.fits)))
+
+-- ---- at an item of the loop
+
+pub at_turn : (offered front : List Offered) (x : Offered) → map (λ (y : Offered). y) front ≡ take (length front) offered → (length front < length offered) × (x ≡ get_or offered (length front) x) → front ++ x ∷ drop (suc (length front)) offered ≡ offered
+at_turn offered front x taken turn =
+    ap₂ (λ a b. a ++ b) (sym (map-id front) ∙ taken) (ap (λ y. y ∷ drop (suc (length front)) offered) turn.1 ∙ sym (drop-cons offered (length front) x turn.0)) ∙ take-append-drop (length front) offered
+
+pub room_short : (r : Option ℕ) (cost room : ℕ) → SomeIff r (cost ≤ room) (room - cost) → ((x : ℕ) → r ≡ Some x → ⊥) → room < cost
+room_short None cost room none other = absurd_or (cases_lt room cost)
+  where
+    absurd_or : (room < cost) ⊎ (cost ≤ room) → room < cost
+    absurd_or (inl l) = l
+    absurd_or (inr l) = absurd (none l)
+room_short (Some x) cost room some other = absurd (other x refl)
+
+-- a name is behind the empty text
+pub name_above : (owner : List ℕ) → is_name owner ≡ true → text_lt [] owner ≡ true
+name_above [] named = absurd (true≢false (sym named))
+name_above (x ∷ xs) named = refl
