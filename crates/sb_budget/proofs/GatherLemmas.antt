@@ -22,6 +22,7 @@ use Rattle.sb_budget.specs.Offers.{Item, of_owner, entries_of, block_from, block
 use Rattle.sb_budget.specs.Orders.{offered_by}
 use Rattle.sb_budget.specs.Cut.{item_of, items_of_all, with_name, owners_of, blocks_of, delta_at, IsPart, CanCut}
 use Rattle.sb_budget.specs.Gathered.{grown, begun}
+use Rattle.sb_budget.proofs.NameLemmas.{some_of, unnamed_none, named_some}
 use Rattle.sb_budget.proofs.PlaceLemmas.{text_cmp, joined, are_ordered, same_from_Equal, Equal_from_same, Less_from_lt, lt_from_Less, lt_from_Greater, ordered_above, joined_ordered, joined_no_less}
 
 abbrev is_of : List ℕ → Offered → Bool
@@ -32,82 +33,6 @@ entries_in part = map (λ o. o.entry) part
 
 abbrev pub names_of : List Offered → List (List ℕ)
 names_of front = fold (λ names o. with_name o.owner names) [] front
-
--- ---- which names there are
-
-name_there : (name : List ℕ) (ns : List (List ℕ)) → Stands (with_name name ns) name
-name_there name [] = inl refl
-name_there name (n ∷ ns) = go (text_cmp n name) refl (name_there name ns)
-  where
-    go : (r : Ordering) → text_cmp n name ≡ r → Stands (with_name name ns) name → Stands (match_ordering r (n ∷ with_name name ns) (n ∷ ns) (name ∷ n ∷ ns)) name
-    go Less e rest = inr rest
-    go Equal e rest = inl (same_from_Equal n name e)
-    go Greater e rest = inl refl
-
-names_stay : (name : List ℕ) (ns : List (List ℕ)) (m : List ℕ) → Stands ns m → Stands (with_name name ns) m
-names_stay name [] m s = absurd s
-names_stay name (n ∷ ns) m s = go (text_cmp n name) s (names_stay name ns m)
-  where
-    go : (r : Ordering) → Stands (n ∷ ns) m → (Stands ns m → Stands (with_name name ns) m) → Stands (match_ordering r (n ∷ with_name name ns) (n ∷ ns) (name ∷ n ∷ ns)) m
-    go Less (inl p) rest = inl p
-    go Less (inr s) rest = inr (rest s)
-    go Equal s rest = s
-    go Greater s rest = inr s
-
-no_other_name : (name : List ℕ) (ns : List (List ℕ)) (m : List ℕ) → Stands (with_name name ns) m → (name ≡ m) ⊎ Stands ns m
-no_other_name name [] m (inl p) = inl p
-no_other_name name [] m (inr s) = absurd s
-no_other_name name (n ∷ ns) m s = go (text_cmp n name) s (no_other_name name ns m)
-  where
-    go : (r : Ordering) → Stands (match_ordering r (n ∷ with_name name ns) (n ∷ ns) (name ∷ n ∷ ns)) m → (Stands (with_name name ns) m → (name ≡ m) ⊎ Stands ns m) → (name ≡ m) ⊎ Stands (n ∷ ns) m
-    go Less (inl p) rest = inr (inl p)
-    go Less (inr s) rest = ⊎_elim inl (λ t. inr (inr t)) (rest s)
-    go Equal s rest = inr s
-    go Greater (inl p) rest = inl p
-    go Greater (inr s) rest = inr s
-
-abbrev names_from : List (List ℕ) → List Offered → List (List ℕ)
-names_from ns front = fold (λ names o. with_name o.owner names) ns front
-
-all_stay : (ns : List (List ℕ)) (front : List Offered) (m : List ℕ) → Stands ns m → Stands (names_from ns front) m
-all_stay ns [] m s = s
-all_stay ns (o ∷ os) m s = all_stay (with_name o.owner ns) os m (names_stay o.owner ns m s)
-
-each_named : (ns : List (List ℕ)) (front : List Offered) (o : Offered) → Stands front o → Stands (names_from ns front) o.owner
-each_named ns [] o s = absurd s
-each_named ns (x ∷ xs) o (inl p) = all_stay (with_name x.owner ns) xs o.owner (subst (λ (y : Offered). Stands (with_name x.owner ns) y.owner) p (name_there x.owner ns))
-each_named ns (x ∷ xs) o (inr s) = each_named (with_name x.owner ns) xs o s
-
-named_by : (ns : List (List ℕ)) (front : List Offered) (m : List ℕ) → Stands (names_from ns front) m → Stands ns m ⊎ ((o : Offered) × Stands front o × (o.owner ≡ m))
-named_by ns [] m s = inl s
-named_by ns (x ∷ xs) m s =
-    ⊎_elim (λ t. ⊎_elim (λ p. inr (x, inl refl, p)) inl (no_other_name x.owner ns m t))
-    (λ t. inr (t.0, inr t.1, t.2))
-    (named_by (with_name x.owner ns) xs m s)
-
-none_of : (owner : List ℕ) (front : List Offered) → ((o : Offered) → Stands front o → o.owner ≡ owner → ⊥) → offered_by owner front ≡ []
-none_of owner [] no_such = refl
-none_of owner (x ∷ xs) no_such =
-    cond-false _ _ _ (false_from_ne_true _ (λ t. no_such x (inl refl) (same_text x.owner owner t)))
-    ∙ none_of owner xs (λ o s. no_such o (inr s))
-
--- an owner that is not named has nothing
-unnamed_none : (front : List Offered) (owner : List ℕ) → (Stands (names_of front) owner → ⊥) → offered_by owner front ≡ []
-unnamed_none front owner unnamed = none_of owner front (λ o s same. unnamed (subst (Stands (names_of front)) same (each_named [] front o s)))
-
-some_of : (owner : List ℕ) (front : List Offered) (o : Offered) → Stands front o → o.owner ≡ owner → Stands (offered_by owner front) o
-some_of owner [] o s same = absurd s
-some_of owner (x ∷ xs) o (inl p) same =
-    subst (λ l. Stands l o) (sym (cond-true (is_of owner x) (x ∷ offered_by owner xs) (offered_by owner xs) (text_same x.owner owner (ap (λ (y : Offered). y.owner) p ∙ same)))) (inl p)
-some_of owner (x ∷ xs) o (inr s) same = go (is_of owner x) (some_of owner xs o s same)
-  where
-    go : (b : Bool) → Stands (offered_by owner xs) o → Stands (cond b (x ∷ offered_by owner xs) (offered_by owner xs)) o
-    go true t = inr t
-    go false t = t
-
--- a named owner has an item
-pub named_some : (front : List Offered) (owner : List ℕ) → Stands (names_of front) owner → (o : Offered) × Stands (offered_by owner front) o
-named_some front owner s = ⊎_elim (λ none. absurd none) (λ t. (t.0, some_of owner front t.0 t.1 t.2)) (named_by [] front owner s)
 
 -- ---- one more item
 
@@ -182,7 +107,7 @@ module _ (after : List ℕ → ℕ) where
       pub gathered_push : are_ordered (gathered front) ≡ true → gathered (front ++ x ∷ []) ≡ joined x (gathered front)
       gathered_push up =
           ap (map (part_of (front ++ x ∷ []))) (fold_push (λ names (o : Offered). with_name o.owner names) [] front x)
-          ∙ step (names_of front) up (unnamed_none front x.owner)
+          ∙ step (names_of front) up (unnamed_none (λ (o : Offered). o.owner) front x.owner)
 
   -- what begins after the version that is known of its owner
   abbrev pub AreKnown : List Offered → Type 0
@@ -203,7 +128,7 @@ module _ (after : List ℕ → ℕ) where
 
 -- ---- the delta of a front is what is gathered of it
 
-of_owner_items : (owner : List ℕ) (xs : List Offered) → of_owner owner (items_of_all xs) ≡ items_of_all (offered_by owner xs)
+pub of_owner_items : (owner : List ℕ) (xs : List Offered) → of_owner owner (items_of_all xs) ≡ items_of_all (offered_by owner xs)
 of_owner_items owner [] = refl
 of_owner_items owner (x ∷ xs) = go (is_of owner x) (of_owner_items owner xs)
   where
@@ -267,7 +192,7 @@ module _ (offered : List Offered) (can : CanCut offered) where
   all_known o s =
       let part = (can o.owner).2 in
       let begins : Offered → Type 0 = λ i. (i.after ≡ (can o.owner).0) × (i.upto ≡ (can o.owner).1) in
-      let same : begins o = all_at begins (offered_by o.owner offered) o (recursion_from_All begins (offered_by o.owner offered) part.each) (some_of o.owner offered o s refl) in
+      let same : begins o = all_at begins (offered_by o.owner offered) o (recursion_from_All begins (offered_by o.owner offered) part.each) (some_of (λ (i : Offered). i.owner) o.owner offered o s refl) in
       same.0
 
   module _ (front rest : List Offered) (whole : front ++ rest ≡ offered) where
@@ -278,7 +203,7 @@ module _ (offered : List Offered) (can : CanCut offered) where
     blocks_front =
         ap (map (λ owner. block_of owner (items_of_all front) (items_of_all rest))) (fold-map (λ names (i : Item). with_name i.owner names) item_of [] front)
         ∙ map_same (λ owner. block_of owner (items_of_all front) (items_of_all rest)) (part_of after_of front) (names_of front) (λ owner s.
-            let some = named_some front owner s in
+            let some = named_some (λ (o : Offered). o.owner) front owner s in
             ap₂ (block_from owner) (of_owner_items owner front) (of_owner_items owner rest)
             ∙ part_block owner (can owner).0 (can owner).1 (offered_by owner front) (offered_by owner rest) some.0 (parts owner) some.1)
 
@@ -290,7 +215,7 @@ module _ (offered : List Offered) (can : CanCut offered) where
         subst (λ es. IsRun (after_of owner) (last_version (after_of owner) es) es) taken (run_front (length these) (parts owner).run)
 
     some_entries : (owner : List ℕ) → Stands (names_of front) owner → 1 ≤ length (entries_in (offered_by owner front))
-    some_entries owner s = let some = named_some front owner s in go (offered_by owner front) some.0 some.1
+    some_entries owner s = let some = named_some (λ (o : Offered). o.owner) front owner s in go (offered_by owner front) some.0 some.1
       where
         go : (os : List Offered) (o : Offered) → Stands os o → 1 ≤ length (entries_in os)
         go [] o t = absurd t

@@ -8,6 +8,6 @@ mod offered;
 mod order;
 
 pub use delta::cut;
-pub use laws::{available_by_owner, offers_are_honest};
+pub use laws::{available_by_owner, cuts_are_honest, offers_are_honest};
 pub use offered::Offered;
 pub use order::{DeltaOrder, orders_keep_owners};
