@@ -15,3 +15,4 @@ pub mod Numbered
 pub mod ByVersion
 pub mod Shown
 pub mod Content
+pub mod ByOwner

@@ -13,7 +13,8 @@ use Rattle.sb_types.specs.Runs.{Stands}
 use Rattle.sb_types.specs.Writes.{Honest, IsHolder}
 use Rattle.sb_holdings.specs.declared.ends.BlockEnd.{BlockEnd}
 use Rattle.sb_holdings.specs.declared.ends.BlockEnd.TheVariants.{Own, OwnAhead, Gap, Stale, OwnersFull, Taken, TooManyKeys, NoMemory}
-use Rattle.sb_holdings.specs.Nodes.{Node, nothing, is_nothing, holder_of, with_holder, taken, NodeEvent, Wrote, Took, happens_at, replay_at, IsNodeEvent, TrueAt, AreNodeEvents, AllTrueAt, IsNode}
+use Rattle.sb_holdings.specs.Held.{Held, nothing, is_nothing, holder_of, with_holder, taken}
+use Rattle.sb_holdings.specs.Nodes.{Node, held_by, NodeEvent, Wrote, Took, happens_at, replay_at, IsNodeEvent, TrueAt, AreNodeEvents, AllTrueAt, IsNode}
 use Rattle.sb_holdings.proofs.Lists.{same_text}
 use Rattle.sb_holdings.proofs.Steps.{Step, unchanged, two_steps}
 use Rattle.sb_holdings.proofs.Joining.{own_step}
@@ -68,14 +69,14 @@ put_step writes owners owner h assumed is step q =
 
 module _ (writes : List ℕ → List Write) (node : Node) (is : IsNode node) where
   taken_step : (b : Block) (end : BlockEnd) → IsNodeEvent (Took b end) → (q : List ℕ) →
-      Step (writes q) (Honest (writes b.owner) b) (holder_of node.owners q) (holder_of (taken node b end).owners q)
+      Step (writes q) (Honest (writes b.owner) b) (held_by node q) (holder_of (taken node.held b end).owners q)
   taken_step b end i q =
-      cond_both (pointwise nat_eq b.owner node.me) node _ (λ (n : Node). Step (writes q) (Honest (writes b.owner) b) (holder_of node.owners q) (holder_of n.owners q))
+      cond_both (pointwise nat_eq b.owner node.held.me) node.held _ (λ (h : Held). Step (writes q) (Honest (writes b.owner) b) (held_by node q) (holder_of h.owners q))
       (λ _. unchanged (is q))
-      (λ _. put_step writes node.owners b.owner _ _ is (treat_step (writes b.owner) (holder_of node.owners b.owner) b (is b.owner) i end) q)
+      (λ _. put_step writes node.held.owners b.owner _ _ is (treat_step (writes b.owner) (held_by node b.owner) b (is b.owner) i end) q)
 
-  happens_at_step : (event : NodeEvent) → IsNodeEvent event → (q : List ℕ) → Step (writes q) (TrueAt writes node.me event) (holder_of node.owners q) (holder_of (happens_at node event).owners q)
-  happens_at_step (Wrote e) i q = put_step writes node.owners node.me _ _ is (own_step (writes node.me) (holder_of node.owners node.me) e (is node.me)) q
+  happens_at_step : (event : NodeEvent) → IsNodeEvent event → (q : List ℕ) → Step (writes q) (TrueAt writes node.held.me event) (held_by node q) (held_by (happens_at node event) q)
+  happens_at_step (Wrote e) i q = put_step writes node.held.owners node.held.me _ _ is (own_step (writes node.held.me) (held_by node node.held.me) e (is node.held.me)) q
   happens_at_step (Took b Own) i q = unchanged (is q)
   happens_at_step (Took b (OwnAhead upto)) i q = unchanged (is q)
   happens_at_step (Took b Gap) i q = unchanged (is q)
@@ -85,22 +86,22 @@ module _ (writes : List ℕ → List Write) (node : Node) (is : IsNode node) whe
   happens_at_step (Took b (TooManyKeys n)) i q = taken_step b (TooManyKeys n) i q
   happens_at_step (Took b (NoMemory n)) i q = taken_step b (NoMemory n) i q
 
-same_me_taken : (node : Node) (b : Block) (end : BlockEnd) → (taken node b end).me ≡ node.me
-same_me_taken node b end = cond_both (pointwise nat_eq b.owner node.me) node _ (λ (n : Node). n.me ≡ node.me) (λ _. refl) (λ _. refl)
+same_me_taken : (held : Held) (b : Block) (end : BlockEnd) → (taken held b end).me ≡ held.me
+same_me_taken held b end = cond_both (pointwise nat_eq b.owner held.me) held _ (λ (h : Held). h.me ≡ held.me) (λ _. refl) (λ _. refl)
 
-same_me : (node : Node) (event : NodeEvent) → (happens_at node event).me ≡ node.me
+same_me : (node : Node) (event : NodeEvent) → (happens_at node event).held.me ≡ node.held.me
 same_me node (Wrote e) = refl
 same_me node (Took b Own) = refl
 same_me node (Took b (OwnAhead upto)) = refl
 same_me node (Took b Gap) = refl
 same_me node (Took b Stale) = refl
 same_me node (Took b OwnersFull) = refl
-same_me node (Took b (Taken n)) = same_me_taken node b (Taken n)
-same_me node (Took b (TooManyKeys n)) = same_me_taken node b (TooManyKeys n)
-same_me node (Took b (NoMemory n)) = same_me_taken node b (NoMemory n)
+same_me node (Took b (Taken n)) = same_me_taken node.held b (Taken n)
+same_me node (Took b (TooManyKeys n)) = same_me_taken node.held b (TooManyKeys n)
+same_me node (Took b (NoMemory n)) = same_me_taken node.held b (NoMemory n)
 
 pub replay_at_step : (writes : List ℕ → List Write) (node : Node) (events : List NodeEvent) → IsNode node → AreNodeEvents events → (q : List ℕ) →
-    Step (writes q) (AllTrueAt writes node.me events) (holder_of node.owners q) (holder_of (replay_at node events).owners q)
+    Step (writes q) (AllTrueAt writes node.held.me events) (held_by node q) (held_by (replay_at node events) q)
 replay_at_step writes node [] is each q = unchanged (is q)
 replay_at_step writes node (event ∷ events) is each q =
     let one = happens_at_step writes node is event (each event (inl refl)) in

@@ -4,7 +4,9 @@ pub mod Stages
 pub mod Taken
 pub mod Events
 pub mod Progress
+pub mod Held
 pub mod Nodes
 pub mod Entering
 pub mod ByVersion
 pub mod Contents
+pub mod Plain

@@ -47,7 +47,7 @@ pub fn replays_hold()
 /// blocks come, held does not fall for any owner and no key's version does.
 pub fn nodes_hold()
     ensures holds { (writes : List ℕ → List Write) (node : Node) (events : List NodeEvent) →
-        IsNode node → AreNodeEvents events → NodeHolds writes node → AllTrueAt writes node.me events → NodeHolds writes (replay_at node events) }
+        IsNode node → AreNodeEvents events → NodeHolds writes node → AllTrueAt writes node.held.me events → NodeHolds writes (replay_at node events) }
     ensures later { (node : Node) (events : List NodeEvent) → IsNode node → AreNodeEvents events → NodeLater node (replay_at node events) }
     ensures is { (node : Node) (events : List NodeEvent) → IsNode node → AreNodeEvents events → IsNode (replay_at node events) }
 {}

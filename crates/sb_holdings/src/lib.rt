@@ -3,13 +3,17 @@
 
 mod contents;
 mod ends;
+mod holdings;
 mod laws;
+mod owners;
 mod reading;
 
 pub use contents::contents_hold;
 pub use ends::BlockEnd;
+pub use holdings::Holdings;
 pub use laws::{
     blocks_keep_truth, nodes_hold, nothing_goes_back, one_by_one, one_meaning, replays_hold,
     truth_lasts,
 };
+pub use owners::{Owners, Tables};
 pub use reading::reads_are_true;

@@ -1,0 +1,9 @@
+//! Digests: what a node tells a peer of how far it holds each owner's writes.
+#![tactic(auto)]
+
+mod building;
+mod digest;
+mod front;
+
+pub use building::build;
+pub use digest::{Digest, Pair};
