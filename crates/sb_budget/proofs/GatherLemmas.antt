@@ -160,12 +160,12 @@ part_block owner after upto (p ∷ ps) (r ∷ rs) some is s =
     ap (λ n. block_of_entries owner n (entries_of (items_of_all (p ∷ ps)))) first.0
     ∙ ap (block_of_entries owner after) (entries_items (p ∷ ps))
 
-all_at : {X : Type 0} (P : X → Type 0) (xs : List X) (x : X) → AllByRecursion P xs → Stands xs x → P x
+pub all_at : {X : Type 0} (P : X → Type 0) (xs : List X) (x : X) → AllByRecursion P xs → Stands xs x → P x
 all_at P [] x all s = absurd s
 all_at P (y ∷ ys) x all (inl p) = subst P p all.0
 all_at P (y ∷ ys) x all (inr s) = all_at P ys x all.1 s
 
-all_from : {X : Type 0} (P : X → Type 0) (xs : List X) → ((x : X) → Stands xs x → P x) → All P xs
+pub all_from : {X : Type 0} (P : X → Type 0) (xs : List X) → ((x : X) → Stands xs x → P x) → All P xs
 all_from P [] each k d l = absurd (omega arith)
 all_from P (x ∷ xs) each zero d l = each x (inl refl)
 all_from P (x ∷ xs) each (suc k) d l = all_from P xs (λ y s. each y (inr s)) k d (omega arith)

@@ -14,7 +14,7 @@ owner_is owner [] rest = refl
 owner_is owner (i ∷ is) [] = refl
 owner_is owner (i ∷ is) (j ∷ js) = refl
 
-mapped_from : {A B : Type 0} (f : A → B) (xs : List A) (b : B) → Stands (map f xs) b → (x : A) × Stands xs x × (f x ≡ b)
+pub mapped_from : {A B : Type 0} (f : A → B) (xs : List A) (b : B) → Stands (map f xs) b → (x : A) × Stands xs x × (f x ≡ b)
 mapped_from f [] b s = absurd s
 mapped_from f (x ∷ xs) b (inl p) = (x, inl refl, p)
 mapped_from f (x ∷ xs) b (inr s) = let m = mapped_from f xs b s in (m.0, inr m.1, m.2)

@@ -5,3 +5,5 @@ pub mod NameLemmas
 pub mod GatherLemmas
 pub mod CutLemmas
 pub mod HonestLemmas
+pub mod RankLemmas
+pub mod AvailableLemmas
