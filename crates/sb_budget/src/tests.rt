@@ -17,7 +17,8 @@ fn longest_value(alloc: Global, key: &[u8], version: u64) -> Result<Entry, Fault
     requires { 1 ≤ version }
     ensures { IfOk result (λ e. e.version ≡ version) }
 {
-    let value = Value::addr(alloc, &[b'p'; 128])?;
+    let text = [b'p'; 128];
+    let value = Value::addr(alloc, &text)?;
     Ok(Entry::new(Key::read(key)?, version, Slot::Set(value)))
 }
 
