@@ -7,4 +7,3 @@ pub mod CutLemmas
 pub mod HonestLemmas
 pub mod RankLemmas
 pub mod AvailableLemmas
-pub mod HeldLemmas
