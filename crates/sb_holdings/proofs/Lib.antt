@@ -15,7 +15,6 @@ pub mod Numbered
 pub mod ByVersion
 pub mod Shown
 pub mod Content
-pub mod Offered
 pub mod ByOwner
 pub mod Entered
 pub mod Changed

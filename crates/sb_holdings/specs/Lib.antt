@@ -9,6 +9,5 @@ pub mod Nodes
 pub mod Entering
 pub mod ByVersion
 pub mod Contents
-pub mod Offers
 pub mod Plain
 pub mod Ends

@@ -6,7 +6,6 @@ mod ends;
 mod enter;
 mod holdings;
 mod laws;
-mod offers;
 mod owners;
 mod reading;
 mod report;
@@ -18,7 +17,6 @@ pub use laws::{
     blocks_keep_truth, holdings_make_nodes, nodes_hold, nothing_goes_back, one_by_one, one_meaning, replays_hold,
     truth_lasts,
 };
-pub use offers::{available_by_owner, offers_are_honest};
 pub use owners::{Owners, Tables};
 pub use reading::reads_are_true;
 pub use report::Report;

@@ -1,5 +1,5 @@
-use Rattle.sb_holdings.proofs.Offered.{available_of, uncovered, unnamed}
-use Rattle.sb_holdings.proofs.offers.available_by_owner.Goals as goal
+use Rattle.sb_budget.proofs.OfferLemmas.{available_of, uncovered, unnamed}
+use Rattle.sb_budget.proofs.laws.available_by_owner.Goals as goal
 
 pub returns-clause-covered : goal.returns-clause-covered
 returns-clause-covered c = available_of

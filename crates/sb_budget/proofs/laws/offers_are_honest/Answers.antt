@@ -1,5 +1,5 @@
-use Rattle.sb_holdings.proofs.Offered.{offer_is, offer_honest}
-use Rattle.sb_holdings.proofs.offers.offers_are_honest.Goals as goal
+use Rattle.sb_budget.proofs.OfferLemmas.{offer_is, offer_honest}
+use Rattle.sb_budget.proofs.laws.offers_are_honest.Goals as goal
 
 pub returns-clause-offered : goal.returns-clause-offered
 returns-clause-offered c = λ writes t number owner front rest first i h offered s. offer_honest owner t number front rest first i offered s writes h

@@ -2,10 +2,11 @@
 
 ghost use Rattle.std.specs.Prelude.{◌≡◌, ℕ, Bool, true, false, List, [], ◌++◌};
 ghost use Rattle.sb_types.specs.declared.entry.Write.{Write};
-ghost use Rattle.sb_types.specs.Records.{Table, Holder};
+ghost use Rattle.sb_types.specs.Records.{Table, Block, Holder};
 ghost use Rattle.sb_types.specs.Runs.{Stands, IsTable, IsBlock};
 ghost use Rattle.sb_types.specs.Writes.{Holds, Honest};
-ghost use Rattle.sb_holdings.specs.Offers.{Item, of_owner, items_of, block_of, is_named, are_named_once, available};
+ghost use Rattle.sb_budget.specs.Offers.{Item, of_owner, items_of, block_of, is_named, are_named_once, available};
+ghost use Rattle.sb_budget.specs.Cut.{IsCut};
 
 /// Each block of a front of what is offered of a table that holds is honest.
 pub fn offers_are_honest()
@@ -26,4 +27,15 @@ pub fn available_by_owner()
         covers owner ≡ false → of_owner owner (available covers number owners) ≡ [] }
     ensures unknown { (covers : List ℕ → Bool) (number : List ℕ → Table → ℕ) (owners : List (List ℕ × Holder)) (owner : List ℕ) →
         is_named owner owners ≡ false → of_owner owner (available covers number owners) ≡ [] }
+{}
+
+/// Each block of a cut is honest where what is offered of its owner is what a table that holds has above a
+/// number.
+pub fn cuts_are_honest()
+    ensures honest { (writes : List Write) (t : Table) (number budget : ℕ) (items : List Item) (delta : List Block) (b : Block) →
+        IsTable t → Holds writes t → IsCut budget items delta → Stands delta b → of_owner b.owner items ≡ items_of b.owner t number →
+        Honest writes b }
+    ensures is { (t : Table) (number budget : ℕ) (items : List Item) (delta : List Block) (b : Block) →
+        IsTable t → IsCut budget items delta → Stands delta b → of_owner b.owner items ≡ items_of b.owner t number →
+        IsBlock b }
 {}
