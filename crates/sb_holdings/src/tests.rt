@@ -103,7 +103,11 @@ fn owners_have_a_limit(rt: HostRuntime) -> Result<(), Fail> {
     let gap = Block::new(other, 2, entries(alloc, 3, 3)?)?;
     assert_eq!(rt; holdings.apply_block(&gap), BlockEnd::Gap);
     assert_eq!(rt; holdings.upto(&other), 0);
-    assert_eq!(rt; holdings.owners().count(), 1_024);
+    let mut owners = 0_u64;
+    for _ in holdings.owners() {
+        owners = owners.wrapping_add(1);
+    }
+    assert_eq!(rt; owners, 1_024);
     let known = Block::new(Name::read(&text_of(1))?, 1, entries(alloc, 2, 2)?)?;
     assert_eq!(rt; holdings.apply_block(&known), BlockEnd::Taken(1));
     Ok(())
@@ -152,7 +156,11 @@ fn owners_come_in_the_order_of_their_names(rt: HostRuntime) -> Result<(), Fail> 
         names.push(*name)?;
     }
     assert_eq!(rt; names.as_slice(), [ma, z].as_slice());
-    assert_eq!(rt; holdings.tables_from(None).count(), 4);
+    let mut all = 0_u64;
+    for _ in holdings.tables_from(None) {
+        all = all.wrapping_add(1);
+    }
+    assert_eq!(rt; all, 4);
     Ok(())
 }
 
