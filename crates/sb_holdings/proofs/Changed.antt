@@ -58,8 +58,8 @@ module _ (held : Held) (owner : List ℕ) (t : Table) (some : 0 < length t.entri
   pub with_owner-some : with_owner held owner (alone t) ≡ record { me = held.me; owners = insert held.owners owner (alone t) }
   with_owner-some =
       ap (λ (m : FinMap by_text Holder). let h : Held = record { me = held.me; owners = m } in h)
-        (cond-false (is_nothing (alone t)) (remove held.owners owner) (insert held.owners owner (alone t))
-          (third_false _ _ _ _ (not_none (length t.entries) some)))
+      (cond-false (is_nothing (alone t)) (remove held.owners owner) (insert held.owners owner (alone t))
+      (third_false _ _ _ _ (not_none (length t.entries) some)))
 
   got : (q : List ℕ) → get (insert held.owners owner (alone t)) q ≡ cond (eq_by_cmp by_text q owner) (Some (alone t)) (get held.owners q)
   got q = get-insert nat_list_cmp_total held.owners owner (alone t) q
@@ -69,11 +69,11 @@ module _ (held : Held) (owner : List ℕ) (t : Table) (some : 0 < length t.entri
       subst IsHoldings (sym with_owner-some) (record {
         own = ap is_some (got held.me) ∙ cond_both (eq_by_cmp by_text held.me owner) (Some (alone t)) (get held.owners held.me) (λ (o : Option Holder). is_some o ≡ true) (λ _. refl) (λ _. is.own);
         each = λ q. subst (λ (o : Option Holder). IfSome o IsPlainHolder) (sym (got q))
-          (cond_both (eq_by_cmp by_text q owner) (Some (alone t)) (get held.owners q) (λ (o : Option Holder). IfSome o IsPlainHolder) (λ _. record { shown = plain; stage = refl }) (λ _. is.each q));
+            (cond_both (eq_by_cmp by_text q owner) (Some (alone t)) (get held.owners q) (λ (o : Option Holder). IfSome o IsPlainHolder) (λ _. record { shown = plain; stage = refl }) (λ _. is.each q));
         others = λ q apart. subst (λ (o : Option Holder). IfSome o (λ h. 0 < length h.shown.entries)) (sym (got q))
-          (cond_both (eq_by_cmp by_text q owner) (Some (alone t)) (get held.owners q) (λ (o : Option Holder). IfSome o (λ h. 0 < length h.shown.entries)) (λ _. some) (λ _. is.others q apart));
+            (cond_both (eq_by_cmp by_text q owner) (Some (alone t)) (get held.owners q) (λ (o : Option Holder). IfSome o (λ h. 0 < length h.shown.entries)) (λ _. some) (λ _. is.others q apart));
         few = subst (λ (n : ℕ). n ≤ OWNERS_MOST) (sym (len-insert nat_list_cmp_total held.owners owner (alone t)))
-          (cond_both (contains_key held.owners owner) (len held.owners) (len held.owners + 1) (λ (n : ℕ). n ≤ OWNERS_MOST) (λ _. is.few)
+            (cond_both (contains_key held.owners owner) (len held.owners) (len held.owners + 1) (λ (n : ℕ). n ≤ OWNERS_MOST) (λ _. is.few)
             (λ unknown. omega (arith, ltb-true (len held.owners) OWNERS_MOST (sym (ap (λ b. b || nat_lt (len held.owners) OWNERS_MOST) unknown) ∙ place))));
       })
 
@@ -85,8 +85,8 @@ pub with_owner-nothing : (held : Held) (owner : List ℕ) (t : Table) → get he
 with_owner-nothing held owner t unknown none =
     ap (with_owner held owner) none
     ∙ ap (λ (m : FinMap by_text Holder). let h : Held = record { me = held.me; owners = m } in h)
-      (same_owners (remove held.owners owner) held.owners (λ q. get-remove nat_list_cmp_total held.owners owner q
-        ∙ cond_both (eq_by_cmp by_text q owner) None (get held.owners q) (λ (o : Option Holder). o ≡ get held.owners q) (λ tied. sym (ap (get held.owners) (same_text q owner (texts_ties q owner ∙ tied)) ∙ unknown)) (λ _. refl)))
+    (same_owners (remove held.owners owner) held.owners (λ q. get-remove nat_list_cmp_total held.owners owner q
+    ∙ cond_both (eq_by_cmp by_text q owner) None (get held.owners q) (λ (o : Option Holder). o ≡ get held.owners q) (λ tied. sym (ap (get held.owners) (same_text q owner (texts_ties q owner ∙ tied)) ∙ unknown)) (λ _. refl)))
 
 alone-cond : (b : Bool) (t : Table) (o : Option Table) → option_map alone (cond b (Some t) o) ≡ cond b (Some (alone t)) (option_map alone o)
 alone-cond true t o = refl
@@ -97,8 +97,8 @@ pub held_of-with : (me owner : List ℕ) (t : Table) (old new : List (List ℕ �
     ((q : List ℕ) → found new q ≡ cond (is_at (by_text owner) q) (Some t) (found old q)) → held_of me new ≡ with_owner (held_of me old) owner (alone t)
 held_of-with me owner t old new up up_new some changed =
     ap (λ (m : FinMap by_text Holder). let h : Held = record { me = me; owners = m } in h)
-      (same_owners _ _ (λ q. get-held_of me new up_new q ∙ ap (option_map alone) (changed q) ∙ alone-cond _ t (found old q)
-        ∙ ap (λ (b : Bool). cond b (Some (alone t)) (option_map alone (found old q))) ((eq_by_cmp_equiv nat_list_cmp_total).symm owner q)
-        ∙ ap (cond (eq_by_cmp by_text q owner) (Some (alone t))) (sym (get-held_of me old up q))
-        ∙ sym (got (held_of me old) owner t some q)))
+    (same_owners _ _ (λ q. get-held_of me new up_new q ∙ ap (option_map alone) (changed q) ∙ alone-cond _ t (found old q)
+    ∙ ap (λ (b : Bool). cond b (Some (alone t)) (option_map alone (found old q))) ((eq_by_cmp_equiv nat_list_cmp_total).symm owner q)
+    ∙ ap (cond (eq_by_cmp by_text q owner) (Some (alone t))) (sym (get-held_of me old up q))
+    ∙ sym (got (held_of me old) owner t some q)))
     ∙ sym (with_owner-some (held_of me old) owner t some)

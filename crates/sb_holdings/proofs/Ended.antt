@@ -51,8 +51,8 @@ last_version-above after version [] up more le = absurd (omega arith)
 last_version-above after version (e ∷ es) up more le =
     let parts = and_parts (nat_lt after e.version) (are_ascending e.version es) up in
     cond_both (nat_lt version e.version) (e ∷ above version es) (above version es) (λ (xs : List Entry). last_version version xs ≡ last_version e.version es)
-      (λ later. ap (last_version e.version) (above-all version e.version es (omega (arith, ltb-true version e.version later)) parts.1))
-      (λ held. last_version-above e.version version es parts.1 more (ltb-false version e.version held))
+    (λ later. ap (last_version e.version) (above-all version e.version es (omega (arith, ltb-true version e.version later)) parts.1))
+    (λ held. last_version-above e.version version es parts.1 more (ltb-false version e.version held))
 
 live-all : (last : ℕ) (es : List Entry) → are_ascending last es ≡ true → live 0 es ≡ es
 live-all last [] up = refl
@@ -75,7 +75,7 @@ module _ (t : Table) (plain : IsPlainTable t) where
     shown : (p : Block) (staged : Option Stage → Holder) → p.floor ≡ b.floor → p.upto ≡ last_version t.held p.entries → routed (alone t) b (shown_with (alone t) p) staged ≡ alone (with_entries t p.entries)
     shown p staged floor upto =
         let joins : joins_shown t b ≡ true =
-          and_from _ _ (le-leb b.floor t.held (omega (arith, is.floor))) (and_from _ _ (le-leb b.after t.held after) (lt-ltb t.held b.upto more)) in
+        and_from _ _ (le-leb b.floor t.held (omega (arith, is.floor))) (and_from _ _ (le-leb b.after t.held after) (lt-ltb t.held b.upto more)) in
         cond-true (joins_shown t b) (shown_with (alone t) p) _ joins ∙ ap alone (joined-plain p (floor ∙ is.floor) upto)
 
     pub treat-entered : (end : BlockEnd) → Enters t.entries (above t.held b.entries) end → treat (alone t) b end ≡ alone (with_entries t (take (entered_count end) (above t.held b.entries)))
@@ -149,8 +149,8 @@ above-some after version [] up le more = absurd (omega arith)
 above-some after version (e ∷ es) up le more =
     let parts = and_parts (nat_lt after e.version) (are_ascending e.version es) up in
     cond_both (nat_lt version e.version) (e ∷ above version es) (above version es) (λ (xs : List Entry). 0 < length xs)
-      (λ _. omega arith)
-      (λ held. above-some e.version version es parts.1 (ltb-false version e.version held) more)
+    (λ _. omega arith)
+    (λ held. above-some e.version version es parts.1 (ltb-false version e.version held) more)
 
 module _ (b : Block) (is : is_delta_block b ≡ true) where
   plain : IsPlainBlock b

@@ -162,4 +162,4 @@ module _ (held : Held) (me : List ℕ) (old new : BTreeMap (List ℕ) Table) (t 
   own-is (Err fault) ok err plain = subst IsHoldings (sym (lent-same me me old new t w up at through err)) is
   own-is (Ok u) ok err plain =
       subst IsHoldings (sym (own-entered ok))
-        (IsHoldings-with (held_of me old.entries) me w (omega (arith, ap (λ (u : Table). length u.entries) ok, length-append (without (e ∷ []) t.entries) (e ∷ []))) is plain (place-found me me old.entries t up at))
+      (IsHoldings-with (held_of me old.entries) me w (omega (arith, ap (λ (u : Table). length u.entries) ok, length-append (without (e ∷ []) t.entries) (e ∷ []))) is plain (place-found me me old.entries t up at))

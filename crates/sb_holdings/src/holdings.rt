@@ -35,7 +35,6 @@ impl Model for Holdings {
     ghost use Rattle.std.specs.BTreeMap.{IsOrdered};
     ghost use Rattle.sb_holdings.specs.Held.{Held};
     ghost use Rattle.sb_holdings.specs.Plain.{held_of, IsHoldings};
-
     ghost use Rattle.std.specs.Coded.{codes};
     ghost use Rattle.std.specs.FinMap.{code};
 

@@ -15,8 +15,8 @@ pub use contents::contents_hold;
 pub use ends::BlockEnd;
 pub use holdings::Holdings;
 pub use laws::{
-    blocks_keep_truth, holdings_make_nodes, nodes_hold, nothing_goes_back, one_by_one, one_meaning, replays_hold,
-    truth_lasts,
+    blocks_keep_truth, holdings_make_nodes, nodes_hold, nothing_goes_back, one_by_one, one_meaning,
+    replays_hold, truth_lasts,
 };
 pub use offers::{available_by_owner, offers_are_honest};
 pub use owners::{Owners, Tables};

@@ -9,11 +9,7 @@ use std::test::Fail;
 fn weight(key: &[u8], version: u64) -> Result<Entry, Fault>
     requires { 1 ≤ version }
 {
-    Ok(Entry::new(
-        Key::read(key)?,
-        version,
-        Slot::Set(Value::weight(version)?),
-    ))
+    Ok(Entry::new(Key::read(key)?, version, Slot::Set(Value::weight(version)?)))
 }
 
 fn address(alloc: Global, key: &[u8], version: u64) -> Result<Entry, Fault>
@@ -76,9 +72,15 @@ fn own_writes_come_in_turn(rt: HostRuntime) -> Result<(), Fail> {
     let me = Name::read(b"m")?;
     let mut holdings = holdings_of(alloc, b"m")?;
     assert_eq!(rt; *holdings.me(), me);
-    assert_eq!(rt; holdings.push_own(weight(b"w", 2)?), Err(Fault::OutOfTurn(1)));
+    assert_eq!(rt;
+        holdings.push_own(weight(b"w", 2)?),
+        Err(Fault::OutOfTurn(1))
+    );
     assert_eq!(rt; holdings.push_own(weight(b"w", 1)?), Ok(()));
-    assert_eq!(rt; holdings.push_own(weight(b"w", 1)?), Err(Fault::OutOfTurn(2)));
+    assert_eq!(rt;
+        holdings.push_own(weight(b"w", 1)?),
+        Err(Fault::OutOfTurn(2))
+    );
     assert_eq!(rt; holdings.upto(&me), 1);
     let held = Block::new(me, 0, entries(alloc, 1, 1)?)?;
     assert_eq!(rt; holdings.apply_block(&held), BlockEnd::Own);
@@ -95,7 +97,11 @@ fn owners_have_a_limit(rt: HostRuntime) -> Result<(), Fail> {
     for number in 1..1_024 {
         let owner = Name::read(&text_of(number))?;
         let block = Block::new(owner, 0, entries(alloc, 1, 1)?)?;
-        assert_eq!(rt; holdings.apply_block(&block), BlockEnd::Taken(1), "{number}");
+        assert_eq!(rt;
+            holdings.apply_block(&block),
+            BlockEnd::Taken(1),
+            "{number}"
+        );
     }
     let other = Name::read(b"zz")?;
     let block = Block::new(other, 0, entries(alloc, 1, 1)?)?;
@@ -209,6 +215,9 @@ fn reports_list_the_ends(rt: HostRuntime) -> Result<(), Fail> {
     let report = Report::new(vec![in alloc; BlockEnd::Taken(2), BlockEnd::Gap]?);
     assert_eq!(rt; report.len(), 2);
     assert!(rt; !report.is_empty());
-    assert_eq!(rt; report.ends(), [BlockEnd::Taken(2), BlockEnd::Gap].as_slice());
+    assert_eq!(rt;
+        report.ends(),
+        [BlockEnd::Taken(2), BlockEnd::Gap].as_slice()
+    );
     Ok(())
 }

@@ -18,9 +18,11 @@ returns-then-is_full_for-clause-end c =
     let es = c.args.entries.now in
     let n = c.loop-count.count in
     let x = c.index-entries-count.result in
-    let lt : n < length es = omega arith in
-    (lt, keys-so_far t u es n x x.key c.loop-count.invariant.entered lt c.index-entries-count.is refl c.loop-count.invariant.table,
-      keys-full t u es n x c.key.result.now c.loop-count.invariant.entered lt c.index-entries-count.is c.key.ensures.key c.requires.distinct (sym c.if-is_full_for.ensures))
+    let lt : n < length es = omega arith in (
+      lt,
+      keys-so_far t u es n x x.key c.loop-count.invariant.entered lt c.index-entries-count.is refl c.loop-count.invariant.table,
+      keys-full t u es n x c.key.result.now c.loop-count.invariant.entered lt c.index-entries-count.is c.key.ensures.key c.requires.distinct (sym c.if-is_full_for.ensures),
+    )
 
 pub push_copy-requires-clause-later : goal.push_copy-requires-clause-later
 push_copy-requires-clause-later c =
@@ -31,9 +33,11 @@ push_copy-requires-clause-later c =
 pub returns-then-is_err-clause-end : goal.returns-then-is_err-clause-end
 returns-then-is_err-clause-end c =
     let x = c.index-entries-count.result in
-    let lt : c.loop-count.count < length c.args.entries.now = omega arith in
-    (lt, keys-room c.args.table.now c.loop-count.table c.args.entries.now c.loop-count.count x c.key.result.now c.loop-count.invariant.entered lt c.index-entries-count.is c.key.ensures.key
-      c.requires.distinct c.loop-count.invariant.table (sym c.if-is_full_for.ensures))
+    let lt : c.loop-count.count < length c.args.entries.now = omega arith in (
+      lt,
+      keys-room c.args.table.now c.loop-count.table c.args.entries.now c.loop-count.count x c.key.result.now c.loop-count.invariant.entered lt c.index-entries-count.is c.key.ensures.key
+          c.requires.distinct c.loop-count.invariant.table (sym c.if-is_full_for.ensures),
+    )
 
 pub loop-count-preserved : goal.loop-count-preserved
 loop-count-preserved c =

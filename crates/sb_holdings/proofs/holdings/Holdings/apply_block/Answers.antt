@@ -25,15 +25,15 @@ enter-requires-clause-later c =
     let b = c.args.block.now in
     let new = new_entries c.args.self.now b c.owner.result.now c.upto-held.result c.entries.result.now c.entries_above.result.now c.owner.ensures.owner c.upto-held.ensures.version c.entries.ensures.entries c.entries_above.ensures in
     subst (λ (o : List ℕ). are_ascending (shown_of c.args.self.now o).held c.entries_above.result.now ≡ true) (sym c.owner-2.ensures.owner)
-      (subst (λ (es : List Entry). are_ascending (shown_of c.args.self.now b.owner).held es ≡ true) (sym new)
-        (new-run b c.entries.ensures.block _ c.in_default.ensures.joins.after c.in_default.ensures.joins.more).ascending)
+    (subst (λ (es : List Entry). are_ascending (shown_of c.args.self.now b.owner).held es ≡ true) (sym new)
+    (new-run b c.entries.ensures.block _ c.in_default.ensures.joins.after c.in_default.ensures.joins.more).ascending)
 
 pub enter-requires-clause-distinct : goal.enter-requires-clause-distinct
 enter-requires-clause-distinct c =
     let b = c.args.block.now in
     let new = new_entries c.args.self.now b c.owner.result.now c.upto-held.result c.entries.result.now c.entries_above.result.now c.owner.ensures.owner c.upto-held.ensures.version c.entries.ensures.entries c.entries_above.ensures in
     subst (λ (es : List Entry). are_distinct es ≡ true) (sym new)
-      (new-run b c.entries.ensures.block _ c.in_default.ensures.joins.after c.in_default.ensures.joins.more).distinct
+    (new-run b c.entries.ensures.block _ c.in_default.ensures.joins.after c.in_default.ensures.joins.more).distinct
 
 pub returns-clause-effect : goal.returns-clause-effect
 returns-clause-effect c =

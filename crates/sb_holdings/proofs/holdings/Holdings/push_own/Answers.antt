@@ -32,9 +32,10 @@ invariant_of-self c =
     let e = c.args.entry in
     let at : found tables me ≡ Some t = sym c.get_mut.ensures.value ∙ ap option_copied_mut c.unwrap.ensures in
     let w = c.push.new.self in
-    let through = c.get_mut.follows.holds w in
-    (through.4,
-      own-is c.args.self.now me c.self.inside.tables (c.get_mut.follows.lender w) t w c.self.invariant.0 at through c.self.invariant.1 c.self.view_is e c.push.result c.push.ensures.ok c.push.ensures.err c.push.ensures.table)
+    let through = c.get_mut.follows.holds w in (
+      through.4,
+      own-is c.args.self.now me c.self.inside.tables (c.get_mut.follows.lender w) t w c.self.invariant.0 at through c.self.invariant.1 c.self.view_is e c.push.result c.push.ensures.ok c.push.ensures.err c.push.ensures.table,
+    )
 
 pub returns-clause-answer : goal.returns-clause-answer
 returns-clause-answer c =

@@ -14,10 +14,11 @@ pub returns-then-not-contains_key-clause-end : goal.returns-then-not-contains_ke
 returns-then-not-contains_key-clause-end c =
     let tables = c.self.inside.tables.entries in
     let owner = c.args.block.now.owner in
-    let unknown : is_some (found tables owner) ≡ false = ap (λ (o : List ℕ). is_some (found tables o)) (sym c.owner-owner.ensures.owner) ∙ sym c.if-not-contains_key.ensures in
-    (search rules,
+    let unknown : is_some (found tables owner) ≡ false = ap (λ (o : List ℕ). is_some (found tables o)) (sym c.owner-owner.ensures.owner) ∙ sym c.if-not-contains_key.ensures in (
+      search rules,
       has_place-found c.args.self.now c.self.inside.me owner tables c.self.invariant.0 c.self.view_is
-      ∙ or_from _ _ unknown (full (length tables) (omega (arith, c.len.ensures.len))))
+          ∙ or_from _ _ unknown (full (length tables) (omega (arith, c.len.ensures.len))),
+    )
 
 pub returns-clause-place : goal.returns-clause-place
 returns-clause-place c =
