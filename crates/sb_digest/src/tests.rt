@@ -166,9 +166,10 @@ fn hold(alloc: Global, holdings: &mut Holdings, owner: &Name) {
 #[test]
 fn six_owners_take_two_digests(rt: HostRuntime) -> Result<(), Fail> {
     let alloc = rt.alloc();
-    let owners = six_owners()?;
+    let six = six_owners()?;
+    let owners = &six[..];
     let mut holdings = alone(alloc, owners[0])?;
-    for owner in &owners {
+    for owner in owners {
         hold(alloc, &mut holdings, owner);
     }
     let first = asked(alloc, &holdings, None, 256)?;
