@@ -9,8 +9,8 @@ use Rattle.sb_types.specs.declared.limits.TheConstants.{PAYLOAD_MOST}
 use Rattle.sb_types.specs.Text.{is_name}
 use Rattle.sb_types.specs.Limits.{text_lt}
 use Rattle.sb_holdings.specs.Plain.{is_from}
-use Rattle.sb_digest.specs.Digests.{Pair, Digest, digest_of, covers}
-use Rattle.sb_digest.specs.Lengths.{pair_length, digest_length, frame_length}
+use Rattle.sb_digest.specs.Digests.{Pair, digest_of}
+use Rattle.sb_digest.specs.Lengths.{digest_length, frame_length}
 use Rattle.sb_digest.specs.Limits.{are_pairs_above, is_range, is_bound, is_pair, is_digest}
 use Rattle.sb_digest.specs.Fronts.{Front, IsFront, front_of}
 use Rattle.sb_digest.proofs.Longest.{nobody, frame_length-front}

@@ -1,22 +1,22 @@
 -- What the pairs of what is held tell of an owner.
-use Rattle.std.proofs.Common.{◌≡◌, ℕ, zero, suc, ◌+◌, ◌<◌, ◌≤◌, Bool, true, false, ◌&&◌, List, [], ◌∷◌, map, take, length, get_or, Option, Some, None, refl, sym, ap, ◌∙◌, subst, arith, inl, inr, nat_cmp, nat_eq, Ordering, Less, Equal, Greater, is_lt}
+use Rattle.std.proofs.Common.{◌≡◌, ℕ, zero, suc, ◌<◌, Bool, true, false, ◌&&◌, List, [], ◌∷◌, map, take, length, get_or, Option, Some, refl, sym, ap, ◌∙◌, subst, arith, inl, inr, nat_cmp, nat_eq, Ordering, Less, Equal, Greater, is_lt}
 use Rattle.std.specs.Prelude.{filter, cond, unwrap_or}
 use lib.Dec.{T}
 use Rattle.std.specs.List.{slice_get, AllByRecursion}
 use Rattle.std.specs.List.Sorted.{IsStrictlySortedBy}
 use Rattle.std.specs.Option.{option_map, option_map_or}
-use Rattle.std.specs.Ordering.{eq_by_cmp, ordering_reverse}
+use Rattle.std.specs.Ordering.{eq_by_cmp}
 use Rattle.std.specs.Cmp.Lexicographic.{slice_cmp, pointwise, texts_ties}
 use Rattle.std.specs.FinMap.{entries, entries_sorted, get-entries, is_sorted, find}
 use Rattle.std.specs.FinMap.Entries.{below_all, is_sorted-where_key}
 use Rattle.std.proofs.lemmas.Bool.{and_parts, cases_order, true≢false}
 use Rattle.std.proofs.lemmas.Cmp.{nat_list_cmp_total, nat_list_eq_equiv}
 use Rattle.std.proofs.lemmas.Map.Keys.{Less-from_sorted, sorted_tail}
-use Rattle.sb_types.specs.Records.{Table, Holder}
+use Rattle.sb_types.specs.Records.{Holder}
 use Rattle.sb_types.specs.Limits.{text_lt}
 use Rattle.sb_holdings.specs.Held.{Held, nothing, holder_of}
-use Rattle.sb_holdings.specs.Plain.{is_from, tables_from}
-use Rattle.sb_digest.specs.Digests.{Pair, Digest, digest_of, is_below, covers, pair_at, number}
+use Rattle.sb_holdings.specs.Plain.{is_from}
+use Rattle.sb_digest.specs.Digests.{Pair, Digest, is_below, covers, pair_at, number}
 use Rattle.sb_digest.specs.Lengths.{frame_length}
 use Rattle.sb_digest.specs.Fronts.{front_of, IsLongestFront}
 use Rattle.sb_digest.specs.Pairs.{pair_of, pairs_from}
@@ -45,6 +45,7 @@ found_passed test owner passes (e ∷ es) = go (pointwise nat_eq e.0 owner) (tes
   where
     ties : eq_by_cmp (slice_cmp nat_cmp) owner e.0 ≡ pointwise nat_eq e.0 owner
     ties = sym (texts_ties owner e.0) ∙ nat_list_eq_equiv.symm owner e.0
+
     go : (same passed : Bool) → pointwise nat_eq e.0 owner ≡ same → test e.0 ≡ passed → version_of (pair_at owner (told (filter (λ e. test e.0) es))) ≡ (unwrap_or (find (slice_cmp nat_cmp) owner es) nothing).shown.held →
         version_of (pair_at owner (told (cond passed (e ∷ filter (λ e. test e.0) es) (filter (λ e. test e.0) es)))) ≡ (unwrap_or (cond (eq_by_cmp (slice_cmp nat_cmp) owner e.0) (Some e.1) (find (slice_cmp nat_cmp) owner es)) nothing).shown.held
     go true true same passed rest = rw (ties, same) refl

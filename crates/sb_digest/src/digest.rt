@@ -80,7 +80,9 @@ fn is_covered(from: Option<&Name>, until: Option<&Name>, owner: &Name) -> bool
 fn are_covered(from: Option<&Name>, until: Option<&Name>, pairs: &[Pair]) -> bool
     ensures { result ≡ list_all (λ pair. is_from (option_copied from.entry) pair.owner && is_below (option_copied until.entry) pair.owner) pairs.now }
 {
-    pairs.iter().all(|pair| is_covered(from, until, &pair.owner))
+    pairs
+        .iter()
+        .all(|pair| is_covered(from, until, &pair.owner))
 }
 
 fn owner_of(pair: &Pair) -> Name
@@ -262,7 +264,10 @@ impl Digest {
     pub fn number(&self, owner: &Name) -> u64
         ensures { result ≡ number self.now owner.now }
     {
-        match self.pairs.binary_search_by_key(owner, |pair| owner_of(pair)) {
+        match self
+            .pairs
+            .binary_search_by_key(owner, |pair| owner_of(pair))
+        {
             Ok(place) => self.pairs[place].version,
             Err(_) => 0,
         }

@@ -136,7 +136,12 @@ fn a_new_node_tells_of_itself(rt: HostRuntime) -> Result<(), Fail> {
     assert_eq!(rt; digest.from(), None);
     assert_eq!(rt; digest.until(), None);
     assert_eq!(rt; digest.pairs().len(), 1);
-    assert!(rt; digest.pairs().iter().all(|pair| pair.owner == a && pair.version == 0));
+    assert!(rt;
+        digest
+            .pairs()
+            .iter()
+            .all(|pair| pair.owner == a && pair.version == 0)
+    );
     assert_eq!(rt; digest.encoded_length(), 16);
 
     let rest = asked(alloc, &holdings, Some(&b), 256)?;

@@ -1,5 +1,4 @@
-use Rattle.std.proofs.Common.{◌≡◌, true, arith, ap, sym, ◌∙◌}
-use Rattle.sb_digest.specs.Fronts.{Front, has_room, with_pair}
+use Rattle.std.proofs.Common.{◌≡◌, arith, sym, ◌∙◌}
 use Rattle.sb_digest.proofs.Gathering.{next-comes, cut-longest}
 use Rattle.sb_digest.proofs.building.build.Goals as goal
 
