@@ -7,3 +7,4 @@ pub mod CutLemmas
 pub mod HonestLemmas
 pub mod RankLemmas
 pub mod AvailableLemmas
+pub mod HeldLemmas

@@ -5,6 +5,9 @@ ghost use Rattle.sb_types.specs.declared.entry.Write.{Write};
 ghost use Rattle.sb_types.specs.Records.{Table, Block, Holder};
 ghost use Rattle.sb_types.specs.Runs.{Stands, IsTable, IsBlock};
 ghost use Rattle.sb_types.specs.Writes.{Holds, Honest};
+ghost use Rattle.sb_holdings.specs.Held.{Held, holder_of};
+ghost use Rattle.sb_digest.specs.Digests.{Digest, covers, number};
+ghost use Rattle.sb_budget.specs.Available.{available_for};
 ghost use Rattle.sb_budget.specs.Offers.{Item, of_owner, items_of, block_of, is_named, are_named_once, available};
 ghost use Rattle.sb_budget.specs.Cut.{IsCut};
 
@@ -38,4 +41,14 @@ pub fn cuts_are_honest()
     ensures is { (t : Table) (number budget : ℕ) (items : List Item) (delta : List Block) (b : Block) →
         IsTable t → IsCut budget items delta → Stands delta b → of_owner b.owner items ≡ items_of b.owner t number →
         IsBlock b }
+{}
+
+/// In answer to a digest, of an owner that it covers all that is held above its number is available, and of
+/// another nothing.
+pub fn available_by_number()
+    ensures covered { (held : Held) (digest : Digest) (owner : List ℕ) →
+        covers digest owner ≡ true →
+        of_owner owner (available_for held digest) ≡ items_of owner (holder_of held.owners owner).shown (number digest owner) }
+    ensures others { (held : Held) (digest : Digest) (owner : List ℕ) →
+        covers digest owner ≡ false → of_owner owner (available_for held digest) ≡ [] }
 {}
