@@ -59,9 +59,9 @@ spelling_fits m fits =
     elim (cases_lt 0 (length (spelling m))) [
       | inl lt ↦ omega arith
       | inr le ↦
-        let none : spelling m ≡ [] = nil_from_length (spelling m) (omega arith) in
-        let read : Err (UnknownKind 0) ≡ Ok m = sym reading_nothing ∙ ap reading (sym none) ∙ is_read (spelling m) m spells in
-        absurd cc
+          let none : spelling m ≡ [] = nil_from_length (spelling m) (omega arith) in
+          let read : Err (UnknownKind 0) ≡ Ok m = sym reading_nothing ∙ ap reading (sym none) ∙ is_read (spelling m) m spells in
+          absurd cc
     ] in
     length_fits (length (spelling m)) some spells.most
 
@@ -282,28 +282,28 @@ byte_stays : Stays byte_at
 unfolding byte_at
 byte_stays = record {
   more = λ bytes x rest more e.
-    elim bytes as (λ bytes. byte_at bytes ≡ Some (x, rest) → byte_at (bytes ++ more) ≡ Some (x, rest ++ more)) [
-      | [] ↦ λ e. absurd cc
-      | byte ∷ others ↦ λ e. let same = some_pair_parts byte x others rest e in rw (same.0, same.1) refl
-    ] e;
+      elim bytes as (λ bytes. byte_at bytes ≡ Some (x, rest) → byte_at (bytes ++ more) ≡ Some (x, rest ++ more)) [
+        | [] ↦ λ e. absurd cc
+        | byte ∷ others ↦ λ e. let same = some_pair_parts byte x others rest e in rw (same.0, same.1) refl
+      ] e;
 }
 
 bytes_stay : (count : ℕ) → Stays (bytes_at count)
 unfolding bytes_at
 bytes_stay count = record {
   more = λ bytes x rest more e.
-    let cut = not_none (ltb (length bytes) count) (take count bytes) x (drop count bytes) rest e in
-    let long : count ≤ length bytes = ltb-false (length bytes) count cut.0 in
-    let still : ltb (length (bytes ++ more)) count ≡ false = le-ltb (length (bytes ++ more)) count (omega (arith, length-append bytes more)) in
-    rw (still, take-append-le count bytes more long, drop-append-le count bytes more long, cut.1, cut.2) refl;
+      let cut = not_none (ltb (length bytes) count) (take count bytes) x (drop count bytes) rest e in
+      let long : count ≤ length bytes = ltb-false (length bytes) count cut.0 in
+      let still : ltb (length (bytes ++ more)) count ≡ false = le-ltb (length (bytes ++ more)) count (omega (arith, length-append bytes more)) in
+      rw (still, take-append-le count bytes more long, drop-append-le count bytes more long, cut.1, cut.2) refl;
 }
 
 number_stays : Stays (number_at w32)
 unfolding number_at
 number_stays = record {
   more = λ bytes x rest more e.
-    let found = some_parts (bytes_at 4 bytes) x rest e in
-    rw ((bytes_stay 4).more bytes found.0 rest more found.1, found.2) refl;
+      let found = some_parts (bytes_at 4 bytes) x rest e in
+      rw ((bytes_stay 4).more bytes found.0 rest more found.1, found.2) refl;
 }
 
 once_extends : {A : Type 0} {field : Field A} (bytes more : List ℕ) (next : A → List ℕ → Front) → Stays field → ((x : A) (rest : List ℕ) → Extends (next x rest) more (next x (rest ++ more)))

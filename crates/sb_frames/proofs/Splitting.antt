@@ -95,8 +95,8 @@ accounted held (next (Ok None) ∷ calls) new run = accounted held calls new (su
 accounted held (next (Err fault) ∷ calls) new run =
     elim run.1 [
       | inl front ↦
-        let none = nothing_more calls new (subst (λ s. Run s calls new) front.1 run.2) in
-        record { rest = held; whole = rw (none.1, none.2) (append-nil held); each = rw none.2 refl; left = subst (IsLeft held) (sym none.0) (fault, front.0) }
+          let none = nothing_more calls new (subst (λ s. Run s calls new) front.1 run.2) in
+          record { rest = held; whole = rw (none.1, none.2) (append-nil held); each = rw none.2 refl; left = subst (IsLeft held) (sym none.0) (fault, front.0) }
       | inr memory ↦ accounted held calls new (subst (λ s. Run s calls new) memory.2 run.2)
     ]
 

@@ -16,21 +16,20 @@ const DESCENDING: &[u8] = b"\xa7\x01\x00\x00\x00\x41\x03\x00\x02\
     \x01a\x00\x00\x00\x00\x00\x00\x00\x00\
     \x00\x01\x01w\x00\x00\x00\x00\x00\x00\x00\x01\x02\x00\x00\x00\x00\x00\x00\x00\x05";
 
-/// Takes at most so many bytes in each write, and fails once it has no room.
+/// Takes one byte in each write, and fails once it has no room.
+#[derive(Drop)]
 struct Narrow {
     bytes: [u8; 64],
     written: usize,
     room: usize,
-    step: usize,
 }
 
 impl Narrow {
-    fn new(room: usize, step: usize) -> Narrow {
+    fn new(room: usize) -> Narrow {
         Narrow {
             bytes: [0; 64],
             written: 0,
             room,
-            step,
         }
     }
 
@@ -41,22 +40,27 @@ impl Narrow {
 
 impl Write for Narrow {
     fn write(&mut self, buf: &[u8]) -> io::Result<usize> {
-        let mut count = 0;
-        for byte in buf {
-            if count == self.step {
-                break;
-            }
-            if self.written >= self.room || self.written >= 64 {
-                break;
-            }
-            self.bytes[self.written] = *byte;
-            self.written += 1;
-            count += 1;
-        }
-        if count == 0 && self.step > 0 {
+        let [byte, ..] = buf else { return Ok(0) };
+        if self.written >= self.room || self.written >= 64 {
             return Err(ErrorKind::BrokenPipe.into());
         }
-        Ok(count)
+        self.bytes[self.written] = *byte;
+        self.written += 1;
+        Ok(1)
+    }
+
+    fn flush(&mut self) -> io::Result<()> {
+        Ok(())
+    }
+}
+
+/// Takes no byte, and says so.
+#[derive(Drop)]
+struct Full;
+
+impl Write for Full {
+    fn write(&mut self, _: &[u8]) -> io::Result<usize> {
+        Ok(0)
     }
 
     fn flush(&mut self) -> io::Result<()> {
@@ -80,7 +84,7 @@ fn taken(frames: &mut Frames) -> Result<Option<Message>, Fault> {
     }
 }
 
-fn sent(alloc: Global, writer: &mut Narrow, message: &Message) -> Result<(), Fault> {
+fn sent<W: Write>(alloc: Global, writer: &mut W, message: &Message) -> Result<(), Fault> {
     match send(alloc, writer, message) {
         Err(Fault::NoMemory) => send(alloc, writer, message),
         answer => answer,
@@ -106,7 +110,7 @@ fn count_messages(alloc: Global, frames: &mut Frames) -> Result<usize, Fault> {
         let Some(message) = taken(frames)? else {
             return Ok(count);
         };
-        let mut writer = Narrow::new(64, 64);
+        let mut writer = Narrow::new(64);
         sent(alloc, &mut writer, &message)?;
         if !writer.has_written(FRAME) {
             return Err(Fault::Malformed(0));
@@ -166,16 +170,20 @@ fn faulty_frames_close(rt: HostRuntime) -> Result<(), Fail> {
 fn frames_go_out_whole(rt: HostRuntime) -> Result<(), Fail> {
     let alloc = rt.alloc();
     let message = message(alloc)?;
-    let mut narrow = Narrow::new(64, 7);
+    let mut narrow = Narrow::new(64);
     sent(alloc, &mut narrow, &message)?;
     assert!(rt; narrow.has_written(FRAME));
 
-    let mut failing = Narrow::new(17, 5);
-    assert_eq!(rt; sent(alloc, &mut failing, &message), Err(Fault::WriteFailed(17)));
-    assert!(rt; failing.has_written(&FRAME[..17]));
+    let mut narrow = Narrow::new(17);
+    assert_eq!(rt;
+        sent(alloc, &mut narrow, &message),
+        Err(Fault::WriteFailed(17))
+    );
+    assert!(rt; narrow.has_written(&FRAME[..17]));
 
-    let mut full = Narrow::new(64, 0);
-    assert_eq!(rt; sent(alloc, &mut full, &message), Err(Fault::WriteFailed(0)));
-    assert!(rt; full.has_written(b""));
+    assert_eq!(rt;
+        sent(alloc, &mut Full, &message),
+        Err(Fault::WriteFailed(0))
+    );
     Ok(())
 }
