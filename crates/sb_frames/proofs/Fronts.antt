@@ -1,12 +1,12 @@
 -- What stands at the front of bytes.
-use Rattle.std.proofs.Common.{◌≡◌, ◌≢◌, ℕ, ◌+◌, ◌^◌, ◌<◌, ◌≤◌, Bool, true, false, ◌==◌, ltb, if◌then◌else◌, List, [], ◌∷◌, ◌++◌, length, get_or, take, drop, Option, Some, None, Result, Ok, Err, refl, sym, ap, subst, ◌∙◌, inl, inr, ◌⊎◌, append_assoc, arith, length-append, length-take}
-use Rattle.std.specs.Int.{w32, byte_len, from_be_bytes, to_be_bytes}
+use Rattle.std.proofs.Common.{◌≡◌, ◌≢◌, ℕ, ◌+◌, ◌^◌, ◌<◌, ◌≤◌, Bool, true, false, ◌==◌, ltb, if◌then◌else◌, List, [], ◌∷◌, ◌++◌, length, take, drop, Option, Some, None, Result, Ok, Err, refl, sym, ap, subst, ◌∙◌, inl, inr, ◌⊎◌, append_assoc, arith, length-append, length-take}
+use Rattle.std.specs.Int.{w32, from_be_bytes}
 use Rattle.std.specs.Prelude.{ok_or, All}
 use Rattle.std.specs.Option.{option_and_then}
 use Rattle.std.proofs.lemmas.Bool.{and_parts, cases_lt, leb-true, le-leb, lt-ltb, le-ltb, ltb-false, eqb-true, ne_eqb}
 use Rattle.std.proofs.lemmas.Bool.Decides.{nat_tests}
 use Rattle.std.proofs.lemmas.Option.{some_pair_parts}
-use Rattle.std.proofs.lemmas.List.{append-nil, take-append-drop, take-append-le, drop-append-le, drop_at, get_or-append-add, get_or_append_left, get_or_past, nil_from_length}
+use Rattle.std.proofs.lemmas.List.{take-append-drop, take-append-le, drop-append-le, drop_at, get_or-append-add, get_or_append_left, get_or_past, nil_from_length}
 use Rattle.std.proofs.lemmas.Nat.{be_bytes_4, from_be_bytes-to_be_bytes_4}
 use Rattle.sb_types.specs.declared.fault.Fault.{Fault}
 use Rattle.sb_types.specs.declared.fault.Fault.TheVariants.{NoMemory, UnknownKind, Malformed, BadMark, BadVersion, BadLength}
@@ -49,7 +49,7 @@ reading_nothing = refl
 pub length_fits : (count : ℕ) → 1 ≤ count → count ≤ PAYLOAD_MOST → is_payload_length count ≡ true
 length_fits count some most = rw (le-leb 1 count some, le-leb count PAYLOAD_MOST most) refl
 
-length_out : (count : ℕ) → (count < 1) ⊎ ((1 ≤ count) × (PAYLOAD_MOST < count)) → is_payload_length count ≡ false
+length_out : (count : ℕ) → (count ≡ 0) ⊎ ((count ≢ 0) × (PAYLOAD_MOST < count)) → is_payload_length count ≡ false
 length_out count out = grind (arith, nat_tests)
 
 pub spelling_fits : (m : Message) → is_message m ≡ true → is_payload_length (length (spelling m)) ≡ true
@@ -108,7 +108,7 @@ at_length : (bytes count rest : List ℕ) (n : ℕ) → HasLength bytes count re
 unfolding front_of byte_at number_at
 at_length bytes count rest n has is = rw (has.laid, (bytes_again count 4 has.four).read rest, is) refl
 
-pub wrong_length : (bytes count rest : List ℕ) (n : ℕ) → HasLength bytes count rest → n ≡ from_be_bytes w32 count → (n < 1) ⊎ ((1 ≤ n) × (PAYLOAD_MOST < n)) → front_of bytes ≡ bad BadLength
+pub wrong_length : (bytes count rest : List ℕ) (n : ℕ) → HasLength bytes count rest → n ≡ from_be_bytes w32 count → (n ≡ 0) ⊎ ((n ≢ 0) × (PAYLOAD_MOST < n)) → front_of bytes ≡ bad BadLength
 wrong_length bytes count rest n has is out = rw (at_length bytes count rest n has is, length_out n out) refl
 
 pub before_payload : (bytes count rest : List ℕ) (n : ℕ) → HasLength bytes count rest → n ≡ from_be_bytes w32 count → 1 ≤ n → n ≤ PAYLOAD_MOST → length rest < n → front_of bytes ≡ short

@@ -1,15 +1,14 @@
 -- A stream has one reading.
 use Rattle.std.proofs.Common.{◌≡◌, ◌≢◌, ℕ, ◌+◌, ◌<◌, ◌≤◌, List, [], ◌∷◌, ◌++◌, length, take, drop, true, Some, None, Ok, Err, refl, sym, ap, subst, ◌∙◌, inl, inr, append_assoc, arith, length-append}
-use Rattle.std.specs.List.{flat_map, list_all}
+use Rattle.std.specs.List.{flat_map}
 use Rattle.std.proofs.lemmas.Bool.{and_parts}
 use Rattle.std.proofs.lemmas.List.{append-nil, take-append-drop, length-drop}
-use Rattle.sb_types.specs.declared.fault.Fault.{Fault}
 use Rattle.sb_types.specs.declared.limits.TheConstants.{HEADER_LENGTH, BUDGET_MOST}
 use Rattle.sb_codec.specs.declared.message.Message.{Message}
 use Rattle.sb_codec.specs.Messages.{spelling, is_message}
-use Rattle.sb_frames.specs.Frames.{framed, frame, Front, short, whole, bad, front_of, Extends}
+use Rattle.sb_frames.specs.Frames.{frame, Front, short, whole, bad, front_of, Extends}
 use Rattle.sb_frames.specs.Streams.{Stream, open_with, shut, Splits}
-use Rattle.sb_frames.specs.Runs.{Call, feed, next, Run, fed, taken, IsLeft, IsSpent}
+use Rattle.sb_frames.specs.Runs.{Call, feed, next, Run, fed, taken, IsLeft, IsSpent, Accounts}
 use Rattle.sb_frames.proofs.Fronts.{length-framed, fits_length, spelling_fits, front_frame, front_extends}
 
 pub length-frame : (m : Message) → length (frame m) ≡ HEADER_LENGTH + length (spelling m)
@@ -69,13 +68,6 @@ nothing_more (next (Ok (Some m)) ∷ calls) new run = absurd cc
 nothing_more (next (Ok None) ∷ calls) new run = absurd cc
 nothing_more (next (Err fault) ∷ calls) new run = nothing_more calls new (subst (λ s. Run s calls new) run.1.1 run.2)
 
--- the messages that were taken out and what is left are the stream
-pub record Accounts (stream : List ℕ) (messages : List Message) (new : Stream) : Type 0 where
-  pub rest : List ℕ
-  pub whole : stream ≡ flat_map frame messages ++ rest
-  pub each : list_all is_message messages ≡ true
-  pub left : IsLeft rest new
-
 accounted : (held : List ℕ) (calls : List Call) (new : Stream) → Run (open_with held) calls new → Accounts (held ++ fed calls) (taken calls) new
 accounted held [] new run = record { rest = held; whole = append-nil held; each = refl; left = subst (IsLeft held) (sym run) refl }
 accounted held (feed piece (Ok done) ∷ calls) new run =
@@ -100,8 +92,8 @@ accounted held (next (Err fault) ∷ calls) new run =
       | inr memory ↦ accounted held calls new (subst (λ s. Run s calls new) memory.2 run.2)
     ]
 
-pub any_calls : (calls : List Call) (new : Stream) → Run (open_with []) calls new → (rest : List ℕ) × (fed calls ≡ flat_map frame (taken calls) ++ rest) × (list_all is_message (taken calls) ≡ true) × IsLeft rest new
-any_calls calls new run = let all = accounted [] calls new run in (all.rest, all.whole, all.each, all.left)
+pub any_calls : (calls : List Call) (new : Stream) → Run (open_with []) calls new → Accounts (fed calls) (taken calls) new
+any_calls calls new run = accounted [] calls new run
 
 not_first : (front : Front) (rest : List ℕ) → front_of rest ≡ front → ((m : Message) (more : List ℕ) → front ≢ whole m more) → (m : Message) (more : List ℕ) → is_message m ≡ true → rest ≢ frame m ++ more
 not_first front rest is other m more fits e = other m more (sym is ∙ ap front_of e ∙ front_frame m more fits)

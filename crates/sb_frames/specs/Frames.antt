@@ -7,7 +7,7 @@ use Rattle.sb_types.specs.declared.limits.TheConstants.{FRAME_MARK, FRAME_VERSIO
 use Rattle.sb_types.specs.Text.{is_between}
 use Rattle.sb_codec.specs.declared.message.Message.{Message}
 use Rattle.sb_codec.specs.Spelling.{number}
-use Rattle.sb_codec.specs.Fields.{Field, byte_at, number_at, bytes_at}
+use Rattle.sb_codec.specs.Fields.{byte_at, number_at, bytes_at}
 use Rattle.sb_codec.specs.Messages.{spelling, is_message, reading}
 
 -- the mark, the version and the payload's length, and the payload

@@ -1,8 +1,10 @@
 -- What comes of any calls, in any order, with any pieces.
 use Rattle.std.specs.Prelude.{◌≡◌, ℕ, true, List, [], ◌∷◌, ◌++◌, Option, Some, Result, Ok, Err}
+use Rattle.std.specs.List.{flat_map, list_all}
 use Rattle.sb_types.specs.declared.fault.Fault.{Fault}
 use Rattle.sb_codec.specs.declared.message.Message.{Message}
-use Rattle.sb_frames.specs.Frames.{short, bad, front_of}
+use Rattle.sb_codec.specs.Messages.{is_message}
+use Rattle.sb_frames.specs.Frames.{frame, short, bad, front_of}
 use Rattle.sb_frames.specs.Streams.{Stream, open_with, shut, Feeds, TakesNext}
 
 -- a call, and what it answered
@@ -33,6 +35,13 @@ taken (_ ∷ calls) = taken calls
 abbrev pub IsLeft : List ℕ → Stream → Type 0
 IsLeft rest (open_with held) = held ≡ rest
 IsLeft rest shut = (fault : Fault) × (front_of rest ≡ bad fault)
+
+-- the stream is the messages that were taken out, and then what is left
+pub record Accounts (stream : List ℕ) (messages : List Message) (new : Stream) : Type 0 where
+  pub rest : List ℕ
+  pub whole : stream ≡ flat_map frame messages ++ rest
+  pub each : list_all is_message messages ≡ true
+  pub left : IsLeft rest new
 
 -- no message is left to be taken out
 abbrev pub IsSpent : Stream → Type 0

@@ -47,7 +47,7 @@ impl Frames {
         if self.is_closed {
             return Err(Fault::Closed);
         }
-        // No byte is moved more often than a byte before it was taken out.
+        // What is left moves to the front only where no more is left than was taken out.
         if self.taken >= self.bytes.len() - self.taken {
             self.bytes.drain(..self.taken);
             self.taken = 0;

@@ -30,7 +30,7 @@ fn payload_in(bytes: &[u8]) -> Result<Option<&[u8]>, Fault>
         return Ok(None);
     };
     let length = u64::from(u32::from_be_bytes(*length));
-    if length < 1 || length > PAYLOAD_MOST {
+    if length == 0 || length > PAYLOAD_MOST {
         return Err(Fault::BadLength);
     }
     let Some((payload, _)) = bytes.split_at_checked(length as usize) else {

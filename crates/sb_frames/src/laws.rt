@@ -1,13 +1,12 @@
 //! What is true of frames, and of streams of them.
 
 ghost use Rattle.std.specs.Prelude.{◌≡◌, ◌≢◌, ℕ, ◌+◌, ◌<◌, ◌≤◌, true, List, [], ◌++◌, length, take, All};
-ghost use Rattle.std.specs.List.{flat_map, list_all};
 ghost use Rattle.sb_types.specs.declared.fault.Fault.{Fault};
 ghost use Rattle.sb_codec.specs.declared.message.Message.{Message};
 ghost use Rattle.sb_codec.specs.Messages.{spelling, is_message};
 ghost use Rattle.sb_frames.specs.Frames.{frame, short, whole, bad, front_of, Leads, Extends};
 ghost use Rattle.sb_frames.specs.Streams.{Stream, open_with, Splits};
-ghost use Rattle.sb_frames.specs.Runs.{Call, Run, fed, taken, IsLeft, IsSpent};
+ghost use Rattle.sb_frames.specs.Runs.{Call, Run, fed, taken, IsLeft, IsSpent, Accounts};
 
 use sb_types::{BUDGET_MOST, HEADER_LENGTH};
 
@@ -55,8 +54,8 @@ pub fn streams_have_one_reading()
 /// out and a rest, which is held or begins with a faulty frame. Once no message is left to be taken out,
 /// they are the messages of the one reading of those bytes.
 pub fn pieces_do_not_matter()
-    ensures accounted { (calls : List Call) (new : Stream) → Run (open_with []) calls new →
-        (rest : List ℕ) × (fed calls ≡ flat_map frame (taken calls) ++ rest) × (list_all is_message (taken calls) ≡ true) × IsLeft rest new }
+    ensures accounts { (calls : List Call) (new : Stream) → Run (open_with []) calls new →
+        Accounts (fed calls) (taken calls) new }
     ensures splits { (calls : List Call) (new : Stream) → Run (open_with []) calls new → IsSpent new →
         (rest : List ℕ) × IsLeft rest new × Splits (fed calls) (taken calls) rest }
 {}

@@ -1,4 +1,4 @@
-use Rattle.std.proofs.Common.{◌≡◌, ◌∷◌, ◌∙◌, rules, arith}
+use Rattle.std.proofs.Common.{◌≡◌, ◌∷◌, ◌∙◌, arith}
 use Rattle.sb_types.specs.declared.limits.TheConstants.{FRAME_MARK, FRAME_VERSION}
 use Rattle.sb_frames.proofs.Fronts.{before_mark, wrong_mark, before_version, wrong_version, before_length, HasLength, has_length, wrong_length, before_payload, has_payload}
 use Rattle.sb_frames.proofs.front.payload_in.Goals as goal
@@ -29,10 +29,10 @@ cut c =
     let s = c.in-Some-split_first_chunk.ensures.cases in
     has_length c.args.bytes.now c.in-Some-split_first.bytes.now c.in-Some-split_first_chunk.length.now c.in-Some-split_first_chunk.bytes.now e s.0 s.1 s.2
 
-pub returns-then-length-lt1-clause-fault : goal.returns-then-length-lt1-clause-fault
-returns-then-length-lt1-clause-fault c =
-    let has = cut (goal.at.returns-then-length-lt1-clause-fault c).In-Some-split_first_chunk in
-    wrong_length c.args.bytes.now c.in-Some-split_first_chunk.length.now c.in-Some-split_first_chunk.bytes.now c.from-length.result has (c.from-length.ensures ∙ c.from_be_bytes.ensures) c.then-length-lt1.either
+pub returns-then-length-eq0-clause-fault : goal.returns-then-length-eq0-clause-fault
+returns-then-length-eq0-clause-fault c =
+    let has = cut (goal.at.returns-then-length-eq0-clause-fault c).In-Some-split_first_chunk in
+    wrong_length c.args.bytes.now c.in-Some-split_first_chunk.length.now c.in-Some-split_first_chunk.bytes.now c.from-length.result has (c.from-length.ensures ∙ c.from_be_bytes.ensures) c.then-length-eq0.either
 
 pub returns-in_default-split_at_checked-clause-none : goal.returns-in_default-split_at_checked-clause-none
 returns-in_default-split_at_checked-clause-none c =
