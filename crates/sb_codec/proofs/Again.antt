@@ -1,9 +1,9 @@
 -- What is spelled so is read, whatever stands behind it.
-use Rattle.std.proofs.Common.{◌≡◌, ℕ, ◌+◌, ◌^◌, ◌<◌, ◌≤◌, Bool, true, false, ltb, if◌then◌else◌, List, [], ◌∷◌, ◌++◌, length, take, drop, Option, Some, None, refl, sym, ap, ◌∙◌, append_assoc, arith, length-append}
+use Rattle.std.proofs.Common.{◌≡◌, ℕ, ◌^◌, ◌<◌, Bool, true, false, ltb, List, [], ◌∷◌, ◌++◌, length, Some, refl, append_assoc, arith, length-append}
 use Rattle.std.specs.List.{flat_map, AllByRecursion}
-use Rattle.std.specs.Int.{Width, w16, byte_len, to_be_bytes}
+use Rattle.std.specs.Int.{Width, byte_len, to_be_bytes}
 use Rattle.std.proofs.lemmas.Bool.{le-ltb}
-use Rattle.std.proofs.lemmas.List.{append-nil, take_at, drop_at}
+use Rattle.std.proofs.lemmas.List.{take_at, drop_at}
 use Rattle.sb_codec.specs.Spelling.{number, text, list}
 use Rattle.sb_codec.specs.Fields.{Field, given_at, lead_at, made_at, then_at, where_at, times_at, byte_at, bytes_at, number_at, text_at, list_at, case_at, tagged_at}
 use Rattle.sb_codec.proofs.Taken.{IsWide, wide16}
@@ -39,8 +39,8 @@ pub bytes_again : (xs : List ℕ) (n : ℕ) → length xs ≡ n → Again (bytes
 unfolding bytes_at
 bytes_again xs n len = record {
   read = λ rest.
-    let long : ltb (length (xs ++ rest)) n ≡ false = le-ltb _ _ (omega (arith, length-append xs rest)) in
-    rw (long, take_at xs rest n len, drop_at xs rest n len) refl;
+      let long : ltb (length (xs ++ rest)) n ≡ false = le-ltb _ _ (omega (arith, length-append xs rest)) in
+      rw (long, take_at xs rest n len, drop_at xs rest n len) refl;
 }
 
 pub number_again : {w : Width} {limit : ℕ} → IsWide w limit → (n : ℕ) → n < limit → Again (number_at w) (number w n) n

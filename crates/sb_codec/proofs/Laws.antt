@@ -1,10 +1,10 @@
 -- A payload is read as a message exactly where it spells it.
-use Rattle.std.proofs.Common.{◌≡◌, ℕ, ◌+◌, ◌≤◌, ◌<◌, ◌^◌, Bool, true, ◌==◌, if◌then◌else◌, List, [], ◌∷◌, ◌++◌, length, Option, Some, None, Result, Ok, Err, refl, sym, ap, subst, ◌∙◌, arith, length-append}
+use Rattle.std.proofs.Common.{◌≡◌, ℕ, ◌+◌, ◌≤◌, true, ◌==◌, if◌then◌else◌, List, [], ◌∷◌, ◌++◌, length, Option, Some, None, Result, Ok, Err, refl, sym, ap, ◌∙◌, arith, length-append}
 use Rattle.std.specs.Prelude.{ok_or, IfOk, sum_by}
 use Rattle.std.specs.Option.{option_and_then}
 use Rattle.std.specs.List.{flat_map}
-use Rattle.std.specs.Int.{w16, w64, to_be_bytes}
-use Rattle.std.proofs.lemmas.Bool.{and_parts, leb-true, eqb-true}
+use Rattle.std.specs.Int.{w16, w64}
+use Rattle.std.proofs.lemmas.Bool.{eqb-true}
 use Rattle.std.proofs.lemmas.List.{append-nil, nil_from_length}
 use Rattle.std.proofs.lemmas.Option.{cond_some}
 use Rattle.std.proofs.lemmas.List.Sums.{sum_by-cons}
@@ -12,18 +12,17 @@ use Rattle.sb_types.specs.declared.entry.Slot.{Slot}
 use Rattle.sb_types.specs.declared.entry.Slot.TheVariants.{Set, Removed}
 use Rattle.sb_types.specs.declared.fault.Fault.{Fault}
 use Rattle.sb_types.specs.declared.limits.TheConstants.{PAYLOAD_MOST}
-use Rattle.sb_types.specs.Value.{Value, Addr, Weight, Flag}
+use Rattle.sb_types.specs.Value.{Addr, Weight, Flag}
 use Rattle.sb_types.specs.Records.{Entry, Block}
-use Rattle.sb_types.specs.Lengths.{slot_length, entry_length, block_length, delta_length}
-use Rattle.sb_types.specs.Limits.{is_delta_block, are_delta_blocks, are_owners_above, is_delta}
+use Rattle.sb_types.specs.Lengths.{slot_length, entry_length, block_length}
 use Rattle.sb_types.specs.Faults.{Gives}
 use Rattle.sb_codec.specs.declared.message.Message.{Message}
 use Rattle.sb_codec.specs.declared.message.Message.TheVariants.{Delta}
 use Rattle.sb_codec.specs.declared.numbers.TheConstants.{KIND_DELTA}
 use Rattle.sb_codec.specs.Spelling.{number, text, list, content, slot, entry, block}
-use Rattle.sb_codec.specs.Fields.{Field, whole}
+use Rattle.sb_codec.specs.Fields.{AreBytes, whole}
 use Rattle.sb_codec.specs.Messages.{spelling, is_message, Spells, IsSole, fault_of, message_cases, message_at, reading}
-use Rattle.sb_codec.proofs.Taken.{AreBytes, Takes, tagged_takes, made_case}
+use Rattle.sb_codec.proofs.Taken.{Takes, tagged_takes, made_case}
 use Rattle.sb_codec.proofs.Again.{Again, made_again, tagged_again}
 use Rattle.sb_codec.proofs.Parts.{delta_parts, delta_takes, delta_again}
 
@@ -115,3 +114,7 @@ if_found payload (Err fault) are gives = tt
 pub if_sole : (payload : List ℕ) (result : Result Message Fault) → AreBytes payload → Gives result (reading payload) → IfOk result (λ m. IsSole payload m)
 if_sole payload (Ok m) are gives = is_sole payload m (is_found payload m are gives)
 if_sole payload (Err fault) are gives = tt
+
+pub some_bytes : (payload : List ℕ) (m : Message) → Spells payload m → 1 ≤ length payload
+unfolding spelling
+some_bytes payload (Delta blocks) spells = rw spells.bytes (omega arith)

@@ -1,23 +1,21 @@
 -- The two laws for each part of a message.
-use Rattle.std.proofs.Common.{◌≡◌, ℕ, zero, suc, ◌+◌, ◌-◌, ◌^◌, ◌<◌, ◌≤◌, Bool, true, false, ◌&&◌, ◌==◌, List, [], ◌∷◌, ◌++◌, length, refl, sym, ap, subst, ◌∙◌, arith}
+use Rattle.std.proofs.Common.{◌≡◌, ℕ, ◌-◌, ◌^◌, ◌<◌, ◌≤◌, Bool, true, false, ◌&&◌, ◌==◌, List, [], ◌∷◌, length, refl, ap, subst, arith}
 use Rattle.std.specs.Prelude.{nat_le, nat_lt, sum_by}
 use Rattle.std.specs.List.{list_all, AllByRecursion}
-use Rattle.std.specs.Int.{w16, w64}
 use Rattle.std.proofs.lemmas.Bool.{and_parts, and_from, le-leb, leb-true, ltb-true, eqb-true, eq-eqb}
 use Rattle.std.proofs.lemmas.List.Sums.{sum_by-cons}
 use Rattle.sb_types.specs.declared.entry.Slot.{Slot}
 use Rattle.sb_types.specs.declared.entry.Slot.TheVariants.{Set, Removed}
 use Rattle.sb_types.specs.declared.limits.TheConstants.{ENTRIES_MOST, PAYLOAD_MOST}
-use Rattle.sb_types.specs.Text.{is_between, is_name, is_key, is_addr}
+use Rattle.sb_types.specs.Text.{is_between, is_name, is_key}
 use Rattle.sb_types.specs.Value.{Value, Addr, Weight, Flag, is_value}
 use Rattle.sb_types.specs.Records.{Entry, Block}
 use Rattle.sb_types.specs.Runs.{are_ascending, are_distinct, last_version}
 use Rattle.sb_types.specs.Lengths.{block_length, delta_length}
 use Rattle.sb_types.specs.Limits.{is_slot, is_entry, are_block_entries, block_of_entries, is_delta_block, are_owners_above, are_delta_blocks, is_delta}
 use Rattle.sb_codec.specs.declared.numbers.TheConstants.{TAG_REMOVED, TAG_ADDR, TAG_WEIGHT, TAG_FLAG}
-use Rattle.sb_codec.specs.Spelling.{number, text, list, flag, tag_of, content, slot, entry, block}
-use Rattle.sb_codec.specs.Fields.{Field, given_at, made_at, then_at, where_at, number_at, list_at}
-use Rattle.sb_codec.specs.Reading.{name_at, key_at, addr_at, weight_at, flag_cases, flag_at, slot_cases, slot_at, entry_of, entry_at, are_block_parts, block_of, block_at, delta_at}
+use Rattle.sb_codec.specs.Spelling.{text, list, flag, tag_of, content, slot, entry, block}
+use Rattle.sb_codec.specs.Reading.{name_at, key_at, addr_at, weight_at, flag_cases, flag_at, flag_slot, slot_cases, slot_at, entry_of, entry_at, are_block_parts, block_of, block_at, delta_at}
 use Rattle.sb_codec.proofs.Taken.{Takes, wide64, fits_takes, made_takes, then_takes, where_takes, number_takes, text_takes, list_takes, tagged_takes, made_case, given_case}
 use Rattle.sb_codec.proofs.Again.{Again, given_again, made_again, then_again, where_again, number_again, text_again, list_again, tagged_again}
 
@@ -53,30 +51,30 @@ pub weight_takes : Takes (IsTagged TAG_WEIGHT) content weight_at
 unfolding weight_at content
 weight_takes = fits_takes (where_takes (made_takes {Q = λ v. tag_of v ≡ TAG_WEIGHT} Weight (number_takes wide64) (λ n lt. (refl, refl)))) (λ v fits. (fits.1, fits.0))
 
-pub flag_takes : Takes (IsTagged TAG_FLAG) content flag_at
-unfolding flag_at content
-flag_takes = tagged_takes flag_cases (given_case 0 (Flag false) (refl, refl) refl, (given_case 1 (Flag true) (refl, refl) refl, tt))
+pub flag_takes : Takes (λ set. Unit {0}) flag flag_at
+unfolding flag_at
+flag_takes = tagged_takes flag_cases (given_case 0 false tt refl, (given_case 1 true tt refl, tt))
 
 pub slot_takes : Takes (λ s. is_slot s ≡ true) slot slot_at
-unfolding slot_at slot
+unfolding slot_at slot content
 slot_takes =
     let spelled : (tag : ℕ) (v : Value) → IsTagged tag v → (is_value v ≡ true) × (tag_of v ∷ content v ≡ tag ∷ content v) = λ tag v fits. (fits.0, ap (λ (k : ℕ). k ∷ content v) fits.1) in
-    tagged_takes slot_cases (given_case TAG_REMOVED Removed refl refl, (made_case TAG_ADDR Set addr_takes (spelled TAG_ADDR), (made_case TAG_WEIGHT Set weight_takes (spelled TAG_WEIGHT), (made_case TAG_FLAG Set flag_takes (spelled TAG_FLAG), tt))))
+    tagged_takes slot_cases (given_case TAG_REMOVED Removed refl refl, (made_case TAG_ADDR Set addr_takes (spelled TAG_ADDR), (made_case TAG_WEIGHT Set weight_takes (spelled TAG_WEIGHT), (made_case TAG_FLAG flag_slot flag_takes (λ set fits. (refl, refl)), tt))))
 
 weight_below : (n : ℕ) → is_value (Weight n) ≡ true → n < 2 ^ 64
 weight_below n fits = omega (arith, ltb-true n (2 ^ 63) fits)
 
-pub flag_again : (b : Bool) → Again flag_at (content (Flag b)) (Flag b)
-unfolding flag_at content
-flag_again false = tagged_again flag_cases 0 (given_again (Flag false))
-flag_again true = tagged_again flag_cases 1 (given_again (Flag true))
+pub flag_again : (set : Bool) → Again flag_at (flag set) set
+unfolding flag_at
+flag_again false = tagged_again flag_cases 0 (given_again false)
+flag_again true = tagged_again flag_cases 1 (given_again true)
 
 pub slot_again : (s : Slot) → is_slot s ≡ true → Again slot_at (slot s) s
 unfolding slot_at slot addr_at weight_at content
 slot_again Removed fits = tagged_again slot_cases TAG_REMOVED (given_again Removed)
 slot_again (Set (Addr t)) fits = tagged_again slot_cases TAG_ADDR (made_again Set (where_again is_value fits (made_again Addr (text_again t))))
 slot_again (Set (Weight n)) fits = tagged_again slot_cases TAG_WEIGHT (made_again Set (where_again is_value fits (made_again Weight (number_again wide64 n (weight_below n fits)))))
-slot_again (Set (Flag b)) fits = tagged_again slot_cases TAG_FLAG (made_again Set (flag_again b))
+slot_again (Set (Flag set)) fits = tagged_again slot_cases TAG_FLAG (made_again flag_slot (flag_again set))
 
 -- ---- entries
 
@@ -94,7 +92,7 @@ pub entry_takes : Takes (λ e. is_entry e ≡ true) entry entry_at
 unfolding entry_at entry
 entry_takes =
     made_takes entry_of (then_takes key_takes (then_takes (where_takes (number_takes wide64)) slot_takes))
-        (λ e fits. (and_from _ _ (and_from _ _ fits.0 (and_from _ _ fits.1.0.1 (le-leb _ _ (omega (arith, fits.1.0.0))))) fits.1.1, refl))
+    (λ e fits. (and_from _ _ (and_from _ _ fits.0 (and_from _ _ fits.1.0.1 (le-leb _ _ (omega (arith, fits.1.0.0))))) fits.1.1, refl))
 
 pub entry_again : (e : Entry) → is_entry e ≡ true → Again entry_at (entry e) e
 unfolding entry_at entry
@@ -117,7 +115,7 @@ pub block_takes : Takes (λ b. is_delta_block b ≡ true) block block_at
 unfolding block_at block
 block_takes =
     made_takes block_of (where_takes (then_takes name_takes (then_takes (number_takes wide64) (list_takes entry_takes))))
-        (λ b fits. (and_from _ _ (and_from _ _ (and_from _ _ (and_from _ _ fits.0.0 (all_from is_entry b.1.1 fits.0.1.1.1)) fits.1) refl) (eq-eqb _ _ refl), refl))
+    (λ b fits. (and_from _ _ (and_from _ _ (and_from _ _ (and_from _ _ fits.0.0 (all_from is_entry b.1.1 fits.0.1.1.1)) fits.1) refl) (eq-eqb _ _ refl), refl))
 
 entries_parts : (after : ℕ) (entries : List Entry) → are_block_entries after entries ≡ true → (is_between 1 ENTRIES_MOST (length entries) ≡ true) × (are_ascending after entries ≡ true)
 entries_parts after entries run = and_parts (is_between 1 ENTRIES_MOST (length entries)) (are_ascending after entries) (and_parts _ (are_distinct entries) run).0

@@ -1,5 +1,5 @@
 -- What is read fits, and the bytes are its spelling with the rest behind it.
-use Rattle.std.proofs.Common.{◌≡◌, ℕ, zero, suc, ◌+◌, ◌^◌, ◌<◌, ◌≤◌, Bool, true, false, ◌==◌, ltb, if◌then◌else◌, List, [], ◌∷◌, ◌++◌, length, get_or, take, drop, Option, Some, None, refl, sym, ap, subst, ◌∙◌, append_assoc, arith, inl, inr}
+use Rattle.std.proofs.Common.{◌≡◌, ℕ, zero, suc, ◌+◌, ◌^◌, ◌<◌, ◌≤◌, Bool, true, false, ◌==◌, ltb, if◌then◌else◌, List, [], ◌∷◌, ◌++◌, length, take, drop, Option, Some, None, refl, sym, ap, subst, ◌∙◌, append_assoc, arith, inl, inr}
 use Rattle.std.specs.Option.{option_and_then}
 use Rattle.std.specs.List.{flat_map, AllByRecursion}
 use Rattle.std.specs.Int.{Width, w16, w64, byte_len, from_be_bytes, to_be_bytes}
@@ -8,10 +8,8 @@ use Rattle.std.proofs.lemmas.List.{append-nil, take-append-drop, length-take, ge
 use Rattle.std.proofs.lemmas.Option.{some_pair_parts}
 use Rattle.std.proofs.lemmas.Nat.{be_bytes_2, be_bytes_8, from_be_bytes-to_be_bytes_2, from_be_bytes-to_be_bytes_8}
 use Rattle.sb_codec.specs.Spelling.{number, text, list}
+pub use Rattle.sb_codec.specs.Fields.{AreBytes}
 use Rattle.sb_codec.specs.Fields.{Field, none_at, given_at, lead_at, made_at, then_at, where_at, times_at, byte_at, bytes_at, number_at, text_at, list_at, case_at, tagged_at}
-
-abbrev pub AreBytes : List ℕ → Type 0
-AreBytes bytes = (i : ℕ) → get_or bytes i 0 < 256
 
 pub record Takes {A : Type 0} (Fits : A → Type 0) (spell : A → List ℕ) (field : Field A) : Type 0 where
   pub parts : (bytes : List ℕ) (x : A) (rest : List ℕ) → AreBytes bytes → field bytes ≡ Some (x, rest) → Fits x × (bytes ≡ spell x ++ rest)
@@ -28,8 +26,8 @@ some_parts next (Some x) y e = (x, refl, e)
 pub given_takes : {A : Type 0} {P : A → Type 0} {s : A → List ℕ} (x : A) → P x → s x ≡ [] → Takes P s (given_at x)
 given_takes {A} {P} {s} x fits empty = record {
   parts = λ bytes y rest are e.
-    let same = some_pair_parts x y bytes rest e in
-    (subst P same.0 fits, same.1 ∙ ap (λ (front : List ℕ). front ++ rest) (sym empty ∙ ap s same.0));
+      let same = some_pair_parts x y bytes rest e in
+      (subst P same.0 fits, same.1 ∙ ap (λ (front : List ℕ). front ++ rest) (sym empty ∙ ap s same.0));
 }
 
 pub none_takes : {A : Type 0} {P : A → Type 0} {s : A → List ℕ} → Takes P s none_at
@@ -39,12 +37,12 @@ pub lead_takes : {A B : Type 0} {P : A → Type 0} {Q : B → Type 0} {s : A →
     → Takes P s first → ((x : A) → P x → Takes (λ y. Q y × (spell y ≡ s x ++ t y)) t (next x)) → Takes Q spell (lead_at first next)
 lead_takes {A} {B} {P} {Q} {s} {t} {first} {next} spell one two = record {
   parts = λ bytes y rest are e.
-    let a = some_parts (λ (x : A × List ℕ). next x.0 x.1) (first bytes) (y, rest) e in
-    let x = a.0.0 in
-    let mid = a.0.1 in
-    let front = one.parts bytes x mid are a.1 in
-    let back = (two x front.0).parts mid y rest (behind bytes (s x) mid front.1 are) a.2 in
-    (back.0.0, front.1 ∙ ap (λ (z : List ℕ). s x ++ z) back.1 ∙ sym (append_assoc (s x) (t y) rest) ∙ ap (λ (z : List ℕ). z ++ rest) (sym back.0.1));
+      let a = some_parts (λ (x : A × List ℕ). next x.0 x.1) (first bytes) (y, rest) e in
+      let x = a.0.0 in
+      let mid = a.0.1 in
+      let front = one.parts bytes x mid are a.1 in
+      let back = (two x front.0).parts mid y rest (behind bytes (s x) mid front.1 are) a.2 in
+      (back.0.0, front.1 ∙ ap (λ (z : List ℕ). s x ++ z) back.1 ∙ sym (append_assoc (s x) (t y) rest) ∙ ap (λ (z : List ℕ). z ++ rest) (sym back.0.1));
 }
 
 pub fits_takes : {A : Type 0} {P Q : A → Type 0} {s : A → List ℕ} {field : Field A} → Takes P s field → ((x : A) → P x → Q x) → Takes Q s field
@@ -81,10 +79,10 @@ pub byte_takes : Takes (λ n. n < 256) (λ n. n ∷ []) byte_at
 unfolding byte_at
 byte_takes = record {
   parts = λ bytes x rest are e.
-    elim bytes as (λ bytes. AreBytes bytes → byte_at bytes ≡ Some (x, rest) → (x < 256) × (bytes ≡ x ∷ rest)) [
-      | [] ↦ λ are e. absurd cc
-      | byte ∷ others ↦ λ are e. let same = some_pair_parts byte x others rest e in (rw (← same.0) (are 0), rw (same.0, same.1) refl)
-    ] are e;
+      elim bytes as (λ bytes. AreBytes bytes → byte_at bytes ≡ Some (x, rest) → (x < 256) × (bytes ≡ x ∷ rest)) [
+        | [] ↦ λ are e. absurd cc
+        | byte ∷ others ↦ λ are e. let same = some_pair_parts byte x others rest e in (rw (← same.0) (are 0), rw (same.0, same.1) refl)
+      ] are e;
 }
 
 not_none : {A : Type 0} (b : Bool) (x y : A) → (if b then None else Some x) ≡ Some y → (b ≡ false) × (x ≡ y)
@@ -102,10 +100,10 @@ pub bytes_takes : (n : ℕ) → Takes (λ xs. (length xs ≡ n) × AreBytes xs) 
 unfolding bytes_at
 bytes_takes n = record {
   parts = λ bytes x rest are e.
-    let found = not_none (ltb (length bytes) n) (take n bytes, drop n bytes) (x, rest) e in
-    let long : n ≤ length bytes = ltb-false _ _ found.0 in
-    let fits : (length (take n bytes) ≡ n) × AreBytes (take n bytes) = (omega (arith, length-take n bytes), AreBytes-take n bytes are) in
-    subst (λ (p : List ℕ × List ℕ). ((length p.0 ≡ n) × AreBytes p.0) × (bytes ≡ p.0 ++ p.1)) found.1 (fits, sym (take-append-drop n bytes));
+      let found = not_none (ltb (length bytes) n) (take n bytes, drop n bytes) (x, rest) e in
+      let long : n ≤ length bytes = ltb-false _ _ found.0 in
+      let fits : (length (take n bytes) ≡ n) × AreBytes (take n bytes) = (omega (arith, length-take n bytes), AreBytes-take n bytes are) in
+      subst (λ (p : List ℕ × List ℕ). ((length p.0 ≡ n) × AreBytes p.0) × (bytes ≡ p.0 ++ p.1)) found.1 (fits, sym (take-append-drop n bytes));
 }
 
 -- the numbers of a width are those below its limit

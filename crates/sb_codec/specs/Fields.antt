@@ -1,7 +1,10 @@
 -- Reading a value at the front of bytes.
-use Rattle.std.specs.Prelude.{ℕ, zero, suc, Bool, ◌==◌, nat_lt, if◌then◌else◌, List, [], ◌∷◌, length, take, drop, Option, Some, None}
+use Rattle.std.specs.Prelude.{ℕ, zero, suc, Bool, ◌==◌, ◌<◌, nat_lt, if◌then◌else◌, List, [], ◌∷◌, length, slice_index, take, drop, Option, Some, None}
 use Rattle.std.specs.Option.{option_and_then}
 use Rattle.std.specs.Int.{Width, w16, byte_len, from_be_bytes}
+
+abbrev pub AreBytes : List ℕ → Type 0
+AreBytes bytes = (i : ℕ) → slice_index bytes i < 256
 
 -- a value that is read at the front of bytes, with the bytes behind it; or nothing
 abbrev pub Field : Type 0 → Type 0

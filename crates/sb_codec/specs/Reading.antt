@@ -1,6 +1,6 @@
 -- The parts of a message, read.
 use Rattle.std.specs.Prelude.{ℕ, Bool, true, false, nat_le, List, [], ◌∷◌}
-use Rattle.std.specs.Int.{w16, w64}
+use Rattle.std.specs.Int.{w64}
 use Rattle.sb_types.specs.declared.entry.Slot.{Slot}
 use Rattle.sb_types.specs.declared.entry.Slot.TheVariants.{Set, Removed}
 use Rattle.sb_types.specs.Text.{is_name, is_key}
@@ -22,14 +22,17 @@ addr_at = where_at is_value (made_at Addr text_at)
 unfoldable pub weight_at : Field Value
 weight_at = where_at is_value (made_at Weight (number_at w64))
 
-abbrev pub flag_cases : List (ℕ × Field Value)
-flag_cases = (0, given_at (Flag false)) ∷ (1, given_at (Flag true)) ∷ []
+abbrev pub flag_cases : List (ℕ × Field Bool)
+flag_cases = (0, given_at false) ∷ (1, given_at true) ∷ []
 
-unfoldable pub flag_at : Field Value
+unfoldable pub flag_at : Field Bool
 flag_at = tagged_at flag_cases
 
+abbrev pub flag_slot : Bool → Slot
+flag_slot set = Set (Flag set)
+
 abbrev pub slot_cases : List (ℕ × Field Slot)
-slot_cases = (TAG_REMOVED, given_at Removed) ∷ (TAG_ADDR, made_at Set addr_at) ∷ (TAG_WEIGHT, made_at Set weight_at) ∷ (TAG_FLAG, made_at Set flag_at) ∷ []
+slot_cases = (TAG_REMOVED, given_at Removed) ∷ (TAG_ADDR, made_at Set addr_at) ∷ (TAG_WEIGHT, made_at Set weight_at) ∷ (TAG_FLAG, made_at flag_slot flag_at) ∷ []
 
 unfoldable pub slot_at : Field Slot
 slot_at = tagged_at slot_cases

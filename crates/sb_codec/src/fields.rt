@@ -43,7 +43,7 @@ impl<'a> Fields<'a> {
     }
 
     #[tactic(auto, unfolding(crate::specs::Fields::byte_at))]
-    pub(crate) fn byte(&mut self) -> Result<u8, Refusal>
+    fn byte(&mut self) -> Result<u8, Refusal>
         ensures { Reads (λ x. x) (byte_at self.old) result self.new }
     {
         match self.rest {
@@ -69,7 +69,7 @@ impl<'a> Fields<'a> {
     }
 
     #[tactic(auto, unfolding(crate::specs::Fields::number_at))]
-    pub(crate) fn u16(&mut self) -> Result<u16, Refusal>
+    fn u16(&mut self) -> Result<u16, Refusal>
         ensures { Reads (λ x. x) (number_at w16 self.old) result self.new }
     {
         let front = self.bytes(2)?;
@@ -77,7 +77,7 @@ impl<'a> Fields<'a> {
     }
 
     #[tactic(auto, unfolding(crate::specs::Fields::number_at))]
-    pub(crate) fn u64(&mut self) -> Result<u64, Refusal>
+    fn u64(&mut self) -> Result<u64, Refusal>
         ensures { Reads (λ x. x) (number_at w64 self.old) result self.new }
     {
         let front = self.bytes(8)?;
@@ -95,14 +95,14 @@ impl<'a> Fields<'a> {
     }
 
     #[tactic(auto, unfolding(crate::specs::Reading::name_at))]
-    pub(crate) fn name(&mut self) -> Result<Name, Refusal>
+    fn name(&mut self) -> Result<Name, Refusal>
         ensures { Reads (λ x. x) (name_at self.old) result self.new }
     {
         Ok(Name::read(self.text()?)?)
     }
 
     #[tactic(auto, unfolding(crate::specs::Reading::key_at))]
-    pub(crate) fn key(&mut self) -> Result<Key, Refusal>
+    fn key(&mut self) -> Result<Key, Refusal>
         ensures { Reads (λ x. x) (key_at self.old) result self.new }
     {
         Ok(Key::read(self.text()?)?)
@@ -123,25 +123,25 @@ impl<'a> Fields<'a> {
     }
 
     #[tactic(auto, unfolding(crate::specs::Reading::flag_at))]
-    fn flag(&mut self) -> Result<Value, Refusal>
+    fn flag(&mut self) -> Result<bool, Refusal>
         ensures { Reads (λ x. x) (flag_at self.old) result self.new }
     {
         match self.byte()? {
-            0 => Ok(Value::flag(false)),
-            1 => Ok(Value::flag(true)),
+            0 => Ok(false),
+            1 => Ok(true),
             _ => Err(Refusal::Malformed),
         }
     }
 
     #[tactic(auto, unfolding(crate::specs::Reading::slot_at))]
-    pub(crate) fn slot(&mut self, alloc: Global) -> Result<Slot, Refusal>
+    fn slot(&mut self, alloc: Global) -> Result<Slot, Refusal>
         ensures { Reads (λ x. x) (slot_at self.old) result self.new }
     {
         match self.byte()? {
             TAG_REMOVED => Ok(Slot::Removed),
             TAG_ADDR => Ok(Slot::Set(self.addr(alloc)?)),
             TAG_WEIGHT => Ok(Slot::Set(self.weight()?)),
-            TAG_FLAG => Ok(Slot::Set(self.flag()?)),
+            TAG_FLAG => Ok(Slot::Set(Value::flag(self.flag()?))),
             _ => Err(Refusal::Malformed),
         }
     }
@@ -188,7 +188,7 @@ impl<'a> Fields<'a> {
     }
 
     #[tactic(auto, unfolding(crate::specs::Fields::list_at))]
-    pub(crate) fn list<T: Spelled>(&mut self, alloc: Global) -> Result<Vec<T>, Refusal>
+    fn list<T: Spelled>(&mut self, alloc: Global) -> Result<Vec<T>, Refusal>
         ensures { Reads (λ v. v.items) (list_at T.field self.old) result self.new }
     {
         let count = self.u16()?;
@@ -198,6 +198,7 @@ impl<'a> Fields<'a> {
     fn times<T: Spelled>(&mut self, alloc: Global, count: u16) -> Result<Vec<T>, Refusal>
         ensures { Reads (λ v. v.items) (times_at T.field count self.old) result self.new }
     {
+        // a count that is a lie gets no more room than the bytes that are left could fill
         let room = self.rest.len() / T::LEAST;
         let mut items = Vec::with_capacity(alloc, room.min(usize::from(count)))?;
         for _ in 0..count {

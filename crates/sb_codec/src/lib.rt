@@ -6,6 +6,7 @@ mod encode;
 mod fields;
 mod message;
 mod numbers;
+mod payloads;
 mod refusal;
 mod spelled;
 mod writing;
@@ -14,3 +15,7 @@ pub use decode::decode_payload;
 pub use encode::encode_payload;
 pub use message::Message;
 pub use numbers::{KIND_DELTA, TAG_ADDR, TAG_FLAG, TAG_REMOVED, TAG_WEIGHT};
+pub use payloads::one_payload_each;
+
+#[cfg(test)]
+mod tests;

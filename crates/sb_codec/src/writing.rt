@@ -10,10 +10,10 @@ use sb_types::{Block, Entry, Slot, Value};
 use std::alloc::AllocError;
 
 #[tactic(auto, unfolding(crate::specs::Spelling::number))]
-fn write_u16(out: &mut Vec<u8>, n: u16) -> Result<(), AllocError>
-    ensures { OnOk result (out.new.items ≡ out.old.items ++ number w16 n) }
+fn write_u16(out: &mut Vec<u8>, count: u16) -> Result<(), AllocError>
+    ensures { OnOk result (out.new.items ≡ out.old.items ++ number w16 count) }
 {
-    out.extend_from_slice(&n.to_be_bytes())
+    out.extend_from_slice(&count.to_be_bytes())
 }
 
 #[tactic(auto, unfolding(crate::specs::Spelling::number))]

@@ -9,8 +9,8 @@ use sb_types::{FRAME_MARK, FRAME_VERSION, Fault, HEADER_LENGTH};
 use std::alloc::Global;
 use std::io::Write;
 
-/// The frame of the message, in one buffer.
-fn frame_of(alloc: Global, message: &Message) -> Result<Vec<u8>, Fault>
+/// The frame of the message, in one buffer. `NoMemory` is its only fault.
+pub fn frame_of(alloc: Global, message: &Message) -> Result<Vec<u8>, Fault>
     ensures frame { IfOk result (λ v. v.items ≡ frame message.now) }
     ensures fault { IfErr result (λ fault. fault ≡ Fault.NoMemory) }
 {

@@ -1,8 +1,7 @@
 -- Facts on runs of entries.
-use Rattle.std.proofs.Common.{◌≡◌, ℕ, suc, ◌-◌, ◌<◌, true, List, [], ◌∷◌, length, get_or, refl, arith, ◌∙◌}
-use Rattle.std.proofs.lemmas.Bool.Decides.{nat_tests}
+use Rattle.std.proofs.Common.{◌≡◌, ℕ, suc, ◌-◌, ◌<◌, List, [], ◌∷◌, length, get_or, refl, arith, ◌∙◌}
 use Rattle.sb_types.specs.Records.{Entry}
-use Rattle.sb_types.specs.Runs.{are_ascending, last_version}
+use Rattle.sb_types.specs.Runs.{last_version}
 
 -- the last version is that of the last entry
 pub last_version-get_or : (before : ℕ) (entries : List Entry) (d : Entry) → 0 < length entries → last_version before entries ≡ (get_or entries (length entries - 1) d).version
@@ -11,8 +10,3 @@ last_version-get_or before (x ∷ []) d some = refl
 last_version-get_or before (x ∷ y ∷ ys) d some =
     let k : length (x ∷ y ∷ ys) - 1 ≡ suc (length (y ∷ ys) - 1) = omega arith in
     last_version-get_or x.version (y ∷ ys) d (omega arith) ∙ rw k refl
-
--- what ascends above a version ascends from the first
-pub are_ascending-from_first : (after : ℕ) (entries : List Entry) → are_ascending after entries ≡ true → are_ascending 0 entries ≡ true
-are_ascending-from_first after [] h = refl
-are_ascending-from_first after (x ∷ xs) h = grind (arith, nat_tests)

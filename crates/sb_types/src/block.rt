@@ -68,6 +68,7 @@ impl Block {
     /// A block of these entries. `Malformed(3)`, the entries dropped, where there are none or more than
     /// 65,535, where a version is not above the one before, the first not above `after`, or where a key
     /// stands twice. It takes no memory.
+    #[tactic(auto, using(crate::proofs::DistinctKeys::ascending_from_zero))]
     pub fn new(owner: Name, after: u64, mut entries: Vec<Entry>) -> Result<Block, Fault>
         ensures { result ≡ (if are_block_entries after entries.items then Ok (block_of_entries owner after entries.items) else Err (Fault.Malformed 3)) }
     {

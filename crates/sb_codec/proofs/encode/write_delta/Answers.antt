@@ -1,4 +1,4 @@
-use Rattle.std.proofs.Common.{◌≡◌, rules, arith}
+use Rattle.std.proofs.Common.{◌≡◌, arith}
 use Rattle.std.proofs.lemmas.Grind.{common_steps}
 use Rattle.sb_codec.specs.declared.message.Message.TheVariants.{Delta}
 use Rattle.sb_codec.specs.Messages.{spelling}

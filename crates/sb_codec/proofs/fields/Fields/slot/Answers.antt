@@ -16,4 +16,4 @@ returns-in_ok-weight-in-2 c = rw (c.in_ok-byte.ensures, c.in-2.is, c.in_ok-weigh
 
 pub returns-in_ok-flag-in-3 : goal.returns-in_ok-flag-in-3
 unfolding slot_at
-returns-in_ok-flag-in-3 c = rw (c.in_ok-byte.ensures, c.in-3.is, c.in_ok-flag-in-3.ensures) refl
+returns-in_ok-flag-in-3 c = rw (c.in_ok-byte.ensures, c.in-3.is, c.in_ok-flag-in-3.ensures, c.flag-in-3.ensures) refl

@@ -1,0 +1,23 @@
+-- The reads of a run: how many were made, and what its faults say of them.
+use Rattle.std.specs.Prelude.{◌≡◌, ℕ, ◌+◌, ◌<◌, ◌≤◌, Bool, true, false}
+use Rattle.sb_types.specs.declared.fault.Fault.{Fault}
+use Rattle.sb_types.specs.declared.fault.Fault.TheVariants.{NoMemory, ReadFailed, WriteFailed, TurnsSpent}
+
+-- each read that was made is one step more and one read less that is left
+pub record AreCounted (steps left steps' left' : ℕ) : Type 0 where
+  pub sum : steps' + left' ≡ steps + left
+  pub fewer : left' ≤ left
+
+abbrev pub is_run_fault : Fault → Bool
+is_run_fault NoMemory = true
+is_run_fault ReadFailed = true
+is_run_fault (WriteFailed count) = true
+is_run_fault TurnsSpent = true
+is_run_fault _ = false
+
+-- a fault of a run: none but these four; a read failed only where one was made, and the reads are spent only where as
+-- many were made as are allowed
+pub record IsRunFault (steps steps' allowed : ℕ) (fault : Fault) : Type 0 where
+  pub kind : is_run_fault fault ≡ true
+  pub read : fault ≡ ReadFailed → steps < steps'
+  pub spent : fault ≡ TurnsSpent → steps' ≡ steps + allowed

@@ -1,0 +1,31 @@
+//! The node attribute directory as a program.
+#![tactic(auto)]
+
+mod command_line;
+mod counted;
+mod lines;
+mod node;
+mod output;
+mod parse;
+mod print;
+mod sim;
+mod steps;
+mod world;
+
+#[cfg(test)]
+mod tests;
+
+use std::process::ExitCode;
+
+/// The exit status of a run that had a fault.
+const FAULT_STATUS: u8 = 3;
+
+fn main(rt: HostRuntime) -> ExitCode {
+    match command_line::run(&rt) {
+        Ok(status) => ExitCode::from(status),
+        Err(fault) => {
+            let _ = eprintln!(rt; "fault {}\n{fault}", fault.number());
+            ExitCode::from(FAULT_STATUS)
+        }
+    }
+}

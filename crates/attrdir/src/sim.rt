@@ -1,0 +1,152 @@
+//! The run of a script.
+ghost use Rattle.std.specs.Prelude.{◌≡◌, ◌+◌, ◌<◌, ◌≤◌, true, IfErr};
+ghost use Rattle.attrdir.specs.Reads.{AreCounted, IsRunFault, is_run_fault};
+
+use crate::lines::Lines;
+use crate::output::Output;
+use crate::parse::{Command, WorldLine, words_of};
+use crate::print::Answer;
+use crate::steps::Steps;
+use crate::world::World;
+use sb_types::Fault;
+use std::alloc::Global;
+use std::io::{Read, Write};
+use std::marker::Brand;
+use std::sync::ledger::{Blank, Ledger};
+
+/// How a script ended.
+#[derive(Clone, Copy, Debug, PartialEq, Eq)]
+pub enum Ending {
+    /// All of its lines were run.
+    Whole,
+    /// A line was no command.
+    WrongLine,
+    /// The world line had a fault.
+    NoWorld,
+}
+
+impl Ending {
+    /// The exit status of the program.
+    pub fn status(self) -> u8 {
+        match self {
+            Ending::Whole => 0,
+            Ending::WrongLine => 2,
+            Ending::NoWorld => 3,
+        }
+    }
+}
+
+/// Runs a script, and prints what it answers. At most `max_reads` reads are made.
+///
+/// The faults of lines are printed. The run's own come back: `ReadFailed`; `WriteFailed`, with how many
+/// bytes were written; `TurnsSpent` where the script takes more reads; `NoMemory`. What was printed before
+/// the end of the run has been written, but for what a failed write left.
+#[tactic(auto, using(crate::proofs::Runs::memory_fault, crate::proofs::Runs::write_fault))]
+pub fn sim_run<R: Read + Drop, W: Write + Drop, L: Ledger>(
+    alloc: Global,
+    reader: R,
+    writer: W,
+    max_reads: u64,
+    steps: &mut Steps<L>,
+) -> Result<Ending, Fault>
+    ensures reads { steps.new ≤ steps.old + max_reads }
+    ensures fault { IfErr result (IsRunFault steps.old steps.new max_reads) }
+{
+    let mut lines = Lines::new(alloc, reader, max_reads)?;
+    let mut output = Output::new(alloc, writer)?;
+    let ended = play(alloc, &mut lines, &mut output, steps);
+    let finished = output.finish();
+    let ending = ended?;
+    finished?;
+    Ok(ending)
+}
+
+/// Runs a script for a caller that does not count the reads.
+pub fn sim_run_uncounted<R: Read + Drop, W: Write + Drop>(
+    alloc: Global,
+    reader: R,
+    writer: W,
+    max_reads: u64,
+) -> Result<Ending, Fault>
+    ensures { IfErr result (λ fault. is_run_fault fault ≡ true) }
+{
+    run_on::<R, W, Brand>(alloc, reader, writer, max_reads, Blank::new(1))
+}
+
+/// Runs a script, and counts its reads in a ledger of their own.
+fn run_on<R: Read + Drop, W: Write + Drop, L: Ledger>(
+    alloc: Global,
+    reader: R,
+    writer: W,
+    max_reads: u64,
+    blank: Blank,
+) -> Result<Ending, Fault>
+    requires name { blank.name ≡ L.name }
+    requires parts { blank.parts ≡ L.parts }
+    requires some { 0 < blank.parts }
+    ensures { IfErr result (λ fault. is_run_fault fault ≡ true) }
+{
+    let mut steps = Steps::<L>::new(blank);
+    sim_run(alloc, reader, writer, max_reads, &mut steps)
+}
+
+#[tactic(auto, using(crate::proofs::Runs::counted_later, crate::proofs::Runs::fault_later, crate::proofs::Runs::write_fault))]
+fn play<R: Read, W: Write, L: Ledger>(
+    alloc: Global,
+    lines: &mut Lines<R>,
+    output: &mut Output<W>,
+    steps: &mut Steps<L>,
+) -> Result<Ending, Fault>
+    ensures counted { AreCounted steps.old lines.old.reader.left steps.new lines.new.reader.left }
+    ensures fault { IfErr result (IsRunFault steps.old steps.new lines.old.reader.left) }
+{
+    if !lines.advance(steps)? {
+        return Ok(Ending::Whole);
+    }
+    let mut world = match make_world(alloc, lines.line()) {
+        Ok(Some(world)) => world,
+        Ok(None) => return end_at(lines.number(), output),
+        Err(fault) => {
+            output.print(format_args!("fault {}", fault.number()))?;
+            return Ok(Ending::NoWorld);
+        }
+    };
+    while lines.advance(steps)? {
+        match answer(alloc, &mut world, lines.line()) {
+            Ok(Some(answer)) => output.print(answer)?,
+            Ok(None) => return end_at(lines.number(), output),
+            Err(fault) => output.print(format_args!("fault {}", fault.number()))?,
+        }
+    }
+    Ok(Ending::Whole)
+}
+
+/// Ends the run at a line that is no command.
+fn end_at<W: Write>(number: u64, output: &mut Output<W>) -> Result<Ending, Fault>
+    ensures { IfErr result (λ fault. fault ≡ Fault.WriteFailed output.new.writer.taken) }
+{
+    output.print(format_args!("line {number}"))?;
+    Ok(Ending::WrongLine)
+}
+
+/// The world of the first line, unless that is no command.
+fn make_world(alloc: Global, line: &[u8]) -> Result<Option<World>, Fault> {
+    let words = words_of(alloc, line)?;
+    match WorldLine::parse(&words) {
+        Some(line) => Ok(Some(World::new(alloc, &line)?)),
+        None => Ok(None),
+    }
+}
+
+/// What a later line answers, unless it is no command.
+fn answer<'a>(
+    alloc: Global,
+    world: &'a mut World,
+    line: &[u8],
+) -> Result<Option<Answer<'a>>, Fault> {
+    let words = words_of(alloc, line)?;
+    match Command::parse(&words) {
+        Some(command) => Ok(Some(world.answer(alloc, command)?)),
+        None => Ok(None),
+    }
+}

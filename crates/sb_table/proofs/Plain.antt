@@ -1,0 +1,55 @@
+-- A table stays one when an entry is entered.
+use Rattle.std.proofs.Common.{◌≡◌, ℕ, ◌<◌, ◌-◌, false, List, [], ◌∷◌, ◌++◌, length, Some, Result, Ok, Err, refl, sym, ap, subst, ◌∙◌, arith, zero, suc, not, OnOk, OnErr, slice_get}
+use Rattle.sb_types.specs.declared.fault.Fault.{Fault}
+use Rattle.sb_types.specs.declared.limits.TheConstants.{KEYS_MOST}
+use Rattle.sb_types.specs.Records.{Entry, Table}
+use Rattle.sb_types.specs.Runs.{entered, has_key, last_version, without}
+use Rattle.sb_table.specs.Plain.{IsPlainTable, plain_table, with_entry, is_full_for}
+use Rattle.sb_table.proofs.Ascent.{are_ascending-filter, are_ascending-push, last_version-filter, last_version-push}
+use Rattle.sb_table.proofs.Enter.{are_distinct-entered, length-entered}
+
+pub plain_table-entered : (es : List Entry) (e : Entry) → plain_table (entered es (e ∷ [])) ≡ with_entry (plain_table es) e
+plain_table-entered es e =
+    ap (λ (n : ℕ). let t : Table = record { held = n; floor = 0; entries = entered es (e ∷ []) } in t) (last_version-push 0 (without (e ∷ []) es) e)
+
+pub IsPlainTable-with_entry : (t : Table) (e : Entry) → IsPlainTable t → t.held < e.version → is_full_for e.key t.entries ≡ false → IsPlainTable (with_entry t e)
+IsPlainTable-with_entry t e plain later room =
+    let keeps = λ (x : Entry). not (has_key x.key (e ∷ [])) in
+    let kept = without (e ∷ []) t.entries in
+    let last : last_version 0 (kept ++ e ∷ []) ≡ e.version = last_version-push 0 kept e in
+    let up = plain.run.ascending in
+    let below : last_version 0 kept < e.version = omega (arith, last_version-filter keeps 0 0 t.entries (omega arith) up, plain.last, later) in
+    record {
+      run = record {
+        ascending = are_ascending-push 0 kept e (are_ascending-filter keeps 0 0 t.entries (omega arith) up) below;
+        most = omega (arith, last);
+        distinct = are_distinct-entered t.entries e plain.run.distinct;
+      };
+      floor = plain.floor;
+      last = sym last;
+      few = length-entered e t.entries KEYS_MOST plain.few room;
+    }
+
+last_version-at : (before : ℕ) (es : List Entry) (n : ℕ) (e : Entry) → length es ≡ suc n → slice_get es n ≡ Some e → e.version ≡ last_version before es
+last_version-at before [] n e long found = absurd (omega arith)
+last_version-at before (x ∷ []) zero e long found = cc
+last_version-at before (x ∷ []) (suc n) e long found = absurd (omega arith)
+last_version-at before (x ∷ y ∷ ys) zero e long found = absurd (omega arith)
+last_version-at before (x ∷ y ∷ ys) (suc n) e long found = last_version-at x.version (y ∷ ys) n e (omega arith) found
+
+pub last_version-last : (es : List Entry) (e : Entry) → slice_get es (length es - 1) ≡ Some e → e.version ≡ last_version 0 es
+last_version-last [] e found = absurd (cc)
+last_version-last (x ∷ xs) e found =
+    let n : length (x ∷ xs) - 1 ≡ length xs = omega arith in
+    last_version-at 0 (x ∷ xs) (length xs) e refl (rw n at found)
+
+-- what `push` leaves, whichever way it ends
+pub IsPlainTable-pushed : (r : Result (Unit {0}) Fault) (old new : List Entry) (e : Entry) → OnOk r (new ≡ entered old (e ∷ [])) → OnErr r (new ≡ old)
+    → IsPlainTable (plain_table old) → last_version 0 old < e.version → is_full_for e.key old ≡ false → IsPlainTable (plain_table new)
+IsPlainTable-pushed (Ok u) old new e ok err plain later room =
+    subst IsPlainTable (sym (ap plain_table ok ∙ plain_table-entered old e)) (IsPlainTable-with_entry (plain_table old) e plain later room)
+IsPlainTable-pushed (Err fault) old new e ok err plain later room = subst IsPlainTable (sym (ap plain_table err)) plain
+
+pub plain_table-pushed : (r : Result (Unit {0}) Fault) (old new : List Entry) (e : Entry) → OnOk r (new ≡ entered old (e ∷ [])) → OnOk r (plain_table new ≡ with_entry (plain_table old) e)
+plain_table-pushed (Ok u) old new e ok = ap plain_table ok ∙ plain_table-entered old e
+plain_table-pushed (Err fault) old new e ok = tt

@@ -1,0 +1,37 @@
+-- The order of texts.
+use Rattle.std.proofs.Common.{◌≡◌, ℕ, true, false, List, refl, sym, ap, ◌∙◌, nat_eq}
+use Rattle.std.specs.declared.cmp.Ordering.{Ordering}
+use Rattle.std.specs.declared.cmp.Ordering.TheVariants.{Less, Equal, Greater}
+use Rattle.std.specs.Ordering.{nat_cmp, is_lt, is_eq, ordering_reverse}
+use Rattle.std.specs.Cmp.Lexicographic.{pointwise, slice_cmp, texts_ties}
+use Rattle.std.proofs.lemmas.Cmp.{nat_list_cmp_total, tied_itself}
+use Rattle.sb_types.specs.Limits.{text_lt}
+
+Less-from_is_lt : (r : Ordering) → is_lt r ≡ true → r ≡ Less
+Less-from_is_lt Less h = refl
+Less-from_is_lt Equal h = absurd (cc)
+Less-from_is_lt Greater h = absurd (cc)
+
+pub text_lt-same : (a : List ℕ) → text_lt a a ≡ false
+text_lt-same a = ap is_lt (tied_itself nat_list_cmp_total a)
+
+pub text_lt-trans : (a b c : List ℕ) → text_lt a b ≡ true → text_lt b c ≡ true → text_lt a c ≡ true
+text_lt-trans a b c ab bc =
+    ap is_lt (nat_list_cmp_total.trans a b c (Less-from_is_lt (slice_cmp nat_cmp a b) ab) (Less-from_is_lt (slice_cmp nat_cmp b c) bc))
+
+flipped : (r s : Ordering) → s ≡ ordering_reverse r → is_lt r ≡ false → is_eq r ≡ false → is_lt s ≡ true
+flipped Less s back not_less not_equal = absurd (cc)
+flipped Equal s back not_less not_equal = absurd (cc)
+flipped Greater s back not_less not_equal = ap is_lt back
+
+pub text_lt-other : (a b : List ℕ) → text_lt a b ≡ false → pointwise nat_eq a b ≡ false → text_lt b a ≡ true
+text_lt-other a b not_less apart =
+    flipped (slice_cmp nat_cmp a b) (slice_cmp nat_cmp b a) (nat_list_cmp_total.antisymm b a) not_less (sym (texts_ties a b) ∙ apart)
+
+asymmetric : (r s : Ordering) → s ≡ ordering_reverse r → is_lt r ≡ true → is_lt s ≡ false
+asymmetric Less s back less = ap is_lt back
+asymmetric Equal s back less = absurd (cc)
+asymmetric Greater s back less = absurd (cc)
+
+pub text_lt-back : (a b : List ℕ) → text_lt a b ≡ true → text_lt b a ≡ false
+text_lt-back a b less = asymmetric (slice_cmp nat_cmp a b) (slice_cmp nat_cmp b a) (nat_list_cmp_total.antisymm b a) less

@@ -1,0 +1,35 @@
+//! What follows from the definitions alone, for the crates above. The functions do nothing: each clause is a law.
+ghost use Rattle.std.specs.Prelude.{◌≡◌, ◌≢◌, ◌<◌, ℕ, List, [], ◌∷◌, false, true, Some, None, IsPermutation};
+ghost use Rattle.std.specs.Cmp.Lexicographic.{slice_cmp};
+ghost use Rattle.std.specs.Ordering.{nat_cmp};
+ghost use Rattle.std.specs.List.Sorted.{IsSortedByKey};
+ghost use Rattle.sb_types.specs.Records as records;
+ghost use Rattle.sb_types.specs.Runs.{IsTable, Stands, are_distinct, entered, entry_at, has_key};
+ghost use Rattle.sb_table.specs.Plain.{IsPlainTable, is_full_for, with_entry};
+ghost use Rattle.sb_table.specs.Order.{by_key};
+
+/// A table in which a later entry is entered is a table, and each keeps what crates above ask of tables with a floor.
+pub fn entering_keeps_tables()
+    ensures entered { (t : records.Table) (e : records.Entry) → IsPlainTable t → t.held < e.version → is_full_for e.key t.entries ≡ false → IsPlainTable (with_entry t e) }
+    ensures table { (t : records.Table) → IsPlainTable t → IsTable t }
+{}
+
+/// What is found under a key stands under it, and what stands is found.
+pub fn what_stands_is_found()
+    ensures stands { (key : List ℕ) (entries : List records.Entry) (e : records.Entry) → entry_at key entries ≡ Some e → Stands entries e }
+    ensures key { (key : List ℕ) (entries : List records.Entry) (e : records.Entry) → entry_at key entries ≡ Some e → e.key ≡ key }
+    ensures found { (entries : List records.Entry) (e : records.Entry) → are_distinct entries ≡ true → Stands entries e → entry_at e.key entries ≡ Some e }
+    ensures none { (key : List ℕ) (entries : List records.Entry) → has_key key entries ≡ false → entry_at key entries ≡ None }
+{}
+
+/// An entry that is entered is found under its key, and under every other key what was found before.
+pub fn what_is_entered_is_found()
+    ensures entered { (entries : List records.Entry) (e : records.Entry) → entry_at e.key (entered entries (e ∷ [])) ≡ Some e }
+    ensures others { (key : List ℕ) (entries : List records.Entry) (e : records.Entry) → key ≢ e.key → entry_at key (entered entries (e ∷ [])) ≡ entry_at key entries }
+{}
+
+/// The entries by key are the entries, sorted by key.
+pub fn by_key_sorts()
+    ensures permutation { (entries : List records.Entry) → IsPermutation entries (by_key entries) }
+    ensures sorted { (entries : List records.Entry) → IsSortedByKey (λ e. e.key) (slice_cmp nat_cmp) (by_key entries) }
+{}

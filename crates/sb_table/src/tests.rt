@@ -1,0 +1,168 @@
+ghost use Rattle.std.specs.Prelude.{◌≤◌};
+
+use crate::Table;
+use sb_types::{Entry, Fault, KEYS_MOST, Key, Prefix, Slot, Value};
+use std::process::Abort;
+use std::test::Fail;
+
+fn entry_of(key: &[u8], version: u64, slot: Slot) -> Result<Entry, Fault>
+    requires { 1 ≤ version }
+{
+    match Key::read(key) {
+        Ok(key) => Ok(Entry::new(key, version, slot)),
+        Err(fault) => Err(fault),
+    }
+}
+
+fn weight_of(key: &[u8], version: u64, weight: u64) -> Result<Entry, Fault>
+    requires { 1 ≤ version }
+{
+    entry_of(key, version, Slot::Set(Value::weight(weight)?))
+}
+
+fn push(rt: &impl Abort, table: &mut Table, entry: Entry) -> Result<(), Fault> {
+    assert!(rt; table.upto() < entry.version());
+    table.push(entry)
+}
+
+// The version and the weight under a key.
+fn weight_at(table: &Table, key: &[u8]) -> Option<(u64, Option<u64>)> {
+    match Key::read(key) {
+        Ok(key) => match table.get(&key) {
+            Some((version, Slot::Set(value))) => Some((version, value.as_weight())),
+            Some((version, Slot::Removed)) => Some((version, None)),
+            None => None,
+        },
+        Err(_) => None,
+    }
+}
+
+#[test]
+fn later_writes_take_the_place_of_earlier(rt: HostRuntime) -> Result<(), Fail> {
+    let alloc = rt.alloc();
+    let mut table = Table::new(alloc);
+    assert!(rt; table.is_empty());
+    assert_eq!(rt; table.upto(), 0);
+    push(&rt, &mut table, weight_of(b"a", 1, 7)?)?;
+    push(&rt, &mut table, entry_of(b"b", 2, Slot::Removed)?)?;
+    push(&rt, &mut table, weight_of(b"a", 4, 9)?)?;
+    assert_eq!(rt; table.len(), 2);
+    assert_eq!(rt; table.upto(), 4);
+    assert_eq!(rt; weight_at(&table, b"a"), Some((4, Some(9))));
+    assert_eq!(rt; weight_at(&table, b"b"), Some((2, None)));
+    assert_eq!(rt; weight_at(&table, b"c"), None);
+    for (version, above) in [
+        (0, [2, 4].as_slice()),
+        (1, &[2, 4]),
+        (2, &[4]),
+        (3, &[4]),
+        (4, &[]),
+    ] {
+        let versions: Vec<u64> = table
+            .after(version)
+            .map(|entry| entry.version())
+            .collect(alloc)?;
+        assert_eq!(rt; versions.as_slice(), above, "above {version}");
+    }
+    Ok(())
+}
+
+#[test]
+fn a_prefix_gives_its_keys_in_order(rt: HostRuntime) -> Result<(), Fail> {
+    let alloc = rt.alloc();
+    let mut table = Table::new(alloc);
+    push(&rt, &mut table, weight_of(b"net/b", 1, 1)?)?;
+    push(&rt, &mut table, weight_of(b"net/a", 2, 2)?)?;
+    push(&rt, &mut table, weight_of(b"w", 3, 3)?)?;
+    push(&rt, &mut table, entry_of(b"net", 4, Slot::Removed)?)?;
+    push(&rt, &mut table, entry_of(b"net/a/1", 5, Slot::Removed)?)?;
+    for (text, wanted) in [
+        (b"".as_slice(), [4, 2, 5, 1, 3].as_slice()),
+        (b"net", &[4, 2, 5, 1]),
+        (b"net/", &[2, 5, 1]),
+        (b"net/b", &[1]),
+        (b"x", &[]),
+    ] {
+        match Prefix::read(text) {
+            Ok(prefix) => {
+                let versions: Vec<u64> = table
+                    .prefix(&prefix)
+                    .map(|entry| entry.version())
+                    .collect(alloc)?;
+                assert_eq!(rt; versions.as_slice(), wanted);
+            }
+            Err(fault) => return Err(fault.into()),
+        }
+    }
+    Ok(())
+}
+
+#[test]
+fn a_full_table_takes_no_new_key(rt: HostRuntime) -> Result<(), Fail> {
+    let alloc = rt.alloc();
+    let mut table = Table::new(alloc);
+    for version in 1..=KEYS_MOST as u64 {
+        push(
+            &rt,
+            &mut table,
+            weight_of(
+                format!(in alloc; "k{version}")?.as_bytes(),
+                version,
+                version,
+            )?,
+        )?;
+    }
+    assert_eq!(rt;
+        push(&rt, &mut table, weight_of(b"new", 4097, 1)?),
+        Err(Fault::TableFull)
+    );
+    assert_eq!(rt; (table.len(), table.upto()), (4096, 4096));
+    assert_eq!(rt; weight_at(&table, b"new"), None);
+    assert_eq!(rt; push(&rt, &mut table, weight_of(b"k7", 4097, 1)?), Ok(()));
+    assert_eq!(rt; (table.len(), table.upto()), (4096, 4097));
+    assert_eq!(rt; weight_at(&table, b"k7"), Some((4097, Some(1))));
+    assert_eq!(rt;
+        push(&rt, &mut table, weight_of(b"new", 4098, 1)?),
+        Err(Fault::TableFull)
+    );
+    Ok(())
+}
+
+#[test]
+fn the_greatest_version_is_entered(rt: HostRuntime) -> Result<(), Fail> {
+    let mut table = Table::new(rt.alloc());
+    push(&rt, &mut table, weight_of(b"a", u64::MAX - 1, 1)?)?;
+    push(&rt, &mut table, weight_of(b"a", u64::MAX, 2)?)?;
+    assert_eq!(rt; table.upto(), u64::MAX);
+    assert_eq!(rt; weight_at(&table, b"a"), Some((u64::MAX, Some(2))));
+    assert_eq!(rt; table.after(u64::MAX - 1).count(), 1);
+    assert_eq!(rt; table.after(u64::MAX).count(), 0);
+    Ok(())
+}
+
+// Passes also where an allocation fails.
+#[test]
+fn a_write_without_memory_leaves_the_table(rt: HostRuntime) -> Result<(), Fail> {
+    let mut table = Table::new(rt.alloc());
+    for (key, version) in [
+        (b"a", 1),
+        (b"b", 2),
+        (b"a", 3),
+        (b"c", 4),
+        (b"d", 5),
+        (b"e", 6),
+    ] {
+        let before = (table.len(), table.upto(), weight_at(&table, key));
+        match push(&rt, &mut table, weight_of(key, version, version)?) {
+            Ok(()) => {
+                assert_eq!(rt; table.upto(), version);
+                assert_eq!(rt; weight_at(&table, key), Some((version, Some(version))));
+            }
+            Err(fault) => {
+                assert_eq!(rt; fault, Fault::NoMemory);
+                assert_eq!(rt; (table.len(), table.upto(), weight_at(&table, key)), before);
+            }
+        }
+    }
+    Ok(())
+}
