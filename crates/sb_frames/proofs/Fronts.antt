@@ -1,7 +1,7 @@
 -- What stands at the front of bytes.
 use Rattle.std.proofs.Common.{◌≡◌, ◌≢◌, ℕ, ◌+◌, ◌^◌, ◌<◌, ◌≤◌, Bool, true, false, ◌==◌, ltb, if◌then◌else◌, List, [], ◌∷◌, ◌++◌, length, take, drop, Option, Some, None, Result, Ok, Err, refl, sym, ap, subst, ◌∙◌, inl, inr, ◌⊎◌, append_assoc, arith, length-append, length-take}
 use Rattle.std.specs.Int.{w32, from_be_bytes}
-use Rattle.std.specs.Prelude.{ok_or, All}
+use Rattle.std.specs.Prelude.{ok_or}
 use Rattle.std.specs.Option.{option_and_then}
 use Rattle.std.proofs.lemmas.Bool.{and_parts, cases_lt, leb-true, le-leb, lt-ltb, le-ltb, ltb-false, eqb-true, ne_eqb}
 use Rattle.std.proofs.lemmas.Bool.Decides.{nat_tests}
@@ -13,11 +13,11 @@ use Rattle.sb_types.specs.declared.fault.Fault.TheVariants.{NoMemory, UnknownKin
 use Rattle.sb_types.specs.declared.limits.TheConstants.{FRAME_MARK, FRAME_VERSION, PAYLOAD_MOST}
 use Rattle.sb_codec.specs.declared.message.Message.{Message}
 use Rattle.sb_codec.specs.Spelling.{number}
-use Rattle.sb_codec.specs.Fields.{Field, byte_at, number_at, bytes_at, whole as whole_field}
+use Rattle.sb_codec.specs.Fields.{AreBytes, Field, byte_at, number_at, bytes_at, whole as whole_field}
 use Rattle.sb_codec.specs.Messages.{spelling, is_message, Spells, is_kind, fault_of, message_at, reading}
-use Rattle.sb_codec.proofs.Taken.{AreBytes, IsWide, byte_takes, bytes_takes, number_takes}
+use Rattle.sb_codec.proofs.Taken.{IsWide, byte_takes, bytes_takes, number_takes}
 use Rattle.sb_codec.proofs.Again.{bytes_again, number_again}
-use Rattle.sb_codec.proofs.Laws.{is_spelled, is_found, is_read}
+use Rattle.sb_codec.proofs.Laws.{is_spelled, is_found, is_read, some_bytes}
 use Rattle.sb_frames.specs.Frames.{framed, frame, is_payload_length, IsFramed, HasPayload, Leads, Extends, Front, short, whole, bad, once, front_by, front_of_payload, front_after_length, front_after_version, front_after_mark, front_of}
 
 wide32 : IsWide w32 (2 ^ 32)
@@ -42,10 +42,6 @@ front_framed payload rest fits =
     let all : bytes_at (length payload) (payload ++ rest) ≡ Some (payload, rest) = (bytes_again payload (length payload) refl).read rest in
     rw (count, fits, all) refl
 
-reading_nothing : reading [] ≡ Err (UnknownKind 0)
-unfolding reading message_at byte_at
-reading_nothing = refl
-
 pub length_fits : (count : ℕ) → 1 ≤ count → count ≤ PAYLOAD_MOST → is_payload_length count ≡ true
 length_fits count some most = rw (le-leb 1 count some, le-leb count PAYLOAD_MOST most) refl
 
@@ -55,15 +51,7 @@ length_out count out = grind (arith, nat_tests)
 pub spelling_fits : (m : Message) → is_message m ≡ true → is_payload_length (length (spelling m)) ≡ true
 spelling_fits m fits =
     let spells : Spells (spelling m) m = is_spelled (spelling m) m fits refl in
-    let some : 1 ≤ length (spelling m) =
-    elim (cases_lt 0 (length (spelling m))) [
-      | inl lt ↦ omega arith
-      | inr le ↦
-          let none : spelling m ≡ [] = nil_from_length (spelling m) (omega arith) in
-          let read : Err (UnknownKind 0) ≡ Ok m = sym reading_nothing ∙ ap reading (sym none) ∙ is_read (spelling m) m spells in
-          absurd cc
-    ] in
-    length_fits (length (spelling m)) some spells.most
+    length_fits (length (spelling m)) (some_bytes (spelling m) m spells) spells.most
 
 pub front_frame : (m : Message) (rest : List ℕ) → is_message m ≡ true → front_of (frame m ++ rest) ≡ whole m rest
 unfolding frame
@@ -196,13 +184,6 @@ whole_frame bytes m rest are e =
     let cut = (byte_takes.parts bytes one.0 one.1 are one.2).1 in
     let back = whole_version one.1 m rest (behind bytes (one.0 ∷ []) one.1 cut are) fits.1 in
     record { limits = back.0; laid = cut ∙ ap (λ n. n ∷ one.1) (eqb-true one.0 FRAME_MARK fits.0) ∙ ap (λ (x : List ℕ). FRAME_MARK ∷ x) back.1 }
-
-pub are_bytes : (bytes : List ℕ) → All (λ byte. byte < 256) bytes → AreBytes bytes
-are_bytes bytes all i =
-    elim (cases_lt i (length bytes)) [
-      | inl lt ↦ all i 0 lt
-      | inr le ↦ rw (get_or_past bytes i 0 le) (omega arith)
-    ]
 
 -- ---- a payload that was read, or refused
 

@@ -1,8 +1,9 @@
 //! What is true of frames, and of streams of them.
 
-ghost use Rattle.std.specs.Prelude.{◌≡◌, ◌≢◌, ℕ, ◌+◌, ◌<◌, ◌≤◌, true, List, [], ◌++◌, length, take, All};
+ghost use Rattle.std.specs.Prelude.{◌≡◌, ◌≢◌, ℕ, ◌+◌, ◌<◌, ◌≤◌, true, List, [], ◌++◌, length, take};
 ghost use Rattle.sb_types.specs.declared.fault.Fault.{Fault};
 ghost use Rattle.sb_codec.specs.declared.message.Message.{Message};
+ghost use Rattle.sb_codec.specs.Fields.{AreBytes};
 ghost use Rattle.sb_codec.specs.Messages.{spelling, is_message};
 ghost use Rattle.sb_frames.specs.Frames.{frame, short, whole, bad, front_of, Leads, Extends};
 ghost use Rattle.sb_frames.specs.Streams.{Stream, open_with, Splits};
@@ -18,7 +19,7 @@ pub fn frames_are_read()
 /// What is read as a message is its frame, and the message is within its limits.
 pub fn only_frames_are_read()
     ensures { (bytes : List ℕ) (message : Message) (rest : List ℕ) →
-        All (λ byte. byte < 256) bytes → front_of bytes ≡ whole message rest → Leads bytes message rest }
+        AreBytes bytes → front_of bytes ≡ whole message rest → Leads bytes message rest }
 {}
 
 /// No frame is empty: it has its header, and a payload within the limits.
