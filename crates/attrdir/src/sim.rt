@@ -1,5 +1,6 @@
 //! The run of a script.
 ghost use Rattle.std.specs.Prelude.{◌≡◌, ◌+◌, ◌<◌, ◌≤◌, true, IfErr};
+ghost use Rattle.attrdir.specs.Script.{status_of};
 ghost use Rattle.attrdir.specs.Reads.{AreCounted, IsRunFault, is_run_fault};
 
 use crate::lines::Lines;
@@ -27,7 +28,9 @@ pub enum Ending {
 
 impl Ending {
     /// The exit status of the program.
-    pub fn status(self) -> u8 {
+    pub fn status(self) -> u8
+        ensures { result ≡ status_of self }
+    {
         match self {
             Ending::Whole => 0,
             Ending::WrongLine => 2,
