@@ -1,6 +1,6 @@
 //! What a script prints.
 use crate::node::BlockEnd;
-use sb_types::{Key, Name, Value};
+use sb_types::{Fault, Key, Name, Value};
 use std::fmt;
 
 /// What a command answers.
@@ -29,8 +29,8 @@ pub(crate) enum Answer<'a> {
 /// How a give ended.
 #[derive(Clone, Copy, Debug)]
 pub(crate) enum GiveEnd {
-    /// The node gives to itself.
-    SameName,
+    /// The node refused the frame.
+    Refused(Fault),
     /// There was no block, or no node to take it.
     Nothing,
     Block(BlockEnd),
@@ -90,7 +90,7 @@ impl fmt::Display for BlockEnd {
 impl fmt::Display for GiveEnd {
     fn fmt<W: fmt::Write>(&self, f: &mut fmt::Formatter<W>) -> fmt::Result {
         match self {
-            GiveEnd::SameName => write!(f, "fault 24"),
+            GiveEnd::Refused(fault) => write!(f, "fault {}", fault.number()),
             GiveEnd::Nothing => write!(f, "nothing"),
             GiveEnd::Block(end) => write!(f, "{end}"),
         }

@@ -97,7 +97,7 @@ impl World {
         let frame = frame_of(alloc, &message)?;
         let Message::Delta(delta) = message;
         let end = if taker == giver {
-            GiveEnd::SameName
+            GiveEnd::Refused(Fault::SameName)
         } else {
             self.deliver(alloc, taker, &delta)
         };
