@@ -95,11 +95,15 @@ impl World {
         };
         let message = Message::Delta(node.offer(alloc, after)?);
         let frame = frame_of(alloc, &message)?;
-        let Message::Delta(delta) = message;
-        let end = if taker == giver {
-            GiveEnd::SameName
-        } else {
-            self.deliver(alloc, taker, &delta)
+        if taker == giver {
+            return Ok(Answer::Given {
+                frame,
+                end: GiveEnd::SameName,
+            });
+        }
+        let end = match &message {
+            Message::Delta(delta) => self.deliver(alloc, taker, delta),
+            _ => unreachable!(),
         };
         Ok(Answer::Given { frame, end })
     }

@@ -1,78 +1,66 @@
 -- A payload is read as a message exactly where it spells it.
-use Rattle.std.proofs.Common.{◌≡◌, ℕ, ◌+◌, ◌≤◌, true, ◌==◌, if◌then◌else◌, List, [], ◌∷◌, ◌++◌, length, Option, Some, None, Result, Ok, Err, refl, sym, ap, ◌∙◌, arith, length-append}
-use Rattle.std.specs.Prelude.{ok_or, IfOk, sum_by}
+use Rattle.std.proofs.Common.{◌≡◌, ℕ, ◌≤◌, Bool, true, ◌==◌, if◌then◌else◌, List, [], ◌∷◌, ◌++◌, length, Option, Some, None, Result, Ok, Err, refl, sym, ap, ◌∙◌, arith}
+use Rattle.std.specs.Prelude.{ok_or, IfOk}
 use Rattle.std.specs.Option.{option_and_then}
-use Rattle.std.specs.List.{flat_map}
-use Rattle.std.specs.Int.{w16, w64}
 use Rattle.std.proofs.lemmas.Bool.{eqb-true}
 use Rattle.std.proofs.lemmas.List.{append-nil, nil_from_length}
 use Rattle.std.proofs.lemmas.Option.{cond_some}
-use Rattle.std.proofs.lemmas.List.Sums.{sum_by-cons}
-use Rattle.sb_types.specs.declared.entry.Slot.{Slot}
-use Rattle.sb_types.specs.declared.entry.Slot.TheVariants.{Set, Removed}
 use Rattle.sb_types.specs.declared.fault.Fault.{Fault}
-use Rattle.sb_types.specs.declared.limits.TheConstants.{PAYLOAD_MOST}
-use Rattle.sb_types.specs.Value.{Addr, Weight, Flag}
-use Rattle.sb_types.specs.Records.{Entry, Block}
-use Rattle.sb_types.specs.Lengths.{slot_length, entry_length, block_length}
 use Rattle.sb_types.specs.Faults.{Gives}
 use Rattle.sb_codec.specs.declared.message.Message.{Message}
-use Rattle.sb_codec.specs.declared.message.Message.TheVariants.{Delta}
-use Rattle.sb_codec.specs.declared.numbers.TheConstants.{KIND_DELTA}
-use Rattle.sb_codec.specs.Spelling.{number, text, list, content, slot, entry, block}
-use Rattle.sb_codec.specs.Fields.{AreBytes, whole}
+use Rattle.sb_codec.specs.declared.message.Message.TheVariants.{Hello, Digest, Delta, Bye, Ask, Rows, Put, Done, Refused}
+use Rattle.sb_codec.specs.declared.numbers.TheConstants.{KIND_HELLO, KIND_DIGEST, KIND_DELTA, KIND_BYE, KIND_ASK, KIND_ROWS, KIND_PUT, KIND_DONE, KIND_REFUSED}
+use Rattle.sb_codec.specs.Fields.{AreBytes, Field, whole}
 use Rattle.sb_codec.specs.Messages.{spelling, is_message, Spells, IsSole, fault_of, message_cases, message_at, reading}
 use Rattle.sb_codec.proofs.Taken.{Takes, tagged_takes, made_case}
 use Rattle.sb_codec.proofs.Again.{Again, made_again, tagged_again}
-use Rattle.sb_codec.proofs.Parts.{delta_parts, delta_takes, delta_again}
-
--- ---- lengths
-
-length-number16 : (n : ℕ) → length (number w16 n) ≡ 2
-unfolding number
-length-number16 n = refl
-
-length-number64 : (n : ℕ) → length (number w64 n) ≡ 8
-unfolding number
-length-number64 n = refl
-
-slot-length : (s : Slot) → length (slot s) ≡ 1 + slot_length s
-unfolding slot content number
-slot-length Removed = refl
-slot-length (Set (Addr t)) = omega arith
-slot-length (Set (Weight n)) = refl
-slot-length (Set (Flag b)) = refl
-
-entry-length : (e : Entry) → length (entry e) ≡ entry_length e
-unfolding entry
-entry-length e = omega (arith, length-append (text e.key) (number w64 e.version ++ slot e.slot), length-append (number w64 e.version) (slot e.slot), length-number64 e.version, slot-length e.slot)
-
-length-all : {A : Type 0} (f : A → List ℕ) (size : A → ℕ) → ((x : A) → length (f x) ≡ size x) → (xs : List A) → length (flat_map f xs) ≡ sum_by size xs
-length-all f size each [] = refl
-length-all f size each (x ∷ xs) = rw sum_by-cons (omega (arith, length-append (f x) (flat_map f xs), each x, length-all f size each xs))
-
-length-list : {A : Type 0} (f : A → List ℕ) (size : A → ℕ) → ((x : A) → length (f x) ≡ size x) → (xs : List A) → length (list f xs) ≡ 2 + sum_by size xs
-length-list f size each xs = omega (arith, length-append (number w16 (length xs)) (flat_map f xs), length-number16 (length xs), length-all f size each xs)
-
-block-length : (b : Block) → length (block b) ≡ block_length b
-unfolding block
-block-length b = omega (arith, length-append (text b.owner) (number w64 b.after ++ list entry b.entries), length-append (number w64 b.after) (list entry b.entries), length-number64 b.after, length-list entry entry_length entry-length b.entries)
-
-spelling-most : (m : Message) → is_message m ≡ true → length (spelling m) ≤ PAYLOAD_MOST
-unfolding spelling
-spelling-most (Delta blocks) fits =
-    let within = (delta_parts blocks fits).2 in
-    omega (arith, length-list block block_length block-length blocks)
-
--- ---- messages
+use Rattle.sb_codec.proofs.Parts.{delta_takes, delta_again}
+use Rattle.sb_codec.proofs.Bodies.{hello_takes, hello_again, digest_takes, digest_again, bye_takes, bye_again, ask_takes, ask_again, page_takes, page_again, write_takes, write_again, done_takes, done_again, refused_takes, refused_again}
+use Rattle.sb_codec.proofs.Sizes.{spelling-most}
 
 pub message_takes : Takes (λ m. is_message m ≡ true) spelling message_at
 unfolding message_at spelling
-message_takes = tagged_takes message_cases (made_case KIND_DELTA Delta delta_takes (λ blocks fits. (fits, refl)), tt)
+message_takes =
+    tagged_takes message_cases (
+      made_case KIND_HELLO Hello hello_takes (λ h fits. (fits, refl)),
+      (
+        made_case KIND_DIGEST Digest digest_takes (λ d fits. (fits, refl)),
+        (
+          made_case KIND_DELTA Delta delta_takes (λ blocks fits. (fits, refl)),
+          (
+            made_case KIND_BYE Bye bye_takes (λ reason fits. (fits, refl)),
+            (
+              made_case KIND_ASK Ask ask_takes (λ a fits. (fits, refl)),
+              (
+                made_case KIND_ROWS Rows page_takes (λ p fits. (fits, refl)),
+                (
+                  made_case KIND_PUT Put write_takes (λ w fits. (fits, refl)),
+                  (
+                    made_case KIND_DONE Done done_takes (λ version fits. (fits, refl)),
+                    (
+                      made_case KIND_REFUSED Refused refused_takes (λ fault fits. (fits, refl)),
+                      tt,
+                    ),
+                  ),
+                ),
+              ),
+            ),
+          ),
+        ),
+      ),
+    )
 
 pub message_again : (m : Message) → is_message m ≡ true → Again message_at (spelling m) m
 unfolding message_at spelling
+message_again (Hello h) fits = tagged_again message_cases KIND_HELLO (made_again Hello (hello_again h fits))
+message_again (Digest d) fits = tagged_again message_cases KIND_DIGEST (made_again Digest (digest_again d fits))
 message_again (Delta blocks) fits = tagged_again message_cases KIND_DELTA (made_again Delta (delta_again blocks fits))
+message_again (Bye reason) fits = tagged_again message_cases KIND_BYE (made_again Bye (bye_again reason fits))
+message_again (Ask a) fits = tagged_again message_cases KIND_ASK (made_again Ask (ask_again a fits))
+message_again (Rows p) fits = tagged_again message_cases KIND_ROWS (made_again Rows (page_again p fits))
+message_again (Put w) fits = tagged_again message_cases KIND_PUT (made_again Put (write_again w fits))
+message_again (Done version) fits = tagged_again message_cases KIND_DONE (made_again Done (done_again version fits))
+message_again (Refused fault) fits = tagged_again message_cases KIND_REFUSED (made_again Refused (refused_again fault fits))
 
 nothing_behind : {A : Type 0} (read : Option (A × List ℕ)) (x : A) → option_and_then (λ y. if length y.1 == 0 then Some y.0 else None) read ≡ Some x → read ≡ Some (x, [])
 nothing_behind None x e = absurd cc
@@ -117,4 +105,12 @@ if_sole payload (Err fault) are gives = tt
 
 pub some_bytes : (payload : List ℕ) (m : Message) → Spells payload m → 1 ≤ length payload
 unfolding spelling
+some_bytes payload (Hello greeting) spells = rw spells.bytes (omega arith)
+some_bytes payload (Digest told) spells = rw spells.bytes (omega arith)
 some_bytes payload (Delta blocks) spells = rw spells.bytes (omega arith)
+some_bytes payload (Bye reason) spells = rw spells.bytes (omega arith)
+some_bytes payload (Ask asked) spells = rw spells.bytes (omega arith)
+some_bytes payload (Rows rows) spells = rw spells.bytes (omega arith)
+some_bytes payload (Put wanted) spells = rw spells.bytes (omega arith)
+some_bytes payload (Done version) spells = rw spells.bytes (omega arith)
+some_bytes payload (Refused fault) spells = rw spells.bytes (omega arith)

@@ -61,7 +61,7 @@ slot_takes =
     let spelled : (tag : ℕ) (v : Value) → IsTagged tag v → (is_value v ≡ true) × (tag_of v ∷ content v ≡ tag ∷ content v) = λ tag v fits. (fits.0, ap (λ (k : ℕ). k ∷ content v) fits.1) in
     tagged_takes slot_cases (given_case TAG_REMOVED Removed refl refl, (made_case TAG_ADDR Set addr_takes (spelled TAG_ADDR), (made_case TAG_WEIGHT Set weight_takes (spelled TAG_WEIGHT), (made_case TAG_FLAG flag_slot flag_takes (λ set fits. (refl, refl)), tt))))
 
-weight_below : (n : ℕ) → is_value (Weight n) ≡ true → n < 2 ^ 64
+pub weight_below : (n : ℕ) → is_value (Weight n) ≡ true → n < 2 ^ 64
 weight_below n fits = omega (arith, ltb-true n (2 ^ 63) fits)
 
 pub flag_again : (set : Bool) → Again flag_at (flag set) set
@@ -78,7 +78,7 @@ slot_again (Set (Flag set)) fits = tagged_again slot_cases TAG_FLAG (made_again 
 
 -- ---- entries
 
-between_parts : (least most n : ℕ) → is_between least most n ≡ true → (least ≤ n) × (n ≤ most)
+pub between_parts : (least most n : ℕ) → is_between least most n ≡ true → (least ≤ n) × (n ≤ most)
 between_parts least most n fits = let parts = and_parts (nat_le least n) (nat_le n most) fits in (leb-true least n parts.0, leb-true n most parts.1)
 
 entry_parts : (e : Entry) → is_entry e ≡ true → (is_key e.key ≡ true) × (1 ≤ e.version) × (e.version < 2 ^ 64) × (is_slot e.slot ≡ true)
@@ -103,11 +103,11 @@ entry_again e fits =
 
 -- ---- blocks
 
-all_from : {A : Type 0} (test : A → Bool) (xs : List A) → AllByRecursion (λ x. test x ≡ true) xs → list_all test xs ≡ true
+pub all_from : {A : Type 0} (test : A → Bool) (xs : List A) → AllByRecursion (λ x. test x ≡ true) xs → list_all test xs ≡ true
 all_from test [] all = refl
 all_from test (x ∷ xs) all = and_from _ _ all.0 (all_from test xs all.1)
 
-all_parts : {A : Type 0} (test : A → Bool) (xs : List A) → list_all test xs ≡ true → AllByRecursion (λ x. test x ≡ true) xs
+pub all_parts : {A : Type 0} (test : A → Bool) (xs : List A) → list_all test xs ≡ true → AllByRecursion (λ x. test x ≡ true) xs
 all_parts test [] all = tt
 all_parts test (x ∷ xs) all = let p = and_parts _ _ all in (p.0, all_parts test xs p.1)
 
@@ -149,9 +149,10 @@ pub delta_takes : Takes (λ blocks. is_delta blocks ≡ true) (list block) delta
 unfolding delta_at
 delta_takes = fits_takes (where_takes (list_takes block_takes)) (λ blocks fits. and_from _ _ (all_from is_delta_block blocks fits.0.1) fits.1)
 
-count_below : (blocks : List Block) → length blocks ≤ sum_by block_length blocks
-count_below [] = omega arith
-count_below (b ∷ blocks) = rw sum_by-cons (omega (arith, count_below blocks))
+-- what takes a byte at least each is no more than the bytes
+pub count_below : {A : Type 0} (size : A → ℕ) → ((x : A) → 1 ≤ size x) → (xs : List A) → length xs ≤ sum_by size xs
+count_below size each [] = omega arith
+count_below size each (x ∷ xs) = rw sum_by-cons (omega (arith, each x, count_below size each xs))
 
 pub delta_parts : (blocks : List Block) → is_delta blocks ≡ true → (list_all is_delta_block blocks ≡ true) × (are_delta_blocks blocks ≡ true) × (delta_length blocks ≤ PAYLOAD_MOST)
 delta_parts blocks fits =
@@ -159,7 +160,7 @@ delta_parts blocks fits =
     (parts.0, parts.1, leb-true (delta_length blocks) PAYLOAD_MOST (and_parts (are_owners_above [] blocks) (nat_le (delta_length blocks) PAYLOAD_MOST) parts.1).1)
 
 pub few_blocks : (blocks : List Block) → is_delta blocks ≡ true → length blocks < 2 ^ 16
-few_blocks blocks fits = let within = (delta_parts blocks fits).2 in omega (arith, count_below blocks)
+few_blocks blocks fits = let within = (delta_parts blocks fits).2 in omega (arith, count_below block_length (λ b. omega arith) blocks)
 
 pub delta_again : (blocks : List Block) → is_delta blocks ≡ true → Again delta_at (list block blocks) blocks
 unfolding delta_at

@@ -1,3 +1,6 @@
+pub mod Records
+pub mod Lengths
+pub mod Limits
 pub mod Spelling
 pub mod Fields
 pub mod Reading

@@ -1,22 +1,42 @@
 -- Which payload spells which message, and what a payload is read as.
-use Rattle.std.specs.Prelude.{◌≡◌, ℕ, ◌≤◌, Bool, true, ◌==◌, if◌then◌else◌, List, [], ◌∷◌, length, Result, ok_or}
+use Rattle.std.specs.Prelude.{◌≡◌, ℕ, ◌≤◌, Bool, true, ◌||◌, ◌==◌, if◌then◌else◌, List, [], ◌∷◌, length, Result, ok_or}
 use Rattle.sb_types.specs.declared.fault.Fault.{Fault}
 use Rattle.sb_types.specs.declared.fault.Fault.TheVariants.{UnknownKind, Malformed}
 use Rattle.sb_types.specs.declared.limits.TheConstants.{PAYLOAD_MOST}
 use Rattle.sb_types.specs.Limits.{is_delta}
+use Rattle.sb_digest.specs.Limits.{is_digest}
 use Rattle.sb_codec.specs.declared.message.Message.{Message}
-use Rattle.sb_codec.specs.declared.message.Message.TheVariants.{Delta}
-use Rattle.sb_codec.specs.declared.numbers.TheConstants.{KIND_DELTA}
-use Rattle.sb_codec.specs.Spelling.{list, block}
+use Rattle.sb_codec.specs.declared.message.Message.TheVariants.{Hello, Digest, Delta, Bye, Ask, Rows, Put, Done, Refused}
+use Rattle.sb_codec.specs.declared.numbers.TheConstants.{KIND_HELLO, KIND_DIGEST, KIND_DELTA, KIND_BYE, KIND_ASK, KIND_ROWS, KIND_PUT, KIND_DONE, KIND_REFUSED}
+use Rattle.sb_codec.specs.Limits.{is_hello, is_reason, is_ask, is_page, is_write, is_version, is_fault_number}
+use Rattle.std.specs.Int.{w64}
+use Rattle.sb_types.specs.Text.{is_between}
+use Rattle.sb_codec.specs.Spelling.{number, list, block, hello, digest, ask, page, write}
 use Rattle.sb_codec.specs.Fields.{Field, made_at, tagged_at, whole}
-use Rattle.sb_codec.specs.Reading.{delta_at}
+use Rattle.sb_codec.specs.Reading.{delta_at, hello_at, digest_at, bye_at, ask_at, page_at, write_at, done_at, refused_at}
 
 -- the kind, and the body
 unfoldable pub spelling : Message → List ℕ
+spelling (Hello greeting) = KIND_HELLO ∷ hello greeting
+spelling (Digest told) = KIND_DIGEST ∷ digest told
 spelling (Delta blocks) = KIND_DELTA ∷ list block blocks
+spelling (Bye reason) = KIND_BYE ∷ reason ∷ []
+spelling (Ask asked) = KIND_ASK ∷ ask asked
+spelling (Rows rows) = KIND_ROWS ∷ page rows
+spelling (Put wanted) = KIND_PUT ∷ write wanted
+spelling (Done version) = KIND_DONE ∷ number w64 version
+spelling (Refused fault) = KIND_REFUSED ∷ fault ∷ []
 
 abbrev pub is_message : Message → Bool
+is_message (Hello greeting) = is_hello greeting
+is_message (Digest told) = is_digest told
 is_message (Delta blocks) = is_delta blocks
+is_message (Bye reason) = is_reason reason
+is_message (Ask asked) = is_ask asked
+is_message (Rows rows) = is_page rows
+is_message (Put wanted) = is_write wanted
+is_message (Done version) = is_version version
+is_message (Refused fault) = is_fault_number fault
 
 -- the payload is the spelling of the message, and both are within their limits
 pub record Spells (payload : List ℕ) (message : Message) : Type 0 where
@@ -30,7 +50,7 @@ pub record IsSole (payload : List ℕ) (message : Message) : Type 0 where
   pub sole_payload : (other : List ℕ) → Spells other message → other ≡ payload
 
 abbrev pub is_kind : ℕ → Bool
-is_kind kind = kind == KIND_DELTA
+is_kind kind = is_between KIND_HELLO KIND_BYE kind || is_between KIND_ASK KIND_REFUSED kind
 
 -- why a payload that spells no message is refused
 abbrev pub fault_of : List ℕ → Fault
@@ -38,7 +58,17 @@ fault_of [] = UnknownKind 0
 fault_of (kind ∷ body) = if is_kind kind then Malformed kind else UnknownKind kind
 
 abbrev pub message_cases : List (ℕ × Field Message)
-message_cases = (KIND_DELTA, made_at Delta delta_at) ∷ []
+message_cases =
+    (KIND_HELLO, made_at Hello hello_at)
+    ∷ (KIND_DIGEST, made_at Digest digest_at)
+    ∷ (KIND_DELTA, made_at Delta delta_at)
+    ∷ (KIND_BYE, made_at Bye bye_at)
+    ∷ (KIND_ASK, made_at Ask ask_at)
+    ∷ (KIND_ROWS, made_at Rows page_at)
+    ∷ (KIND_PUT, made_at Put write_at)
+    ∷ (KIND_DONE, made_at Done done_at)
+    ∷ (KIND_REFUSED, made_at Refused refused_at)
+    ∷ []
 
 unfoldable pub message_at : Field Message
 message_at = tagged_at message_cases

@@ -1,12 +1,17 @@
 -- The bytes of the parts of a message, one spelling for each.
-use Rattle.std.specs.Prelude.{ℕ, Bool, List, [], ◌∷◌, ◌++◌, length}
+use Rattle.std.specs.Prelude.{ℕ, Bool, List, [], ◌∷◌, ◌++◌, length, Option, Some, None}
 use Rattle.std.specs.List.{flat_map}
 use Rattle.std.specs.Int.{Width, w16, w64, to_be_bytes, from_bool}
+use Rattle.sb_types.specs.declared.entry.Write.{Write}
 use Rattle.sb_types.specs.declared.entry.Slot.{Slot}
 use Rattle.sb_types.specs.declared.entry.Slot.TheVariants.{Set, Removed}
 use Rattle.sb_types.specs.Value.{Value, Addr, Weight, Flag}
 use Rattle.sb_types.specs.Records.{Entry, Block}
 use Rattle.sb_codec.specs.declared.numbers.TheConstants.{TAG_REMOVED, TAG_ADDR, TAG_WEIGHT, TAG_FLAG}
+use Rattle.sb_digest.specs.Digests.{Pair, Digest}
+use Rattle.sb_codec.specs.declared.message.hello.Hello.{Hello}
+use Rattle.sb_codec.specs.declared.message.ask.Ask.{Ask}
+use Rattle.sb_codec.specs.Records.{Row, Rows}
 
 -- a number of the width, high byte first
 unfoldable pub number : Width → ℕ → List ℕ
@@ -35,12 +40,46 @@ content (Weight weight) = number w64 weight
 content (Flag set) = flag set
 
 -- a tag, and what the value holds
+abbrev pub value : Value → List ℕ
+value v = tag_of v ∷ content v
+
 unfoldable pub slot : Slot → List ℕ
 slot Removed = TAG_REMOVED ∷ []
-slot (Set value) = tag_of value ∷ content value
+slot (Set v) = value v
 
 unfoldable pub entry : Entry → List ℕ
 entry e = text e.key ++ (number w64 e.version ++ slot e.slot)
 
 unfoldable pub block : Block → List ℕ
 block b = text b.owner ++ (number w64 b.after ++ list entry b.entries)
+
+unfoldable pub hello : Hello → List ℕ
+hello h = text h.cluster ++ text h.node
+
+unfoldable pub write : Write → List ℕ
+write w = text w.key ++ slot w.slot
+
+-- a text, or the empty one for none
+abbrev pub optional : Option (List ℕ) → List ℕ
+optional None = text []
+optional (Some bytes) = text bytes
+
+unfoldable pub pair : Pair → List ℕ
+pair p = text p.owner ++ number w64 p.held
+
+unfoldable pub digest : Digest → List ℕ
+digest d = flag d.want ++ (optional d.from ++ (optional d.until ++ list pair d.pairs))
+
+-- an owner and a key, or two empty texts for none
+abbrev pub place : Option (List ℕ × List ℕ) → List ℕ
+place None = text [] ++ text []
+place (Some p) = text p.0 ++ text p.1
+
+unfoldable pub ask : Ask → List ℕ
+ask a = optional a.owner ++ (text a.prefix ++ place a.after)
+
+unfoldable pub row : Row → List ℕ
+row r = text r.owner ++ (text r.key ++ (number w64 r.version ++ value r.value))
+
+unfoldable pub page : Rows → List ℕ
+page r = flag r.more ++ list row r.rows

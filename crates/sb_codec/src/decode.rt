@@ -4,24 +4,46 @@ ghost use Rattle.std.specs.Prelude.{◌≡◌, IfOk, Ok};
 ghost use Rattle.sb_types.specs.Faults.{Gives};
 ghost use Rattle.sb_codec.specs.declared.message.Message.{Message};
 ghost use Rattle.sb_codec.specs.Fields.{whole};
-ghost use Rattle.sb_codec.specs.Messages.{Spells, IsSole, fault_of, message_at, reading};
+ghost use Rattle.sb_codec.specs.Messages.{Spells, IsSole, is_kind, fault_of, message_at, reading};
 ghost use Rattle.sb_codec.specs.Refusal.{ReadsWhole};
 
 use crate::fields::Fields;
 use crate::message::Message;
-use crate::numbers::KIND_DELTA;
+use crate::numbers::{
+    KIND_ASK, KIND_BYE, KIND_DELTA, KIND_DIGEST, KIND_DONE, KIND_HELLO, KIND_PUT, KIND_REFUSED,
+    KIND_ROWS,
+};
 use crate::refusal::Refusal;
 use sb_types::Fault;
 use std::alloc::Global;
 
+fn test_kind(kind: u8) -> bool
+    ensures { result ≡ is_kind kind }
+{
+    matches!(
+        kind,
+        KIND_HELLO
+            | KIND_DIGEST
+            | KIND_DELTA
+            | KIND_BYE
+            | KIND_ASK
+            | KIND_ROWS
+            | KIND_PUT
+            | KIND_DONE
+            | KIND_REFUSED
+    )
+}
+
 fn fault(payload: &[u8]) -> Fault
     ensures { result ≡ fault_of payload.now }
 {
-    match payload {
-        [] => Fault::UnknownKind(0),
-        [KIND_DELTA, ..] => Fault::Malformed(KIND_DELTA),
-        [kind, ..] => Fault::UnknownKind(*kind),
+    let [kind, ..] = payload else {
+        return Fault::UnknownKind(0);
+    };
+    if test_kind(*kind) {
+        return Fault::Malformed(*kind);
     }
+    Fault::UnknownKind(*kind)
 }
 
 fn read_whole(alloc: Global, payload: &[u8]) -> Result<Message, Refusal>

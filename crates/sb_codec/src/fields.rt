@@ -4,14 +4,19 @@ ghost use Rattle.std.specs.Prelude.{◌≡◌, ◌==◌, length, IfOk};
 ghost use Rattle.std.specs.Int.{w16, w64};
 ghost use Rattle.sb_codec.specs.Refusal.{Reads};
 ghost use Rattle.sb_codec.specs.Fields.{byte_at, bytes_at, number_at, text_at, list_at, times_at};
-ghost use Rattle.sb_codec.specs.Reading.{name_at, key_at, addr_at, weight_at, flag_at, slot_at, entry_at, block_at, delta_at};
+ghost use Rattle.sb_types.specs.Text.{is_name, is_key};
+ghost use Rattle.sb_codec.specs.Reading.{name_at, key_at, addr_at, weight_at, flag_at, slot_at, entry_at, block_at, delta_at, hello_at, bye_at, write_at, done_at, refused_at, optional_at, pair_at, digest_at, prefix_at, place_at, ask_at, value_at, row_at, page_at};
 ghost use Rattle.sb_codec.specs.Messages.{message_at};
 
-use crate::message::Message;
-use crate::numbers::{KIND_DELTA, TAG_ADDR, TAG_FLAG, TAG_REMOVED, TAG_WEIGHT};
+use crate::message::{Ask, Bye, Done, Hello, Message, Refused, Row, Rows};
+use crate::numbers::{
+    KIND_ASK, KIND_BYE, KIND_DELTA, KIND_DIGEST, KIND_DONE, KIND_HELLO, KIND_PUT, KIND_REFUSED,
+    KIND_ROWS, TAG_ADDR, TAG_FLAG, TAG_REMOVED, TAG_WEIGHT,
+};
 use crate::refusal::Refusal;
 use crate::spelled::Spelled;
-use sb_types::{Block, Delta, Entry, Key, Name, Slot, Value};
+use sb_digest::{Digest, Pair};
+use sb_types::{Block, Delta, Entry, Key, Name, Prefix, Slot, Value, Write};
 use std::alloc::Global;
 use std::marker::Model;
 
@@ -108,6 +113,46 @@ impl<'a> Fields<'a> {
         Ok(Key::read(self.text()?)?)
     }
 
+    #[tactic(auto, unfolding(crate::specs::Reading::prefix_at))]
+    fn prefix(&mut self) -> Result<Prefix, Refusal>
+        ensures { Reads (λ x. x) (prefix_at self.old) result self.new }
+    {
+        Ok(Prefix::read(self.text()?)?)
+    }
+
+    #[tactic(auto, unfolding(crate::specs::Reading::optional_at))]
+    fn optional_name(&mut self) -> Result<Option<Name>, Refusal>
+        ensures { Reads (λ x. x) (optional_at is_name self.old) result self.new }
+    {
+        match self.text()? {
+            [] => Ok(None),
+            text => Ok(Some(Name::read(text)?)),
+        }
+    }
+
+    #[tactic(auto, unfolding(crate::specs::Reading::optional_at))]
+    fn optional_key(&mut self) -> Result<Option<Key>, Refusal>
+        ensures { Reads (λ x. x) (optional_at is_key self.old) result self.new }
+    {
+        match self.text()? {
+            [] => Ok(None),
+            text => Ok(Some(Key::read(text)?)),
+        }
+    }
+
+    #[tactic(auto, unfolding(crate::specs::Reading::place_at))]
+    fn place(&mut self) -> Result<Option<(Name, Key)>, Refusal>
+        ensures { Reads (λ x. x) (place_at self.old) result self.new }
+    {
+        let owner = self.optional_name()?;
+        let key = self.optional_key()?;
+        match (owner, key) {
+            (None, None) => Ok(None),
+            (Some(owner), Some(key)) => Ok(Some((owner, key))),
+            _ => Err(Refusal::Malformed),
+        }
+    }
+
     #[tactic(auto, unfolding(crate::specs::Reading::addr_at))]
     fn addr(&mut self, alloc: Global) -> Result<Value, Refusal>
         ensures { Reads (λ x. x) (addr_at self.old) result self.new }
@@ -129,6 +174,18 @@ impl<'a> Fields<'a> {
         match self.byte()? {
             0 => Ok(false),
             1 => Ok(true),
+            _ => Err(Refusal::Malformed),
+        }
+    }
+
+    #[tactic(auto, unfolding(crate::specs::Reading::value_at))]
+    fn value(&mut self, alloc: Global) -> Result<Value, Refusal>
+        ensures { Reads (λ x. x) (value_at self.old) result self.new }
+    {
+        match self.byte()? {
+            TAG_ADDR => self.addr(alloc),
+            TAG_WEIGHT => self.weight(),
+            TAG_FLAG => Ok(Value::flag(self.flag()?)),
             _ => Err(Refusal::Malformed),
         }
     }
@@ -177,12 +234,113 @@ impl<'a> Fields<'a> {
         Ok(Delta::new(blocks)?)
     }
 
+    #[tactic(auto, unfolding(crate::specs::Reading::hello_at))]
+    fn hello(&mut self) -> Result<Hello, Refusal>
+        ensures { Reads (λ x. x) (hello_at self.old) result self.new }
+    {
+        let cluster = self.name()?;
+        let node = self.name()?;
+        Ok(Hello { cluster, node })
+    }
+
+    #[tactic(auto, unfolding(crate::specs::Reading::pair_at))]
+    pub(crate) fn pair(&mut self) -> Result<Pair, Refusal>
+        ensures { Reads (λ x. x) (pair_at self.old) result self.new }
+    {
+        let owner = self.name()?;
+        let version = self.u64()?;
+        Ok(Pair { owner, version })
+    }
+
+    #[tactic(auto, unfolding(crate::specs::Reading::digest_at))]
+    fn digest(&mut self, alloc: Global) -> Result<Digest, Refusal>
+        ensures { Reads (λ x. x) (digest_at self.old) result self.new }
+    {
+        let want = self.flag()?;
+        let from = self.optional_name()?;
+        let until = self.optional_name()?;
+        let pairs = self.list(alloc)?;
+        Ok(Digest::new(want, from, until, pairs)?)
+    }
+
+    #[tactic(auto, unfolding(crate::specs::Reading::bye_at))]
+    fn bye(&mut self) -> Result<Bye, Refusal>
+        ensures { Reads (λ x. x) (bye_at self.old) result self.new }
+    {
+        Ok(Bye::new(self.byte()?)?)
+    }
+
+    #[tactic(auto, unfolding(crate::specs::Reading::ask_at))]
+    fn ask(&mut self) -> Result<Ask, Refusal>
+        ensures { Reads (λ x. x) (ask_at self.old) result self.new }
+    {
+        let owner = self.optional_name()?;
+        let prefix = self.prefix()?;
+        let after = self.place()?;
+        Ok(Ask {
+            owner,
+            prefix,
+            after,
+        })
+    }
+
+    #[tactic(auto, unfolding(crate::specs::Reading::row_at))]
+    pub(crate) fn row(&mut self, alloc: Global) -> Result<Row, Refusal>
+        ensures { Reads (λ x. x) (row_at self.old) result self.new }
+    {
+        let owner = self.name()?;
+        let key = self.key()?;
+        let version = self.u64()?;
+        let value = self.value(alloc)?;
+        Ok(Row::new(owner, key, version, value)?)
+    }
+
+    #[tactic(auto, unfolding(crate::specs::Reading::page_at))]
+    fn rows(&mut self, alloc: Global) -> Result<Rows, Refusal>
+        ensures { Reads (λ x. x) (page_at self.old) result self.new }
+    {
+        let more = self.flag()?;
+        let rows = self.list(alloc)?;
+        Ok(Rows::new(more, rows)?)
+    }
+
+    #[tactic(auto, unfolding(crate::specs::Reading::write_at))]
+    fn write(&mut self, alloc: Global) -> Result<Write, Refusal>
+        ensures { Reads (λ x. x) (write_at self.old) result self.new }
+    {
+        let key = self.key()?;
+        let slot = self.slot(alloc)?;
+        Ok(Write { key, slot })
+    }
+
+    #[tactic(auto, unfolding(crate::specs::Reading::done_at))]
+    fn done(&mut self) -> Result<Done, Refusal>
+        ensures { Reads (λ x. x) (done_at self.old) result self.new }
+    {
+        Ok(Done::new(self.u64()?)?)
+    }
+
+    #[tactic(auto, unfolding(crate::specs::Reading::refused_at))]
+    fn refused(&mut self) -> Result<Refused, Refusal>
+        ensures { Reads (λ x. x) (refused_at self.old) result self.new }
+    {
+        Ok(Refused::new(self.byte()?)?)
+    }
+
     #[tactic(auto, unfolding(crate::specs::Messages::message_at))]
     pub(crate) fn message(&mut self, alloc: Global) -> Result<Message, Refusal>
         ensures { Reads (λ x. x) (message_at self.old) result self.new }
     {
         match self.byte()? {
+            KIND_HELLO => Ok(Message::Hello(self.hello()?)),
+            KIND_DIGEST => Ok(Message::Digest(self.digest(alloc)?)),
             KIND_DELTA => Ok(Message::Delta(self.delta(alloc)?)),
+            KIND_BYE => Ok(Message::Bye(self.bye()?)),
+            KIND_ASK => Ok(Message::Ask(self.ask()?)),
+            KIND_ROWS => Ok(Message::Rows(self.rows(alloc)?)),
+            KIND_PUT => Ok(Message::Put(self.write(alloc)?)),
+            KIND_DONE => Ok(Message::Done(self.done()?)),
+            KIND_REFUSED => Ok(Message::Refused(self.refused()?)),
             _ => Err(Refusal::Malformed),
         }
     }

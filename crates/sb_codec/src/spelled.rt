@@ -1,8 +1,10 @@
 //! What counted lists hold.
 
 use crate::fields::Fields;
+use crate::message::Row;
 use crate::refusal::Refusal;
-use crate::writing::{write_block, write_entry};
+use crate::writing::{write_block, write_entry, write_pair, write_row};
+use sb_digest::Pair;
 use sb_types::{Block, Entry};
 use std::alloc::{AllocError, Global};
 
@@ -77,5 +79,55 @@ impl Spelled for Block {
 
     fn write(&self, out: &mut Vec<u8>) -> Result<(), AllocError> {
         write_block(out, self)
+    }
+}
+
+impl Spelled for Pair {
+    ghost use Rattle.std.specs.Prelude.{◌<◌};
+    ghost use Rattle.std.proofs.Common.{lit<};
+    ghost use Rattle.sb_codec.specs.Spelling.{pair};
+    ghost use Rattle.sb_codec.specs.Reading.{pair_at};
+
+    ghost spelling = { pair };
+
+    ghost field = { pair_at };
+
+    ghost LEAST = { 10 };
+
+    const LEAST: usize = 10;
+
+    ghost least = { lit< tt };
+
+    fn read(_: Global, fields: &mut Fields<'_>) -> Result<Pair, Refusal> {
+        fields.pair()
+    }
+
+    fn write(&self, out: &mut Vec<u8>) -> Result<(), AllocError> {
+        write_pair(out, self)
+    }
+}
+
+impl Spelled for Row {
+    ghost use Rattle.std.specs.Prelude.{◌<◌};
+    ghost use Rattle.std.proofs.Common.{lit<};
+    ghost use Rattle.sb_codec.specs.Spelling.{row};
+    ghost use Rattle.sb_codec.specs.Reading.{row_at};
+
+    ghost spelling = { row };
+
+    ghost field = { row_at };
+
+    ghost LEAST = { 14 };
+
+    const LEAST: usize = 14;
+
+    ghost least = { lit< tt };
+
+    fn read(alloc: Global, fields: &mut Fields<'_>) -> Result<Row, Refusal> {
+        fields.row(alloc)
+    }
+
+    fn write(&self, out: &mut Vec<u8>) -> Result<(), AllocError> {
+        write_row(out, self)
     }
 }

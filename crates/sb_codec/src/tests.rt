@@ -1,5 +1,6 @@
 use super::*;
-use sb_types::{Block, Delta, Entry, Fault, Key, Name, Slot, Value};
+use sb_digest::{Digest, Pair};
+use sb_types::{Block, Delta, Entry, Fault, Key, Name, Prefix, Slot, Value, Write};
 use std::alloc::Global;
 use std::test::Fail;
 
@@ -14,6 +15,28 @@ const EVERY_SLOT: &str = "03 0001 026e31 0000000000000000 0004 \
     0162 0000000000000002 01 03683a31 \
     0163 0000000000000003 03 00 \
     0164 0000000000000104 03 01";
+
+const HELLO: &str = "01 02 63 31 01 61";
+
+/// Of a node a that holds only itself, an answer wanted.
+const DIGEST: &str = "02 01 00 00 0001 01 61 0000000000000000";
+
+const DIGEST_OF_A_RANGE: &str = "02 00 0162 0164 0002 0162 0000000000000005 0163 0000000000000007";
+
+const BYE: &str = "04 01";
+
+const ASK: &str = "10 00 00 00 00";
+
+/// For the keys of a that begin with w/, behind its key w.
+const ASK_BEHIND: &str = "10 0161 02772f 0161 0177";
+
+const ROWS: &str = "11 00 0001 01 61 01 77 0000000000000001 02 0000000000000005";
+
+const PUT: &str = "12 01 77 02 0000000000000005";
+
+const DONE: &str = "13 0000000000000001";
+
+const REFUSED: &str = "14 0d";
 
 /// The bytes that hexadecimal words stand for; nothing where memory runs out.
 fn bytes(alloc: Global, words: &str) -> Option<Vec<u8>> {
@@ -33,6 +56,39 @@ fn one_entry(alloc: Global) -> Result<Message, Fault> {
     Ok(Message::Delta(Delta::new(vec![in alloc; block]?)?))
 }
 
+/// Whether the words are the payload of what they are read as.
+fn again(alloc: Global, words: &str) -> Result<bool, Fault> {
+    let expected = bytes(alloc, words).ok_or(Fault::NoMemory)?;
+    Ok(encode_payload(alloc, &decode_payload(alloc, &expected)?)? == expected)
+}
+
+/// Whether the words are the payload of the message, and are read as it.
+fn is_payload(alloc: Global, message: &Message, words: &str) -> Result<bool, Fault> {
+    let expected = bytes(alloc, words).ok_or(Fault::NoMemory)?;
+    Ok(encode_payload(alloc, message)? == expected && again(alloc, words)?)
+}
+
+/// Why the words are no payload.
+fn fault_of(alloc: Global, words: &str) -> Option<Fault> {
+    decode_payload(alloc, &bytes(alloc, words)?).err()
+}
+
+fn pair(owner: &[u8], version: u64) -> Result<Pair, Fault> {
+    Ok(Pair {
+        owner: Name::read(owner)?,
+        version,
+    })
+}
+
+fn row(owner: &[u8], version: u64) -> Result<Row, Fault> {
+    Row::new(
+        Name::read(owner)?,
+        Key::read(b"w")?,
+        version,
+        Value::weight(5)?,
+    )
+}
+
 #[test]
 fn the_payload_of_a_delta(rt: HostRuntime) -> Result<(), Fail> {
     let alloc = rt.alloc();
@@ -40,7 +96,9 @@ fn the_payload_of_a_delta(rt: HostRuntime) -> Result<(), Fail> {
     assert_eq!(rt; expected.len(), 34);
     let payload = encode_payload(alloc, &one_entry(alloc)?)?;
     assert_eq!(rt; payload.as_slice(), expected.as_slice());
-    let Message::Delta(delta) = decode_payload(alloc, &expected)?;
+    let Message::Delta(delta) = decode_payload(alloc, &expected)? else {
+        return Err("another kind".into());
+    };
     assert_eq!(rt; delta.blocks().len(), 1);
     for block in delta.blocks() {
         assert_eq!(rt; block.owner().bytes(), b"a".as_slice());
@@ -64,7 +122,9 @@ fn the_payload_of_an_empty_delta(rt: HostRuntime) -> Result<(), Fail> {
         encode_payload(alloc, &empty)?.as_slice(),
         expected.as_slice()
     );
-    let Message::Delta(delta) = decode_payload(alloc, &expected)?;
+    let Message::Delta(delta) = decode_payload(alloc, &expected)? else {
+        return Err("another kind".into());
+    };
     assert!(rt; delta.blocks().is_empty());
     Ok(())
 }
@@ -141,6 +201,162 @@ fn payloads_that_break_the_format(rt: HostRuntime) -> Result<(), Fail> {
     Ok(())
 }
 
+#[test]
+fn the_payload_of_each_other_kind(rt: HostRuntime) -> Result<(), Fail> {
+    let alloc = rt.alloc();
+    let a = Name::read(b"a")?;
+    let w = Key::read(b"w")?;
+    let hello = Hello {
+        cluster: Name::read(b"c1")?,
+        node: a,
+    };
+    assert!(rt; is_payload(alloc, &Message::Hello(hello), HELLO)?);
+    let digest = Digest::new(true, None, None, vec![in alloc; pair(b"a", 0)?]?)?;
+    assert!(rt; is_payload(alloc, &Message::Digest(digest), DIGEST)?);
+    let (from, until) = (Some(Name::read(b"b")?), Some(Name::read(b"d")?));
+    let pairs = vec![in alloc; pair(b"b", 5)?, pair(b"c", 7)?]?;
+    let digest = Digest::new(false, from, until, pairs)?;
+    assert!(rt; is_payload(alloc, &Message::Digest(digest), DIGEST_OF_A_RANGE)?);
+    assert!(rt; is_payload(alloc, &Message::Bye(Bye::new(1)?), BYE)?);
+    let ask = Ask {
+        owner: None,
+        prefix: Prefix::read(b"")?,
+        after: None,
+    };
+    assert!(rt; is_payload(alloc, &Message::Ask(ask), ASK)?);
+    let ask = Ask {
+        owner: Some(a),
+        prefix: Prefix::read(b"w/")?,
+        after: Some((a, w)),
+    };
+    assert!(rt; is_payload(alloc, &Message::Ask(ask), ASK_BEHIND)?);
+    let rows = Rows::new(false, vec![in alloc; row(b"a", 1)?]?)?;
+    assert!(rt; is_payload(alloc, &Message::Rows(rows), ROWS)?);
+    let put = Write {
+        key: w,
+        slot: Slot::Set(Value::weight(5)?),
+    };
+    assert!(rt; is_payload(alloc, &Message::Put(put), PUT)?);
+    assert!(rt; is_payload(alloc, &Message::Done(Done::new(1)?), DONE)?);
+    assert!(rt; is_payload(alloc, &Message::Refused(Refused::new(13)?), REFUSED)?);
+    Ok(())
+}
+
+#[test]
+fn what_messages_say(rt: HostRuntime) -> Result<(), Fail> {
+    let alloc = rt.alloc();
+    assert_eq!(rt; Bye::new(5)?.reason(), 5);
+    assert_eq!(rt; Done::new(7)?.version(), 7);
+    assert_eq!(rt; Refused::new(30)?.number(), 30);
+    assert_eq!(rt; Refused::new(31)?.number(), 31);
+    let rows = Rows::new(true, vec![in alloc; row(b"a", 3)?, row(b"b", 1)?]?)?;
+    assert!(rt; rows.more());
+    assert_eq!(rt; rows.encoded_length(), 46);
+    let [first, _] = rows.rows() else {
+        return Err("not two rows".into());
+    };
+    assert_eq!(rt; first.owner().bytes(), b"a".as_slice());
+    assert_eq!(rt; first.key().bytes(), b"w".as_slice());
+    assert_eq!(rt; first.version(), 3);
+    assert_eq!(rt; first.value().as_weight(), Some(5));
+    assert_eq!(rt; first.encoded_length(), 21);
+    Ok(())
+}
+
+#[test]
+fn payloads_of_other_kinds_that_break_the_format(rt: HostRuntime) {
+    let alloc = rt.alloc();
+    let wrong = [
+        // a cluster of 33 bytes; no node; a node with a capital
+        (
+            0x01,
+            "01 21 616161616161616161616161616161616161616161616161616161616161616161 0161",
+        ),
+        (0x01, "01 026331"),
+        (0x01, "01 026331 0141"),
+        // want 2; a pair at until; above it; below from; bounds that are equal; owners twice, descending
+        (0x02, "02 02 00 00 0000"),
+        (0x02, "02 00 00 0162 0001 0162 0000000000000000"),
+        (0x02, "02 00 00 0162 0001 0163 0000000000000000"),
+        (0x02, "02 00 0162 00 0001 0161 0000000000000000"),
+        (0x02, "02 00 0162 0162 0000"),
+        (
+            0x02,
+            "02 00 00 00 0002 0161 0000000000000000 0161 0000000000000000",
+        ),
+        (
+            0x02,
+            "02 00 00 00 0002 0162 0000000000000000 0161 0000000000000000",
+        ),
+        // the reasons 0 and 6; none
+        (0x04, "04 00"),
+        (0x04, "04 06"),
+        (0x04, "04"),
+        // an owner with no key; a key with no owner; an owner, a prefix and a key with a capital
+        (0x10, "10 00 00 0161 00"),
+        (0x10, "10 00 00 00 0177"),
+        (0x10, "10 0141 00 00 00"),
+        (0x10, "10 00 0141 00 00"),
+        (0x10, "10 00 00 0161 0141"),
+        // more is 2; a version of 0; the tag 0; owners b, then a; keys w, then v; w twice
+        (0x11, "11 02 0000"),
+        (0x11, "11 00 0001 0161 0177 0000000000000000 03 00"),
+        (0x11, "11 00 0001 0161 0177 0000000000000001 00"),
+        (
+            0x11,
+            "11 00 0002 0162 0177 0000000000000001 03 00 0161 0177 0000000000000001 03 00",
+        ),
+        (
+            0x11,
+            "11 00 0002 0161 0177 0000000000000001 03 00 0161 0176 0000000000000001 03 00",
+        ),
+        (
+            0x11,
+            "11 00 0002 0161 0177 0000000000000001 03 00 0161 0177 0000000000000002 03 00",
+        ),
+        // a flag of 2; an empty key; the tag 4
+        (0x12, "12 0177 03 02"),
+        (0x12, "12 00 00"),
+        (0x12, "12 0177 04"),
+        // the version 0; the numbers 0 and 32
+        (0x13, "13 0000000000000000"),
+        (0x14, "14 00"),
+        (0x14, "14 20"),
+        // one more byte
+        (0x01, "01 026331 0161 00"),
+        (0x02, "02 01 00 00 0001 0161 0000000000000000 00"),
+        (0x04, "04 01 00"),
+        (0x10, "10 00 00 00 00 00"),
+        (
+            0x11,
+            "11 00 0001 0161 0177 0000000000000001 02 0000000000000005 00",
+        ),
+        (0x12, "12 0177 02 0000000000000005 00"),
+        (0x13, "13 0000000000000001 00"),
+        (0x14, "14 0d 00"),
+    ];
+    for (kind, words) in wrong {
+        assert_eq!(rt;
+            fault_of(alloc, words),
+            Some(Fault::Malformed(kind)),
+            "{words}"
+        );
+    }
+    for (kind, words) in [
+        (0x00, "00"),
+        (0x05, "05 01"),
+        (0x0f, "0f"),
+        (0x15, "15 01"),
+        (0xff, "ff"),
+    ] {
+        assert_eq!(rt;
+            fault_of(alloc, words),
+            Some(Fault::UnknownKind(kind)),
+            "{words}"
+        );
+    }
+}
+
 /// Passes with any one allocation refused: each call then gives `NoMemory`, or what it gives with memory.
 #[test]
 fn refused_allocations(rt: HostRuntime) {
@@ -155,8 +371,20 @@ fn refused_allocations(rt: HostRuntime) {
         },
         Err(fault) => assert_eq!(rt; fault, Fault::NoMemory),
     }
-    match decode_payload(alloc, &expected) {
-        Ok(Message::Delta(delta)) => assert_eq!(rt; delta.encoded_length(), 34),
-        Err(fault) => assert_eq!(rt; fault, Fault::NoMemory),
+    for words in [
+        ONE_ENTRY,
+        HELLO,
+        DIGEST_OF_A_RANGE,
+        BYE,
+        ASK_BEHIND,
+        ROWS,
+        PUT,
+        DONE,
+        REFUSED,
+    ] {
+        match again(alloc, words) {
+            Ok(same) => assert!(rt; same, "{words}"),
+            Err(fault) => assert_eq!(rt; fault, Fault::NoMemory, "{words}"),
+        }
     }
 }

@@ -1,12 +1,16 @@
 //! The parts of a message, written.
 
-ghost use Rattle.std.specs.Prelude.{◌≡◌, ◌<◌, ◌++◌, ◌∷◌, length, OnOk};
+ghost use Rattle.std.specs.Prelude.{◌≡◌, ◌<◌, ◌++◌, length, true, OnOk};
 ghost use Rattle.std.specs.Int.{w16, w64};
-ghost use Rattle.sb_codec.specs.Spelling.{number, text, list, flag, tag_of, content, slot, entry, block};
+ghost use Rattle.sb_types.specs.Text.{is_name};
+ghost use Rattle.sb_codec.specs.Limits.{is_optional, is_place};
+ghost use Rattle.sb_codec.specs.Spelling.{number, text, list, flag, value, slot, entry, block, optional, pair, place, row};
 
+use crate::message::Row;
 use crate::numbers::{TAG_ADDR, TAG_FLAG, TAG_REMOVED, TAG_WEIGHT};
 use crate::spelled::Spelled;
-use sb_types::{Block, Entry, Slot, Value};
+use sb_digest::Pair;
+use sb_types::{Block, Entry, Key, Name, Slot, Value};
 use std::alloc::AllocError;
 
 #[tactic(auto, unfolding(crate::specs::Spelling::number))]
@@ -17,13 +21,13 @@ fn write_u16(out: &mut Vec<u8>, count: u16) -> Result<(), AllocError>
 }
 
 #[tactic(auto, unfolding(crate::specs::Spelling::number))]
-fn write_u64(out: &mut Vec<u8>, n: u64) -> Result<(), AllocError>
+pub(crate) fn write_u64(out: &mut Vec<u8>, n: u64) -> Result<(), AllocError>
     ensures { OnOk result (out.new.items ≡ out.old.items ++ number w64 n) }
 {
     out.extend_from_slice(&n.to_be_bytes())
 }
 
-fn write_text(out: &mut Vec<u8>, bytes: &[u8]) -> Result<(), AllocError>
+pub(crate) fn write_text(out: &mut Vec<u8>, bytes: &[u8]) -> Result<(), AllocError>
     requires { length bytes.now < 256 }
     ensures { OnOk result (out.new.items ≡ out.old.items ++ text bytes.now) }
 {
@@ -31,29 +35,29 @@ fn write_text(out: &mut Vec<u8>, bytes: &[u8]) -> Result<(), AllocError>
     out.extend_from_slice(bytes)
 }
 
-fn write_flag(out: &mut Vec<u8>, set: bool) -> Result<(), AllocError>
+pub(crate) fn write_flag(out: &mut Vec<u8>, set: bool) -> Result<(), AllocError>
     ensures { OnOk result (out.new.items ≡ out.old.items ++ flag set) }
 {
     Ok(out.push(u8::from(set))?)
 }
 
-fn write_value(out: &mut Vec<u8>, value: &Value) -> Result<(), AllocError>
-    ensures { OnOk result (out.new.items ≡ out.old.items ++ tag_of value.now ∷ content value.now) }
+fn write_value(out: &mut Vec<u8>, written: &Value) -> Result<(), AllocError>
+    ensures { OnOk result (out.new.items ≡ out.old.items ++ value written.now) }
 {
-    if let Some(bytes) = value.as_addr() {
+    if let Some(bytes) = written.as_addr() {
         out.push(TAG_ADDR)?;
         return write_text(out, bytes);
     }
-    if let Some(weight) = value.as_weight() {
+    if let Some(weight) = written.as_weight() {
         out.push(TAG_WEIGHT)?;
         return write_u64(out, weight);
     }
     out.push(TAG_FLAG)?;
-    write_flag(out, value.as_flag() == Some(true))
+    write_flag(out, written.as_flag() == Some(true))
 }
 
 #[tactic(auto, unfolding(crate::specs::Spelling::slot))]
-fn write_slot(out: &mut Vec<u8>, value: &Slot) -> Result<(), AllocError>
+pub(crate) fn write_slot(out: &mut Vec<u8>, value: &Slot) -> Result<(), AllocError>
     ensures { OnOk result (out.new.items ≡ out.old.items ++ slot value.now) }
 {
     match value {
@@ -90,4 +94,43 @@ pub(crate) fn write_list<T: Spelled>(out: &mut Vec<u8>, items: &[T]) -> Result<(
         item.write(out)?;
     }
     Ok(())
+}
+
+pub(crate) fn write_optional_name(out: &mut Vec<u8>, name: Option<Name>) -> Result<(), AllocError>
+    ensures written { OnOk result (out.new.items ≡ out.old.items ++ optional name) }
+    ensures name { is_optional is_name name ≡ true }
+{
+    match name {
+        None => write_text(out, &[]),
+        Some(name) => write_text(out, name.bytes()),
+    }
+}
+
+pub(crate) fn write_place(out: &mut Vec<u8>, after: Option<(Name, Key)>) -> Result<(), AllocError>
+    ensures written { OnOk result (out.new.items ≡ out.old.items ++ place after) }
+    ensures place { is_optional is_place after ≡ true }
+{
+    let Some((owner, key)) = after else {
+        return out.extend_from_slice(&[0, 0]);
+    };
+    write_text(out, owner.bytes())?;
+    write_text(out, key.bytes())
+}
+
+#[tactic(auto, unfolding(crate::specs::Spelling::pair))]
+pub(crate) fn write_pair(out: &mut Vec<u8>, written: &Pair) -> Result<(), AllocError>
+    ensures { OnOk result (out.new.items ≡ out.old.items ++ pair written.now) }
+{
+    write_text(out, written.owner.bytes())?;
+    write_u64(out, written.version)
+}
+
+#[tactic(auto, unfolding(crate::specs::Spelling::row))]
+pub(crate) fn write_row(out: &mut Vec<u8>, written: &Row) -> Result<(), AllocError>
+    ensures { OnOk result (out.new.items ≡ out.old.items ++ row written.now) }
+{
+    write_text(out, written.owner().bytes())?;
+    write_text(out, written.key().bytes())?;
+    write_u64(out, written.version())?;
+    write_value(out, written.value())
 }

@@ -1,5 +1,6 @@
 -- What entering an entry in place of its key's does to keys and counts.
 use Rattle.std.proofs.Common.{◌≡◌, ℕ, ◌+◌, ◌<◌, ◌≤◌, Bool, true, false, not, ◌&&◌, List, [], ◌∷◌, ◌++◌, length, filter, nat_eq, nat_le, suc, sym, Some, None, refl, ap, arith, length-append}
+use Rattle.std.proofs.lemmas.Bool.{and_parts, leb-true, not-true}
 use Rattle.std.proofs.lemmas.Bool.Decides.{nat_tests}
 use Rattle.std.proofs.lemmas.Cmp.{nat_list_eq_equiv}
 use Rattle.std.proofs.lemmas.List.Folds.{list_any-append}
@@ -43,6 +44,12 @@ length-without_lt e (x ∷ xs) some = grind (arith, length-without_le e xs, leng
 pub length-entered : (e : Entry) (es : List Entry) (most : ℕ) → length es ≤ most → (not (has_key e.key es) && nat_le most (length es)) ≡ false → length (entered es (e ∷ [])) ≤ most
 length-entered e es most le room =
     grind (arith, nat_tests, length-append (without (e ∷ []) es) (e ∷ []), length-without_lt e es, length-without_le e es)
+
+pub length-entered_full : (e : Entry) (es : List Entry) (most : ℕ) → (not (has_key e.key es) && nat_le most (length es)) ≡ true → most < length (entered es (e ∷ []))
+length-entered_full e es most full =
+    let parts = and_parts (not (has_key e.key es)) (nat_le most (length es)) full in
+    let none = without-none e es (not-true (has_key e.key es) parts.0) in
+    omega (arith, leb-true most (length es) parts.1, length-append (without (e ∷ []) es) (e ∷ []), ap length none)
 
 remove_at : (e : Entry) (es : List Entry) → are_distinct es ≡ true → position_or_len (λ held. pointwise nat_eq held.key e.key) es < length es
     → remove es (position_or_len (λ held. pointwise nat_eq held.key e.key) es) ≡ without (e ∷ []) es

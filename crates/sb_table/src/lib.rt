@@ -8,7 +8,7 @@ mod table;
 
 pub use after::After;
 pub use prefixed::Prefixed;
-pub use table::Table;
+pub use table::{Table, entries_above};
 
 #[cfg(test)]
 mod tests;

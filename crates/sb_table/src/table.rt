@@ -97,7 +97,7 @@ impl Table {
         ensures entries { result ≡ above version self.now.entries }
         ensures table { IsPlainTable self.now }
     {
-        After::new(&self.entries[first_above(&self.entries, version)..])
+        After::new(entries_above(&self.entries, version))
     }
 
     /// The entries under the keys that begin with the prefix, in ascending order of their keys.
@@ -133,6 +133,14 @@ fn enter(entries: &mut Vec<Entry>, entry: Entry) -> Result<(), Fault>
     }
     entries.push(entry)?;
     Ok(())
+}
+
+/// Those above a version, of entries in ascending version.
+pub fn entries_above(entries: &[Entry], version: u64) -> &[Entry]
+    requires { are_ascending 0 entries.now ≡ true }
+    ensures { result.now ≡ above version entries.now }
+{
+    &entries[first_above(entries, version)..]
 }
 
 /// Where the entries above a version begin.

@@ -1,0 +1,27 @@
+//! The order that sends of every owner the first entry, then of every owner the second, and so on.
+#![tactic(auto)]
+
+ghost use Rattle.std.specs.Prelude.{◌≡◌, IfOk, IfErr, IsPermutation, IsSorted};
+ghost use Rattle.sb_budget.specs.Orders.{IsOffer, AscendsByOwner};
+ghost use Rattle.sb_breadth.specs.Breadth.{by_rank};
+
+use sb_budget::{DeltaOrder, Offered};
+use sb_types::Fault;
+use std::alloc::Global;
+
+/// By rank, and of equal rank by the owner's name.
+#[derive(Clone, Copy, Debug)]
+pub struct Breadth;
+
+impl DeltaOrder for Breadth {
+    fn arrange(&self, _alloc: Global, mut items: Vec<Offered>) -> Result<Vec<Offered>, Fault>
+        requires { IsOffer items.items }
+        ensures each_once { IfOk result (λ ordered. IsPermutation items.items ordered.items) }
+        ensures ascending { IfOk result (λ ordered. AscendsByOwner ordered.items) }
+        ensures order { IfOk result (λ ordered. IsSorted by_rank ordered.items) }
+        ensures memory { IfErr result (λ fault. fault ≡ Fault.NoMemory) }
+    {
+        items.sort_unstable_by_key(|item| (item.rank, item.owner));
+        Ok(items)
+    }
+}

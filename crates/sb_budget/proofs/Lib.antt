@@ -1,0 +1,10 @@
+pub mod OfferLemmas
+pub mod OrderLemmas
+pub mod PlaceLemmas
+pub mod NameLemmas
+pub mod GatherLemmas
+pub mod CutLemmas
+pub mod HonestLemmas
+pub mod RankLemmas
+pub mod AvailableLemmas
+pub mod HeldLemmas

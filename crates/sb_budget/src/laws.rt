@@ -1,0 +1,54 @@
+//! What a node offers of its tables.
+
+ghost use Rattle.std.specs.Prelude.{◌≡◌, ℕ, Bool, true, false, List, [], ◌++◌};
+ghost use Rattle.sb_types.specs.declared.entry.Write.{Write};
+ghost use Rattle.sb_types.specs.Records.{Table, Block, Holder};
+ghost use Rattle.sb_types.specs.Runs.{Stands, IsTable, IsBlock};
+ghost use Rattle.sb_types.specs.Writes.{Holds, Honest};
+ghost use Rattle.sb_holdings.specs.Held.{Held, holder_of};
+ghost use Rattle.sb_digest.specs.Digests.{Digest, covers, number};
+ghost use Rattle.sb_budget.specs.Available.{available_for};
+ghost use Rattle.sb_budget.specs.Offers.{Item, of_owner, items_of, block_of, is_named, are_named_once, available};
+ghost use Rattle.sb_budget.specs.Cut.{IsCut};
+
+/// Each block of a front of what is offered of a table that holds is honest.
+pub fn offers_are_honest()
+    ensures offered { (writes : List Write) (t : Table) (number : ℕ) (owner : List ℕ) (front rest : List Item) (first : Item) →
+        IsTable t → Holds writes t → of_owner owner (front ++ rest) ≡ items_of owner t number → Stands (of_owner owner front) first →
+        Honest writes (block_of owner front rest) }
+    ensures is { (t : Table) (number : ℕ) (owner : List ℕ) (front rest : List Item) (first : Item) →
+        IsTable t → of_owner owner (front ++ rest) ≡ items_of owner t number → Stands (of_owner owner front) first →
+        IsBlock (block_of owner front rest) }
+{}
+
+/// Of each covered owner exactly its items are available, in ascending version, and of others none.
+pub fn available_by_owner()
+    ensures covered { (covers : List ℕ → Bool) (number : List ℕ → Table → ℕ) (owners : List (List ℕ × Holder)) (p : List ℕ × Holder) →
+        are_named_once owners ≡ true → Stands owners p → covers p.0 ≡ true →
+        of_owner p.0 (available covers number owners) ≡ items_of p.0 p.1.shown (number p.0 p.1.shown) }
+    ensures others { (covers : List ℕ → Bool) (number : List ℕ → Table → ℕ) (owners : List (List ℕ × Holder)) (owner : List ℕ) →
+        covers owner ≡ false → of_owner owner (available covers number owners) ≡ [] }
+    ensures unknown { (covers : List ℕ → Bool) (number : List ℕ → Table → ℕ) (owners : List (List ℕ × Holder)) (owner : List ℕ) →
+        is_named owner owners ≡ false → of_owner owner (available covers number owners) ≡ [] }
+{}
+
+/// Each block of a cut is honest where what is offered of its owner is what a table that holds has above a
+/// number.
+pub fn cuts_are_honest()
+    ensures honest { (writes : List Write) (t : Table) (number budget : ℕ) (items : List Item) (delta : List Block) (b : Block) →
+        IsTable t → Holds writes t → IsCut budget items delta → Stands delta b → of_owner b.owner items ≡ items_of b.owner t number →
+        Honest writes b }
+    ensures is { (t : Table) (number budget : ℕ) (items : List Item) (delta : List Block) (b : Block) →
+        IsTable t → IsCut budget items delta → Stands delta b → of_owner b.owner items ≡ items_of b.owner t number →
+        IsBlock b }
+{}
+
+/// In answer to a digest, of an owner that it covers all that is held above its number is available, and of
+/// another nothing.
+pub fn available_by_number()
+    ensures covered { (held : Held) (digest : Digest) (owner : List ℕ) →
+        covers digest owner ≡ true →
+        of_owner owner (available_for held digest) ≡ items_of owner (holder_of held.owners owner).shown (number digest owner) }
+    ensures others { (held : Held) (digest : Digest) (owner : List ℕ) →
+        covers digest owner ≡ false → of_owner owner (available_for held digest) ≡ [] }
+{}

@@ -1,0 +1,16 @@
+use sb_types::{Entry, Name};
+
+/// An entry that a peer lacks, with what its place among others is told by.
+#[derive(Debug, Drop)]
+pub struct Offered {
+    pub owner: Name,
+    /// The version up to which the peer holds the owner's writes.
+    pub after: u64,
+    /// The version up to which the sender holds them.
+    pub upto: u64,
+    /// How many of the owner's offered entries have a smaller version.
+    pub rank: u64,
+    /// How many of the owner's entries are offered.
+    pub count: u64,
+    pub entry: Entry,
+}

@@ -1,0 +1,138 @@
+-- How long spellings are.
+use Rattle.std.proofs.Common.{◌≡◌, ℕ, ◌+◌, ◌≤◌, Bool, true, ◌&&◌, List, [], ◌∷◌, ◌++◌, length, Option, Some, None, refl, arith, length-append}
+use Rattle.std.specs.Prelude.{nat_le, sum_by}
+use Rattle.std.specs.List.{flat_map, list_all}
+use Rattle.std.specs.Int.{w16, w64}
+use Rattle.std.proofs.lemmas.Bool.{and_parts, leb-true}
+use Rattle.std.proofs.lemmas.List.Sums.{sum_by-cons}
+use Rattle.sb_types.specs.declared.entry.Slot.{Slot}
+use Rattle.sb_types.specs.declared.entry.Slot.TheVariants.{Set, Removed}
+use Rattle.sb_types.specs.declared.limits.TheConstants.{NAME_MOST, KEY_MOST, ADDR_MOST, PAYLOAD_MOST}
+use Rattle.sb_types.specs.Text.{is_between, is_name_byte, is_key_byte, is_addr_byte, is_name, is_key, is_prefix, is_addr}
+use Rattle.sb_types.specs.Value.{Value, Addr, Weight, Flag}
+use Rattle.sb_types.specs.Records.{Entry, Block}
+use Rattle.sb_types.specs.Lengths.{value_length, slot_length, entry_length, block_length}
+use Rattle.sb_digest.specs.Digests as digests
+use Rattle.sb_digest.specs.Lengths.{bound_length, pair_length, digest_length}
+use Rattle.sb_codec.specs.Records as records
+use Rattle.sb_codec.specs.Lengths.{row_length, rows_length}
+use Rattle.sb_codec.specs.Limits.{is_optional, is_place}
+use Rattle.sb_types.specs.Limits.{is_slot, is_delta}
+use Rattle.sb_codec.specs.declared.message.Message.{Message}
+use Rattle.sb_codec.specs.declared.message.Message.TheVariants.{Hello, Digest, Delta, Bye, Ask, Rows, Put, Done, Refused}
+use Rattle.sb_codec.specs.Spelling.{number, text, list, flag, content, value, slot, entry, block, optional, hello, pair, digest, place, ask, row, page, write}
+use Rattle.sb_codec.specs.Messages.{spelling, is_message}
+use Rattle.sb_codec.proofs.Parts.{between_parts, delta_parts}
+use Rattle.sb_codec.proofs.Bodies.{digest_within, page_within}
+
+length-number16 : (n : ℕ) → length (number w16 n) ≡ 2
+unfolding number
+length-number16 n = refl
+
+length-number64 : (n : ℕ) → length (number w64 n) ≡ 8
+unfolding number
+length-number64 n = refl
+
+slot-length : (s : Slot) → length (slot s) ≡ 1 + slot_length s
+unfolding slot content number
+slot-length Removed = refl
+slot-length (Set (Addr t)) = omega arith
+slot-length (Set (Weight n)) = refl
+slot-length (Set (Flag b)) = refl
+
+entry-length : (e : Entry) → length (entry e) ≡ entry_length e
+unfolding entry
+entry-length e = omega (arith, length-append (text e.key) (number w64 e.version ++ slot e.slot), length-append (number w64 e.version) (slot e.slot), length-number64 e.version, slot-length e.slot)
+
+length-all : {A : Type 0} (f : A → List ℕ) (size : A → ℕ) → ((x : A) → length (f x) ≡ size x) → (xs : List A) → length (flat_map f xs) ≡ sum_by size xs
+length-all f size each [] = refl
+length-all f size each (x ∷ xs) = rw sum_by-cons (omega (arith, length-append (f x) (flat_map f xs), each x, length-all f size each xs))
+
+length-list : {A : Type 0} (f : A → List ℕ) (size : A → ℕ) → ((x : A) → length (f x) ≡ size x) → (xs : List A) → length (list f xs) ≡ 2 + sum_by size xs
+length-list f size each xs = omega (arith, length-append (number w16 (length xs)) (flat_map f xs), length-number16 (length xs), length-all f size each xs)
+
+block-length : (b : Block) → length (block b) ≡ block_length b
+unfolding block
+block-length b = omega (arith, length-append (text b.owner) (number w64 b.after ++ list entry b.entries), length-append (number w64 b.after) (list entry b.entries), length-number64 b.after, length-list entry entry_length entry-length b.entries)
+
+optional-length : (t : Option (List ℕ)) → length (optional t) ≡ bound_length t
+optional-length None = refl
+optional-length (Some t) = omega arith
+
+pair-length : (p : digests.Pair) → length (pair p) ≡ pair_length p
+unfolding pair
+pair-length p = omega (arith, length-append (text p.owner) (number w64 p.held), length-number64 p.held)
+
+digest-length : (d : digests.Digest) → 1 + length (digest d) ≡ digest_length d
+unfolding digest
+digest-length d =
+    omega
+    (arith, length-append (optional d.from) (optional d.until ++ list pair d.pairs), length-append (optional d.until) (list pair d.pairs), optional-length d.from, optional-length d.until, length-list pair pair_length pair-length d.pairs)
+
+value-length : (v : Value) → length (value v) ≡ 1 + value_length v
+unfolding content number
+value-length (Addr t) = omega arith
+value-length (Weight n) = refl
+value-length (Flag b) = refl
+
+row-length : (r : records.Row) → length (row r) ≡ row_length r
+unfolding row
+row-length r =
+    omega
+    (arith, length-append (text r.owner) (text r.key ++ (number w64 r.version ++ value r.value)), length-append (text r.key) (number w64 r.version ++ value r.value), length-append (number w64 r.version) (value r.value), length-number64 r.version, value-length r.value)
+
+page-length : (p : records.Rows) → 1 + length (page p) ≡ rows_length p.rows
+unfolding page
+page-length p = omega (arith, length-list row row_length row-length p.rows)
+
+-- ---- the longest of each
+
+name-most : (t : List ℕ) → is_name t ≡ true → length t ≤ 32
+name-most t fits = (between_parts 1 NAME_MOST (length t) (and_parts (is_between 1 NAME_MOST (length t)) (list_all is_name_byte t) fits).0).1
+
+key-most : (t : List ℕ) → is_key t ≡ true → length t ≤ 64
+key-most t fits = (between_parts 1 KEY_MOST (length t) (and_parts (is_between 1 KEY_MOST (length t)) (list_all is_key_byte t) fits).0).1
+
+addr-most : (t : List ℕ) → is_addr t ≡ true → length t ≤ 128
+addr-most t fits = (between_parts 1 ADDR_MOST (length t) (and_parts (is_between 1 ADDR_MOST (length t)) (list_all is_addr_byte t) fits).0).1
+
+slot-most : (s : Slot) → is_slot s ≡ true → slot_length s ≤ 129
+slot-most Removed fits = omega arith
+slot-most (Set (Addr t)) fits = omega (arith, addr-most t fits)
+slot-most (Set (Weight n)) fits = omega arith
+slot-most (Set (Flag b)) fits = omega arith
+
+prefix-most : (t : List ℕ) → is_prefix t ≡ true → length t ≤ 64
+prefix-most t fits = leb-true (length t) KEY_MOST (and_parts (nat_le (length t) KEY_MOST) (list_all is_key_byte t) fits).0
+
+optional-most : (t : Option (List ℕ)) → is_optional is_name t ≡ true → length (optional t) ≤ 33
+optional-most None fits = omega arith
+optional-most (Some t) fits = omega (arith, name-most t fits)
+
+place-most : (p : Option (List ℕ × List ℕ)) → is_optional is_place p ≡ true → length (place p) ≤ 98
+place-most None fits = omega arith
+place-most (Some p) fits =
+    let parts = and_parts (is_name p.0) (is_key p.1) fits in
+    omega (arith, length-append (text p.0) (text p.1), name-most p.0 parts.0, key-most p.1 parts.1)
+
+pub spelling-most : (m : Message) → is_message m ≡ true → length (spelling m) ≤ PAYLOAD_MOST
+unfolding spelling hello ask write
+spelling-most (Hello h) fits =
+    let parts = and_parts (is_name h.cluster) (is_name h.node) fits in
+    omega (arith, length-append (text h.cluster) (text h.node), name-most h.cluster parts.0, name-most h.node parts.1)
+spelling-most (Digest d) fits = omega (arith, digest-length d, digest_within d fits)
+spelling-most (Delta blocks) fits =
+    let within = (delta_parts blocks fits).2 in
+    omega (arith, length-list block block_length block-length blocks)
+spelling-most (Bye reason) fits = omega arith
+spelling-most (Ask a) fits =
+    let after = and_parts (is_optional is_name a.owner && is_prefix a.prefix) (is_optional is_place a.after) fits in
+    let parts = and_parts (is_optional is_name a.owner) (is_prefix a.prefix) after.0 in
+    omega
+    (arith, length-append (optional a.owner) (text a.prefix ++ place a.after), length-append (text a.prefix) (place a.after), optional-most a.owner parts.0, prefix-most a.prefix parts.1, place-most a.after after.1)
+spelling-most (Rows p) fits = omega (arith, page-length p, page_within p fits)
+spelling-most (Put w) fits =
+    let parts = and_parts (is_key w.key) (is_slot w.slot) fits in
+    omega (arith, length-append (text w.key) (slot w.slot), slot-length w.slot, key-most w.key parts.0, slot-most w.slot parts.1)
+spelling-most (Done version) fits = omega (arith, length-number64 version)
+spelling-most (Refused fault) fits = omega arith

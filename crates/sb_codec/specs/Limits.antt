@@ -1,0 +1,57 @@
+-- Which parts make a message.
+use Rattle.std.specs.Prelude.{ℕ, ◌-◌, ◌^◌, Bool, true, ◌&&◌, nat_le, List, [], ◌∷◌, Option, Some, None}
+use Rattle.std.specs.List.{list_all}
+use Rattle.std.specs.Ordering.{nat_cmp, is_lt, ordering_then}
+use Rattle.std.specs.Cmp.Lexicographic.{slice_cmp}
+use Rattle.sb_types.specs.declared.entry.Write.{Write}
+use Rattle.sb_types.specs.declared.limits.TheConstants.{PAYLOAD_MOST}
+use Rattle.sb_types.specs.Text.{is_between, is_name, is_key, is_prefix}
+use Rattle.sb_types.specs.Value.{is_value}
+use Rattle.sb_types.specs.Limits.{is_slot}
+use Rattle.sb_codec.specs.declared.numbers.TheConstants.{REASON_MOST, FAULT_NUMBER_MOST}
+use Rattle.sb_codec.specs.declared.message.hello.Hello.{Hello}
+use Rattle.sb_codec.specs.declared.message.ask.Ask.{Ask}
+use Rattle.sb_codec.specs.Records.{Row, Rows}
+use Rattle.sb_codec.specs.Lengths.{rows_length}
+
+abbrev pub is_hello : Hello → Bool
+is_hello hello = is_name hello.cluster && is_name hello.node
+
+abbrev pub is_reason : ℕ → Bool
+is_reason reason = is_between 1 REASON_MOST reason
+
+abbrev pub is_write : Write → Bool
+is_write write = is_key write.key && is_slot write.slot
+
+abbrev pub is_version : ℕ → Bool
+is_version version = is_between 1 (2 ^ 64 - 1) version
+
+abbrev pub is_fault_number : ℕ → Bool
+is_fault_number number = is_between 1 FAULT_NUMBER_MOST number
+
+-- nothing, or what passes the test
+abbrev pub is_optional : {A : Type 0} → (A → Bool) → Option A → Bool
+is_optional test None = true
+is_optional test (Some x) = test x
+
+-- an owner and a key
+abbrev pub is_place : List ℕ × List ℕ → Bool
+is_place place = is_name place.0 && is_key place.1
+
+abbrev pub is_ask : Ask → Bool
+is_ask ask = is_optional is_name ask.owner && is_prefix ask.prefix && is_optional is_place ask.after
+
+abbrev pub is_row : Row → Bool
+is_row row = is_name row.owner && is_key row.key && is_version row.version && is_value row.value
+
+-- each row is behind the one before, by owner and then by key, and the first behind these two
+abbrev pub are_rows_above : List ℕ → List ℕ → List Row → Bool
+are_rows_above owner key [] = true
+are_rows_above owner key (r ∷ rs) = is_lt (ordering_then (slice_cmp nat_cmp owner r.owner) (slice_cmp nat_cmp key r.key)) && are_rows_above r.owner r.key rs
+
+-- rows ascend, and the payload is within its limit (no name is empty, so that each is behind the empty text)
+abbrev pub are_page_rows : List Row → Bool
+are_page_rows rows = are_rows_above [] [] rows && nat_le (rows_length rows) PAYLOAD_MOST
+
+abbrev pub is_page : Rows → Bool
+is_page page = list_all is_row page.rows && are_page_rows page.rows

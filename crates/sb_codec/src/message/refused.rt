@@ -1,0 +1,44 @@
+ghost use Rattle.std.specs.Prelude.{◌≡◌, true, if◌then◌else◌, Ok, Err};
+ghost use Rattle.sb_codec.specs.Limits.{is_fault_number};
+
+use crate::numbers::{FAULT_NUMBER_MOST, KIND_REFUSED};
+use sb_types::Fault;
+use std::marker::Model;
+
+/// The number, from 1 to 31, of the fault for which something was refused.
+#[derive(Clone, Copy, Debug)]
+pub struct Refused {
+    number: u8,
+}
+
+impl Model for Refused {
+    ghost use Rattle.std.specs.Prelude.{◌≡◌, ℕ, true};
+    ghost use Rattle.sb_codec.specs.Limits.{is_fault_number};
+
+    ghost Value = { ℕ };
+
+    ghost view = { λ refused. refused.number };
+
+    ghost invariant = { λ refused. is_fault_number refused.number ≡ true };
+
+    ghost inverse = { λ number. record { number = number } };
+}
+
+impl Refused {
+    /// A refusal for the fault of this number. `Malformed(0x14)` where no fault has it.
+    pub fn new(number: u8) -> Result<Refused, Fault>
+        ensures { result ≡ (if is_fault_number number then Ok number else Err (Fault.Malformed 20)) }
+    {
+        if number == 0 || number > FAULT_NUMBER_MOST {
+            return Err(Fault::Malformed(KIND_REFUSED));
+        }
+        Ok(Refused { number })
+    }
+
+    pub fn number(&self) -> u8
+        ensures number { result ≡ self.now }
+        ensures refused { is_fault_number self.now ≡ true }
+    {
+        self.number
+    }
+}

@@ -1,0 +1,187 @@
+ghost use Rattle.std.specs.Prelude.{◌≡◌, ◌≤◌, ◌&&◌, [], nat_le, true, Some, None, OnSome, if◌then◌else◌, Ok, Err};
+ghost use Rattle.std.specs.List.{list_all};
+ghost use Rattle.sb_codec.specs.Records.{row_of, rows_of};
+ghost use Rattle.sb_codec.specs.Lengths.{row_length, rows_length};
+ghost use Rattle.sb_codec.specs.Limits.{is_row, is_version, are_rows_above, are_page_rows, is_page};
+
+use crate::numbers::KIND_ROWS;
+use sb_types::{Fault, Key, Name, PAYLOAD_MOST, Value};
+use std::marker::Model;
+
+/// What an owner has under a key: a value, and the version of its write, which is at least 1.
+#[derive(Debug, Drop)]
+pub struct Row {
+    owner: Name,
+    key: Key,
+    version: u64,
+    value: Value,
+}
+
+impl Model for Row {
+    ghost use Rattle.std.specs.Prelude.{◌≡◌, true};
+    ghost use Rattle.sb_codec.specs.Records as records;
+
+    ghost Value = { records.Row };
+
+    ghost use Rattle.sb_codec.specs.Records.{row_of};
+    ghost use Rattle.sb_codec.specs.Limits.{is_row};
+
+    ghost view = { λ r. row_of r.owner r.key r.version r.value };
+
+    ghost invariant = { λ r. is_row (row_of r.owner r.key r.version r.value) ≡ true };
+}
+
+/// A page of rows, ascending by owner and then by key, and whether more follow. It may have none. Its
+/// payload has at most 65,530 bytes.
+#[derive(Debug, Drop)]
+pub struct Rows {
+    more: bool,
+    rows: Vec<Row>,
+    /// How many bytes its payload takes.
+    length: u64,
+}
+
+impl Model for Rows {
+    ghost use Rattle.std.specs.Prelude.{◌≡◌, true};
+    ghost use Rattle.sb_codec.specs.Records as records;
+
+    ghost Value = { records.Rows };
+
+    ghost use Rattle.sb_codec.specs.Records.{rows_of};
+    ghost use Rattle.sb_codec.specs.Lengths.{rows_length};
+    ghost use Rattle.sb_codec.specs.Limits.{is_page};
+
+    ghost view = { λ r. rows_of r.more r.rows.items };
+
+    ghost invariant = { λ r. (is_page (rows_of r.more r.rows.items) ≡ true) × (r.length ≡ rows_length r.rows.items) };
+}
+
+fn do_ascend(rows: &[Row]) -> bool
+    ensures { result ≡ are_rows_above [] [] rows.now }
+{
+    let mut last_owner: &[u8] = &[];
+    let mut last_key: &[u8] = &[];
+    for row in rows {
+        let owner = row.owner().bytes();
+        let key = row.key().bytes();
+        if !last_owner.cmp(owner).then(last_key.cmp(key)).is_lt() {
+            return false;
+        }
+        last_owner = owner;
+        last_key = key;
+    }
+    true
+}
+
+/// How many bytes the payload of these rows takes, where that is within the limit.
+fn length_within(rows: &[Row]) -> Option<u64>
+    ensures length { result ≡ (if nat_le (rows_length rows.now) PAYLOAD_MOST then Some (rows_length rows.now) else None) }
+    ensures each { OnSome result (list_all is_row rows.now ≡ true) }
+{
+    let mut length = 4;
+    for row in rows {
+        length += row.encoded_length();
+        if length > PAYLOAD_MOST {
+            return None;
+        }
+    }
+    Some(length)
+}
+
+impl Row {
+    /// `Malformed(0x11)`, the value dropped, where the version is 0. It takes no memory.
+    pub fn new(owner: Name, key: Key, version: u64, value: Value) -> Result<Row, Fault>
+        ensures { result ≡ (if is_version version then Ok (row_of owner key version value) else Err (Fault.Malformed 17)) }
+    {
+        if version == 0 {
+            return Err(Fault::Malformed(KIND_ROWS));
+        }
+        let _ = owner.bytes();
+        let _ = key.bytes();
+        let _ = value.encoded_length();
+        Ok(Row {
+            owner,
+            key,
+            version,
+            value,
+        })
+    }
+
+    pub fn owner(&self) -> &Name
+        ensures owner { result.now ≡ self.now.owner }
+        ensures row { is_row self.now ≡ true }
+    {
+        &self.owner
+    }
+
+    pub fn key(&self) -> &Key
+        ensures key { result.now ≡ self.now.key }
+        ensures row { is_row self.now ≡ true }
+    {
+        &self.key
+    }
+
+    pub fn version(&self) -> u64
+        ensures version { result ≡ self.now.version }
+        ensures row { is_row self.now ≡ true }
+    {
+        self.version
+    }
+
+    pub fn value(&self) -> &Value
+        ensures value { result.now ≡ self.now.value }
+        ensures row { is_row self.now ≡ true }
+    {
+        &self.value
+    }
+
+    /// How many bytes it takes in a message: 14 to 236.
+    pub fn encoded_length(&self) -> u64
+        ensures length { result ≡ row_length self.now }
+        ensures row { is_row self.now ≡ true }
+        ensures most { result ≤ 236 }
+    {
+        let texts = self.owner.bytes().len() + self.key.bytes().len();
+        11 + texts as u64 + self.value.encoded_length()
+    }
+}
+
+impl Rows {
+    /// A page of these rows. `Malformed(0x11)`, the rows dropped, where a row's owner and key are not
+    /// behind those of the one before, or where the payload would have more than 65,530 bytes. It takes
+    /// no memory.
+    pub fn new(more: bool, rows: Vec<Row>) -> Result<Rows, Fault>
+        ensures { result ≡ (if are_page_rows rows.items then Ok (rows_of more rows.items) else Err (Fault.Malformed 17)) }
+    {
+        if !do_ascend(&rows) {
+            return Err(Fault::Malformed(KIND_ROWS));
+        }
+        let Some(length) = length_within(&rows) else {
+            return Err(Fault::Malformed(KIND_ROWS));
+        };
+        Ok(Rows { more, rows, length })
+    }
+
+    /// Whether more rows follow than the page has.
+    pub fn more(&self) -> bool
+        ensures more { result ≡ self.now.more }
+        ensures page { is_page self.now ≡ true }
+    {
+        self.more
+    }
+
+    pub fn rows(&self) -> &[Row]
+        ensures rows { result.now ≡ self.now.rows }
+        ensures page { is_page self.now ≡ true }
+    {
+        &self.rows
+    }
+
+    /// How many bytes its payload takes: 4 to 65,530.
+    pub fn encoded_length(&self) -> u64
+        ensures length { result ≡ rows_length self.now.rows }
+        ensures page { is_page self.now ≡ true }
+    {
+        self.length
+    }
+}

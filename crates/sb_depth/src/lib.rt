@@ -1,0 +1,28 @@
+//! The order that sends one owner whole before the next, the owner with most to send first.
+#![tactic(auto)]
+
+ghost use Rattle.std.specs.Prelude.{◌≡◌, IfOk, IfErr, IsPermutation, IsSorted};
+ghost use Rattle.sb_budget.specs.Orders.{IsOffer, AscendsByOwner};
+ghost use Rattle.sb_depth.specs.Depth.{by_count};
+
+use sb_budget::{DeltaOrder, Offered};
+use sb_types::Fault;
+use std::alloc::Global;
+use std::cmp::Reverse;
+
+/// By count, the greatest first; of equal count by the owner's name; of one owner by version.
+#[derive(Clone, Copy, Debug)]
+pub struct Depth;
+
+impl DeltaOrder for Depth {
+    fn arrange(&self, _alloc: Global, mut items: Vec<Offered>) -> Result<Vec<Offered>, Fault>
+        requires { IsOffer items.items }
+        ensures each_once { IfOk result (λ ordered. IsPermutation items.items ordered.items) }
+        ensures ascending { IfOk result (λ ordered. AscendsByOwner ordered.items) }
+        ensures order { IfOk result (λ ordered. IsSorted by_count ordered.items) }
+        ensures memory { IfErr result (λ fault. fault ≡ Fault.NoMemory) }
+    {
+        items.sort_unstable_by_key(|item| (Reverse(item.count), item.owner, item.entry.version()));
+        Ok(items)
+    }
+}

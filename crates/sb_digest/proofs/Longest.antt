@@ -1,0 +1,116 @@
+-- Which front of a list of pairs is the longest within a budget.
+use Rattle.std.proofs.Common.{◌≡◌, ℕ, ◌+◌, ◌-◌, ◌*◌, ◌^◌, ◌<◌, ◌≤◌, Bool, true, leb, List, [], ◌∷◌, ◌++◌, length, take, Option, Some, None, refl, sym, ap, ◌∙◌, subst, arith, inl, inr, length-append, append_assoc}
+use Rattle.std.specs.List.{sum_by, slice_get, list_all}
+use Rattle.std.proofs.lemmas.Bool.{cases_lt, and_parts, leb-true}
+use Rattle.std.proofs.lemmas.List.{take_all, take-take, take_at, take-append-le, get_or_append_left}
+use Rattle.std.proofs.lemmas.List.Sums.{sum_by-cons, sum_by_more, sum_by-take-le}
+use Rattle.std.proofs.lemmas.Option.{slice_get-get_or, slice_get_past}
+use Rattle.sb_types.specs.declared.limits.TheConstants.{PAYLOAD_MOST}
+use Rattle.sb_types.specs.Text.{is_name, is_name_byte}
+use Rattle.sb_digest.specs.Digests.{Pair, Digest, digest_of}
+use Rattle.sb_digest.specs.Lengths.{bound_length, pair_length, digest_length, frame_length}
+use Rattle.sb_digest.specs.Limits.{is_bound, is_pair, are_digest_parts, is_digest}
+use Rattle.sb_digest.specs.Fronts.{front_of, IsLongestFront}
+
+abbrev pub nobody : Pair
+nobody = record { owner = []; held = 0; floor = 0; progress = 0 }
+
+module _ (want : Bool) (from : Option (List ℕ)) where
+  abbrev pub whole : List Pair → Digest
+  whole ps = digest_of want from None ps
+
+  pub front_of-all : (ps : List Pair) → front_of want from ps (length ps) ≡ whole ps
+  front_of-all ps = rw (slice_get_past ps (length ps) (omega arith), take_all (length ps) ps (omega arith))
+
+  -- to end before a pair takes nine bytes less than the pair
+  pub frame_length-front : (ps : List Pair) (count : ℕ) → count < length ps → frame_length (front_of want from ps count) + 9 ≡ frame_length (whole (take (count + 1) ps))
+  frame_length-front ps count l = rw (slice_get-get_or ps count nobody l) (omega (arith, sum_by_more pair_length ps count nobody l))
+
+  pub digest_length-front : (ps : List Pair) → 0 < length ps → digest_length (front_of want from ps (length ps - 1)) + 9 ≡ digest_length (whole ps)
+  digest_length-front ps some =
+      let all : take (length ps - 1 + 1) ps ≡ ps = take_all (length ps - 1 + 1) ps (omega arith) in
+      omega (arith, frame_length-front ps (length ps - 1) (omega arith), ap (λ xs. frame_length (whole xs)) all)
+
+  frames_rise : (ps : List Pair) (fewer more : ℕ) → fewer ≤ more → frame_length (whole (take fewer ps)) ≤ frame_length (whole (take more ps))
+  frames_rise ps fewer more le =
+      let total : sum_by pair_length (take fewer ps) ≤ sum_by pair_length (take more ps) = subst (λ xs. sum_by pair_length xs ≤ sum_by pair_length (take more ps)) (take-take fewer more ps le) (sum_by-take-le pair_length (take more ps) fewer) in
+      omega arith
+
+  frames_all : (ps : List Pair) (count : ℕ) → frame_length (whole (take count ps)) ≤ frame_length (whole ps)
+  frames_all ps count = omega (arith, sum_by-take-le pair_length ps count)
+
+  module _ (budget : ℕ) where
+    pub longest-all : (ps : List Pair) → frame_length (whole ps) ≤ budget → IsLongestFront budget want from ps (whole ps)
+    longest-all ps fits = record { count = length ps; most = omega arith; front = sym (front_of-all ps); fits = fits; longest = λ more above most. absurd (omega arith) }
+
+    -- all but the last, where all are too many
+    pub longest-but_last : (ps : List Pair) (count : ℕ) → count + 1 ≡ length ps → frame_length (whole ps) ≤ budget + 9 → budget < frame_length (whole ps) → IsLongestFront budget want from ps (front_of want from ps count)
+    longest-but_last ps count last room over = record {
+      count = count;
+      most = omega arith;
+      front = refl;
+      fits = let cut = frame_length-front ps count (omega arith) in let all = frames_all ps (count + 1) in omega arith;
+      longest = λ more above most.
+          let end : length ps ≡ more = omega arith in
+          let family : ℕ → Type 0 = λ n. budget < frame_length (front_of want from ps n) in
+          subst family end (subst (λ (d : Digest). budget < frame_length d) (sym (front_of-all ps)) over);
+    }
+
+    -- all but the last of the first pairs, where one more is too many
+    pub longest-before : (ps : List Pair) (count : ℕ) → count + 1 < length ps → frame_length (whole (take (count + 1) ps)) ≤ budget + 9 → budget + 9 < frame_length (whole (take (count + 2) ps)) → IsLongestFront budget want from ps (front_of want from ps count)
+    longest-before ps count inside room over = record {
+      count = count;
+      most = omega arith;
+      front = refl;
+      fits = let cut = frame_length-front ps count (omega arith) in omega arith;
+      longest = λ more above most. elim (cases_lt more (length ps)) [
+        | inl within ↦ let cut = frame_length-front ps more within in let rise = frames_rise ps (count + 2) (more + 1) (omega arith) in omega arith
+        | inr beyond ↦
+            let end : length ps ≡ more = omega arith in
+            let family : ℕ → Type 0 = λ n. budget < frame_length (front_of want from ps n) in
+            let all = frames_all ps (count + 2) in
+            subst family end (subst (λ (d : Digest). budget < frame_length d) (sym (front_of-all ps)) (omega arith))
+      ];
+    }
+
+    -- the pairs so far, and one that has no room among them
+    pub longest-cut : (xs : List Pair) (x : Pair) (rest : List Pair) → 0 < length xs → frame_length (whole xs) ≤ budget + 9 → budget + 9 < frame_length (whole (xs ++ x ∷ [])) → IsLongestFront budget want from (xs ++ x ∷ rest) (front_of want from xs (length xs - 1))
+    longest-cut xs x rest some room over =
+        let count = length xs - 1 in
+        let ps = xs ++ x ∷ rest in
+        let size : length ps ≡ length xs + (1 + length rest) = omega (arith, length-append xs (x ∷ rest)) in
+        let so_far : take (count + 1) ps ≡ xs = take_at xs (x ∷ rest) (count + 1) (omega arith) in
+        let one_more : take (count + 2) ps ≡ xs ++ x ∷ [] = ap (take (count + 2)) (sym (append_assoc xs (x ∷ []) rest)) ∙ take_at (xs ++ x ∷ []) rest (count + 2) (omega (arith, length-append xs (x ∷ []))) in
+        let pairs : take count ps ≡ take count xs = take-append-le count xs (x ∷ rest) (omega arith) in
+        let end : slice_get ps count ≡ slice_get xs count = slice_get-get_or ps count nobody (omega arith) ∙ ap Some (get_or_append_left xs (x ∷ rest) nobody count (omega arith)) ∙ sym (slice_get-get_or xs count nobody (omega arith)) in
+        let same : front_of want from ps count ≡ front_of want from xs count = rw (pairs, end) refl in
+        subst (λ (d : Digest). IsLongestFront budget want from ps d) same (longest-before ps count (omega arith) (rw so_far room) (rw one_more over))
+
+-- how long a digest of a name's length bounds is
+pub bound_length-most : (from : Option (List ℕ)) → is_bound from ≡ true → bound_length from ≤ 33
+bound_length-most None is = omega arith
+bound_length-most (Some name) is = omega (arith, leb-true (length name) 32 (and_parts (leb 1 (length name)) _ (and_parts _ (list_all is_name_byte name) is).0).1)
+
+pub owner-most : (p : Pair) → is_pair p ≡ true → length p.owner ≤ 32
+owner-most p is =
+    let name : is_name p.owner ≡ true = (and_parts _ _ (and_parts _ _ (and_parts _ _ is).0).0).0 in
+    leb-true (length p.owner) 32 (and_parts (leb 1 (length p.owner)) _ (and_parts _ (list_all is_name_byte p.owner) name).0).1
+
+pairs_length-most : (ps : List Pair) → list_all is_pair ps ≡ true → sum_by pair_length ps ≤ 41 * length ps
+pairs_length-most [] is = omega arith
+pairs_length-most (p ∷ ps) is =
+    let parts = and_parts (is_pair p) (list_all is_pair ps) is in
+    omega (arith, sum_by-cons pair_length p ps, owner-most p parts.0, pairs_length-most ps parts.1)
+
+pub frame_length-most : (want : Bool) (from : Option (List ℕ)) (ps : List Pair) → is_bound from ≡ true → list_all is_pair ps ≡ true → frame_length (digest_of want from None ps) ≤ 44 + 41 * length ps
+frame_length-most want from ps bound pairs = omega (arith, bound_length-most from bound, pairs_length-most ps pairs)
+
+pairs_length-least : (ps : List Pair) → 9 * length ps ≤ sum_by pair_length ps
+pairs_length-least [] = omega arith
+pairs_length-least (p ∷ ps) = omega (arith, sum_by-cons pair_length p ps, pairs_length-least ps)
+
+-- a payload has no room for more
+pub few_pairs : (d : Digest) → is_digest d ≡ true → length d.pairs < 2 ^ 16
+few_pairs d is =
+    let parts = (and_parts _ (are_digest_parts d) is).1 in
+    omega (arith, leb-true (digest_length d) PAYLOAD_MOST (and_parts _ (leb (digest_length d) PAYLOAD_MOST) parts).1, pairs_length-least d.pairs)

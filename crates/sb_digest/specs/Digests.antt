@@ -1,0 +1,44 @@
+-- Digests as plain data, and how they are read.
+use Rattle.std.specs.Prelude.{ℕ, Bool, true, ◌&&◌, List, find, nat_eq, Option, Some, None}
+use Rattle.std.specs.Option.{option_map_or}
+use Rattle.std.specs.Cmp.Lexicographic.{pointwise}
+use Rattle.sb_types.specs.Limits.{text_lt}
+use Rattle.sb_holdings.specs.Plain.{is_from}
+
+-- how far an owner's writes are held: up to a version, and of a table that is to take the place of the
+-- shown one its floor and how far it has come
+pub record Pair : Type 0 where
+  pub owner : List ℕ
+  pub held : ℕ
+  pub floor : ℕ
+  pub progress : ℕ
+
+-- what is held of the owners from a name on, up to another and not of that
+pub record Digest : Type 0 where
+  pub want : Bool
+  pub from : Option (List ℕ)
+  pub until : Option (List ℕ)
+  pub pairs : List Pair
+
+-- nothing is to take the place of what is shown
+abbrev pub plain_pair : List ℕ → ℕ → Pair
+plain_pair owner held = record { owner = owner; held = held; floor = 0; progress = 0 }
+
+abbrev pub digest_of : Bool → Option (List ℕ) → Option (List ℕ) → List Pair → Digest
+digest_of want from until pairs = record { want = want; from = from; until = until; pairs = pairs }
+
+-- each name is below no bound
+abbrev pub is_below : Option (List ℕ) → List ℕ → Bool
+is_below None name = true
+is_below (Some until) name = text_lt name until
+
+-- the digest speaks of the owner
+abbrev pub covers : Digest → List ℕ → Bool
+covers d owner = is_from d.from owner && is_below d.until owner
+
+abbrev pub pair_at : List ℕ → List Pair → Option Pair
+pair_at owner pairs = find (λ pair. pointwise nat_eq pair.owner owner) pairs
+
+-- the version up to which an owner's writes are held, 0 where the digest does not name it
+abbrev pub number : Digest → List ℕ → ℕ
+number d owner = option_map_or (λ pair. pair.held) (pair_at owner d.pairs) 0

@@ -1,0 +1,48 @@
+-- The digest that tells most of a list of pairs within a budget.
+use Rattle.std.specs.Prelude.{◌≡◌, ℕ, ◌+◌, ◌≤◌, ◌<◌, Bool, true, ◌&&◌, nat_le, List, [], ◌∷◌, ◌++◌, length, take, slice_get, Option, None}
+use Rattle.std.specs.List.{list_all}
+use Rattle.std.specs.Option.{option_map}
+use Rattle.sb_types.specs.declared.limits.TheConstants.{BUDGET_LEAST, BUDGET_MOST}
+use Rattle.sb_types.specs.Limits.{text_lt}
+use Rattle.sb_holdings.specs.Plain.{is_from}
+use Rattle.sb_digest.specs.Digests.{Pair, Digest, digest_of}
+use Rattle.sb_digest.specs.Lengths.{frame_length}
+use Rattle.sb_digest.specs.Limits.{are_pairs_above, is_bound, is_pair}
+
+-- the first pairs, up to the name of the next; of all pairs there is no next, and the range has no end
+abbrev pub front_of : Bool → Option (List ℕ) → List Pair → ℕ → Digest
+front_of want from pairs count = digest_of want from (option_map (λ pair. pair.owner) (slice_get pairs count)) (take count pairs)
+
+-- the front of most pairs, of those whose frames are within the budget
+pub record IsLongestFront (budget : ℕ) (want : Bool) (from : Option (List ℕ)) (pairs : List Pair) (d : Digest) : Type 0 where
+  pub count : ℕ
+  pub most : count ≤ length pairs
+  pub front : d ≡ front_of want from pairs count
+  pub fits : frame_length d ≤ budget
+  pub longest : (more : ℕ) → count < more → more ≤ length pairs → budget < frame_length (front_of want from pairs more)
+
+-- the pairs so far, from a bound on
+pub record Front : Type 0 where
+  pub budget : ℕ
+  pub from : Option (List ℕ)
+  pub pairs : List Pair
+
+abbrev pub with_pair : Front → Pair → Front
+with_pair f pair = record { budget = f.budget; from = f.from; pairs = f.pairs ++ pair ∷ [] }
+
+-- a digest of all pairs but the last is within the budget: to end before a pair takes nine bytes less than the pair
+abbrev pub has_room : Front → Bool
+has_room f = nat_le (frame_length (digest_of true f.from None f.pairs)) (f.budget + 9)
+
+-- the pair's owner is in the range, and behind the owners so far
+abbrev pub comes_next : Front → Pair → Bool
+comes_next f pair = is_from f.from pair.owner && list_all (λ before. text_lt before.owner pair.owner) f.pairs
+
+pub record IsFront (f : Front) : Type 0 where
+  pub least : BUDGET_LEAST ≤ f.budget
+  pub most : f.budget ≤ BUDGET_MOST
+  pub bound : is_bound f.from ≡ true
+  pub pairs : list_all is_pair f.pairs ≡ true
+  pub reached : list_all (λ pair. is_from f.from pair.owner) f.pairs ≡ true
+  pub ascending : are_pairs_above [] f.pairs ≡ true
+  pub room : has_room f ≡ true

@@ -1,0 +1,20 @@
+-- How many bytes a digest takes in its one spelling.
+use Rattle.std.specs.Prelude.{ℕ, ◌+◌, List, length, sum_by, Option, Some, None}
+use Rattle.sb_types.specs.declared.limits.TheConstants.{HEADER_LENGTH}
+use Rattle.sb_digest.specs.Digests.{Pair, Digest}
+
+-- a length byte, and the name where there is one
+abbrev pub bound_length : Option (List ℕ) → ℕ
+bound_length None = 1
+bound_length (Some name) = 1 + length name
+
+-- the owner's length byte and text, and the version
+abbrev pub pair_length : Pair → ℕ
+pair_length p = 9 + length p.owner
+
+-- the kind, whether an answer is wanted, the two bounds, the number of pairs, and these
+abbrev pub digest_length : Digest → ℕ
+digest_length d = 4 + bound_length d.from + bound_length d.until + sum_by pair_length d.pairs
+
+abbrev pub frame_length : Digest → ℕ
+frame_length d = HEADER_LENGTH + digest_length d

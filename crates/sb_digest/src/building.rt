@@ -1,0 +1,41 @@
+ghost use Rattle.std.specs.Prelude.{◌≡◌, ◌≤◌, ◌<◌, length, IfOk, IfErr};
+ghost use Rattle.sb_types.specs.declared.fault.Fault.TheVariants.{NoMemory};
+ghost use Rattle.sb_digest.specs.Fronts.{IsLongestFront};
+ghost use Rattle.sb_digest.specs.Pairs.{pairs_from};
+
+use crate::digest::{Digest, Pair};
+use crate::front::Front;
+use sb_holdings::Holdings;
+use sb_types::{BUDGET_LEAST, BUDGET_MOST, Fault, Name};
+use std::alloc::Global;
+
+/// The digest of the owners that are held from a name on, or of all, the own name among them: of as many
+/// as a frame within the budget has room for. Its range ends before the first that has none, where the
+/// next digest begins, and has no end where all have. `NoMemory`.
+pub fn build(
+    alloc: Global,
+    holdings: &Holdings,
+    from: Option<Name>,
+    want: bool,
+    budget: u64,
+) -> Result<Digest, Fault>
+    requires least { BUDGET_LEAST ≤ budget }
+    requires most { budget ≤ BUDGET_MOST }
+    ensures longest { IfOk result (IsLongestFront budget want from (pairs_from from holdings.now)) }
+
+    // Whatever the budget, a digest goes on by at least one owner.
+    ensures goes { IfOk result (λ digest. 0 < length (pairs_from from holdings.now) → 0 < length digest.pairs) }
+    ensures memory { IfErr result (λ fault. fault ≡ NoMemory) }
+{
+    let mut front = Front::new(alloc, from.as_ref(), budget);
+    for (owner, table) in holdings.tables_from(from.as_ref()) {
+        let pair = Pair {
+            owner: *owner,
+            version: table.upto(),
+        };
+        if !front.push(pair)? {
+            return Ok(front.cut(want));
+        }
+    }
+    Ok(front.finish(want))
+}

@@ -1,0 +1,275 @@
+ghost use Rattle.std.specs.Prelude.{◌≡◌, ◌≤◌, ◌+◌, ◌&&◌, [], nat_le, true, Some, None, OnSome, sum_by, if◌then◌else◌, Ok, Err};
+ghost use Rattle.std.specs.List.{list_all};
+ghost use Rattle.std.specs.Option.{option_copied};
+ghost use Rattle.sb_holdings.specs.Plain.{is_from};
+ghost use Rattle.sb_digest.specs.Digests.{digest_of, is_below, covers, number};
+ghost use Rattle.sb_digest.specs.Lengths.{bound_length, pair_length, digest_length};
+ghost use Rattle.sb_digest.specs.Limits.{are_pairs_above, is_range, are_digest_parts, is_bound, is_pair, is_digest};
+
+use sb_types::{Fault, Name, PAYLOAD_MOST};
+use std::marker::Model;
+
+/// How far one owner's writes are held: the greatest version that is known, 0 where none is.
+#[derive(Clone, Copy, Debug)]
+pub struct Pair {
+    pub owner: Name,
+    pub version: u64,
+}
+
+impl Model for Pair {
+    ghost use Rattle.std.specs.Prelude.{◌<◌, ◌^◌};
+    ghost use Rattle.sb_digest.specs.Digests as digests;
+
+    ghost Value = { digests.Pair };
+
+    ghost use Rattle.sb_digest.specs.Digests.{plain_pair};
+
+    ghost view = { λ p. plain_pair p.owner p.version };
+
+    ghost invariant = { λ p. p.version < 2 ^ 64 };
+
+    ghost inverse = { λ p. record { owner = p.owner; version = p.held } };
+}
+
+/// How far a node holds the writes of the owners in a range of names: those at or above `from`, and
+/// below `until` where that is given. An owner in the range without a pair is held up to 0. Its payload
+/// has at most 65,530 bytes.
+#[derive(Debug, Drop)]
+pub struct Digest {
+    want: bool,
+    from: Option<Name>,
+    until: Option<Name>,
+    pairs: Vec<Pair>,
+    /// How many bytes its payload takes.
+    length: u64,
+}
+
+impl Model for Digest {
+    ghost use Rattle.std.specs.Prelude.{◌≡◌, true};
+    ghost use Rattle.sb_digest.specs.Digests as digests;
+
+    ghost Value = { digests.Digest };
+
+    ghost use Rattle.sb_digest.specs.Digests.{digest_of};
+    ghost use Rattle.sb_digest.specs.Lengths.{digest_length};
+    ghost use Rattle.sb_digest.specs.Limits.{is_digest};
+
+    ghost view = { λ d. digest_of d.want d.from d.until d.pairs.items };
+
+    ghost invariant = { λ d. (is_digest (digest_of d.want d.from d.until d.pairs.items) ≡ true) × (d.length ≡ digest_length (digest_of d.want d.from d.until d.pairs.items)) };
+}
+
+fn reaches_down_to(from: Option<&Name>, name: &Name) -> bool
+    ensures { result ≡ is_from (option_copied from.entry) name.now }
+{
+    from.is_none_or(|from| from <= name)
+}
+
+fn reaches_up_to(until: Option<&Name>, name: &Name) -> bool
+    ensures { result ≡ is_below (option_copied until.entry) name.now }
+{
+    until.is_none_or(|until| name < until)
+}
+
+fn is_covered(from: Option<&Name>, until: Option<&Name>, owner: &Name) -> bool
+    ensures { result ≡ (is_from (option_copied from.entry) owner.now && is_below (option_copied until.entry) owner.now) }
+{
+    reaches_down_to(from, owner) && reaches_up_to(until, owner)
+}
+
+fn are_covered(from: Option<&Name>, until: Option<&Name>, pairs: &[Pair]) -> bool
+    ensures { result ≡ list_all (λ pair. is_from (option_copied from.entry) pair.owner && is_below (option_copied until.entry) pair.owner) pairs.now }
+{
+    pairs
+        .iter()
+        .all(|pair| is_covered(from, until, &pair.owner))
+}
+
+fn owner_of(pair: &Pair) -> Name
+    ensures { result ≡ pair.now.owner }
+{
+    pair.owner
+}
+
+fn do_bounds_ascend(from: Option<&Name>, until: Option<&Name>) -> bool
+    ensures { result ≡ is_range (option_copied from.entry) (option_copied until.entry) }
+{
+    match (from, until) {
+        (Some(from), Some(until)) => from < until,
+        _ => true,
+    }
+}
+
+fn do_owners_ascend(pairs: &[Pair]) -> bool
+    ensures { result ≡ are_pairs_above [] pairs.now }
+{
+    let mut last: &[u8] = &[];
+    for pair in pairs {
+        let owner = pair.owner.bytes();
+        if !last.cmp(owner).is_lt() {
+            return false;
+        }
+        last = owner;
+    }
+    true
+}
+
+/// How many bytes a bound takes in a message.
+pub(crate) fn length_of_bound(bound: Option<&Name>) -> u64
+    ensures length { result ≡ bound_length (option_copied bound.entry) }
+    ensures most { result ≤ 33 }
+    ensures bound { is_bound (option_copied bound.entry) ≡ true }
+{
+    match bound {
+        None => 1,
+        Some(name) => 1 + name.bytes().len() as u64,
+    }
+}
+
+/// How many bytes these pairs take behind so many others, where that is within the limit of a payload.
+fn length_within(bounds: u64, pairs: &[Pair]) -> Option<u64>
+    requires { bounds ≤ PAYLOAD_MOST }
+    ensures length { result ≡ (let total = bounds + sum_by pair_length pairs.now in if nat_le total PAYLOAD_MOST then Some total else None) }
+    ensures each { OnSome result (list_all is_pair pairs.now ≡ true) }
+{
+    let mut length = bounds;
+    for pair in pairs {
+        length += pair.encoded_length();
+        if length > PAYLOAD_MOST {
+            return None;
+        }
+    }
+    Some(length)
+}
+
+impl Pair {
+    /// How many bytes it takes in a message.
+    pub fn encoded_length(&self) -> u64
+        ensures length { result ≡ pair_length self.now }
+        ensures most { result ≤ 41 }
+        ensures pair { is_pair self.now ≡ true }
+    {
+        9 + self.owner.bytes().len() as u64
+    }
+}
+
+impl Digest {
+    /// A digest of these parts. `Malformed(2)`, the pairs dropped, where a bound or a pair's owner is not
+    /// behind the one before, where an owner lies outside the bounds, or where the payload would have
+    /// more than 65,530 bytes. It takes no memory.
+    pub fn new(
+        want: bool,
+        from: Option<Name>,
+        until: Option<Name>,
+        pairs: Vec<Pair>,
+    ) -> Result<Digest, Fault>
+        ensures { result ≡ (let digest = digest_of want from until pairs.items in if are_digest_parts digest then Ok digest else Err (Fault.Malformed 2)) }
+    {
+        let (low, high) = (from.as_ref(), until.as_ref());
+        if !do_bounds_ascend(low, high)
+            || !do_owners_ascend(&pairs)
+            || !are_covered(low, high, &pairs)
+        {
+            return Err(Fault::Malformed(2));
+        }
+        let bounds = 4 + length_of_bound(low) + length_of_bound(high);
+        let Some(length) = length_within(bounds, &pairs) else {
+            return Err(Fault::Malformed(2));
+        };
+        Ok(Digest {
+            want,
+            from,
+            until,
+            pairs,
+            length,
+        })
+    }
+
+    /// The digest of parts that make one, which takes so many bytes.
+    pub(crate) fn of_parts(
+        want: bool,
+        from: Option<Name>,
+        until: Option<Name>,
+        pairs: Vec<Pair>,
+        length: u64,
+    ) -> Digest
+        requires digest { is_digest (digest_of want from until pairs.items) ≡ true }
+        requires length { length ≡ digest_length (digest_of want from until pairs.items) }
+        ensures { result ≡ digest_of want from until pairs.items }
+    {
+        Digest {
+            want,
+            from,
+            until,
+            pairs,
+            length,
+        }
+    }
+
+    /// Whether a digest is wanted in answer.
+    pub fn want(&self) -> bool
+        ensures want { result ≡ self.now.want }
+        ensures digest { is_digest self.now ≡ true }
+    {
+        self.want
+    }
+
+    /// The least name of the range; none where it begins with the least of all.
+    pub fn from(&self) -> Option<Name>
+        ensures from { result ≡ self.now.from }
+        ensures digest { is_digest self.now ≡ true }
+    {
+        self.from
+    }
+
+    /// The name that the range ends before; none where it has no end.
+    pub fn until(&self) -> Option<Name>
+        ensures until { result ≡ self.now.until }
+        ensures digest { is_digest self.now ≡ true }
+    {
+        self.until
+    }
+
+    /// Where the next digest begins: the end of this one's range.
+    pub fn next_from(&self) -> Option<Name>
+        ensures next { result ≡ self.now.until }
+        ensures digest { is_digest self.now ≡ true }
+    {
+        self.until()
+    }
+
+    pub fn pairs(&self) -> &[Pair]
+        ensures pairs { result.now ≡ self.now.pairs }
+        ensures digest { is_digest self.now ≡ true }
+    {
+        &self.pairs
+    }
+
+    /// How many bytes its payload takes: 6 to 65,530.
+    pub fn encoded_length(&self) -> u64
+        ensures length { result ≡ digest_length self.now }
+        ensures digest { is_digest self.now ≡ true }
+    {
+        self.length
+    }
+
+    /// Whether the owner is in the range.
+    pub fn covers(&self, owner: &Name) -> bool
+        ensures { result ≡ covers self.now owner.now }
+    {
+        is_covered(self.from.as_ref(), self.until.as_ref(), owner)
+    }
+
+    /// The greatest version that is known of the owner, 0 where it has no pair.
+    pub fn number(&self, owner: &Name) -> u64
+        ensures { result ≡ number self.now owner.now }
+    {
+        match self
+            .pairs
+            .binary_search_by_key(owner, |pair| owner_of(pair))
+        {
+            Ok(place) => self.pairs[place].version,
+            Err(_) => 0,
+        }
+    }
+}

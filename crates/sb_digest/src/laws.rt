@@ -1,0 +1,26 @@
+//! What follows from the definitions alone, for the crates above. The functions do nothing: each clause is a law.
+ghost use Rattle.std.specs.Prelude.{◌≡◌, ℕ, ◌<◌, ◌^◌, Bool, true, List, length, Option};
+ghost use Rattle.sb_holdings.specs.Held.{Held, shown_of};
+ghost use Rattle.sb_digest.specs.Digests as digests;
+ghost use Rattle.sb_digest.specs.Digests.{covers, number};
+ghost use Rattle.sb_digest.specs.Limits.{is_digest};
+ghost use Rattle.sb_digest.specs.Fronts.{IsLongestFront};
+ghost use Rattle.sb_digest.specs.Pairs.{pairs_from};
+
+/// The number of a digest's pairs takes two bytes.
+pub fn digests_have_few_pairs()
+    ensures { (d : digests.Digest) → is_digest d ≡ true → length d.pairs < 2 ^ 16 }
+{}
+
+/// Of a list of pairs one front is the longest within a budget.
+pub fn one_front_is_longest()
+    ensures { (budget : ℕ) (want : Bool) (from : Option (List ℕ)) (pairs : List digests.Pair) (a b : digests.Digest) →
+        IsLongestFront budget want from pairs a → IsLongestFront budget want from pairs b → a ≡ b }
+{}
+
+/// A digest of what is held tells of each owner that it covers how far that is held, whether it names the owner or not.
+pub fn digests_are_true()
+    ensures { (held : Held) (budget : ℕ) (want : Bool) (from : Option (List ℕ)) (d : digests.Digest) (owner : List ℕ) →
+        IsLongestFront budget want from (pairs_from from held) d → covers d owner ≡ true →
+        number d owner ≡ (shown_of held owner).held }
+{}

@@ -1,0 +1,198 @@
+ghost use Rattle.std.specs.Prelude.{◌≤◌};
+
+use super::*;
+use sb_holdings::Holdings;
+use sb_table::Table;
+use sb_types::{BUDGET_LEAST, BUDGET_MOST, Block, Entry, Fault, Key, Name, Slot, Value};
+use std::alloc::Global;
+use std::test::Fail;
+
+/// Pairs of these owners, with the versions 1, 2 and so on.
+fn gathered(alloc: Global, owners: &[Name]) -> Result<Vec<Pair>, Fault> {
+    let mut pairs = Vec::new(alloc);
+    for (version, owner) in (1..).zip(owners) {
+        pairs.push(Pair {
+            owner: *owner,
+            version,
+        })?;
+    }
+    Ok(pairs)
+}
+
+/// The pairs, gathered once more where memory was refused.
+fn pairs(alloc: Global, owners: &[Name]) -> Result<Vec<Pair>, Fault> {
+    match gathered(alloc, owners) {
+        Err(Fault::NoMemory) => gathered(alloc, owners),
+        pairs => pairs,
+    }
+}
+
+fn six_owners() -> Result<[Name; 6], Fault> {
+    Ok([
+        Name::read(&[b'a'; 32])?,
+        Name::read(&[b'b'; 32])?,
+        Name::read(&[b'c'; 32])?,
+        Name::read(&[b'd'; 32])?,
+        Name::read(&[b'e'; 32])?,
+        Name::read(&[b'f'; 32])?,
+    ])
+}
+
+#[test]
+fn lengths_of_frames(rt: HostRuntime) -> Result<(), Fail> {
+    let alloc = rt.alloc();
+    let owners = six_owners()?;
+    let (five, sixth) = owners.split_at(5);
+    let first = Digest::new(true, None, Some(owners[5]), pairs(alloc, five)?)?;
+    assert_eq!(rt; first.encoded_length(), 243);
+    let next = Digest::new(true, first.next_from(), None, pairs(alloc, sixth)?)?;
+    assert_eq!(rt; next.encoded_length(), 79);
+    let all = Digest::new(false, None, None, pairs(alloc, &owners)?)?;
+    assert_eq!(rt; all.encoded_length(), 252);
+    Ok(())
+}
+
+/// Whether the parts are refused.
+fn is_refused(
+    alloc: Global,
+    from: Option<Name>,
+    until: Option<Name>,
+    owners: &[Name],
+) -> Result<bool, Fault> {
+    let digest = Digest::new(true, from, until, pairs(alloc, owners)?);
+    Ok(matches!(digest, Err(Fault::Malformed(2))))
+}
+
+#[test]
+fn parts_that_make_no_digest(rt: HostRuntime) -> Result<(), Fail> {
+    let alloc = rt.alloc();
+    let a = Name::read(b"a")?;
+    let b = Name::read(b"b")?;
+    let c = Name::read(b"c")?;
+    assert!(rt; is_refused(alloc, None, Some(b), &[a, b])?);
+    assert!(rt; is_refused(alloc, None, Some(b), &[a, c])?);
+    assert!(rt; is_refused(alloc, Some(b), None, &[a, b])?);
+    assert!(rt; is_refused(alloc, Some(b), Some(b), &[])?);
+    assert!(rt; is_refused(alloc, Some(c), Some(b), &[])?);
+    assert!(rt; is_refused(alloc, None, None, &[a, a])?);
+    assert!(rt; is_refused(alloc, None, None, &[b, a])?);
+    assert!(rt; !is_refused(alloc, Some(a), Some(c), &[a, b])?);
+    Ok(())
+}
+
+#[test]
+fn a_digest_is_read(rt: HostRuntime) -> Result<(), Fail> {
+    let alloc = rt.alloc();
+    let a = Name::read(b"a")?;
+    let b = Name::read(b"b")?;
+    let c = Name::read(b"c")?;
+    let d = Name::read(b"d")?;
+    let digest = Digest::new(false, Some(b), Some(d), pairs(alloc, &[b, c])?)?;
+    assert!(rt; !digest.want());
+    assert_eq!(rt; digest.from(), Some(b));
+    assert_eq!(rt; digest.until(), Some(d));
+    assert_eq!(rt; digest.next_from(), Some(d));
+    assert_eq!(rt; digest.pairs().len(), 2);
+    assert!(rt; digest.covers(&b) && digest.covers(&c));
+    assert!(rt; !digest.covers(&a) && !digest.covers(&d));
+    assert_eq!(rt; digest.number(&b), 1);
+    assert_eq!(rt; digest.number(&c), 2);
+    assert_eq!(rt; digest.number(&d), 0);
+    Ok(())
+}
+
+/// The digest, asked for once more where memory was refused.
+fn asked(
+    alloc: Global,
+    holdings: &Holdings,
+    from: Option<&Name>,
+    budget: u64,
+) -> Result<Digest, Fault>
+    requires least { BUDGET_LEAST ≤ budget }
+    requires most { budget ≤ BUDGET_MOST }
+{
+    match build(alloc, holdings, from.copied(), true, budget) {
+        Err(Fault::NoMemory) => build(alloc, holdings, from.copied(), true, budget),
+        built => built,
+    }
+}
+
+/// What a node holds that knows of no other.
+fn alone(alloc: Global, me: Name) -> Result<Holdings, Fault> {
+    match Holdings::new(alloc, me, Table::new(alloc)) {
+        Err(Fault::NoMemory) => Holdings::new(alloc, me, Table::new(alloc)),
+        made => made,
+    }
+}
+
+#[test]
+fn a_new_node_tells_of_itself(rt: HostRuntime) -> Result<(), Fail> {
+    let alloc = rt.alloc();
+    let a = Name::read(b"a")?;
+    let b = Name::read(b"b")?;
+    let holdings = alone(alloc, a)?;
+    let digest = asked(alloc, &holdings, None, 256)?;
+    assert!(rt; digest.want());
+    assert_eq!(rt; digest.from(), None);
+    assert_eq!(rt; digest.until(), None);
+    assert_eq!(rt; digest.pairs().len(), 1);
+    assert!(rt;
+        digest
+            .pairs()
+            .iter()
+            .all(|pair| pair.owner == a && pair.version == 0)
+    );
+    assert_eq!(rt; digest.encoded_length(), 16);
+
+    let rest = asked(alloc, &holdings, Some(&b), 256)?;
+    assert_eq!(rt; rest.from(), Some(b));
+    assert_eq!(rt; rest.until(), None);
+    assert!(rt; rest.pairs().is_empty());
+    Ok(())
+}
+
+/// An owner's first write.
+fn first_write(alloc: Global, owner: &Name) -> Result<Block, Fault> {
+    let mut entries = Vec::new(alloc);
+    let slot = Slot::Set(Value::flag(true));
+    entries.push(Entry::new(Key::read(b"up")?, 1, slot))?;
+    Block::new(*owner, 0, entries)
+}
+
+/// Takes the owner's first write: twice, so that it is held also where memory was refused once.
+fn hold(alloc: Global, holdings: &mut Holdings, owner: &Name) {
+    for _ in 0..2 {
+        if let Ok(block) = first_write(alloc, owner) {
+            holdings.apply_block(&block);
+        }
+    }
+}
+
+#[test]
+fn six_owners_take_two_digests(rt: HostRuntime) -> Result<(), Fail> {
+    let alloc = rt.alloc();
+    let six = six_owners()?;
+    let owners = &six[..];
+    let mut holdings = alone(alloc, owners[0])?;
+    for owner in owners {
+        hold(alloc, &mut holdings, owner);
+    }
+    let first = asked(alloc, &holdings, None, 256)?;
+    assert_eq!(rt; first.pairs().len(), 5);
+    assert_eq!(rt; first.until(), Some(owners[5]));
+    assert_eq!(rt; first.encoded_length(), 243);
+    assert_eq!(rt; first.number(&owners[0]), 0);
+    assert_eq!(rt; first.number(&owners[4]), 1);
+
+    let next = asked(alloc, &holdings, first.next_from().as_ref(), 256)?;
+    assert_eq!(rt; next.from(), Some(owners[5]));
+    assert_eq!(rt; next.pairs().len(), 1);
+    assert_eq!(rt; next.until(), None);
+    assert_eq!(rt; next.encoded_length(), 79);
+
+    let all = asked(alloc, &holdings, None, 258)?;
+    assert_eq!(rt; all.pairs().len(), 6);
+    assert_eq!(rt; all.until(), None);
+    assert_eq!(rt; all.encoded_length(), 252);
+    Ok(())
+}

@@ -1,0 +1,85 @@
+-- Entries entered into a table in turn.
+use Rattle.std.proofs.Common.{◌≡◌, ℕ, zero, suc, ◌+◌, ◌≤◌, ◌<◌, Bool, true, false, not, ◌&&◌, ◌||◌, le-leb, nat_le, nat_eq, List, [], ◌∷◌, ◌++◌, length, take, get_or, Option, Some, None, is_some, is_none, cond, refl, sym, ap, subst, ◌∙◌, arith, append_assoc}
+use Rattle.std.proofs.lemmas.Bool.{and_parts, ltb-true}
+use Rattle.std.proofs.Math.Bool.{and-true}
+use Rattle.std.specs.Option.{option_map}
+use Rattle.std.proofs.lemmas.List.{take_more, take_all}
+use Rattle.std.specs.Cmp.Lexicographic.{pointwise}
+use Rattle.sb_types.specs.declared.limits.TheConstants.{KEYS_MOST}
+use Rattle.sb_types.specs.Records.{Entry, Table}
+use Rattle.sb_types.specs.Runs.{are_ascending, are_distinct, entered, entry_at, has_key, last_version}
+use Rattle.sb_table.specs.Plain.{IsPlainTable, is_full_for, with_entry}
+use Rattle.sb_table.proofs.Ascent.{last_version-push}
+use Rattle.sb_table.proofs.Enter.{length-entered, length-entered_full}
+use Rattle.sb_holdings.specs.Entering.{entered_each}
+use Rattle.sb_holdings.specs.Plain.{with_entries}
+use Rattle.sb_holdings.specs.Ends.{keys_with}
+use Rattle.sb_holdings.proofs.Entering.{one_by_one}
+use Rattle.sb_holdings.proofs.Order.{distinct_taken}
+
+entered_each-push : (entries xs : List Entry) (e : Entry) → entered_each entries (xs ++ e ∷ []) ≡ entered (entered_each entries xs) (e ∷ [])
+entered_each-push entries [] e = refl
+entered_each-push entries (x ∷ xs) e = entered_each-push (entered entries (x ∷ [])) xs e
+
+entered-push : (entries xs : List Entry) (e : Entry) → are_distinct xs ≡ true → are_distinct (xs ++ e ∷ []) ≡ true → entered (entered entries xs) (e ∷ []) ≡ entered entries (xs ++ e ∷ [])
+entered-push entries xs e front apart =
+    ap (λ (es : List Entry). entered es (e ∷ [])) (sym (one_by_one entries xs front)) ∙ sym (entered_each-push entries xs e) ∙ one_by_one entries (xs ++ e ∷ []) apart
+
+pub with_entries-nil : (t : Table) → with_entries t [] ≡ t
+with_entries-nil t = ap (λ (es : List Entry). let u : Table = record { held = t.held; floor = t.floor; entries = es } in u) (sym (one_by_one t.entries [] refl))
+
+with_entries-push : (t : Table) (xs : List Entry) (e : Entry) → are_distinct xs ≡ true → are_distinct (xs ++ e ∷ []) ≡ true → with_entry (with_entries t xs) e ≡ with_entries t (xs ++ e ∷ [])
+with_entries-push t xs e front apart = λ i. record { held = sym (last_version-push t.held xs e) i; floor = t.floor; entries = entered-push t.entries xs e front apart i }
+
+later-more : (before : ℕ) (es : List Entry) (n : ℕ) (d : Entry) → are_ascending before es ≡ true → n < length es → last_version before (take n es) < (get_or es n d).version
+later-more before [] n d up lt = absurd (omega arith)
+later-more before (x ∷ xs) zero d up lt = ltb-true before x.version (and_parts _ _ up).0
+later-more before (x ∷ xs) (suc n) d up lt = later-more x.version xs n d (and_parts _ _ up).1 (omega arith)
+
+-- the table u is t with the first n entries entered, and x is the next
+module _ (t u : Table) (es : List Entry) (n : ℕ) (x : Entry) (key : List ℕ) (at : u ≡ with_entries t (take n es)) (lt : n < length es) (is : x ≡ get_or es n x) (key_is : key ≡ x.key) where
+  pub later-next : are_ascending t.held es ≡ true → u.held < x.version
+  later-next up = omega (arith, later-more t.held es n x up lt, ap (λ (v : Table). v.held) at, ap (λ (e : Entry). e.version) is)
+
+  pub with_entries-next : are_distinct es ≡ true → with_entry u x ≡ with_entries t (take (n + 1) es)
+  with_entries-next apart =
+      let more : take (n + 1) es ≡ take n es ++ x ∷ [] = take_more es n x lt ∙ ap (λ (e : Entry). take n es ++ e ∷ []) (sym is) in
+      ap (λ (v : Table). with_entry v x) at
+      ∙ with_entries-push t (take n es) x (distinct_taken n es apart) (subst (λ (xs : List Entry). are_distinct xs ≡ true) more (distinct_taken (n + 1) es apart))
+      ∙ ap (with_entries t) (sym more)
+
+  keys-next : are_distinct es ≡ true → length (entered u.entries (x ∷ [])) ≡ keys_with (n + 1) es t.entries
+  keys-next apart = ap (λ (v : Table). length v.entries) (with_entries-next apart)
+
+  pub keys-so_far : IsPlainTable u → keys_with n es t.entries ≤ KEYS_MOST
+  keys-so_far plain = omega (arith, plain.few, ap (λ (v : Table). length v.entries) at)
+
+  pub keys-room : are_distinct es ≡ true → IsPlainTable u → is_full_for key u.entries ≡ false → keys_with (n + 1) es t.entries ≤ KEYS_MOST
+  keys-room apart plain room = omega (arith, length-entered x u.entries KEYS_MOST plain.few (ap (λ (k : List ℕ). is_full_for k u.entries) (sym key_is) ∙ room), keys-next apart)
+
+  pub keys-full : are_distinct es ≡ true → is_full_for key u.entries ≡ true → KEYS_MOST < keys_with (n + 1) es t.entries
+  keys-full apart full = omega (arith, length-entered_full x u.entries KEYS_MOST (ap (λ (k : List ℕ). is_full_for k u.entries) (sym key_is) ∙ full), keys-next apart)
+
+-- ---- whether a key would be one too many
+
+is_none-map : {A B : Type 0} (f : A → B) (o : Option A) → is_none (option_map f o) ≡ is_none o
+is_none-map f None = refl
+is_none-map f (Some x) = refl
+
+is_none-cond : (b : Bool) (e : Entry) (o : Option Entry) (c : Bool) → is_none o ≡ not c → is_none (cond b (Some e) o) ≡ not (b || c)
+is_none-cond true e o c h = refl
+is_none-cond false e o c h = h
+
+is_none-entry_at : (key : List ℕ) (es : List Entry) → is_none (entry_at key es) ≡ not (has_key key es)
+is_none-entry_at key [] = refl
+is_none-entry_at key (e ∷ es) = is_none-cond (pointwise nat_eq e.key key) e (entry_at key es) (has_key key es) (is_none-entry_at key es)
+
+not-not : (b : Bool) → not (not b) ≡ b
+not-not true = refl
+not-not false = refl
+
+pub is_full_for-found : {A B : Type 0} (f : A → B) (g : Entry → B) (o : Option A) (key : List ℕ) (es : List Entry) (none : Bool) →
+    option_map f o ≡ option_map g (entry_at key es) → KEYS_MOST ≤ length es → is_some o ≡ not none → none ≡ is_full_for key es
+is_full_for-found f g o key es none found full is =
+    sym (not-not none) ∙ ap not (sym is) ∙ sym (is_none-map f o) ∙ ap is_none found ∙ is_none-map g (entry_at key es) ∙ is_none-entry_at key es
+    ∙ sym (and-true (not (has_key key es))) ∙ ap (λ b. not (has_key key es) && b) (sym (le-leb KEYS_MOST (length es) full))

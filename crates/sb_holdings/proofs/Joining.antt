@@ -1,0 +1,89 @@
+-- What a block and an own write do to the shown table.
+use Rattle.std.proofs.Common.{◌≡◌, ℕ, zero, suc, ◌+◌, ◌<◌, ◌≤◌, max, true, cond, List, [], ◌∷◌, length, inl, inr, ⊎_elim, refl, sym, ap, subst, ◌∙◌, Option, Some, None, IfSome, nat_lt, nat_le, nat_eq, arith, ltb-true, leb-true, eqb-true, lt-ltb}
+use Rattle.std.proofs.lemmas.Bool.{and_parts, and_from, cond_both}
+use Rattle.sb_types.specs.declared.entry.Write.{Write}
+use Rattle.sb_types.specs.Records.{Entry, Table, Stage, Block, Holder}
+use Rattle.sb_types.specs.Runs.{live, above, entered, IsRun, IsBlock}
+use Rattle.sb_types.specs.Writes.{Written, Tells, HoldsStage, Honest, IsHolder, HolderHolds}
+use Rattle.sb_holdings.specs.declared.ends.BlockEnd.{BlockEnd}
+use Rattle.sb_holdings.specs.declared.ends.BlockEnd.TheVariants.{Own, OwnAhead, Gap, Stale, OwnersFull, Taken, TooManyKeys, NoMemory}
+use Rattle.sb_holdings.specs.Blocks.{part_above, front}
+use Rattle.sb_table.specs.Plain.{with_entry}
+use Rattle.sb_holdings.specs.Shown.{joins_shown, stage_beyond, shown_with, own}
+use Rattle.sb_holdings.specs.Stages.{new_stage, goes_on, begins, stage_for, stage_with, swapped, settled, staged_all, staged_front, staged_refused}
+use Rattle.sb_holdings.specs.Taken.{routed, treat}
+use Rattle.sb_holdings.specs.Progress.{Onward}
+use Rattle.sb_holdings.proofs.Lists.{of_live, of_entered}
+use Rattle.sb_holdings.proofs.Order.{run_after, run_order, run_kept, run_entered}
+use Rattle.sb_holdings.proofs.Telling.{tells_live, tells_raised, tells_raised_below, tells_entered, one_write, within_writes}
+use Rattle.sb_holdings.proofs.Swapping.{swapped_run, swapped_tells, swapped_each}
+use Rattle.sb_holdings.proofs.Parts.{IsPart, part_is, front_is}
+use Rattle.sb_holdings.proofs.Steps.{Step, unchanged}
+
+beyond_is : (before held : ℕ) (o : Option Stage) → IfSome o (λ s. IsRun 0 s.progress s.entries × (before < s.floor)) → IfSome (stage_beyond held o) (λ s. IsRun 0 s.progress s.entries × (held < s.floor))
+beyond_is before held None p = tt
+beyond_is before held (Some s) p =
+    cond_both (nat_lt held s.floor) (Some s) None (λ o. IfSome o (λ s. IsRun 0 s.progress s.entries × (held < s.floor))) (λ l. (p.0, ltb-true held s.floor l)) (λ _. tt)
+
+beyond_holds : (writes : List Write) (held : ℕ) (o : Option Stage) → IfSome o (HoldsStage writes) → IfSome (stage_beyond held o) (HoldsStage writes)
+beyond_holds writes held None p = tt
+beyond_holds writes held (Some s) p = cond_both (nat_lt held s.floor) (Some s) None (λ o. IfSome o (HoldsStage writes)) (λ _. p) (λ _. tt)
+
+joined_tells : {writes : List Write} {before floor held upto : ℕ} {entries others : List Entry} → IsRun 0 held entries → IsRun held upto others → before ≤ held → floor ≤ held → Tells writes before 0 held entries → Tells writes floor held upto others → Tells writes (max before floor) 0 upto (entered (live (max before floor) entries) others)
+joined_tells {before = before} {floor = floor} r q l m t n =
+    tells_entered (run_kept _ r) q
+    (tells_live (tells_raised (max before floor) (omega arith) (omega arith) r t))
+    (tells_raised_below (max before floor) (omega arith) (omega arith) q n)
+
+pub shown_step : (writes : List Write) (h : Holder) (b p : Block) → IsHolder h → IsPart b h.shown.held p → b.floor ≤ h.shown.held → Step writes (Honest writes b) h (shown_with h p)
+shown_step writes h b p i part l = record {
+  is = record {
+    shown = record {
+      run = run_entered (run_kept _ i.shown.run) part.run;
+      floor = omega (arith, i.shown.floor, part.floor, run_order part.run);
+    };
+    stage = beyond_is h.shown.held p.upto h.stage i.stage;
+  };
+  onward = record {
+    held = run_order part.run;
+    each = λ e s. ⊎_elim (λ old. inl (of_live _ h.shown.entries e old)) (λ new. inr (run_after e part.run new)) (of_entered _ p.entries e s);
+  };
+  holds = λ honest t. record {
+    shown = joined_tells i.shown.run part.run i.shown.floor (omega (arith, part.floor)) t.shown (part.honest writes honest);
+    stage = beyond_holds writes p.upto h.stage t.stage;
+  };
+}
+
+one_run : (held : ℕ) (e : Entry) → held < e.version → IsRun held e.version (e ∷ [])
+one_run held e l = record { ascending = and_from _ _ (lt-ltb held e.version l) refl; most = omega arith; distinct = refl }
+
+one_tells : {writes : List Write} (floor held : ℕ) (e : Entry) → floor ≤ held → e.version ≡ held + 1 → Written writes e → Tells writes floor held e.version (e ∷ [])
+one_tells floor held e l v w = record {
+  reach = within_writes e w;
+  reach_floor = omega (arith, within_writes e w);
+  true_each = λ x s. ⊎_elim (λ p. subst (Written _) p w) (λ none. absurd none) s;
+  whole = λ x y lo hi. inl (inl (one_write e x w y (omega arith)));
+  past = λ x y z g s k o. ⊎_elim (λ p. absurd (omega (arith, o, g.1, ap (λ (a : Entry). a.version) p))) (λ none. absurd none) s;
+}
+
+pub own_step : (writes : List Write) (h : Holder) (e : Entry) → IsHolder h → Step writes (Written writes e) h (own h e)
+own_step writes h e i = cond_both (nat_eq e.version (h.shown.held + 1)) _ h (Step writes (Written writes e) h) (λ is. next (eqb-true e.version (h.shown.held + 1) is)) (λ _. unchanged i)
+  where
+    next : e.version ≡ h.shown.held + 1 → Step writes (Written writes e) h (record { shown = with_entry h.shown e; stage = stage_beyond e.version h.stage })
+    next v =
+        let l : h.shown.held < e.version = omega arith in
+        let one = one_run h.shown.held e l in
+        record {
+          is = record {
+            shown = record { run = run_entered i.shown.run one; floor = omega (arith, i.shown.floor) };
+            stage = beyond_is h.shown.held e.version h.stage i.stage;
+          };
+          onward = record {
+            held = omega arith;
+            each = λ x s. ⊎_elim inl (λ new. inr (run_after x one new)) (of_entered h.shown.entries (e ∷ []) x s);
+          };
+          holds = λ w t. record {
+            shown = tells_entered i.shown.run one t.shown (one_tells h.shown.floor h.shown.held e i.shown.floor v w);
+            stage = beyond_holds writes e.version h.stage t.stage;
+          };
+        }

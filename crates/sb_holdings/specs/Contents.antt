@@ -1,0 +1,19 @@
+-- All that was written, as a table.
+use Rattle.std.specs.Prelude.{ℕ, ◌+◌, if◌then◌else◌, List, [], ◌∷◌, length}
+use Rattle.sb_types.specs.declared.entry.Write.{Write}
+use Rattle.sb_types.specs.Records.{Entry, Table}
+use Rattle.sb_types.specs.Runs.{has_key, live}
+
+-- the writes as entries, numbered from the one after this version
+abbrev pub numbered : ℕ → List Write → List Entry
+numbered version [] = []
+numbered version (w ∷ ws) = record { key = w.key; version = version + 1; slot = w.slot } ∷ numbered (version + 1) ws
+
+-- the last entry of each key
+abbrev pub last_each : List Entry → List Entry
+last_each [] = []
+last_each (e ∷ es) = if has_key e.key es then last_each es else e ∷ last_each es
+
+-- what a log of these writes, purged up to the floor, has
+abbrev pub content_table : ℕ → List Write → Table
+content_table floor writes = record { held = length writes; floor = floor; entries = live floor (last_each (numbered 0 writes)) }

@@ -1,0 +1,37 @@
+-- What happens to what is held of one owner.
+use Rattle.std.specs.Prelude.{List, [], ◌∷◌}
+use Rattle.sb_types.specs.declared.entry.Write.{Write}
+use Rattle.sb_types.specs.Records.{Entry, Block, Holder}
+use Rattle.sb_types.specs.Runs.{Stands, IsBlock}
+use Rattle.sb_types.specs.Writes.{Written, Honest}
+use Rattle.sb_holdings.specs.declared.ends.BlockEnd.{BlockEnd}
+use Rattle.sb_holdings.specs.Shown.{own}
+use Rattle.sb_holdings.specs.Taken.{treat}
+
+-- the owner wrote, or a block came and was ended so
+pub data Event : Type 0 where
+  Owned : Entry → Event
+  Came : Block → BlockEnd → Event
+
+abbrev pub happens : Holder → Event → Holder
+happens h (Owned e) = own h e
+happens h (Came b end) = treat h b end
+
+abbrev pub replay : Holder → List Event → Holder
+replay h [] = h
+replay h (event ∷ events) = replay (happens h event) events
+
+abbrev pub IsEvent : Event → Type 0
+IsEvent (Owned e) = Unit {0}
+IsEvent (Came b end) = IsBlock b
+
+-- a committed write, or an honest block
+abbrev pub TrueEvent : List Write → Event → Type 0
+TrueEvent writes (Owned e) = Written writes e
+TrueEvent writes (Came b end) = Honest writes b
+
+abbrev pub AreEvents : List Event → Type 0
+AreEvents events = (event : Event) → Stands events event → IsEvent event
+
+abbrev pub AllTrue : List Write → List Event → Type 0
+AllTrue writes events = (event : Event) → Stands events event → TrueEvent writes event

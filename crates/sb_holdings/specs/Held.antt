@@ -1,0 +1,54 @@
+-- What a node holds, of all owners, and how it changes.
+use Rattle.std.specs.Prelude.{ℕ, Bool, ◌&&◌, nat_eq, if◌then◌else◌, List, [], length, None, is_none, unwrap_or}
+use Rattle.std.specs.Ordering.{nat_cmp}
+use Rattle.std.specs.Cmp.Lexicographic.{slice_cmp, pointwise}
+use Rattle.std.specs.FinMap.{FinMap, get, insert, remove}
+use Rattle.sb_types.specs.Records.{Entry, Table, Block, Holder}
+use Rattle.sb_holdings.specs.declared.ends.BlockEnd.{BlockEnd}
+use Rattle.sb_holdings.specs.declared.ends.BlockEnd.TheVariants.{Own, OwnAhead, Gap, Stale, OwnersFull, Taken, TooManyKeys, NoMemory}
+use Rattle.sb_holdings.specs.Shown.{own}
+use Rattle.sb_holdings.specs.Taken.{treat}
+
+-- the node's own name, and what it holds of each owner
+pub record Held : Type 0 where
+  pub me : List ℕ
+  pub owners : FinMap (slice_cmp nat_cmp) Holder
+
+-- what is held of an owner that is not known
+abbrev pub nothing : Holder
+nothing = record { shown = record { held = 0; floor = 0; entries = [] }; stage = None }
+
+abbrev pub is_nothing : Holder → Bool
+is_nothing h = nat_eq h.shown.held 0 && (nat_eq h.shown.floor 0 && (nat_eq (length h.shown.entries) 0 && is_none h.stage))
+
+abbrev pub holder_of : FinMap (slice_cmp nat_cmp) Holder → List ℕ → Holder
+holder_of owners owner = unwrap_or (get owners owner) nothing
+
+abbrev pub shown_of : Held → List ℕ → Table
+shown_of held owner = (holder_of held.owners owner).shown
+
+-- an owner of whom nothing is held does not stand in the map
+abbrev pub with_holder : FinMap (slice_cmp nat_cmp) Holder → List ℕ → Holder → FinMap (slice_cmp nat_cmp) Holder
+with_holder owners owner h = if is_nothing h then remove owners owner else insert owners owner h
+
+abbrev pub with_owner : Held → List ℕ → Holder → Held
+with_owner held owner h = record { me = held.me; owners = with_holder held.owners owner h }
+
+-- after the node's own write
+abbrev pub written : Held → Entry → Held
+written held e = with_owner held held.me (own (holder_of held.owners held.me) e)
+
+-- no block of the node's own name is taken
+abbrev pub taken : Held → Block → BlockEnd → Held
+taken held b end = if pointwise nat_eq b.owner held.me then held else with_owner held b.owner (treat (holder_of held.owners b.owner) b end)
+
+-- after a block that was ended so
+abbrev pub treated : Held → Block → BlockEnd → Held
+treated held b Own = held
+treated held b (OwnAhead upto) = held
+treated held b Gap = held
+treated held b Stale = held
+treated held b OwnersFull = held
+treated held b (Taken n) = taken held b (Taken n)
+treated held b (TooManyKeys n) = taken held b (TooManyKeys n)
+treated held b (NoMemory n) = taken held b (NoMemory n)

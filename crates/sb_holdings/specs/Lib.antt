@@ -1,0 +1,13 @@
+pub mod Blocks
+pub mod Shown
+pub mod Stages
+pub mod Taken
+pub mod Events
+pub mod Progress
+pub mod Held
+pub mod Nodes
+pub mod Entering
+pub mod ByVersion
+pub mod Contents
+pub mod Plain
+pub mod Ends

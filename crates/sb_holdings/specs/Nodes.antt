@@ -1,0 +1,74 @@
+-- A node, and what happens to it.
+use Rattle.std.specs.Prelude.{ℕ, max, List, [], ◌∷◌, Option, Some, None}
+use Rattle.sb_types.specs.declared.entry.Write.{Write}
+use Rattle.sb_types.specs.Records.{Entry, Block, Holder}
+use Rattle.sb_types.specs.Runs.{Stands, IsBlock}
+use Rattle.sb_types.specs.Writes.{Written, Honest, IsHolder, HolderHolds}
+use Rattle.sb_holdings.specs.declared.ends.BlockEnd.{BlockEnd}
+use Rattle.sb_holdings.specs.declared.ends.BlockEnd.TheVariants.{Own, OwnAhead, Gap, Stale, OwnersFull, Taken, TooManyKeys, NoMemory}
+use Rattle.sb_holdings.specs.Held.{Held, holder_of, written, treated}
+use Rattle.sb_holdings.specs.Progress.{Later}
+
+-- what the node holds, and the greatest version under its name that it did not write
+pub record Node : Type 0 where
+  pub held : Held
+  pub conflict : Option ℕ
+
+-- what it holds of an owner
+abbrev pub held_by : Node → List ℕ → Holder
+held_by node owner = holder_of node.held.owners owner
+
+abbrev pub greater : Option ℕ → ℕ → Option ℕ
+greater None version = Some version
+greater (Some known) version = Some (max known version)
+
+abbrev pub conflict_after : Option ℕ → BlockEnd → Option ℕ
+conflict_after known (OwnAhead upto) = greater known upto
+conflict_after known Own = known
+conflict_after known Gap = known
+conflict_after known Stale = known
+conflict_after known OwnersFull = known
+conflict_after known (Taken n) = known
+conflict_after known (TooManyKeys n) = known
+conflict_after known (NoMemory n) = known
+
+abbrev pub treat_at : Node → Block → BlockEnd → Node
+treat_at node b end = record { held = treated node.held b end; conflict = conflict_after node.conflict end }
+
+-- the node wrote, or took a block and ended it so
+pub data NodeEvent : Type 0 where
+  Wrote : Entry → NodeEvent
+  Took : Block → BlockEnd → NodeEvent
+
+abbrev pub happens_at : Node → NodeEvent → Node
+happens_at node (Wrote e) = record { held = written node.held e; conflict = node.conflict }
+happens_at node (Took b end) = treat_at node b end
+
+abbrev pub replay_at : Node → List NodeEvent → Node
+replay_at node [] = node
+replay_at node (event ∷ events) = replay_at (happens_at node event) events
+
+abbrev pub IsNodeEvent : NodeEvent → Type 0
+IsNodeEvent (Wrote e) = Unit {0}
+IsNodeEvent (Took b end) = IsBlock b
+
+-- the node's own committed write, or an honest block
+abbrev pub TrueAt : (List ℕ → List Write) → List ℕ → NodeEvent → Type 0
+TrueAt writes me (Wrote e) = Written (writes me) e
+TrueAt writes me (Took b end) = Honest (writes b.owner) b
+
+abbrev pub AreNodeEvents : List NodeEvent → Type 0
+AreNodeEvents events = (event : NodeEvent) → Stands events event → IsNodeEvent event
+
+abbrev pub AllTrueAt : (List ℕ → List Write) → List ℕ → List NodeEvent → Type 0
+AllTrueAt writes me events = (event : NodeEvent) → Stands events event → TrueAt writes me event
+
+abbrev pub IsNode : Node → Type 0
+IsNode node = (owner : List ℕ) → IsHolder (held_by node owner)
+
+abbrev pub NodeHolds : (List ℕ → List Write) → Node → Type 0
+NodeHolds writes node = (owner : List ℕ) → HolderHolds (writes owner) (held_by node owner)
+
+-- of no owner does what is known go back
+abbrev pub NodeLater : Node → Node → Type 0
+NodeLater old new = (owner : List ℕ) → Later (held_by old owner).shown (held_by new owner).shown

@@ -1,0 +1,25 @@
+-- How a block joins the shown table of its owner.
+use Rattle.std.specs.Prelude.{ℕ, ◌+◌, max, Bool, ◌&&◌, nat_lt, nat_le, nat_eq, if◌then◌else◌, Option, Some, None}
+use Rattle.sb_types.specs.Records.{Entry, Table, Stage, Block, Holder}
+use Rattle.sb_types.specs.Runs.{entered, live}
+use Rattle.sb_table.specs.Plain.{with_entry}
+
+-- no write between what is held and the block is missing, the block tells of more, and what its floor let go is passed
+abbrev pub joins_shown : Table → Block → Bool
+joins_shown t b = nat_le b.floor t.held && (nat_le b.after t.held && nat_lt t.held b.upto)
+
+-- the floor rises to the block's, the markers up to it go, and the block's entries are entered
+abbrev pub joined : Table → Block → Table
+joined t b = record { held = b.upto; floor = max t.floor b.floor; entries = entered (live (max t.floor b.floor) t.entries) b.entries }
+
+-- a stage goes once the shown table has reached its floor
+abbrev pub stage_beyond : ℕ → Option Stage → Option Stage
+stage_beyond held None = None
+stage_beyond held (Some s) = if nat_lt held s.floor then Some s else None
+
+abbrev pub shown_with : Holder → Block → Holder
+shown_with h b = record { shown = joined h.shown b; stage = stage_beyond b.upto h.stage }
+
+-- the owner's own write, where it is the next; another changes nothing
+abbrev pub own : Holder → Entry → Holder
+own h e = if nat_eq e.version (h.shown.held + 1) then record { shown = with_entry h.shown e; stage = stage_beyond e.version h.stage } else h

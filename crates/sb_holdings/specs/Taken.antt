@@ -1,0 +1,22 @@
+-- What a block leaves of one owner, by its end.
+use Rattle.std.specs.Prelude.{nat_lt, if◌then◌else◌, Option}
+use Rattle.sb_types.specs.Records.{Stage, Block, Holder}
+use Rattle.sb_holdings.specs.declared.ends.BlockEnd.{BlockEnd}
+use Rattle.sb_holdings.specs.declared.ends.BlockEnd.TheVariants.{Own, OwnAhead, Gap, Stale, OwnersFull, Taken, TooManyKeys, NoMemory}
+use Rattle.sb_holdings.specs.Blocks.{part_above, front}
+use Rattle.sb_holdings.specs.Shown.{joins_shown, shown_with}
+use Rattle.sb_holdings.specs.Stages.{stage_for, staged_all, staged_front, staged_refused}
+
+-- by where the block goes: to the shown table, to the stage, or nowhere
+abbrev pub routed : Holder → Block → Holder → (Option Stage → Holder) → Holder
+routed h b shown staged = if joins_shown h.shown b then shown else (if nat_lt h.shown.held b.floor then staged (stage_for h.stage b) else h)
+
+abbrev pub treat : Holder → Block → BlockEnd → Holder
+treat h b Own = h
+treat h b (OwnAhead upto) = h
+treat h b Gap = h
+treat h b Stale = h
+treat h b OwnersFull = h
+treat h b (Taken n) = routed h b (shown_with h (part_above h.shown.held b)) (staged_all h b)
+treat h b (TooManyKeys n) = routed h b (shown_with h (front n (part_above h.shown.held b))) (staged_front n h b)
+treat h b (NoMemory n) = routed h b (shown_with h (front n (part_above h.shown.held b))) (staged_refused n h b)

@@ -1,0 +1,68 @@
+//! What stays true of the writes that a node holds.
+
+ghost use Rattle.std.specs.Prelude.{◌≡◌, ℕ, true, List, ◌++◌, ◌↔◌, Option};
+ghost use Rattle.sb_types.specs.declared.entry.Write.{Write};
+ghost use Rattle.sb_types.specs.Records.{Entry, Table, Block, Holder};
+ghost use Rattle.sb_types.specs.Limits.{is_delta_block};
+ghost use Rattle.sb_types.specs.Runs.{are_distinct, entered, IsBlock};
+ghost use Rattle.sb_types.specs.Writes.{Tells, Holds, Honest, IsHolder, HolderHolds};
+ghost use Rattle.sb_holdings.specs.declared.ends.BlockEnd.{BlockEnd};
+ghost use Rattle.sb_holdings.specs.Taken.{treat};
+ghost use Rattle.sb_holdings.specs.Events.{Event, replay, AreEvents, AllTrue};
+ghost use Rattle.sb_holdings.specs.Progress.{Later};
+ghost use Rattle.sb_holdings.specs.Held.{Held};
+ghost use Rattle.sb_holdings.specs.Plain.{IsHoldings};
+ghost use Rattle.sb_holdings.specs.Nodes.{Node, NodeEvent, replay_at, AreNodeEvents, AllTrueAt, IsNode, NodeHolds, NodeLater};
+ghost use Rattle.sb_holdings.specs.Entering.{entered_each};
+ghost use Rattle.sb_holdings.specs.ByVersion.{TellsByVersion};
+
+/// What is told stays true as more is written.
+pub fn truth_lasts()
+    ensures table { (writes more : List Write) (t : Table) → Holds writes t → Holds (writes ++ more) t }
+    ensures block { (writes more : List Write) (b : Block) → Honest writes b → Honest (writes ++ more) b }
+{}
+
+/// To enter entries one by one, each in place of its key's, is to enter them at once.
+pub fn one_by_one()
+    ensures { (entries others : List Entry) → are_distinct others ≡ true → entered_each entries others ≡ entered entries others }
+{}
+
+/// What is held stays true, whichever honest block comes and whatever its end.
+pub fn blocks_keep_truth()
+    ensures holds { (writes : List Write) (h : Holder) (b : Block) (end : BlockEnd) →
+        IsHolder h → IsBlock b → HolderHolds writes h → Honest writes b → HolderHolds writes (treat h b end) }
+    ensures is { (h : Holder) (b : Block) (end : BlockEnd) → IsHolder h → IsBlock b → IsHolder (treat h b end) }
+{}
+
+/// Over any events, honest or not, held does not fall and no key's version does.
+pub fn nothing_goes_back()
+    ensures later { (h : Holder) (events : List Event) → IsHolder h → AreEvents events → Later h.shown (replay h events).shown }
+    ensures is { (h : Holder) (events : List Event) → IsHolder h → AreEvents events → IsHolder (replay h events) }
+{}
+
+/// What honest blocks and committed writes leave of an owner is true.
+pub fn replays_hold()
+    ensures { (writes : List Write) (h : Holder) (events : List Event) →
+        IsHolder h → AreEvents events → HolderHolds writes h → AllTrue writes events → HolderHolds writes (replay h events) }
+{}
+
+/// Over a node's whole run, what honest blocks and committed writes leave of each owner is true; and whatever
+/// blocks come, held does not fall for any owner and no key's version does.
+pub fn nodes_hold()
+    ensures holds { (writes : List ℕ → List Write) (node : Node) (events : List NodeEvent) →
+        IsNode node → AreNodeEvents events → NodeHolds writes node → AllTrueAt writes node.held.me events → NodeHolds writes (replay_at node events) }
+    ensures later { (node : Node) (events : List NodeEvent) → IsNode node → AreNodeEvents events → NodeLater node (replay_at node events) }
+    ensures is { (node : Node) (events : List NodeEvent) → IsNode node → AreNodeEvents events → IsNode (replay_at node events) }
+{}
+
+/// The two ways to say what entries tell of writes are one: entry by entry, and version by version.
+pub fn one_meaning()
+    ensures { (writes : List Write) (floor after upto : ℕ) (entries : List Entry) →
+        Tells writes floor after upto entries ↔ TellsByVersion writes floor after upto entries }
+{}
+
+/// A node's laws hold of what is held: whatever its conflict, holdings make a node, and a delta's blocks are blocks.
+pub fn holdings_make_nodes()
+    ensures node { (held : Held) (conflict : Option ℕ) → IsHoldings held → IsNode (record { held = held; conflict = conflict }) }
+    ensures block { (b : Block) → is_delta_block b ≡ true → IsBlock b }
+{}

@@ -1,0 +1,83 @@
+//! The owners that are held.
+ghost use Rattle.std.specs.Prelude.{◌≡◌};
+ghost use Rattle.std.specs.Iterator.{YieldsFirstRef, YieldsFirstBy, item_count};
+ghost use Rattle.std.specs.Map.Iter.{deref_pair};
+
+use sb_table::Table;
+use sb_types::Name;
+use std::collections::btree_map::{Keys, Range};
+use std::iter::FusedIterator;
+use std::marker::Model;
+
+/// Names of owners, in ascending order.
+#[derive(Drop)]
+pub struct Owners<'a> {
+    names: Keys<'a, Name, Table>,
+}
+
+impl<'a> Model for Owners<'a> {
+    ghost use Rattle.std.specs.Prelude.{ℕ, List};
+
+    ghost Value = { List (List ℕ) };
+
+    ghost view = { λ it. it.names };
+}
+
+impl<'a> Owners<'a> {
+    pub(crate) fn new(names: Keys<'a, Name, Table>) -> Owners<'a>
+        ensures { result ≡ names.entry }
+    {
+        Owners { names }
+    }
+}
+
+impl<'a> Iterator for Owners<'a> {
+    type Item = &'a Name;
+
+    ghost next_gives = { YieldsFirstRef (λ it. it) };
+
+    ghost remaining = { item_count (λ it. it) };
+
+    fn next(&mut self) -> Option<&'a Name> {
+        self.names.next()
+    }
+}
+
+impl<'a> FusedIterator for Owners<'a> {}
+
+/// Owners with their tables, in ascending order of the names.
+#[derive(Drop)]
+pub struct Tables<'a> {
+    tables: Range<'a, Name, Table>,
+}
+
+impl<'a> Model for Tables<'a> {
+    ghost use Rattle.std.specs.Prelude.{ℕ, List};
+    ghost use Rattle.sb_types.specs.Records as records;
+
+    ghost Value = { List (List ℕ × records.Table) };
+
+    ghost view = { λ it. it.tables };
+}
+
+impl<'a> Tables<'a> {
+    pub(crate) fn new(tables: Range<'a, Name, Table>) -> Tables<'a>
+        ensures { result ≡ tables.entry }
+    {
+        Tables { tables }
+    }
+}
+
+impl<'a> Iterator for Tables<'a> {
+    type Item = (&'a Name, &'a Table);
+
+    ghost next_gives = { YieldsFirstBy deref_pair (λ it. it) };
+
+    ghost remaining = { item_count (λ it. it) };
+
+    fn next(&mut self) -> Option<(&'a Name, &'a Table)> {
+        self.tables.next()
+    }
+}
+
+impl<'a> FusedIterator for Tables<'a> {}

@@ -1,0 +1,19 @@
+//! What a read of a table gives.
+
+ghost use Rattle.std.specs.Prelude.{◌≡◌, ℕ, ◌≤◌, List, Some};
+ghost use Rattle.sb_types.specs.declared.entry.Slot.TheVariants.{Set};
+ghost use Rattle.sb_types.specs.declared.entry.Write.{Write};
+ghost use Rattle.sb_types.specs.Value.{Value};
+ghost use Rattle.sb_types.specs.Records.{Entry, Table};
+ghost use Rattle.sb_types.specs.Runs.{IsTable, set_at, shown_at};
+ghost use Rattle.sb_types.specs.Writes.{Written, Superseded, Holds};
+
+/// What is read of a table that holds was written so, and up to held it is the last that was written.
+pub fn reads_are_true()
+    ensures written { (writes : List Write) (t : Table) (key : List ℕ) (value : Value) (version : ℕ) →
+        Holds writes t → shown_at key t.entries ≡ Some (value, version) →
+        Written writes (record { key = key; version = version; slot = Set value }) }
+    ensures exact { (writes : List Write) (t : Table) (e : Entry) →
+        IsTable t → Holds writes t → Written writes e → e.version ≤ t.held → (Superseded writes e → ⊥) →
+        shown_at e.key t.entries ≡ set_at e.version e.slot }
+{}

@@ -1,0 +1,223 @@
+ghost use Rattle.std.specs.Prelude.{◌≤◌, ◌<◌};
+
+use super::*;
+use sb_table::Table;
+use sb_types::{Block, Entry, Fault, Key, Name, Slot, Value};
+use std::alloc::Global;
+use std::test::Fail;
+
+fn weight(key: &[u8], version: u64) -> Result<Entry, Fault>
+    requires { 1 ≤ version }
+{
+    Ok(Entry::new(Key::read(key)?, version, Slot::Set(Value::weight(version)?)))
+}
+
+fn address(alloc: Global, key: &[u8], version: u64) -> Result<Entry, Fault>
+    requires { 1 ≤ version }
+{
+    let slot = Slot::Set(Value::addr(alloc, b"10.0.0.1")?);
+    Ok(Entry::new(Key::read(key)?, version, slot))
+}
+
+/// The text of a number, in four letters.
+fn text_of(number: u64) -> [u8; 4] {
+    let mut text = [b'a'; 4];
+    let mut rest = number;
+    for letter in text.iter_mut() {
+        *letter = b'a' + (rest % 26) as u8;
+        rest /= 26;
+    }
+    text
+}
+
+/// The entries of these versions, each under a key of its own.
+fn entries(alloc: Global, first: u64, last: u64) -> Result<Vec<Entry>, Fault>
+    requires one { 1 ≤ first }
+    requires fits { last < 100000 }
+{
+    let mut entries = Vec::new(alloc);
+    for version in first..last + 1 {
+        entries.push(weight(&text_of(version), version)?)?;
+    }
+    Ok(entries)
+}
+
+fn holdings_of(alloc: Global, me: &[u8]) -> Result<Holdings, Fault> {
+    Holdings::new(alloc, Name::read(me)?, Table::new(alloc))
+}
+
+#[test]
+fn blocks_join_on_or_change_nothing(rt: HostRuntime) -> Result<(), Fail> {
+    let alloc = rt.alloc();
+    let a = Name::read(b"a")?;
+    let mut holdings = holdings_of(alloc, b"b")?;
+    let last = Block::new(a, 2, entries(alloc, 3, 3)?)?;
+    let first = Block::new(a, 0, entries(alloc, 1, 2)?)?;
+    assert_eq!(rt; holdings.apply_block(&last), BlockEnd::Gap);
+    assert_eq!(rt; holdings.upto(&a), 0);
+    assert!(rt; holdings.table(&a).is_none());
+    assert_eq!(rt; holdings.apply_block(&first), BlockEnd::Taken(2));
+    assert_eq!(rt; holdings.apply_block(&last), BlockEnd::Taken(1));
+    assert_eq!(rt; holdings.apply_block(&last), BlockEnd::Stale);
+    assert_eq!(rt; holdings.upto(&a), 3);
+    let all = Block::new(a, 0, entries(alloc, 1, 4)?)?;
+    assert_eq!(rt; holdings.apply_block(&all), BlockEnd::Taken(1));
+    assert_eq!(rt; holdings.table(&a).map_or(0, |table| table.len()), 4);
+    Ok(())
+}
+
+#[test]
+fn own_writes_come_in_turn(rt: HostRuntime) -> Result<(), Fail> {
+    let alloc = rt.alloc();
+    let me = Name::read(b"m")?;
+    let mut holdings = holdings_of(alloc, b"m")?;
+    assert_eq!(rt; *holdings.me(), me);
+    assert_eq!(rt;
+        holdings.push_own(weight(b"w", 2)?),
+        Err(Fault::OutOfTurn(1))
+    );
+    assert_eq!(rt; holdings.push_own(weight(b"w", 1)?), Ok(()));
+    assert_eq!(rt;
+        holdings.push_own(weight(b"w", 1)?),
+        Err(Fault::OutOfTurn(2))
+    );
+    assert_eq!(rt; holdings.upto(&me), 1);
+    let held = Block::new(me, 0, entries(alloc, 1, 1)?)?;
+    assert_eq!(rt; holdings.apply_block(&held), BlockEnd::Own);
+    let ahead = Block::new(me, 1, entries(alloc, 2, 2)?)?;
+    assert_eq!(rt; holdings.apply_block(&ahead), BlockEnd::OwnAhead(2));
+    assert_eq!(rt; holdings.upto(&me), 1);
+    Ok(())
+}
+
+#[test]
+fn owners_have_a_limit(rt: HostRuntime) -> Result<(), Fail> {
+    let alloc = rt.alloc();
+    let mut holdings = holdings_of(alloc, b"m")?;
+    for number in 1..1_024 {
+        let owner = Name::read(&text_of(number))?;
+        let block = Block::new(owner, 0, entries(alloc, 1, 1)?)?;
+        assert_eq!(rt;
+            holdings.apply_block(&block),
+            BlockEnd::Taken(1),
+            "{number}"
+        );
+    }
+    let other = Name::read(b"zz")?;
+    let block = Block::new(other, 0, entries(alloc, 1, 1)?)?;
+    assert_eq!(rt; holdings.apply_block(&block), BlockEnd::OwnersFull);
+    let gap = Block::new(other, 2, entries(alloc, 3, 3)?)?;
+    assert_eq!(rt; holdings.apply_block(&gap), BlockEnd::Gap);
+    assert_eq!(rt; holdings.upto(&other), 0);
+    let mut owners = 0_u64;
+    for _ in holdings.owners() {
+        owners = owners.wrapping_add(1);
+    }
+    assert_eq!(rt; owners, 1_024);
+    let known = Block::new(Name::read(&text_of(1))?, 1, entries(alloc, 2, 2)?)?;
+    assert_eq!(rt; holdings.apply_block(&known), BlockEnd::Taken(1));
+    Ok(())
+}
+
+#[test]
+fn keys_have_a_limit(rt: HostRuntime) -> Result<(), Fail> {
+    let alloc = rt.alloc();
+    let a = Name::read(b"a")?;
+    let mut holdings = holdings_of(alloc, b"b")?;
+    let most = Block::new(a, 0, entries(alloc, 1, 4_094)?)?;
+    assert_eq!(rt; holdings.apply_block(&most), BlockEnd::Taken(4_094));
+    let more = Block::new(a, 4_094, entries(alloc, 4_095, 4_099)?)?;
+    assert_eq!(rt; holdings.apply_block(&more), BlockEnd::TooManyKeys(2));
+    assert_eq!(rt; holdings.upto(&a), 4_096);
+    assert_eq!(rt; holdings.apply_block(&more), BlockEnd::TooManyKeys(0));
+    let again = Block::new(
+        a,
+        4_096,
+        vec![in alloc; weight(&text_of(1), 4_097)?, weight(&text_of(2), 4_098)?]?,
+    )?;
+    assert_eq!(rt; holdings.apply_block(&again), BlockEnd::Taken(2));
+    assert_eq!(rt; holdings.table(&a).map_or(0, |table| table.len()), 4_096);
+    Ok(())
+}
+
+#[test]
+fn owners_come_in_the_order_of_their_names(rt: HostRuntime) -> Result<(), Fail> {
+    let alloc = rt.alloc();
+    let mut holdings = holdings_of(alloc, b"m")?;
+    for name in [b"z".as_slice(), b"a", b"ma"] {
+        let block = Block::new(Name::read(name)?, 0, entries(alloc, 1, 2)?)?;
+        assert_eq!(rt; holdings.apply_block(&block), BlockEnd::Taken(2));
+    }
+    let [a, m, ma, z] = [
+        Name::read(b"a")?,
+        Name::read(b"m")?,
+        Name::read(b"ma")?,
+        Name::read(b"z")?,
+    ];
+    let names: Vec<Name> = holdings.owners().copied().collect(alloc)?;
+    assert_eq!(rt; names.as_slice(), [a, m, ma, z].as_slice());
+    let mut names = Vec::new(alloc);
+    for (name, table) in holdings.tables_from(Some(&ma)) {
+        assert_eq!(rt; table.upto(), 2);
+        names.push(*name)?;
+    }
+    assert_eq!(rt; names.as_slice(), [ma, z].as_slice());
+    let mut all = 0_u64;
+    for _ in holdings.tables_from(None) {
+        all = all.wrapping_add(1);
+    }
+    assert_eq!(rt; all, 4);
+    Ok(())
+}
+
+/// How three entries of a new owner end, what is then held, and how they end the next time.
+fn taken_twice(alloc: Global) -> Result<(BlockEnd, u64, BlockEnd, u64), Fault> {
+    let a = Name::read(b"a")?;
+    let mut holdings = holdings_of(alloc, b"b")?;
+    let block = Block::new(
+        a,
+        0,
+        vec![in alloc;
+            address(alloc, b"x", 1)?,
+            address(alloc, b"y", 2)?,
+            address(alloc, b"z", 3)?,
+        ]?,
+    )?;
+    let end = holdings.apply_block(&block);
+    let held = holdings.upto(&a);
+    let again = holdings.apply_block(&block);
+    Ok((end, held, again, holdings.upto(&a)))
+}
+
+/// Whichever allocation is refused, a front is kept, and the rest is taken the next time.
+#[test]
+fn a_front_stays_where_memory_runs_out(rt: HostRuntime) -> Result<(), Fail> {
+    match taken_twice(rt.alloc()) {
+        Ok((end, held, again, upto)) => {
+            let rest = 3_u64.saturating_sub(held);
+            if rest == 0 {
+                assert_eq!(rt; end, BlockEnd::Taken(3));
+                assert_eq!(rt; again, BlockEnd::Stale);
+            } else {
+                assert_eq!(rt; end, BlockEnd::NoMemory(held));
+                assert_eq!(rt; again, BlockEnd::Taken(rest));
+            }
+            assert_eq!(rt; upto, 3);
+        }
+        Err(fault) => assert_eq!(rt; fault, Fault::NoMemory),
+    }
+    Ok(())
+}
+
+#[test]
+fn reports_list_the_ends(rt: HostRuntime) -> Result<(), Fail> {
+    let alloc = rt.alloc();
+    let report = Report::new(vec![in alloc; BlockEnd::Taken(2), BlockEnd::Gap]?);
+    assert_eq!(rt; report.len(), 2);
+    assert!(rt; !report.is_empty());
+    assert_eq!(rt;
+        report.ends(),
+        [BlockEnd::Taken(2), BlockEnd::Gap].as_slice()
+    );
+    Ok(())
+}
