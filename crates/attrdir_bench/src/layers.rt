@@ -1,0 +1,179 @@
+//! Each layer, measured: only its own call is timed.
+ghost use Rattle.std.specs.Prelude.{◌≡◌};
+
+use crate::problem::Problem;
+use crate::report::Measured;
+use crate::sample::{Sizes, fresh_node};
+use sb_budget::{DeltaOrder, available, cut};
+use sb_codec::{Message, decode_payload, encode_payload};
+use sb_digest::{Digest, build};
+use sb_frames::{Frames, frame_of};
+use sb_holdings::{BlockEnd, Holdings};
+use sb_types::{BUDGET_MOST, Block, Delta, Fault};
+use std::alloc::{Alloc, Global};
+use std::time::CpuClock;
+
+/// How many entries were taken of a block that ended so.
+fn taken(end: BlockEnd) -> u64 {
+    match end {
+        BlockEnd::Taken(count) | BlockEnd::TooManyKeys(count) | BlockEnd::NoMemory(count) => count,
+        _ => 0,
+    }
+}
+
+/// The blocks entered at a fresh node, by the entry.
+pub(crate) fn apply<R: CpuClock + Alloc<A = Global>>(
+    rt: &R,
+    sizes: Sizes,
+    blocks: &[Block],
+) -> Result<Measured, Problem> {
+    let mut measured = Measured::new();
+    for _ in 0..sizes.rounds {
+        let mut node = fresh_node(rt.alloc())?;
+        let start = rt.process_cpu_time()?;
+        let mut entries: u64 = 0;
+        for block in blocks {
+            entries = entries.saturating_add(taken(node.apply_block(block)));
+        }
+        measured.add(rt, start, entries)?;
+    }
+    Ok(measured)
+}
+
+/// The digest of all that is held, by the owner.
+pub(crate) fn digest<R: CpuClock + Alloc<A = Global>>(
+    rt: &R,
+    sizes: Sizes,
+    node: &Holdings,
+) -> Result<Measured, Problem> {
+    let mut measured = Measured::new();
+    for _ in 0..sizes.rounds {
+        let start = rt.process_cpu_time()?;
+        let digest = build(rt.alloc(), node, None, true, BUDGET_MOST)?;
+        measured.add(rt, start, digest.pairs().len() as u64)?;
+    }
+    Ok(measured)
+}
+
+fn empty_digest(alloc: Global) -> Result<Digest, Fault> {
+    Digest::new(false, None, None, Vec::new(alloc))
+}
+
+/// What a peer that holds nothing lacks, by the entry.
+pub(crate) fn offer<R: CpuClock + Alloc<A = Global>>(
+    rt: &R,
+    sizes: Sizes,
+    node: &Holdings,
+) -> Result<Measured, Problem> {
+    let mut measured = Measured::new();
+    let digest = empty_digest(rt.alloc())?;
+    for _ in 0..sizes.rounds {
+        let start = rt.process_cpu_time()?;
+        let items = available(rt.alloc(), node, &digest)?;
+        measured.add(rt, start, items.len() as u64)?;
+    }
+    Ok(measured)
+}
+
+/// The order of what a peer that holds nothing lacks, by the entry.
+pub(crate) fn arrange<R: CpuClock + Alloc<A = Global>, O: DeltaOrder>(
+    rt: &R,
+    sizes: Sizes,
+    node: &Holdings,
+    order: &O,
+) -> Result<Measured, Problem> {
+    let mut measured = Measured::new();
+    let digest = empty_digest(rt.alloc())?;
+    for _ in 0..sizes.rounds {
+        let items = available(rt.alloc(), node, &digest)?;
+        let start = rt.process_cpu_time()?;
+        let items = order.arrange(rt.alloc(), items)?;
+        measured.add(rt, start, items.len() as u64)?;
+    }
+    Ok(measured)
+}
+
+fn entries_in(delta: &Delta) -> u64 {
+    let mut entries: u64 = 0;
+    for block in delta.blocks() {
+        entries = entries.saturating_add(block.entries().len() as u64);
+    }
+    entries
+}
+
+/// The longest front within the greatest budget, by the entry that it has.
+pub(crate) fn cut_front<R: CpuClock + Alloc<A = Global>>(
+    rt: &R,
+    sizes: Sizes,
+    node: &Holdings,
+) -> Result<Measured, Problem> {
+    let mut measured = Measured::new();
+    let digest = empty_digest(rt.alloc())?;
+    for _ in 0..sizes.rounds {
+        let items = available(rt.alloc(), node, &digest)?;
+        let start = rt.process_cpu_time()?;
+        let delta = cut(rt.alloc(), items, BUDGET_MOST)?;
+        measured.add(rt, start, entries_in(&delta))?;
+    }
+    Ok(measured)
+}
+
+/// The greatest delta that answers a peer that holds nothing, as a message.
+pub(crate) fn answer(alloc: Global, node: &Holdings) -> Result<Message, Fault> {
+    let items = available(alloc, node, &empty_digest(alloc)?)?;
+    Ok(Message::Delta(cut(alloc, items, BUDGET_MOST)?))
+}
+
+/// The message's payload made, by the byte.
+pub(crate) fn encode<R: CpuClock + Alloc<A = Global>>(
+    rt: &R,
+    sizes: Sizes,
+    message: &Message,
+) -> Result<Measured, Problem> {
+    let mut measured = Measured::new();
+    for _ in 0..sizes.rounds {
+        let start = rt.process_cpu_time()?;
+        let payload = encode_payload(rt.alloc(), message)?;
+        measured.add(rt, start, payload.len() as u64)?;
+    }
+    Ok(measured)
+}
+
+/// The message's payload read, by the byte.
+pub(crate) fn decode<R: CpuClock + Alloc<A = Global>>(
+    rt: &R,
+    sizes: Sizes,
+    message: &Message,
+) -> Result<Measured, Problem> {
+    let mut measured = Measured::new();
+    let payload = encode_payload(rt.alloc(), message)?;
+    for _ in 0..sizes.rounds {
+        let start = rt.process_cpu_time()?;
+        decode_payload(rt.alloc(), &payload)?;
+        measured.add(rt, start, payload.len() as u64)?;
+    }
+    Ok(measured)
+}
+
+/// The bytes of each piece that a stream comes in.
+const PIECE_LENGTH: usize = 1024;
+
+/// The message's frame read from a stream in pieces, by the byte.
+pub(crate) fn frames<R: CpuClock + Alloc<A = Global>>(
+    rt: &R,
+    sizes: Sizes,
+    message: &Message,
+) -> Result<Measured, Problem> {
+    let mut measured = Measured::new();
+    let frame = frame_of(rt.alloc(), message)?;
+    let mut stream = Frames::new(rt.alloc());
+    for _ in 0..sizes.rounds {
+        let start = rt.process_cpu_time()?;
+        for piece in frame.chunks(PIECE_LENGTH) {
+            stream.feed(piece)?;
+            stream.next()?;
+        }
+        measured.add(rt, start, frame.len() as u64)?;
+    }
+    Ok(measured)
+}

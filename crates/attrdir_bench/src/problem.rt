@@ -1,0 +1,15 @@
+use sb_types::Fault;
+use std::alloc::AllocError;
+use std::io;
+use thiserror::Error;
+
+/// Why a run failed.
+#[derive(Debug, Drop, Error)]
+pub(crate) enum Problem {
+    #[error("{0}")]
+    Fault(#[from] Fault),
+    #[error("{0}")]
+    Memory(#[from] AllocError),
+    #[error("{0}")]
+    System(#[from] io::Error),
+}
