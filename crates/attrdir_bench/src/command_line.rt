@@ -26,15 +26,15 @@ Example:
 fn command<'a>(alloc: Global) -> Result<Command<'a>, AllocError> {
     let owners = Arg::new(alloc, "OWNERS")
         .default_value("1")
-        .value_parser(value_parser!(u64))
+        .value_parser(value_parser!(u64).range(1..=1023))
         .help("How many owners are held, 1 to 1023");
     let keys = Arg::new(alloc, "KEYS")
         .default_value("4096")
-        .value_parser(value_parser!(u64))
+        .value_parser(value_parser!(u64).range(1..=4096))
         .help("How many keys each has, 1 to 4096");
     let rounds = Arg::new(alloc, "ROUNDS")
         .default_value("5")
-        .value_parser(value_parser!(u64))
+        .value_parser(value_parser!(u64).range(1..))
         .help("How often each layer is run");
     let smoke = Arg::new(alloc, "smoke")
         .long("smoke")
@@ -72,16 +72,16 @@ fn telling_of(matches: &ArgMatches<'_>) -> Telling {
 fn measure(rt: &HostRuntime, sizes: Sizes, telling: Telling) -> Result<(), Problem> {
     let blocks = blocks(rt.alloc(), sizes)?;
     let node = full_node(rt.alloc(), &blocks)?;
-    let message = layers::answer(rt.alloc(), &node)?;
+    let delta = layers::greatest_delta(rt.alloc(), &node)?;
     layers::apply(rt, sizes, &blocks)?.print(rt, telling, "apply", "entry")?;
     layers::digest(rt, sizes, &node)?.print(rt, telling, "digest", "owner")?;
     layers::offer(rt, sizes, &node)?.print(rt, telling, "available", "entry")?;
     layers::arrange(rt, sizes, &node, &Breadth)?.print(rt, telling, "breadth", "entry")?;
     layers::arrange(rt, sizes, &node, &Depth)?.print(rt, telling, "depth", "entry")?;
     layers::cut_front(rt, sizes, &node)?.print(rt, telling, "cut", "entry")?;
-    layers::encode(rt, sizes, &message)?.print(rt, telling, "encode", "byte")?;
-    layers::decode(rt, sizes, &message)?.print(rt, telling, "decode", "byte")?;
-    layers::frames(rt, sizes, &message)?.print(rt, telling, "frames", "byte")?;
+    layers::encode(rt, sizes, &delta)?.print(rt, telling, "encode", "entry")?;
+    layers::decode(rt, sizes, &delta)?.print(rt, telling, "decode", "entry")?;
+    layers::frames(rt, sizes, &delta)?.print(rt, telling, "frames", "entry")?;
     Ok(())
 }
 

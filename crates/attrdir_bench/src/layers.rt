@@ -1,6 +1,4 @@
 //! Each layer, measured: only its own call is timed.
-ghost use Rattle.std.specs.Prelude.{◌≡◌};
-
 use crate::problem::Problem;
 use crate::report::Measured;
 use crate::sample::{Sizes, fresh_node};
@@ -118,39 +116,51 @@ pub(crate) fn cut_front<R: CpuClock + Alloc<A = Global>>(
     Ok(measured)
 }
 
-/// The greatest delta that answers a peer that holds nothing, as a message.
-pub(crate) fn answer(alloc: Global, node: &Holdings) -> Result<Message, Fault> {
-    let items = available(alloc, node, &empty_digest(alloc)?)?;
-    Ok(Message::Delta(cut(alloc, items, BUDGET_MOST)?))
+/// A delta as a message, and how many entries it has.
+#[derive(Drop)]
+pub(crate) struct WholeDelta {
+    message: Message,
+    entries: u64,
 }
 
-/// The message's payload made, by the byte.
+/// The greatest delta for a peer that holds nothing.
+pub(crate) fn greatest_delta(alloc: Global, node: &Holdings) -> Result<WholeDelta, Fault> {
+    let items = available(alloc, node, &empty_digest(alloc)?)?;
+    let delta = cut(alloc, items, BUDGET_MOST)?;
+    let entries = entries_in(&delta);
+    Ok(WholeDelta {
+        message: Message::Delta(delta),
+        entries,
+    })
+}
+
+/// The delta's payload made, by the entry.
 pub(crate) fn encode<R: CpuClock + Alloc<A = Global>>(
     rt: &R,
     sizes: Sizes,
-    message: &Message,
+    delta: &WholeDelta,
 ) -> Result<Measured, Problem> {
     let mut measured = Measured::new();
     for _ in 0..sizes.rounds {
         let start = rt.process_cpu_time()?;
-        let payload = encode_payload(rt.alloc(), message)?;
-        measured.add(rt, start, payload.len() as u64)?;
+        encode_payload(rt.alloc(), &delta.message)?;
+        measured.add(rt, start, delta.entries)?;
     }
     Ok(measured)
 }
 
-/// The message's payload read, by the byte.
+/// The delta's payload read, by the entry.
 pub(crate) fn decode<R: CpuClock + Alloc<A = Global>>(
     rt: &R,
     sizes: Sizes,
-    message: &Message,
+    delta: &WholeDelta,
 ) -> Result<Measured, Problem> {
     let mut measured = Measured::new();
-    let payload = encode_payload(rt.alloc(), message)?;
+    let payload = encode_payload(rt.alloc(), &delta.message)?;
     for _ in 0..sizes.rounds {
         let start = rt.process_cpu_time()?;
         decode_payload(rt.alloc(), &payload)?;
-        measured.add(rt, start, payload.len() as u64)?;
+        measured.add(rt, start, delta.entries)?;
     }
     Ok(measured)
 }
@@ -158,14 +168,14 @@ pub(crate) fn decode<R: CpuClock + Alloc<A = Global>>(
 /// The bytes of each piece that a stream comes in.
 const PIECE_LENGTH: usize = 1024;
 
-/// The message's frame read from a stream in pieces, by the byte.
+/// The delta's frame read from a stream in pieces, by the entry.
 pub(crate) fn frames<R: CpuClock + Alloc<A = Global>>(
     rt: &R,
     sizes: Sizes,
-    message: &Message,
+    delta: &WholeDelta,
 ) -> Result<Measured, Problem> {
     let mut measured = Measured::new();
-    let frame = frame_of(rt.alloc(), message)?;
+    let frame = frame_of(rt.alloc(), &delta.message)?;
     let mut stream = Frames::new(rt.alloc());
     for _ in 0..sizes.rounds {
         let start = rt.process_cpu_time()?;
@@ -173,7 +183,7 @@ pub(crate) fn frames<R: CpuClock + Alloc<A = Global>>(
             stream.feed(piece)?;
             stream.next()?;
         }
-        measured.add(rt, start, frame.len() as u64)?;
+        measured.add(rt, start, delta.entries)?;
     }
     Ok(measured)
 }
