@@ -19,6 +19,25 @@ fn address(alloc: Global, key: &[u8], version: u64) -> Result<Entry, Fault>
     Ok(Entry::new(Key::read(key)?, version, slot))
 }
 
+fn removal(key: &[u8], version: u64) -> Result<Entry, Fault>
+    requires { 1 ≤ version }
+{
+    Ok(Entry::new(Key::read(key)?, version, Slot::Removed))
+}
+
+/// The version under a key, with its weight where it is not removed.
+fn weight_at(holdings: &Holdings, owner: &Name, key: &[u8]) -> Option<(u64, Option<u64>)> {
+    let table = holdings.table(owner)?;
+    match Key::read(key) {
+        Ok(key) => match table.get(&key) {
+            Some((version, Slot::Set(value))) => Some((version, value.as_weight())),
+            Some((version, Slot::Removed)) => Some((version, None)),
+            None => None,
+        },
+        Err(_) => None,
+    }
+}
+
 /// The text of a number, in four letters.
 fn text_of(number: u64) -> [u8; 4] {
     let mut text = [b'a'; 4];
@@ -67,11 +86,45 @@ fn blocks_join_on_or_change_nothing(rt: HostRuntime) -> Result<(), Fail> {
 }
 
 #[test]
+fn superseded_versions_may_be_missing(rt: HostRuntime) -> Result<(), Fail> {
+    let alloc = rt.alloc();
+    let a = Name::read(b"a")?;
+    let mut holdings = holdings_of(alloc, b"b")?;
+    let y = Block::new(a, 0, vec![in alloc; weight(b"y", 2)?]?)?;
+    assert_eq!(rt; holdings.apply_block(&y), BlockEnd::Taken(1));
+    assert_eq!(rt; holdings.upto(&a), 2);
+    assert_eq!(rt; weight_at(&holdings, &a, b"y"), Some((2, Some(2))));
+    assert_eq!(rt; weight_at(&holdings, &a, b"x"), None);
+    let x = Block::new(a, 2, vec![in alloc; weight(b"x", 3)?]?)?;
+    assert_eq!(rt; holdings.apply_block(&x), BlockEnd::Taken(1));
+    assert_eq!(rt; weight_at(&holdings, &a, b"x"), Some((3, Some(3))));
+    Ok(())
+}
+
+#[test]
+fn removals_leave_markers(rt: HostRuntime) -> Result<(), Fail> {
+    let alloc = rt.alloc();
+    let a = Name::read(b"a")?;
+    let mut holdings = holdings_of(alloc, b"b")?;
+    let set = Block::new(a, 0, vec![in alloc; weight(b"x", 1)?]?)?;
+    let removed = Block::new(a, 1, vec![in alloc; removal(b"x", 2)?]?)?;
+    assert_eq!(rt; holdings.apply_block(&set), BlockEnd::Taken(1));
+    assert_eq!(rt; weight_at(&holdings, &a, b"x"), Some((1, Some(1))));
+    assert_eq!(rt; holdings.apply_block(&removed), BlockEnd::Taken(1));
+    assert_eq!(rt; weight_at(&holdings, &a, b"x"), Some((2, None)));
+    assert_eq!(rt; holdings.apply_block(&set), BlockEnd::Stale);
+    assert_eq!(rt; weight_at(&holdings, &a, b"x"), Some((2, None)));
+    Ok(())
+}
+
+#[test]
 fn own_writes_come_in_turn(rt: HostRuntime) -> Result<(), Fail> {
     let alloc = rt.alloc();
     let me = Name::read(b"m")?;
     let mut holdings = holdings_of(alloc, b"m")?;
     assert_eq!(rt; *holdings.me(), me);
+    assert_eq!(rt; holdings.upto(&me), 0);
+    assert_eq!(rt; holdings.table(&me).map_or(1, |table| table.len()), 0);
     assert_eq!(rt;
         holdings.push_own(weight(b"w", 2)?),
         Err(Fault::OutOfTurn(1))
@@ -126,7 +179,7 @@ fn keys_have_a_limit(rt: HostRuntime) -> Result<(), Fail> {
     let mut holdings = holdings_of(alloc, b"b")?;
     let most = Block::new(a, 0, entries(alloc, 1, 4_094)?)?;
     assert_eq!(rt; holdings.apply_block(&most), BlockEnd::Taken(4_094));
-    let more = Block::new(a, 4_094, entries(alloc, 4_095, 4_099)?)?;
+    let more = Block::new(a, 4_092, entries(alloc, 4_093, 4_099)?)?;
     assert_eq!(rt; holdings.apply_block(&more), BlockEnd::TooManyKeys(2));
     assert_eq!(rt; holdings.upto(&a), 4_096);
     assert_eq!(rt; holdings.apply_block(&more), BlockEnd::TooManyKeys(0));
@@ -137,6 +190,25 @@ fn keys_have_a_limit(rt: HostRuntime) -> Result<(), Fail> {
     )?;
     assert_eq!(rt; holdings.apply_block(&again), BlockEnd::Taken(2));
     assert_eq!(rt; holdings.table(&a).map_or(0, |table| table.len()), 4_096);
+    Ok(())
+}
+
+#[test]
+fn own_keys_have_a_limit(rt: HostRuntime) -> Result<(), Fail> {
+    let alloc = rt.alloc();
+    let me = Name::read(b"m")?;
+    let mut holdings = holdings_of(alloc, b"m")?;
+    for version in 1..4_097 {
+        holdings.push_own(weight(&text_of(version), version)?)?;
+    }
+    assert_eq!(rt;
+        holdings.push_own(weight(b"w", 4_097)?),
+        Err(Fault::TableFull)
+    );
+    assert_eq!(rt; holdings.upto(&me), 4_096);
+    assert_eq!(rt; weight_at(&holdings, &me, b"w"), None);
+    assert_eq!(rt; holdings.push_own(removal(&text_of(1), 4_097)?), Ok(()));
+    assert_eq!(rt; weight_at(&holdings, &me, &text_of(1)), Some((4_097, None)));
     Ok(())
 }
 
@@ -203,6 +275,31 @@ fn a_front_stays_where_memory_runs_out(rt: HostRuntime) -> Result<(), Fail> {
                 assert_eq!(rt; again, BlockEnd::Taken(rest));
             }
             assert_eq!(rt; upto, 3);
+        }
+        Err(fault) => assert_eq!(rt; fault, Fault::NoMemory),
+    }
+    Ok(())
+}
+
+/// Whichever allocation is refused, a refused own write leaves what was held.
+#[test]
+fn own_writes_without_memory_change_nothing(rt: HostRuntime) -> Result<(), Fail> {
+    let alloc = rt.alloc();
+    let me = Name::read(b"m")?;
+    match holdings_of(alloc, b"m") {
+        Ok(mut holdings) => {
+            for version in 1..10 {
+                let before = holdings.upto(&me);
+                let entry = weight(&text_of(version), before.saturating_add(1))?;
+                match holdings.push_own(entry) {
+                    Ok(()) => assert_eq!(rt; holdings.upto(&me), before.saturating_add(1)),
+                    Err(fault) => {
+                        assert_eq!(rt; fault, Fault::NoMemory);
+                        assert_eq!(rt; holdings.upto(&me), before);
+                        assert_eq!(rt; weight_at(&holdings, &me, &text_of(version)), None);
+                    }
+                }
+            }
         }
         Err(fault) => assert_eq!(rt; fault, Fault::NoMemory),
     }
