@@ -1,4 +1,4 @@
-ghost use Rattle.std.specs.Prelude.{◌≤◌};
+ghost use Rattle.std.specs.Prelude.{◌≤◌, ◌<◌};
 
 use super::*;
 use sb_holdings::Holdings;
@@ -151,21 +151,111 @@ fn a_new_node_tells_of_itself(rt: HostRuntime) -> Result<(), Fail> {
     Ok(())
 }
 
-/// An owner's first write.
-fn first_write(alloc: Global, owner: &Name) -> Result<Block, Fault> {
-    let mut entries = Vec::new(alloc);
-    let slot = Slot::Set(Value::flag(true));
-    entries.push(Entry::new(Key::read(b"up")?, 1, slot))?;
-    Block::new(*owner, 0, entries)
-}
-
-/// Takes the owner's first write: twice, so that it is held also where memory was refused once.
-fn hold(alloc: Global, holdings: &mut Holdings, owner: &Name) {
+/// Takes the owner's write of a version: twice, so that it is held also where memory was refused once.
+fn hold(alloc: Global, holdings: &mut Holdings, owner: &Name, version: u64)
+    requires { 1 ≤ version }
+{
     for _ in 0..2 {
-        if let Ok(block) = first_write(alloc, owner) {
+        if let Ok(block) = write(alloc, owner, version) {
             holdings.apply_block(&block);
         }
     }
+}
+
+/// A block of the owner's write of this version.
+fn write(alloc: Global, owner: &Name, version: u64) -> Result<Block, Fault>
+    requires { 1 ≤ version }
+{
+    let mut entries = Vec::new(alloc);
+    let slot = Slot::Set(Value::flag(true));
+    entries.push(Entry::new(Key::read(b"up")?, version, slot))?;
+    Block::new(*owner, version - 1, entries)
+}
+
+#[test]
+fn a_digest_tells_how_far_blocks_are_held(rt: HostRuntime) -> Result<(), Fail> {
+    let alloc = rt.alloc();
+    let a = Name::read(b"a")?;
+    let b = Name::read(b"b")?;
+    let mut holdings = alone(alloc, b)?;
+
+    hold(alloc, &mut holdings, &a, 3);
+    let gap = asked(alloc, &holdings, None, 256)?;
+    assert_eq!(rt; gap.pairs().len(), 1);
+    assert!(rt; gap.covers(&a));
+    assert_eq!(rt; gap.number(&a), 0);
+
+    for version in 1..4 {
+        hold(alloc, &mut holdings, &a, version);
+    }
+    let digest = asked(alloc, &holdings, None, 256)?;
+    assert_eq!(rt; digest.pairs().len(), 2);
+    assert_eq!(rt; digest.number(&a), 3);
+    assert_eq!(rt; digest.number(&b), 0);
+    assert_eq!(rt; digest.encoded_length(), 26);
+    Ok(())
+}
+
+#[test]
+fn a_node_with_a_write_answers(rt: HostRuntime) -> Result<(), Fail> {
+    let alloc = rt.alloc();
+    let b = Name::read(b"b")?;
+    let mut holdings = alone(alloc, b)?;
+    let write = Entry::new(Key::read(b"w")?, 1, Slot::Set(Value::flag(true)));
+    let again = Entry::new(Key::read(b"w")?, 1, Slot::Set(Value::flag(true)));
+    if holdings.push_own(write).is_err() {
+        holdings.push_own(again)?;
+    }
+    let digest = match build(alloc, &holdings, None, false, 256) {
+        Err(Fault::NoMemory) => build(alloc, &holdings, None, false, 256)?,
+        built => built?,
+    };
+    assert!(rt; !digest.want());
+    assert_eq!(rt; (digest.from(), digest.until()), (None, None));
+    assert!(rt;
+        digest
+            .pairs()
+            .iter()
+            .all(|pair| pair.owner == b && pair.version == 1)
+    );
+    assert_eq!(rt; digest.pairs().len(), 1);
+    assert_eq!(rt; digest.encoded_length(), 16);
+    Ok(())
+}
+
+#[test]
+fn a_range_begins_at_any_name(rt: HostRuntime) -> Result<(), Fail> {
+    let alloc = rt.alloc();
+    let [a, ab, b, c, ca] = [
+        Name::read(b"a")?,
+        Name::read(b"ab")?,
+        Name::read(b"b")?,
+        Name::read(b"c")?,
+        Name::read(b"ca")?,
+    ];
+    let mut holdings = alone(alloc, a)?;
+    hold(alloc, &mut holdings, &b, 1);
+    hold(alloc, &mut holdings, &c, 1);
+
+    let between = asked(alloc, &holdings, Some(&ab), 256)?;
+    assert_eq!(rt; (between.from(), between.until()), (Some(ab), None));
+    assert_eq!(rt; between.pairs().len(), 2);
+    assert!(rt; !between.covers(&a) && between.covers(&ab) && between.covers(&b));
+    assert_eq!(rt; (between.number(&b), between.number(&c)), (1, 1));
+
+    let last = asked(alloc, &holdings, Some(&c), 256)?;
+    assert_eq!(rt; (last.from(), last.until()), (Some(c), None));
+    assert_eq!(rt; last.pairs().len(), 1);
+    assert_eq!(rt; last.number(&c), 1);
+
+    let above = asked(alloc, &holdings, Some(&ca), 256)?;
+    assert!(rt; above.want());
+    assert_eq!(rt; (above.from(), above.until()), (Some(ca), None));
+    assert_eq!(rt; above.next_from(), None);
+    assert!(rt; above.pairs().is_empty());
+    assert!(rt; above.covers(&ca) && !above.covers(&c));
+    assert_eq!(rt; above.encoded_length(), 8);
+    Ok(())
 }
 
 #[test]
@@ -175,7 +265,7 @@ fn six_owners_take_two_digests(rt: HostRuntime) -> Result<(), Fail> {
     let owners = &six[..];
     let mut holdings = alone(alloc, owners[0])?;
     for owner in owners {
-        hold(alloc, &mut holdings, owner);
+        hold(alloc, &mut holdings, owner, 1);
     }
     let first = asked(alloc, &holdings, None, 256)?;
     assert_eq!(rt; first.pairs().len(), 5);
@@ -190,9 +280,66 @@ fn six_owners_take_two_digests(rt: HostRuntime) -> Result<(), Fail> {
     assert_eq!(rt; next.until(), None);
     assert_eq!(rt; next.encoded_length(), 79);
 
+    let five = asked(alloc, &holdings, None, 257)?;
+    assert_eq!(rt; five.pairs().len(), 5);
+    assert_eq!(rt; five.until(), Some(owners[5]));
+
     let all = asked(alloc, &holdings, None, 258)?;
     assert_eq!(rt; all.pairs().len(), 6);
     assert_eq!(rt; all.until(), None);
     assert_eq!(rt; all.encoded_length(), 252);
+    Ok(())
+}
+
+/// A seventh owner is met before the digest of five is cut.
+#[test]
+fn seven_owners_take_two_digests(rt: HostRuntime) -> Result<(), Fail> {
+    let alloc = rt.alloc();
+    let six = six_owners()?;
+    let owners = &six[..];
+    let seventh = Name::read(&[b'g'; 32])?;
+    let mut holdings = alone(alloc, seventh)?;
+    for owner in owners {
+        hold(alloc, &mut holdings, owner, 1);
+    }
+    let first = asked(alloc, &holdings, None, 256)?;
+    assert_eq!(rt; first.pairs().len(), 5);
+    assert_eq!(rt; first.until(), Some(owners[5]));
+    assert_eq!(rt; first.encoded_length(), 243);
+    assert!(rt; first.covers(&owners[4]) && !first.covers(&owners[5]));
+
+    let next = asked(alloc, &holdings, first.next_from().as_ref(), 256)?;
+    assert_eq!(rt; next.pairs().len(), 2);
+    assert_eq!(rt; (next.from(), next.until()), (Some(owners[5]), None));
+    assert_eq!(rt; next.encoded_length(), 120);
+    assert_eq!(rt; (next.number(&owners[5]), next.number(&seventh)), (1, 0));
+    Ok(())
+}
+
+/// The digest of a new node from its own name on, and the one behind all names.
+fn first_and_rest(alloc: Global, me: Name) -> Result<(Digest, Digest), Fault> {
+    let holdings = Holdings::new(alloc, me, Table::new(alloc))?;
+    let first = build(alloc, &holdings, Some(me), true, 256)?;
+    let rest = build(alloc, &holdings, Some(Name::read(b"z")?), false, 256)?;
+    Ok((first, rest))
+}
+
+/// Whichever allocation is refused, a digest is whole, or there is none and the fault tells why.
+#[test]
+fn a_digest_is_whole_or_not_there(rt: HostRuntime) -> Result<(), Fail> {
+    let a = Name::read(b"a")?;
+    let z = Name::read(b"z")?;
+    match first_and_rest(rt.alloc(), a) {
+        Ok((first, rest)) => {
+            assert!(rt; first.want() && !rest.want());
+            assert_eq!(rt; (first.from(), first.until()), (Some(a), None));
+            assert_eq!(rt; first.pairs().len(), 1);
+            assert_eq!(rt; first.encoded_length(), 17);
+            assert_eq!(rt; (rest.from(), rest.until()), (Some(z), None));
+            assert!(rt; rest.pairs().is_empty());
+            assert_eq!(rt; rest.encoded_length(), 7);
+        }
+        Err(fault) => assert_eq!(rt; fault, Fault::NoMemory),
+    }
     Ok(())
 }
