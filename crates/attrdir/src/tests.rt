@@ -18,10 +18,27 @@ taken 1
 a w 1 weight 5
 ";
 
+/// Whether no line tells of want of memory.
+fn had_memory(printed: &[u8]) -> bool {
+    let mut lines = printed.split(|byte| *byte == b'\n');
+    lines.all(|line| line != b"fault 1".as_slice() && !line.starts_with(b"no-memory"))
+}
+
+/// The ending, but for want of memory, which is then the fault of the test.
+fn with_memory(ended: Result<Ending, Fault>) -> Result<Result<Ending, Fault>, Fault> {
+    match ended {
+        Err(Fault::NoMemory) => Err(Fault::NoMemory),
+        ended => Ok(ended),
+    }
+}
+
 /// Runs a script in ample reads, and answers how it ended with what it printed.
 fn run(alloc: Global, script: &str) -> Result<(Ending, Vec<u8>), Fault> {
     let mut printed = Vec::new(alloc);
     let ending = sim_run_uncounted(alloc, script.as_bytes(), &mut printed, 100)?;
+    if !had_memory(&printed) {
+        return Err(Fault::NoMemory);
+    }
     Ok((ending, printed))
 }
 
@@ -100,10 +117,10 @@ fn reads_are_counted(rt: HostRuntime) -> Result<(), Fail> {
     let alloc = rt.alloc();
     for max_reads in 0..2 {
         let ended = sim_run_uncounted(alloc, EXAMPLE.as_bytes(), io::sink(), max_reads);
-        assert_eq!(rt; ended, Err(Fault::TurnsSpent));
+        assert_eq!(rt; with_memory(ended)?, Err(Fault::TurnsSpent));
     }
     let ended = sim_run_uncounted(alloc, EXAMPLE.as_bytes(), io::sink(), 2);
-    assert_eq!(rt; ended, Ok(Ending::Whole));
+    assert_eq!(rt; with_memory(ended)?, Ok(Ending::Whole));
     Ok(())
 }
 
@@ -115,7 +132,10 @@ fn what_was_answered_before_a_read_fails_is_written(rt: HostRuntime) -> Result<(
         bytes: EXAMPLE.as_bytes(),
     };
     let ended = sim_run_uncounted(alloc, reader, &mut printed, 100);
-    assert_eq!(rt; ended, Err(Fault::ReadFailed));
+    assert_eq!(rt; with_memory(ended)?, Err(Fault::ReadFailed));
+    if !had_memory(&printed) {
+        return Err(Fault::NoMemory.into());
+    }
     assert_eq!(rt; printed.as_slice(), PRINTED.as_bytes());
     Ok(())
 }
@@ -124,7 +144,7 @@ fn what_was_answered_before_a_read_fails_is_written(rt: HostRuntime) -> Result<(
 fn a_failed_write_says_how_much_was_written(rt: HostRuntime) -> Result<(), Fail> {
     let writer = ClosingWriter { left: 17 };
     let ended = sim_run_uncounted(rt.alloc(), EXAMPLE.as_bytes(), writer, 100);
-    assert_eq!(rt; ended, Err(Fault::WriteFailed(17)));
+    assert_eq!(rt; with_memory(ended)?, Err(Fault::WriteFailed(17)));
     Ok(())
 }
 
