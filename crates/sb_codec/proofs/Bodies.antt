@@ -1,6 +1,6 @@
 -- The two laws for the body of each kind but deltas.
-use Rattle.std.proofs.Common.{◌≡◌, ℕ, zero, suc, ◌-◌, ◌+◌, ◌^◌, ◌<◌, ◌≤◌, Bool, true, false, ◌&&◌, ◌==◌, List, [], ◌∷◌, ◌++◌, length, Option, Some, None, refl, ap, subst, arith}
-use Rattle.std.specs.Prelude.{nat_le, nat_lt, sum_by}
+use Rattle.std.proofs.Common.{◌≡◌, ℕ, ◌-◌, ◌^◌, ◌<◌, ◌≤◌, Bool, true, false, ◌&&◌, ◌==◌, List, [], ◌∷◌, ◌++◌, length, Option, Some, None, refl, ap, subst, arith}
+use Rattle.std.specs.Prelude.{nat_le, nat_lt}
 use Rattle.std.specs.List.{list_all}
 use Rattle.std.specs.Int.{w64}
 use Rattle.std.proofs.lemmas.Bool.{and_parts, and_from, lt-ltb, ltb-true, leb-true, eqb-true}
@@ -18,7 +18,7 @@ use Rattle.sb_codec.specs.Records.{Row, Rows}
 use Rattle.sb_codec.specs.Lengths.{row_length, rows_length}
 use Rattle.sb_codec.specs.declared.message.hello.Hello.{Hello}
 use Rattle.sb_codec.specs.Limits.{is_hello, is_reason, is_optional, is_place, is_ask, is_row, are_rows_above, are_page_rows, is_page, is_write, is_version, is_fault_number}
-use Rattle.sb_codec.specs.Spelling.{number, text, list, flag, content, value, optional, hello, pair, digest, place, ask, row, page, write}
+use Rattle.sb_codec.specs.Spelling.{number, text, content, value, optional, hello, pair, digest, place, ask, row, page, write}
 use Rattle.sb_codec.specs.Reading.{hello_of, hello_at, bye_at, write_of, write_at, done_at, refused_at, unless_empty, is_empty_or, optional_at, pair_of, pair_at, digest_of_parts, digest_at, prefix_at, are_alike, place_of, place_at, ask_of, ask_at, value_cases, value_at, addr_at, weight_at, is_written, row_of_parts, row_at, are_page_parts, page_of, page_at}
 use Rattle.sb_codec.proofs.Taken.{Takes, wide64, fits_takes, made_takes, then_takes, where_takes, byte_takes, number_takes, text_takes, list_takes, tagged_takes, made_case}
 use Rattle.sb_codec.proofs.Again.{Again, made_again, then_again, where_again, byte_again, number_again, text_again, list_again, tagged_again}

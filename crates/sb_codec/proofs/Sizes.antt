@@ -1,5 +1,5 @@
 -- How long spellings are.
-use Rattle.std.proofs.Common.{◌≡◌, ℕ, ◌+◌, ◌≤◌, Bool, true, ◌&&◌, List, [], ◌∷◌, ◌++◌, length, Option, Some, None, refl, arith, length-append}
+use Rattle.std.proofs.Common.{◌≡◌, ℕ, ◌+◌, ◌≤◌, true, ◌&&◌, List, [], ◌∷◌, ◌++◌, length, Option, Some, None, refl, arith, length-append}
 use Rattle.std.specs.Prelude.{nat_le, sum_by}
 use Rattle.std.specs.List.{flat_map, list_all}
 use Rattle.std.specs.Int.{w16, w64}
@@ -11,16 +11,19 @@ use Rattle.sb_types.specs.declared.limits.TheConstants.{NAME_MOST, KEY_MOST, ADD
 use Rattle.sb_types.specs.Text.{is_between, is_name_byte, is_key_byte, is_addr_byte, is_name, is_key, is_prefix, is_addr}
 use Rattle.sb_types.specs.Value.{Value, Addr, Weight, Flag}
 use Rattle.sb_types.specs.Records.{Entry, Block}
-use Rattle.sb_types.specs.Lengths.{value_length, slot_length, entry_length, block_length}
+use Rattle.sb_types.specs.declared.entry.Write.{Write}
+use Rattle.sb_types.specs.Lengths.{value_length, slot_length, entry_length, block_length, delta_length}
 use Rattle.sb_digest.specs.Digests as digests
 use Rattle.sb_digest.specs.Lengths.{bound_length, pair_length, digest_length}
+use Rattle.sb_codec.specs.declared.message.hello.Hello as messages
+use Rattle.sb_codec.specs.declared.message.ask.Ask as asks
 use Rattle.sb_codec.specs.Records as records
 use Rattle.sb_codec.specs.Lengths.{row_length, rows_length}
 use Rattle.sb_codec.specs.Limits.{is_optional, is_place}
-use Rattle.sb_types.specs.Limits.{is_slot, is_delta}
+use Rattle.sb_types.specs.Limits.{is_slot}
 use Rattle.sb_codec.specs.declared.message.Message.{Message}
 use Rattle.sb_codec.specs.declared.message.Message.TheVariants.{Hello, Digest, Delta, Bye, Ask, Rows, Put, Done, Refused}
-use Rattle.sb_codec.specs.Spelling.{number, text, list, flag, content, value, slot, entry, block, optional, hello, pair, digest, place, ask, row, page, write}
+use Rattle.sb_codec.specs.Spelling.{number, text, list, content, value, slot, entry, block, optional, hello, pair, digest, place, ask, row, page, write}
 use Rattle.sb_codec.specs.Messages.{spelling, is_message}
 use Rattle.sb_codec.proofs.Parts.{between_parts, delta_parts}
 use Rattle.sb_codec.proofs.Bodies.{digest_within, page_within}
@@ -85,6 +88,32 @@ page-length : (p : records.Rows) → 1 + length (page p) ≡ rows_length p.rows
 unfolding page
 page-length p = omega (arith, length-list row row_length row-length p.rows)
 
+-- ---- the length of each kind
+
+pub hello-spelled : (h : messages.Hello) → length (spelling (Hello h)) ≡ 3 + length h.cluster + length h.node
+unfolding spelling hello
+hello-spelled h = omega (arith, length-append (text h.cluster) (text h.node))
+
+pub digest-spelled : (d : digests.Digest) → length (spelling (Digest d)) ≡ digest_length d
+unfolding spelling
+digest-spelled d = omega (arith, digest-length d)
+
+pub delta-spelled : (blocks : List Block) → length (spelling (Delta blocks)) ≡ delta_length blocks
+unfolding spelling
+delta-spelled blocks = omega (arith, length-list block block_length block-length blocks)
+
+pub ask-spelled : (a : asks.Ask) → length (spelling (Ask a)) ≡ 2 + length (optional a.owner) + length a.prefix + length (place a.after)
+unfolding spelling ask
+ask-spelled a = omega (arith, length-append (optional a.owner) (text a.prefix ++ place a.after), length-append (text a.prefix) (place a.after))
+
+pub page-spelled : (p : records.Rows) → length (spelling (Rows p)) ≡ rows_length p.rows
+unfolding spelling
+page-spelled p = omega (arith, page-length p)
+
+pub put-spelled : (w : Write) → length (spelling (Put w)) ≡ 3 + length w.key + slot_length w.slot
+unfolding spelling write
+put-spelled w = omega (arith, length-append (text w.key) (slot w.slot), slot-length w.slot)
+
 -- ---- the longest of each
 
 name-most : (t : List ℕ) → is_name t ≡ true → length t ≤ 32
@@ -116,23 +145,22 @@ place-most (Some p) fits =
     omega (arith, length-append (text p.0) (text p.1), name-most p.0 parts.0, key-most p.1 parts.1)
 
 pub spelling-most : (m : Message) → is_message m ≡ true → length (spelling m) ≤ PAYLOAD_MOST
-unfolding spelling hello ask write
+unfolding spelling
 spelling-most (Hello h) fits =
     let parts = and_parts (is_name h.cluster) (is_name h.node) fits in
-    omega (arith, length-append (text h.cluster) (text h.node), name-most h.cluster parts.0, name-most h.node parts.1)
+    omega (arith, hello-spelled h, name-most h.cluster parts.0, name-most h.node parts.1)
 spelling-most (Digest d) fits = omega (arith, digest-length d, digest_within d fits)
 spelling-most (Delta blocks) fits =
     let within = (delta_parts blocks fits).2 in
-    omega (arith, length-list block block_length block-length blocks)
+    omega (arith, delta-spelled blocks)
 spelling-most (Bye reason) fits = omega arith
 spelling-most (Ask a) fits =
     let after = and_parts (is_optional is_name a.owner && is_prefix a.prefix) (is_optional is_place a.after) fits in
     let parts = and_parts (is_optional is_name a.owner) (is_prefix a.prefix) after.0 in
-    omega
-    (arith, length-append (optional a.owner) (text a.prefix ++ place a.after), length-append (text a.prefix) (place a.after), optional-most a.owner parts.0, prefix-most a.prefix parts.1, place-most a.after after.1)
+    omega (arith, ask-spelled a, optional-most a.owner parts.0, prefix-most a.prefix parts.1, place-most a.after after.1)
 spelling-most (Rows p) fits = omega (arith, page-length p, page_within p fits)
 spelling-most (Put w) fits =
     let parts = and_parts (is_key w.key) (is_slot w.slot) fits in
-    omega (arith, length-append (text w.key) (slot w.slot), slot-length w.slot, key-most w.key parts.0, slot-most w.slot parts.1)
+    omega (arith, put-spelled w, key-most w.key parts.0, slot-most w.slot parts.1)
 spelling-most (Done version) fits = omega (arith, length-number64 version)
 spelling-most (Refused fault) fits = omega arith

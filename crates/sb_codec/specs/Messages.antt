@@ -1,5 +1,5 @@
 -- Which payload spells which message, and what a payload is read as.
-use Rattle.std.specs.Prelude.{◌≡◌, ℕ, ◌≤◌, Bool, true, ◌||◌, ◌==◌, if◌then◌else◌, List, [], ◌∷◌, length, Result, ok_or}
+use Rattle.std.specs.Prelude.{◌≡◌, ℕ, ◌≤◌, Bool, true, ◌||◌, if◌then◌else◌, List, [], ◌∷◌, length, Result, ok_or}
 use Rattle.sb_types.specs.declared.fault.Fault.{Fault}
 use Rattle.sb_types.specs.declared.fault.Fault.TheVariants.{UnknownKind, Malformed}
 use Rattle.sb_types.specs.declared.limits.TheConstants.{PAYLOAD_MOST}

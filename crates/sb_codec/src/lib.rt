@@ -4,6 +4,7 @@
 mod decode;
 mod encode;
 mod fields;
+mod lengths;
 mod message;
 mod numbers;
 mod payloads;
@@ -13,6 +14,7 @@ mod writing;
 
 pub use decode::decode_payload;
 pub use encode::encode_payload;
+pub use lengths::length;
 pub use message::{Ask, Bye, Done, Hello, Message, Refused, Row, Rows};
 pub use numbers::{
     FAULT_NUMBER_MOST, KIND_ASK, KIND_BYE, KIND_DELTA, KIND_DIGEST, KIND_DONE, KIND_HELLO,

@@ -34,6 +34,8 @@ const ROWS: &str = "11 00 0001 01 61 01 77 0000000000000001 02 0000000000000005"
 
 const PUT: &str = "12 01 77 02 0000000000000005";
 
+const PUT_OF_A_REMOVAL: &str = "12 01 77 00";
+
 const DONE: &str = "13 0000000000000001";
 
 const REFUSED: &str = "14 0d";
@@ -239,6 +241,67 @@ fn the_payload_of_each_other_kind(rt: HostRuntime) -> Result<(), Fail> {
     assert!(rt; is_payload(alloc, &Message::Put(put), PUT)?);
     assert!(rt; is_payload(alloc, &Message::Done(Done::new(1)?), DONE)?);
     assert!(rt; is_payload(alloc, &Message::Refused(Refused::new(13)?), REFUSED)?);
+    Ok(())
+}
+
+/// How long the frame is of what the words are read as.
+fn frame_length(alloc: Global, words: &str) -> Result<u32, Fault> {
+    let payload = bytes(alloc, words).ok_or(Fault::NoMemory)?;
+    Ok(length(&decode_payload(alloc, &payload)?))
+}
+
+#[test]
+fn the_length_of_each_frame(rt: HostRuntime) -> Result<(), Fail> {
+    let alloc = rt.alloc();
+    for (words, expected) in [
+        (HELLO, 12),
+        (DIGEST, 22),
+        (DIGEST_OF_A_RANGE, 34),
+        (ONE_ENTRY, 40),
+        (NO_BLOCK, 9),
+        (EVERY_SLOT, 72),
+        (BYE, 8),
+        (ASK, 11),
+        (ASK_BEHIND, 16),
+        (ROWS, 31),
+        (PUT, 18),
+        (PUT_OF_A_REMOVAL, 10),
+        (DONE, 15),
+        (REFUSED, 8),
+    ] {
+        assert_eq!(rt; frame_length(alloc, words)?, expected, "{words}");
+    }
+    Ok(())
+}
+
+#[test]
+fn the_longest_frames(rt: HostRuntime) -> Result<(), Fail> {
+    let alloc = rt.alloc();
+    let name = Name::read(&[b'a'; 32])?;
+    let key = Key::read(&[b'k'; 64])?;
+    let hello = Hello {
+        cluster: name,
+        node: name,
+    };
+    assert_eq!(rt; length(&Message::Hello(hello)), 73);
+    let ask = Ask {
+        owner: Some(name),
+        prefix: Prefix::read(&[b'k'; 64])?,
+        after: Some((name, key)),
+    };
+    assert_eq!(rt; length(&Message::Ask(ask)), 203);
+    let put = Write {
+        key,
+        slot: Slot::Set(Value::addr(alloc, &[b'h'; 128])?),
+    };
+    assert_eq!(rt; length(&Message::Put(put)), 202);
+    let row = Row::new(name, key, 1, Value::addr(alloc, &[b'h'; 128])?)?;
+    let rows = Rows::new(false, vec![in alloc; row]?)?;
+    assert_eq!(rt; length(&Message::Rows(rows)), 246);
+    let entry = Entry::new(key, 1, Slot::Set(Value::addr(alloc, &[b'h'; 128])?));
+    let block = Block::new(name, 0, vec![in alloc; entry]?)?;
+    let delta = Delta::new(vec![in alloc; block]?)?;
+    assert_eq!(rt; length(&Message::Delta(delta)), 255);
     Ok(())
 }
 

@@ -1,0 +1,26 @@
+use Rattle.std.proofs.Common.{refl, sym, ◌∙◌}
+use Rattle.sb_codec.specs.Spelling.{number}
+use Rattle.sb_codec.specs.Messages.{spelling}
+use Rattle.sb_codec.proofs.Sizes.{digest-spelled, delta-spelled, page-spelled}
+use Rattle.sb_codec.proofs.lengths.payload_length.Goals as goal
+
+pub returns-in-Digest-clause-length : goal.returns-in-Digest-clause-length
+returns-in-Digest-clause-length c = rw c.in-Digest.is (c.encoded_length.ensures.length ∙ sym (digest-spelled c.in-Digest.digest))
+
+pub returns-in-Delta-clause-length : goal.returns-in-Delta-clause-length
+returns-in-Delta-clause-length c = rw c.in-Delta.is (c.encoded_length-in-Delta.ensures.length ∙ sym (delta-spelled c.in-Delta.delta))
+
+pub returns-in-Rows-clause-length : goal.returns-in-Rows-clause-length
+returns-in-Rows-clause-length c = rw c.in-Rows.is (c.encoded_length-in-Rows.ensures.length ∙ sym (page-spelled c.in-Rows.rows))
+
+pub returns-in-Done-clause-length : goal.returns-in-Done-clause-length
+unfolding spelling number
+returns-in-Done-clause-length c = rw c.in-Done.is refl
+
+pub returns-in-Bye-clause-length : goal.returns-in-Bye-clause-length
+unfolding spelling
+returns-in-Bye-clause-length c = rw c.in-Bye.is refl
+
+pub returns-in-Refused-clause-length : goal.returns-in-Refused-clause-length
+unfolding spelling
+returns-in-Refused-clause-length c = rw c.in-Refused.is refl
