@@ -18,9 +18,13 @@ fn longest_entry(alloc: Global, letter: u8, version: u64) -> Result<Entry, Fault
     Ok(Entry::new(Key::read(&[letter; 64])?, version, Slot::Set(value)))
 }
 
-/// What a holds, with a block of each owner that wrote one key.
-fn holdings_of(alloc: Global, table: Table, others: &[Name]) -> Result<Holdings, Fault> {
-    let mut holdings = Holdings::new(alloc, Name::read(b"a")?, table)?;
+/// An owner that wrote three keys, and others that wrote one each.
+fn three_keys_and(alloc: Global, first: Name, others: &[Name]) -> Result<Holdings, Fault> {
+    let mut table = Table::new(alloc);
+    table.push(longest_entry(alloc, b'x', 1)?)?;
+    table.push(longest_entry(alloc, b'y', 2)?)?;
+    table.push(longest_entry(alloc, b'z', 3)?)?;
+    let mut holdings = Holdings::new(alloc, first, table)?;
     for owner in others {
         let entry = longest_entry(alloc, b'x', 1)?;
         let block = Block::new(*owner, 0, vec![in alloc; entry]?)?;
@@ -29,15 +33,6 @@ fn holdings_of(alloc: Global, table: Table, others: &[Name]) -> Result<Holdings,
         }
     }
     Ok(holdings)
-}
-
-/// The owner a, which wrote three keys, and others, which wrote one each.
-fn three_keys_and(alloc: Global, others: &[Name]) -> Result<Holdings, Fault> {
-    let mut table = Table::new(alloc);
-    table.push(longest_entry(alloc, b'x', 1)?)?;
-    table.push(longest_entry(alloc, b'y', 2)?)?;
-    table.push(longest_entry(alloc, b'z', 3)?)?;
-    holdings_of(alloc, table, others)
 }
 
 /// All that is held, in this order.
@@ -75,9 +70,9 @@ fn told(alloc: Global, delta: &Delta) -> Result<Vec<(Name, u64)>, Fault> {
 fn the_first_of_every_owner_comes_first(rt: HostRuntime) -> Result<(), Fail> {
     let alloc = rt.alloc();
     let [a, b, c] = [Name::read(b"a")?, Name::read(b"b")?, Name::read(b"c")?];
-    let holdings = three_keys_and(alloc, &[c, b])?;
+    let holdings = three_keys_and(alloc, b, &[c, a])?;
     let ordered = arranged(alloc, &holdings)?;
-    let order = [(a, 1), (b, 1), (c, 1), (a, 2), (a, 3)];
+    let order = [(a, 1), (b, 1), (c, 1), (b, 2), (b, 3)];
     assert_eq!(rt; listed(alloc, &ordered)?.as_slice(), order.as_slice());
     Ok(())
 }
@@ -86,7 +81,7 @@ fn the_first_of_every_owner_comes_first(rt: HostRuntime) -> Result<(), Fail> {
 fn every_owner_is_told_of(rt: HostRuntime) -> Result<(), Fail> {
     let alloc = rt.alloc();
     let [a, b] = [Name::read(b"a")?, Name::read(b"b")?];
-    let holdings = three_keys_and(alloc, &[b])?;
+    let holdings = three_keys_and(alloc, a, &[b])?;
     let wide = cut(alloc, arranged(alloc, &holdings)?, 440)?;
     assert_eq!(rt; wide.encoded_length() + 6, 439);
     assert_eq!(rt; told(alloc, &wide)?.as_slice(), [(a, 1), (b, 1)].as_slice());
@@ -101,8 +96,8 @@ fn every_owner_is_told_of(rt: HostRuntime) -> Result<(), Fail> {
 fn a_refused_order_is_made_again(rt: HostRuntime) -> Result<(), Fail> {
     let alloc = rt.alloc();
     let [a, b] = [Name::read(b"a")?, Name::read(b"b")?];
-    let holdings = match three_keys_and(alloc, &[b]) {
-        Err(Fault::NoMemory) => three_keys_and(alloc, &[b])?,
+    let holdings = match three_keys_and(alloc, a, &[b]) {
+        Err(Fault::NoMemory) => three_keys_and(alloc, a, &[b])?,
         made => made?,
     };
     let ordered = match arranged(alloc, &holdings) {
