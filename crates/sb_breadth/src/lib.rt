@@ -25,3 +25,6 @@ impl DeltaOrder for Breadth {
         Ok(items)
     }
 }
+
+#[cfg(test)]
+mod tests;

@@ -47,6 +47,7 @@ found_of (e ∷ es) p up (inr s) =
     later [] p all s = absurd s
     later (x ∷ xs) p all (inl same) = subst (λ (q : List ℕ × Holder). text_cmp e.0 q.0 ≡ Less) same all.0
     later (x ∷ xs) p all (inr s) = later xs p all.1 s
+
     apart : (a b : List ℕ) → text_cmp a b ≡ Less → eq_by_cmp text_cmp b a ≡ true → ⊥
     apart a b less tied = true≢false (sym tied ∙ ap is_eq (nat_list_cmp_total.antisymm b a ∙ ap ordering_reverse less))
 
@@ -58,11 +59,13 @@ pairs_by_owner (x ∷ xs) each = AllPairs-cons Precedes x xs (all_from (Precedes
   where
     own : offered_by x.owner (x ∷ xs) ≡ x ∷ offered_by x.owner xs
     own = cond-true _ _ _ (text_same x.owner x.owner refl)
+
     first : (y : Offered) → Stands xs y → Precedes x y
     first y s = λ same.
         let pairs : AllPairs Before (x ∷ offered_by x.owner xs) = subst (AllPairs Before) own (each x.owner) in
         all_at (Before x) (offered_by x.owner xs) y (recursion_from_All (Before x) (offered_by x.owner xs) (λ k d l. pairs 0 (suc k) d (omega arith) (omega arith)))
         (some_of (λ (o : Offered). o.owner) x.owner xs y s (sym same))
+
     rest : (owner : List ℕ) → AllPairs Before (offered_by owner xs)
     rest owner = go (pointwise nat_eq x.owner owner) (each owner)
       where
@@ -147,6 +150,7 @@ module _ (reaches : List ℕ → Bool) (known : List ℕ → ℕ) where
     where
       parts : offered_by owner (part_at p ++ all_parts ps) ≡ offered_by owner (part_at p) ++ offered_by owner (all_parts ps)
       parts = filter-append (λ o. pointwise nat_eq o.owner owner) (part_at p) (all_parts ps)
+
       own : p.0 ≡ owner → IsPlainTable p.1 → offered_by owner (all_parts ps) ≡ [] → (b : Bool) → reaches p.0 ≡ b → IsByOwner (part_at p ++ all_parts ps) owner
       own same table none true reached = record {
         table = p.1;
@@ -161,6 +165,7 @@ module _ (reaches : List ℕ → Bool) (known : List ℕ → ℕ) where
         plain = nothing_plain;
         part = parts ∙ ap₂ (λ a b. a ++ b) (ap (λ (b : Bool). offered_by owner (if b then ranked_of p.0 p.1 (known p.0) else [])) reached) none;
       }
+
       go : ((pointwise nat_eq p.0 owner ≡ true) ⊎ (pointwise nat_eq p.0 owner ≡ false)) → AllByRecursion (λ k. text_cmp p.0 k ≡ Less) (keys_of ps) → IsPlainTable p.1 → IsByOwner (all_parts ps) owner → IsByOwner (part_at p ++ all_parts ps) owner
       go (inl same) behind table rest =
           let this = same_text p.0 owner same in
@@ -191,8 +196,7 @@ module _ (reaches : List ℕ → Bool) (known : List ℕ → ℕ) where
         let es = above n b.table.entries in
         let stands : Stands (ranked_of o.owner b.table n) o = subst (λ (os : List Offered). Stands os o) b.part (some_of (λ (x : Offered). x.owner) o.owner (all_parts ps) o s refl) in
         let rank = rank-ranked o.owner n b.table.held (length es) 0 0 es o (part_ascending o.owner b.table b.plain n) stands in
-        let count = count-ranked o.owner n b.table.held (length es) 0 es o stands in
-        (
+        let count = count-ranked o.owner n b.table.held (length es) 0 es o stands in (
           omega (arith, rank, ap (count_by (λ (x : Offered). nat_lt x.entry.version o.entry.version)) b.part),
           omega (arith, count, length-ranked o.owner n b.table.held (length es) 0 es, ap (λ (os : List Offered). length os) b.part),
         ))

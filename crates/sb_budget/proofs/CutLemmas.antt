@@ -84,7 +84,7 @@ module _ (budget room : ℕ) (offered front : List Offered) (blocks : List Block
         let grows = gathered_grows (after_of offered can) (front ++ x ∷ []) more known next_ordered in
         let count : n ≡ length (front ++ x ∷ []) + (n - length (front ++ x ∷ [])) = omega (arith, length_push front x) in
         let these : take n offered ≡ (front ++ x ∷ []) ++ more =
-            ap (take n) (sym next_whole) ∙ ap (λ k. take k ((front ++ x ∷ []) ++ rest)) count ∙ take-append-add (front ++ x ∷ []) rest (n - length (front ++ x ∷ [])) in
+        ap (take n) (sym next_whole) ∙ ap (λ k. take k ((front ++ x ∷ []) ++ rest)) count ∙ take-append-add (front ++ x ∷ []) rest (n - length (front ++ x ∷ [])) in
         omega (arith, grows, ap (sum_by block_length) next_gathered, ap (λ l. sum_by block_length (gathered (after_of offered can) l)) these, ap (sum_by block_length) (delta_is_gathered offered can n))
 
     -- where the next item does not fit

@@ -203,15 +203,15 @@ module _ (offered : List Offered) (can : CanCut offered) where
     blocks_front =
         ap (map (λ owner. block_of owner (items_of_all front) (items_of_all rest))) (fold-map (λ names (i : Item). with_name i.owner names) item_of [] front)
         ∙ map_same (λ owner. block_of owner (items_of_all front) (items_of_all rest)) (part_of after_of front) (names_of front) (λ owner s.
-            let some = named_some (λ (o : Offered). o.owner) front owner s in
-            ap₂ (block_from owner) (of_owner_items owner front) (of_owner_items owner rest)
-            ∙ part_block owner (can owner).0 (can owner).1 (offered_by owner front) (offered_by owner rest) some.0 (parts owner) some.1)
+        let some = named_some (λ (o : Offered). o.owner) front owner s in
+        ap₂ (block_from owner) (of_owner_items owner front) (of_owner_items owner rest)
+        ∙ part_block owner (can owner).0 (can owner).1 (offered_by owner front) (offered_by owner rest) some.0 (parts owner) some.1)
 
     entries_run : (owner : List ℕ) → IsRun (after_of owner) (last_version (after_of owner) (entries_in (offered_by owner front))) (entries_in (offered_by owner front))
     entries_run owner =
         let these = entries_in (offered_by owner front) in
         let taken : take (length these) (entries_in (offered_by owner front ++ offered_by owner rest)) ≡ these =
-            ap (take (length these)) (map-append (λ (o : Offered). o.entry) (offered_by owner front) (offered_by owner rest)) ∙ take_at these (entries_in (offered_by owner rest)) (length these) refl in
+        ap (take (length these)) (map-append (λ (o : Offered). o.entry) (offered_by owner front) (offered_by owner rest)) ∙ take_at these (entries_in (offered_by owner rest)) (length these) refl in
         subst (λ es. IsRun (after_of owner) (last_version (after_of owner) es) es) taken (run_front (length these) (parts owner).run)
 
     some_entries : (owner : List ℕ) → Stands (names_of front) owner → 1 ≤ length (entries_in (offered_by owner front))

@@ -109,7 +109,7 @@ module _ (owner : List ℕ) (after upto count : ℕ) where
       let first : Offered = record { owner = owner; after = after; upto = upto; rank = rank; count = count; entry = e } in
       let here : one_if (nat_lt e.version e.version) ≡ 0 = cond-false _ 1 0 (le-ltb e.version e.version (omega arith)) in
       let none : rank ≡ rank + count_by (λ (x : Offered). nat_lt x.entry.version e.version) (first ∷ ranked_from (rank + 1) owner after upto count es) =
-          omega (arith, sum_by-cons (λ (x : Offered). one_if (nat_lt x.entry.version e.version)) first (ranked_from (rank + 1) owner after upto count es), here, none_smaller e.version e.version (rank + 1) es (omega arith) p.1) in
+      omega (arith, sum_by-cons (λ (x : Offered). one_if (nat_lt x.entry.version e.version)) first (ranked_from (rank + 1) owner after upto count es), here, none_smaller e.version e.version (rank + 1) es (omega arith) p.1) in
       subst (λ (y : Offered). y.rank ≡ rank + count_by (λ (x : Offered). nat_lt x.entry.version y.entry.version) (first ∷ ranked_from (rank + 1) owner after upto count es)) same none
   rank-ranked before rank (e ∷ es) o up (inr s) =
       let p = and_parts (nat_lt before e.version) (are_ascending e.version es) up in
@@ -144,11 +144,15 @@ module _ (owner : List ℕ) (t : Table) (plain : IsPlainTable t) (n : ℕ) where
   pub part_is : (after : ℕ) × (upto : ℕ) × IsPart after upto (ranked_of owner t n)
   part_is = first_or_none _
       (λ none. (0, 0, subst (λ (es : List Entry). IsPart 0 0 (ranked_from 0 owner n t.held (length es) es)) (sym none) (record { each = λ k d l. absurd (omega arith); run = record { ascending = refl; most = omega arith; distinct = refl }; last = refl })))
-      (λ e s. (n, t.held, record {
-        each = bounds-ranked owner n t.held (length (above n t.entries)) 0 (above n t.entries);
-        run = subst (IsRun n t.held) (sym (entries-ranked owner n t.held (length (above n t.entries)) 0 (above n t.entries))) (run_of_above t plain n e s);
-        last = ap (last_version n) (entries-ranked owner n t.held (length (above n t.entries)) 0 (above n t.entries)) ∙ last_of_above t plain n e s;
-      }))
+      (λ e s. (
+        n,
+        t.held,
+        record {
+          each = bounds-ranked owner n t.held (length (above n t.entries)) 0 (above n t.entries);
+          run = subst (IsRun n t.held) (sym (entries-ranked owner n t.held (length (above n t.entries)) 0 (above n t.entries))) (run_of_above t plain n e s);
+          last = ap (last_version n) (entries-ranked owner n t.held (length (above n t.entries)) 0 (above n t.entries)) ∙ last_of_above t plain n e s;
+        },
+      ))
 
   pub part_ascending : are_ascending 0 (above n t.entries) ≡ true
   part_ascending = ascending_kept (λ e. nat_lt n e.version) 0 t.entries plain.run.ascending

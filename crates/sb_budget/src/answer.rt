@@ -41,11 +41,7 @@ fn offer(
 
 /// What a peer that sent this digest lacks: of each owner that the digest covers, the entries above its
 /// number there, in ascending version. `NoMemory`.
-pub fn available(
-    alloc: Global,
-    holdings: &Holdings,
-    digest: &Digest,
-) -> Result<Vec<Offered>, Fault>
+pub fn available(alloc: Global, holdings: &Holdings, digest: &Digest) -> Result<Vec<Offered>, Fault>
     ensures items { IfOk result (λ offered. items_of_all offered.items ≡ available_for holdings.now digest.now) }
     ensures ranks { IfOk result (λ offered. AreRanked offered.items) }
     ensures offer { IfOk result (λ offered. IsOffer offered.items) }

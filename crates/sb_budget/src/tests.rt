@@ -2,9 +2,9 @@ ghost use Rattle.std.specs.Prelude.{◌≡◌, ◌≤◌, IfOk};
 
 use super::*;
 use sb_digest::{Digest, Pair};
-use sb_holdings::Holdings;
+use sb_holdings::{BlockEnd, Holdings};
 use sb_table::Table;
-use sb_types::{Entry, Fault, Key, Name, Slot, Value};
+use sb_types::{BUDGET_LEAST, BUDGET_MOST, Block, Delta, Entry, Fault, Key, Name, Slot, Value};
 use std::alloc::Global;
 use std::test::Fail;
 
@@ -31,14 +31,45 @@ fn three_writes(alloc: Global) -> Result<Holdings, Fault> {
     Holdings::new(alloc, Name::read(b"a")?, table)
 }
 
+/// The owner a, which wrote three keys, and the owner b, which wrote one: entries of 203 bytes.
+fn two_owners(alloc: Global) -> Result<Holdings, Fault> {
+    let mut table = Table::new(alloc);
+    table.push(longest_value(alloc, &[b'x'; 64], 1)?)?;
+    table.push(longest_value(alloc, &[b'y'; 64], 2)?)?;
+    table.push(longest_value(alloc, &[b'z'; 64], 3)?)?;
+    let mut holdings = Holdings::new(alloc, Name::read(b"a")?, table)?;
+    let entry = longest_value(alloc, &[b'x'; 64], 1)?;
+    let block = Block::new(Name::read(b"b")?, 0, vec![in alloc; entry]?)?;
+    match holdings.apply_block(&block) {
+        BlockEnd::Taken(1) => Ok(holdings),
+        _ => Err(Fault::NoMemory),
+    }
+}
+
+/// All that is held, cut to the budget.
+fn cut_of_all(alloc: Global, holdings: &Holdings, budget: u64) -> Result<Delta, Fault>
+    requires least { BUDGET_LEAST ≤ budget }
+    requires most { budget ≤ BUDGET_MOST }
+{
+    let digest = Digest::new(false, None, None, Vec::new(alloc))?;
+    cut(alloc, available(alloc, holdings, &digest)?, budget)
+}
+
+/// Of each block the owner's name and the versions.
+fn told(alloc: Global, delta: &Delta) -> Result<Vec<(Name, u64)>, Fault> {
+    let mut told = Vec::new(alloc);
+    for block in delta.blocks() {
+        for entry in block.entries() {
+            told.push((*block.owner(), entry.version()))?;
+        }
+    }
+    Ok(told)
+}
+
 #[test]
 fn an_entry_that_does_not_fit_waits(rt: HostRuntime) -> Result<(), Fail> {
     let alloc = rt.alloc();
-    let holdings = three_writes(alloc)?;
-    let digest = Digest::new(false, None, None, Vec::new(alloc))?;
-    let offered = available(alloc, &holdings, &digest)?;
-    assert_eq!(rt; offered.len(), 2);
-    let delta = cut(alloc, offered, 256)?;
+    let delta = cut_of_all(alloc, &three_writes(alloc)?, 256)?;
     // A frame of 161 bytes.
     assert_eq!(rt; delta.encoded_length(), 155);
     assert_eq!(rt; delta.blocks().len(), 1);
@@ -52,6 +83,15 @@ fn an_entry_that_does_not_fit_waits(rt: HostRuntime) -> Result<(), Fail> {
             assert_eq!(rt; entry.version(), 2);
         }
     }
+    // The whole has a frame of 301 bytes.
+    assert_eq!(rt;
+        cut_of_all(alloc, &three_writes(alloc)?, 300)?.encoded_length(),
+        155
+    );
+    assert_eq!(rt;
+        cut_of_all(alloc, &three_writes(alloc)?, 301)?.encoded_length(),
+        295
+    );
     Ok(())
 }
 
@@ -61,33 +101,124 @@ fn the_longest_entry_fits_the_least_budget(rt: HostRuntime) -> Result<(), Fail> 
     let mut table = Table::new(alloc);
     table.push(longest_value(alloc, LONGEST_KEY, 1)?)?;
     let holdings = Holdings::new(alloc, Name::read(LONGEST_NAME)?, table)?;
-    let digest = Digest::new(false, None, None, Vec::new(alloc))?;
-    let delta = cut(alloc, available(alloc, &holdings, &digest)?, 256)?;
+    let delta = cut_of_all(alloc, &holdings, 256)?;
     // A frame of 255 bytes.
     assert_eq!(rt; delta.encoded_length(), 249);
+    assert_eq!(rt;
+        told(alloc, &delta)?.as_slice(),
+        [(Name::read(LONGEST_NAME)?, 1)].as_slice()
+    );
+    Ok(())
+}
+
+#[test]
+fn owners_follow_one_another(rt: HostRuntime) -> Result<(), Fail> {
+    let alloc = rt.alloc();
+    let a = Name::read(b"a")?;
+    let b = Name::read(b"b")?;
+    let all = [(a, 1), (a, 2), (a, 3), (b, 1)];
+    let holdings = two_owners(alloc)?;
+    let frames = [
+        (256, 1, 224),
+        (426, 1, 224),
+        (427, 2, 427),
+        (438, 2, 427),
+        (440, 2, 427),
+        (629, 2, 427),
+        (630, 3, 630),
+        (844, 3, 630),
+        (845, 4, 845),
+    ];
+    for (budget, count, length) in frames {
+        let delta = cut_of_all(alloc, &holdings, budget)?;
+        assert_eq!(rt; delta.encoded_length() + 6, length, "at {budget}");
+        let (front, _) = all.split_at(count);
+        assert_eq!(rt; told(alloc, &delta)?.as_slice(), front, "at {budget}");
+    }
+    Ok(())
+}
+
+#[test]
+fn items_tell_their_place(rt: HostRuntime) -> Result<(), Fail> {
+    let alloc = rt.alloc();
+    let a = Name::read(b"a")?;
+    let b = Name::read(b"b")?;
+    let holdings = two_owners(alloc)?;
+    let pairs = vec![in alloc;
+        Pair {
+            owner: a,
+            version: 1
+        },
+    ]?;
+    let digest = Digest::new(false, None, None, pairs)?;
+    let places = [(a, 1, 3, 0, 2, 2), (a, 1, 3, 1, 2, 3), (b, 0, 1, 0, 1, 1)];
+    let offered = available(alloc, &holdings, &digest)?;
+    assert_eq!(rt; offered.len(), 3);
+    for (item, place) in offered.iter().zip(places) {
+        let found = (
+            item.owner,
+            item.after,
+            item.upto,
+            item.rank,
+            item.count,
+            item.entry.version(),
+        );
+        assert_eq!(rt; found, place);
+    }
     Ok(())
 }
 
 #[test]
 fn what_a_digest_leaves(rt: HostRuntime) -> Result<(), Fail> {
     let alloc = rt.alloc();
-    let holdings = three_writes(alloc)?;
-    let owner = Name::read(b"a")?;
-    let pairs = vec![in alloc; Pair { owner, version: 2 }]?;
-    let digest = Digest::new(false, None, None, pairs)?;
-    let offered = available(alloc, &holdings, &digest)?;
-    assert_eq!(rt; offered.len(), 1);
-    for item in &offered {
-        assert_eq!(rt; item.after, 2);
-        assert_eq!(rt; item.upto, 3);
-        assert_eq!(rt; item.rank, 0);
-        assert_eq!(rt; item.count, 1);
-        assert_eq!(rt; item.entry.version(), 3);
-    }
-    let beside = Digest::new(false, Some(Name::read(b"b")?), None, Vec::new(alloc))?;
-    assert!(rt; available(alloc, &holdings, &beside)?.is_empty());
-    let none = Digest::new(false, None, None, vec![in alloc; Pair { owner, version: 3 }]?)?;
+    let holdings = two_owners(alloc)?;
+    let a = Name::read(b"a")?;
+    let b = Name::read(b"b")?;
+    let beside = Digest::new(false, Some(b), None, Vec::new(alloc))?;
+    let of_b = available(alloc, &holdings, &beside)?;
+    assert_eq!(rt; of_b.len(), 1);
+    assert!(rt; of_b.iter().all(|item| item.owner == b));
+    let below = Digest::new(false, None, Some(b), Vec::new(alloc))?;
+    let of_a = available(alloc, &holdings, &below)?;
+    assert_eq!(rt; of_a.len(), 3);
+    assert!(rt; of_a.iter().all(|item| item.owner == a));
+    let pairs = vec![in alloc;
+        Pair {
+            owner: a,
+            version: 3
+        },
+        Pair {
+            owner: b,
+            version: 1
+        },
+    ]?;
+    let none = Digest::new(false, None, None, pairs)?;
     let delta = cut(alloc, available(alloc, &holdings, &none)?, 256)?;
     assert_eq!(rt; delta.blocks().len(), 0);
+    // A frame of 9 bytes.
+    assert_eq!(rt; delta.encoded_length(), 3);
+    Ok(())
+}
+
+/// Whichever allocation is refused, what is held stays, and the next call answers.
+#[test]
+fn a_refused_cut_is_made_again(rt: HostRuntime) -> Result<(), Fail> {
+    let alloc = rt.alloc();
+    let holdings = match two_owners(alloc) {
+        Err(Fault::NoMemory) => two_owners(alloc)?,
+        made => made?,
+    };
+    let delta = match cut_of_all(alloc, &holdings, 845) {
+        Err(Fault::NoMemory) => cut_of_all(alloc, &holdings, 845)?,
+        made => made?,
+    };
+    assert_eq!(rt; delta.encoded_length(), 839);
+    assert_eq!(rt; delta.blocks().len(), 2);
+    for (block, (owner, count)) in delta.blocks().iter().zip([(b"a", 3), (b"b", 1)]) {
+        assert_eq!(rt; block.owner().bytes(), owner.as_slice());
+        assert_eq!(rt; block.after(), 0);
+        assert_eq!(rt; block.upto(), count as u64);
+        assert_eq!(rt; block.entries().len(), count);
+    }
     Ok(())
 }

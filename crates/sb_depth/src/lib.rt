@@ -26,3 +26,6 @@ impl DeltaOrder for Depth {
         Ok(items)
     }
 }
+
+#[cfg(test)]
+mod tests;

@@ -18,7 +18,7 @@ returns-in_default-clause-cut c =
     let whole = at_turn c.args.items.items c.loop-item.yielded c.in-Some.item front turn in
     let bound : IsSearchInRange c.place_of-place.result (length c.loop-item.gathered.items) = subst (λ (bs : List Block). IsSearchInRange c.place_of-place.result (length bs)) c.deref.ensures.value c.place_of-place.ensures.bound in
     let found : IsBinarySearchResult (λ (b : Block). text_cmp b.owner c.in-Some.item.owner) c.loop-item.gathered.items c.place_of-place.result =
-        subst (λ (bs : List Block). IsBinarySearchResult (λ (b : Block). text_cmp b.owner c.in-Some.item.owner) bs c.place_of-place.result) c.deref.ensures.value c.place_of-place.ensures.place in
+    subst (λ (bs : List Block). IsBinarySearchResult (λ (b : Block). text_cmp b.owner c.in-Some.item.owner) bs c.place_of-place.result) c.deref.ensures.value c.place_of-place.ensures.place in
     let short = room_short c.checked_sub.result c.cost.result c.loop-item.room c.checked_sub.ensures c.in_default.not-Some in
     cut_here c.args.budget c.loop-item.room c.args.items.items c.loop-item.yielded c.loop-item.gathered.items c.loop-item.invariant.2 c.requires.items c.in-Some.item _ whole c.place_of-place.result bound found (omega (arith, short, c.cost.ensures.cost))
 
@@ -37,10 +37,10 @@ loop-item-preserved c =
     let whole = at_turn c.args.items.items c.loop-item.yielded c.in-Some.item front turn in
     let bound : IsSearchInRange c.place_of-place.result (length c.loop-item.gathered.items) = subst (λ (bs : List Block). IsSearchInRange c.place_of-place.result (length bs)) c.deref.ensures.value c.place_of-place.ensures.bound in
     let found : IsBinarySearchResult (λ (b : Block). text_cmp b.owner c.in-Some.item.owner) c.loop-item.gathered.items c.place_of-place.result =
-        subst (λ (bs : List Block). IsBinarySearchResult (λ (b : Block). text_cmp b.owner c.in-Some.item.owner) bs c.place_of-place.result) c.deref.ensures.value c.place_of-place.ensures.place in
+    subst (λ (bs : List Block). IsBinarySearchResult (λ (b : Block). text_cmp b.owner c.in-Some.item.owner) bs c.place_of-place.result) c.deref.ensures.value c.place_of-place.ensures.place in
     let more : IsGathering c.args.budget c.in-Some-checked_sub.left c.args.items.items (c.loop-item.yielded ++ c.in-Some.item ∷ []) (placed c.place_of-place.result c.in-Some.item c.loop-item.gathered.items) =
-        gathering_more c.args.budget c.loop-item.room c.in-Some-checked_sub.left c.args.items.items c.loop-item.yielded c.loop-item.gathered.items c.in-Some.item _ c.place_of-place.result
-        c.loop-item.invariant.2 whole bound found (omega (arith, c.in-Some-checked_sub.ensures.0, c.in-Some-checked_sub.ensures.1, c.cost.ensures.cost)) (name_above c.in-Some.item.owner c.cost.ensures.owner) in
+    gathering_more c.args.budget c.loop-item.room c.in-Some-checked_sub.left c.args.items.items c.loop-item.yielded c.loop-item.gathered.items c.in-Some.item _ c.place_of-place.result
+    c.loop-item.invariant.2 whole bound found (omega (arith, c.in-Some-checked_sub.ensures.0, c.in-Some-checked_sub.ensures.1, c.cost.ensures.cost)) (name_above c.in-Some.item.owner c.cost.ensures.owner) in
     (tt, tt, rw c.in_ok-put.ensures.placed more)
 
 pub returns-clause-cut : goal.returns-clause-cut
