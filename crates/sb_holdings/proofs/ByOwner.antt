@@ -1,6 +1,6 @@
 -- Tables by owner, seen as a map of holders.
-use Rattle.std.proofs.Common.{◌≡◌, ℕ, ◌+◌, ◌≤◌, ◌<◌, Bool, true, false, cond, ◌&&◌, List, [], ◌∷◌, map, filter, length, Option, Some, None, IfSome, is_some, refl, sym, ap, subst, ◌∙◌, nat_eq, arith, T}
-use Rattle.std.proofs.lemmas.Bool.{cond_both, cond-true, cond-false, both_ways}
+use Rattle.std.proofs.Common.{◌≡◌, ℕ, ◌<◌, Bool, true, false, cond, ◌&&◌, List, [], ◌∷◌, map, filter, length, Option, Some, None, IfSome, is_some, refl, sym, ap, subst, ◌∙◌, arith, T}
+use Rattle.std.proofs.lemmas.Bool.{cond_both}
 use Rattle.std.proofs.lemmas.List.{length-map}
 use Rattle.std.proofs.lemmas.Cmp.{nat_list_cmp_total, tied_itself}
 use Rattle.std.specs.FinMap.Entries.{below_all}
@@ -18,12 +18,10 @@ use Rattle.std.proofs.Math.Bool.{and-true}
 use Rattle.std.specs.Ordering.{nat_cmp, is_lt, is_eq, eq_by_cmp}
 use Rattle.std.specs.declared.cmp.Ordering.{Ordering}
 use Rattle.std.specs.declared.cmp.Ordering.TheVariants.{Less}
-use Rattle.std.specs.Cmp.Lexicographic.{slice_cmp, pointwise, texts_ties}
-use Rattle.std.specs.FinMap.{FinMap, get, keys, contains_key, entries, len, insert, find, is_sorted, from_sorted, entries-from_sorted, get-from_sorted, get-insert, len-entries, len-insert}
-use Rattle.sb_types.specs.declared.limits.TheConstants.{OWNERS_MOST}
+use Rattle.std.specs.Cmp.Lexicographic.{slice_cmp, texts_ties}
+use Rattle.std.specs.FinMap.{get, keys, entries, len, find, is_sorted, entries-from_sorted, get-from_sorted, len-entries}
 use Rattle.sb_types.specs.Records.{Table, Holder}
 use Rattle.sb_table.specs.Plain.{IsPlainTable}
-use Rattle.sb_holdings.specs.Held.{Held}
 use Rattle.sb_holdings.specs.Plain.{alone, held_of, IsPlainHolder, IsHoldings, table_of, is_from, tables_from}
 
 -- the order of names

@@ -1,19 +1,19 @@
 -- Holdings in which one owner's table is changed.
-use Rattle.std.proofs.Common.{◌≡◌, ℕ, zero, suc, ◌+◌, ◌≤◌, ◌<◌, Bool, true, false, cond, ◌&&◌, ◌||◌, List, [], ◌∷◌, length, Option, Some, None, IfSome, is_some, is_none, unwrap_or, refl, sym, ap, subst, ◌∙◌, nat_eq, nat_lt, arith, lt-ltb, ltb-true}
-use Rattle.std.proofs.lemmas.Bool.{cond_both, cond-true, cond-false, cases_Bool, or_cases, both_ways}
+use Rattle.std.proofs.Common.{◌≡◌, ℕ, ◌+◌, ◌≤◌, ◌<◌, Bool, true, false, cond, ◌&&◌, ◌||◌, List, length, Option, Some, None, IfSome, is_some, unwrap_or, refl, sym, ap, subst, ◌∙◌, nat_eq, nat_lt, arith, ltb-true}
+use Rattle.std.proofs.lemmas.Bool.{cond_both, cond-false}
 use Rattle.std.proofs.lemmas.Bool.Decides.{nat_tests}
 use Rattle.std.proofs.lemmas.Cmp.{nat_list_cmp_total}
 use Rattle.std.specs.Option.{option_map}
 use Rattle.std.specs.BTreeMap.{is_at}
-use Rattle.std.specs.Ordering.{nat_cmp, eq_by_cmp}
+use Rattle.std.specs.Ordering.{eq_by_cmp}
 use Rattle.std.specs.Cmp.{eq_by_cmp_equiv}
-use Rattle.std.specs.Cmp.Lexicographic.{slice_cmp, pointwise, texts_ties, bytes_decides}
-use Rattle.std.specs.FinMap.{FinMap, get, contains_key, len, insert, remove, get-insert, get-remove, get_tied, len-insert, same_map, slice_cmp-IsAntisymmetric, nat_cmp-IsAntisymmetric}
+use Rattle.std.specs.Cmp.Lexicographic.{texts_ties}
+use Rattle.std.specs.FinMap.{FinMap, get, contains_key, len, insert, remove, get-insert, get-remove, len-insert, same_map, slice_cmp-IsAntisymmetric, nat_cmp-IsAntisymmetric}
 use Rattle.sb_types.specs.declared.limits.TheConstants.{OWNERS_MOST}
 use Rattle.sb_types.specs.Records.{Table, Holder}
 use Rattle.sb_types.specs.Writes.{IsHolder}
 use Rattle.sb_table.specs.Plain.{IsPlainTable}
-use Rattle.sb_holdings.specs.Held.{Held, nothing, is_nothing, holder_of, shown_of, with_holder, with_owner}
+use Rattle.sb_holdings.specs.Held.{Held, nothing, is_nothing, holder_of, shown_of, with_owner}
 use Rattle.sb_holdings.specs.Plain.{alone, held_of, IsPlainHolder, IsHoldings}
 use Rattle.sb_holdings.specs.Ends.{has_place}
 use Rattle.sb_holdings.proofs.Lists.{same_text}

@@ -1,5 +1,5 @@
 -- What a block that joins on leaves, by its end.
-use Rattle.std.proofs.Common.{◌≡◌, ℕ, ◌+◌, ◌≤◌, ◌<◌, max, Bool, true, false, cond, ◌&&◌, ◌||◌, ◌==◌, nat_le, nat_lt, List, [], ◌∷◌, ◌++◌, length, take, filter, Option, Some, None, refl, sym, ap, subst, ◌∙◌, arith, le-leb, lt-ltb}
+use Rattle.std.proofs.Common.{◌≡◌, ℕ, ◌≤◌, ◌<◌, max, true, ◌||◌, nat_lt, List, [], ◌∷◌, length, take, Option, refl, sym, ap, subst, ◌∙◌, arith, le-leb, lt-ltb}
 use Rattle.std.proofs.lemmas.Bool.{and_parts, and_from, cond-true, cond-false, cond_both, leb-true, ltb-true, ltb-false, eqb-true, or_right}
 use Rattle.std.proofs.lemmas.List.{take_all}
 use Rattle.sb_types.specs.Records.{Entry, Table, Stage, Block, Holder}
@@ -12,7 +12,7 @@ use Rattle.sb_holdings.specs.Blocks.{part_above, front}
 use Rattle.sb_holdings.specs.Shown.{joins_shown, joined, shown_with}
 use Rattle.sb_holdings.specs.Stages.{staged_all, staged_front, staged_refused}
 use Rattle.sb_holdings.specs.Taken.{routed, treat}
-use Rattle.sb_holdings.specs.Held.{Held, holder_of, shown_of, with_owner, taken, treated}
+use Rattle.sb_holdings.specs.Held.{Held, shown_of, with_owner, taken, treated}
 use Rattle.sb_holdings.specs.Plain.{alone, with_entries, with_entered, IsHoldings}
 use Rattle.sb_holdings.specs.Ends.{is_own, JoinsOn, Enters, entered_count}
 use Rattle.sb_holdings.proofs.Order.{least, lower, run_above}

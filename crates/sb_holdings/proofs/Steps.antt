@@ -1,5 +1,5 @@
 -- A step of a holder, and steps one after another.
-use Rattle.std.proofs.Common.{◌≡◌, ◌<◌, ◌≤◌, List, inl, inr, ⊎_elim, ap, arith}
+use Rattle.std.proofs.Common.{List, inl, inr, ⊎_elim, ap, arith}
 use Rattle.sb_types.specs.declared.entry.Write.{Write}
 use Rattle.sb_types.specs.Records.{Entry, Table, Holder}
 use Rattle.sb_types.specs.Runs.{IsTable}

@@ -1,22 +1,16 @@
 -- What a block leaves of one owner, by its end.
-use Rattle.std.proofs.Common.{◌≡◌, ℕ, zero, suc, ◌+◌, ◌<◌, ◌≤◌, max, true, cond, List, [], ◌∷◌, length, inl, inr, ⊎_elim, refl, sym, ap, subst, ◌∙◌, Option, Some, None, IfSome, nat_lt, nat_le, nat_eq, arith, ltb-true, leb-true, eqb-true, lt-ltb}
-use Rattle.std.proofs.lemmas.Bool.{and_parts, and_from, cond_both}
+use Rattle.std.proofs.Common.{ℕ, zero, suc, ◌≤◌, List, length, refl, Option, Some, None, IfSome, nat_lt, arith, ltb-true, leb-true}
+use Rattle.std.proofs.lemmas.Bool.{and_parts, cond_both}
 use Rattle.sb_types.specs.declared.entry.Write.{Write}
-use Rattle.sb_types.specs.Records.{Entry, Table, Stage, Block, Holder}
-use Rattle.sb_types.specs.Runs.{live, above, entered, IsRun, IsBlock}
-use Rattle.sb_types.specs.Writes.{Written, Tells, HoldsStage, Honest, IsHolder, HolderHolds}
+use Rattle.sb_types.specs.Records.{Stage, Block, Holder}
+use Rattle.sb_types.specs.Runs.{above, IsBlock}
+use Rattle.sb_types.specs.Writes.{Honest, IsHolder}
 use Rattle.sb_holdings.specs.declared.ends.BlockEnd.{BlockEnd}
 use Rattle.sb_holdings.specs.declared.ends.BlockEnd.TheVariants.{Own, OwnAhead, Gap, Stale, OwnersFull, Taken, TooManyKeys, NoMemory}
 use Rattle.sb_holdings.specs.Blocks.{part_above, front}
-use Rattle.sb_table.specs.Plain.{with_entry}
-use Rattle.sb_holdings.specs.Shown.{joins_shown, stage_beyond, shown_with, own}
-use Rattle.sb_holdings.specs.Stages.{new_stage, goes_on, begins, stage_for, stage_with, swapped, settled, staged_all, staged_front, staged_refused}
+use Rattle.sb_holdings.specs.Shown.{joins_shown, shown_with}
+use Rattle.sb_holdings.specs.Stages.{stage_for, staged_all, staged_front, staged_refused}
 use Rattle.sb_holdings.specs.Taken.{routed, treat}
-use Rattle.sb_holdings.specs.Progress.{Onward}
-use Rattle.sb_holdings.proofs.Lists.{of_live, of_entered}
-use Rattle.sb_holdings.proofs.Order.{run_after, run_order, run_kept, run_entered}
-use Rattle.sb_holdings.proofs.Telling.{tells_live, tells_raised, tells_raised_below, tells_entered, one_write, within_writes}
-use Rattle.sb_holdings.proofs.Swapping.{swapped_run, swapped_tells, swapped_each}
 use Rattle.sb_holdings.proofs.Parts.{IsPart, part_is, front_is}
 use Rattle.sb_holdings.proofs.Steps.{Step, unchanged}
 use Rattle.sb_holdings.proofs.Joining.{shown_step}

@@ -1,10 +1,5 @@
-use Rattle.std.proofs.Common.{◌≡◌, ◌<◌, ◌≤◌, ◌+◌, ℕ, List, [], ◌∷◌, true, false, length, take, get_or, sym, ap, subst, ◌∙◌, arith, rules, refl}
-use Rattle.std.proofs.lemmas.Grind.{common_steps}
-use Rattle.sb_types.specs.declared.limits.TheConstants.{KEYS_MOST}
-use Rattle.sb_types.specs.Records.{Entry, Table}
-use Rattle.sb_table.specs.Plain.{IsPlainTable, with_entry}
-use Rattle.sb_holdings.specs.Plain.{with_entries}
-use Rattle.sb_holdings.specs.Ends.{keys_with}
+use Rattle.std.proofs.Common.{◌≡◌, ◌<◌, length, sym, ◌∙◌, arith, rules, refl}
+use Rattle.sb_table.specs.Plain.{with_entry}
 use Rattle.sb_holdings.proofs.Entered.{with_entries-nil, with_entries-next, later-next, keys-so_far, keys-room, keys-full}
 use Rattle.sb_holdings.proofs.enter.enter_each.Goals as goal
 

@@ -1,4 +1,4 @@
-use Rattle.std.proofs.Common.{◌≡◌, ◌≤◌, ◌∙◌, length, arith, ℕ, Bor}
+use Rattle.std.proofs.Common.{◌≤◌, length, arith, ℕ, Bor}
 use Rattle.sb_types.specs.declared.entry.Slot.{Slot}
 use Rattle.sb_types.specs.declared.limits.TheConstants.{KEYS_MOST}
 use Rattle.sb_table.specs.Plain.{version_and_slot}

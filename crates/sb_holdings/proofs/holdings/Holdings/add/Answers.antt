@@ -1,10 +1,8 @@
-use Rattle.std.proofs.Common.{◌≡◌, ◌<◌, ◌≤◌, List, [], ℕ, Bool, false, true, length, take, Option, None, refl, sym, ap, subst, ◌∙◌, arith, eqb-true, ◌==◌}
+use Rattle.std.proofs.Common.{◌≡◌, ◌<◌, [], ℕ, false, length, take, refl, sym, ap, subst, ◌∙◌, arith, eqb-true, ◌==◌}
 use Rattle.std.proofs.lemmas.Bool.Decides.{nat_tests}
-use Rattle.std.specs.FinMap.{get}
-use Rattle.sb_types.specs.Records.{Entry, Table}
-use Rattle.sb_holdings.specs.Held.{Held, nothing}
+use Rattle.sb_types.specs.Records.{Table}
 use Rattle.sb_holdings.specs.Plain.{held_of, with_entries, IsHoldings}
-use Rattle.sb_holdings.specs.Ends.{has_place, entered_count}
+use Rattle.sb_holdings.specs.Ends.{entered_count}
 use Rattle.sb_holdings.proofs.Lent.{added-nothing, with_entered-added, IsHoldings-added}
 use Rattle.sb_holdings.proofs.holdings.Holdings.add.Goals as goal
 

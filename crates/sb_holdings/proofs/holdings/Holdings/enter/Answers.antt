@@ -1,9 +1,9 @@
-use Rattle.std.proofs.Common.{◌≡◌, List, ℕ, false, true, take, Option, None, refl, sym, ap, subst, ◌∙◌, unwrap_or, nat_eq}
+use Rattle.std.proofs.Common.{◌≡◌, List, ℕ, false, true, take, Option, sym, ap, subst, ◌∙◌, unwrap_or, nat_eq}
 use Rattle.std.specs.Cmp.Lexicographic.{pointwise}
 use Rattle.std.specs.BTreeMap.{BTreeMap}
 use Rattle.sb_types.specs.Records.{Table, Holder}
 use Rattle.sb_types.specs.Runs.{are_ascending}
-use Rattle.sb_holdings.specs.Held.{Held, nothing, shown_of}
+use Rattle.sb_holdings.specs.Held.{Held, nothing}
 use Rattle.sb_holdings.specs.Plain.{held_of, with_entered}
 use Rattle.sb_holdings.specs.Ends.{Enters, entered_count}
 use Rattle.sb_holdings.proofs.Lent.{plain-found, shown-lent, unknown-lent, with_entered-lent, IsHoldings-lent}

@@ -3,7 +3,6 @@ use Rattle.std.specs.BTreeMap.{insert_entry}
 use Rattle.std.specs.Ordering.{nat_cmp}
 use Rattle.std.specs.Cmp.Lexicographic.{slice_cmp}
 use Rattle.sb_types.specs.Records.{Table}
-use Rattle.sb_holdings.specs.Held.{Held}
 use Rattle.sb_holdings.specs.Plain.{held_of, IsHoldings}
 use Rattle.sb_holdings.proofs.ByOwner.{IsHoldings-alone}
 use Rattle.sb_holdings.proofs.holdings.Holdings.new.Goals as goal

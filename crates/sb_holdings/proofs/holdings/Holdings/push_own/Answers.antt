@@ -1,8 +1,7 @@
-use Rattle.std.proofs.Common.{◌≡◌, ◌<◌, ◌+◌, List, ℕ, Bool, true, cond, Option, Some, IsSome, Result, Ok, Err, is_some, refl, sym, ap, subst, ◌∙◌, arith, MutBor}
+use Rattle.std.proofs.Common.{◌≡◌, ◌+◌, ℕ, Some, is_some, sym, ap, subst, ◌∙◌, arith, MutBor}
 use Rattle.std.specs.Option.{option_copied_mut}
-use Rattle.sb_types.specs.Records.{Entry, Table}
+use Rattle.sb_types.specs.Records.{Table}
 use Rattle.sb_types.specs.Faults.{Gives}
-use Rattle.sb_holdings.specs.Held.{shown_of}
 use Rattle.sb_holdings.specs.Plain.{next_version}
 use Rattle.sb_holdings.proofs.ByOwner.{found}
 use Rattle.sb_holdings.proofs.Lent.{shown-lent, is_some-map, found-own, entry-next, own_answer-lent, own-ok, own-err, own-is}

@@ -1,4 +1,4 @@
-use Rattle.std.proofs.Common.{◌≡◌, ◌<◌, ◌≤◌, List, ℕ, Bool, true, false, ◌||◌, nat_lt, length, is_some, refl, sym, ap, ◌∙◌, arith, rules, lt-ltb}
+use Rattle.std.proofs.Common.{◌≡◌, ◌≤◌, List, ℕ, false, nat_lt, length, is_some, sym, ap, ◌∙◌, arith, rules, lt-ltb}
 use Rattle.std.proofs.lemmas.Bool.{or_left, or_right, or_from}
 use Rattle.std.proofs.lemmas.Bool.Decides.{nat_tests}
 use Rattle.sb_types.specs.declared.limits.TheConstants.{OWNERS_MOST}
