@@ -2,7 +2,8 @@ use std::io;
 use std::io::Print;
 use std::time::{CpuClock, Duration};
 
-/// What the lines tell: the time that each unit took, or, the same in each run, how many units there were.
+/// What the lines tell: the time that each unit took, or how many units there were, which is the same in
+/// every run.
 #[derive(Clone, Copy, Debug, PartialEq, Eq)]
 pub(crate) enum Telling {
     Times,
@@ -17,6 +18,7 @@ pub(crate) struct Measured {
 }
 
 impl Measured {
+    /// Nothing yet.
     pub(crate) fn new() -> Measured {
         Measured {
             spent: Duration::ZERO,

@@ -4,7 +4,7 @@ use sb_table::Table;
 use sb_types::{Block, Entry, Fault, Key, Name, Slot, Value};
 use std::alloc::Global;
 
-/// How much is measured with.
+/// How many owners are measured with, how many keys each has, and how often each layer is run.
 #[derive(Clone, Copy, Debug)]
 pub(crate) struct Sizes {
     pub(crate) owners: u64,

@@ -47,8 +47,9 @@ fn blocks_from(alloc: Global, gathered: Vec<Gathered>) -> Result<Vec<Block>, Fau
     Ok(blocks)
 }
 
-/// The longest front of the items whose delta has a frame of at most `budget` bytes, as that delta. It
-/// has an entry where there is an item. `NoMemory`.
+/// The longest front of the items whose delta has a frame of at most `budget` bytes, 256 to 65,536, as that
+/// delta. The items have to be as an order leaves them, each owner's in ascending version. The delta has at
+/// least one entry where there is an item; the other items are dropped. `NoMemory`.
 pub fn cut(alloc: Global, items: Vec<Offered>, budget: u64) -> Result<Delta, Fault>
     requires least { BUDGET_LEAST ≤ budget }
     requires most { budget ≤ BUDGET_MOST }

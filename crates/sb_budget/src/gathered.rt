@@ -60,6 +60,7 @@ impl Gathered {
         Ok(())
     }
 
+    /// The block of these entries, which have to be those of a block. It takes no memory.
     pub(crate) fn into_block(self) -> Result<Block, Fault>
         requires { are_block_entries self.after self.entries ≡ true }
         ensures { result ≡ Ok self }

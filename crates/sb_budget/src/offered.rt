@@ -1,8 +1,9 @@
 use sb_types::{Entry, Name};
 
-/// An entry that a peer lacks, with what its place among others is told by.
+/// An entry that a peer lacks, with what an order and a cut have to know of it.
 #[derive(Debug, Drop)]
 pub struct Offered {
+    /// Whose write it is.
     pub owner: Name,
     /// The version up to which the peer holds the owner's writes.
     pub after: u64,
@@ -12,5 +13,6 @@ pub struct Offered {
     pub rank: u64,
     /// How many of the owner's entries are offered.
     pub count: u64,
+    /// The write.
     pub entry: Entry,
 }

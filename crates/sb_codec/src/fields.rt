@@ -35,12 +35,14 @@ impl<'a> Model for Fields<'a> {
 }
 
 impl<'a> Fields<'a> {
+    /// All of these bytes are still to be read.
     pub(crate) fn new(rest: &'a [u8]) -> Fields<'a>
         ensures { result ≡ rest.now }
     {
         Fields { rest }
     }
 
+    /// Whether every byte was read.
     pub(crate) fn is_empty(&self) -> bool
         ensures { result ≡ (length self.now == 0) }
     {

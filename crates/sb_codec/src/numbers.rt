@@ -45,7 +45,7 @@ pub const REASON_ROUNDS_DONE: u8 = 1;
 /// The greatest reason of a Bye.
 pub const REASON_MOST: u8 = 5;
 
-/// The longest payload of an Ask.
+/// The most bytes of the payload of an Ask.
 pub(crate) const ASK_MOST: usize = 197;
 
 /// The greatest number of a fault.

@@ -23,9 +23,11 @@ pub(crate) trait Spelled: Drop {
     /// The fewest bytes that one takes.
     const LEAST: usize;
 
+    /// Reads the next one. `Malformed` where none is spelled there; `Memory`.
     fn read(alloc: Global, fields: &mut Fields<'_>) -> Result<Self, Refusal>
         ensures { Reads (λ x. x) (field fields.old) result fields.new };
 
+    /// Writes it behind what was written.
     fn write(&self, out: &mut Vec<u8>) -> Result<(), AllocError>
         ensures { OnOk result (out.new.items ≡ out.old.items ++ spelling self.now) };
 
@@ -44,6 +46,7 @@ impl Spelled for Entry {
 
     ghost LEAST = { 11 };
 
+    // A key of one byte with its length, the version, and the tag of a removal.
     const LEAST: usize = 11;
 
     ghost least = { lit< tt };
@@ -69,6 +72,7 @@ impl Spelled for Block {
 
     ghost LEAST = { 23 };
 
+    // An owner of one byte with its length, the version that it begins after, the count, and an entry.
     const LEAST: usize = 23;
 
     ghost least = { lit< tt };
@@ -94,6 +98,7 @@ impl Spelled for Pair {
 
     ghost LEAST = { 10 };
 
+    // An owner of one byte with its length, and the version.
     const LEAST: usize = 10;
 
     ghost least = { lit< tt };
@@ -119,6 +124,7 @@ impl Spelled for Row {
 
     ghost LEAST = { 14 };
 
+    // An owner and a key of one byte with their lengths, the version, the tag, and a flag.
     const LEAST: usize = 14;
 
     ghost least = { lit< tt };

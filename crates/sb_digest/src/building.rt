@@ -9,9 +9,10 @@ use sb_holdings::Holdings;
 use sb_types::{BUDGET_LEAST, BUDGET_MOST, Fault, Name};
 use std::alloc::Global;
 
-/// The digest of the owners that are held from a name on, or of all, the own name among them: of as many
-/// as a frame within the budget has room for. Its range ends before the first that has none, where the
-/// next digest begins, and has no end where all have. `NoMemory`.
+/// The digest of the owners that are held from a name on, or of all where none is given, the own name
+/// among them. It has as many of them as fit a frame of `budget` bytes, 256 to 65,536, and at least one
+/// where there is one. Its range ends before the first owner that does not fit, where the next digest
+/// begins, and has no end where all do. `NoMemory`.
 pub fn build(
     alloc: Global,
     holdings: &Holdings,

@@ -143,7 +143,7 @@ fn length_within(bounds: u64, pairs: &[Pair]) -> Option<u64>
 }
 
 impl Pair {
-    /// How many bytes it takes in a message.
+    /// How many bytes it takes in a message: 10 to 41.
     pub fn encoded_length(&self) -> u64
         ensures length { result ≡ pair_length self.now }
         ensures most { result ≤ 41 }
@@ -230,7 +230,7 @@ impl Digest {
         self.until
     }
 
-    /// Where the next digest begins: the end of this one's range.
+    /// Where the next digest begins: the end of this one's range; none where this is the last.
     pub fn next_from(&self) -> Option<Name>
         ensures next { result ≡ self.now.until }
         ensures digest { is_digest self.now ≡ true }
@@ -238,6 +238,7 @@ impl Digest {
         self.until()
     }
 
+    /// The pairs, in ascending order of their owners' names.
     pub fn pairs(&self) -> &[Pair]
         ensures pairs { result.now ≡ self.now.pairs }
         ensures digest { is_digest self.now ≡ true }

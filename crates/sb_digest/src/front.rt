@@ -9,7 +9,7 @@ use sb_types::{BUDGET_LEAST, BUDGET_MOST, Fault, HEADER_LENGTH, Name};
 use std::alloc::Global;
 use std::marker::Model;
 
-/// By how much a digest is shorter that ends before its last pair: by that pair's number and a length byte.
+/// How many bytes a digest saves that ends before its last pair: that pair's number and a length byte.
 const CUT_SAVES: u64 = 9;
 
 /// Pairs from a bound on, as long as a digest that ends before the last of them is within the budget.
@@ -46,6 +46,7 @@ fn pop_owner(pairs: &mut Vec<Pair>) -> Option<Name>
 }
 
 impl Front {
+    /// No pairs yet, from a bound on, within a budget of 256 to 65,536 bytes. It takes no memory.
     pub(crate) fn new(alloc: Global, from: Option<&Name>, budget: u64) -> Front
         requires least { BUDGET_LEAST ≤ budget }
         requires most { budget ≤ BUDGET_MOST }
@@ -60,7 +61,8 @@ impl Front {
         }
     }
 
-    /// Takes the next pair, where there is room, and says whether there was.
+    /// Takes the next pair, where there is room, and says whether there was. `NoMemory`, with nothing
+    /// changed.
     pub(crate) fn push(&mut self, pair: Pair) -> Result<bool, Fault>
         requires { comes_next self.old pair ≡ true }
         ensures room { IfOk result (λ taken. taken ≡ has_room (with_pair self.old pair)) }

@@ -1,4 +1,5 @@
-//! What follows from the definitions alone, for the crates above. The functions do nothing: each clause is a law.
+//! What follows from the definitions alone, for the crates above. The functions do nothing: each clause is
+//! a law.
 ghost use Rattle.std.specs.Prelude.{◌≡◌, ℕ, ◌<◌, ◌^◌, Bool, true, List, length, Option};
 ghost use Rattle.sb_holdings.specs.Held.{Held, shown_of};
 ghost use Rattle.sb_digest.specs.Digests as digests;
@@ -7,7 +8,7 @@ ghost use Rattle.sb_digest.specs.Limits.{is_digest};
 ghost use Rattle.sb_digest.specs.Fronts.{IsLongestFront};
 ghost use Rattle.sb_digest.specs.Pairs.{pairs_from};
 
-/// The number of a digest's pairs takes two bytes.
+/// A digest has so few pairs that two bytes hold how many there are.
 pub fn digests_have_few_pairs()
     ensures { (d : digests.Digest) → is_digest d ≡ true → length d.pairs < 2 ^ 16 }
 {}
@@ -18,7 +19,8 @@ pub fn one_front_is_longest()
         IsLongestFront budget want from pairs a → IsLongestFront budget want from pairs b → a ≡ b }
 {}
 
-/// A digest of what is held tells of each owner that it covers how far that is held, whether it names the owner or not.
+/// A digest of what is held tells of each owner that it covers how far that is held, whether it names the
+/// owner or not.
 pub fn digests_are_true()
     ensures { (held : Held) (budget : ℕ) (want : Bool) (from : Option (List ℕ)) (d : digests.Digest) (owner : List ℕ) →
         IsLongestFront budget want from (pairs_from from held) d → covers d owner ≡ true →

@@ -48,12 +48,13 @@ impl Model for Holdings {
 }
 
 impl Holdings {
-    /// The own name with its table. `NoMemory`.
+    /// Holdings of the own name with its table, and of no other owner. `NoMemory`.
     pub fn new(alloc: Global, me: Name, table: Table) -> Result<Holdings, Fault>
         ensures held { IfOk result (λ h. h ≡ held_of me ((me, table) ∷ [])) }
         ensures holdings { IfOk result IsHoldings }
         ensures memory { IfErr result (λ fault. fault ≡ Fault.NoMemory) }
     {
+        // Does nothing: the call tells the prover that the table keeps its limits.
         let _ = table.upto();
         let mut tables = BTreeMap::new(alloc);
         tables.insert(me, table)?;
@@ -95,6 +96,7 @@ impl Holdings {
     {
         Owners::new(self.tables.keys())
     }
+
     /// The owners from a name on, or all of them, in ascending order of their names, each with its table.
     pub fn tables_from(&self, first: Option<&Name>) -> Tables<'_>
         ensures tables { result ≡ tables_from (option_copied first.entry) self.now }
@@ -107,6 +109,7 @@ impl Holdings {
         };
         Tables::new(self.tables.range((start, Bound::Unbounded)))
     }
+
     /// Enters an own write. `OutOfTurn` with the next own version, or 0 where there is none, unless the write
     /// has that version; `TableFull` where its key is new beside 4,096 others; then `NoMemory`. Each leaves
     /// everything as it was.
@@ -123,7 +126,9 @@ impl Holdings {
         self.tables.get_mut(&self.me).unwrap().push(entry)
     }
 
-    /// Takes what a block tells of another owner above what is held, and tells how it ended.
+    /// Takes what a block tells of another owner above what is held, copied entry by entry, and tells how it
+    /// ended. Of these entries the first are entered, as many as `Taken`, `TooManyKeys` or `NoMemory` says;
+    /// every other end leaves everything as it was.
     pub fn apply_block(&mut self, block: &Block) -> BlockEnd
         ensures effect { self.new ≡ treated self.old block.now result }
         ensures end { Fits self.old block.now result }

@@ -61,7 +61,8 @@ pub fn one_meaning()
         Tells writes floor after upto entries ↔ TellsByVersion writes floor after upto entries }
 {}
 
-/// A node's laws hold of what is held: whatever its conflict, holdings make a node, and a delta's blocks are blocks.
+/// A node's laws hold of what is held: whatever its conflict, holdings make a node, and a delta's blocks are
+/// blocks.
 pub fn holdings_make_nodes()
     ensures node { (held : Held) (conflict : Option ℕ) → IsHoldings held → IsNode (record { held = held; conflict = conflict }) }
     ensures block { (b : Block) → is_delta_block b ≡ true → IsBlock b }

@@ -19,24 +19,28 @@ impl Model for Report {
 }
 
 impl Report {
+    /// The report of these ends.
     pub fn new(ends: Vec<BlockEnd>) -> Report
         ensures { result ≡ ends.items }
     {
         Report { ends }
     }
 
+    /// The ends, in the order of the blocks.
     pub fn ends(&self) -> &[BlockEnd]
         ensures { result.now ≡ self.now }
     {
         &self.ends
     }
 
+    /// How many blocks ended.
     pub fn len(&self) -> usize
         ensures { result ≡ length self.now }
     {
         self.ends.len()
     }
 
+    /// Whether the delta had no block.
     pub fn is_empty(&self) -> bool
         ensures { result ≡ (length self.now == 0) }
     {

@@ -1,4 +1,5 @@
-//! What follows from the definitions alone, for the crates above. The functions do nothing: each clause is a law.
+//! What follows from the definitions alone, for the crates above. The functions do nothing: each clause is
+//! a law.
 ghost use Rattle.std.specs.Prelude.{◌≡◌, ◌≢◌, ◌<◌, ℕ, List, [], ◌∷◌, false, true, Some, None, IsPermutation};
 ghost use Rattle.std.specs.Cmp.Lexicographic.{slice_cmp};
 ghost use Rattle.std.specs.Ordering.{nat_cmp};
@@ -8,7 +9,8 @@ ghost use Rattle.sb_types.specs.Runs.{IsTable, Stands, are_distinct, entered, en
 ghost use Rattle.sb_table.specs.Plain.{IsPlainTable, is_full_for, with_entry};
 ghost use Rattle.sb_table.specs.Order.{by_key};
 
-/// A table in which a later entry is entered is a table, and each keeps what crates above ask of tables with a floor.
+/// A table in which a later entry is entered is a table, and each keeps what crates above ask of tables with
+/// a floor.
 pub fn entering_keeps_tables()
     ensures entered { (t : records.Table) (e : records.Entry) → IsPlainTable t → t.held < e.version → is_full_for e.key t.entries ≡ false → IsPlainTable (with_entry t e) }
     ensures table { (t : records.Table) → IsPlainTable t → IsTable t }

@@ -76,6 +76,7 @@ impl Table {
         self.entries.len()
     }
 
+    /// Whether there is no key, not even a removed one.
     pub fn is_empty(&self) -> bool
         ensures count { result ≡ (length self.now.entries == 0) }
         ensures table { IsPlainTable self.now }
@@ -83,7 +84,7 @@ impl Table {
         self.entries.is_empty()
     }
 
-    /// The version and the slot under a key.
+    /// The version and the slot under a key, a removal too; nothing where it was never written.
     pub fn get(&self, key: &Key) -> Option<(u64, &Slot)>
         ensures found { option_map (λ p. (p.0, p.1.now)) result ≡ option_map version_and_slot (entry_at key.now self.now.entries) }
         ensures table { IsPlainTable self.now }

@@ -36,6 +36,7 @@ impl Model for Block {
     ghost invariant = { λ b. (is_delta_block (block_of_entries b.owner b.after b.entries.items) ≡ true) × (b.length ≡ entries_length b.entries.items) × (b.length ≤ 203 * 65535) };
 }
 
+/// Whether each version is above the one before, and the first above `after`.
 fn do_ascend(after: u64, entries: &[Entry]) -> bool
     ensures { result ≡ are_ascending after entries.now }
 {
@@ -79,6 +80,7 @@ impl Block {
         {
             return Err(Fault::Malformed(3));
         }
+        // Does nothing: the call tells the prover that the name keeps its limits.
         let _ = owner.bytes();
         let length = length_of(&entries);
         Ok(Block {
@@ -116,6 +118,7 @@ impl Block {
         }
     }
 
+    /// Its entries, in ascending version.
     pub fn entries(&self) -> &[Entry]
         ensures entries { result.now ≡ self.now.entries }
         ensures block { is_delta_block self.now ≡ true }
@@ -123,7 +126,7 @@ impl Block {
         &self.entries
     }
 
-    /// How many bytes it takes in a message.
+    /// How many bytes it takes in a message: its head of 12 to 43, and its entries.
     pub fn encoded_length(&self) -> u64
         ensures length { result ≡ block_length self.now }
         ensures block { is_delta_block self.now ≡ true }

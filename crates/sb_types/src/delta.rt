@@ -31,6 +31,7 @@ impl Model for Delta {
     ghost invariant = { λ d. (is_delta d.blocks.items ≡ true) × (d.length ≡ delta_length d.blocks.items) };
 }
 
+/// Whether each owner's name is behind the one before.
 fn do_owners_ascend(blocks: &[Block]) -> bool
     ensures { result ≡ are_owners_above [] blocks.now }
 {
@@ -75,6 +76,7 @@ impl Delta {
         Ok(Delta { blocks, length })
     }
 
+    /// Its blocks, in ascending order of their owners' names.
     pub fn blocks(&self) -> &[Block]
         ensures blocks { result.now ≡ self.now }
         ensures delta { is_delta self.now ≡ true }

@@ -69,15 +69,18 @@ impl Slot {
 }
 
 impl Entry {
+    /// A write of this version, which has to be at least 1. It takes no memory.
     pub fn new(key: Key, version: u64, slot: Slot) -> Entry
         requires { 1 ≤ version }
         ensures { result ≡ record { key = key; version = version; slot = slot } }
     {
+        // Does nothing: the calls tell the prover that the key and the slot keep their limits.
         let _ = key.bytes();
         let _ = slot.encoded_length();
         Entry { key, version, slot }
     }
 
+    /// What the owner wrote under.
     pub fn key(&self) -> &Key
         ensures key { result.now ≡ self.now.key }
         ensures entry { is_entry self.now ≡ true }
@@ -85,6 +88,7 @@ impl Entry {
         &self.key
     }
 
+    /// The version of the write, at least 1.
     pub fn version(&self) -> u64
         ensures version { result ≡ self.now.version }
         ensures entry { is_entry self.now ≡ true }
@@ -92,6 +96,7 @@ impl Entry {
         self.version
     }
 
+    /// What was written: a value, or a removal.
     pub fn slot(&self) -> &Slot
         ensures slot { result.now ≡ self.now.slot }
         ensures entry { is_entry self.now ≡ true }

@@ -25,6 +25,7 @@ impl<const CAP: usize> Model for Inline<CAP> {
 }
 
 impl<const CAP: usize> Inline<CAP> {
+    /// The text, which has to fit and to be shorter than 256 bytes.
     pub(crate) fn new(text: &[u8]) -> Self
         requires fits { length text.now ≤ CAP }
         requires short { length text.now < 256 }
@@ -39,6 +40,7 @@ impl<const CAP: usize> Inline<CAP> {
         }
     }
 
+    /// The bytes of the text alone.
     pub(crate) fn bytes(&self) -> &[u8]
         ensures { result.now ≡ self.now }
     {

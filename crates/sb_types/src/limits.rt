@@ -9,7 +9,7 @@ pub const KEY_MOST: usize = 64;
 /// The most bytes of an address.
 pub const ADDR_MOST: usize = 128;
 
-/// The greatest weight.
+/// The greatest weight, 2^63 - 1.
 pub const WEIGHT_MOST: u64 = 9_223_372_036_854_775_807;
 
 /// The most owners that a node holds, itself included.
@@ -21,7 +21,7 @@ pub const KEYS_MOST: usize = 4_096;
 /// The most entries of one block.
 pub const ENTRIES_MOST: usize = 65_535;
 
-/// The greatest version that settings may allow.
+/// The greatest version that settings may allow, 2^40 - 1.
 pub const VERSION_MOST: u64 = 1_099_511_627_775;
 
 /// The most seats of a directory.
@@ -30,10 +30,11 @@ pub const SEATS_MOST: u64 = 64;
 /// The most workers of a node.
 pub const WORKERS_MOST: u64 = 62;
 
-/// The least budget: the largest delta of one entry fits it.
+/// The least budget of a frame in bytes: the longest delta of one entry fits it.
 pub const BUDGET_LEAST: u64 = 256;
 
-/// The greatest budget, which is the length of the longest frame.
+/// The greatest budget of a frame in bytes, which is the length of the longest frame: `HEADER_LENGTH` and
+/// `PAYLOAD_MOST` together.
 pub const BUDGET_MOST: u64 = 65_536;
 
 /// The first byte of a frame.
@@ -42,10 +43,10 @@ pub const FRAME_MARK: u8 = 0xa7;
 /// The second byte of a frame, the version of the format.
 pub const FRAME_VERSION: u8 = 1;
 
-/// The bytes of a frame before its payload.
+/// How many bytes of a frame stand before its payload.
 pub const HEADER_LENGTH: u64 = 6;
 
-/// The longest payload of a frame.
+/// The most bytes of a payload: `BUDGET_MOST` without `HEADER_LENGTH`.
 pub const PAYLOAD_MOST: u64 = 65_530;
 
 /// The greatest tag of a slot.

@@ -24,6 +24,7 @@ pub struct RawSettings<'a> {
     pub cluster: &'a [u8],
     /// The greatest length of one frame in bytes, 256 to 65,536.
     pub budget: u64,
+    /// In which order a delta lists what is available.
     pub order: Order,
     /// The greatest version that the owner's log may give, 1 to 2^40 - 1.
     pub max_version: u64,
@@ -98,7 +99,7 @@ impl Settings {
         self.cluster
     }
 
-    /// The greatest length of one frame in bytes.
+    /// The greatest length of one frame in bytes, 256 to 65,536.
     pub fn budget(&self) -> u64
         ensures budget { result ≡ self.now.budget }
         ensures settings { are_settings self.now ≡ true }
@@ -106,7 +107,7 @@ impl Settings {
         self.budget
     }
 
-    /// The order of what a delta lists.
+    /// In which order a delta lists what is available.
     pub fn order(&self) -> Order
         ensures order { result ≡ self.now.order }
         ensures settings { are_settings self.now ≡ true }
@@ -114,7 +115,7 @@ impl Settings {
         self.order
     }
 
-    /// The greatest version that the owner's log gives.
+    /// The greatest version that the owner's log may give, 1 to 2^40 - 1.
     pub fn max_version(&self) -> u64
         ensures version { result ≡ self.now.max_version }
         ensures settings { are_settings self.now ≡ true }
@@ -122,7 +123,7 @@ impl Settings {
         self.max_version
     }
 
-    /// How many readers a directory has.
+    /// How many readers a directory has, 1 to 64.
     pub fn seats(&self) -> u64
         ensures seats { result ≡ self.now.seats }
         ensures settings { are_settings self.now ≡ true }
@@ -130,7 +131,7 @@ impl Settings {
         self.seats
     }
 
-    /// How many connections a node serves at once.
+    /// How many connections a node serves at once, 1 to 62.
     pub fn workers(&self) -> u64
         ensures workers { result ≡ self.now.workers }
         ensures settings { are_settings self.now ≡ true }

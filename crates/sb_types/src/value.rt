@@ -74,6 +74,7 @@ impl Value {
         })
     }
 
+    /// A flag. It takes no memory.
     pub fn flag(flag: bool) -> Value
         ensures { result ≡ values.Flag flag }
     {

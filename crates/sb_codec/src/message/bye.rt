@@ -35,6 +35,7 @@ impl Bye {
         Ok(Bye { reason })
     }
 
+    /// Why the session ends, 1 to 5.
     pub fn reason(&self) -> u8
         ensures reason { result ≡ self.now }
         ensures bye { is_reason self.now ≡ true }

@@ -35,6 +35,7 @@ impl Done {
         Ok(Done { version })
     }
 
+    /// The version that the write has.
     pub fn version(&self) -> u64
         ensures version { result ≡ self.now }
         ensures done { is_version self.now ≡ true }

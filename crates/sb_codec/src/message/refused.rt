@@ -35,6 +35,7 @@ impl Refused {
         Ok(Refused { number })
     }
 
+    /// The number of the fault, 1 to 31.
     pub fn number(&self) -> u8
         ensures number { result ≡ self.now }
         ensures refused { is_fault_number self.now ≡ true }

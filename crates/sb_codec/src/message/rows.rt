@@ -31,7 +31,7 @@ impl Model for Row {
     ghost invariant = { λ r. is_row (row_of r.owner r.key r.version r.value) ≡ true };
 }
 
-/// A page of rows, ascending by owner and then by key, and whether more follow. It may have none. Its
+/// A page of rows, ascending by owner and then by key, and whether more follow. It may have no row. Its
 /// payload has at most 65,530 bytes.
 #[derive(Debug, Drop)]
 pub struct Rows {
@@ -56,6 +56,7 @@ impl Model for Rows {
     ghost invariant = { λ r. (is_page (rows_of r.more r.rows.items) ≡ true) × (r.length ≡ rows_length r.rows.items) };
 }
 
+/// Whether each row is behind the one before, by owner and then by key.
 fn do_ascend(rows: &[Row]) -> bool
     ensures { result ≡ are_rows_above [] [] rows.now }
 {
@@ -89,13 +90,15 @@ fn length_within(rows: &[Row]) -> Option<u64>
 }
 
 impl Row {
-    /// `Malformed(0x11)`, the value dropped, where the version is 0. It takes no memory.
+    /// A row of these parts. `Malformed(0x11)`, the value dropped, where the version is 0. It takes no
+    /// memory.
     pub fn new(owner: Name, key: Key, version: u64, value: Value) -> Result<Row, Fault>
         ensures { result ≡ (if is_version version then Ok (row_of owner key version value) else Err (Fault.Malformed 17)) }
     {
         if version == 0 {
             return Err(Fault::Malformed(KIND_ROWS));
         }
+        // Does nothing: the calls tell the prover that the parts keep their limits.
         let _ = owner.bytes();
         let _ = key.bytes();
         let _ = value.encoded_length();
@@ -107,6 +110,7 @@ impl Row {
         })
     }
 
+    /// Whose row it is.
     pub fn owner(&self) -> &Name
         ensures owner { result.now ≡ self.now.owner }
         ensures row { is_row self.now ≡ true }
@@ -114,6 +118,7 @@ impl Row {
         &self.owner
     }
 
+    /// What the value stands under.
     pub fn key(&self) -> &Key
         ensures key { result.now ≡ self.now.key }
         ensures row { is_row self.now ≡ true }
@@ -121,6 +126,7 @@ impl Row {
         &self.key
     }
 
+    /// The version of the write, at least 1.
     pub fn version(&self) -> u64
         ensures version { result ≡ self.now.version }
         ensures row { is_row self.now ≡ true }
@@ -128,6 +134,7 @@ impl Row {
         self.version
     }
 
+    /// What was written.
     pub fn value(&self) -> &Value
         ensures value { result.now ≡ self.now.value }
         ensures row { is_row self.now ≡ true }
@@ -170,6 +177,7 @@ impl Rows {
         self.more
     }
 
+    /// The rows, ascending by owner and then by key.
     pub fn rows(&self) -> &[Row]
         ensures rows { result.now ≡ self.now.rows }
         ensures page { is_page self.now ≡ true }
