@@ -45,7 +45,7 @@ pub record IsCut (budget : ℕ) (items : List Item) (delta : List Block) : Type 
   pub fits : frame_length delta ≤ budget
   pub longest : (n : ℕ) → count < n → n ≤ length items → budget < frame_length (delta_at n items)
 
--- one owner's items: above one version, ascending up to one, which is that of the last, each key once
+-- one owner's items: all above the same version, ascending, each key once, the last at the version that all reach up to
 pub record IsPart (after upto : ℕ) (part : List Offered) : Type 0 where
   pub each : All (λ o. (o.after ≡ after) × (o.upto ≡ upto)) part
   pub run : IsRun after upto (map (λ o. o.entry) part)

@@ -5,7 +5,7 @@ use Rattle.std.specs.Cmp.Lexicographic.{pointwise}
 use Rattle.sb_types.specs.Records.{Entry, Table, Block, Holder}
 use Rattle.sb_types.specs.Runs.{above, last_version}
 
--- one entry of an owner, or the news of held alone, with what a block of it needs
+-- one entry of an owner, or the news alone of how far it is held, with what a block of it needs
 pub record Item : Type 0 where
   pub owner : List ℕ
   pub floor : ℕ
@@ -13,7 +13,7 @@ pub record Item : Type 0 where
   pub upto : ℕ
   pub entry : Option Entry
 
--- an item for each entry, or where there is none the news of held alone
+-- an item for each entry; where there is none, the news alone of how far the owner is held, where that is above the number
 abbrev pub items_from : List ℕ → Table → ℕ → List Entry → List Item
 items_from owner t number [] = if nat_lt number t.held then record { owner = owner; floor = t.floor; after = number; upto = t.held; entry = None } ∷ [] else []
 items_from owner t number (e ∷ es) = map (λ x. record { owner = owner; floor = t.floor; after = number; upto = t.held; entry = Some x }) (e ∷ es)

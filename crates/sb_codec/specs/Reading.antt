@@ -135,6 +135,7 @@ value_cases = (TAG_ADDR, addr_at) ∷ (TAG_WEIGHT, weight_at) ∷ (TAG_FLAG, mad
 unfoldable pub value_at : Field Value
 value_at = tagged_at value_cases
 
+-- the version of the row is one of a write
 abbrev pub is_written : List ℕ × (List ℕ × (ℕ × Value)) → Bool
 is_written r = is_version r.1.1.0
 

@@ -1,4 +1,4 @@
--- What a reader gives.
+-- What the reading of a part gives.
 use Rattle.std.specs.Prelude.{◌≡◌, ℕ, List, Option, Some, None, Result, Ok, Err}
 use Rattle.sb_types.specs.declared.fault.Fault.{Fault}
 use Rattle.sb_types.specs.declared.fault.Fault.TheVariants.{NoMemory}
@@ -20,7 +20,7 @@ abbrev pub refusal_of : Fault → Refusal
 refusal_of NoMemory = Memory
 refusal_of _ = Malformed
 
--- the same, of all of the bytes
+-- the result is what was to be read of all the bytes, unless there was no memory
 abbrev pub ReadsWhole : {X : Type 0} → Option X → Result X Refusal → Type 0
 ReadsWhole read (Ok x) = read ≡ Some x
 ReadsWhole read (Err refusal) = Fails refusal read

@@ -5,29 +5,29 @@ use Rattle.std.specs.Cmp.Lexicographic.{pointwise}
 use Rattle.sb_types.specs.Limits.{text_lt}
 use Rattle.sb_holdings.specs.Plain.{is_from}
 
--- how far an owner's writes are held: up to a version, and of a table that is to take the place of the
--- shown one its floor and how far it has come
+-- how far an owner's writes are held: up to the version held; and where a stage is to take the place of the
+-- shown table, that stage's floor and its progress
 pub record Pair : Type 0 where
   pub owner : List ℕ
   pub held : ℕ
   pub floor : ℕ
   pub progress : ℕ
 
--- what is held of the owners from a name on, up to another and not of that
+-- how far the owners are held whose names are at or above from, and below until
 pub record Digest : Type 0 where
   pub want : Bool
   pub from : Option (List ℕ)
   pub until : Option (List ℕ)
   pub pairs : List Pair
 
--- nothing is to take the place of what is shown
+-- the pair of an owner without a stage
 abbrev pub plain_pair : List ℕ → ℕ → Pair
 plain_pair owner held = record { owner = owner; held = held; floor = 0; progress = 0 }
 
 abbrev pub digest_of : Bool → Option (List ℕ) → Option (List ℕ) → List Pair → Digest
 digest_of want from until pairs = record { want = want; from = from; until = until; pairs = pairs }
 
--- each name is below no bound
+-- the name is below the bound, or there is no bound
 abbrev pub is_below : Option (List ℕ) → List ℕ → Bool
 is_below None name = true
 is_below (Some until) name = text_lt name until

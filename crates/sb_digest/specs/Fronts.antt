@@ -13,7 +13,7 @@ use Rattle.sb_digest.specs.Limits.{are_pairs_above, is_bound, is_pair}
 abbrev pub front_of : Bool → Option (List ℕ) → List Pair → ℕ → Digest
 front_of want from pairs count = digest_of want from (option_map (λ pair. pair.owner) (slice_get pairs count)) (take count pairs)
 
--- the front of most pairs, of those whose frames are within the budget
+-- of the fronts whose frames are within the budget, the one with the most pairs
 pub record IsLongestFront (budget : ℕ) (want : Bool) (from : Option (List ℕ)) (pairs : List Pair) (d : Digest) : Type 0 where
   pub count : ℕ
   pub most : count ≤ length pairs
@@ -30,7 +30,8 @@ pub record Front : Type 0 where
 abbrev pub with_pair : Front → Pair → Front
 with_pair f pair = record { budget = f.budget; from = f.from; pairs = f.pairs ++ pair ∷ [] }
 
--- a digest of all pairs but the last is within the budget: to end before a pair takes nine bytes less than the pair
+-- a digest of all pairs but the last is within the budget: to end before a pair takes nine bytes less than the
+-- pair, whose version and length byte it leaves out
 abbrev pub has_room : Front → Bool
 has_room f = nat_le (frame_length (digest_of true f.from None f.pairs)) (f.budget + 9)
 

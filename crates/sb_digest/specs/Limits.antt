@@ -12,7 +12,7 @@ abbrev pub are_pairs_above : List ℕ → List Pair → Bool
 are_pairs_above last [] = true
 are_pairs_above last (p ∷ ps) = text_lt last p.owner && are_pairs_above p.owner ps
 
--- the one bound is below the other, where both are
+-- from is below until, where both are given
 abbrev pub is_range : Option (List ℕ) → Option (List ℕ) → Bool
 is_range None until = true
 is_range (Some from) until = is_below until from

@@ -28,9 +28,11 @@ pub record GoneAt (writes : List Write) (floor version : ℕ) : Type 0 where
   pub removed : write.slot ≡ Removed
   pub under : version ≤ floor
 
+-- each version in the range stands among the entries, was superseded, or is a marker that the floor let go
 pub record TellsByVersion (writes : List Write) (floor after upto : ℕ) (entries : List Entry) : Type 0 where
   pub reach : upto ≤ length writes
   pub reach_floor : floor ≤ length writes
   pub true_each : (e : Entry) → Stands entries e → write_of writes e.version ≡ Some (record { key = e.key; slot = e.slot })
   pub whole : (version : ℕ) → after < version → version ≤ upto → ((e : Entry) × Stands entries e × (e.version ≡ version)) ⊎ (SupersededAt writes version ⊎ GoneAt writes floor version)
+  -- under the key of a marker that may have gone, nothing stands but that marker
   pub past : (version : ℕ) (gone : GoneAt writes floor version) (x : Entry) → Stands entries x → x.key ≡ gone.write.key → x.version ≡ version

@@ -9,6 +9,7 @@ use Rattle.sb_holdings.specs.declared.ends.BlockEnd.{BlockEnd}
 use Rattle.sb_holdings.specs.declared.ends.BlockEnd.TheVariants.{Own, OwnAhead, Gap, Stale, OwnersFull, Taken, TooManyKeys, NoMemory}
 use Rattle.sb_holdings.specs.Held.{Held, shown_of}
 
+-- the block is of the node's own name
 abbrev pub is_own : Held → Block → Bool
 is_own held b = pointwise nat_eq b.owner held.me
 
@@ -54,6 +55,7 @@ pub record IsTaken (held : Held) (b : Block) (end : BlockEnd) : Type 0 where
   pub place : has_place held b.owner ≡ true
   pub enters : let t = shown_of held b.owner in Enters t.entries (above t.held b.entries) end
 
+-- the end is the first that fits
 abbrev pub Fits : Held → Block → BlockEnd → Type 0
 Fits held b Own = (is_own held b ≡ true) × (b.upto ≤ (shown_of held b.owner).held)
 Fits held b (OwnAhead upto) = (is_own held b ≡ true) × ((shown_of held b.owner).held < b.upto) × (upto ≡ b.upto)

@@ -22,6 +22,7 @@ abbrev pub greater : Option ℕ → ℕ → Option ℕ
 greater None version = Some version
 greater (Some known) version = Some (max known version)
 
+-- only a block of the own name that tells of more raises it
 abbrev pub conflict_after : Option ℕ → BlockEnd → Option ℕ
 conflict_after known (OwnAhead upto) = greater known upto
 conflict_after known Own = known
@@ -66,6 +67,7 @@ AllTrueAt writes me events = (event : NodeEvent) → Stands events event → Tru
 abbrev pub IsNode : Node → Type 0
 IsNode node = (owner : List ℕ) → IsHolder (held_by node owner)
 
+-- of each owner what is held is true of its writes
 abbrev pub NodeHolds : (List ℕ → List Write) → Node → Type 0
 NodeHolds writes node = (owner : List ℕ) → HolderHolds (writes owner) (held_by node owner)
 

@@ -4,7 +4,7 @@ use Rattle.sb_types.specs.Records.{Entry, Table, Stage, Block, Holder}
 use Rattle.sb_types.specs.Runs.{entered, live}
 use Rattle.sb_table.specs.Plain.{with_entry}
 
--- no write between what is held and the block is missing, the block tells of more, and what its floor let go is passed
+-- the block's floor is at or below what is held, so is what it begins after, and it tells of more
 abbrev pub joins_shown : Table → Block → Bool
 joins_shown t b = nat_le b.floor t.held && (nat_le b.after t.held && nat_lt t.held b.upto)
 

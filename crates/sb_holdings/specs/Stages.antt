@@ -4,9 +4,11 @@ use Rattle.sb_types.specs.Records.{Table, Stage, Block, Holder}
 use Rattle.sb_types.specs.Runs.{above, within, only, entered, live}
 use Rattle.sb_holdings.specs.Blocks.{part_above, front}
 
+-- a stage of which nothing has come
 abbrev pub new_stage : ℕ → Stage
 new_stage floor = record { floor = floor; progress = 0; entries = [] }
 
+-- the block is of the stage's floor, joins on to what has come, and tells of more
 abbrev pub goes_on : Stage → Block → Bool
 goes_on s b = nat_eq s.floor b.floor && (nat_le b.after s.progress && nat_lt s.progress b.upto)
 

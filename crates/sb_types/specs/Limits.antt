@@ -31,6 +31,7 @@ block_of_entries owner after entries = record { owner = owner; floor = 0; after 
 abbrev pub is_delta_block : Block → Bool
 is_delta_block b = is_name b.owner && list_all is_entry b.entries && are_block_entries b.after b.entries && b.floor == 0 && b.upto == last_version b.after b.entries
 
+-- the text is before the other, byte by byte
 abbrev pub text_lt : List ℕ → List ℕ → Bool
 text_lt a b = is_lt (slice_cmp nat_cmp a b)
 

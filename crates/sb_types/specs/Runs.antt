@@ -17,6 +17,7 @@ abbrev pub are_ascending : ℕ → List Entry → Bool
 are_ascending last [] = true
 are_ascending last (x ∷ xs) = nat_lt last x.version && are_ascending x.version xs
 
+-- an entry stands under the key
 abbrev pub has_key : List ℕ → List Entry → Bool
 has_key key entries = list_any (λ entry. pointwise nat_eq entry.key key) entries
 
@@ -25,6 +26,7 @@ abbrev pub are_distinct : List Entry → Bool
 are_distinct [] = true
 are_distinct (entry ∷ entries) = not (has_key entry.key entries) && are_distinct entries
 
+-- the version of the last entry, or the one before where there is none
 abbrev pub last_version : ℕ → List Entry → ℕ
 last_version before [] = before
 last_version before (entry ∷ entries) = last_version entry.version entries
@@ -57,7 +59,7 @@ live floor entries = filter (λ entry. is_set entry.slot || nat_lt floor entry.v
 abbrev pub entered : List Entry → List Entry → List Entry
 entered entries others = without others entries ++ others
 
--- a list of entries of versions above after, at most upto: ascending, one a key
+-- entries of versions above after and at most upto, in ascending version, each key once
 pub record IsRun (after upto : ℕ) (entries : List Entry) : Type 0 where
   pub ascending : are_ascending after entries ≡ true
   pub most : last_version after entries ≤ upto

@@ -18,7 +18,7 @@ Superseded writes e = (later : Entry) × Written writes later × (later.key ≡ 
 abbrev pub Gone : ℕ → Entry → Type 0
 Gone floor e = (e.slot ≡ Removed) × (e.version ≤ floor)
 
--- The entries tell all of the writes above after up to upto that is not superseded, but for markers up to the floor.
+-- The entries tell of every write above after, up to upto, that is not superseded and no marker at or below the floor.
 pub record Tells (writes : List Write) (floor after upto : ℕ) (entries : List Entry) : Type 0 where
   pub reach : upto ≤ length writes
   pub reach_floor : floor ≤ length writes
