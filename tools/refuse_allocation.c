@@ -1,4 +1,5 @@
-// Preloaded into a program: refuses its allocation number REFUSE_ALLOCATION, counted from 1, and says so on standard error.
+// Preloaded into a program: refuses its allocation number REFUSE_ALLOCATION, counted from 1 over the calls of malloc and
+// realloc, and says so on standard error.
 #define _GNU_SOURCE
 #include <dlfcn.h>
 #include <stdlib.h>
