@@ -8,7 +8,8 @@ ghost use Rattle.sb_types.specs.Records.{Entry, Table};
 ghost use Rattle.sb_types.specs.Runs.{IsTable, set_at, shown_at};
 ghost use Rattle.sb_types.specs.Writes.{Written, Superseded, Holds};
 
-/// What is read of a table that holds was written so, and up to held it is the last that was written.
+/// What is read of a table that holds was written so, and a key whose last write of all is at or below held
+/// shows that write. A key that was written again above held may show an older write, or nothing.
 pub fn reads_are_true()
     ensures written { (writes : List Write) (t : Table) (key : List ℕ) (value : Value) (version : ℕ) →
         Holds writes t → shown_at key t.entries ≡ Some (value, version) →
