@@ -145,7 +145,7 @@ impl Value {
         })
     }
 
-    /// How many bytes it takes in a message: 2 to 129.
+    /// How many bytes it takes in a message: 1 to 129.
     pub fn encoded_length(&self) -> u64
         ensures length { result ≡ value_length self.now }
         ensures value { values.is_value self.now ≡ true }
