@@ -1,5 +1,5 @@
 //! The lines of a script.
-ghost use Rattle.std.specs.Prelude.{◌≡◌, ◌+◌, ◌<◌, ◌≤◌, true, vec_len, IfOk, OnOk, IfErr};
+ghost use Rattle.std.specs.Prelude.{◌≡◌, ◌+◌, ◌<◌, ◌≤◌, true, false, vec_len, IfOk, OnOk, IfErr};
 ghost use Rattle.attrdir.specs.declared.lines.TheConstants.{ROOM};
 ghost use Rattle.attrdir.specs.Reads.{AreCounted, IsRunFault};
 ghost use Rattle.attrdir.specs.Script.{bytes_to_come};
@@ -31,10 +31,12 @@ pub(crate) struct Lines<R> {
 }
 
 impl<R: Read> Lines<R> {
-    pub(crate) fn new(alloc: Global, reader: R, max_reads: u64) -> Result<Lines<R>, Fault>
+    /// Nothing of a script yet.
+    fn new(alloc: Global, reader: R, max_reads: u64) -> Result<Lines<R>, Fault>
     where
         R: Drop,
         ensures reads { IfOk result (λ lines. lines.reader.left ≡ max_reads) }
+        ensures unread { IfOk result (λ lines. (lines.at ≡ lines.end) × (lines.ended ≡ false)) }
         ensures fault { IfErr result (λ fault. fault ≡ Fault.NoMemory) }
     {
         Ok(Lines {
@@ -46,6 +48,26 @@ impl<R: Read> Lines<R> {
             line: Vec::new(alloc),
             number: 0,
         })
+    }
+
+    /// Makes the first read. `NoMemory`; `ReadFailed`; `TurnsSpent` where no read is allowed.
+    #[tactic(auto, using(crate::proofs::Runs::memory_fault))]
+    pub(crate) fn open<L: Ledger>(
+        alloc: Global,
+        reader: R,
+        max_reads: u64,
+        steps: &mut Steps<L>,
+    ) -> Result<Lines<R>, Fault>
+    where
+        R: Drop,
+        ensures reads { steps.new ≤ steps.old + max_reads }
+        ensures counted { IfOk result (λ lines. AreCounted steps.old max_reads steps.new lines.reader.left) }
+        ensures made { OnOk result (steps.old < steps.new) }
+        ensures fault { IfErr result (IsRunFault steps.old steps.new max_reads) }
+    {
+        let mut lines = Lines::new(alloc, reader, max_reads)?;
+        lines.refill(steps)?;
+        Ok(lines)
     }
 
     /// The line that was met last.
@@ -96,6 +118,7 @@ impl<R: Read> Lines<R> {
         ensures more { IfOk result (λ more. more ≡ true → self.new.at < self.new.end) }
         ensures fewer { bytes_to_come self.new.reader.left self.new.at self.new.end ≤ bytes_to_come self.old.reader.left self.old.at self.old.end }
         ensures line { self.new.line ≡ self.old.line }
+        ensures made { OnOk result (self.old.at ≡ self.old.end → self.old.ended ≡ false → steps.old < steps.new) }
         ensures fault { IfErr result (IsRunFault steps.old steps.new self.old.reader.left) }
     {
         if self.at == self.end && !self.ended {

@@ -1,5 +1,5 @@
 //! The run of a script.
-ghost use Rattle.std.specs.Prelude.{◌≡◌, ◌+◌, ◌<◌, ◌≤◌, true, IfErr};
+ghost use Rattle.std.specs.Prelude.{◌≡◌, ◌+◌, ◌<◌, ◌≤◌, true, OnOk, IfErr};
 ghost use Rattle.attrdir.specs.Script.{status_of};
 ghost use Rattle.attrdir.specs.Reads.{AreCounted, IsRunFault, is_run_fault};
 
@@ -44,7 +44,7 @@ impl Ending {
 /// The faults of lines are printed. The run's own come back: `ReadFailed`; `WriteFailed`, with how many
 /// bytes were written; `TurnsSpent` where the script takes more reads; `NoMemory`. What was printed before
 /// the end of the run has been written, but for what a failed write left.
-#[tactic(auto, using(crate::proofs::Runs::memory_fault, crate::proofs::Runs::write_fault))]
+#[tactic(auto, using(crate::proofs::Runs::memory_fault, crate::proofs::Runs::write_fault, crate::proofs::Runs::fault_later))]
 pub fn sim_run<R: Read + Drop, W: Write + Drop, L: Ledger>(
     alloc: Global,
     reader: R,
@@ -53,10 +53,11 @@ pub fn sim_run<R: Read + Drop, W: Write + Drop, L: Ledger>(
     steps: &mut Steps<L>,
 ) -> Result<Ending, Fault>
     ensures reads { steps.new ≤ steps.old + max_reads }
+    ensures made { OnOk result (steps.old < steps.new) }
     ensures fault { IfErr result (IsRunFault steps.old steps.new max_reads) }
 {
-    let mut lines = Lines::new(alloc, reader, max_reads)?;
     let mut output = Output::new(alloc, writer)?;
+    let mut lines = Lines::open(alloc, reader, max_reads, steps)?;
     let ended = play(alloc, &mut lines, &mut output, steps);
     let finished = output.finish();
     let ending = ended?;
