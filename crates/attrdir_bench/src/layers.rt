@@ -143,7 +143,7 @@ pub(crate) fn encode<R: CpuClock + Alloc<A = Global>>(
     let mut measured = Measured::new();
     for _ in 0..sizes.rounds {
         let start = rt.process_cpu_time()?;
-        encode_payload(rt.alloc(), &delta.message)?;
+        let _payload = encode_payload(rt.alloc(), &delta.message)?;
         measured.add(rt, start, delta.entries)?;
     }
     Ok(measured)
@@ -159,7 +159,7 @@ pub(crate) fn decode<R: CpuClock + Alloc<A = Global>>(
     let payload = encode_payload(rt.alloc(), &delta.message)?;
     for _ in 0..sizes.rounds {
         let start = rt.process_cpu_time()?;
-        decode_payload(rt.alloc(), &payload)?;
+        let _message = decode_payload(rt.alloc(), &payload)?;
         measured.add(rt, start, delta.entries)?;
     }
     Ok(measured)
