@@ -29,7 +29,7 @@ has_key-without e (x ∷ xs) = grind (arith, has_key-without e xs, nat_list_eq_e
 pub are_distinct-entered : (es : List Entry) (e : Entry) → are_distinct es ≡ true → are_distinct (entered es (e ∷ [])) ≡ true
 are_distinct-entered es e apart = are_distinct-push (without (e ∷ []) es) e (are_distinct-filter _ es apart) (has_key-without e es)
 
-without-none : (e : Entry) (es : List Entry) → has_key e.key es ≡ false → without (e ∷ []) es ≡ es
+pub without-none : (e : Entry) (es : List Entry) → has_key e.key es ≡ false → without (e ∷ []) es ≡ es
 without-none e [] none = refl
 without-none e (x ∷ xs) none = grind (arith, without-none e xs, nat_list_eq_equiv.symm e.key x.key)
 

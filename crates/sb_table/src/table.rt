@@ -58,10 +58,18 @@ impl Table {
         ensures err { OnErr result (self.new ≡ self.old) }
         ensures table { IsPlainTable self.new }
     {
-        if self.entries.len() >= KEYS_MOST && !self.versions.contains_key(entry.key()) {
+        if self.is_full_beside(entry.key()) {
             return Err(Fault::TableFull);
         }
         enter(&mut self.entries, &mut self.versions, entry)
+    }
+
+    /// Whether a key is new beside as many as there can be.
+    fn is_full_beside(&self, key: &Key) -> bool
+        ensures full { result ≡ is_full_for key.now self.now.entries }
+        ensures table { IsPlainTable self.now }
+    {
+        self.entries.len() >= KEYS_MOST && !self.versions.contains_key(key)
     }
 
     /// The version of the last write, 0 where there is none.
