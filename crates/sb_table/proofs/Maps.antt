@@ -70,17 +70,20 @@ not_missed key v es up is missed =
     let both : None ≡ Some found.entry = missed ∙ lookup-version key v es up is ∙ found.at in
     absurd (cc)
 
+found-slot : (key : List ℕ) (v : ℕ) (es : List Entry) (e : Entry) → are_ascending 0 es ≡ true → version_at key es ≡ Some v → Some e ≡ lookup (is_at (nat_cmp v)) (numbered es)
+    → Some (v, e.slot) ≡ option_map version_and_slot (entry_at key es)
+found-slot key v es e up is there =
+    let found = entry-version key v es is in
+    let here : Some e ≡ Some found.entry = there ∙ lookup-version key v es up is ∙ found.at in
+    let same : e ≡ found.entry = cc in
+    ap (λ (n : ℕ). Some (n, e.slot)) (sym found.version) ∙ ap (λ (x : Entry). Some (found.entry.version, x.slot)) same ∙ ap (option_map version_and_slot) (sym found.at)
+
 module _ (key : List ℕ) (entries : List (ℕ × Entry)) (versions : List (List ℕ × ℕ)) (agree : Agree entries versions) (plain : IsPlainTable (plain_table (values_of entries))) where
   -- what the two look-ups give
   pub looked_up : (v : ℕ) (e : Entry) → Some v ≡ lookup (is_at (slice_cmp nat_cmp key)) versions → Some e ≡ lookup (is_at (nat_cmp v)) entries
       → Some (v, e.slot) ≡ option_map version_and_slot (entry_at key (values_of entries))
   looked_up v e at there =
-      let is : version_at key (values_of entries) ≡ Some v = sym (agree.keyed key) ∙ sym at in
-      let found = entry-version key v (values_of entries) is in
-      let here : Some e ≡ Some found.entry =
-          there ∙ ap (lookup (is_at (nat_cmp v))) agree.numbered ∙ lookup-version key v (values_of entries) plain.run.ascending is ∙ found.at in
-      let same : e ≡ found.entry = cc in
-      ap (λ (n : ℕ). Some (n, e.slot)) (sym found.version) ∙ ap (λ (x : Entry). Some (found.entry.version, x.slot)) same ∙ ap (option_map version_and_slot) (sym found.at)
+      found-slot key v (values_of entries) e plain.run.ascending (sym (agree.keyed key) ∙ sym at) (there ∙ ap (lookup (is_at (nat_cmp v))) agree.numbered)
 
   pub never_missed : (v : ℕ) → Some v ≡ lookup (is_at (slice_cmp nat_cmp key)) versions → None ≡ lookup (is_at (nat_cmp v)) entries → ⊥
   never_missed v at missed =
@@ -196,31 +199,45 @@ Keyed-entered es e old new keyed updated key =
       let both : true ≡ false = sym ((bytes_decides e.key key).1 (sym is)) ∙ texts_ties e.key key ∙ apart in
       absurd (cc)))))
 
-pub Agree-of : (entries : List (ℕ × Entry)) (versions : List (List ℕ × ℕ)) (es : List Entry) → entries ≡ numbered es → Keyed versions es → Agree entries versions
-Agree-of entries versions es is keyed =
-    let same : es ≡ values_of entries = sym (ap values_of is ∙ values-numbered es) in
-    record { numbered = is ∙ ap numbered same; keyed = subst (Keyed versions) same keyed }
+-- two maps of these entries
+pub record AreOf (entries : List (ℕ × Entry)) (versions : List (List ℕ × ℕ)) (es : List Entry) : Type 0 where
+  pub values : values_of entries ≡ es
+  pub agree : Agree entries versions
 
-pub values-is : (entries : List (ℕ × Entry)) (es : List Entry) → entries ≡ numbered es → values_of entries ≡ es
-values-is entries es is = ap values_of is ∙ values-numbered es
+AreOf-numbered : (entries : List (ℕ × Entry)) (versions : List (List ℕ × ℕ)) (es : List Entry) → entries ≡ numbered es → Keyed versions es → AreOf entries versions es
+AreOf-numbered entries versions es is keyed =
+    let values : values_of entries ≡ es = ap values_of is ∙ values-numbered es in
+    record { values = values; agree = record { numbered = is ∙ ap numbered (sym values); keyed = subst (Keyed versions) (sym values) keyed } }
 
-module _ (m0 m1 : List (ℕ × Entry)) (versions : List (List ℕ × ℕ)) (e : Entry) (agree : Agree m0 versions) (plain : IsPlainTable (plain_table (values_of m0)))
+-- the versions are those before, with that of the entry under its key
+abbrev pub Takes : Entry → List (List ℕ × ℕ) → List (List ℕ × ℕ) → Type 0
+Takes e old new =
+    (key : List ℕ) → lookup (is_at (slice_cmp nat_cmp key)) new ≡ cond (is_at (slice_cmp nat_cmp e.key) key) (Some e.version) (lookup (is_at (slice_cmp nat_cmp key)) old)
+
+module _ (m0 m1 : List (ℕ × Entry)) (old new : List (List ℕ × ℕ)) (e : Entry) (agree : Agree m0 old) (plain : IsPlainTable (plain_table (values_of m0)))
     (later : last_version 0 (values_of m0) < e.version) (inserted : m1 ≡ insert_entry nat_cmp m0 e.version e) where
   inserted-last : m1 ≡ numbered (values_of m0 ++ e ∷ [])
   inserted-last =
       inserted ∙ ap (λ (m : List (ℕ × Entry)). insert_entry nat_cmp m e.version e) agree.numbered ∙ insert-last 0 (values_of m0) e plain.run.ascending later
 
   -- the key is new
-  pub added : lookup (is_at (slice_cmp nat_cmp e.key)) versions ≡ None → m1 ≡ numbered (entered (values_of m0) (e ∷ []))
-  added none = inserted-last ∙ ap numbered (entered-new (values_of m0) e (sym (agree.keyed e.key) ∙ none))
+  pub AreOf-added : Takes e old new → lookup (is_at (slice_cmp nat_cmp e.key)) old ≡ None → AreOf m1 new (entered (values_of m0) (e ∷ []))
+  AreOf-added takes none =
+      AreOf-numbered m1 new (entered (values_of m0) (e ∷ [])) (inserted-last ∙ ap numbered (entered-new (values_of m0) e (sym (agree.keyed e.key) ∙ none)))
+      (Keyed-entered (values_of m0) e old new agree.keyed takes)
 
-  -- the key had an entry
-  pub replaced : (v : ℕ) (m2 : List (ℕ × Entry)) → lookup (is_at (slice_cmp nat_cmp e.key)) versions ≡ Some v → m2 ≡ remove_entry (is_at (nat_cmp v)) m1
-      → m2 ≡ numbered (entered (values_of m0) (e ∷ []))
-  replaced v m2 some removed =
-      removed ∙ ap (remove_entry (is_at (nat_cmp v))) inserted-last
-      ∙ remove-old 0 (values_of m0) e v plain.run.ascending plain.run.distinct (sym (agree.keyed e.key) ∙ some)
+  -- the key had an entry, which goes
+  pub AreOf-replaced : (v : ℕ) (m2 : List (ℕ × Entry)) → Takes e old new → lookup (is_at (slice_cmp nat_cmp e.key)) old ≡ Some v → m2 ≡ remove_entry (is_at (nat_cmp v)) m1
+      → AreOf m2 new (entered (values_of m0) (e ∷ []))
+  AreOf-replaced v m2 takes some removed =
+      AreOf-numbered m2 new (entered (values_of m0) (e ∷ []))
+      (removed ∙ ap (remove_entry (is_at (nat_cmp v))) inserted-last
+      ∙ remove-old 0 (values_of m0) e v plain.run.ascending plain.run.distinct (sym (agree.keyed e.key) ∙ some))
+      (Keyed-entered (values_of m0) e old new agree.keyed takes)
 
   -- the new entry goes again
-  pub undone : (m2 : List (ℕ × Entry)) → m2 ≡ remove_entry (is_at (nat_cmp e.version)) m1 → m2 ≡ numbered (values_of m0)
-  undone m2 removed = removed ∙ ap (remove_entry (is_at (nat_cmp e.version))) inserted-last ∙ remove-last 0 (values_of m0) e plain.run.ascending later
+  pub AreOf-undone : (m2 : List (ℕ × Entry)) → new ≡ old → m2 ≡ remove_entry (is_at (nat_cmp e.version)) m1 → AreOf m2 new (values_of m0)
+  AreOf-undone m2 same removed =
+      AreOf-numbered m2 new (values_of m0)
+      (removed ∙ ap (remove_entry (is_at (nat_cmp e.version))) inserted-last ∙ remove-last 0 (values_of m0) e plain.run.ascending later)
+      (subst (λ (versions : List (List ℕ × ℕ)). Keyed versions (values_of m0)) (sym same) agree.keyed)

@@ -1,11 +1,12 @@
 -- What is reached from the keys behind a start is what is under it.
 use Rattle.std.proofs.Common.{◌≡◌, ℕ, Bool, true, false, cond, List, [], ◌∷◌, filter, length, nat_eq, nat_le, if◌then◌else◌, Result, Ok, Err, ⊎_elim, Option, Some, None, refl, sym, ap, subst, ◌∙◌, arith}
-use Rattle.std.proofs.lemmas.Bool.{cond_both, cases_Bool, and_parts, and_from}
+use Rattle.std.proofs.lemmas.Bool.{cond_both, cases_Bool, and_parts, and_from, le-leb}
 use Rattle.std.proofs.lemmas.Cmp.{nat_list_cmp_total}
+use Rattle.std.proofs.lemmas.List.Elements.{recursion_from_All}
 use Rattle.std.proofs.lemmas.List.Kept.{IsStrictlySortedBy-filter}
 use Rattle.std.proofs.lemmas.Map.{lookup-none}
 use Rattle.std.proofs.lemmas.Map.Entries.{none_below_head, lookup-filter-keys}
-use Rattle.std.specs.List.{AllByRecursion, list_all, starts_with}
+use Rattle.std.specs.List.{All, AllByRecursion, list_all, starts_with}
 use Rattle.std.specs.List.Sorted.{IsStrictlySortedBy}
 use Rattle.std.specs.Option.{option_map}
 use Rattle.std.specs.Map.{keys_of, lookup}
@@ -80,7 +81,7 @@ pub start-empty : (text : List ℕ) (fault : Fault) → is_prefix text ≡ true 
 start-empty [] fault whole is = refl
 start-empty (b ∷ bs) fault whole is =
     let parts = and_parts (nat_le (length (b ∷ bs)) KEY_MOST) (list_all is_key_byte (b ∷ bs)) whole in
-    let key : is_key (b ∷ bs) ≡ true = and_from (is_between 1 KEY_MOST (length (b ∷ bs))) (list_all is_key_byte (b ∷ bs)) (and_from (nat_le 1 (length (b ∷ bs))) (nat_le (length (b ∷ bs)) KEY_MOST) refl parts.0) parts.1 in
+    let key : is_key (b ∷ bs) ≡ true = and_from (is_between 1 KEY_MOST (length (b ∷ bs))) (list_all is_key_byte (b ∷ bs)) (and_from (nat_le 1 (length (b ∷ bs))) (nat_le (length (b ∷ bs)) KEY_MOST) (le-leb 1 (length (b ∷ bs)) (omega arith)) parts.0) parts.1 in
     let both : Err fault ≡ Ok (b ∷ bs) = is ∙ ap (λ (t : Bool). if t then Ok (b ∷ bs) else Err BadKey) key in
     absurd (cc)
 
@@ -90,10 +91,10 @@ from-empty (b ∷ bs) = refl
 
 module _ (prefix : List ℕ) (es : List Entry) (up : are_ascending 0 es ≡ true) (apart : are_distinct es ≡ true) where
   -- what is left of these keys, those behind the last
-  record IsRest (last : Option (List ℕ)) (vs : List (List ℕ × ℕ)) : Type 0 where
-    part : IsPart prefix es vs
-    keyed : (q : List ℕ) → is_left prefix last q ≡ true → lookup (is_at (by_text q)) vs ≡ version_at q es
-    behind : AllByRecursion (λ key. starts_with nat_eq key prefix ≡ true → is_left prefix last key ≡ true) (keys_of vs)
+  pub record IsRest (last : Option (List ℕ)) (vs : List (List ℕ × ℕ)) : Type 0 where
+    pub part : IsPart prefix es vs
+    pub keyed : (q : List ℕ) → is_left prefix last q ≡ true → lookup (is_at (by_text q)) vs ≡ version_at q es
+    pub behind : AllByRecursion (λ key. starts_with nat_eq key prefix ≡ true → is_left prefix last key ≡ true) (keys_of vs)
 
   left-starts : (last : Option (List ℕ)) (q : List ℕ) → is_left prefix last q ≡ true → starts_with nat_eq q prefix ≡ true
   left-starts None q left = left
@@ -117,7 +118,7 @@ module _ (prefix : List ℕ) (es : List Entry) (up : are_ascending 0 es ≡ true
       (λ left.
         let both : None ≡ Some x.version = rest.keyed x.key left ∙ some-found x.key es x apart stands refl in
         absurd (cc))
-      (λ no. no)
+      (λ passed. passed)
       (cases_Bool (is_left prefix last x.key))))
 
   reached-more : (at : List ℕ × ℕ) (others : List (List ℕ × ℕ)) (last : Option (List ℕ)) → IsRest last (at ∷ others)
@@ -125,7 +126,7 @@ module _ (prefix : List ℕ) (es : List Entry) (up : are_ascending 0 es ≡ true
       → reached prefix (numbered es) (at ∷ others) ≡ entries_left prefix last es
   reached-more at others last rest after =
       cond_both (starts_with nat_eq at.0 prefix) (in_front (lookup (is_at (nat_cmp at.1)) (numbered es)) (reached prefix (numbered es) others)) []
-      (λ (got : List Entry). got ≡ entries_left prefix last es) more (λ no. sym (nothing last (done no)))
+      (λ (got : List Entry). got ≡ entries_left prefix last es) more (λ unlike. sym (nothing last (done unlike)))
     where
       found : Found at.0 at.1 es
       found = entry-version at.0 at.1 es rest.part.2
@@ -134,7 +135,7 @@ module _ (prefix : List ℕ) (es : List Entry) (up : are_ascending 0 es ≡ true
       from : (x : Entry) → Stands es x → is_left prefix last x.key ≡ true → text_lt x.key at.0 ≡ false
       from x stands left = lookup-from at others rest.part.0 x.key x.version (rest.keyed x.key left ∙ some-found x.key es x apart stands refl)
       done : starts_with nat_eq at.0 prefix ≡ false → (x : Entry) → Stands es x → is_left prefix last x.key ≡ false
-      done no x stands = ⊎_elim
+      done unlike x stands = ⊎_elim
           (λ left.
             let starts = starts-between prefix at.0 x.key rest.part.1 (from x stands left) (left-starts last x.key left) in
             absurd (cc))
@@ -189,13 +190,13 @@ module _ (prefix : List ℕ) (es : List Entry) (up : are_ascending 0 es ≡ true
 
     -- from the start on stands what is under it
     pub reached-under : (versions vs : List (List ℕ × ℕ)) → Keyed versions es → IsStrictlySortedBy by_text (keys_of versions) → vs ≡ filter (λ at. p at.0) versions
-        → AllByRecursion (λ at. lookup (is_at (by_text at.0)) versions ≡ Some at.1) vs → reached prefix (numbered es) vs ≡ by_key (under prefix es)
+        → All (λ at. lookup (is_at (by_text at.0)) versions ≡ Some at.1) vs → reached prefix (numbered es) vs ≡ by_key (under prefix es)
     reached-under versions vs keyed sorted is each =
         let keys : keys_of vs ≡ filter p (keys_of versions) = ap keys_of is ∙ keys-filter versions in
         reached-left vs None (record {
           part = part-of vs (subst (IsStrictlySortedBy by_text) (sym keys) (IsStrictlySortedBy-filter by_text p (keys_of versions) sorted))
               (subst (AllByRecursion (λ key. is_le (by_text prefix key) ≡ true)) (sym keys) (from-start (keys_of versions)))
-              (AllByRecursion-map (λ at found. sym (keyed at.0) ∙ found) vs each);
+              (AllByRecursion-map (λ at found. sym (keyed at.0) ∙ found) vs (recursion_from_All (λ at. lookup (is_at (by_text at.0)) versions ≡ Some at.1) vs each));
           keyed = λ q starts.
               ap (lookup (is_at (by_text q))) is
               ∙ lookup-filter-keys (is_at (by_text q)) p true
