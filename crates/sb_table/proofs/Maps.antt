@@ -1,12 +1,12 @@
 -- What is found in the two maps, and what a write does to them.
-use Rattle.std.proofs.Common.{◌≡◌, ℕ, ◌-◌, ◌<◌, ◌≤◌, Bool, true, false, cond, List, [], ◌∷◌, ◌++◌, filter, length, map, nat_eq, nat_le, nat_lt, inl, inr, Option, Some, None, is_some, slice_get, refl, sym, ap, subst, ◌∙◌, ⊎_elim, not, unwrap_or, ◌&&◌, arith, zero, suc}
+use Rattle.std.proofs.Common.{◌≡◌, ℕ, ◌-◌, ◌<◌, ◌≤◌, Bool, true, false, cond, List, [], ◌∷◌, ◌++◌, filter, length, nat_eq, nat_le, nat_lt, inl, inr, Option, Some, None, is_some, slice_get, refl, sym, ap, subst, ◌∙◌, ⊎_elim, not, unwrap_or, ◌&&◌, arith, zero, suc}
 use Rattle.std.proofs.lemmas.Bool.{cond_both, cases_Bool, and_parts, not-true}
 use Rattle.std.proofs.lemmas.Bool.Decides.{nat_tests}
 use Rattle.std.proofs.lemmas.Cmp.{nat_list_eq_equiv}
 use Rattle.std.proofs.lemmas.List.{length-map}
 use Rattle.std.proofs.lemmas.List.Elements.{filter_agree}
 use Rattle.std.specs.Option.{option_map}
-use Rattle.std.specs.Ordering.{nat_cmp, is_eq, is_lt}
+use Rattle.std.specs.Ordering.{nat_cmp, is_lt}
 use Rattle.std.specs.Cmp.Lexicographic.{slice_cmp, pointwise, texts_ties, bytes_decides}
 use Rattle.std.specs.Map.{values_of, lookup, remove_entry}
 use Rattle.std.specs.BTreeMap.{is_at, insert_entry}
@@ -14,7 +14,7 @@ use Rattle.std.specs.BTreeMap.Range.{entries_between, range_contains}
 use Rattle.std.specs.declared.cmp.Ordering.TheVariants.{Greater}
 use Rattle.std.specs.declared.ops.Bound.TheVariants.{Excluded, Unbounded}
 use Rattle.sb_types.specs.Records.{Entry}
-use Rattle.sb_types.specs.Runs.{Stands, above, are_ascending, are_distinct, entered, entry_at, has_key, last_version, without}
+use Rattle.sb_types.specs.Runs.{Stands, above, are_ascending, are_distinct, entered, entry_at, has_key, last_version}
 use Rattle.sb_table.specs.Plain.{IsPlainTable, plain_table, version_and_slot}
 use Rattle.sb_table.specs.Maps.{numbered, version_at, Agree}
 use Rattle.sb_table.proofs.Enter.{without-none}

@@ -1,30 +1,29 @@
 -- What is reached from the keys behind a start is what is under it.
-use Rattle.std.proofs.Common.{◌≡◌, ℕ, Bool, true, false, cond, List, [], ◌∷◌, filter, length, nat_eq, nat_le, if◌then◌else◌, Result, Ok, Err, ⊎_elim, Option, Some, None, refl, sym, ap, subst, ◌∙◌, arith}
+use Rattle.std.proofs.Common.{◌≡◌, ℕ, Bool, true, false, cond, List, [], ◌∷◌, filter, length, nat_eq, nat_le, if◌then◌else◌, Ok, Err, ⊎_elim, Option, Some, None, refl, sym, ap, subst, ◌∙◌, arith}
 use Rattle.std.proofs.lemmas.Bool.{cond_both, cases_Bool, and_parts, and_from, le-leb}
 use Rattle.std.proofs.lemmas.Cmp.{nat_list_cmp_total}
 use Rattle.std.proofs.lemmas.List.Elements.{recursion_from_All}
 use Rattle.std.proofs.lemmas.List.Kept.{IsStrictlySortedBy-filter}
-use Rattle.std.proofs.lemmas.Map.{lookup-none}
-use Rattle.std.proofs.lemmas.Map.Entries.{none_below_head, lookup-filter-keys}
+use Rattle.std.proofs.lemmas.Map.Entries.{lookup-filter-keys}
 use Rattle.std.specs.List.{All, AllByRecursion, list_all, starts_with}
 use Rattle.std.specs.List.Sorted.{IsStrictlySortedBy}
 use Rattle.std.specs.Option.{option_map}
 use Rattle.std.specs.Map.{keys_of, lookup}
 use Rattle.std.specs.BTreeMap.{is_at}
-use Rattle.std.specs.Ordering.{nat_cmp, is_lt, is_le, is_eq}
+use Rattle.std.specs.Ordering.{nat_cmp, is_lt, is_le}
 use Rattle.std.specs.declared.cmp.Ordering.{Ordering}
-use Rattle.std.specs.declared.cmp.Ordering.TheVariants.{Less, Equal, Greater}
-use Rattle.std.specs.Cmp.Lexicographic.{slice_cmp, pointwise, texts_ties, bytes_decides}
+use Rattle.std.specs.declared.cmp.Ordering.TheVariants.{Less}
+use Rattle.std.specs.Cmp.Lexicographic.{slice_cmp, texts_ties, bytes_decides}
 use Rattle.sb_types.specs.declared.fault.Fault.{Fault}
 use Rattle.sb_types.specs.declared.fault.Fault.TheVariants.{BadKey}
 use Rattle.sb_types.specs.declared.limits.TheConstants.{KEY_MOST}
 use Rattle.sb_types.specs.Text.{is_between, is_key, is_key_byte, is_prefix}
 use Rattle.sb_types.specs.Limits.{text_lt}
 use Rattle.sb_types.specs.Records.{Entry}
-use Rattle.sb_types.specs.Runs.{Stands, are_ascending, are_distinct, entry_at}
+use Rattle.sb_types.specs.Runs.{Stands, are_ascending, are_distinct}
 use Rattle.sb_table.specs.Order.{by_key, under}
-use Rattle.sb_table.specs.Maps.{numbered, version_at, in_front, reached}
-use Rattle.sb_table.proofs.ByKey.{is_left, left_of, entries_left, entries_left-first, none_left}
+use Rattle.sb_table.specs.Maps.{numbered, version_at, in_front, reached, Ends}
+use Rattle.sb_table.proofs.ByKey.{is_left, entries_left, entries_left-first, none_left}
 use Rattle.sb_table.proofs.Lookup.{Stands-entry_at, key-entry_at, entry_at-stands}
 use Rattle.sb_table.proofs.Maps.{Keyed, Found, entry-version, lookup-version}
 use Rattle.sb_table.proofs.Texts.{Less-from_is_lt, text_lt-same, text_lt-trans, text_lt-back, starts-behind, starts-between}
@@ -169,6 +168,26 @@ module _ (prefix : List ℕ) (es : List Entry) (up : are_ascending 0 es ≡ true
   part-of [] sorted from each = tt
   part-of (at ∷ others) sorted from each = (sorted.0, from.0, each.0, part-of others sorted.1 from.1 each.1)
 
+  once : (at next : List ℕ × ℕ) (others : List (List ℕ × ℕ)) → IsPart prefix es (at ∷ next ∷ others) → reached prefix (numbered es) (at ∷ next ∷ others) ≡ []
+      → reached prefix (numbered es) (next ∷ others) ≡ []
+  once at next others part none =
+      let found = entry-version at.0 at.1 es part.2 in
+      let there : lookup (is_at (nat_cmp at.1)) (numbered es) ≡ Some found.entry = lookup-version at.0 at.1 es up part.2 ∙ found.at in
+      let later : text_lt next.0 at.0 ≡ false = text_lt-back at.0 next.0 (ap is_lt part.0.0) in
+      ⊎_elim
+      (λ starts.
+        let here : starts_with nat_eq at.0 prefix ≡ true = starts-between prefix at.0 next.0 part.1 later starts in
+        let some : reached prefix (numbered es) (at ∷ next ∷ others) ≡ found.entry ∷ reached prefix (numbered es) (next ∷ others) = rw (here, there) refl in
+        let both : found.entry ∷ reached prefix (numbered es) (next ∷ others) ≡ [] = sym some ∙ none in
+        absurd (cc))
+      (λ other. rw other refl)
+      (cases_Bool (starts_with nat_eq next.0 prefix))
+
+  pub Ends-part : (vs : List (List ℕ × ℕ)) → IsPart prefix es vs → Ends prefix (numbered es) vs
+  Ends-part [] part = tt
+  Ends-part (at ∷ []) part = ((λ none. refl), tt)
+  Ends-part (at ∷ next ∷ others) part = (once at next others part, Ends-part (next ∷ others) part.3)
+
   all_left : (keys : List (List ℕ)) → AllByRecursion (λ key. starts_with nat_eq key prefix ≡ true → is_left prefix None key ≡ true) keys
   all_left [] = tt
   all_left (key ∷ keys) = ((λ starts. starts), all_left keys)
@@ -188,19 +207,27 @@ module _ (prefix : List ℕ) (es : List Entry) (up : are_ascending 0 es ≡ true
         cond_both (p key) (key ∷ filter p keys) (filter p keys) (λ (ks : List (List ℕ)). AllByRecursion (λ key. is_le (by_text prefix key) ≡ true) ks)
         (λ passes. (sym (from key) ∙ passes, from-start keys)) (λ _. from-start keys)
 
-    -- from the start on stands what is under it
-    pub reached-under : (versions vs : List (List ℕ × ℕ)) → Keyed versions es → IsStrictlySortedBy by_text (keys_of versions) → vs ≡ filter (λ at. p at.0) versions
-        → All (λ at. lookup (is_at (by_text at.0)) versions ≡ Some at.1) vs → reached prefix (numbered es) vs ≡ by_key (under prefix es)
-    reached-under versions vs keyed sorted is each =
-        let keys : keys_of vs ≡ filter p (keys_of versions) = ap keys_of is ∙ keys-filter versions in
-        reached-left vs None (record {
-          part = part-of vs (subst (IsStrictlySortedBy by_text) (sym keys) (IsStrictlySortedBy-filter by_text p (keys_of versions) sorted))
-              (subst (AllByRecursion (λ key. is_le (by_text prefix key) ≡ true)) (sym keys) (from-start (keys_of versions)))
-              (AllByRecursion-map (λ at found. sym (keyed at.0) ∙ found) vs (recursion_from_All (λ at. lookup (is_at (by_text at.0)) versions ≡ Some at.1) vs each));
-          keyed = λ q starts.
-              ap (lookup (is_at (by_text q))) is
-              ∙ lookup-filter-keys (is_at (by_text q)) p true
-              (λ k same. subst (λ (key : List ℕ). p key ≡ true) ((bytes_decides q k).0 (texts_ties q k ∙ same)) (from q ∙ starts-behind q prefix starts)) versions
-              ∙ keyed q;
-          behind = all_left (keys_of vs);
-        })
+    -- what a map of versions has from the start on
+    module _ (versions vs : List (List ℕ × ℕ)) (keyed : Keyed versions es) (sorted : IsStrictlySortedBy by_text (keys_of versions)) (is : vs ≡ filter (λ at. p at.0) versions)
+        (each : All (λ at. lookup (is_at (by_text at.0)) versions ≡ Some at.1) vs) where
+      part-under : IsPart prefix es vs
+      part-under =
+          let keys : keys_of vs ≡ filter p (keys_of versions) = ap keys_of is ∙ keys-filter versions in
+          part-of vs (subst (IsStrictlySortedBy by_text) (sym keys) (IsStrictlySortedBy-filter by_text p (keys_of versions) sorted))
+          (subst (AllByRecursion (λ key. is_le (by_text prefix key) ≡ true)) (sym keys) (from-start (keys_of versions)))
+          (AllByRecursion-map (λ at found. sym (keyed at.0) ∙ found) vs (recursion_from_All (λ at. lookup (is_at (by_text at.0)) versions ≡ Some at.1) vs each))
+
+      pub Ends-under : Ends prefix (numbered es) vs
+      Ends-under = Ends-part vs part-under
+
+      -- what is reached is what is under it
+      pub reached-under : reached prefix (numbered es) vs ≡ by_key (under prefix es)
+      reached-under = reached-left vs None (record {
+        part = part-under;
+        keyed = λ q starts.
+            ap (lookup (is_at (by_text q))) is
+            ∙ lookup-filter-keys (is_at (by_text q)) p true
+            (λ k same. subst (λ (key : List ℕ). p key ≡ true) ((bytes_decides q k).0 (texts_ties q k ∙ same)) (from q ∙ starts-behind q prefix starts)) versions
+            ∙ keyed q;
+        behind = all_left (keys_of vs);
+      })

@@ -32,3 +32,8 @@ abbrev pub reached : List ℕ → List (ℕ × Entry) → List (List ℕ × ℕ)
 reached prefix entries [] = []
 reached prefix entries (at ∷ others) =
     if starts_with nat_eq at.0 prefix then in_front (lookup (is_at (nat_cmp at.1)) entries) (reached prefix entries others) else []
+
+-- where nothing is reached, nothing is reached from behind there either
+abbrev pub Ends : List ℕ → List (ℕ × Entry) → List (List ℕ × ℕ) → Type 0
+Ends prefix entries [] = Unit {0}
+Ends prefix entries (at ∷ others) = (reached prefix entries (at ∷ others) ≡ [] → reached prefix entries others ≡ []) × Ends prefix entries others

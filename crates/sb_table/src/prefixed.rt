@@ -1,7 +1,7 @@
 //! The entries of a table under the keys that begin alike.
 ghost use Rattle.std.specs.Prelude.{◌≡◌};
 ghost use Rattle.std.specs.Iterator.{YieldsFirstRef, item_count};
-ghost use Rattle.sb_table.specs.Maps.{reached};
+ghost use Rattle.sb_table.specs.Maps.{reached, Ends};
 
 use sb_types::{Entry, Key, Prefix};
 use std::collections::BTreeMap;
@@ -20,11 +20,13 @@ pub struct Prefixed<'a> {
 impl<'a> Model for Prefixed<'a> {
     ghost use Rattle.std.specs.Prelude.{List};
     ghost use Rattle.sb_types.specs.Records as records;
-    ghost use Rattle.sb_table.specs.Maps.{reached};
+    ghost use Rattle.sb_table.specs.Maps.{reached, Ends};
 
     ghost Value = { List records.Entry };
 
     ghost view = { λ it. reached it.prefix it.entries.now.entries it.versions };
+
+    ghost invariant = { λ it. Ends it.prefix it.entries.now.entries it.versions };
 }
 
 impl<'a> Prefixed<'a> {
@@ -33,6 +35,7 @@ impl<'a> Prefixed<'a> {
         versions: Range<'a, Key, u64>,
         prefix: Prefix,
     ) -> Prefixed<'a>
+        requires { Ends prefix entries.now.entries versions }
         ensures { result ≡ reached prefix entries.now.entries versions.entry }
     {
         Prefixed {
@@ -51,14 +54,11 @@ impl<'a> Iterator for Prefixed<'a> {
     ghost remaining = { item_count (λ it. it) };
 
     fn next(&mut self) -> Option<&'a Entry> {
-        let mut versions = self.versions.clone().unwrap();
-        let (key, version) = versions.next()?;
+        let (key, version) = self.versions.next()?;
         if !key.bytes().starts_with(self.prefix.bytes()) {
             return None;
         }
-        let entry = self.entries.get(version)?;
-        self.versions = versions;
-        Some(entry)
+        self.entries.get(version)
     }
 }
 

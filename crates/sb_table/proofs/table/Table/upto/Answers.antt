@@ -1,4 +1,4 @@
-use Rattle.std.proofs.Common.{sym, ap, ◌∙◌, length, ◌-◌}
+use Rattle.std.proofs.Common.{ap, ◌∙◌}
 use Rattle.std.specs.Map.{values_of}
 use Rattle.sb_types.specs.Records.{Table}
 use Rattle.sb_table.proofs.Maps.{version-last}
