@@ -172,14 +172,14 @@ remove-old low (x ∷ xs) e v up apart is =
     let parts = and_parts (not (has_key x.key xs)) (are_distinct xs) apart in
     ⊎_elim
     (λ here.
-      let first : x.version ≡ v = grind arith in
-      subst (λ (n : ℕ). remove_entry (is_at (nat_cmp n)) (numbered (x ∷ xs ++ e ∷ [])) ≡ numbered (entered (x ∷ xs) (e ∷ []))) first
-      (remove-here x xs e here (not-true (has_key x.key xs) parts.0)))
+    let first : x.version ≡ v = grind arith in
+    subst (λ (n : ℕ). remove_entry (is_at (nat_cmp n)) (numbered (x ∷ xs ++ e ∷ [])) ≡ numbered (entered (x ∷ xs) (e ∷ []))) first
+    (remove-here x xs e here (not-true (has_key x.key xs) parts.0)))
     (λ other.
-      let behind : version_at e.key xs ≡ Some v = grind arith in
-      let found = entry-version e.key v xs behind in
-      let later : x.version < v = omega (arith, above_stands x.version xs found.entry rises.1 (Stands-entry_at e.key xs found.entry found.at), found.version) in
-      remove-behind x xs e v other later (remove-old x.version xs e v rises.1 parts.1 behind))
+    let behind : version_at e.key xs ≡ Some v = grind arith in
+    let found = entry-version e.key v xs behind in
+    let later : x.version < v = omega (arith, above_stands x.version xs found.entry rises.1 (Stands-entry_at e.key xs found.entry found.at), found.version) in
+    remove-behind x xs e v other later (remove-old x.version xs e v rises.1 parts.1 behind))
     (cases_Bool (pointwise nat_eq x.key e.key))
 
 entered-new : (es : List Entry) (e : Entry) → version_at e.key es ≡ None → es ++ e ∷ [] ≡ entered es (e ∷ [])
@@ -196,8 +196,8 @@ Keyed-entered es e old new keyed updated key =
     (λ same. subst (λ (q : List ℕ). Some e.version ≡ version_at q (entered es (e ∷ []))) ((bytes_decides e.key key).0 (texts_ties e.key key ∙ same))
     (ap (option_map (λ x. x.version)) (sym (entry_at-entered_same es e))))
     (λ apart. keyed key ∙ ap (option_map (λ x. x.version)) (sym (entry_at-entered_other key es e (λ is.
-      let both : true ≡ false = sym ((bytes_decides e.key key).1 (sym is)) ∙ texts_ties e.key key ∙ apart in
-      absurd (cc)))))
+    let both : true ≡ false = sym ((bytes_decides e.key key).1 (sym is)) ∙ texts_ties e.key key ∙ apart in
+    absurd (cc)))))
 
 -- two maps of these entries
 pub record AreOf (entries : List (ℕ × Entry)) (versions : List (List ℕ × ℕ)) (es : List Entry) : Type 0 where

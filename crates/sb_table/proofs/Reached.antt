@@ -50,11 +50,11 @@ module _ (at : List ℕ × ℕ) (others : List (List ℕ × ℕ)) (behind : AllB
   lookup-from q v found =
       ⊎_elim
       (λ lt.
-        let none = lookup-none_behind q others behind lt in
-        let less = Less-from_is_lt (by_text q at.0) lt in
-        let here : lookup (is_at (by_text q)) (at ∷ others) ≡ None = rw less none in
-        let both : Some v ≡ None = sym found ∙ here in
-        absurd (cc))
+      let none = lookup-none_behind q others behind lt in
+      let less = Less-from_is_lt (by_text q at.0) lt in
+      let here : lookup (is_at (by_text q)) (at ∷ others) ≡ None = rw less none in
+      let both : Some v ≡ None = sym found ∙ here in
+      absurd (cc))
       (λ ge. ge)
       (cases_Bool (text_lt q at.0))
 
@@ -115,8 +115,8 @@ module _ (prefix : List ℕ) (es : List Entry) (up : are_ascending 0 es ≡ true
   reached-none last rest =
       sym (nothing last (λ x stands. ⊎_elim
       (λ left.
-        let both : None ≡ Some x.version = rest.keyed x.key left ∙ some-found x.key es x apart stands refl in
-        absurd (cc))
+      let both : None ≡ Some x.version = rest.keyed x.key left ∙ some-found x.key es x apart stands refl in
+      absurd (cc))
       (λ passed. passed)
       (cases_Bool (is_left prefix last x.key))))
 
@@ -129,17 +129,21 @@ module _ (prefix : List ℕ) (es : List Entry) (up : are_ascending 0 es ≡ true
     where
       found : Found at.0 at.1 es
       found = entry-version at.0 at.1 es rest.part.2
+
       key : found.entry.key ≡ at.0
       key = key-entry_at at.0 es found.entry found.at
+
       from : (x : Entry) → Stands es x → is_left prefix last x.key ≡ true → text_lt x.key at.0 ≡ false
       from x stands left = lookup-from at others rest.part.0 x.key x.version (rest.keyed x.key left ∙ some-found x.key es x apart stands refl)
+
       done : starts_with nat_eq at.0 prefix ≡ false → (x : Entry) → Stands es x → is_left prefix last x.key ≡ false
       done unlike x stands = ⊎_elim
           (λ left.
-            let starts = starts-between prefix at.0 x.key rest.part.1 (from x stands left) (left-starts last x.key left) in
-            absurd (cc))
+          let starts = starts-between prefix at.0 x.key rest.part.1 (from x stands left) (left-starts last x.key left) in
+          absurd (cc))
           (λ none. none)
           (cases_Bool (is_left prefix last x.key))
+
       more : starts_with nat_eq at.0 prefix ≡ true → in_front (lookup (is_at (nat_cmp at.1)) (numbered es)) (reached prefix (numbered es) others) ≡ entries_left prefix last es
       more starts =
           let left = rest.behind.0 starts in
@@ -151,9 +155,9 @@ module _ (prefix : List ℕ) (es : List Entry) (up : are_ascending 0 es ≡ true
             behind = later_left at.0 (keys_of others) rest.part.0;
           } in
           let least : (x : Entry) → Stands es x → is_left prefix last x.key ≡ true → text_lt x.key found.entry.key ≡ false =
-              λ x stands there. subst (λ (q : List ℕ). text_lt x.key q ≡ false) (sym key) (from x stands there) in
+          λ x stands there. subst (λ (q : List ℕ). text_lt x.key q ≡ false) (sym key) (from x stands there) in
           let first = entries_left-first prefix last found.entry es apart (Stands-entry_at at.0 es found.entry found.at)
-              (subst (λ (q : List ℕ). is_left prefix last q ≡ true) (sym key) left) least in
+          (subst (λ (q : List ℕ). is_left prefix last q ≡ true) (sym key) left) least in
           ap (λ (o : Option Entry). in_front o (reached prefix (numbered es) others)) (lookup-version at.0 at.1 es up rest.part.2 ∙ found.at)
           ∙ ap (λ (xs : List Entry). found.entry ∷ xs) (after next ∙ ap (λ (q : List ℕ). entries_left prefix (Some q) es) (sym key))
           ∙ sym first
@@ -176,10 +180,10 @@ module _ (prefix : List ℕ) (es : List Entry) (up : are_ascending 0 es ≡ true
       let later : text_lt next.0 at.0 ≡ false = text_lt-back at.0 next.0 (ap is_lt part.0.0) in
       ⊎_elim
       (λ starts.
-        let here : starts_with nat_eq at.0 prefix ≡ true = starts-between prefix at.0 next.0 part.1 later starts in
-        let some : reached prefix (numbered es) (at ∷ next ∷ others) ≡ found.entry ∷ reached prefix (numbered es) (next ∷ others) = rw (here, there) refl in
-        let both : found.entry ∷ reached prefix (numbered es) (next ∷ others) ≡ [] = sym some ∙ none in
-        absurd (cc))
+      let here : starts_with nat_eq at.0 prefix ≡ true = starts-between prefix at.0 next.0 part.1 later starts in
+      let some : reached prefix (numbered es) (at ∷ next ∷ others) ≡ found.entry ∷ reached prefix (numbered es) (next ∷ others) = rw (here, there) refl in
+      let both : found.entry ∷ reached prefix (numbered es) (next ∷ others) ≡ [] = sym some ∙ none in
+      absurd (cc))
       (λ other. rw other refl)
       (cases_Bool (starts_with nat_eq next.0 prefix))
 

@@ -72,7 +72,7 @@ impl Table {
         ensures full { result ≡ is_full_for key.now self.now.entries }
         ensures table { IsPlainTable self.now }
     {
-        self.entries.len() >= KEYS_MOST && !self.versions.contains_key(key)
+        self.len() >= KEYS_MOST && !self.versions.contains_key(key)
     }
 
     /// The version of the last write, 0 where there is none.

@@ -1,5 +1,4 @@
 use Rattle.std.proofs.Common.{◌≡◌, ◌≤◌, is_some, length, ap, ◌∙◌, arith}
-use Rattle.std.proofs.lemmas.Map.Entries.{length-values_of}
 use Rattle.std.specs.Map.{values_of}
 use Rattle.sb_types.specs.declared.limits.TheConstants.{KEYS_MOST}
 use Rattle.sb_types.specs.Records.{Table}
@@ -11,8 +10,7 @@ use Rattle.sb_table.proofs.table.Table.is_full_beside.Goals as goal
 pub returns-then-len-ge-KEYS_MOST-clause-full : goal.returns-then-len-ge-KEYS_MOST-clause-full
 returns-then-len-ge-KEYS_MOST-clause-full c =
     let key = c.args.key.now in
-    let entries = c.self.inside.entries.entries in
-    let held : c.contains_key.result ≡ has_key key (values_of entries) = c.contains_key.ensures ∙ ap is_some (c.self.invariant.1.keyed key) ∙ has_key-version key (values_of entries) in
-    let many : KEYS_MOST ≤ length (values_of entries) = omega (arith, c.if-len-ge-KEYS_MOST.true, c.len.ensures.len, length-values_of entries) in
-    is_full_for-from c.contains_key.result (has_key key (values_of entries)) KEYS_MOST (length (values_of entries)) held many
-    ∙ ap (λ (t : Table). is_full_for key t.entries) c.self.view_is
+    let es = values_of c.self.inside.entries.entries in
+    let held : c.contains_key.result ≡ has_key key es = c.contains_key.ensures ∙ ap is_some (c.self.invariant.1.keyed key) ∙ has_key-version key es in
+    let many : KEYS_MOST ≤ length es = omega (arith, c.if-len-ge-KEYS_MOST.true, c.len.ensures.count, ap (λ (t : Table). length t.entries) c.self.view_is) in
+    is_full_for-from c.contains_key.result (has_key key es) KEYS_MOST (length es) held many ∙ ap (λ (t : Table). is_full_for key t.entries) c.self.view_is
