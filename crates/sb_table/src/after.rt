@@ -1,5 +1,5 @@
 //! The entries of a table above a version.
-ghost use Rattle.std.specs.Prelude.{◌≡◌};
+ghost use Rattle.std.specs.Prelude.{◌≡◌, ◌<◌, ◌^◌, length};
 ghost use Rattle.std.specs.Iterator.{YieldsFirstRef, item_count};
 ghost use Rattle.std.specs.Map.{values_of};
 
@@ -15,17 +15,20 @@ pub struct After<'a> {
 }
 
 impl<'a> Model for After<'a> {
-    ghost use Rattle.std.specs.Prelude.{List};
+    ghost use Rattle.std.specs.Prelude.{List, length, ◌<◌, ◌^◌};
     ghost use Rattle.std.specs.Map.{values_of};
     ghost use Rattle.sb_types.specs.Records as records;
 
     ghost Value = { List records.Entry };
 
     ghost view = { λ it. values_of it.entries };
+
+    ghost invariant = { λ it. length (values_of it.entries) < 2 ^ 63 };
 }
 
 impl<'a> After<'a> {
     pub(crate) fn new(entries: Range<'a, u64, Entry>) -> After<'a>
+        requires { length (values_of entries) < 2 ^ 63 }
         ensures { result ≡ values_of entries.entry }
     {
         After { entries }
