@@ -22,7 +22,9 @@ use std::ops::Bound;
 /// version, one a key.
 #[derive(Debug, Drop)]
 pub struct Table {
+    // By version.
     entries: BTreeMap<u64, Entry>,
+    // The version of the entry under each key.
     versions: BTreeMap<Key, u64>,
 }
 
