@@ -1,41 +1,29 @@
 -- The least of the entries that are left, and what is left behind it.
-use Rattle.std.proofs.Common.{◌≡◌, ℕ, ◌+◌, ◌<◌, Bool, true, false, not, ◌&&◌, ◌⊎◌, inl, inr, List, [], ◌∷◌, ◌++◌, length, filter, take, get_or, cond, Option, Some, None, Bor, MatchOption, refl, sym, ap, subst, ◌∙◌, ⊎_elim, arith}
-use Rattle.std.proofs.lemmas.Bool.{and_parts, cond_both, not-true}
+use Rattle.std.proofs.Common.{◌≡◌, ℕ, Bool, true, false, not, ◌&&◌, inl, inr, ◌⊎◌, List, [], ◌∷◌, filter, nat_eq, Option, Some, None, refl, sym, ap, subst, ◌∙◌, arith}
+use Rattle.std.proofs.lemmas.Bool.{and_parts, not-true}
 use Rattle.std.proofs.lemmas.Cmp.{nat_list_eq_equiv}
-use Rattle.std.proofs.lemmas.List.{append-nil}
-use Rattle.std.proofs.lemmas.List.Elements.{filter_more}
-use Rattle.std.specs.Option.{option_copied}
+use Rattle.std.specs.List.{starts_with}
 use Rattle.sb_types.specs.Limits.{text_lt}
 use Rattle.sb_types.specs.Records.{Entry}
 use Rattle.sb_types.specs.Runs.{Stands, are_distinct, has_key}
-use Rattle.sb_table.specs.Order.{put_by_key, by_key, is_before, is_left, left_of, entries_left}
+use Rattle.sb_table.specs.Order.{put_by_key, by_key}
 use Rattle.sb_table.proofs.Enter.{are_distinct-filter}
 use Rattle.sb_table.proofs.Lookup.{apart_from}
 use Rattle.sb_table.proofs.Texts.{text_lt-same, text_lt-trans, text_lt-other}
 
--- m stands in the list, and no key there is less than its
-pub record IsLeast (m : Entry) (ys : List Entry) : Type 0 where
-  pub stands : Stands ys m
-  pub least : (x : Entry) → Stands ys x → text_lt x.key m.key ≡ false
+-- whether a key begins so and comes behind the last, where one was
+abbrev pub is_left : List ℕ → Option (List ℕ) → List ℕ → Bool
+is_left prefix None key = starts_with nat_eq key prefix
+is_left prefix (Some last) key = starts_with nat_eq key prefix && text_lt last key
 
--- the least entry of the list, or none where it is empty
-abbrev pub Least : Option Entry → List Entry → Type 0
-Least None ys = ys ≡ []
-Least (Some m) ys = IsLeast m ys
+abbrev pub left_of : List ℕ → Option (List ℕ) → List Entry → List Entry
+left_of prefix last entries = filter (λ entry. is_left prefix last entry.key) entries
 
-Stands-left : (xs ys : List Entry) (x : Entry) → Stands xs x → Stands (xs ++ ys) x
-Stands-left [] ys x stands = absurd stands
-Stands-left (y ∷ xs) ys x stands = grind (arith, Stands-left xs ys x)
+-- the entries that are left, in ascending order of their keys
+abbrev pub entries_left : List ℕ → Option (List ℕ) → List Entry → List Entry
+entries_left prefix last entries = by_key (left_of prefix last entries)
 
-Stands-last : (xs : List Entry) (x : Entry) → Stands (xs ++ x ∷ []) x
-Stands-last [] x = inl refl
-Stands-last (y ∷ xs) x = inr (Stands-last xs x)
-
-Stands-push_cases : (xs : List Entry) (y x : Entry) → Stands (xs ++ y ∷ []) x → Stands xs x ⊎ (y ≡ x)
-Stands-push_cases [] y x stands = grind arith
-Stands-push_cases (z ∷ xs) y x stands = grind (arith, Stands-push_cases xs y x)
-
-Stands-filter : (p : Entry → Bool) (es : List Entry) (x : Entry) → Stands (filter p es) x → p x ≡ true
+pub Stands-filter : (p : Entry → Bool) (es : List Entry) (x : Entry) → Stands (filter p es) x → p x ≡ true
 Stands-filter p [] x stands = absurd stands
 Stands-filter p (y ∷ es) x stands = grind (arith, Stands-filter p es x)
 
@@ -86,46 +74,27 @@ left_of-behind prefix (Some last) m es left =
     filter-filter (λ x. is_left prefix (Some last) x.key) (λ x. text_lt m.key x.key) (λ x. is_left prefix (Some m.key) x.key)
     (λ x. grind (arith, text_lt-trans last m.key x.key)) es
 
+pub filter-Stands : (p : Entry → Bool) (es : List Entry) (x : Entry) → Stands (filter p es) x → Stands es x
+filter-Stands p [] x stands = absurd stands
+filter-Stands p (y ∷ es) x stands = grind (arith, filter-Stands p es x)
+
+Stands-kept : (p : Entry → Bool) (es : List Entry) (x : Entry) → Stands es x → p x ≡ true → Stands (filter p es) x
+Stands-kept p [] x stands passes = absurd stands
+Stands-kept p (y ∷ es) x stands passes = grind (arith, Stands-kept p es x)
+
 -- the least of what is left is the first of it, and behind it is left what is left behind its key
-pub entries_left-first : (prefix : List ℕ) (last : Option (List ℕ)) (es : List Entry) (o : Option (Bor Entry)) → are_distinct es ≡ true → Least (option_copied o) (left_of prefix last es)
-    → MatchOption o (entries_left prefix last es ≡ []) (λ m. entries_left prefix last es ≡ m.now ∷ entries_left prefix (Some m.now.key) es)
-entries_left-first prefix last es None apart none = ap by_key none
-entries_left-first prefix last es (Some m) apart first =
-    by_key-first m.now (left_of prefix last es) (are_distinct-filter (λ x. is_left prefix last x.key) es apart) first.stands first.least
-    ∙ ap (λ (others : List Entry). m.now ∷ by_key others) (left_of-behind prefix last m.now es (Stands-filter (λ x. is_left prefix last x.key) es m.now first.stands))
+pub entries_left-first : (prefix : List ℕ) (last : Option (List ℕ)) (m : Entry) (es : List Entry) → are_distinct es ≡ true → Stands es m → is_left prefix last m.key ≡ true
+    → ((x : Entry) → Stands es x → is_left prefix last x.key ≡ true → text_lt x.key m.key ≡ false)
+    → entries_left prefix last es ≡ m ∷ entries_left prefix (Some m.key) es
+entries_left-first prefix last m es apart stands left least =
+    let p = λ (x : Entry). is_left prefix last x.key in
+    by_key-first m (left_of prefix last es) (are_distinct-filter p es apart) (Stands-kept p es m stands left)
+    (λ x there. least x (filter-Stands p es x there) (Stands-filter p es x there))
+    ∙ ap (λ (others : List Entry). m ∷ by_key others) (left_of-behind prefix last m es left)
 
-Least-taken : (o : Option Entry) (ys : List Entry) (e : Entry) → Least o ys → is_before e o ≡ true → Least (Some e) (ys ++ e ∷ [])
-Least-taken None ys e none before = record {
-  stands = Stands-last ys e;
-  least = λ x stands. ⊎_elim
-      (λ there. absurd (subst (λ (zs : List Entry). Stands zs x) none there))
-      (λ same. subst (λ (y : Entry). text_lt y.key e.key ≡ false) same (text_lt-same e.key))
-      (Stands-push_cases ys e x stands);
-}
-Least-taken (Some m) ys e first before = record {
-  stands = Stands-last ys e;
-  least = λ x stands. ⊎_elim
-      (λ there. grind (arith, first.least x there, text_lt-trans x.key e.key m.key))
-      (λ same. subst (λ (y : Entry). text_lt y.key e.key ≡ false) same (text_lt-same e.key))
-      (Stands-push_cases ys e x stands);
-}
-
-Least-passed : (o : Option Entry) (ys : List Entry) (e : Entry) → Least o ys → is_before e o ≡ false → Least o (ys ++ e ∷ [])
-Least-passed None ys e none before = absurd (cc)
-Least-passed (Some m) ys e first before = record {
-  stands = Stands-left ys (e ∷ []) m first.stands;
-  least = λ x stands. ⊎_elim (first.least x) (λ same. subst (λ (y : Entry). text_lt y.key m.key ≡ false) same before) (Stands-push_cases ys e x stands);
-}
-
--- one more entry is looked at
-pub Least-more : (p : Entry → Bool) (es : List Entry) (i : ℕ) (e : Entry) (old new : Option Entry) → i < length es → e ≡ get_or es i e
-    → Least old (filter p (take i es)) → new ≡ cond (p e && is_before e old) (Some e) old → Least new (filter p (take (i + 1) es))
-Least-more p es i e old new lt item least next =
-    let front = filter p (take i es) in
-    let longer : filter p (take (i + 1) es) ≡ front ++ cond (p e) (e ∷ []) [] =
-    filter_more p es i e lt ∙ ap (λ (x : Entry). front ++ cond (p x) (x ∷ []) []) (sym item) in
-    rw (longer, next)
-    (elim (p e) as (λ b. Least (cond (b && is_before e old) (Some e) old) (front ++ cond b (e ∷ []) [])) [
-      | true ↦ cond_both (is_before e old) (Some e) old (λ o. Least o (front ++ e ∷ [])) (Least-taken old front e least) (Least-passed old front e least)
-      | false ↦ rw append-nil least
-    ])
+pub none_left : (p : Entry → Bool) (es : List Entry) → ((x : Entry) → Stands es x → p x ≡ false) → filter p es ≡ []
+none_left p [] none = refl
+none_left p (x ∷ xs) none =
+    let first = none x (inl refl) in
+    let others = none_left p xs (λ y stands. none y (inr stands)) in
+    grind arith

@@ -5,3 +5,5 @@ pub mod Texts
 pub mod ByKey
 pub mod Lookup
 pub mod Sorting
+pub mod Maps
+pub mod Reached

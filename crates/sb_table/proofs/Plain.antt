@@ -1,5 +1,5 @@
 -- A table stays one when an entry is entered.
-use Rattle.std.proofs.Common.{◌≡◌, ℕ, ◌<◌, ◌-◌, false, List, [], ◌∷◌, ◌++◌, length, Some, Result, Ok, Err, refl, sym, ap, subst, ◌∙◌, arith, zero, suc, not, OnOk, OnErr, slice_get}
+use Rattle.std.proofs.Common.{◌≡◌, ℕ, ◌<◌, false, List, [], ◌∷◌, ◌++◌, Result, Ok, Err, sym, ap, subst, ◌∙◌, arith, not, OnOk, OnErr}
 use Rattle.sb_types.specs.declared.fault.Fault.{Fault}
 use Rattle.sb_types.specs.declared.limits.TheConstants.{KEYS_MOST}
 use Rattle.sb_types.specs.Records.{Entry, Table}
@@ -29,19 +29,6 @@ IsPlainTable-with_entry t e plain later room =
       last = sym last;
       few = length-entered e t.entries KEYS_MOST plain.few room;
     }
-
-last_version-at : (before : ℕ) (es : List Entry) (n : ℕ) (e : Entry) → length es ≡ suc n → slice_get es n ≡ Some e → e.version ≡ last_version before es
-last_version-at before [] n e long found = absurd (omega arith)
-last_version-at before (x ∷ []) zero e long found = cc
-last_version-at before (x ∷ []) (suc n) e long found = absurd (omega arith)
-last_version-at before (x ∷ y ∷ ys) zero e long found = absurd (omega arith)
-last_version-at before (x ∷ y ∷ ys) (suc n) e long found = last_version-at x.version (y ∷ ys) n e (omega arith) found
-
-pub last_version-last : (es : List Entry) (e : Entry) → slice_get es (length es - 1) ≡ Some e → e.version ≡ last_version 0 es
-last_version-last [] e found = absurd (cc)
-last_version-last (x ∷ xs) e found =
-    let n : length (x ∷ xs) - 1 ≡ length xs = omega arith in
-    last_version-at 0 (x ∷ xs) (length xs) e refl (rw n at found)
 
 -- what `push` leaves, whichever way it ends
 pub IsPlainTable-pushed : (r : Result (Unit {0}) Fault) (old new : List Entry) (e : Entry) → OnOk r (new ≡ entered old (e ∷ [])) → OnErr r (new ≡ old)

@@ -1,13 +1,15 @@
 -- The order of texts.
-use Rattle.std.proofs.Common.{◌≡◌, ℕ, true, false, List, refl, sym, ap, ◌∙◌, nat_eq}
+use Rattle.std.proofs.Common.{◌≡◌, ℕ, true, false, List, [], ◌∷◌, refl, sym, ap, ◌∙◌, nat_eq, arith}
+use Rattle.std.proofs.lemmas.Bool.Decides.{nat_tests}
+use Rattle.std.specs.List.{starts_with}
 use Rattle.std.specs.declared.cmp.Ordering.{Ordering}
 use Rattle.std.specs.declared.cmp.Ordering.TheVariants.{Less, Equal, Greater}
-use Rattle.std.specs.Ordering.{nat_cmp, is_lt, is_eq, ordering_reverse}
+use Rattle.std.specs.Ordering.{nat_cmp, is_lt, is_le, is_eq, ordering_reverse}
 use Rattle.std.specs.Cmp.Lexicographic.{pointwise, slice_cmp, texts_ties}
 use Rattle.std.proofs.lemmas.Cmp.{nat_list_cmp_total, tied_itself}
 use Rattle.sb_types.specs.Limits.{text_lt}
 
-Less-from_is_lt : (r : Ordering) → is_lt r ≡ true → r ≡ Less
+pub Less-from_is_lt : (r : Ordering) → is_lt r ≡ true → r ≡ Less
 Less-from_is_lt Less h = refl
 Less-from_is_lt Equal h = absurd (cc)
 Less-from_is_lt Greater h = absurd (cc)
@@ -35,3 +37,18 @@ asymmetric Greater s back less = absurd (cc)
 
 pub text_lt-back : (a b : List ℕ) → text_lt a b ≡ true → text_lt b a ≡ false
 text_lt-back a b less = asymmetric (slice_cmp nat_cmp a b) (slice_cmp nat_cmp b a) (nat_list_cmp_total.antisymm b a) less
+
+-- a text does not come before what it begins with
+pub starts-behind : (text start : List ℕ) → starts_with nat_eq text start ≡ true → is_le (slice_cmp nat_cmp start text) ≡ true
+starts-behind [] [] starts = refl
+starts-behind (t ∷ ts) [] starts = refl
+starts-behind [] (s ∷ ss) starts = absurd (cc)
+starts-behind (t ∷ ts) (s ∷ ss) starts = grind (arith, nat_tests, starts-behind ts ss)
+
+-- what comes between a start and a text that begins so begins so
+pub starts-between : (start between text : List ℕ) → is_le (slice_cmp nat_cmp start between) ≡ true → text_lt text between ≡ false → starts_with nat_eq text start ≡ true
+    → starts_with nat_eq between start ≡ true
+starts-between [] between text from upto starts = refl
+starts-between (s ∷ ss) [] text from upto starts = absurd (cc)
+starts-between (s ∷ ss) (b ∷ bs) [] from upto starts = absurd (cc)
+starts-between (s ∷ ss) (b ∷ bs) (t ∷ ts) from upto starts = grind (arith, nat_tests, starts-between ss bs ts)

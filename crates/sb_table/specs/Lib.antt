@@ -1,2 +1,3 @@
 pub mod Plain
 pub mod Order
+pub mod Maps

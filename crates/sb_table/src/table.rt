@@ -1,33 +1,44 @@
-ghost use Rattle.std.specs.Prelude.{◌≡◌, ◌<◌, ◌≤◌, ◌==◌, true, [], if◌then◌else◌, Ok, Err, OnOk, OnErr, IfErr, ◌∷◌, length, drop, nat_eq, position};
+ghost use Rattle.std.specs.Prelude.{◌≡◌, ◌<◌, ◌≤◌, ◌==◌, ℕ, List, true, [], if◌then◌else◌, Ok, Err, OnOk, OnErr, IfErr, ◌∷◌, length, drop};
 ghost use Rattle.std.specs.Option.{option_map};
-ghost use Rattle.std.specs.Cmp.Lexicographic.{pointwise};
+ghost use Rattle.std.specs.Ordering.{nat_cmp, is_le};
+ghost use Rattle.std.specs.Cmp.Lexicographic.{slice_cmp};
+ghost use Rattle.std.specs.Map.{values_of};
+ghost use Rattle.std.specs.BTreeMap.Range.{is_from_start};
 ghost use Rattle.sb_types.specs.Faults.{Gives};
-ghost use Rattle.sb_types.specs.Runs.{above, are_ascending, are_distinct, entered, entry_at, has_key};
+ghost use Rattle.sb_types.specs.Runs.{above, are_ascending, entered, entry_at, last_version};
 ghost use Rattle.sb_table.specs.Plain.{IsPlainTable, plain_table, with_entry, is_full_for, version_and_slot};
 ghost use Rattle.sb_table.specs.Order.{by_key, under};
+ghost use Rattle.sb_table.specs.Maps.{Agree};
 
 use crate::after::After;
 use crate::prefixed::Prefixed;
 use sb_types::{Entry, Fault, KEYS_MOST, Key, Prefix, Slot};
 use std::alloc::Global;
+use std::collections::BTreeMap;
 use std::marker::Model;
+use std::ops::Bound;
 
 /// What one owner last wrote under each of its keys, removals included: at most 4,096 entries, in ascending
 /// version, one a key.
 #[derive(Debug, Drop)]
 pub struct Table {
-    entries: Vec<Entry>,
+    // By version.
+    entries: BTreeMap<u64, Entry>,
+    // The version of the entry under each key.
+    versions: BTreeMap<Key, u64>,
 }
 
 impl Model for Table {
+    ghost use Rattle.std.specs.Map.{values_of};
     ghost use Rattle.sb_types.specs.Records as records;
     ghost use Rattle.sb_table.specs.Plain.{IsPlainTable, plain_table};
+    ghost use Rattle.sb_table.specs.Maps.{Agree};
 
     ghost Value = { records.Table };
 
-    ghost view = { λ t. plain_table t.entries.items };
+    ghost view = { λ t. plain_table (values_of t.entries.entries) };
 
-    ghost invariant = { λ t. IsPlainTable (plain_table t.entries.items) };
+    ghost invariant = { λ t. IsPlainTable (plain_table (values_of t.entries.entries)) × Agree t.entries.entries t.versions.entries };
 }
 
 impl Table {
@@ -37,7 +48,8 @@ impl Table {
         ensures table { IsPlainTable result }
     {
         Table {
-            entries: Vec::new(alloc),
+            entries: BTreeMap::new(alloc),
+            versions: BTreeMap::new(alloc),
         }
     }
 
@@ -51,10 +63,18 @@ impl Table {
         ensures err { OnErr result (self.new ≡ self.old) }
         ensures table { IsPlainTable self.new }
     {
-        if self.entries.len() >= KEYS_MOST && !holds_key(&self.entries, entry.key()) {
+        if self.is_full_beside(entry.key()) {
             return Err(Fault::TableFull);
         }
-        enter(&mut self.entries, entry)
+        enter(&mut self.entries, &mut self.versions, entry)
+    }
+
+    /// Whether a key is new beside as many as there can be.
+    fn is_full_beside(&self, key: &Key) -> bool
+        ensures full { result ≡ is_full_for key.now self.now.entries }
+        ensures table { IsPlainTable self.now }
+    {
+        self.len() >= KEYS_MOST && !self.versions.contains_key(key)
     }
 
     /// The version of the last write, 0 where there is none.
@@ -62,8 +82,8 @@ impl Table {
         ensures version { result ≡ self.now.held }
         ensures table { IsPlainTable self.now }
     {
-        match self.entries.last() {
-            Some(entry) => entry.version(),
+        match self.entries.last_key_value() {
+            Some((version, _)) => *version,
             None => 0,
         }
     }
@@ -89,8 +109,9 @@ impl Table {
         ensures found { option_map (λ p. (p.0, p.1.now)) result ≡ option_map version_and_slot (entry_at key.now self.now.entries) }
         ensures table { IsPlainTable self.now }
     {
-        let entry = self.entries.iter().find(|entry| entry.key() == key)?;
-        Some((entry.version(), entry.slot()))
+        let version = self.versions.get(key)?;
+        let entry = self.entries.get(version)?;
+        Some((*version, entry.slot()))
     }
 
     /// The entries above a version, in ascending version.
@@ -98,7 +119,8 @@ impl Table {
         ensures entries { result ≡ above version self.now.entries }
         ensures table { IsPlainTable self.now }
     {
-        After::new(entries_above(&self.entries, version))
+        let above = (Bound::Excluded(version), Bound::Unbounded);
+        After::new(self.entries.range(above))
     }
 
     /// The entries under the keys that begin with the prefix, in ascending order of their keys.
@@ -106,34 +128,49 @@ impl Table {
         ensures entries { result ≡ by_key (under prefix.now self.now.entries) }
         ensures table { IsPlainTable self.now }
     {
-        Prefixed::new(&self.entries, *prefix)
+        let from_start = (start_of(prefix), Bound::Unbounded);
+        Prefixed::new(&self.entries, self.versions.range(from_start), *prefix)
     }
 }
 
-fn holds_key(entries: &[Entry], key: &Key) -> bool
-    ensures { result ≡ has_key key.now entries.now }
+/// Where the keys start that do not come before the prefix.
+fn start_of(prefix: &Prefix) -> Bound<Key>
+    ensures { (key : List ℕ) → is_from_start (slice_cmp nat_cmp) result key ≡ is_le (slice_cmp nat_cmp prefix.now key) }
 {
-    entries.iter().any(|entry| entry.key() == key)
+    match Key::read(prefix.bytes()) {
+        Ok(key) => Bound::Included(key),
+        Err(_) => Bound::Unbounded,
+    }
 }
 
-fn place_of(entries: &[Entry], key: &Key) -> Option<usize>
-    ensures { result ≡ position (λ held. pointwise nat_eq held.key key.now) entries.now }
-{
-    entries.iter().position(|held| held.key() == key)
-}
-
-/// Puts an entry behind all others, in the room of what its key had.
-fn enter(entries: &mut Vec<Entry>, entry: Entry) -> Result<(), Fault>
-    requires { are_distinct entries.old.items ≡ true }
-    ensures ok { OnOk result (entries.new.items ≡ entered entries.old.items (entry ∷ [])) }
-    ensures err { OnErr result (entries.new.items ≡ entries.old.items) }
+/// Puts an entry behind all others, and takes out what its key had.
+fn enter(
+    entries: &mut BTreeMap<u64, Entry>,
+    versions: &mut BTreeMap<Key, u64>,
+    entry: Entry,
+) -> Result<(), Fault>
+    requires table { IsPlainTable (plain_table (values_of entries.old.entries)) }
+    requires agree { Agree entries.old.entries versions.old.entries }
+    requires later { last_version 0 (values_of entries.old.entries) < entry.version }
+    ensures ok { OnOk result (values_of entries.new.entries ≡ entered (values_of entries.old.entries) (entry ∷ [])) }
+    ensures err { OnErr result (values_of entries.new.entries ≡ values_of entries.old.entries) }
+    ensures agree { Agree entries.new.entries versions.new.entries }
     ensures fault { IfErr result (λ fault. fault ≡ Fault.NoMemory) }
 {
-    if let Some(place) = place_of(entries, entry.key()) {
-        entries.remove(place);
+    let key = *entry.key();
+    let version = entry.version();
+    entries.insert(version, entry)?;
+    match versions.insert(key, version) {
+        Ok(Some(earlier)) => {
+            entries.remove(&earlier);
+            Ok(())
+        }
+        Ok(None) => Ok(()),
+        Err(_) => {
+            entries.remove(&version);
+            Err(Fault::NoMemory)
+        }
     }
-    entries.push(entry)?;
-    Ok(())
 }
 
 /// Those above a version, of entries in ascending version.

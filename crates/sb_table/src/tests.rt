@@ -156,29 +156,110 @@ fn the_greatest_version_is_entered(rt: HostRuntime) -> Result<(), Fail> {
     Ok(())
 }
 
+// The letters as keys, at the versions from 1 on.
+const LETTERS: &[u8; 26] = b"qwertyuiopasdfghjklzxcvbnm";
+
+#[test]
+fn many_keys_come_in_order(rt: HostRuntime) -> Result<(), Fail> {
+    let alloc = rt.alloc();
+    let mut table = Table::new(alloc);
+    for place in 0..LETTERS.len() {
+        let version = place as u64 + 1;
+        push(
+            &rt,
+            &mut table,
+            weight_of(&[b'k', LETTERS[place]], version, 1)?,
+        )?;
+    }
+    push(&rt, &mut table, weight_of(b"j", 27, 1)?)?;
+    push(&rt, &mut table, weight_of(b"l", 28, 1)?)?;
+    push(&rt, &mut table, weight_of(b"kh", 29, 1)?)?;
+    push(&rt, &mut table, entry_of(b"kq", 30, Slot::Removed)?)?;
+    assert_eq!(rt; table.len(), 28);
+    for (version, wanted) in [
+        (
+            0,
+            [
+                2, 3, 4, 5, 6, 7, 8, 9, 10, 11, 12, 13, 14, 15, 17, 18, 19, 20, 21, 22, 23, 24, 25,
+                26, 27, 28, 29, 30,
+            ]
+            .as_slice(),
+        ),
+        (25, &[26, 27, 28, 29, 30]),
+    ] {
+        let versions = versions_after(alloc, &table, version)?;
+        assert_eq!(rt; versions.as_slice(), wanted, "above {version}");
+    }
+    for (text, wanted) in [
+        (
+            b"k".as_slice(),
+            [
+                11, 24, 22, 13, 3, 14, 15, 29, 8, 17, 18, 19, 26, 25, 9, 10, 30, 4, 12, 5, 7, 23,
+                2, 21, 6, 20,
+            ]
+            .as_slice(),
+        ),
+        (b"kq", &[30]),
+        (b"kqa", &[]),
+        (b"j", &[27]),
+        (b"m", &[]),
+    ] {
+        match Prefix::read(text) {
+            Ok(prefix) => {
+                let versions = versions_under(alloc, &table, &prefix)?;
+                assert_eq!(rt; versions.as_slice(), wanted);
+            }
+            Err(fault) => return Err(fault.into()),
+        }
+    }
+    assert_eq!(rt; weight_at(&table, b"kz"), Some((20, Some(1))));
+    assert_eq!(rt; weight_at(&table, b"kq"), Some((30, None)));
+    assert_eq!(rt; weight_at(&table, b"k"), None);
+    Ok(())
+}
+
+// How many entries there are, by version and by key.
+fn counts(table: &Table) -> (usize, usize, usize) {
+    let mut by_key: usize = 0;
+    if let Ok(prefix) = Prefix::read(b"") {
+        for _ in table.prefix(&prefix) {
+            by_key = by_key.saturating_add(1);
+        }
+    }
+    (table.len(), table.after(0).count(), by_key)
+}
+
+// Writes, or leaves everything as it was.
+fn write_or_leave(rt: &impl Abort, table: &mut Table, key: &[u8], version: u64) -> Result<(), Fault>
+    requires { 1 ≤ version }
+{
+    let before = (counts(table), table.upto(), weight_at(table, key));
+    match push(rt, table, weight_of(key, version, version)?) {
+        Ok(()) => {
+            assert_eq!(rt; table.upto(), version);
+            assert_eq!(rt; weight_at(table, key), Some((version, Some(version))));
+        }
+        Err(fault) => {
+            assert_eq!(rt; fault, Fault::NoMemory);
+            assert_eq!(rt;
+                (counts(table), table.upto(), weight_at(table, key)),
+                before
+            );
+        }
+    }
+    let (count, by_version, by_key) = counts(table);
+    assert_eq!(rt; (by_version, by_key), (count, count));
+    Ok(())
+}
+
 // Passes also where an allocation fails.
 #[test]
 fn a_write_without_memory_leaves_the_table(rt: HostRuntime) -> Result<(), Fail> {
     let mut table = Table::new(rt.alloc());
-    for (key, version) in [
-        (b"a", 1),
-        (b"b", 2),
-        (b"a", 3),
-        (b"c", 4),
-        (b"d", 5),
-        (b"e", 6),
-    ] {
-        let before = (table.len(), table.upto(), weight_at(&table, key));
-        match push(&rt, &mut table, weight_of(key, version, version)?) {
-            Ok(()) => {
-                assert_eq!(rt; table.upto(), version);
-                assert_eq!(rt; weight_at(&table, key), Some((version, Some(version))));
-            }
-            Err(fault) => {
-                assert_eq!(rt; fault, Fault::NoMemory);
-                assert_eq!(rt; (table.len(), table.upto(), weight_at(&table, key)), before);
-            }
-        }
+    for place in 0..LETTERS.len() {
+        let version = place as u64 * 2 + 1;
+        write_or_leave(&rt, &mut table, &[LETTERS[place]], version)?;
+        write_or_leave(&rt, &mut table, &[LETTERS[place / 2]], version + 1)?;
     }
     Ok(())
 }
