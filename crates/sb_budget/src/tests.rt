@@ -40,10 +40,28 @@ fn two_owners(alloc: Global) -> Result<Holdings, Fault> {
     let mut holdings = Holdings::new(alloc, Name::read(b"a")?, table)?;
     let entry = longest_value(alloc, &[b'x'; 64], 1)?;
     let block = Block::new(Name::read(b"b")?, 0, vec![in alloc; entry]?)?;
-    match holdings.apply_block(&block) {
-        BlockEnd::Taken(1) => Ok(holdings),
-        _ => Err(Fault::NoMemory),
+    apply(&mut holdings, &block)?;
+    Ok(holdings)
+}
+
+/// How the block ended, where there was memory for it.
+fn apply(holdings: &mut Holdings, block: &Block) -> Result<BlockEnd, Fault> {
+    match holdings.apply_block(block) {
+        BlockEnd::NoMemory(_) => Err(Fault::NoMemory),
+        end => Ok(end),
     }
+}
+
+/// The digest of all names, with these owners held up to these versions.
+fn digest_of(alloc: Global, held: &[(Name, u64)]) -> Result<Digest, Fault> {
+    let mut pairs = Vec::new(alloc);
+    for (owner, version) in held {
+        pairs.push(Pair {
+            owner: *owner,
+            version: *version,
+        })?;
+    }
+    Digest::new(false, None, None, pairs)
 }
 
 /// All that is held, cut to the budget.
@@ -144,13 +162,7 @@ fn items_tell_their_place(rt: HostRuntime) -> Result<(), Fail> {
     let a = Name::read(b"a")?;
     let b = Name::read(b"b")?;
     let holdings = two_owners(alloc)?;
-    let pairs = vec![in alloc;
-        Pair {
-            owner: a,
-            version: 1
-        },
-    ]?;
-    let digest = Digest::new(false, None, None, pairs)?;
+    let digest = digest_of(alloc, &[(a, 1)])?;
     let places = [(a, 1, 3, 0, 2, 2), (a, 1, 3, 1, 2, 3), (b, 0, 1, 0, 1, 1)];
     let offered = available(alloc, &holdings, &digest)?;
     assert_eq!(rt; offered.len(), 3);
@@ -182,17 +194,7 @@ fn what_a_digest_leaves(rt: HostRuntime) -> Result<(), Fail> {
     let of_a = available(alloc, &holdings, &below)?;
     assert_eq!(rt; of_a.len(), 3);
     assert!(rt; of_a.iter().all(|item| item.owner == a));
-    let pairs = vec![in alloc;
-        Pair {
-            owner: a,
-            version: 3
-        },
-        Pair {
-            owner: b,
-            version: 1
-        },
-    ]?;
-    let none = Digest::new(false, None, None, pairs)?;
+    let none = digest_of(alloc, &[(a, 3), (b, 1)])?;
     let delta = cut(alloc, available(alloc, &holdings, &none)?, 256)?;
     assert_eq!(rt; delta.blocks().len(), 0);
     // A frame of 9 bytes.
