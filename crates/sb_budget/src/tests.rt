@@ -52,6 +52,18 @@ fn apply(holdings: &mut Holdings, block: &Block) -> Result<BlockEnd, Fault> {
     }
 }
 
+/// The version under a key.
+fn version_at(holdings: &Holdings, owner: &Name, key: &[u8]) -> Result<Option<u64>, Fault> {
+    let key = Key::read(key)?;
+    let Some(table) = holdings.table(owner) else {
+        return Ok(None);
+    };
+    match table.get(&key) {
+        Some((version, _)) => Ok(Some(version)),
+        None => Ok(None),
+    }
+}
+
 /// The digest of all names, with these owners held up to these versions.
 fn digest_of(alloc: Global, held: &[(Name, u64)]) -> Result<Digest, Fault> {
     let mut pairs = Vec::new(alloc);
@@ -87,20 +99,31 @@ fn told(alloc: Global, delta: &Delta) -> Result<Vec<(Name, u64)>, Fault> {
 #[test]
 fn an_entry_that_does_not_fit_waits(rt: HostRuntime) -> Result<(), Fail> {
     let alloc = rt.alloc();
+    let a = Name::read(b"a")?;
     let delta = cut_of_all(alloc, &three_writes(alloc)?, 256)?;
     // A frame of 161 bytes.
     assert_eq!(rt; delta.encoded_length(), 155);
     assert_eq!(rt; delta.blocks().len(), 1);
     for block in delta.blocks() {
-        assert_eq!(rt; block.owner().bytes(), b"a".as_slice());
-        assert_eq!(rt; block.after(), 0);
-        assert_eq!(rt; block.upto(), 2);
+        assert_eq!(rt; *block.owner(), a);
+        assert_eq!(rt; (block.after(), block.upto()), (0, 2));
         assert_eq!(rt; block.entries().len(), 1);
         for entry in block.entries() {
             assert_eq!(rt; entry.key().bytes(), b"y".as_slice());
             assert_eq!(rt; entry.version(), 2);
         }
+        let mut peer = Holdings::new(alloc, Name::read(b"b")?, Table::new(alloc))?;
+        assert_eq!(rt; apply(&mut peer, block)?, BlockEnd::Taken(1));
+        assert_eq!(rt; peer.upto(&a), 2);
+        assert_eq!(rt; version_at(&peer, &a, b"y")?, Some(2));
+        assert_eq!(rt; version_at(&peer, &a, b"x")?, None);
     }
+    Ok(())
+}
+
+#[test]
+fn an_entry_waits_until_it_fits(rt: HostRuntime) -> Result<(), Fail> {
+    let alloc = rt.alloc();
     // The whole has a frame of 301 bytes.
     assert_eq!(rt;
         cut_of_all(alloc, &three_writes(alloc)?, 300)?.encoded_length(),
