@@ -1,7 +1,7 @@
 //! The order that sends of every owner the first entry, then of every owner the second, and so on.
 #![tactic(auto)]
 
-ghost use Rattle.std.specs.Prelude.{◌≡◌, IfOk, IfErr, IsPermutation, IsSorted};
+ghost use Rattle.std.specs.Prelude.{◌≡◌, IfOk, IfErr, IsOk, IsPermutation, IsSorted};
 ghost use Rattle.sb_budget.specs.Orders.{IsOffer, AscendsByOwner};
 ghost use Rattle.sb_breadth.specs.Breadth.{by_rank};
 
@@ -16,6 +16,7 @@ pub struct Breadth;
 impl DeltaOrder for Breadth {
     fn arrange(&self, _alloc: Global, mut items: Vec<Offered>) -> Result<Vec<Offered>, Fault>
         requires { IsOffer items.items }
+        ensures whole { IsOk result }
         ensures each_once { IfOk result (λ ordered. IsPermutation items.items ordered.items) }
         ensures ascending { IfOk result (λ ordered. AscendsByOwner ordered.items) }
         ensures order { IfOk result (λ ordered. IsSorted by_rank ordered.items) }

@@ -1,12 +1,12 @@
 -- What is offered of all owners, owner by owner.
-use Rattle.std.proofs.Common.{◌≡◌, ℕ, zero, suc, ◌+◌, ◌<◌, ◌≤◌, Bool, true, false, cond, List, [], ◌∷◌, ◌++◌, length, map, filter, get_or, ◌⊎◌, inl, inr, ⊎_elim, refl, sym, ap, ap₂, subst, ◌∙◌, arith, Option, Some, None, IfSome, nat_lt, nat_eq, if◌then◌else◌, Ordering, Less, Equal, append-nil, true≢false}
-use Rattle.std.specs.Prelude.{count_by, All, AllPairs}
+use Rattle.std.proofs.Common.{◌≡◌, ℕ, suc, Bool, true, false, cond, List, [], ◌∷◌, ◌++◌, length, map, filter, ◌⊎◌, inl, inr, refl, sym, ap, ap₂, subst, ◌∙◌, arith, Option, Some, None, IfSome, nat_lt, nat_eq, if◌then◌else◌, Ordering, Less, Equal, append-nil, true≢false}
+use Rattle.std.specs.Prelude.{count_by, AllPairs}
 use Rattle.std.specs.List.{AllByRecursion}
 use Rattle.std.specs.List.Sorted.{IsStrictlySortedBy}
 use Rattle.std.specs.Map.{keys_of}
-use Rattle.std.specs.FinMap.{FinMap, get, entries, get-entries, find}
+use Rattle.std.specs.FinMap.{get, entries, get-entries, find}
 use Rattle.std.specs.Ordering.{is_eq, eq_by_cmp, ordering_reverse}
-use Rattle.std.specs.Cmp.Lexicographic.{slice_cmp, pointwise}
+use Rattle.std.specs.Cmp.Lexicographic.{pointwise}
 use Rattle.std.proofs.lemmas.Bool.{cases_Bool, cond_both, cond-true, cond-false, false_from_ne_true}
 use Rattle.std.proofs.lemmas.Cmp.{nat_list_cmp_total, tied_itself}
 use Rattle.std.proofs.lemmas.List.{map-append}
@@ -18,7 +18,7 @@ use Rattle.sb_table.specs.Plain.{IsPlainTable, plain_table}
 use Rattle.sb_holdings.specs.Held.{Held}
 use Rattle.sb_holdings.specs.Plain.{IsPlainHolder, IsHoldings, is_from, tables_from}
 use Rattle.sb_digest.specs.Digests.{Digest, covers, number}
-use Rattle.sb_holdings.proofs.Lists.{same_text, text_same, of_kept}
+use Rattle.sb_holdings.proofs.Lists.{same_text, text_same}
 use Rattle.sb_budget.specs.declared.offered.Offered.{Offered}
 use Rattle.sb_budget.specs.Offers.{Item, items_from, items_of}
 use Rattle.sb_budget.specs.Offers as offers

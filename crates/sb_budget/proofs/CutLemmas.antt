@@ -2,11 +2,11 @@
 use Rattle.std.proofs.Common.{◌≡◌, ℕ, suc, ◌+◌, ◌<◌, ◌≤◌, ◌-◌, true, List, [], ◌∷◌, ◌++◌, length, map, take, drop, get_or, ◌⊎◌, inl, inr, refl, sym, ap, ap₂, subst, ◌∙◌, arith, append-nil, append_assoc, take-append-drop, length-append, Result, Option, Some, None, true≢false}
 use Rattle.std.specs.Prelude.{sum_by, All}
 use Rattle.std.specs.List.Sorted.{IsSearchInRange, IsBinarySearchResult}
-use Rattle.std.proofs.Math.Seq.{take-append-add, take-append_seam, take-length, drop-cons}
+use Rattle.std.proofs.Math.Seq.{take-append-add, take-append_seam, drop-cons}
 use Rattle.std.specs.Option.{SomeIff}
 use Rattle.std.proofs.lemmas.Bool.{and_from, le-leb, cases_lt}
 use Rattle.std.proofs.lemmas.List.{length-map, length_push, map-id}
-use Rattle.sb_types.specs.declared.limits.TheConstants.{PAYLOAD_MOST, BUDGET_LEAST, BUDGET_MOST}
+use Rattle.sb_types.specs.declared.limits.TheConstants.{PAYLOAD_MOST, BUDGET_MOST}
 use Rattle.sb_types.specs.Records.{Block}
 use Rattle.sb_types.specs.Runs.{Stands}
 use Rattle.sb_types.specs.Lengths.{block_length, delta_length}
@@ -14,7 +14,7 @@ use Rattle.sb_types.specs.Text.{is_name}
 use Rattle.sb_types.specs.Limits.{are_owners_above, are_block_entries, are_delta_blocks, text_lt}
 use Rattle.sb_holdings.proofs.Lists.{right, taken}
 use Rattle.sb_budget.specs.declared.offered.Offered.{Offered}
-use Rattle.sb_budget.specs.Cut.{item_of, items_of_all, delta_at, frame_length, IsCut, CanCut}
+use Rattle.sb_budget.specs.Cut.{item_of, items_of_all, delta_at, IsCut, CanCut}
 use Rattle.sb_budget.specs.Gathered.{placed, cost_of}
 use Rattle.sb_budget.proofs.PlaceLemmas.{text_cmp, joined, are_ordered, ordered_above, placed_is_joined, placed_length, placed_some, joined_above, joined_ordered}
 use Rattle.sb_budget.proofs.GatherLemmas.{gathered, gathered_push, gathered_grows, AreKnown, after_of, all_known, gathered_good, delta_is_gathered}

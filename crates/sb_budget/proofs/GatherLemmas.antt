@@ -1,15 +1,15 @@
 -- The items of a front gathered by owner, and the delta that they make.
-use Rattle.std.proofs.Common.{◌≡◌, ℕ, zero, suc, ◌+◌, ◌<◌, ◌≤◌, ◌*◌, ◌-◌, Bool, true, false, cond, ◌&&◌, List, [], ◌∷◌, ◌++◌, length, take, drop, map, filter, get_or, ◌⊎◌, inl, inr, ⊎_elim, refl, sym, ap, ap₂, subst, ◌∙◌, arith, Some, Ordering, Less, Equal, Greater, true≢false, nat_eq, append-nil, append_assoc, take-append-drop}
+use Rattle.std.proofs.Common.{◌≡◌, ℕ, zero, suc, ◌≤◌, ◌*◌, Bool, true, false, cond, List, [], ◌∷◌, ◌++◌, length, take, drop, map, inl, inr, ⊎_elim, refl, sym, ap, ap₂, subst, ◌∙◌, arith, Ordering, Less, Equal, Greater, nat_eq, append-nil, append_assoc, take-append-drop}
 use Rattle.std.specs.Prelude.{sum_by, fold, All}
 use Rattle.std.specs.List.{AllByRecursion}
-use Rattle.std.specs.Ordering.{nat_cmp, match_ordering, ordering_reverse}
+use Rattle.std.specs.Ordering.{match_ordering}
 use Rattle.std.specs.Cmp.Lexicographic.{pointwise}
-use Rattle.std.proofs.lemmas.Bool.{and_parts, and_from, cond-true, cond-false, cases_Bool, false_from_ne_true, le-leb}
+use Rattle.std.proofs.lemmas.Bool.{and_parts, and_from, cond-true, cond-false, false_from_ne_true, le-leb}
 use Rattle.std.proofs.lemmas.Cmp.{nat_list_cmp_total}
-use Rattle.std.proofs.lemmas.List.{map-append, take-map, drop-map, take_at, length-map}
+use Rattle.std.proofs.lemmas.List.{map-append, take-map, drop-map, take_at}
 use Rattle.std.proofs.lemmas.List.Elements.{filter-append, recursion_from_All}
 use Rattle.std.proofs.lemmas.List.Folds.{fold-map}
-use Rattle.std.proofs.lemmas.List.Sums.{fold_push, sum_by-cons, sum_by-append, get_or-le-sum_by}
+use Rattle.std.proofs.lemmas.List.Sums.{fold_push, sum_by-cons}
 use Rattle.sb_types.specs.declared.limits.TheConstants.{ENTRIES_MOST}
 use Rattle.sb_types.specs.Records.{Entry, Block}
 use Rattle.sb_types.specs.Runs.{Stands, IsRun, last_version}
@@ -20,10 +20,10 @@ use Rattle.sb_holdings.proofs.Order.{run_front}
 use Rattle.sb_budget.specs.declared.offered.Offered.{Offered}
 use Rattle.sb_budget.specs.Offers.{Item, of_owner, entries_of, block_from, block_of}
 use Rattle.sb_budget.specs.Orders.{offered_by}
-use Rattle.sb_budget.specs.Cut.{item_of, items_of_all, with_name, owners_of, blocks_of, delta_at, IsPart, CanCut}
+use Rattle.sb_budget.specs.Cut.{item_of, items_of_all, with_name, blocks_of, delta_at, IsPart, CanCut}
 use Rattle.sb_budget.specs.Gathered.{grown, begun}
 use Rattle.sb_budget.proofs.NameLemmas.{some_of, unnamed_none, named_some}
-use Rattle.sb_budget.proofs.PlaceLemmas.{text_cmp, joined, are_ordered, same_from_Equal, Equal_from_same, Less_from_lt, lt_from_Less, lt_from_Greater, ordered_above, joined_ordered, joined_no_less}
+use Rattle.sb_budget.proofs.PlaceLemmas.{text_cmp, joined, are_ordered, same_from_Equal, Equal_from_same, Less_from_lt, lt_from_Less, ordered_above, joined_ordered, joined_no_less}
 
 abbrev is_of : List ℕ → Offered → Bool
 is_of owner o = pointwise nat_eq o.owner owner

@@ -1,11 +1,11 @@
 -- What is available of an owner, by what is held of it.
-use Rattle.std.proofs.Common.{◌≡◌, ℕ, Bool, true, false, cond, not, ◌&&◌, ◌||◌, List, [], ◌∷◌, ◌⊎◌, inl, inr, ⊎_elim, refl, sym, ap, subst, ◌∙◌, arith, Option, Some, None, nat_eq, nat_lt, T, Ordering, Less, Equal, true≢false, unwrap_or}
-use Rattle.std.specs.FinMap.{FinMap, get, entries, get-entries, entries_sorted, find, is_sorted}
+use Rattle.std.proofs.Common.{◌≡◌, ℕ, Bool, true, false, cond, ◌&&◌, ◌||◌, List, [], ◌∷◌, ◌⊎◌, inl, inr, refl, sym, ap, subst, ◌∙◌, arith, Option, Some, None, nat_eq, T, Ordering, Equal, true≢false, unwrap_or}
+use Rattle.std.specs.FinMap.{FinMap, entries, get-entries, entries_sorted, find, is_sorted}
 use Rattle.std.specs.FinMap.Entries.{below_all}
-use Rattle.std.specs.Ordering.{nat_cmp, is_lt, is_eq, eq_by_cmp}
-use Rattle.std.specs.Cmp.Lexicographic.{slice_cmp, pointwise, texts_ties}
+use Rattle.std.specs.Ordering.{is_lt, eq_by_cmp}
+use Rattle.std.specs.Cmp.Lexicographic.{pointwise, texts_ties}
 use Rattle.std.proofs.lemmas.Bool.{cases_Bool, cond-true, cond-false, false_from_ne_true, or_from, and_from, not_from_false, le-ltb}
-use Rattle.sb_types.specs.Records.{Table, Holder}
+use Rattle.sb_types.specs.Records.{Holder}
 use Rattle.sb_types.specs.Runs.{Stands}
 use Rattle.sb_holdings.specs.Held.{nothing, holder_of}
 use Rattle.sb_holdings.proofs.Lists.{same_text, text_same}

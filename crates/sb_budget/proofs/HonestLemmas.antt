@@ -5,7 +5,7 @@ use Rattle.sb_types.specs.Records.{Table, Block}
 use Rattle.sb_types.specs.Runs.{Stands, IsTable, IsBlock}
 use Rattle.sb_types.specs.Writes.{Holds, Honest}
 use Rattle.sb_budget.specs.Offers.{Item, of_owner, items_of, block_from, block_of}
-use Rattle.sb_budget.specs.Cut.{owners_of, blocks_of, delta_at, IsCut}
+use Rattle.sb_budget.specs.Cut.{owners_of, blocks_of, IsCut}
 use Rattle.sb_budget.proofs.OfferLemmas.{offer_is, offer_honest}
 use Rattle.sb_budget.proofs.NameLemmas.{named_some}
 

@@ -1,5 +1,5 @@
 -- The owners of a list, each once, in ascending order of their names.
-use Rattle.std.proofs.Common.{◌≡◌, ℕ, Bool, true, false, List, [], ◌∷◌, filter, ◌⊎◌, inl, inr, ⊎_elim, refl, subst, ◌∙◌, Ordering, Less, Equal, Greater, nat_eq}
+use Rattle.std.proofs.Common.{◌≡◌, ℕ, List, [], ◌∷◌, filter, ◌⊎◌, inl, inr, ⊎_elim, refl, subst, ◌∙◌, Ordering, Less, Equal, Greater, nat_eq}
 use Rattle.std.specs.Prelude.{fold}
 use Rattle.std.specs.Ordering.{match_ordering}
 use Rattle.std.specs.Cmp.Lexicographic.{pointwise}

@@ -1,11 +1,11 @@
 -- A list of what is offered, in another order.
-use Rattle.std.proofs.Common.{◌≡◌, ℕ, ◌+◌, ◌<◌, Bool, true, false, not, ◌&&◌, ◌||◌, List, [], ◌∷◌, length, filter, get_or, inl, inr, ◌⊎◌, ⊎_elim, refl, sym, ap, ap₂, ◌∙◌, arith, Ordering, Less, is_lt, true≢false, IsPermutation, IsSorted, nat_eq, nat_lt, if◌then◌else◌}
-use Rattle.std.specs.List.{All, AllByRecursion, AllPairs, IsDistinct}
+use Rattle.std.proofs.Common.{◌≡◌, ℕ, ◌+◌, ◌<◌, Bool, true, false, not, ◌&&◌, ◌||◌, List, [], ◌∷◌, get_or, inl, inr, ◌⊎◌, ⊎_elim, refl, sym, ap, ap₂, ◌∙◌, arith, Ordering, Less, is_lt, true≢false, IsPermutation, IsSorted, nat_eq, nat_lt, if◌then◌else◌}
+use Rattle.std.specs.List.{AllByRecursion}
 use Rattle.std.specs.List.Sorted.{IsStrictlySortedBy}
 use Rattle.std.specs.Cmp.{IsTotalOrder}
 use Rattle.std.specs.Cmp.Lexicographic.{pointwise}
 use Rattle.std.specs.Ordering.{on, nat_cmp}
-use Rattle.std.proofs.lemmas.Bool.{and_parts, and_from, and_cases, or_cases, or_left, or_right, ltb-true, lt-ltb, eqb-true, eq-eqb, cases_Bool, not_from_true, not_from_false, cond-true}
+use Rattle.std.proofs.lemmas.Bool.{and_parts, and_from, and_cases, or_cases, or_left, ltb-true, lt-ltb, eqb-true, eq-eqb, not_from_true, cond-true}
 use Rattle.std.proofs.lemmas.Cmp.{nat_cmp_total, on_total, lists_equiv, nat_eq_equiv}
 use Rattle.std.proofs.lemmas.List.Elements.{filter_passes, recursion_from_All}
 use Rattle.std.proofs.lemmas.List.Kept.{AllPairs-filter}

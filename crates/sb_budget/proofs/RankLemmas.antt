@@ -1,5 +1,5 @@
 -- One owner's items with their ranks.
-use Rattle.std.proofs.Common.{◌≡◌, ℕ, zero, suc, ◌+◌, ◌<◌, ◌≤◌, Bool, true, false, cond, List, [], ◌∷◌, ◌++◌, length, map, get_or, ◌⊎◌, inl, inr, ⊎_elim, refl, sym, ap, subst, ◌∙◌, arith, nat_lt, Some}
+use Rattle.std.proofs.Common.{◌≡◌, ℕ, zero, suc, ◌+◌, ◌<◌, ◌≤◌, Bool, true, false, cond, List, [], ◌∷◌, length, map, ◌⊎◌, inl, inr, ⊎_elim, refl, sym, ap, subst, ◌∙◌, arith, nat_lt, Some}
 use Rattle.std.specs.Prelude.{count_by, All, AllPairs}
 use Rattle.std.proofs.lemmas.Bool.{and_parts, ltb-true, lt-ltb, le-ltb, false_from_ne_true, cond-true, cond-false}
 use Rattle.std.proofs.lemmas.List.Kept.{AllPairs-cons}
@@ -10,8 +10,7 @@ use Rattle.sb_table.specs.Plain.{IsPlainTable}
 use Rattle.sb_holdings.proofs.Lists.{in_above, of_above}
 use Rattle.sb_holdings.proofs.Order.{ascending_kept, greatest, run_above, run_upto}
 use Rattle.sb_budget.specs.declared.offered.Offered.{Offered}
-use Rattle.sb_budget.specs.Offers.{Item, items_from, items_of}
-use Rattle.sb_budget.specs.Cut.{item_of, items_of_all, IsPart}
+use Rattle.sb_budget.specs.Cut.{items_of_all, IsPart}
 use Rattle.sb_budget.specs.Available.{ranked_from, ranked_of}
 use Rattle.sb_budget.proofs.OrderLemmas.{Before}
 use Rattle.sb_budget.proofs.GatherLemmas.{entries_in}

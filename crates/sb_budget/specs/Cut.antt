@@ -3,7 +3,7 @@ use Rattle.std.specs.Prelude.{◌≡◌, ℕ, ◌+◌, ◌≤◌, ◌<◌, List,
 use Rattle.std.specs.Ordering.{nat_cmp, match_ordering}
 use Rattle.std.specs.Cmp.Lexicographic.{slice_cmp}
 use Rattle.sb_types.specs.declared.limits.TheConstants.{HEADER_LENGTH}
-use Rattle.sb_types.specs.Records.{Entry, Block}
+use Rattle.sb_types.specs.Records.{Block}
 use Rattle.sb_types.specs.Runs.{IsRun, last_version}
 use Rattle.sb_types.specs.Lengths.{delta_length}
 use Rattle.sb_budget.specs.declared.offered.Offered.{Offered}

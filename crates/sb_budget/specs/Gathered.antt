@@ -1,5 +1,5 @@
 -- Entries gathered by owner, each owner's as the block that they would make.
-use Rattle.std.specs.Prelude.{ℕ, ◌+◌, Bool, if◌then◌else◌, List, [], ◌∷◌, ◌++◌, length, slice_index_or, slice_set, insert, Result, Ok, Err}
+use Rattle.std.specs.Prelude.{ℕ, ◌+◌, List, [], ◌∷◌, ◌++◌, length, slice_index_or, slice_set, insert, Result, Ok, Err}
 use Rattle.sb_types.specs.Records.{Entry, Block}
 use Rattle.sb_types.specs.Lengths.{entry_length}
 use Rattle.sb_types.specs.Limits.{block_of_entries}

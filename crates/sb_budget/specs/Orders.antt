@@ -1,5 +1,5 @@
 -- What is offered, and what an order of it keeps.
-use Rattle.std.specs.Prelude.{◌≡◌, ℕ, ◌<◌, nat_eq, List, filter, Some, AllPairs}
+use Rattle.std.specs.Prelude.{◌≡◌, ℕ, ◌<◌, nat_eq, List, filter, AllPairs}
 use Rattle.std.specs.Cmp.Lexicographic.{pointwise}
 use Rattle.sb_budget.specs.declared.offered.Offered.{Offered}
 

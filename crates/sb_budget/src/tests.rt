@@ -40,10 +40,40 @@ fn two_owners(alloc: Global) -> Result<Holdings, Fault> {
     let mut holdings = Holdings::new(alloc, Name::read(b"a")?, table)?;
     let entry = longest_value(alloc, &[b'x'; 64], 1)?;
     let block = Block::new(Name::read(b"b")?, 0, vec![in alloc; entry]?)?;
-    match holdings.apply_block(&block) {
-        BlockEnd::Taken(1) => Ok(holdings),
-        _ => Err(Fault::NoMemory),
+    apply(&mut holdings, &block)?;
+    Ok(holdings)
+}
+
+/// How the block ended, where there was memory for it.
+fn apply(holdings: &mut Holdings, block: &Block) -> Result<BlockEnd, Fault> {
+    match holdings.apply_block(block) {
+        BlockEnd::NoMemory(_) => Err(Fault::NoMemory),
+        end => Ok(end),
     }
+}
+
+/// The version under a key.
+fn version_at(holdings: &Holdings, owner: &Name, key: &[u8]) -> Result<Option<u64>, Fault> {
+    let key = Key::read(key)?;
+    let Some(table) = holdings.table(owner) else {
+        return Ok(None);
+    };
+    match table.get(&key) {
+        Some((version, _)) => Ok(Some(version)),
+        None => Ok(None),
+    }
+}
+
+/// The digest of all names, with these owners held up to these versions.
+fn digest_of(alloc: Global, held: &[(Name, u64)]) -> Result<Digest, Fault> {
+    let mut pairs = Vec::new(alloc);
+    for (owner, version) in held {
+        pairs.push(Pair {
+            owner: *owner,
+            version: *version,
+        })?;
+    }
+    Digest::new(false, None, None, pairs)
 }
 
 /// All that is held, cut to the budget.
@@ -69,20 +99,31 @@ fn told(alloc: Global, delta: &Delta) -> Result<Vec<(Name, u64)>, Fault> {
 #[test]
 fn an_entry_that_does_not_fit_waits(rt: HostRuntime) -> Result<(), Fail> {
     let alloc = rt.alloc();
+    let a = Name::read(b"a")?;
     let delta = cut_of_all(alloc, &three_writes(alloc)?, 256)?;
     // A frame of 161 bytes.
     assert_eq!(rt; delta.encoded_length(), 155);
     assert_eq!(rt; delta.blocks().len(), 1);
     for block in delta.blocks() {
-        assert_eq!(rt; block.owner().bytes(), b"a".as_slice());
-        assert_eq!(rt; block.after(), 0);
-        assert_eq!(rt; block.upto(), 2);
+        assert_eq!(rt; *block.owner(), a);
+        assert_eq!(rt; (block.after(), block.upto()), (0, 2));
         assert_eq!(rt; block.entries().len(), 1);
         for entry in block.entries() {
             assert_eq!(rt; entry.key().bytes(), b"y".as_slice());
             assert_eq!(rt; entry.version(), 2);
         }
+        let mut peer = Holdings::new(alloc, Name::read(b"b")?, Table::new(alloc))?;
+        assert_eq!(rt; apply(&mut peer, block)?, BlockEnd::Taken(1));
+        assert_eq!(rt; peer.upto(&a), 2);
+        assert_eq!(rt; version_at(&peer, &a, b"y")?, Some(2));
+        assert_eq!(rt; version_at(&peer, &a, b"x")?, None);
     }
+    Ok(())
+}
+
+#[test]
+fn an_entry_waits_until_it_fits(rt: HostRuntime) -> Result<(), Fail> {
+    let alloc = rt.alloc();
     // The whole has a frame of 301 bytes.
     assert_eq!(rt;
         cut_of_all(alloc, &three_writes(alloc)?, 300)?.encoded_length(),
@@ -144,13 +185,7 @@ fn items_tell_their_place(rt: HostRuntime) -> Result<(), Fail> {
     let a = Name::read(b"a")?;
     let b = Name::read(b"b")?;
     let holdings = two_owners(alloc)?;
-    let pairs = vec![in alloc;
-        Pair {
-            owner: a,
-            version: 1
-        },
-    ]?;
-    let digest = Digest::new(false, None, None, pairs)?;
+    let digest = digest_of(alloc, &[(a, 1)])?;
     let places = [(a, 1, 3, 0, 2, 2), (a, 1, 3, 1, 2, 3), (b, 0, 1, 0, 1, 1)];
     let offered = available(alloc, &holdings, &digest)?;
     assert_eq!(rt; offered.len(), 3);
@@ -182,17 +217,7 @@ fn what_a_digest_leaves(rt: HostRuntime) -> Result<(), Fail> {
     let of_a = available(alloc, &holdings, &below)?;
     assert_eq!(rt; of_a.len(), 3);
     assert!(rt; of_a.iter().all(|item| item.owner == a));
-    let pairs = vec![in alloc;
-        Pair {
-            owner: a,
-            version: 3
-        },
-        Pair {
-            owner: b,
-            version: 1
-        },
-    ]?;
-    let none = Digest::new(false, None, None, pairs)?;
+    let none = digest_of(alloc, &[(a, 3), (b, 1)])?;
     let delta = cut(alloc, available(alloc, &holdings, &none)?, 256)?;
     assert_eq!(rt; delta.blocks().len(), 0);
     // A frame of 9 bytes.

@@ -1,7 +1,7 @@
 //! The order that sends one owner whole before the next, the owner with most to send first.
 #![tactic(auto)]
 
-ghost use Rattle.std.specs.Prelude.{◌≡◌, IfOk, IfErr, IsPermutation, IsSorted};
+ghost use Rattle.std.specs.Prelude.{◌≡◌, IfOk, IfErr, IsOk, IsPermutation, IsSorted};
 ghost use Rattle.sb_budget.specs.Orders.{IsOffer, AscendsByOwner};
 ghost use Rattle.sb_depth.specs.Depth.{by_count};
 
@@ -17,6 +17,7 @@ pub struct Depth;
 impl DeltaOrder for Depth {
     fn arrange(&self, _alloc: Global, mut items: Vec<Offered>) -> Result<Vec<Offered>, Fault>
         requires { IsOffer items.items }
+        ensures whole { IsOk result }
         ensures each_once { IfOk result (λ ordered. IsPermutation items.items ordered.items) }
         ensures ascending { IfOk result (λ ordered. AscendsByOwner ordered.items) }
         ensures order { IfOk result (λ ordered. IsSorted by_count ordered.items) }

@@ -28,7 +28,7 @@ fn three_keys_and(alloc: Global, first: Name, others: &[Name]) -> Result<Holding
     for owner in others {
         let entry = longest_entry(alloc, b'x', 1)?;
         let block = Block::new(*owner, 0, vec![in alloc; entry]?)?;
-        if holdings.apply_block(&block) != BlockEnd::Taken(1) {
+        if let BlockEnd::NoMemory(_) = holdings.apply_block(&block) {
             return Err(Fault::NoMemory);
         }
     }

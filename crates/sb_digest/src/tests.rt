@@ -45,6 +45,7 @@ fn lengths_of_frames(rt: HostRuntime) -> Result<(), Fail> {
     let (five, sixth) = owners.split_at(5);
     let first = Digest::new(true, None, Some(owners[5]), pairs(alloc, five)?)?;
     assert_eq!(rt; first.encoded_length(), 243);
+    assert_eq!(rt; first.next_from(), Some(owners[5]));
     let next = Digest::new(true, first.next_from(), None, pairs(alloc, sixth)?)?;
     assert_eq!(rt; next.encoded_length(), 79);
     let all = Digest::new(false, None, None, pairs(alloc, &owners)?)?;
@@ -142,6 +143,7 @@ fn a_new_node_tells_of_itself(rt: HostRuntime) -> Result<(), Fail> {
             .iter()
             .all(|pair| pair.owner == a && pair.version == 0)
     );
+    assert_eq!(rt; digest.next_from(), None);
     assert_eq!(rt; digest.encoded_length(), 16);
 
     let rest = asked(alloc, &holdings, Some(&b), 256)?;
@@ -270,6 +272,7 @@ fn six_owners_take_two_digests(rt: HostRuntime) -> Result<(), Fail> {
     let first = asked(alloc, &holdings, None, 256)?;
     assert_eq!(rt; first.pairs().len(), 5);
     assert_eq!(rt; first.until(), Some(owners[5]));
+    assert_eq!(rt; first.next_from(), Some(owners[5]));
     assert_eq!(rt; first.encoded_length(), 243);
     assert_eq!(rt; first.number(&owners[0]), 0);
     assert_eq!(rt; first.number(&owners[4]), 1);
@@ -277,16 +280,17 @@ fn six_owners_take_two_digests(rt: HostRuntime) -> Result<(), Fail> {
     let next = asked(alloc, &holdings, first.next_from().as_ref(), 256)?;
     assert_eq!(rt; next.from(), Some(owners[5]));
     assert_eq!(rt; next.pairs().len(), 1);
-    assert_eq!(rt; next.until(), None);
+    assert_eq!(rt; (next.until(), next.next_from()), (None, None));
     assert_eq!(rt; next.encoded_length(), 79);
 
     let five = asked(alloc, &holdings, None, 257)?;
     assert_eq!(rt; five.pairs().len(), 5);
     assert_eq!(rt; five.until(), Some(owners[5]));
+    assert_eq!(rt; five.next_from(), Some(owners[5]));
 
     let all = asked(alloc, &holdings, None, 258)?;
     assert_eq!(rt; all.pairs().len(), 6);
-    assert_eq!(rt; all.until(), None);
+    assert_eq!(rt; (all.until(), all.next_from()), (None, None));
     assert_eq!(rt; all.encoded_length(), 252);
     Ok(())
 }
@@ -305,12 +309,14 @@ fn seven_owners_take_two_digests(rt: HostRuntime) -> Result<(), Fail> {
     let first = asked(alloc, &holdings, None, 256)?;
     assert_eq!(rt; first.pairs().len(), 5);
     assert_eq!(rt; first.until(), Some(owners[5]));
+    assert_eq!(rt; first.next_from(), Some(owners[5]));
     assert_eq!(rt; first.encoded_length(), 243);
     assert!(rt; first.covers(&owners[4]) && !first.covers(&owners[5]));
 
     let next = asked(alloc, &holdings, first.next_from().as_ref(), 256)?;
     assert_eq!(rt; next.pairs().len(), 2);
     assert_eq!(rt; (next.from(), next.until()), (Some(owners[5]), None));
+    assert_eq!(rt; next.next_from(), None);
     assert_eq!(rt; next.encoded_length(), 120);
     assert_eq!(rt; (next.number(&owners[5]), next.number(&seventh)), (1, 0));
     Ok(())

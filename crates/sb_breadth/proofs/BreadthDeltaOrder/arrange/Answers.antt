@@ -1,5 +1,5 @@
-use Rattle.std.proofs.Common.{◌≡◌, ℕ, ◌<◌, List, Ordering, Less, rules, ap}
-use Rattle.std.specs.Ordering.{nat_cmp, ordering_then, then_cmp, on}
+use Rattle.std.proofs.Common.{◌≡◌, Less, rules, ap}
+use Rattle.std.specs.Ordering.{nat_cmp, ordering_then}
 use Rattle.std.specs.Cmp.{IsTotalOrder}
 use Rattle.std.specs.Cmp.Lexicographic.{slice_cmp}
 use Rattle.std.proofs.lemmas.Bool.{lt-ltb, cond-true}

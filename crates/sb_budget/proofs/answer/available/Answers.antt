@@ -1,15 +1,13 @@
-use Rattle.std.proofs.Common.{◌≡◌, List, [], ◌++◌, None, sym, ap, subst, ◌∙◌}
+use Rattle.std.proofs.Common.{None, sym, ap, subst, ◌∙◌}
 use Rattle.std.specs.List.Sorted.{IsStrictlySortedBy}
 use Rattle.std.specs.Map.{keys_of}
-use Rattle.sb_types.specs.Records.{Table}
 use Rattle.sb_holdings.specs.Plain.{tables_from}
 use Rattle.sb_digest.specs.Digests.{covers, number}
-use Rattle.sb_budget.specs.declared.offered.Offered.{Offered}
 use Rattle.sb_budget.specs.Available.{AreRanked}
 use Rattle.sb_budget.specs.Cut.{items_of_all, CanCut}
 use Rattle.sb_budget.specs.Orders.{IsOffer}
 use Rattle.sb_budget.proofs.PlaceLemmas.{text_cmp}
-use Rattle.sb_budget.proofs.AvailableLemmas.{all_parts, all_made, items_held, plain_tables, can_cut, is_offer, are_ranked}
+use Rattle.sb_budget.proofs.AvailableLemmas.{all_made, items_held, plain_tables, can_cut, is_offer, are_ranked}
 use Rattle.sb_budget.proofs.answer.available.Goals as goal
 
 pub returns-clause-items : goal.returns-clause-items

@@ -1,11 +1,10 @@
-use Rattle.std.proofs.Common.{◌≡◌, ℕ, ◌+◌, ◌<◌, ◌∷◌, ◌++◌, suc, length, drop, List, [], append-nil, Some, sym, ap, subst, ◌∙◌, arith, rules, true}
+use Rattle.std.proofs.Common.{◌∷◌, ◌++◌, length, List, [], append-nil, sym, subst, ◌∙◌, arith}
 use Rattle.std.specs.List.Sorted.{IsSearchInRange, IsBinarySearchResult}
 use Rattle.std.proofs.lemmas.Iterator.Adapters.{YieldsList-from_vec}
 use Rattle.std.proofs.lemmas.Iterator.Consumers.{YieldsList-so_far, YieldsList-turn, YieldsList-end}
 use Rattle.std.proofs.lemmas.List.{map-id}
 use Rattle.sb_types.specs.Records.{Block}
-use Rattle.sb_budget.specs.declared.offered.Offered.{Offered}
-use Rattle.sb_budget.specs.Gathered.{cost_of, placed}
+use Rattle.sb_budget.specs.Gathered.{placed}
 use Rattle.sb_budget.proofs.PlaceLemmas.{text_cmp}
 use Rattle.sb_budget.proofs.CutLemmas.{IsGathering, cut_here, cut_of_all, blocks_good, gathering_more, at_turn, room_short, name_above}
 use Rattle.sb_budget.proofs.delta.gather.Goals as goal

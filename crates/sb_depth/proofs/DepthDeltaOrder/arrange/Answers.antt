@@ -1,4 +1,4 @@
-use Rattle.std.proofs.Common.{◌≡◌, Ordering, Less, Equal, rules, sym, ap, ap₂, ◌∙◌}
+use Rattle.std.proofs.Common.{◌≡◌, Less, Equal, rules, sym, ap, ap₂, ◌∙◌}
 use Rattle.std.specs.Ordering.{nat_cmp, ordering_then}
 use Rattle.std.specs.Cmp.{IsTotalOrder}
 use Rattle.std.specs.Cmp.Lexicographic.{slice_cmp}
