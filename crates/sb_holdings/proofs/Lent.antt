@@ -1,5 +1,5 @@
 -- Holdings of which one table was lent and changed.
-use Rattle.std.proofs.Common.{◌≡◌, ℕ, ◌+◌, ◌≤◌, ◌<◌, ◌^◌, Bool, true, false, cond, not, ◌||◌, ◌==◌, List, [], ◌∷◌, length, length-append, Option, Some, None, IfSome, is_some, unwrap_or, Result, Ok, Err, OnOk, OnErr, refl, sym, ap, subst, ◌∙◌, nat_eq, nat_lt, arith, eq-eqb}
+use Rattle.std.proofs.Common.{◌≡◌, ℕ, ◌+◌, ◌≤◌, ◌<◌, ◌^◌, Bool, true, false, cond, not, ◌||◌, ◌==◌, List, [], ◌∷◌, length, length-append, Option, Some, None, IfSome, is_some, unwrap_or, Result, Ok, Err, OnOk, OnErr, IfErr, refl, sym, ap, subst, ◌∙◌, nat_eq, nat_lt, arith, eq-eqb}
 use Rattle.std.proofs.lemmas.Bool.{cond-true, cond-false, or_left, and_parts, leb-true}
 use Rattle.std.proofs.lemmas.List.{nil_from_length}
 use Rattle.std.proofs.lemmas.Map.Steps.{set_value_same}
@@ -138,6 +138,19 @@ own_answer-lent held me tables t up at view e next =
     let shown = shown-found me me tables t up at in
     sym (own_answer-next (held_of me tables) e (next ∙ ap (λ (u : Table). next_version u.held) (sym shown)) ∙ ap (λ (u : Table). cond (is_full_for e.key u.entries) (Err TableFull) (Ok tt)) shown)
     ∙ ap (λ (h : Held). own_answer h e) view
+
+abbrev Refused : Result (Unit {0}) Fault → Result (Unit {0}) Fault → Type 0
+Refused r want = IfErr want (λ fault. r ≡ Err fault)
+
+full-refused : (full : Bool) (r : Result (Unit {0}) Fault) → (full ≡ true → r ≡ Err TableFull) → Refused r (cond full (Err TableFull) (Ok tt))
+full-refused true r is = is refl
+full-refused false r is = tt
+
+-- what the own table refuses is refused, be there memory or not
+pub refused-lent : (held : Held) (me : List ℕ) (tables : List (List ℕ × Table)) (t : Table) → Ascend tables → found tables me ≡ Some t → held_of me tables ≡ held → (e : Entry) → e.version ≡ next_version t.held →
+    (r : Result (Unit {0}) Fault) → (is_full_for e.key t.entries ≡ true → r ≡ Err TableFull) → Refused r (own_answer held e)
+refused-lent held me tables t up at view e next r full =
+    subst (Refused r) (own_answer-lent held me tables t up at view e next) (full-refused (is_full_for e.key t.entries) r full)
 
 module _ (held : Held) (me : List ℕ) (old new : BTreeMap (List ℕ) Table) (t w : Table) (up : Ascend old.entries) (at : found old.entries me ≡ Some t) (through : WritesThrough by_text (by_text me) old w new)
     (is : IsHoldings (held_of me old.entries)) (view : held_of me old.entries ≡ held) (e : Entry) where
