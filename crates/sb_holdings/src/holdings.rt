@@ -95,6 +95,7 @@ impl Holdings {
     {
         Owners::new(self.tables.keys())
     }
+
     /// The owners from a name on, or all of them, in ascending order of their names, each with its table.
     pub fn tables_from(&self, first: Option<&Name>) -> Tables<'_>
         ensures tables { result ≡ tables_from (option_copied first.entry) self.now }
@@ -107,6 +108,7 @@ impl Holdings {
         };
         Tables::new(self.tables.range((start, Bound::Unbounded)))
     }
+
     /// Enters an own write. `OutOfTurn` with the next own version, or 0 where there is none, unless the write
     /// has that version; `TableFull` where its key is new beside 4,096 others; then `NoMemory`. Each leaves
     /// everything as it was.
