@@ -6,7 +6,7 @@ use Rattle.std.proofs.lemmas.Map.Steps.{set_value_same}
 use Rattle.std.specs.Option.{option_map}
 use Rattle.std.specs.BTreeMap.{BTreeMap, WritesThrough, Updates}
 use Rattle.std.specs.Cmp.Lexicographic.{pointwise}
-use Rattle.std.specs.FinMap.{get, contains_key, len, insert}
+use Rattle.std.specs.FinMap.{get, contains_key, len}
 use Rattle.sb_types.specs.declared.limits.TheConstants.{OWNERS_MOST}
 use Rattle.sb_types.specs.declared.fault.Fault.{Fault}
 use Rattle.sb_types.specs.declared.fault.Fault.TheVariants.{OutOfTurn, TableFull}
@@ -19,7 +19,7 @@ use Rattle.sb_holdings.specs.Shown.{own}
 use Rattle.sb_holdings.specs.Plain.{alone, held_of, with_entries, with_entered, IsHoldings, next_version, own_answer}
 use Rattle.sb_holdings.specs.Ends.{has_place}
 use Rattle.sb_holdings.proofs.ByOwner.{by_text, Ascend, found, get-held_of, len-held_of}
-use Rattle.sb_holdings.proofs.Changed.{shown-plain, holder-alone, with_owner-some, with_owner-nothing, held_of-with, IsHoldings-with}
+use Rattle.sb_holdings.proofs.Changed.{shown-plain, holder-alone, with_owner-some, with_owner-nothing, held_of-with, IsHoldings-with, with_own}
 use Rattle.sb_holdings.proofs.Entering.{one_by_one}
 
 module _ (me owner : List ℕ) (tables : List (List ℕ × Table)) (t : Table) (up : Ascend tables) (at : found tables owner ≡ Some t) where
@@ -113,9 +113,6 @@ has_place-found held me owner tables up view =
 
 pub found-own : (me : List ℕ) (tables : List (List ℕ × Table)) → Ascend tables → IsHoldings (held_of me tables) → is_some (found tables me) ≡ true
 found-own me tables up is = sym (is_some-map alone (found tables me)) ∙ ap is_some (sym (get-held_of me tables up me)) ∙ is.own
-
-abbrev with_own : Held → Holder → Held
-with_own held h = record { me = held.me; owners = insert held.owners held.me h }
 
 pub written-next : (held : Held) (e : Entry) → IsHoldings held → e.version ≡ (shown_of held held.me).held + 1 → written held e ≡ with_owner held held.me (alone (with_entry (shown_of held held.me) e))
 written-next held e is next =
