@@ -1,6 +1,6 @@
 -- Holdings in which one owner's table is changed.
-use Rattle.std.proofs.Common.{◌≡◌, ℕ, ◌+◌, ◌≤◌, ◌<◌, Bool, true, false, cond, ◌&&◌, ◌||◌, List, length, Option, Some, None, IfSome, is_some, unwrap_or, refl, sym, ap, subst, ◌∙◌, nat_eq, nat_lt, arith, ltb-true}
-use Rattle.std.proofs.lemmas.Bool.{cond_both, cond-false}
+use Rattle.std.proofs.Common.{◌≡◌, ℕ, ◌+◌, ◌≤◌, ◌<◌, Bool, true, false, cond, ◌&&◌, ◌||◌, List, length, Option, Some, None, IfSome, is_some, unwrap_or, refl, sym, ap, subst, ◌∙◌, nat_eq, nat_lt, arith, ltb-true, eqb-true}
+use Rattle.std.proofs.lemmas.Bool.{cond_both, cond-false, false_from_ne_true, false≢true}
 use Rattle.std.proofs.lemmas.Bool.Decides.{nat_tests}
 use Rattle.std.proofs.lemmas.Cmp.{nat_list_cmp_total}
 use Rattle.std.specs.Option.{option_map}
@@ -10,10 +10,10 @@ use Rattle.std.specs.Cmp.{eq_by_cmp_equiv}
 use Rattle.std.specs.Cmp.Lexicographic.{texts_ties}
 use Rattle.std.specs.FinMap.{FinMap, get, contains_key, len, insert, remove, get-insert, get-remove, len-insert, same_map, slice_cmp-IsAntisymmetric, nat_cmp-IsAntisymmetric}
 use Rattle.sb_types.specs.declared.limits.TheConstants.{OWNERS_MOST}
-use Rattle.sb_types.specs.Records.{Table, Holder}
+use Rattle.sb_types.specs.Records.{Entry, Table, Holder}
 use Rattle.sb_types.specs.Writes.{IsHolder}
 use Rattle.sb_table.specs.Plain.{IsPlainTable}
-use Rattle.sb_holdings.specs.Held.{Held, nothing, is_nothing, holder_of, shown_of, with_owner}
+use Rattle.sb_holdings.specs.Held.{Held, nothing, is_nothing, holder_of, shown_of, with_owner, written}
 use Rattle.sb_holdings.specs.Plain.{alone, held_of, IsPlainHolder, IsHoldings}
 use Rattle.sb_holdings.specs.Ends.{has_place}
 use Rattle.sb_holdings.proofs.Lists.{same_text}
@@ -102,3 +102,27 @@ held_of-with me owner t old new up up_new some changed =
     ∙ ap (cond (eq_by_cmp by_text q owner) (Some (alone t))) (sym (get-held_of me old up q))
     ∙ sym (got (held_of me old) owner t some q)))
     ∙ sym (with_owner-some (held_of me old) owner t some)
+
+-- ---- an own write
+
+abbrev pub with_own : Held → Holder → Held
+with_own held h = record { me = held.me; owners = insert held.owners held.me h }
+
+stands : (o : Option Holder) → is_some o ≡ true → Some (unwrap_or o nothing) ≡ o
+stands None there = absurd (false≢true there)
+stands (Some h) there = refl
+
+-- what is held of the own name, put back
+with_own-same : (held : Held) → IsHoldings held → with_own held (holder_of held.owners held.me) ≡ held
+with_own-same held is =
+    let h = holder_of held.owners held.me in
+    ap (λ (m : FinMap by_text Holder). let new : Held = record { me = held.me; owners = m } in new)
+    (same_owners (insert held.owners held.me h) held.owners (λ q. get-insert nat_list_cmp_total held.owners held.me h q
+    ∙ cond_both (eq_by_cmp by_text q held.me) (Some h) (get held.owners q) (λ (o : Option Holder). o ≡ get held.owners q)
+    (λ tied. stands (get held.owners held.me) is.own ∙ sym (ap (get held.owners) (same_text q held.me (texts_ties q held.me ∙ tied)))) (λ _. refl)))
+
+pub written-unfit : (held : Held) (e : Entry) → IsHoldings held → (e.version ≡ (shown_of held held.me).held + 1 → ⊥) → written held e ≡ held
+written-unfit held e is unfit =
+    let h = holder_of held.owners held.me in
+    ap (with_own held) (cond-false (nat_eq e.version (h.shown.held + 1)) _ h (false_from_ne_true _ (λ same. unfit (eqb-true e.version (h.shown.held + 1) same))))
+    ∙ with_own-same held is

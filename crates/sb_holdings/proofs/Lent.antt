@@ -1,5 +1,5 @@
 -- Holdings of which one table was lent and changed.
-use Rattle.std.proofs.Common.{◌≡◌, ℕ, ◌+◌, ◌≤◌, ◌<◌, ◌^◌, Bool, true, false, cond, not, ◌||◌, ◌==◌, List, [], ◌∷◌, length, length-append, Option, Some, None, IfSome, is_some, unwrap_or, Result, Ok, Err, OnOk, OnErr, refl, sym, ap, subst, ◌∙◌, nat_eq, nat_lt, arith, eq-eqb}
+use Rattle.std.proofs.Common.{◌≡◌, ℕ, ◌+◌, ◌≤◌, ◌<◌, ◌^◌, Bool, true, false, cond, not, ◌||◌, ◌==◌, List, [], ◌∷◌, length, length-append, Option, Some, None, IfSome, is_some, unwrap_or, Result, Ok, Err, OnOk, OnErr, IfErr, refl, sym, ap, subst, ◌∙◌, nat_eq, nat_lt, arith, eq-eqb}
 use Rattle.std.proofs.lemmas.Bool.{cond-true, cond-false, or_left, and_parts, leb-true}
 use Rattle.std.proofs.lemmas.List.{nil_from_length}
 use Rattle.std.proofs.lemmas.Map.Steps.{set_value_same}
@@ -19,7 +19,7 @@ use Rattle.sb_holdings.specs.Shown.{own}
 use Rattle.sb_holdings.specs.Plain.{alone, held_of, with_entries, with_entered, IsHoldings, next_version, own_answer}
 use Rattle.sb_holdings.specs.Ends.{has_place}
 use Rattle.sb_holdings.proofs.ByOwner.{by_text, Ascend, found, get-held_of, len-held_of}
-use Rattle.sb_holdings.proofs.Changed.{shown-plain, holder-alone, with_owner-nothing, held_of-with, IsHoldings-with}
+use Rattle.sb_holdings.proofs.Changed.{shown-plain, holder-alone, with_owner-some, with_owner-nothing, held_of-with, IsHoldings-with, with_own}
 use Rattle.sb_holdings.proofs.Entering.{one_by_one}
 
 module _ (me owner : List ℕ) (tables : List (List ℕ × Table)) (t : Table) (up : Ascend tables) (at : found tables owner ≡ Some t) where
@@ -116,8 +116,10 @@ found-own me tables up is = sym (is_some-map alone (found tables me)) ∙ ap is_
 
 pub written-next : (held : Held) (e : Entry) → IsHoldings held → e.version ≡ (shown_of held held.me).held + 1 → written held e ≡ with_owner held held.me (alone (with_entry (shown_of held held.me) e))
 written-next held e is next =
-    ap (λ (h : Holder). with_owner held held.me (own h e)) (holder-alone held is held.me)
-    ∙ ap (with_owner held held.me) (cond-true (nat_eq e.version ((shown_of held held.me).held + 1)) _ (alone (shown_of held held.me)) (eq-eqb e.version _ next))
+    let t = shown_of held held.me in
+    ap (λ (h : Holder). with_own held (own h e)) (holder-alone held is held.me)
+    ∙ ap (with_own held) (cond-true (nat_eq e.version (t.held + 1)) (alone (with_entry t e)) (alone t) (eq-eqb e.version _ next))
+    ∙ sym (with_owner-some held held.me (with_entry t e) (omega (arith, length-append (without (e ∷ []) t.entries) (e ∷ []))))
 
 next-version : (version held : ℕ) → held < 2 ^ 64 → 1 ≤ version → version ≡ next_version held → version ≡ held + 1
 next-version version held fits counted next = omega arith
@@ -138,6 +140,19 @@ own_answer-lent held me tables t up at view e next =
     let shown = shown-found me me tables t up at in
     sym (own_answer-next (held_of me tables) e (next ∙ ap (λ (u : Table). next_version u.held) (sym shown)) ∙ ap (λ (u : Table). cond (is_full_for e.key u.entries) (Err TableFull) (Ok tt)) shown)
     ∙ ap (λ (h : Held). own_answer h e) view
+
+abbrev Refused : Result (Unit {0}) Fault → Result (Unit {0}) Fault → Type 0
+Refused r want = IfErr want (λ fault. r ≡ Err fault)
+
+full-refused : (full : Bool) (r : Result (Unit {0}) Fault) → (full ≡ true → r ≡ Err TableFull) → Refused r (cond full (Err TableFull) (Ok tt))
+full-refused true r is = is refl
+full-refused false r is = tt
+
+-- what the own table refuses is refused, be there memory or not
+pub refused-lent : (held : Held) (me : List ℕ) (tables : List (List ℕ × Table)) (t : Table) → Ascend tables → found tables me ≡ Some t → held_of me tables ≡ held → (e : Entry) → e.version ≡ next_version t.held →
+    (r : Result (Unit {0}) Fault) → (is_full_for e.key t.entries ≡ true → r ≡ Err TableFull) → Refused r (own_answer held e)
+refused-lent held me tables t up at view e next r full =
+    subst (Refused r) (own_answer-lent held me tables t up at view e next) (full-refused (is_full_for e.key t.entries) r full)
 
 module _ (held : Held) (me : List ℕ) (old new : BTreeMap (List ℕ) Table) (t w : Table) (up : Ascend old.entries) (at : found old.entries me ≡ Some t) (through : WritesThrough by_text (by_text me) old w new)
     (is : IsHoldings (held_of me old.entries)) (view : held_of me old.entries ≡ held) (e : Entry) where

@@ -48,18 +48,25 @@ module _ (owners : FinMap (slice_cmp nat_cmp) Holder) (owner : List ℕ) (h : Ho
   same_test : (q : List ℕ) → eq_by_cmp (slice_cmp nat_cmp) q owner ≡ pointwise nat_eq q owner
   same_test q = sym (lists_ties nat_cmp unsigned_ties q owner)
 
-  holder_of_with : (q : List ℕ) → holder_of (with_holder owners owner h) q ≡ cond (pointwise nat_eq q owner) h (holder_of owners q)
-  holder_of_with q =
-      cond_both (is_nothing h) (remove owners owner) (insert owners owner h) (λ m. unwrap_or (get m q) nothing ≡ cond (pointwise nat_eq q owner) h (unwrap_or (get owners q) nothing))
-      (λ none. rw (get-remove nat_list_cmp_total owners owner q, same_test q) (found (pointwise nat_eq q owner) (get owners q) (is_nothing_is h none)))
-      (λ _. rw (get-insert nat_list_cmp_total owners owner h q, same_test q) (put (pointwise nat_eq q owner) (get owners q)))
+  -- in the new map all is as it was, but of this owner there is this
+  abbrev Put : FinMap (slice_cmp nat_cmp) Holder → Type 0
+  Put new = (q : List ℕ) → holder_of new q ≡ cond (pointwise nat_eq q owner) h (holder_of owners q)
+
+  inserted : Put (insert owners owner h)
+  inserted q = rw (get-insert nat_list_cmp_total owners owner h q, same_test q) (put (pointwise nat_eq q owner) (get owners q))
+
+  put_with : Put (with_holder owners owner h)
+  put_with =
+      cond_both (is_nothing h) (remove owners owner) (insert owners owner h) Put
+      (λ none q. rw (get-remove nat_list_cmp_total owners owner q, same_test q) (found (pointwise nat_eq q owner) (get owners q) (is_nothing_is h none)))
+      (λ _. inserted)
 
 -- one owner's holder is replaced
-put_step : (writes : List ℕ → List Write) (owners : FinMap (slice_cmp nat_cmp) Holder) (owner : List ℕ) (h : Holder) (assumed : Type 0) →
+put_step : (writes : List ℕ → List Write) (owners new : FinMap (slice_cmp nat_cmp) Holder) (owner : List ℕ) (h : Holder) (assumed : Type 0) → Put owners owner h new →
     ((q : List ℕ) → IsHolder (holder_of owners q)) → Step (writes owner) assumed (holder_of owners owner) h →
-    (q : List ℕ) → Step (writes q) assumed (holder_of owners q) (holder_of (with_holder owners owner h) q)
-put_step writes owners owner h assumed is step q =
-    rw (holder_of_with owners owner h q)
+    (q : List ℕ) → Step (writes q) assumed (holder_of owners q) (holder_of new q)
+put_step writes owners new owner h assumed is_put is step q =
+    rw (is_put q)
     (cond_both (pointwise nat_eq q owner) h (holder_of owners q) (Step (writes q) assumed (holder_of owners q))
     (λ same. subst (λ (o : List ℕ). Step (writes o) assumed (holder_of owners o) h) (sym (same_text q owner same)) step)
     (λ _. unchanged (is q)))
@@ -72,10 +79,10 @@ module _ (writes : List ℕ → List Write) (node : Node) (is : IsNode node) whe
   taken_step b end i q =
       cond_both (pointwise nat_eq b.owner node.held.me) node.held _ (λ (h : Held). Step (writes q) (Honest (writes b.owner) b) (held_by node q) (holder_of h.owners q))
       (λ _. unchanged (is q))
-      (λ _. put_step writes node.held.owners b.owner _ _ is (treat_step (writes b.owner) (held_by node b.owner) b (is b.owner) i end) q)
+      (λ _. put_step writes node.held.owners _ b.owner _ _ (put_with node.held.owners b.owner _) is (treat_step (writes b.owner) (held_by node b.owner) b (is b.owner) i end) q)
 
   happens_at_step : (event : NodeEvent) → IsNodeEvent event → (q : List ℕ) → Step (writes q) (TrueAt writes node.held.me event) (held_by node q) (held_by (happens_at node event) q)
-  happens_at_step (Wrote e) i q = put_step writes node.held.owners node.held.me _ _ is (own_step (writes node.held.me) (held_by node node.held.me) e (is node.held.me)) q
+  happens_at_step (Wrote e) i q = put_step writes node.held.owners _ node.held.me _ _ (inserted node.held.owners node.held.me _) is (own_step (writes node.held.me) (held_by node node.held.me) e (is node.held.me)) q
   happens_at_step (Took b Own) i q = unchanged (is q)
   happens_at_step (Took b (OwnAhead upto)) i q = unchanged (is q)
   happens_at_step (Took b Gap) i q = unchanged (is q)

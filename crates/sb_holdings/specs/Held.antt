@@ -34,9 +34,9 @@ with_holder owners owner h = if is_nothing h then remove owners owner else inser
 abbrev pub with_owner : Held → List ℕ → Holder → Held
 with_owner held owner h = record { me = held.me; owners = with_holder held.owners owner h }
 
--- after the node's own write
+-- after the node's own write; the own name always stands in the map
 abbrev pub written : Held → Entry → Held
-written held e = with_owner held held.me (own (holder_of held.owners held.me) e)
+written held e = record { me = held.me; owners = insert held.owners held.me (own (holder_of held.owners held.me) e) }
 
 -- no block of the node's own name is taken
 abbrev pub taken : Held → Block → BlockEnd → Held

@@ -1,4 +1,4 @@
-ghost use Rattle.std.specs.Prelude.{◌≡◌, ◌<◌, true, false, nat_eq, OnOk, OnErr, IfOk, IfErr, IfSome, IfNone, List, [], ◌∷◌, length, take};
+ghost use Rattle.std.specs.Prelude.{◌≡◌, ◌<◌, true, false, nat_eq, Err, OnOk, OnErr, IfOk, IfErr, IfSome, IfNone, List, [], ◌∷◌, length, take};
 ghost use Rattle.std.specs.FinMap.{get, keys};
 ghost use Rattle.std.specs.Ordering.{nat_cmp};
 ghost use Rattle.std.specs.Cmp.Lexicographic.{pointwise, slice_cmp};
@@ -115,6 +115,7 @@ impl Holdings {
     /// everything as it was.
     pub fn push_own(&mut self, entry: Entry) -> Result<(), Fault>
         ensures answer { Gives result (own_answer self.old entry) }
+        ensures refused { IfErr (own_answer self.old entry) (λ fault. result ≡ Err fault) }
         ensures ok { OnOk result (self.new ≡ written self.old entry) }
         ensures err { OnErr result (self.new ≡ self.old) }
         ensures holdings { IsHoldings self.new }

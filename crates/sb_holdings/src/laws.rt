@@ -1,6 +1,6 @@
 //! What stays true of the writes that a node holds.
 
-ghost use Rattle.std.specs.Prelude.{◌≡◌, ℕ, true, List, ◌++◌, ◌↔◌, Option};
+ghost use Rattle.std.specs.Prelude.{◌≡◌, ℕ, ◌+◌, true, List, ◌++◌, ◌↔◌, Option};
 ghost use Rattle.sb_types.specs.declared.entry.Write.{Write};
 ghost use Rattle.sb_types.specs.Records.{Entry, Table, Block, Holder};
 ghost use Rattle.sb_types.specs.Limits.{is_delta_block};
@@ -10,7 +10,7 @@ ghost use Rattle.sb_holdings.specs.declared.ends.BlockEnd.{BlockEnd};
 ghost use Rattle.sb_holdings.specs.Taken.{treat};
 ghost use Rattle.sb_holdings.specs.Events.{Event, replay, AreEvents, AllTrue};
 ghost use Rattle.sb_holdings.specs.Progress.{Later};
-ghost use Rattle.sb_holdings.specs.Held.{Held};
+ghost use Rattle.sb_holdings.specs.Held.{Held, shown_of, written};
 ghost use Rattle.sb_holdings.specs.Plain.{IsHoldings};
 ghost use Rattle.sb_holdings.specs.Nodes.{Node, NodeEvent, replay_at, AreNodeEvents, AllTrueAt, IsNode, NodeHolds, NodeLater};
 ghost use Rattle.sb_holdings.specs.Entering.{entered_each};
@@ -53,6 +53,11 @@ pub fn nodes_hold()
         IsNode node → AreNodeEvents events → NodeHolds writes node → AllTrueAt writes node.held.me events → NodeHolds writes (replay_at node events) }
     ensures later { (node : Node) (events : List NodeEvent) → IsNode node → AreNodeEvents events → NodeLater node (replay_at node events) }
     ensures is { (node : Node) (events : List NodeEvent) → IsNode node → AreNodeEvents events → IsNode (replay_at node events) }
+{}
+
+/// An own write that is not the next changes nothing.
+pub fn writes_come_in_turn()
+    ensures { (held : Held) (e : Entry) → IsHoldings held → (e.version ≡ (shown_of held held.me).held + 1 → ⊥) → written held e ≡ held }
 {}
 
 /// The two ways to say what entries tell of writes are one: entry by entry, and version by version.

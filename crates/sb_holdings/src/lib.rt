@@ -15,7 +15,7 @@ pub use ends::BlockEnd;
 pub use holdings::Holdings;
 pub use laws::{
     blocks_keep_truth, holdings_make_nodes, nodes_hold, nothing_goes_back, one_by_one, one_meaning,
-    replays_hold, truth_lasts,
+    replays_hold, truth_lasts, writes_come_in_turn,
 };
 pub use owners::{Owners, Tables};
 pub use reading::reads_are_true;

@@ -61,6 +61,36 @@ fn entries(alloc: Global, first: u64, last: u64) -> Result<Vec<Entry>, Fault>
     Ok(entries)
 }
 
+fn block_of_one(alloc: Global, owner: Name, after: u64, entry: Entry) -> Result<Block, Fault> {
+    Block::new(owner, after, vec![in alloc; entry]?)
+}
+
+fn block_of_two(
+    alloc: Global,
+    owner: Name,
+    after: u64,
+    first: Entry,
+    last: Entry,
+) -> Result<Block, Fault> {
+    Block::new(owner, after, vec![in alloc; first, last]?)
+}
+
+fn add_name(names: &mut Vec<Name>, name: &Name) -> Result<(), Fault> {
+    Ok(names.push(*name)?)
+}
+
+fn report_of_two(alloc: Global) -> Result<Report, Fault> {
+    Ok(Report::new(vec![in alloc; BlockEnd::Taken(2), BlockEnd::Gap]?))
+}
+
+/// How a block ended, unless memory ran out.
+fn applied(holdings: &mut Holdings, block: &Block) -> Result<BlockEnd, Fault> {
+    match holdings.apply_block(block) {
+        BlockEnd::NoMemory(_) => Err(Fault::NoMemory),
+        end => Ok(end),
+    }
+}
+
 fn holdings_of(alloc: Global, me: &[u8]) -> Result<Holdings, Fault> {
     Holdings::new(alloc, Name::read(me)?, Table::new(alloc))
 }
@@ -75,12 +105,12 @@ fn blocks_join_on_or_change_nothing(rt: HostRuntime) -> Result<(), Fail> {
     assert_eq!(rt; holdings.apply_block(&last), BlockEnd::Gap);
     assert_eq!(rt; holdings.upto(&a), 0);
     assert!(rt; holdings.table(&a).is_none());
-    assert_eq!(rt; holdings.apply_block(&first), BlockEnd::Taken(2));
-    assert_eq!(rt; holdings.apply_block(&last), BlockEnd::Taken(1));
+    assert_eq!(rt; applied(&mut holdings, &first)?, BlockEnd::Taken(2));
+    assert_eq!(rt; applied(&mut holdings, &last)?, BlockEnd::Taken(1));
     assert_eq!(rt; holdings.apply_block(&last), BlockEnd::Stale);
     assert_eq!(rt; holdings.upto(&a), 3);
     let all = Block::new(a, 0, entries(alloc, 1, 4)?)?;
-    assert_eq!(rt; holdings.apply_block(&all), BlockEnd::Taken(1));
+    assert_eq!(rt; applied(&mut holdings, &all)?, BlockEnd::Taken(1));
     assert_eq!(rt; holdings.table(&a).map_or(0, |table| table.len()), 4);
     Ok(())
 }
@@ -90,13 +120,13 @@ fn superseded_versions_may_be_missing(rt: HostRuntime) -> Result<(), Fail> {
     let alloc = rt.alloc();
     let a = Name::read(b"a")?;
     let mut holdings = holdings_of(alloc, b"b")?;
-    let y = Block::new(a, 0, vec![in alloc; weight(b"y", 2)?]?)?;
-    assert_eq!(rt; holdings.apply_block(&y), BlockEnd::Taken(1));
+    let y = block_of_one(alloc, a, 0, weight(b"y", 2)?)?;
+    assert_eq!(rt; applied(&mut holdings, &y)?, BlockEnd::Taken(1));
     assert_eq!(rt; holdings.upto(&a), 2);
     assert_eq!(rt; weight_at(&holdings, &a, b"y"), Some((2, Some(2))));
     assert_eq!(rt; weight_at(&holdings, &a, b"x"), None);
-    let x = Block::new(a, 2, vec![in alloc; weight(b"x", 3)?]?)?;
-    assert_eq!(rt; holdings.apply_block(&x), BlockEnd::Taken(1));
+    let x = block_of_one(alloc, a, 2, weight(b"x", 3)?)?;
+    assert_eq!(rt; applied(&mut holdings, &x)?, BlockEnd::Taken(1));
     assert_eq!(rt; weight_at(&holdings, &a, b"x"), Some((3, Some(3))));
     Ok(())
 }
@@ -106,11 +136,11 @@ fn removals_leave_markers(rt: HostRuntime) -> Result<(), Fail> {
     let alloc = rt.alloc();
     let a = Name::read(b"a")?;
     let mut holdings = holdings_of(alloc, b"b")?;
-    let set = Block::new(a, 0, vec![in alloc; weight(b"x", 1)?]?)?;
-    let removed = Block::new(a, 1, vec![in alloc; removal(b"x", 2)?]?)?;
-    assert_eq!(rt; holdings.apply_block(&set), BlockEnd::Taken(1));
+    let set = block_of_one(alloc, a, 0, weight(b"x", 1)?)?;
+    let removed = block_of_one(alloc, a, 1, removal(b"x", 2)?)?;
+    assert_eq!(rt; applied(&mut holdings, &set)?, BlockEnd::Taken(1));
     assert_eq!(rt; weight_at(&holdings, &a, b"x"), Some((1, Some(1))));
-    assert_eq!(rt; holdings.apply_block(&removed), BlockEnd::Taken(1));
+    assert_eq!(rt; applied(&mut holdings, &removed)?, BlockEnd::Taken(1));
     assert_eq!(rt; weight_at(&holdings, &a, b"x"), Some((2, None)));
     assert_eq!(rt; holdings.apply_block(&set), BlockEnd::Stale);
     assert_eq!(rt; weight_at(&holdings, &a, b"x"), Some((2, None)));
@@ -129,7 +159,7 @@ fn own_writes_come_in_turn(rt: HostRuntime) -> Result<(), Fail> {
         holdings.push_own(weight(b"w", 2)?),
         Err(Fault::OutOfTurn(1))
     );
-    assert_eq!(rt; holdings.push_own(weight(b"w", 1)?), Ok(()));
+    holdings.push_own(weight(b"w", 1)?)?;
     assert_eq!(rt;
         holdings.push_own(weight(b"w", 1)?),
         Err(Fault::OutOfTurn(2))
@@ -151,7 +181,7 @@ fn owners_have_a_limit(rt: HostRuntime) -> Result<(), Fail> {
         let owner = Name::read(&text_of(number))?;
         let block = Block::new(owner, 0, entries(alloc, 1, 1)?)?;
         assert_eq!(rt;
-            holdings.apply_block(&block),
+            applied(&mut holdings, &block)?,
             BlockEnd::Taken(1),
             "{number}"
         );
@@ -168,7 +198,7 @@ fn owners_have_a_limit(rt: HostRuntime) -> Result<(), Fail> {
     }
     assert_eq!(rt; owners, 1_024);
     let known = Block::new(Name::read(&text_of(1))?, 1, entries(alloc, 2, 2)?)?;
-    assert_eq!(rt; holdings.apply_block(&known), BlockEnd::Taken(1));
+    assert_eq!(rt; applied(&mut holdings, &known)?, BlockEnd::Taken(1));
     Ok(())
 }
 
@@ -178,17 +208,19 @@ fn keys_have_a_limit(rt: HostRuntime) -> Result<(), Fail> {
     let a = Name::read(b"a")?;
     let mut holdings = holdings_of(alloc, b"b")?;
     let most = Block::new(a, 0, entries(alloc, 1, 4_094)?)?;
-    assert_eq!(rt; holdings.apply_block(&most), BlockEnd::Taken(4_094));
+    assert_eq!(rt; applied(&mut holdings, &most)?, BlockEnd::Taken(4_094));
     let more = Block::new(a, 4_092, entries(alloc, 4_093, 4_099)?)?;
-    assert_eq!(rt; holdings.apply_block(&more), BlockEnd::TooManyKeys(2));
+    assert_eq!(rt; applied(&mut holdings, &more)?, BlockEnd::TooManyKeys(2));
     assert_eq!(rt; holdings.upto(&a), 4_096);
     assert_eq!(rt; holdings.apply_block(&more), BlockEnd::TooManyKeys(0));
-    let again = Block::new(
+    let again = block_of_two(
+        alloc,
         a,
         4_096,
-        vec![in alloc; weight(&text_of(1), 4_097)?, weight(&text_of(2), 4_098)?]?,
+        weight(&text_of(1), 4_097)?,
+        weight(&text_of(2), 4_098)?,
     )?;
-    assert_eq!(rt; holdings.apply_block(&again), BlockEnd::Taken(2));
+    assert_eq!(rt; applied(&mut holdings, &again)?, BlockEnd::Taken(2));
     assert_eq!(rt; holdings.table(&a).map_or(0, |table| table.len()), 4_096);
     Ok(())
 }
@@ -207,7 +239,7 @@ fn own_keys_have_a_limit(rt: HostRuntime) -> Result<(), Fail> {
     );
     assert_eq!(rt; holdings.upto(&me), 4_096);
     assert_eq!(rt; weight_at(&holdings, &me, b"w"), None);
-    assert_eq!(rt; holdings.push_own(removal(&text_of(1), 4_097)?), Ok(()));
+    holdings.push_own(removal(&text_of(1), 4_097)?)?;
     assert_eq!(rt; weight_at(&holdings, &me, &text_of(1)), Some((4_097, None)));
     Ok(())
 }
@@ -218,7 +250,7 @@ fn owners_come_in_the_order_of_their_names(rt: HostRuntime) -> Result<(), Fail> 
     let mut holdings = holdings_of(alloc, b"m")?;
     for name in [b"z".as_slice(), b"a", b"ma"] {
         let block = Block::new(Name::read(name)?, 0, entries(alloc, 1, 2)?)?;
-        assert_eq!(rt; holdings.apply_block(&block), BlockEnd::Taken(2));
+        assert_eq!(rt; applied(&mut holdings, &block)?, BlockEnd::Taken(2));
     }
     let [a, m, ma, z] = [
         Name::read(b"a")?,
@@ -231,7 +263,7 @@ fn owners_come_in_the_order_of_their_names(rt: HostRuntime) -> Result<(), Fail> 
     let mut names = Vec::new(alloc);
     for (name, table) in holdings.tables_from(Some(&ma)) {
         assert_eq!(rt; table.upto(), 2);
-        names.push(*name)?;
+        add_name(&mut names, name)?;
     }
     assert_eq!(rt; names.as_slice(), [ma, z].as_slice());
     let mut all = 0_u64;
@@ -309,7 +341,7 @@ fn own_writes_without_memory_change_nothing(rt: HostRuntime) -> Result<(), Fail>
 #[test]
 fn reports_list_the_ends(rt: HostRuntime) -> Result<(), Fail> {
     let alloc = rt.alloc();
-    let report = Report::new(vec![in alloc; BlockEnd::Taken(2), BlockEnd::Gap]?);
+    let report = report_of_two(alloc)?;
     assert_eq!(rt; report.len(), 2);
     assert!(rt; !report.is_empty());
     assert_eq!(rt;

@@ -4,7 +4,7 @@ use Rattle.sb_types.specs.Records.{Table}
 use Rattle.sb_types.specs.Faults.{Gives}
 use Rattle.sb_holdings.specs.Plain.{next_version}
 use Rattle.sb_holdings.proofs.ByOwner.{found}
-use Rattle.sb_holdings.proofs.Lent.{shown-lent, is_some-map, found-own, entry-next, own_answer-lent, own-ok, own-err, own-is}
+use Rattle.sb_holdings.proofs.Lent.{shown-lent, is_some-map, found-own, entry-next, own_answer-lent, refused-lent, own-ok, own-err, own-is}
 use Rattle.sb_holdings.proofs.holdings.Holdings.push_own.Goals as goal
 
 pub unwrap-requires : goal.unwrap-requires
@@ -46,6 +46,17 @@ returns-clause-answer c =
     let shown : c.upto-next.result ≡ t.held = c.upto-next.ensures.version ∙ ap (λ (u : Table). u.held) (shown-lent me me tables t c.self.invariant.0 at c.args.self.now c.self.view_is) in
     let turn : e.version ≡ next_version t.held = sym c.version.ensures.version ∙ c.if-version-next.false ∙ ap next_version shown in
     subst (Gives c.push.result) (own_answer-lent c.args.self.now me tables t c.self.invariant.0 at c.self.view_is e turn) c.push.ensures.answer
+
+pub returns-clause-refused : goal.returns-clause-refused
+returns-clause-refused c =
+    let me = c.self.inside.me in
+    let tables = c.self.inside.tables.entries in
+    let t = c.unwrap.result.now in
+    let e = c.args.entry in
+    let at : found tables me ≡ Some t = sym c.get_mut.ensures.value ∙ ap option_copied_mut c.unwrap.ensures in
+    let shown : c.upto-next.result ≡ t.held = c.upto-next.ensures.version ∙ ap (λ (u : Table). u.held) (shown-lent me me tables t c.self.invariant.0 at c.args.self.now c.self.view_is) in
+    let turn : e.version ≡ next_version t.held = sym c.version.ensures.version ∙ c.if-version-next.false ∙ ap next_version shown in
+    refused-lent c.args.self.now me tables t c.self.invariant.0 at c.self.view_is e turn c.push.result c.push.ensures.full
 
 pub returns-clause-ok : goal.returns-clause-ok
 returns-clause-ok c =
