@@ -57,7 +57,7 @@ fn read_whole(alloc: Global, payload: &[u8]) -> Result<Message, Refusal>
     Ok(message)
 }
 
-#[tactic(auto, unfolding(crate::specs::Messages::reading))]
+#[tactic(auto, using(crate::proofs::Laws::is_unknown), unfolding(crate::specs::Messages::reading))]
 fn read(alloc: Global, payload: &[u8]) -> Result<Message, Fault>
     ensures exact { Gives result (reading payload.now) }
     ensures unknown { (kind : ℕ) → fault_of payload.now ≡ Fault.UnknownKind kind → result ≡ Err (Fault.UnknownKind kind) }
