@@ -1,17 +1,18 @@
 -- A payload is read as a message exactly where it spells it.
-use Rattle.std.proofs.Common.{◌≡◌, ℕ, ◌≤◌, true, ◌==◌, if◌then◌else◌, List, [], length, Option, Some, None, Result, Ok, Err, refl, sym, ap, ◌∙◌, arith}
+use Rattle.std.proofs.Common.{◌≡◌, ℕ, ◌≤◌, Bool, true, false, ◌==◌, if◌then◌else◌, List, [], ◌∷◌, length, Option, Some, None, Result, Ok, Err, refl, sym, ap, ◌∙◌, arith}
 use Rattle.std.specs.Prelude.{ok_or, IfOk}
 use Rattle.std.specs.Option.{option_and_then}
 use Rattle.std.proofs.lemmas.Bool.{eqb-true}
 use Rattle.std.proofs.lemmas.List.{append-nil, nil_from_length}
 use Rattle.std.proofs.lemmas.Option.{cond_some}
 use Rattle.sb_types.specs.declared.fault.Fault.{Fault}
+use Rattle.sb_types.specs.declared.fault.Fault.TheVariants.{UnknownKind, Malformed}
 use Rattle.sb_types.specs.Faults.{Gives}
 use Rattle.sb_codec.specs.declared.message.Message.{Message}
 use Rattle.sb_codec.specs.declared.message.Message.TheVariants.{Hello, Digest, Delta, Bye, Ask, Rows, Put, Done, Refused}
 use Rattle.sb_codec.specs.declared.numbers.TheConstants.{KIND_HELLO, KIND_DIGEST, KIND_DELTA, KIND_BYE, KIND_ASK, KIND_ROWS, KIND_PUT, KIND_DONE, KIND_REFUSED}
-use Rattle.sb_codec.specs.Fields.{AreBytes, whole}
-use Rattle.sb_codec.specs.Messages.{spelling, is_message, Spells, IsSole, fault_of, message_cases, message_at, reading}
+use Rattle.sb_codec.specs.Fields.{AreBytes, byte_at, case_at, whole}
+use Rattle.sb_codec.specs.Messages.{spelling, is_message, Spells, IsSole, is_kind, fault_of, message_cases, message_at, reading}
 use Rattle.sb_codec.proofs.Taken.{Takes, tagged_takes, made_case}
 use Rattle.sb_codec.proofs.Again.{Again, made_again, tagged_again}
 use Rattle.sb_codec.proofs.Parts.{delta_takes, delta_again}
@@ -114,3 +115,29 @@ some_bytes payload (Rows rows) spells = rw spells.bytes (omega arith)
 some_bytes payload (Put wanted) spells = rw spells.bytes (omega arith)
 some_bytes payload (Done version) spells = rw spells.bytes (omega arith)
 some_bytes payload (Refused fault) spells = rw spells.bytes (omega arith)
+
+-- ---- a kind that is not known
+
+is_other : (known : Bool) (first kind : ℕ) → (if known then Malformed first else UnknownKind first) ≡ UnknownKind kind → known ≡ false
+is_other true first kind e = absurd cc
+is_other false first kind e = refl
+
+is_never : (b : Bool) → (b ≡ true → true ≡ false) → b ≡ false
+is_never true never = never refl
+is_never false never = refl
+
+differs : (known first : ℕ) → is_kind known ≡ true → is_kind first ≡ false → (first == known) ≡ false
+differs known first is other = is_never (first == known) (λ same. sym is ∙ ap (λ kind. is_kind kind) (sym (eqb-true first known same)) ∙ other)
+
+no_case : (first : ℕ) (body : List ℕ) → is_kind first ≡ false → case_at message_cases first body ≡ None
+no_case first body other =
+    rw
+    (differs KIND_HELLO first refl other, differs KIND_DIGEST first refl other, differs KIND_DELTA first refl other, differs KIND_BYE first refl other, differs KIND_ASK first refl other, differs KIND_ROWS first refl other, differs KIND_PUT first refl other, differs KIND_DONE first refl other, differs KIND_REFUSED first refl other)
+    refl
+
+pub is_unknown : (payload : List ℕ) (kind : ℕ) → fault_of payload ≡ UnknownKind kind → reading payload ≡ Err (UnknownKind kind)
+unfolding reading message_at byte_at
+is_unknown [] kind e = ap Err e
+is_unknown (first ∷ body) kind e =
+    ap (λ read. ok_or (option_and_then (λ x. if length x.1 == 0 then Some x.0 else None) read) (fault_of (first ∷ body))) (no_case first body (is_other (is_kind first) first kind e))
+    ∙ ap Err e

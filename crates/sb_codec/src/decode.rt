@@ -1,6 +1,6 @@
 //! A message out of its payload.
 
-ghost use Rattle.std.specs.Prelude.{◌≡◌, IfOk, Ok};
+ghost use Rattle.std.specs.Prelude.{◌≡◌, ℕ, IfOk, Ok, Err};
 ghost use Rattle.sb_types.specs.Faults.{Gives};
 ghost use Rattle.sb_codec.specs.declared.message.Message.{Message};
 ghost use Rattle.sb_codec.specs.Fields.{whole};
@@ -57,20 +57,25 @@ fn read_whole(alloc: Global, payload: &[u8]) -> Result<Message, Refusal>
     Ok(message)
 }
 
-#[tactic(auto, unfolding(crate::specs::Messages::reading))]
+#[tactic(auto, using(crate::proofs::Laws::is_unknown), unfolding(crate::specs::Messages::reading))]
 fn read(alloc: Global, payload: &[u8]) -> Result<Message, Fault>
-    ensures { Gives result (reading payload.now) }
+    ensures exact { Gives result (reading payload.now) }
+    ensures unknown { (kind : ℕ) → fault_of payload.now ≡ Fault.UnknownKind kind → result ≡ Err (Fault.UnknownKind kind) }
 {
+    let reason = fault(payload);
+    if let Fault::UnknownKind(_) = reason {
+        return Err(reason);
+    }
     match read_whole(alloc, payload) {
         Ok(message) => Ok(message),
         Err(Refusal::Memory) => Err(Fault::NoMemory),
-        Err(Refusal::Malformed) => Err(fault(payload)),
+        Err(Refusal::Malformed) => Err(reason),
     }
 }
 
 /// The message that the payload spells, all of its bytes. `UnknownKind` of the first byte, or of 0 where
-/// there is none, where it begins no kind; `Malformed` of the kind where no message is spelled so;
-/// `NoMemory`, for which alone a payload that spells a message is refused.
+/// there is none, where it begins no kind, which takes no memory; `Malformed` of the kind where no message
+/// is spelled so; `NoMemory`, for which alone a payload that spells a message is refused.
 pub fn decode_payload(alloc: Global, payload: &[u8]) -> Result<Message, Fault>
     // What is read is spelled so, and nothing else is.
     ensures found { IfOk result (λ message. Spells payload.now message) }
@@ -79,6 +84,8 @@ pub fn decode_payload(alloc: Global, payload: &[u8]) -> Result<Message, Fault>
     ensures only { (message : Message) → Spells payload.now message → Gives result (Ok message) }
     // Which fault it is.
     ensures exact { Gives result (reading payload.now) }
+    // A kind that is not known is told without memory.
+    ensures unknown { (kind : ℕ) → fault_of payload.now ≡ Fault.UnknownKind kind → result ≡ Err (Fault.UnknownKind kind) }
 {
     read(alloc, payload)
 }

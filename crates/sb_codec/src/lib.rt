@@ -21,7 +21,7 @@ pub use numbers::{
     KIND_PUT, KIND_REFUSED, KIND_ROWS, REASON_MOST, REASON_ROUNDS_DONE, TAG_ADDR, TAG_FLAG,
     TAG_REMOVED, TAG_WEIGHT,
 };
-pub use payloads::one_payload_each;
+pub use payloads::{one_payload_each, payloads_have_these_lengths};
 
 #[cfg(test)]
 mod tests;

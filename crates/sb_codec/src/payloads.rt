@@ -1,7 +1,14 @@
 //! What is true of every message and payload.
 
 ghost use Rattle.std.specs.Prelude.{◌≡◌, ℕ, ◌≤◌, List, length, true, Ok};
+ghost use Rattle.sb_types.specs.Records.{Block};
+ghost use Rattle.sb_types.specs.Lengths.{delta_length};
+ghost use Rattle.sb_digest.specs.Digests as digests;
+ghost use Rattle.sb_digest.specs.Lengths.{digest_length};
+ghost use Rattle.sb_codec.specs.Records as records;
+ghost use Rattle.sb_codec.specs.Lengths.{rows_length};
 ghost use Rattle.sb_codec.specs.declared.message.Message.{Message};
+ghost use Rattle.sb_codec.specs.declared.message.Message.TheVariants.{Digest, Delta, Rows};
 ghost use Rattle.sb_codec.specs.Fields.{AreBytes};
 ghost use Rattle.sb_codec.specs.Messages.{is_message, spelling, Spells, IsSole, reading};
 
@@ -13,4 +20,12 @@ pub fn one_payload_each()
     ensures least { (payload : List ℕ) (message : Message) → Spells payload message → 1 ≤ length payload }
     ensures read { (payload : List ℕ) (message : Message) → Spells payload message → reading payload ≡ Ok message }
     ensures found { (payload : List ℕ) (message : Message) → AreBytes payload → reading payload ≡ Ok message → Spells payload message }
+{}
+
+/// How many bytes the payload of a delta, of a digest and of a page of rows has, its kind counted. It holds
+/// outside their limits too.
+pub fn payloads_have_these_lengths()
+    ensures delta { (blocks : List Block) → length (spelling (Delta blocks)) ≡ delta_length blocks }
+    ensures digest { (digest : digests.Digest) → length (spelling (Digest digest)) ≡ digest_length digest }
+    ensures page { (page : records.Rows) → length (spelling (Rows page)) ≡ rows_length page.rows }
 {}

@@ -70,9 +70,17 @@ fn is_payload(alloc: Global, message: &Message, words: &str) -> Result<bool, Fau
     Ok(encode_payload(alloc, message)? == expected && again(alloc, words)?)
 }
 
-/// Why the words are no payload.
-fn fault_of(alloc: Global, words: &str) -> Option<Fault> {
-    decode_payload(alloc, &bytes(alloc, words)?).err()
+/// Why the bytes are no payload. The error is `NoMemory` where that is what they are answered.
+fn refusal(alloc: Global, payload: &[u8]) -> Result<Option<Fault>, Fault> {
+    match decode_payload(alloc, payload) {
+        Err(Fault::NoMemory) => Err(Fault::NoMemory),
+        answer => Ok(answer.err()),
+    }
+}
+
+/// The same of words.
+fn refusal_of(alloc: Global, words: &str) -> Result<Option<Fault>, Fault> {
+    refusal(alloc, &bytes(alloc, words).ok_or(Fault::NoMemory)?)
 }
 
 fn pair(owner: &[u8], version: u64) -> Result<Pair, Fault> {
@@ -94,7 +102,7 @@ fn row(owner: &[u8], version: u64) -> Result<Row, Fault> {
 #[test]
 fn the_payload_of_a_delta(rt: HostRuntime) -> Result<(), Fail> {
     let alloc = rt.alloc();
-    let expected = bytes(alloc, ONE_ENTRY).ok_or("no memory")?;
+    let expected = bytes(alloc, ONE_ENTRY).ok_or(Fault::NoMemory)?;
     assert_eq!(rt; expected.len(), 34);
     let payload = encode_payload(alloc, &one_entry(alloc)?)?;
     assert_eq!(rt; payload.as_slice(), expected.as_slice());
@@ -118,7 +126,7 @@ fn the_payload_of_a_delta(rt: HostRuntime) -> Result<(), Fail> {
 #[test]
 fn the_payload_of_an_empty_delta(rt: HostRuntime) -> Result<(), Fail> {
     let alloc = rt.alloc();
-    let expected = bytes(alloc, NO_BLOCK).ok_or("no memory")?;
+    let expected = bytes(alloc, NO_BLOCK).ok_or(Fault::NoMemory)?;
     let empty = Message::Delta(Delta::new(Vec::new(alloc))?);
     assert_eq!(rt;
         encode_payload(alloc, &empty)?.as_slice(),
@@ -134,7 +142,7 @@ fn the_payload_of_an_empty_delta(rt: HostRuntime) -> Result<(), Fail> {
 #[test]
 fn the_payload_of_every_slot(rt: HostRuntime) -> Result<(), Fail> {
     let alloc = rt.alloc();
-    let expected = bytes(alloc, EVERY_SLOT).ok_or("no memory")?;
+    let expected = bytes(alloc, EVERY_SLOT).ok_or(Fault::NoMemory)?;
     let entries = vec![in alloc;
         Entry::new(Key::read(b"a")?, 1, Slot::Removed),
         Entry::new(Key::read(b"b")?, 2, Slot::Set(Value::addr(alloc, b"h:1")?)),
@@ -179,27 +187,21 @@ fn payloads_that_break_the_format(rt: HostRuntime) -> Result<(), Fail> {
         "03 0001 0161 0000000000000000 ffff",
     ];
     for words in wrong {
-        let payload = bytes(alloc, words).ok_or("no memory")?;
-        assert!(rt;
-            matches!(decode_payload(alloc, &payload), Err(Fault::Malformed(3))),
+        assert_eq!(rt;
+            refusal_of(alloc, words)?,
+            Some(Fault::Malformed(3)),
             "{words}"
         );
     }
-    let whole = bytes(alloc, ONE_ENTRY).ok_or("no memory")?;
+    let whole = bytes(alloc, ONE_ENTRY).ok_or(Fault::NoMemory)?;
     for len in 1..whole.len() {
         let front = whole.get(..len).unwrap_or(&[]);
-        assert!(rt;
-            matches!(decode_payload(alloc, front), Err(Fault::Malformed(3))),
+        assert_eq!(rt;
+            refusal(alloc, front)?,
+            Some(Fault::Malformed(3)),
             "{front:?}"
         );
     }
-    assert!(rt;
-        matches!(
-            decode_payload(alloc, &[0x55]),
-            Err(Fault::UnknownKind(0x55))
-        )
-    );
-    assert!(rt; matches!(decode_payload(alloc, &[]), Err(Fault::UnknownKind(0))));
     Ok(())
 }
 
@@ -327,7 +329,7 @@ fn what_messages_say(rt: HostRuntime) -> Result<(), Fail> {
 }
 
 #[test]
-fn payloads_of_other_kinds_that_break_the_format(rt: HostRuntime) {
+fn payloads_of_other_kinds_that_break_the_format(rt: HostRuntime) -> Result<(), Fail> {
     let alloc = rt.alloc();
     let wrong = [
         // a cluster of 33 bytes; no node; a node with a capital
@@ -400,22 +402,31 @@ fn payloads_of_other_kinds_that_break_the_format(rt: HostRuntime) {
     ];
     for (kind, words) in wrong {
         assert_eq!(rt;
-            fault_of(alloc, words),
+            refusal_of(alloc, words)?,
             Some(Fault::Malformed(kind)),
             "{words}"
         );
     }
-    for (kind, words) in [
-        (0x00, "00"),
-        (0x05, "05 01"),
-        (0x0f, "0f"),
-        (0x15, "15 01"),
-        (0xff, "ff"),
+    Ok(())
+}
+
+/// Whatever memory there is: a kind that is not known is told before any is asked for.
+#[test]
+fn payloads_of_unknown_kinds(rt: HostRuntime) {
+    let alloc = rt.alloc();
+    for (kind, payload) in [
+        (0x00, b"".as_slice()),
+        (0x00, b"\x00"),
+        (0x05, b"\x05\x01"),
+        (0x0f, b"\x0f"),
+        (0x15, b"\x15\x01"),
+        (0x55, b"\x55"),
+        (0xff, b"\xff"),
     ] {
-        assert_eq!(rt;
-            fault_of(alloc, words),
-            Some(Fault::UnknownKind(kind)),
-            "{words}"
+        let answer = decode_payload(alloc, payload);
+        assert!(rt;
+            matches!(answer, Err(Fault::UnknownKind(told)) if told == kind),
+            "{payload:?}"
         );
     }
 }

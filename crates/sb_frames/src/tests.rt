@@ -1,5 +1,5 @@
 use super::*;
-use sb_codec::Message;
+use sb_codec::{Bye, Hello, Message};
 use sb_types::{Block, Delta, Entry, Fault, Key, Name, Slot, Value};
 use std::alloc::Global;
 use std::io::{self, ErrorKind, Write};
@@ -15,6 +15,20 @@ const DESCENDING: &[u8] = b"\xa7\x01\x00\x00\x00\x41\x03\x00\x02\
     \x00\x01\x01w\x00\x00\x00\x00\x00\x00\x00\x01\x02\x00\x00\x00\x00\x00\x00\x00\x05\
     \x01a\x00\x00\x00\x00\x00\x00\x00\x00\
     \x00\x01\x01w\x00\x00\x00\x00\x00\x00\x00\x01\x02\x00\x00\x00\x00\x00\x00\x00\x05";
+
+/// Hello of the node a of the cluster c1.
+const HELLO: &[u8] = b"\xa7\x01\x00\x00\x00\x06\x01\x02c1\x01a";
+
+/// Hello of a node of a cluster whose name has 33 bytes.
+const LONG_CLUSTER: &[u8] = b"\xa7\x01\x00\x00\x00\x25\x01\
+    \x21abcdefghijklmnopqrstuvwxyz-012345\x01a";
+
+/// The digest of a node a that holds only itself with nothing written; an answer is wanted.
+const DIGEST: &[u8] = b"\xa7\x01\x00\x00\x00\x10\x02\x01\x00\x00\
+    \x00\x01\x01a\x00\x00\x00\x00\x00\x00\x00\x00";
+
+/// Bye, since the rounds are done.
+const BYE: &[u8] = b"\xa7\x01\x00\x00\x00\x02\x04\x01";
 
 /// Takes one byte in each write, and fails once it has no room.
 #[derive(Drop)]
@@ -145,6 +159,71 @@ fn a_frame_in_any_pieces(rt: HostRuntime) -> Result<(), Fail> {
     Ok(())
 }
 
+/// What the frame is read as; nothing where it is not one message.
+fn read(alloc: Global, frame: &[u8]) -> Result<Option<Message>, Fault> {
+    let mut frames = Frames::new(alloc);
+    fed(&mut frames, frame)?;
+    let message = taken(&mut frames)?;
+    match taken(&mut frames)? {
+        None => Ok(message),
+        Some(_) => Ok(None),
+    }
+}
+
+/// Whether the frame is what goes out.
+fn goes_out_as(alloc: Global, message: &Message, frame: &[u8]) -> Result<bool, Fault> {
+    let mut narrow = Narrow::new(64);
+    sent(alloc, &mut narrow, message)?;
+    Ok(narrow.has_written(frame))
+}
+
+/// Whether it is the Hello that `HELLO` spells.
+fn is_hello(message: &Message) -> bool {
+    let Message::Hello(hello) = message else {
+        return false;
+    };
+    hello.cluster.bytes() == b"c1".as_slice() && hello.node.bytes() == b"a".as_slice()
+}
+
+/// Whether it is the digest that `DIGEST` spells.
+fn is_digest(message: &Message) -> bool {
+    let Message::Digest(digest) = message else {
+        return false;
+    };
+    let [pair] = digest.pairs() else {
+        return false;
+    };
+    let is_whole = digest.from().is_none() && digest.until().is_none();
+    digest.want() && is_whole && pair.owner.bytes() == b"a".as_slice() && pair.version == 0
+}
+
+#[test]
+fn frames_of_other_kinds(rt: HostRuntime) -> Result<(), Fail> {
+    let alloc = rt.alloc();
+    let (cluster, node) = (Name::read(b"c1")?, Name::read(b"a")?);
+    let hello = Message::Hello(Hello { cluster, node });
+    assert!(rt; goes_out_as(alloc, &hello, HELLO)?);
+    let Some(message) = read(alloc, HELLO)? else {
+        return Err("no message".into());
+    };
+    assert!(rt; is_hello(&message));
+
+    assert_eq!(rt; DIGEST.len(), 22);
+    let Some(message) = read(alloc, DIGEST)? else {
+        return Err("no message".into());
+    };
+    assert!(rt; goes_out_as(alloc, &message, DIGEST)?);
+    assert!(rt; is_digest(&message));
+
+    let bye = Message::Bye(Bye::new(1)?);
+    assert!(rt; goes_out_as(alloc, &bye, BYE)?);
+    let Some(message) = read(alloc, BYE)? else {
+        return Err("no message".into());
+    };
+    assert!(rt; matches!(&message, Message::Bye(bye) if bye.reason() == 1));
+    Ok(())
+}
+
 #[test]
 fn faulty_frames_close(rt: HostRuntime) -> Result<(), Fail> {
     let alloc = rt.alloc();
@@ -155,6 +234,7 @@ fn faulty_frames_close(rt: HostRuntime) -> Result<(), Fail> {
         (b"\xa7\x01\x00\x00\xff\xfb", Fault::BadLength),
         (b"\xa7\x01\x00\x00\x00\x01\x55", Fault::UnknownKind(0x55)),
         (DESCENDING, Fault::Malformed(3)),
+        (LONG_CLUSTER, Fault::Malformed(1)),
     ] {
         let mut frames = Frames::new(alloc);
         fed(&mut frames, bytes)?;

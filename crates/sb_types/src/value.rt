@@ -52,7 +52,9 @@ fn has_addr_bytes(text: &[u8]) -> bool
 impl Value {
     /// An address. `BadValue` where the text is not one; then `NoMemory`.
     pub fn addr(alloc: Global, text: &[u8]) -> Result<Value, Fault>
-        ensures { Gives result (if is_addr text.now then Ok (values.Addr text.now) else Err Fault.BadValue) }
+        ensures exact { Gives result (if is_addr text.now then Ok (values.Addr text.now) else Err Fault.BadValue) }
+        // Text that is no address is told without memory.
+        ensures refused { is_addr text.now ≡ false → result ≡ Err Fault.BadValue }
     {
         if text.is_empty() || text.len() > ADDR_MOST || !has_addr_bytes(text) {
             return Err(Fault::BadValue);
@@ -85,11 +87,13 @@ impl Value {
 
     /// Reads the two words of a value in a script: `addr TEXT`, `weight N` or `flag true|false`, where N
     /// is decimal, with no sign and no leading zero. `BadValue` where they are another kind or content;
-    /// then `NoMemory`.
+    /// then, of an address alone, `NoMemory`.
     pub fn from_words(alloc: Global, kind: &[u8], word: &[u8]) -> Result<Value, Fault>
         ensures found { IfOk result (λ value. (values.is_value value ≡ true) × (values.words_of value ≡ (kind.now, word.now))) }
         ensures only { (value : values.Value) → values.is_value value ≡ true → values.words_of value ≡ (kind.now, word.now) → Gives result (Ok value) }
         ensures fault { IfErr result (λ fault. fault ≢ Fault.NoMemory → fault ≡ Fault.BadValue) }
+        // Memory is asked for only to keep an address.
+        ensures memory { IfErr result (λ fault. fault ≡ Fault.NoMemory → (kind.now ≡ codes "addr") × (is_addr word.now ≡ true)) }
     {
         match kind {
             b"addr" => Value::addr(alloc, word),
