@@ -67,7 +67,7 @@ impl Node {
         Ok(last + 1)
     }
 
-    /// All that it wrote above a version, as a delta. `Malformed(3)` where no frame can carry it; `NoMemory`.
+    /// All that it wrote above a version, as a delta. `Malformed(KIND_DELTA)` where no frame can carry it; `NoMemory`.
     pub(crate) fn offer(&self, alloc: Global, after: u64) -> Result<Delta, Fault> {
         let mut entries = Vec::new(alloc);
         for entry in self.own.after(after) {

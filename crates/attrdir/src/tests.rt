@@ -18,28 +18,66 @@ taken 1
 a w 1 weight 5
 ";
 
-/// Whether no line tells of want of memory.
-fn had_memory(printed: &[u8]) -> bool {
-    let mut lines = printed.split(|byte| *byte == b'\n');
-    lines.all(|line| line != b"fault 1".as_slice() && !line.starts_with(b"no-memory"))
+/// A writer that takes no memory, of so many bytes at most.
+#[derive(Drop)]
+struct Page {
+    bytes: [u8; 512],
+    used: usize,
 }
 
-/// The ending, but for want of memory, which is then the fault of the test.
+impl Page {
+    fn new() -> Page {
+        Page {
+            bytes: [0; 512],
+            used: 0,
+        }
+    }
+
+    fn printed(&self) -> &[u8] {
+        self.bytes.get(..self.used).unwrap_or(&[])
+    }
+
+    /// Whether no line tells of want of memory.
+    fn had_memory(&self) -> bool {
+        let mut lines = self.printed().split(|byte| *byte == b'\n');
+        lines.all(|line| line != b"fault 1".as_slice() && !line.starts_with(b"no-memory"))
+    }
+}
+
+impl Write for Page {
+    fn write(&mut self, bytes: &[u8]) -> io::Result<usize> {
+        for byte in bytes {
+            if self.used >= self.bytes.len() {
+                return Err(io::Error::from(ErrorKind::WriteZero));
+            }
+            self.bytes[self.used] = *byte;
+            self.used += 1;
+        }
+        Ok(bytes.len())
+    }
+
+    fn flush(&mut self) -> io::Result<()> {
+        Ok(())
+    }
+}
+
+/// How a run of the example ended, but for want of memory, which is then the fault of the test: without it there
+/// is always a world.
 fn with_memory(ended: Result<Ending, Fault>) -> Result<Result<Ending, Fault>, Fault> {
     match ended {
-        Err(Fault::NoMemory) => Err(Fault::NoMemory),
+        Err(Fault::NoMemory) | Ok(Ending::NoWorld) => Err(Fault::NoMemory),
         ended => Ok(ended),
     }
 }
 
 /// Runs a script in ample reads, and answers how it ended with what it printed.
-fn run(alloc: Global, script: &str) -> Result<(Ending, Vec<u8>), Fault> {
-    let mut printed = Vec::new(alloc);
-    let ending = sim_run_uncounted(alloc, script.as_bytes(), &mut printed, 100)?;
-    if !had_memory(&printed) {
+fn run(alloc: Global, script: &str) -> Result<(Ending, Page), Fault> {
+    let mut page = Page::new();
+    let ending = sim_run_uncounted(alloc, script.as_bytes(), &mut page, 100)?;
+    if !page.had_memory() {
         return Err(Fault::NoMemory);
     }
-    Ok((ending, printed))
+    Ok((ending, page))
 }
 
 /// A reader whose second read fails.
@@ -87,9 +125,9 @@ fn a_write_goes_from_node_to_node(rt: HostRuntime) -> Result<(), Fail> {
         0,
         &PRINTED[10..90]
     )?;
-    let (ending, printed) = run(alloc, &script)?;
+    let (ending, page) = run(alloc, &script)?;
     assert_eq!(rt; ending, Ending::Whole);
-    assert_eq!(rt; printed.as_slice(), wanted.as_bytes());
+    assert_eq!(rt; page.printed(), wanted.as_bytes());
     Ok(())
 }
 
@@ -105,9 +143,9 @@ fn a_wrong_line_ends_the_run(rt: HostRuntime) -> Result<(), Fail> {
         ),
         ("world 255 breadth 100 a", 3, "fault 5\n"),
     ] {
-        let (ending, printed) = run(alloc, script)?;
+        let (ending, page) = run(alloc, script)?;
         assert_eq!(rt; ending.status(), status);
-        assert_eq!(rt; printed.as_slice(), wanted.as_bytes());
+        assert_eq!(rt; page.printed(), wanted.as_bytes());
     }
     Ok(())
 }
@@ -127,16 +165,16 @@ fn reads_are_counted(rt: HostRuntime) -> Result<(), Fail> {
 #[test]
 fn what_was_answered_before_a_read_fails_is_written(rt: HostRuntime) -> Result<(), Fail> {
     let alloc = rt.alloc();
-    let mut printed = Vec::new(alloc);
+    let mut page = Page::new();
     let reader = BreakingReader {
         bytes: EXAMPLE.as_bytes(),
     };
-    let ended = sim_run_uncounted(alloc, reader, &mut printed, 100);
-    assert_eq!(rt; with_memory(ended)?, Err(Fault::ReadFailed));
-    if !had_memory(&printed) {
+    let ended = sim_run_uncounted(alloc, reader, &mut page, 100);
+    if !page.had_memory() {
         return Err(Fault::NoMemory.into());
     }
-    assert_eq!(rt; printed.as_slice(), PRINTED.as_bytes());
+    assert_eq!(rt; with_memory(ended)?, Err(Fault::ReadFailed));
+    assert_eq!(rt; page.printed(), PRINTED.as_bytes());
     Ok(())
 }
 
@@ -146,30 +184,6 @@ fn a_failed_write_says_how_much_was_written(rt: HostRuntime) -> Result<(), Fail>
     let ended = sim_run_uncounted(rt.alloc(), EXAMPLE.as_bytes(), writer, 100);
     assert_eq!(rt; with_memory(ended)?, Err(Fault::WriteFailed(17)));
     Ok(())
-}
-
-/// A writer that takes no memory, of so many bytes at most.
-#[derive(Drop)]
-struct Page {
-    bytes: [u8; 256],
-    used: usize,
-}
-
-impl Write for Page {
-    fn write(&mut self, bytes: &[u8]) -> io::Result<usize> {
-        for byte in bytes {
-            if self.used >= self.bytes.len() {
-                return Err(io::Error::from(ErrorKind::WriteZero));
-            }
-            self.bytes[self.used] = *byte;
-            self.used += 1;
-        }
-        Ok(bytes.len())
-    }
-
-    fn flush(&mut self) -> io::Result<()> {
-        Ok(())
-    }
 }
 
 fn are_lines(printed: &[u8], lines: &[&str]) -> bool {
@@ -190,12 +204,9 @@ const EMPTY_FRAME: &str = "a70100000003030000";
 
 #[test]
 fn any_memory_may_be_refused(rt: HostRuntime) -> Result<(), Fail> {
-    let mut page = Page {
-        bytes: [0; 256],
-        used: 0,
-    };
+    let mut page = Page::new();
     let ended = sim_run_uncounted(rt.alloc(), EXAMPLE.as_bytes(), &mut page, 100);
-    let printed = page.bytes.get(..page.used).unwrap_or(&[]);
+    let printed = page.printed();
     let whole = ["version 1", FRAME, "taken 1", "a w 1 weight 5"];
     let allowed = match ended {
         Ok(Ending::Whole) => [

@@ -2,7 +2,7 @@
 use Rattle.std.specs.Prelude.{◌≡◌, ℕ, ◌+◌, ◌≤◌, ◌<◌, List, [], ◌∷◌, length, take, drop, map, fold, All, Some}
 use Rattle.std.specs.Ordering.{nat_cmp, match_ordering}
 use Rattle.std.specs.Cmp.Lexicographic.{slice_cmp}
-use Rattle.sb_types.specs.declared.limits.TheConstants.{HEADER_LENGTH}
+use Rattle.sb_types.specs.declared.format.TheConstants.{HEADER_LENGTH}
 use Rattle.sb_types.specs.Records.{Block}
 use Rattle.sb_types.specs.Runs.{IsRun, last_version}
 use Rattle.sb_types.specs.Lengths.{delta_length}

@@ -4,11 +4,13 @@ ghost use Rattle.sb_budget.specs.Cut.{items_of_all, IsCut, CanCut};
 
 use crate::gathered::{Gathered, cost, place_of, put};
 use crate::offered::Offered;
-use sb_types::{BUDGET_LEAST, BUDGET_MOST, Block, Delta, Fault};
+use sb_types::{
+    BUDGET_LEAST, BUDGET_MOST, BYTE_LENGTH, Block, COUNT_LENGTH, Delta, Fault, HEADER_LENGTH,
+};
 use std::alloc::Global;
 
 /// The length of the frame of a delta without blocks.
-const EMPTY_FRAME: u64 = 9;
+const EMPTY_FRAME: u64 = HEADER_LENGTH + BYTE_LENGTH + COUNT_LENGTH;
 
 /// The longest front of the items whose delta fits the budget, by owner.
 fn gather(alloc: Global, items: Vec<Offered>, budget: u64) -> Result<Vec<Gathered>, Fault>

@@ -7,12 +7,15 @@ ghost use Rattle.sb_types.specs.Limits.{are_block_entries};
 ghost use Rattle.sb_budget.specs.Gathered.{grown, begun, placed, cost_of};
 
 use crate::offered::Offered;
-use sb_types::{Block, Entry, Fault, Name};
+use sb_types::{
+    BLOCK_HEAD_MOST, BYTE_LENGTH, Block, COUNT_LENGTH, ENTRY_LENGTH_MOST, Entry, Fault, NUMBER_LENGTH,
+    Name,
+};
 use std::alloc::Global;
 use std::marker::Model;
 
-/// The bytes of a block before its entries, its owner's name not counted.
-const BLOCK_START: u64 = 11;
+/// The bytes of a block before its entries, the text of its owner's name not counted.
+const BLOCK_START: u64 = BYTE_LENGTH + NUMBER_LENGTH + COUNT_LENGTH;
 
 /// The entries of one owner that are to make its block.
 #[derive(Drop)]
@@ -82,11 +85,11 @@ pub(crate) fn place_of(gathered: &[Gathered], owner: Name) -> Result<usize, usiz
     gathered.binary_search_by_key(&owner, |group| group.owner())
 }
 
-/// How many bytes the item adds to a delta, by where its owner's entries stand in it: at most 246.
+/// How many bytes the item adds to a delta, by where its owner's entries stand in it.
 pub(crate) fn cost(item: &Offered, place: Result<usize, usize>) -> u64
     ensures cost { result ≡ cost_of item.now place }
     ensures owner { is_name item.now.owner ≡ true }
-    ensures most { result ≤ 246 }
+    ensures most { result ≤ BLOCK_HEAD_MOST + ENTRY_LENGTH_MOST }
 {
     let name_length = item.owner.bytes().len() as u64;
     let entry_length = item.entry.encoded_length();

@@ -12,7 +12,7 @@ use Rattle.sb_types.specs.Limits.{is_slot}
 use Rattle.sb_digest.specs.Digests.{Pair, Digest, plain_pair, covers}
 use Rattle.sb_digest.specs.Lengths.{pair_length, digest_length}
 use Rattle.sb_digest.specs.Limits.{is_bound, is_pair, is_range, are_pairs_above, are_digest_parts, is_digest}
-use Rattle.sb_codec.specs.declared.numbers.TheConstants.{TAG_ADDR, TAG_WEIGHT, TAG_FLAG}
+use Rattle.sb_types.specs.declared.format.TheConstants.{TAG_ADDR, TAG_WEIGHT, TAG_FLAG}
 use Rattle.sb_codec.specs.declared.message.ask.Ask.{Ask}
 use Rattle.sb_codec.specs.Records.{Row, Rows}
 use Rattle.sb_codec.specs.Lengths.{row_length, rows_length}

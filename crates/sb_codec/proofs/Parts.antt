@@ -13,7 +13,7 @@ use Rattle.sb_types.specs.Records.{Entry, Block}
 use Rattle.sb_types.specs.Runs.{are_ascending, are_distinct, last_version}
 use Rattle.sb_types.specs.Lengths.{block_length, delta_length}
 use Rattle.sb_types.specs.Limits.{is_slot, is_entry, are_block_entries, block_of_entries, is_delta_block, are_owners_above, are_delta_blocks, is_delta}
-use Rattle.sb_codec.specs.declared.numbers.TheConstants.{TAG_REMOVED, TAG_ADDR, TAG_WEIGHT, TAG_FLAG}
+use Rattle.sb_types.specs.declared.format.TheConstants.{TAG_REMOVED, TAG_ADDR, TAG_WEIGHT, TAG_FLAG}
 use Rattle.sb_codec.specs.Spelling.{text, list, flag, tag_of, content, slot, entry, block}
 use Rattle.sb_codec.specs.Reading.{name_at, key_at, addr_at, weight_at, flag_cases, flag_at, flag_slot, slot_cases, slot_at, entry_of, entry_at, are_block_parts, block_of, block_at, delta_at}
 use Rattle.sb_codec.proofs.Taken.{Takes, wide64, fits_takes, made_takes, then_takes, where_takes, number_takes, text_takes, list_takes, tagged_takes, made_case, given_case}

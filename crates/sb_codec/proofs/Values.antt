@@ -4,7 +4,7 @@ use Rattle.std.specs.Bool.{beq}
 use Rattle.std.specs.Option.{option_eq}
 use Rattle.std.specs.Int.{w64}
 use Rattle.sb_types.specs.Value.{Value, Addr, Weight, Flag, addr_of, weight_of, flag_of}
-use Rattle.sb_codec.specs.declared.numbers.TheConstants.{TAG_ADDR, TAG_WEIGHT, TAG_FLAG}
+use Rattle.sb_types.specs.declared.format.TheConstants.{TAG_ADDR, TAG_WEIGHT, TAG_FLAG}
 use Rattle.sb_codec.specs.Spelling.{number, text, flag, tag_of, content}
 
 pub addr_spelled : (v : Value) (bytes : List ℕ) → Some bytes ≡ addr_of v → tag_of v ∷ content v ≡ TAG_ADDR ∷ text bytes

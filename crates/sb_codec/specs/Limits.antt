@@ -8,7 +8,8 @@ use Rattle.sb_types.specs.declared.limits.TheConstants.{PAYLOAD_MOST}
 use Rattle.sb_types.specs.Text.{is_between, is_name, is_key, is_prefix}
 use Rattle.sb_types.specs.Value.{is_value}
 use Rattle.sb_types.specs.Limits.{is_slot}
-use Rattle.sb_codec.specs.declared.numbers.TheConstants.{REASON_MOST, FAULT_NUMBER_MOST}
+use Rattle.sb_types.specs.declared.limits.TheConstants.{FAULT_NUMBER_MOST}
+use Rattle.sb_types.specs.declared.format.TheConstants.{REASON_MOST}
 use Rattle.sb_codec.specs.declared.message.hello.Hello.{Hello}
 use Rattle.sb_codec.specs.declared.message.ask.Ask.{Ask}
 use Rattle.sb_codec.specs.Records.{Row, Rows}

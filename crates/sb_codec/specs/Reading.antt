@@ -10,7 +10,7 @@ use Rattle.sb_types.specs.Text.{is_name, is_key, is_prefix}
 use Rattle.sb_types.specs.Value.{Value, Addr, Weight, Flag, is_value}
 use Rattle.sb_types.specs.Records.{Entry, Block}
 use Rattle.sb_types.specs.Limits.{are_block_entries, block_of_entries, are_delta_blocks}
-use Rattle.sb_codec.specs.declared.numbers.TheConstants.{TAG_REMOVED, TAG_ADDR, TAG_WEIGHT, TAG_FLAG}
+use Rattle.sb_types.specs.declared.format.TheConstants.{TAG_REMOVED, TAG_ADDR, TAG_WEIGHT, TAG_FLAG}
 use Rattle.sb_digest.specs.Digests.{Pair, Digest, plain_pair, digest_of}
 use Rattle.sb_digest.specs.Limits.{are_digest_parts}
 use Rattle.sb_codec.specs.declared.message.hello.Hello.{Hello}

@@ -4,15 +4,14 @@ ghost use Rattle.std.specs.Prelude.{◌≡◌, IfOk, IfErr};
 ghost use Rattle.sb_codec.specs.Messages.{Spells, IsSole, spelling};
 
 use crate::message::{Ask, Bye, Done, Hello, Message, Refused, Rows};
-use crate::numbers::{
-    ASK_MOST, KIND_ASK, KIND_BYE, KIND_DELTA, KIND_DIGEST, KIND_DONE, KIND_HELLO, KIND_PUT,
-    KIND_REFUSED, KIND_ROWS,
-};
+/// The most bytes of the payload of an Ask.
+const ASK_MOST: usize = 197;
+
 use crate::writing::{
     write_flag, write_list, write_optional_name, write_place, write_slot, write_text, write_u64,
 };
 use sb_digest::Digest;
-use sb_types::{Delta, Fault, Write};
+use sb_types::{Delta, Fault, KIND_ASK, KIND_BYE, KIND_DELTA, KIND_DIGEST, KIND_DONE, KIND_HELLO, KIND_PUT, KIND_REFUSED, KIND_ROWS, Write};
 use std::alloc::{AllocError, Global};
 
 fn write_hello(alloc: Global, hello: &Hello) -> Result<Vec<u8>, AllocError>

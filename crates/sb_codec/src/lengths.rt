@@ -1,53 +1,68 @@
 //! The length of a message's frame, without the frame.
 
 ghost use Rattle.std.specs.Prelude.{◌≡◌, ◌+◌, ◌≤◌, length};
-ghost use Rattle.sb_types.specs.declared.limits.TheConstants.{HEADER_LENGTH, PAYLOAD_MOST, BUDGET_MOST};
+ghost use Rattle.sb_types.specs.declared.format.TheConstants.{HEADER_LENGTH};
+ghost use Rattle.sb_types.specs.declared.limits.TheConstants.{PAYLOAD_MOST, BUDGET_MOST};
 ghost use Rattle.sb_codec.specs.Spelling.{optional, place};
 ghost use Rattle.sb_codec.specs.Messages.{spelling};
 
 use crate::message::{Ask, Hello, Message};
-use sb_types::{HEADER_LENGTH, Key, Name, Write};
+use sb_types::{
+    BYTE_LENGTH, HEADER_LENGTH, KEY_LENGTH_MOST, Key, NAME_LENGTH_MOST, NUMBER_LENGTH, Name,
+    VALUE_LENGTH_MOST, Write,
+};
+
+/// The most bytes of the payload of an Ask: its kind, two names and two keys.
+const ASK_LENGTH_MOST: u64 = BYTE_LENGTH + 2 * NAME_LENGTH_MOST + 2 * KEY_LENGTH_MOST;
+
+/// The most bytes of the payload of a Put: its kind, a key, a tag and a value.
+const PUT_LENGTH_MOST: u64 = BYTE_LENGTH + KEY_LENGTH_MOST + BYTE_LENGTH + VALUE_LENGTH_MOST;
 
 fn optional_name_length(name: Option<Name>) -> u64
     ensures length { result ≡ length (optional name) }
-    ensures most { result ≤ 33 }
+    ensures most { result ≤ NAME_LENGTH_MOST }
 {
     match name {
-        None => 1,
-        Some(name) => 1 + name.bytes().len() as u64,
+        None => BYTE_LENGTH,
+        Some(name) => BYTE_LENGTH + name.bytes().len() as u64,
     }
 }
 
 fn place_length(after: Option<(Name, Key)>) -> u64
     ensures length { result ≡ length (place after) }
-    ensures most { result ≤ 98 }
+    ensures most { result ≤ NAME_LENGTH_MOST + KEY_LENGTH_MOST }
 {
     match after {
-        None => 2,
-        Some((owner, key)) => 2 + owner.bytes().len() as u64 + key.bytes().len() as u64,
+        None => BYTE_LENGTH + BYTE_LENGTH,
+        Some((owner, key)) => {
+            BYTE_LENGTH + owner.bytes().len() as u64 + BYTE_LENGTH + key.bytes().len() as u64
+        }
     }
 }
 
 fn hello_length(hello: &Hello) -> u64
     ensures length { result ≡ length (spelling (Message.Hello hello.now)) }
-    ensures most { result ≤ 67 }
+    ensures most { result ≤ BYTE_LENGTH + 2 * NAME_LENGTH_MOST }
 {
-    3 + hello.cluster.bytes().len() as u64 + hello.node.bytes().len() as u64
+    let cluster_length = BYTE_LENGTH + hello.cluster.bytes().len() as u64;
+    let node_length = BYTE_LENGTH + hello.node.bytes().len() as u64;
+    BYTE_LENGTH + cluster_length + node_length
 }
 
 fn ask_length(ask: &Ask) -> u64
     ensures length { result ≡ length (spelling (Message.Ask ask.now)) }
-    ensures most { result ≤ 197 }
+    ensures most { result ≤ ASK_LENGTH_MOST }
 {
-    let prefix = ask.prefix.bytes().len() as u64;
-    2 + optional_name_length(ask.owner) + prefix + place_length(ask.after)
+    let prefix_length = BYTE_LENGTH + ask.prefix.bytes().len() as u64;
+    BYTE_LENGTH + optional_name_length(ask.owner) + prefix_length + place_length(ask.after)
 }
 
 fn put_length(write: &Write) -> u64
     ensures length { result ≡ length (spelling (Message.Put write.now)) }
-    ensures most { result ≤ 196 }
+    ensures most { result ≤ PUT_LENGTH_MOST }
 {
-    3 + write.key.bytes().len() as u64 + write.slot.encoded_length()
+    let key_length = BYTE_LENGTH + write.key.bytes().len() as u64;
+    BYTE_LENGTH + key_length + BYTE_LENGTH + write.slot.encoded_length()
 }
 
 fn payload_length(message: &Message) -> u64
@@ -58,12 +73,12 @@ fn payload_length(message: &Message) -> u64
         Message::Hello(hello) => hello_length(hello),
         Message::Digest(digest) => digest.encoded_length(),
         Message::Delta(delta) => delta.encoded_length(),
-        Message::Bye(_) => 2,
+        Message::Bye(_) => BYTE_LENGTH + BYTE_LENGTH,
         Message::Ask(ask) => ask_length(ask),
         Message::Rows(rows) => rows.encoded_length(),
         Message::Put(write) => put_length(write),
-        Message::Done(_) => 9,
-        Message::Refused(_) => 2,
+        Message::Done(_) => BYTE_LENGTH + NUMBER_LENGTH,
+        Message::Refused(_) => BYTE_LENGTH + BYTE_LENGTH,
     }
 }
 

@@ -6,7 +6,6 @@ mod encode;
 mod fields;
 mod lengths;
 mod message;
-mod numbers;
 mod payloads;
 mod refusal;
 mod spelled;
@@ -16,11 +15,6 @@ pub use decode::decode_payload;
 pub use encode::encode_payload;
 pub use lengths::length;
 pub use message::{Ask, Bye, Done, Hello, Message, Refused, Row, Rows};
-pub use numbers::{
-    FAULT_NUMBER_MOST, KIND_ASK, KIND_BYE, KIND_DELTA, KIND_DIGEST, KIND_DONE, KIND_HELLO,
-    KIND_PUT, KIND_REFUSED, KIND_ROWS, REASON_MOST, REASON_ROUNDS_DONE, TAG_ADDR, TAG_FLAG,
-    TAG_REMOVED, TAG_WEIGHT,
-};
 pub use payloads::{one_payload_each, payloads_have_these_lengths};
 
 #[cfg(test)]

@@ -7,10 +7,9 @@ ghost use Rattle.sb_codec.specs.Limits.{is_optional, is_place};
 ghost use Rattle.sb_codec.specs.Spelling.{number, text, list, flag, value, slot, entry, block, optional, pair, place, row};
 
 use crate::message::Row;
-use crate::numbers::{TAG_ADDR, TAG_FLAG, TAG_REMOVED, TAG_WEIGHT};
 use crate::spelled::Spelled;
 use sb_digest::Pair;
-use sb_types::{Block, Entry, Key, Name, Slot, Value};
+use sb_types::{Block, Entry, Key, Name, Slot, TAG_ADDR, TAG_FLAG, TAG_REMOVED, TAG_WEIGHT, Value};
 use std::alloc::AllocError;
 
 #[tactic(auto, unfolding(crate::specs::Spelling::number))]

@@ -1,6 +1,6 @@
 -- How many bytes a digest takes in its one spelling.
 use Rattle.std.specs.Prelude.{ℕ, ◌+◌, List, length, sum_by, Option, Some, None}
-use Rattle.sb_types.specs.declared.limits.TheConstants.{HEADER_LENGTH}
+use Rattle.sb_types.specs.declared.format.TheConstants.{HEADER_LENGTH}
 use Rattle.sb_digest.specs.Digests.{Pair, Digest}
 
 -- a length byte, and the name where there is one

@@ -6,7 +6,9 @@ ghost use Rattle.sb_digest.specs.Digests.{digest_of, is_below, covers, number};
 ghost use Rattle.sb_digest.specs.Lengths.{bound_length, pair_length, digest_length};
 ghost use Rattle.sb_digest.specs.Limits.{are_pairs_above, is_range, are_digest_parts, is_bound, is_pair, is_digest};
 
-use sb_types::{Fault, Name, PAYLOAD_MOST};
+use sb_types::{
+    BYTE_LENGTH, COUNT_LENGTH, Fault, KIND_DIGEST, NAME_LENGTH_MOST, NUMBER_LENGTH, Name, PAYLOAD_MOST,
+};
 use std::marker::Model;
 
 /// How far one owner's writes are held: the greatest version that is known, 0 where none is.
@@ -117,12 +119,12 @@ fn do_owners_ascend(pairs: &[Pair]) -> bool
 /// How many bytes a bound takes in a message.
 pub(crate) fn length_of_bound(bound: Option<&Name>) -> u64
     ensures length { result ≡ bound_length (option_copied bound.entry) }
-    ensures most { result ≤ 33 }
+    ensures most { result ≤ NAME_LENGTH_MOST }
     ensures bound { is_bound (option_copied bound.entry) ≡ true }
 {
     match bound {
-        None => 1,
-        Some(name) => 1 + name.bytes().len() as u64,
+        None => BYTE_LENGTH,
+        Some(name) => BYTE_LENGTH + name.bytes().len() as u64,
     }
 }
 
@@ -146,15 +148,15 @@ impl Pair {
     /// How many bytes it takes in a message: 10 to 41.
     pub fn encoded_length(&self) -> u64
         ensures length { result ≡ pair_length self.now }
-        ensures most { result ≤ 41 }
+        ensures most { result ≤ NAME_LENGTH_MOST + NUMBER_LENGTH }
         ensures pair { is_pair self.now ≡ true }
     {
-        9 + self.owner.bytes().len() as u64
+        BYTE_LENGTH + self.owner.bytes().len() as u64 + NUMBER_LENGTH
     }
 }
 
 impl Digest {
-    /// A digest of these parts. `Malformed(2)`, the pairs dropped, where a bound or a pair's owner is not
+    /// A digest of these parts. `Malformed(KIND_DIGEST)`, the pairs dropped, where a bound or a pair's owner is not
     /// behind the one before, where an owner lies outside the bounds, or where the payload would have
     /// more than 65,530 bytes. It takes no memory.
     pub fn new(
@@ -163,18 +165,19 @@ impl Digest {
         until: Option<Name>,
         pairs: Vec<Pair>,
     ) -> Result<Digest, Fault>
-        ensures { result ≡ (let digest = digest_of want from until pairs.items in if are_digest_parts digest then Ok digest else Err (Fault.Malformed 2)) }
+        ensures { result ≡ (let digest = digest_of want from until pairs.items in if are_digest_parts digest then Ok digest else Err (Fault.Malformed KIND_DIGEST)) }
     {
         let (low, high) = (from.as_ref(), until.as_ref());
         if !do_bounds_ascend(low, high)
             || !do_owners_ascend(&pairs)
             || !are_covered(low, high, &pairs)
         {
-            return Err(Fault::Malformed(2));
+            return Err(Fault::Malformed(KIND_DIGEST));
         }
-        let bounds = 4 + length_of_bound(low) + length_of_bound(high);
+        let head = BYTE_LENGTH + BYTE_LENGTH + COUNT_LENGTH;
+        let bounds = head + length_of_bound(low) + length_of_bound(high);
         let Some(length) = length_within(bounds, &pairs) else {
-            return Err(Fault::Malformed(2));
+            return Err(Fault::Malformed(KIND_DIGEST));
         };
         Ok(Digest {
             want,

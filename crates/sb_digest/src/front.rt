@@ -5,12 +5,14 @@ ghost use Rattle.std.specs.Option.{option_copied, option_map};
 ghost use Rattle.sb_digest.specs.Fronts.{front_of, IsLongestFront, with_pair, has_room, comes_next, IsFront};
 
 use crate::digest::{Digest, Pair, length_of_bound};
-use sb_types::{BUDGET_LEAST, BUDGET_MOST, Fault, HEADER_LENGTH, Name};
+use sb_types::{
+    BUDGET_LEAST, BUDGET_MOST, BYTE_LENGTH, Fault, HEADER_LENGTH, NUMBER_LENGTH, Name,
+};
 use std::alloc::Global;
 use std::marker::Model;
 
 /// How many bytes a digest saves that ends before its last pair: that pair's number and a length byte.
-const CUT_SAVES: u64 = 9;
+const CUT_SAVES: u64 = NUMBER_LENGTH + BYTE_LENGTH;
 
 /// Pairs from a bound on, as long as a digest that ends before the last of them is within the budget.
 #[derive(Drop)]

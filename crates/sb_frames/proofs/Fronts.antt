@@ -10,7 +10,8 @@ use Rattle.std.proofs.lemmas.List.{take-append-drop, take-append-le, drop-append
 use Rattle.std.proofs.lemmas.Nat.{be_bytes_4, from_be_bytes-to_be_bytes_4}
 use Rattle.sb_types.specs.declared.fault.Fault.{Fault}
 use Rattle.sb_types.specs.declared.fault.Fault.TheVariants.{NoMemory, UnknownKind, Malformed, BadMark, BadVersion, BadLength}
-use Rattle.sb_types.specs.declared.limits.TheConstants.{FRAME_MARK, FRAME_VERSION, PAYLOAD_MOST}
+use Rattle.sb_types.specs.declared.format.TheConstants.{FRAME_MARK, FRAME_VERSION}
+use Rattle.sb_types.specs.declared.limits.TheConstants.{PAYLOAD_MOST}
 use Rattle.sb_codec.specs.declared.message.Message.{Message}
 use Rattle.sb_codec.specs.Spelling.{number}
 use Rattle.sb_codec.specs.Fields.{Field, byte_at, number_at, bytes_at, whole as whole_field}

@@ -3,7 +3,8 @@ use Rattle.std.proofs.Common.{◌≡◌, ◌≢◌, ℕ, ◌+◌, ◌<◌, ◌�
 use Rattle.std.specs.List.{flat_map}
 use Rattle.std.proofs.lemmas.Bool.{and_parts}
 use Rattle.std.proofs.lemmas.List.{append-nil, take-append-drop, length-drop}
-use Rattle.sb_types.specs.declared.limits.TheConstants.{HEADER_LENGTH, BUDGET_MOST}
+use Rattle.sb_types.specs.declared.format.TheConstants.{HEADER_LENGTH}
+use Rattle.sb_types.specs.declared.limits.TheConstants.{BUDGET_MOST}
 use Rattle.sb_codec.specs.declared.message.Message.{Message}
 use Rattle.sb_codec.specs.Messages.{spelling, is_message}
 use Rattle.sb_frames.specs.Frames.{frame, Front, short, whole, bad, front_of, Extends}

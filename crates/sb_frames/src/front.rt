@@ -11,7 +11,7 @@ use std::alloc::Global;
 fn payload_in(bytes: &[u8]) -> Result<Option<&[u8]>, Fault>
     ensures none { IfOk result (λ found. IfNone found (front_of bytes.now ≡ short)) }
     ensures payload { IfOk result (λ found. IfSome found (λ payload.
-        IsFramed bytes.now payload.now (drop (6 + length payload.now) bytes.now))) }
+        IsFramed bytes.now payload.now (drop (HEADER_LENGTH + length payload.now) bytes.now))) }
     ensures fault { IfErr result (λ fault. front_of bytes.now ≡ bad fault) }
 {
     let Some((mark, bytes)) = bytes.split_first() else {

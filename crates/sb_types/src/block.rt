@@ -7,6 +7,9 @@ ghost use Rattle.sb_types.specs.Limits.{is_entry, are_block_entries, block_of_en
 use crate::distinct::are_keys_distinct;
 use crate::entry::Entry;
 use crate::fault::Fault;
+use crate::format::{
+    BLOCK_HEAD_MOST, BYTE_LENGTH, COUNT_LENGTH, ENTRY_LENGTH_MOST, KIND_DELTA, NUMBER_LENGTH,
+};
 use crate::limits::ENTRIES_MOST;
 use crate::text::Name;
 use std::marker::Model;
@@ -30,10 +33,12 @@ impl Model for Block {
 
     ghost use Rattle.sb_types.specs.Lengths.{entries_length};
     ghost use Rattle.sb_types.specs.Limits.{block_of_entries, is_delta_block};
+    ghost use Rattle.sb_types.specs.declared.limits.TheConstants.{ENTRIES_MOST};
+    ghost use Rattle.sb_types.specs.declared.format.TheConstants.{ENTRY_LENGTH_MOST};
 
     ghost view = { λ b. block_of_entries b.owner b.after b.entries.items };
 
-    ghost invariant = { λ b. (is_delta_block (block_of_entries b.owner b.after b.entries.items) ≡ true) × (b.length ≡ entries_length b.entries.items) × (b.length ≤ 203 * 65535) };
+    ghost invariant = { λ b. (is_delta_block (block_of_entries b.owner b.after b.entries.items) ≡ true) × (b.length ≡ entries_length b.entries.items) × (b.length ≤ ENTRY_LENGTH_MOST * ENTRIES_MOST) };
 }
 
 /// Whether each version is above the one before, and the first above `after`.
@@ -56,7 +61,7 @@ fn length_of(entries: &[Entry]) -> u64
     requires { length entries.now ≤ ENTRIES_MOST }
     ensures length { result ≡ entries_length entries.now }
     ensures each { list_all is_entry entries.now ≡ true }
-    ensures most { result ≤ 203 * length entries.now }
+    ensures most { result ≤ ENTRY_LENGTH_MOST * length entries.now }
 {
     let mut total = 0;
     for entry in entries {
@@ -66,19 +71,19 @@ fn length_of(entries: &[Entry]) -> u64
 }
 
 impl Block {
-    /// A block of these entries. `Malformed(3)`, the entries dropped, where there are none or more than
+    /// A block of these entries. `Malformed(KIND_DELTA)`, the entries dropped, where there are none or more than
     /// 65,535, where a version is not above the one before, the first not above `after`, or where a key
     /// stands twice. It takes no memory.
     #[tactic(auto, using(crate::proofs::DistinctKeys::ascending_from_zero))]
     pub fn new(owner: Name, after: u64, mut entries: Vec<Entry>) -> Result<Block, Fault>
-        ensures { result ≡ (if are_block_entries after entries.items then Ok (block_of_entries owner after entries.items) else Err (Fault.Malformed 3)) }
+        ensures { result ≡ (if are_block_entries after entries.items then Ok (block_of_entries owner after entries.items) else Err (Fault.Malformed KIND_DELTA)) }
     {
         if entries.is_empty()
             || entries.len() > ENTRIES_MOST
             || !do_ascend(after, &entries)
             || !are_keys_distinct(&mut entries)
         {
-            return Err(Fault::Malformed(3));
+            return Err(Fault::Malformed(KIND_DELTA));
         }
         // Does nothing: the call tells the prover that the name keeps its limits.
         let _ = owner.bytes();
@@ -130,8 +135,9 @@ impl Block {
     pub fn encoded_length(&self) -> u64
         ensures length { result ≡ block_length self.now }
         ensures block { is_delta_block self.now ≡ true }
-        ensures most { result ≤ 203 * ENTRIES_MOST + 43 }
+        ensures most { result ≤ ENTRY_LENGTH_MOST * ENTRIES_MOST + BLOCK_HEAD_MOST }
     {
-        self.length + 11 + self.owner.bytes().len() as u64
+        let owner_length = BYTE_LENGTH + self.owner.bytes().len() as u64;
+        owner_length + NUMBER_LENGTH + COUNT_LENGTH + self.length
     }
 }

@@ -5,6 +5,7 @@ ghost use Rattle.sb_types.specs.Limits.{are_owners_above, are_delta_blocks, is_d
 
 use crate::block::Block;
 use crate::fault::Fault;
+use crate::format::{BYTE_LENGTH, COUNT_LENGTH, KIND_DELTA};
 use crate::limits::PAYLOAD_MOST;
 use std::marker::Model;
 
@@ -51,7 +52,7 @@ fn length_within(blocks: &[Block]) -> Option<u64>
     ensures length { result ≡ (if nat_le (delta_length blocks.now) PAYLOAD_MOST then Some (delta_length blocks.now) else None) }
     ensures each { OnSome result (list_all is_delta_block blocks.now ≡ true) }
 {
-    let mut length = 3;
+    let mut length = BYTE_LENGTH + COUNT_LENGTH;
     for block in blocks {
         length += block.encoded_length();
         if length > PAYLOAD_MOST {
@@ -62,16 +63,16 @@ fn length_within(blocks: &[Block]) -> Option<u64>
 }
 
 impl Delta {
-    /// A delta of these blocks. `Malformed(3)`, the blocks dropped, where an owner's name is not behind
+    /// A delta of these blocks. `Malformed(KIND_DELTA)`, the blocks dropped, where an owner's name is not behind
     /// the one before, or where the payload would have more than 65,530 bytes. It takes no memory.
     pub fn new(blocks: Vec<Block>) -> Result<Delta, Fault>
-        ensures { result ≡ (if are_delta_blocks blocks.items then Ok blocks.items else Err (Fault.Malformed 3)) }
+        ensures { result ≡ (if are_delta_blocks blocks.items then Ok blocks.items else Err (Fault.Malformed KIND_DELTA)) }
     {
         if !do_owners_ascend(&blocks) {
-            return Err(Fault::Malformed(3));
+            return Err(Fault::Malformed(KIND_DELTA));
         }
         let Some(length) = length_within(&blocks) else {
-            return Err(Fault::Malformed(3));
+            return Err(Fault::Malformed(KIND_DELTA));
         };
         Ok(Delta { blocks, length })
     }

@@ -4,6 +4,7 @@ ghost use Rattle.sb_types.specs.Limits.{is_slot, is_entry};
 ghost use Rattle.sb_types.specs.Faults.{Gives};
 
 use crate::fault::Fault;
+use crate::format::{BYTE_LENGTH, ENTRY_LENGTH_MOST, NUMBER_LENGTH, VALUE_LENGTH_MOST};
 use crate::text::Key;
 use crate::value::Value;
 use std::alloc::Global;
@@ -59,7 +60,7 @@ impl Slot {
     pub fn encoded_length(&self) -> u64
         ensures length { result ≡ slot_length self.now }
         ensures slot { is_slot self.now ≡ true }
-        ensures most { result ≤ 129 }
+        ensures most { result ≤ VALUE_LENGTH_MOST }
     {
         match self {
             Slot::Set(value) => value.encoded_length(),
@@ -119,8 +120,9 @@ impl Entry {
     pub fn encoded_length(&self) -> u64
         ensures length { result ≡ entry_length self.now }
         ensures entry { is_entry self.now ≡ true }
-        ensures most { result ≤ 203 }
+        ensures most { result ≤ ENTRY_LENGTH_MOST }
     {
-        10 + self.key.bytes().len() as u64 + self.slot.encoded_length()
+        let key_length = BYTE_LENGTH + self.key.bytes().len() as u64;
+        key_length + NUMBER_LENGTH + BYTE_LENGTH + self.slot.encoded_length()
     }
 }

@@ -1,4 +1,6 @@
-//! The limits of the directory and the numbers of its format, each in one place.
+//! The limits of the directory, each in one place.
+
+use crate::format::HEADER_LENGTH;
 
 /// The most bytes of a node's, an owner's or a cluster's name.
 pub const NAME_MOST: usize = 32;
@@ -33,21 +35,11 @@ pub const WORKERS_MOST: u64 = 62;
 /// The least budget of a frame in bytes: the longest delta of one entry fits it.
 pub const BUDGET_LEAST: u64 = 256;
 
-/// The greatest budget of a frame in bytes, which is the length of the longest frame: `HEADER_LENGTH` and
-/// `PAYLOAD_MOST` together.
-pub const BUDGET_MOST: u64 = 65_536;
-
-/// The first byte of a frame.
-pub const FRAME_MARK: u8 = 0xa7;
-
-/// The second byte of a frame, the version of the format.
-pub const FRAME_VERSION: u8 = 1;
-
-/// How many bytes of a frame stand before its payload.
-pub const HEADER_LENGTH: u64 = 6;
-
-/// The most bytes of a payload: `BUDGET_MOST` without `HEADER_LENGTH`.
+/// The most bytes of a payload.
 pub const PAYLOAD_MOST: u64 = 65_530;
 
-/// The greatest tag of a slot.
-pub const TAG_MOST: u8 = 3;
+/// The greatest budget of a frame in bytes: the longest frame fits it.
+pub const BUDGET_MOST: u64 = HEADER_LENGTH + PAYLOAD_MOST;
+
+/// The greatest number of a fault.
+pub const FAULT_NUMBER_MOST: u8 = 31;

@@ -7,6 +7,7 @@ ghost use Rattle.sb_types.specs.Lengths.{value_length};
 ghost use Rattle.sb_types.specs.Faults.{Gives};
 
 use crate::fault::Fault;
+use crate::format::{BYTE_LENGTH, NUMBER_LENGTH, VALUE_LENGTH_MOST};
 use crate::limits::{ADDR_MOST, WEIGHT_MOST};
 use std::alloc::Global;
 use std::marker::Model;
@@ -153,12 +154,12 @@ impl Value {
     pub fn encoded_length(&self) -> u64
         ensures length { result ≡ value_length self.now }
         ensures value { values.is_value self.now ≡ true }
-        ensures most { result ≤ 129 }
+        ensures most { result ≤ VALUE_LENGTH_MOST }
     {
         match &self.content {
-            Content::Addr(text) => 1 + text.len() as u64,
-            Content::Weight(_) => 8,
-            Content::Flag(_) => 1,
+            Content::Addr(text) => BYTE_LENGTH + text.len() as u64,
+            Content::Weight(_) => NUMBER_LENGTH,
+            Content::Flag(_) => BYTE_LENGTH,
         }
     }
 }

@@ -1,8 +1,7 @@
 ghost use Rattle.std.specs.Prelude.{◌≡◌, true, if◌then◌else◌, Ok, Err};
 ghost use Rattle.sb_codec.specs.Limits.{is_reason};
 
-use crate::numbers::{KIND_BYE, REASON_MOST};
-use sb_types::Fault;
+use sb_types::{Fault, KIND_BYE, REASON_MOST};
 use std::marker::Model;
 
 /// The end of a session, for a reason from 1 to 5. The reason 1 says that the rounds are done.
@@ -25,9 +24,9 @@ impl Model for Bye {
 }
 
 impl Bye {
-    /// The end for this reason. `Malformed(4)` where the reason is not from 1 to 5.
+    /// The end for this reason. `Malformed(KIND_BYE)` where the reason is not from 1 to 5.
     pub fn new(reason: u8) -> Result<Bye, Fault>
-        ensures { result ≡ (if is_reason reason then Ok reason else Err (Fault.Malformed 4)) }
+        ensures { result ≡ (if is_reason reason then Ok reason else Err (Fault.Malformed KIND_BYE)) }
     {
         if reason == 0 || reason > REASON_MOST {
             return Err(Fault::Malformed(KIND_BYE));

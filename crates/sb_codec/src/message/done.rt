@@ -1,8 +1,7 @@
 ghost use Rattle.std.specs.Prelude.{◌≡◌, true, if◌then◌else◌, Ok, Err};
 ghost use Rattle.sb_codec.specs.Limits.{is_version};
 
-use crate::numbers::KIND_DONE;
-use sb_types::Fault;
+use sb_types::{Fault, KIND_DONE};
 use std::marker::Model;
 
 /// The version of a write that was made, which is at least 1.
@@ -25,9 +24,9 @@ impl Model for Done {
 }
 
 impl Done {
-    /// A write of this version was made. `Malformed(0x13)` where the version is 0.
+    /// A write of this version was made. `Malformed(KIND_DONE)` where the version is 0.
     pub fn new(version: u64) -> Result<Done, Fault>
-        ensures { result ≡ (if is_version version then Ok version else Err (Fault.Malformed 19)) }
+        ensures { result ≡ (if is_version version then Ok version else Err (Fault.Malformed KIND_DONE)) }
     {
         if version == 0 {
             return Err(Fault::Malformed(KIND_DONE));

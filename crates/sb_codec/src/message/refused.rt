@@ -1,8 +1,7 @@
 ghost use Rattle.std.specs.Prelude.{◌≡◌, true, if◌then◌else◌, Ok, Err};
 ghost use Rattle.sb_codec.specs.Limits.{is_fault_number};
 
-use crate::numbers::{FAULT_NUMBER_MOST, KIND_REFUSED};
-use sb_types::Fault;
+use sb_types::{FAULT_NUMBER_MOST, Fault, KIND_REFUSED};
 use std::marker::Model;
 
 /// The number, from 1 to 31, of the fault for which something was refused.
@@ -25,9 +24,9 @@ impl Model for Refused {
 }
 
 impl Refused {
-    /// A refusal for the fault of this number. `Malformed(0x14)` where no fault has it.
+    /// A refusal for the fault of this number. `Malformed(KIND_REFUSED)` where no fault has it.
     pub fn new(number: u8) -> Result<Refused, Fault>
-        ensures { result ≡ (if is_fault_number number then Ok number else Err (Fault.Malformed 20)) }
+        ensures { result ≡ (if is_fault_number number then Ok number else Err (Fault.Malformed KIND_REFUSED)) }
     {
         if number == 0 || number > FAULT_NUMBER_MOST {
             return Err(Fault::Malformed(KIND_REFUSED));

@@ -4,9 +4,12 @@ ghost use Rattle.sb_codec.specs.Records.{row_of, rows_of};
 ghost use Rattle.sb_codec.specs.Lengths.{row_length, rows_length};
 ghost use Rattle.sb_codec.specs.Limits.{is_row, is_version, are_rows_above, are_page_rows, is_page};
 
-use crate::numbers::KIND_ROWS;
-use sb_types::{Fault, Key, Name, PAYLOAD_MOST, Value};
+use sb_types::{BYTE_LENGTH, COUNT_LENGTH, Fault, KEY_LENGTH_MOST, KIND_ROWS, Key, NAME_LENGTH_MOST, NUMBER_LENGTH, Name, PAYLOAD_MOST, VALUE_LENGTH_MOST, Value};
 use std::marker::Model;
+
+/// The most bytes that a row takes: a name, a key, a version, a tag and a value.
+const ROW_LENGTH_MOST: u64 =
+    NAME_LENGTH_MOST + KEY_LENGTH_MOST + NUMBER_LENGTH + BYTE_LENGTH + VALUE_LENGTH_MOST;
 
 /// What an owner has under a key: a value, and the version of its write, which is at least 1.
 #[derive(Debug, Drop)]
@@ -79,7 +82,7 @@ fn length_within(rows: &[Row]) -> Option<u64>
     ensures length { result ≡ (if nat_le (rows_length rows.now) PAYLOAD_MOST then Some (rows_length rows.now) else None) }
     ensures each { OnSome result (list_all is_row rows.now ≡ true) }
 {
-    let mut length = 4;
+    let mut length = BYTE_LENGTH + BYTE_LENGTH + COUNT_LENGTH;
     for row in rows {
         length += row.encoded_length();
         if length > PAYLOAD_MOST {
@@ -90,10 +93,10 @@ fn length_within(rows: &[Row]) -> Option<u64>
 }
 
 impl Row {
-    /// A row of these parts. `Malformed(0x11)`, the value dropped, where the version is 0. It takes no
+    /// A row of these parts. `Malformed(KIND_ROWS)`, the value dropped, where the version is 0. It takes no
     /// memory.
     pub fn new(owner: Name, key: Key, version: u64, value: Value) -> Result<Row, Fault>
-        ensures { result ≡ (if is_version version then Ok (row_of owner key version value) else Err (Fault.Malformed 17)) }
+        ensures { result ≡ (if is_version version then Ok (row_of owner key version value) else Err (Fault.Malformed KIND_ROWS)) }
     {
         if version == 0 {
             return Err(Fault::Malformed(KIND_ROWS));
@@ -146,19 +149,20 @@ impl Row {
     pub fn encoded_length(&self) -> u64
         ensures length { result ≡ row_length self.now }
         ensures row { is_row self.now ≡ true }
-        ensures most { result ≤ 236 }
+        ensures most { result ≤ ROW_LENGTH_MOST }
     {
-        let texts = self.owner.bytes().len() + self.key.bytes().len();
-        11 + texts as u64 + self.value.encoded_length()
+        let owner_length = BYTE_LENGTH + self.owner.bytes().len() as u64;
+        let key_length = BYTE_LENGTH + self.key.bytes().len() as u64;
+        owner_length + key_length + NUMBER_LENGTH + BYTE_LENGTH + self.value.encoded_length()
     }
 }
 
 impl Rows {
-    /// A page of these rows. `Malformed(0x11)`, the rows dropped, where a row's owner and key are not
+    /// A page of these rows. `Malformed(KIND_ROWS)`, the rows dropped, where a row's owner and key are not
     /// behind those of the one before, or where the payload would have more than 65,530 bytes. It takes
     /// no memory.
     pub fn new(more: bool, rows: Vec<Row>) -> Result<Rows, Fault>
-        ensures { result ≡ (if are_page_rows rows.items then Ok (rows_of more rows.items) else Err (Fault.Malformed 17)) }
+        ensures { result ≡ (if are_page_rows rows.items then Ok (rows_of more rows.items) else Err (Fault.Malformed KIND_ROWS)) }
     {
         if !do_ascend(&rows) {
             return Err(Fault::Malformed(KIND_ROWS));

@@ -1,5 +1,5 @@
 use Rattle.std.proofs.Common.{◌≡◌, ◌∷◌, ◌∙◌, arith}
-use Rattle.sb_types.specs.declared.limits.TheConstants.{FRAME_MARK, FRAME_VERSION}
+use Rattle.sb_types.specs.declared.format.TheConstants.{FRAME_MARK, FRAME_VERSION}
 use Rattle.sb_frames.proofs.Fronts.{before_mark, wrong_mark, before_version, wrong_version, before_length, HasLength, has_length, wrong_length, before_payload, has_payload}
 use Rattle.sb_frames.proofs.front.payload_in.Goals as goal
 use Rattle.sb_frames.proofs.front.payload_in.Goals.{In-Some-split_first_chunk}

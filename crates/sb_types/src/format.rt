@@ -1,0 +1,86 @@
+//! The numbers of the format: what begins a frame, the kinds of messages, the tags of slots, the
+//! reasons of a Bye, and how many bytes the parts of a message take. Each stands here alone.
+
+use crate::limits::{ADDR_MOST, KEY_MOST, NAME_MOST};
+
+/// The first byte of a frame.
+pub const FRAME_MARK: u8 = 0xa7;
+
+/// The second byte of a frame, the version of the format.
+pub const FRAME_VERSION: u8 = 1;
+
+/// How many bytes of a frame stand before its payload.
+pub const HEADER_LENGTH: u64 = 6;
+
+/// The kind of a Hello. A kind is the first byte of a payload.
+pub const KIND_HELLO: u8 = 0x01;
+
+/// The kind of a digest.
+pub const KIND_DIGEST: u8 = 0x02;
+
+/// The kind of a delta.
+pub const KIND_DELTA: u8 = 0x03;
+
+/// The kind of a Bye.
+pub const KIND_BYE: u8 = 0x04;
+
+/// The kind of an Ask.
+pub const KIND_ASK: u8 = 0x10;
+
+/// The kind of Rows.
+pub const KIND_ROWS: u8 = 0x11;
+
+/// The kind of a Put.
+pub const KIND_PUT: u8 = 0x12;
+
+/// The kind of a Done.
+pub const KIND_DONE: u8 = 0x13;
+
+/// The kind of a Refused.
+pub const KIND_REFUSED: u8 = 0x14;
+
+/// The tag of a removal, which has no value.
+pub const TAG_REMOVED: u8 = 0;
+
+/// The tag of an address.
+pub const TAG_ADDR: u8 = 1;
+
+/// The tag of a weight.
+pub const TAG_WEIGHT: u8 = 2;
+
+/// The tag of a flag.
+pub const TAG_FLAG: u8 = 3;
+
+/// The reason of a Bye when the rounds are done.
+pub const REASON_ROUNDS_DONE: u8 = 1;
+
+/// The greatest reason of a Bye.
+pub const REASON_MOST: u8 = 5;
+
+/// How many bytes each of these takes: a kind, a tag, a flag, a reason, the number of a fault, the length of a
+/// text.
+pub const BYTE_LENGTH: u64 = 1;
+
+/// How many bytes a count of blocks, entries, pairs or rows takes.
+pub const COUNT_LENGTH: u64 = 2;
+
+/// How many bytes a version takes, and a weight.
+pub const NUMBER_LENGTH: u64 = 8;
+
+/// The most bytes that a name takes, with its length.
+pub const NAME_LENGTH_MOST: u64 = BYTE_LENGTH + NAME_MOST as u64;
+
+/// The most bytes that a key takes, with its length.
+pub const KEY_LENGTH_MOST: u64 = BYTE_LENGTH + KEY_MOST as u64;
+
+/// The most bytes that a value takes: an address with its length.
+pub const VALUE_LENGTH_MOST: u64 = BYTE_LENGTH + ADDR_MOST as u64;
+
+/// The most bytes that an entry takes: a key, a version, a tag and a value.
+pub const ENTRY_LENGTH_MOST: u64 = KEY_LENGTH_MOST
+    + NUMBER_LENGTH
+    + BYTE_LENGTH
+    + VALUE_LENGTH_MOST;
+
+/// The most bytes that a block takes before its entries: a name, a version and a count.
+pub const BLOCK_HEAD_MOST: u64 = NAME_LENGTH_MOST + NUMBER_LENGTH + COUNT_LENGTH;
