@@ -11,7 +11,10 @@ use crate::writing::{
     write_flag, write_list, write_optional_name, write_place, write_slot, write_text, write_u64,
 };
 use sb_digest::Digest;
-use sb_types::{Delta, Fault, KIND_ASK, KIND_BYE, KIND_DELTA, KIND_DIGEST, KIND_DONE, KIND_HELLO, KIND_PUT, KIND_REFUSED, KIND_ROWS, Write};
+use sb_types::{
+    Delta, Fault, KIND_ASK, KIND_BYE, KIND_DELTA, KIND_DIGEST, KIND_DONE, KIND_HELLO, KIND_PUT,
+    KIND_REFUSED, KIND_ROWS, Write,
+};
 use std::alloc::{AllocError, Global};
 
 fn write_hello(alloc: Global, hello: &Hello) -> Result<Vec<u8>, AllocError>

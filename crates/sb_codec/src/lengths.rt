@@ -1,6 +1,6 @@
 //! The length of a message's frame, without the frame.
 
-ghost use Rattle.std.specs.Prelude.{◌≡◌, ◌+◌, ◌≤◌, length};
+ghost use Rattle.std.specs.Prelude.{◌≡◌, ◌+◌, ◌*◌, ◌≤◌, length};
 ghost use Rattle.sb_types.specs.declared.format.TheConstants.{HEADER_LENGTH};
 ghost use Rattle.sb_types.specs.declared.limits.TheConstants.{PAYLOAD_MOST, BUDGET_MOST};
 ghost use Rattle.sb_codec.specs.Spelling.{optional, place};
