@@ -65,7 +65,7 @@ fn put_length(write: &Write) -> u64
     BYTE_LENGTH + key_length + BYTE_LENGTH + write.slot.encoded_length()
 }
 
-fn payload_length(message: &Message) -> u64
+pub(crate) fn payload_length(message: &Message) -> u64
     ensures length { result ≡ length (spelling message.now) }
     ensures most { result ≤ PAYLOAD_MOST }
 {
