@@ -10,7 +10,10 @@ ghost use Rattle.sb_codec.specs.Refusal.{ReadsWhole};
 use crate::fields::Fields;
 use crate::message::Message;
 use crate::refusal::Refusal;
-use sb_types::{Fault, KIND_ASK, KIND_BYE, KIND_DELTA, KIND_DIGEST, KIND_DONE, KIND_HELLO, KIND_PUT, KIND_REFUSED, KIND_ROWS};
+use sb_types::{
+    Fault, KIND_ASK, KIND_BYE, KIND_DELTA, KIND_DIGEST, KIND_DONE, KIND_HELLO, KIND_PUT,
+    KIND_REFUSED, KIND_ROWS,
+};
 use std::alloc::Global;
 
 fn test_kind(kind: u8) -> bool

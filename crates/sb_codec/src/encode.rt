@@ -1,120 +1,133 @@
-//! The payload of a message.
+//! The payload of a message, behind what was written.
 
-ghost use Rattle.std.specs.Prelude.{◌≡◌, IfOk, IfErr};
-ghost use Rattle.sb_codec.specs.Messages.{Spells, IsSole, spelling};
+ghost use Rattle.std.specs.Prelude.{◌≡◌, ◌++◌, true, IfOk, IfErr, OnOk};
+ghost use Rattle.sb_codec.specs.Messages.{Spells, IsSole, spelling, is_message};
 
+use crate::lengths::payload_length;
 use crate::message::{Ask, Bye, Done, Hello, Message, Refused, Rows};
-/// The most bytes of the payload of an Ask.
-const ASK_MOST: usize = 197;
-
 use crate::writing::{
     write_flag, write_list, write_optional_name, write_place, write_slot, write_text, write_u64,
 };
 use sb_digest::Digest;
-use sb_types::{Delta, Fault, KIND_ASK, KIND_BYE, KIND_DELTA, KIND_DIGEST, KIND_DONE, KIND_HELLO, KIND_PUT, KIND_REFUSED, KIND_ROWS, Write};
+use sb_types::{
+    Delta, Fault, KIND_ASK, KIND_BYE, KIND_DELTA, KIND_DIGEST, KIND_DONE, KIND_HELLO, KIND_PUT,
+    KIND_REFUSED, KIND_ROWS, Write,
+};
 use std::alloc::{AllocError, Global};
 
-fn write_hello(alloc: Global, hello: &Hello) -> Result<Vec<u8>, AllocError>
-    ensures { IfOk result (λ v. Spells v.items (Message.Hello hello.now)) }
+#[tactic(auto, unfolding(crate::specs::Messages::spelling, crate::specs::Spelling::hello))]
+fn write_hello(out: &mut Vec<u8>, hello: &Hello) -> Result<(), AllocError>
+    ensures written { OnOk result (out.new.items ≡ out.old.items ++ spelling (Message.Hello hello.now)) }
+    ensures limits { OnOk result (is_message (Message.Hello hello.now) ≡ true) }
 {
-    let (cluster, node) = (hello.cluster.bytes(), hello.node.bytes());
-    let mut out = Vec::with_capacity(alloc, 3 + cluster.len() + node.len())?;
     out.push(KIND_HELLO)?;
-    write_text(&mut out, cluster)?;
-    write_text(&mut out, node)?;
-    Ok(out)
+    write_text(out, hello.cluster.bytes())?;
+    write_text(out, hello.node.bytes())
 }
 
-fn write_digest(alloc: Global, digest: &Digest) -> Result<Vec<u8>, AllocError>
-    ensures { IfOk result (λ v. Spells v.items (Message.Digest digest.now)) }
+#[tactic(auto, unfolding(crate::specs::Messages::spelling, crate::specs::Spelling::digest))]
+fn write_digest(out: &mut Vec<u8>, digest: &Digest) -> Result<(), AllocError>
+    ensures written { OnOk result (out.new.items ≡ out.old.items ++ spelling (Message.Digest digest.now)) }
+    ensures limits { OnOk result (is_message (Message.Digest digest.now) ≡ true) }
 {
-    let mut out = Vec::with_capacity(alloc, digest.encoded_length() as usize)?;
     out.push(KIND_DIGEST)?;
-    write_flag(&mut out, digest.want())?;
-    write_optional_name(&mut out, digest.from())?;
-    write_optional_name(&mut out, digest.until())?;
-    write_list(&mut out, digest.pairs())?;
-    Ok(out)
+    write_flag(out, digest.want())?;
+    write_optional_name(out, digest.from())?;
+    write_optional_name(out, digest.until())?;
+    write_list(out, digest.pairs())
 }
 
-fn write_delta(alloc: Global, delta: &Delta) -> Result<Vec<u8>, AllocError>
-    ensures { IfOk result (λ v. Spells v.items (Message.Delta delta.now)) }
+#[tactic(auto, unfolding(crate::specs::Messages::spelling))]
+fn write_delta(out: &mut Vec<u8>, delta: &Delta) -> Result<(), AllocError>
+    ensures written { OnOk result (out.new.items ≡ out.old.items ++ spelling (Message.Delta delta.now)) }
+    ensures limits { OnOk result (is_message (Message.Delta delta.now) ≡ true) }
 {
-    let mut out = Vec::with_capacity(alloc, delta.encoded_length() as usize)?;
     out.push(KIND_DELTA)?;
-    write_list(&mut out, delta.blocks())?;
-    Ok(out)
+    write_list(out, delta.blocks())
 }
 
-fn write_bye(alloc: Global, bye: &Bye) -> Result<Vec<u8>, AllocError>
-    ensures { IfOk result (λ v. Spells v.items (Message.Bye bye.now)) }
+#[tactic(auto, unfolding(crate::specs::Messages::spelling))]
+fn write_bye(out: &mut Vec<u8>, bye: &Bye) -> Result<(), AllocError>
+    ensures written { OnOk result (out.new.items ≡ out.old.items ++ spelling (Message.Bye bye.now)) }
+    ensures limits { OnOk result (is_message (Message.Bye bye.now) ≡ true) }
 {
-    Ok(vec![in alloc; KIND_BYE, bye.reason()]?)
+    out.extend_from_slice(&[KIND_BYE, bye.reason()])
 }
 
-fn write_ask(alloc: Global, ask: &Ask) -> Result<Vec<u8>, AllocError>
-    ensures { IfOk result (λ v. Spells v.items (Message.Ask ask.now)) }
+#[tactic(auto, unfolding(crate::specs::Messages::spelling, crate::specs::Spelling::ask))]
+fn write_ask(out: &mut Vec<u8>, ask: &Ask) -> Result<(), AllocError>
+    ensures written { OnOk result (out.new.items ≡ out.old.items ++ spelling (Message.Ask ask.now)) }
+    ensures limits { OnOk result (is_message (Message.Ask ask.now) ≡ true) }
 {
-    let mut out = Vec::with_capacity(alloc, ASK_MOST)?;
     out.push(KIND_ASK)?;
-    write_optional_name(&mut out, ask.owner)?;
-    write_text(&mut out, ask.prefix.bytes())?;
-    write_place(&mut out, ask.after)?;
-    Ok(out)
+    write_optional_name(out, ask.owner)?;
+    write_text(out, ask.prefix.bytes())?;
+    write_place(out, ask.after)
 }
 
-fn write_rows(alloc: Global, rows: &Rows) -> Result<Vec<u8>, AllocError>
-    ensures { IfOk result (λ v. Spells v.items (Message.Rows rows.now)) }
+#[tactic(auto, unfolding(crate::specs::Messages::spelling, crate::specs::Spelling::page))]
+fn write_rows(out: &mut Vec<u8>, rows: &Rows) -> Result<(), AllocError>
+    ensures written { OnOk result (out.new.items ≡ out.old.items ++ spelling (Message.Rows rows.now)) }
+    ensures limits { OnOk result (is_message (Message.Rows rows.now) ≡ true) }
 {
-    let mut out = Vec::with_capacity(alloc, rows.encoded_length() as usize)?;
     out.push(KIND_ROWS)?;
-    write_flag(&mut out, rows.more())?;
-    write_list(&mut out, rows.rows())?;
-    Ok(out)
+    write_flag(out, rows.more())?;
+    write_list(out, rows.rows())
 }
 
-fn write_put(alloc: Global, write: &Write) -> Result<Vec<u8>, AllocError>
-    ensures { IfOk result (λ v. Spells v.items (Message.Put write.now)) }
+#[tactic(auto, unfolding(crate::specs::Messages::spelling, crate::specs::Spelling::write))]
+fn write_put(out: &mut Vec<u8>, write: &Write) -> Result<(), AllocError>
+    ensures written { OnOk result (out.new.items ≡ out.old.items ++ spelling (Message.Put write.now)) }
+    ensures limits { OnOk result (is_message (Message.Put write.now) ≡ true) }
 {
-    let key = write.key.bytes();
-    let length = 3 + key.len() + write.slot.encoded_length() as usize;
-    let mut out = Vec::with_capacity(alloc, length)?;
     out.push(KIND_PUT)?;
-    write_text(&mut out, key)?;
-    write_slot(&mut out, &write.slot)?;
-    Ok(out)
+    write_text(out, write.key.bytes())?;
+    write_slot(out, &write.slot)
 }
 
-fn write_done(alloc: Global, done: &Done) -> Result<Vec<u8>, AllocError>
-    ensures { IfOk result (λ v. Spells v.items (Message.Done done.now)) }
+#[tactic(auto, unfolding(crate::specs::Messages::spelling))]
+fn write_done(out: &mut Vec<u8>, done: &Done) -> Result<(), AllocError>
+    ensures written { OnOk result (out.new.items ≡ out.old.items ++ spelling (Message.Done done.now)) }
+    ensures limits { OnOk result (is_message (Message.Done done.now) ≡ true) }
 {
-    let mut out = Vec::with_capacity(alloc, 9)?;
     out.push(KIND_DONE)?;
-    write_u64(&mut out, done.version())?;
-    Ok(out)
+    write_u64(out, done.version())
 }
 
-fn write_refused(alloc: Global, refused: &Refused) -> Result<Vec<u8>, AllocError>
-    ensures { IfOk result (λ v. Spells v.items (Message.Refused refused.now)) }
+#[tactic(auto, unfolding(crate::specs::Messages::spelling))]
+fn write_refused(out: &mut Vec<u8>, refused: &Refused) -> Result<(), AllocError>
+    ensures written { OnOk result (out.new.items ≡ out.old.items ++ spelling (Message.Refused refused.now)) }
+    ensures limits { OnOk result (is_message (Message.Refused refused.now) ≡ true) }
 {
-    Ok(vec![in alloc; KIND_REFUSED, refused.number()]?)
+    out.extend_from_slice(&[KIND_REFUSED, refused.number()])
 }
 
-/// The payload of each kind, its room taken at once.
-fn write_message(alloc: Global, message: &Message) -> Result<Vec<u8>, AllocError>
-    ensures { IfOk result (λ v. Spells v.items message.now) }
+fn write_message(out: &mut Vec<u8>, message: &Message) -> Result<(), AllocError>
+    ensures written { OnOk result (out.new.items ≡ out.old.items ++ spelling message.now) }
+    ensures limits { OnOk result (is_message message.now ≡ true) }
 {
     match message {
-        Message::Hello(hello) => write_hello(alloc, hello),
-        Message::Digest(digest) => write_digest(alloc, digest),
-        Message::Delta(delta) => write_delta(alloc, delta),
-        Message::Bye(bye) => write_bye(alloc, bye),
-        Message::Ask(ask) => write_ask(alloc, ask),
-        Message::Rows(rows) => write_rows(alloc, rows),
-        Message::Put(write) => write_put(alloc, write),
-        Message::Done(done) => write_done(alloc, done),
-        Message::Refused(refused) => write_refused(alloc, refused),
+        Message::Hello(hello) => write_hello(out, hello),
+        Message::Digest(digest) => write_digest(out, digest),
+        Message::Delta(delta) => write_delta(out, delta),
+        Message::Bye(bye) => write_bye(out, bye),
+        Message::Ask(ask) => write_ask(out, ask),
+        Message::Rows(rows) => write_rows(out, rows),
+        Message::Put(write) => write_put(out, write),
+        Message::Done(done) => write_done(out, done),
+        Message::Refused(refused) => write_refused(out, refused),
     }
+}
+
+/// Writes the one payload that spells the message behind what `out` holds. `NoMemory` is its only fault;
+/// a part of the payload may then stand behind what was there.
+pub fn append_payload(out: &mut Vec<u8>, message: &Message) -> Result<(), Fault>
+    ensures written { OnOk result (out.new.items ≡ out.old.items ++ spelling message.now) }
+    ensures found { OnOk result (Spells (spelling message.now) message.now) }
+    ensures sole { OnOk result (IsSole (spelling message.now) message.now) }
+    ensures fault { IfErr result (λ fault. fault ≡ Fault.NoMemory) }
+{
+    Ok(write_message(out, message)?)
 }
 
 /// The one payload that spells the message. `NoMemory` is its only fault.
@@ -123,5 +136,7 @@ pub fn encode_payload(alloc: Global, message: &Message) -> Result<Vec<u8>, Fault
     ensures sole { IfOk result (λ v. IsSole v.items message.now) }
     ensures fault { IfErr result (λ fault. fault ≡ Fault.NoMemory) }
 {
-    Ok(write_message(alloc, message)?)
+    let mut payload = Vec::with_capacity(alloc, payload_length(message) as usize)?;
+    append_payload(&mut payload, message)?;
+    Ok(payload)
 }

@@ -12,7 +12,11 @@ use crate::message::{Ask, Bye, Done, Hello, Message, Refused, Row, Rows};
 use crate::refusal::Refusal;
 use crate::spelled::Spelled;
 use sb_digest::{Digest, Pair};
-use sb_types::{Block, Delta, Entry, KIND_ASK, KIND_BYE, KIND_DELTA, KIND_DIGEST, KIND_DONE, KIND_HELLO, KIND_PUT, KIND_REFUSED, KIND_ROWS, Key, Name, Prefix, Slot, TAG_ADDR, TAG_FLAG, TAG_REMOVED, TAG_WEIGHT, Value, Write};
+use sb_types::{
+    Block, Delta, Entry, KIND_ASK, KIND_BYE, KIND_DELTA, KIND_DIGEST, KIND_DONE, KIND_HELLO,
+    KIND_PUT, KIND_REFUSED, KIND_ROWS, Key, Name, Prefix, Slot, TAG_ADDR, TAG_FLAG, TAG_REMOVED,
+    TAG_WEIGHT, Value, Write,
+};
 use std::alloc::Global;
 use std::marker::Model;
 

@@ -1,6 +1,6 @@
 //! The length of a message's frame, without the frame.
 
-ghost use Rattle.std.specs.Prelude.{◌≡◌, ◌+◌, ◌≤◌, length};
+ghost use Rattle.std.specs.Prelude.{◌≡◌, ◌+◌, ◌*◌, ◌≤◌, length};
 ghost use Rattle.sb_types.specs.declared.format.TheConstants.{HEADER_LENGTH};
 ghost use Rattle.sb_types.specs.declared.limits.TheConstants.{PAYLOAD_MOST, BUDGET_MOST};
 ghost use Rattle.sb_codec.specs.Spelling.{optional, place};
@@ -65,7 +65,7 @@ fn put_length(write: &Write) -> u64
     BYTE_LENGTH + key_length + BYTE_LENGTH + write.slot.encoded_length()
 }
 
-fn payload_length(message: &Message) -> u64
+pub(crate) fn payload_length(message: &Message) -> u64
     ensures length { result ≡ length (spelling message.now) }
     ensures most { result ≤ PAYLOAD_MOST }
 {

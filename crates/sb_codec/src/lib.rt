@@ -12,7 +12,7 @@ mod spelled;
 mod writing;
 
 pub use decode::decode_payload;
-pub use encode::encode_payload;
+pub use encode::{append_payload, encode_payload};
 pub use lengths::length;
 pub use message::{Ask, Bye, Done, Hello, Message, Refused, Row, Rows};
 pub use payloads::{one_payload_each, payloads_have_these_lengths};

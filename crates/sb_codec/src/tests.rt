@@ -1,6 +1,9 @@
 use super::*;
 use sb_digest::{Digest, Pair};
-use sb_types::{Block, Delta, Entry, Fault, Key, Name, Prefix, Slot, Value, Write};
+use sb_types::{
+    Block, Delta, Entry, Fault, KIND_ASK, KIND_BYE, KIND_DELTA, KIND_DIGEST, KIND_DONE, KIND_HELLO,
+    KIND_PUT, KIND_REFUSED, KIND_ROWS, Key, Name, Prefix, Slot, Value, Write,
+};
 use std::alloc::Global;
 use std::test::Fail;
 
@@ -83,6 +86,20 @@ fn refusal_of(alloc: Global, words: &str) -> Result<Option<Fault>, Fault> {
     refusal(alloc, &bytes(alloc, words).ok_or(Fault::NoMemory)?)
 }
 
+/// The first of the words that are not refused as malformed, of this kind; nothing where each is.
+fn first_accepted<'a>(
+    alloc: Global,
+    kind: u8,
+    wrong: &[&'a str],
+) -> Result<Option<&'a str>, Fault> {
+    for words in wrong {
+        if refusal_of(alloc, words)? != Some(Fault::Malformed(kind)) {
+            return Ok(Some(words));
+        }
+    }
+    Ok(None)
+}
+
 fn pair(owner: &[u8], version: u64) -> Result<Pair, Fault> {
     Ok(Pair {
         owner: Name::read(owner)?,
@@ -161,51 +178,6 @@ fn the_payload_of_every_slot(rt: HostRuntime) -> Result<(), Fail> {
 }
 
 #[test]
-fn payloads_that_break_the_format(rt: HostRuntime) -> Result<(), Fail> {
-    let alloc = rt.alloc();
-    let wrong = [
-        // no entry; versions 2, then 1; a first version that is not above after; a version of 0
-        "03 0001 0161 0000000000000000 0000",
-        "03 0001 0161 0000000000000000 0002 0176 0000000000000002 00 0177 0000000000000001 00",
-        "03 0001 0161 0000000000000001 0001 0177 0000000000000001 00",
-        "03 0001 0161 0000000000000000 0001 0177 0000000000000000 00",
-        // owners b, then a; a twice; a key twice
-        "03 0002 0162 0000000000000000 0001 0177 0000000000000001 00 0161 0000000000000000 0001 0177 0000000000000001 00",
-        "03 0002 0161 0000000000000000 0001 0177 0000000000000001 00 0161 0000000000000000 0001 0177 0000000000000001 00",
-        "03 0001 0161 0000000000000000 0002 0177 0000000000000001 00 0177 0000000000000002 00",
-        // the tag 4; a flag of 2; a weight of 2^63; an address with a space
-        "03 0001 0161 0000000000000000 0001 0177 0000000000000001 04 01",
-        "03 0001 0161 0000000000000000 0001 0177 0000000000000001 03 02",
-        "03 0001 0161 0000000000000000 0001 0177 0000000000000001 02 8000000000000000",
-        "03 0001 0161 0000000000000000 0001 0177 0000000000000001 01 0120",
-        // a name with a capital; an empty key
-        "03 0001 0141 0000000000000000 0001 0177 0000000000000001 00",
-        "03 0001 0161 0000000000000000 0001 00 0000000000000001 00",
-        // one more byte; counts of what is not there
-        "03 0000 00",
-        "03 ffff",
-        "03 0001 0161 0000000000000000 ffff",
-    ];
-    for words in wrong {
-        assert_eq!(rt;
-            refusal_of(alloc, words)?,
-            Some(Fault::Malformed(3)),
-            "{words}"
-        );
-    }
-    let whole = bytes(alloc, ONE_ENTRY).ok_or(Fault::NoMemory)?;
-    for len in 1..whole.len() {
-        let front = whole.get(..len).unwrap_or(&[]);
-        assert_eq!(rt;
-            refusal(alloc, front)?,
-            Some(Fault::Malformed(3)),
-            "{front:?}"
-        );
-    }
-    Ok(())
-}
-
-#[test]
 fn the_payload_of_each_other_kind(rt: HostRuntime) -> Result<(), Fail> {
     let alloc = rt.alloc();
     let a = Name::read(b"a")?;
@@ -243,6 +215,17 @@ fn the_payload_of_each_other_kind(rt: HostRuntime) -> Result<(), Fail> {
     assert!(rt; is_payload(alloc, &Message::Put(put), PUT)?);
     assert!(rt; is_payload(alloc, &Message::Done(Done::new(1)?), DONE)?);
     assert!(rt; is_payload(alloc, &Message::Refused(Refused::new(13)?), REFUSED)?);
+    Ok(())
+}
+
+#[test]
+fn payloads_one_behind_the_other(rt: HostRuntime) -> Result<(), Fail> {
+    let alloc = rt.alloc();
+    let mut out = bytes(alloc, BYE).ok_or(Fault::NoMemory)?;
+    append_payload(&mut out, &Message::Done(Done::new(1)?))?;
+    append_payload(&mut out, &Message::Refused(Refused::new(13)?))?;
+    let expected = bytes(alloc, "04 01 13 0000000000000001 14 0d").ok_or(Fault::NoMemory)?;
+    assert_eq!(rt; out.as_slice(), expected.as_slice());
     Ok(())
 }
 
@@ -329,84 +312,152 @@ fn what_messages_say(rt: HostRuntime) -> Result<(), Fail> {
 }
 
 #[test]
-fn payloads_of_other_kinds_that_break_the_format(rt: HostRuntime) -> Result<(), Fail> {
-    let alloc = rt.alloc();
+fn deltas_that_break_the_format(rt: HostRuntime) -> Result<(), Fail> {
     let wrong = [
-        // a cluster of 33 bytes; no node; a node with a capital
-        (
-            0x01,
-            "01 21 616161616161616161616161616161616161616161616161616161616161616161 0161",
-        ),
-        (0x01, "01 026331"),
-        (0x01, "01 026331 0141"),
-        // want 2; a pair at until; above it; below from; bounds that are equal; owners twice, descending
-        (0x02, "02 02 00 00 0000"),
-        (0x02, "02 00 00 0162 0001 0162 0000000000000000"),
-        (0x02, "02 00 00 0162 0001 0163 0000000000000000"),
-        (0x02, "02 00 0162 00 0001 0161 0000000000000000"),
-        (0x02, "02 00 0162 0162 0000"),
-        (
-            0x02,
-            "02 00 00 00 0002 0161 0000000000000000 0161 0000000000000000",
-        ),
-        (
-            0x02,
-            "02 00 00 00 0002 0162 0000000000000000 0161 0000000000000000",
-        ),
-        // the reasons 0 and 6; none
-        (0x04, "04 00"),
-        (0x04, "04 06"),
-        (0x04, "04"),
-        // an owner with no key; a key with no owner; an owner, a prefix and a key with a capital
-        (0x10, "10 00 00 0161 00"),
-        (0x10, "10 00 00 00 0177"),
-        (0x10, "10 0141 00 00 00"),
-        (0x10, "10 00 0141 00 00"),
-        (0x10, "10 00 00 0161 0141"),
-        // more is 2; a version of 0; the tag 0; owners b, then a; keys w, then v; w twice
-        (0x11, "11 02 0000"),
-        (0x11, "11 00 0001 0161 0177 0000000000000000 03 00"),
-        (0x11, "11 00 0001 0161 0177 0000000000000001 00"),
-        (
-            0x11,
-            "11 00 0002 0162 0177 0000000000000001 03 00 0161 0177 0000000000000001 03 00",
-        ),
-        (
-            0x11,
-            "11 00 0002 0161 0177 0000000000000001 03 00 0161 0176 0000000000000001 03 00",
-        ),
-        (
-            0x11,
-            "11 00 0002 0161 0177 0000000000000001 03 00 0161 0177 0000000000000002 03 00",
-        ),
-        // a flag of 2; an empty key; the tag 4
-        (0x12, "12 0177 03 02"),
-        (0x12, "12 00 00"),
-        (0x12, "12 0177 04"),
-        // the version 0; the numbers 0 and 32
-        (0x13, "13 0000000000000000"),
-        (0x14, "14 00"),
-        (0x14, "14 20"),
-        // one more byte
-        (0x01, "01 026331 0161 00"),
-        (0x02, "02 01 00 00 0001 0161 0000000000000000 00"),
-        (0x04, "04 01 00"),
-        (0x10, "10 00 00 00 00 00"),
-        (
-            0x11,
-            "11 00 0001 0161 0177 0000000000000001 02 0000000000000005 00",
-        ),
-        (0x12, "12 0177 02 0000000000000005 00"),
-        (0x13, "13 0000000000000001 00"),
-        (0x14, "14 0d 00"),
+        // no entry; versions 2, then 1; a first version that is not above after; a version of 0
+        "03 0001 0161 0000000000000000 0000",
+        "03 0001 0161 0000000000000000 0002 0176 0000000000000002 00 0177 0000000000000001 00",
+        "03 0001 0161 0000000000000001 0001 0177 0000000000000001 00",
+        "03 0001 0161 0000000000000000 0001 0177 0000000000000000 00",
+        // owners b, then a; a twice; a key twice
+        "03 0002 0162 0000000000000000 0001 0177 0000000000000001 00 0161 0000000000000000 0001 0177 0000000000000001 00",
+        "03 0002 0161 0000000000000000 0001 0177 0000000000000001 00 0161 0000000000000000 0001 0177 0000000000000001 00",
+        "03 0001 0161 0000000000000000 0002 0177 0000000000000001 00 0177 0000000000000002 00",
+        // the tag 4; a flag of 2; a weight of 2^63; an address with a space
+        "03 0001 0161 0000000000000000 0001 0177 0000000000000001 04 01",
+        "03 0001 0161 0000000000000000 0001 0177 0000000000000001 03 02",
+        "03 0001 0161 0000000000000000 0001 0177 0000000000000001 02 8000000000000000",
+        "03 0001 0161 0000000000000000 0001 0177 0000000000000001 01 0120",
+        // a name with a capital; an empty key
+        "03 0001 0141 0000000000000000 0001 0177 0000000000000001 00",
+        "03 0001 0161 0000000000000000 0001 00 0000000000000001 00",
+        // one more byte; counts of what is not there
+        "03 0000 00",
+        "03 ffff",
+        "03 0001 0161 0000000000000000 ffff",
     ];
-    for (kind, words) in wrong {
+    assert_eq!(rt; first_accepted(rt.alloc(), KIND_DELTA, &wrong)?, None);
+    Ok(())
+}
+
+#[test]
+fn parts_of_a_delta(rt: HostRuntime) -> Result<(), Fail> {
+    let alloc = rt.alloc();
+    let whole = bytes(alloc, ONE_ENTRY).ok_or(Fault::NoMemory)?;
+    for len in 1..whole.len() {
+        let front = whole.get(..len).unwrap_or(&[]);
         assert_eq!(rt;
-            refusal_of(alloc, words)?,
-            Some(Fault::Malformed(kind)),
-            "{words}"
+            refusal(alloc, front)?,
+            Some(Fault::Malformed(KIND_DELTA)),
+            "{front:?}"
         );
     }
+    Ok(())
+}
+
+#[test]
+fn hellos_that_break_the_format(rt: HostRuntime) -> Result<(), Fail> {
+    let wrong = [
+        // a cluster of 33 bytes; no node; a node with a capital; one more byte
+        "01 21 616161616161616161616161616161616161616161616161616161616161616161 0161",
+        "01 026331",
+        "01 026331 0141",
+        "01 026331 0161 00",
+    ];
+    assert_eq!(rt; first_accepted(rt.alloc(), KIND_HELLO, &wrong)?, None);
+    Ok(())
+}
+
+#[test]
+fn digests_that_break_the_format(rt: HostRuntime) -> Result<(), Fail> {
+    let wrong = [
+        // want 2; a pair at until; above it; below from; bounds that are equal; owners twice, descending; one more
+        // byte
+        "02 02 00 00 0000",
+        "02 00 00 0162 0001 0162 0000000000000000",
+        "02 00 00 0162 0001 0163 0000000000000000",
+        "02 00 0162 00 0001 0161 0000000000000000",
+        "02 00 0162 0162 0000",
+        "02 00 00 00 0002 0161 0000000000000000 0161 0000000000000000",
+        "02 00 00 00 0002 0162 0000000000000000 0161 0000000000000000",
+        "02 01 00 00 0001 0161 0000000000000000 00",
+    ];
+    assert_eq!(rt; first_accepted(rt.alloc(), KIND_DIGEST, &wrong)?, None);
+    Ok(())
+}
+
+#[test]
+fn byes_that_break_the_format(rt: HostRuntime) -> Result<(), Fail> {
+    let wrong = [
+        // the reasons 0 and 6; none; one more byte
+        "04 00", "04 06", "04", "04 01 00",
+    ];
+    assert_eq!(rt; first_accepted(rt.alloc(), KIND_BYE, &wrong)?, None);
+    Ok(())
+}
+
+#[test]
+fn asks_that_break_the_format(rt: HostRuntime) -> Result<(), Fail> {
+    let wrong = [
+        // an owner with no key; a key with no owner; an owner, a prefix and a key with a capital; one more byte
+        "10 00 00 0161 00",
+        "10 00 00 00 0177",
+        "10 0141 00 00 00",
+        "10 00 0141 00 00",
+        "10 00 00 0161 0141",
+        "10 00 00 00 00 00",
+    ];
+    assert_eq!(rt; first_accepted(rt.alloc(), KIND_ASK, &wrong)?, None);
+    Ok(())
+}
+
+#[test]
+fn pages_that_break_the_format(rt: HostRuntime) -> Result<(), Fail> {
+    let wrong = [
+        // more is 2; a version of 0; the tag 0; owners b, then a; keys w, then v; w twice; one more byte
+        "11 02 0000",
+        "11 00 0001 0161 0177 0000000000000000 03 00",
+        "11 00 0001 0161 0177 0000000000000001 00",
+        "11 00 0002 0162 0177 0000000000000001 03 00 0161 0177 0000000000000001 03 00",
+        "11 00 0002 0161 0177 0000000000000001 03 00 0161 0176 0000000000000001 03 00",
+        "11 00 0002 0161 0177 0000000000000001 03 00 0161 0177 0000000000000002 03 00",
+        "11 00 0001 0161 0177 0000000000000001 02 0000000000000005 00",
+    ];
+    assert_eq!(rt; first_accepted(rt.alloc(), KIND_ROWS, &wrong)?, None);
+    Ok(())
+}
+
+#[test]
+fn puts_that_break_the_format(rt: HostRuntime) -> Result<(), Fail> {
+    let wrong = [
+        // a flag of 2; an empty key; the tag 4; one more byte
+        "12 0177 03 02",
+        "12 00 00",
+        "12 0177 04",
+        "12 0177 02 0000000000000005 00",
+    ];
+    assert_eq!(rt; first_accepted(rt.alloc(), KIND_PUT, &wrong)?, None);
+    Ok(())
+}
+
+#[test]
+fn dones_that_break_the_format(rt: HostRuntime) -> Result<(), Fail> {
+    let wrong = [
+        // the version 0; one more byte
+        "13 0000000000000000",
+        "13 0000000000000001 00",
+    ];
+    assert_eq!(rt; first_accepted(rt.alloc(), KIND_DONE, &wrong)?, None);
+    Ok(())
+}
+
+#[test]
+fn refusals_that_break_the_format(rt: HostRuntime) -> Result<(), Fail> {
+    let wrong = [
+        // the numbers 0 and 32; one more byte
+        "14 00", "14 20", "14 0d 00",
+    ];
+    assert_eq!(rt; first_accepted(rt.alloc(), KIND_REFUSED, &wrong)?, None);
     Ok(())
 }
 

@@ -3,6 +3,8 @@
 ghost use Rattle.std.specs.Prelude.{◌≡◌, ◌<◌, ◌++◌, length, true, OnOk};
 ghost use Rattle.std.specs.Int.{w16, w64};
 ghost use Rattle.sb_types.specs.Text.{is_name};
+ghost use Rattle.sb_types.specs.Value.{is_value};
+ghost use Rattle.sb_types.specs.Limits.{is_slot};
 ghost use Rattle.sb_codec.specs.Limits.{is_optional, is_place};
 ghost use Rattle.sb_codec.specs.Spelling.{number, text, list, flag, value, slot, entry, block, optional, pair, place, row};
 
@@ -41,7 +43,8 @@ pub(crate) fn write_flag(out: &mut Vec<u8>, set: bool) -> Result<(), AllocError>
 }
 
 fn write_value(out: &mut Vec<u8>, written: &Value) -> Result<(), AllocError>
-    ensures { OnOk result (out.new.items ≡ out.old.items ++ value written.now) }
+    ensures written { OnOk result (out.new.items ≡ out.old.items ++ value written.now) }
+    ensures value { is_value written.now ≡ true }
 {
     if let Some(bytes) = written.as_addr() {
         out.push(TAG_ADDR)?;
@@ -57,7 +60,8 @@ fn write_value(out: &mut Vec<u8>, written: &Value) -> Result<(), AllocError>
 
 #[tactic(auto, unfolding(crate::specs::Spelling::slot))]
 pub(crate) fn write_slot(out: &mut Vec<u8>, value: &Slot) -> Result<(), AllocError>
-    ensures { OnOk result (out.new.items ≡ out.old.items ++ slot value.now) }
+    ensures written { OnOk result (out.new.items ≡ out.old.items ++ slot value.now) }
+    ensures slot { is_slot value.now ≡ true }
 {
     match value {
         Slot::Removed => out.push(TAG_REMOVED)?,

@@ -4,7 +4,7 @@ ghost use Rattle.std.specs.Prelude.{◌≡◌, IfOk, IfErr};
 ghost use Rattle.sb_frames.specs.Frames.{frame};
 ghost use Rattle.sb_frames.specs.Sending.{Sends};
 
-use sb_codec::{Message, encode_payload};
+use sb_codec::{Message, append_payload, length};
 use sb_types::{FRAME_MARK, FRAME_VERSION, Fault, HEADER_LENGTH};
 use std::alloc::Global;
 use std::io::Write;
@@ -14,12 +14,12 @@ pub fn frame_of(alloc: Global, message: &Message) -> Result<Vec<u8>, Fault>
     ensures frame { IfOk result (λ v. v.items ≡ frame message.now) }
     ensures fault { IfErr result (λ fault. fault ≡ Fault.NoMemory) }
 {
-    let payload = encode_payload(alloc, message)?;
-    let length = payload.len() as u32;
-    let mut frame = Vec::with_capacity(alloc, HEADER_LENGTH as usize + payload.len())?;
+    let frame_length = length(message);
+    let payload_length = frame_length - HEADER_LENGTH as u32;
+    let mut frame = Vec::with_capacity(alloc, frame_length as usize)?;
     frame.extend_from_slice(&[FRAME_MARK, FRAME_VERSION])?;
-    frame.extend_from_slice(&length.to_be_bytes())?;
-    frame.extend_from_slice(&payload)?;
+    frame.extend_from_slice(&payload_length.to_be_bytes())?;
+    append_payload(&mut frame, message)?;
     Ok(frame)
 }
 

@@ -4,12 +4,18 @@ ghost use Rattle.sb_codec.specs.Records.{row_of, rows_of};
 ghost use Rattle.sb_codec.specs.Lengths.{row_length, rows_length};
 ghost use Rattle.sb_codec.specs.Limits.{is_row, is_version, are_rows_above, are_page_rows, is_page};
 
-use sb_types::{BYTE_LENGTH, COUNT_LENGTH, Fault, KEY_LENGTH_MOST, KIND_ROWS, Key, NAME_LENGTH_MOST, NUMBER_LENGTH, Name, PAYLOAD_MOST, VALUE_LENGTH_MOST, Value};
+use sb_types::{
+    BYTE_LENGTH, COUNT_LENGTH, Fault, KEY_LENGTH_MOST, KIND_ROWS, Key, NAME_LENGTH_MOST,
+    NUMBER_LENGTH, Name, PAYLOAD_MOST, VALUE_LENGTH_MOST, Value,
+};
 use std::marker::Model;
 
 /// The most bytes that a row takes: a name, a key, a version, a tag and a value.
-const ROW_LENGTH_MOST: u64 =
-    NAME_LENGTH_MOST + KEY_LENGTH_MOST + NUMBER_LENGTH + BYTE_LENGTH + VALUE_LENGTH_MOST;
+const ROW_LENGTH_MOST: u64 = NAME_LENGTH_MOST
+    + KEY_LENGTH_MOST
+    + NUMBER_LENGTH
+    + BYTE_LENGTH
+    + VALUE_LENGTH_MOST;
 
 /// What an owner has under a key: a value, and the version of its write, which is at least 1.
 #[derive(Debug, Drop)]
