@@ -15,6 +15,12 @@ is_run_fault (WriteFailed count) = true
 is_run_fault TurnsSpent = true
 is_run_fault _ = false
 
+-- the faults that a run may have before its first read
+abbrev pub comes_before_reads : Fault → Bool
+comes_before_reads NoMemory = true
+comes_before_reads TurnsSpent = true
+comes_before_reads _ = false
+
 -- a fault of a run: none but these four; a read failed only where one was made, and the reads are spent only where as
 -- many were made as are allowed
 pub record IsRunFault (steps steps' allowed : ℕ) (fault : Fault) : Type 0 where

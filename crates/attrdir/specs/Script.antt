@@ -1,11 +1,18 @@
 -- What is left of a script that is read, and the status that its end gives.
-use Rattle.std.specs.Prelude.{ℕ, ◌+◌, ◌-◌, ◌*◌}
+use Rattle.std.specs.Prelude.{◌≡◌, ℕ, ◌+◌, ◌-◌, ◌*◌, ◌<◌, Bool, true}
 use Rattle.attrdir.specs.declared.sim.Ending.{Ending}
 use Rattle.attrdir.specs.declared.sim.Ending.TheVariants.{Whole, WrongLine, NoWorld}
 
 -- the most bytes that are still to come: those that were read and not taken, and what the reads that are left can give
 abbrev pub bytes_to_come : ℕ → ℕ → ℕ → ℕ
 bytes_to_come reads at end = reads * 65536 + (end - at)
+
+-- how a script ends, by whether its reader came to the end and by the bytes to come before and after: whole only where
+-- the reader came to the end, and otherwise at a line, which takes some of the bytes
+abbrev pub EndsSo : Ending → Bool → ℕ → ℕ → Type 0
+EndsSo Whole ended before after = ended ≡ true
+EndsSo WrongLine ended before after = after < before
+EndsSo NoWorld ended before after = after < before
 
 abbrev pub status_of : Ending → ℕ
 status_of Whole = 0

@@ -1,6 +1,6 @@
 //! A reader of which only so many reads may be made.
-ghost use Rattle.std.specs.Prelude.{◌≡◌, ◌<◌, ◌≤◌, length, IfOk, OnOk, IfErr};
-ghost use Rattle.attrdir.specs.Reads.{AreCounted, IsRunFault};
+ghost use Rattle.std.specs.Prelude.{◌≡◌, ◌<◌, ◌≤◌, false, length, IfOk, OnOk, IfErr};
+ghost use Rattle.attrdir.specs.Reads.{AreCounted, IsRunFault, comes_before_reads};
 
 use crate::steps::Steps;
 use sb_types::Fault;
@@ -32,6 +32,7 @@ impl<R: Read> Counted<R> {
         ensures count { IfOk result (λ count. count ≤ length bytes.new) }
         ensures made { OnOk result (self.new.left < self.old.left) }
         ensures fault { IfErr result (IsRunFault steps.old steps.new self.old.left) }
+        ensures early { IfErr result (λ fault. comes_before_reads fault ≡ false → steps.old < steps.new) }
     {
         while self.left > 0 {
             self.left -= 1;

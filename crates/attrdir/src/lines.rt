@@ -1,7 +1,7 @@
 //! The lines of a script.
 ghost use Rattle.std.specs.Prelude.{◌≡◌, ◌+◌, ◌<◌, ◌≤◌, true, false, vec_len, IfOk, OnOk, IfErr};
 ghost use Rattle.attrdir.specs.declared.lines.TheConstants.{ROOM};
-ghost use Rattle.attrdir.specs.Reads.{AreCounted, IsRunFault};
+ghost use Rattle.attrdir.specs.Reads.{AreCounted, IsRunFault, comes_before_reads};
 ghost use Rattle.attrdir.specs.Script.{bytes_to_come};
 
 use crate::counted::Counted;
@@ -28,6 +28,7 @@ pub(crate) struct Lines<R> {
     ghost room: { vec_len bytes ≡ ROOM },
     ghost begun: { at ≤ end },
     ghost within: { end ≤ ROOM },
+    ghost spent: { ended ≡ true → at ≡ end },
 }
 
 impl<R: Read> Lines<R> {
@@ -64,6 +65,7 @@ impl<R: Read> Lines<R> {
         ensures counted { IfOk result (λ lines. AreCounted steps.old max_reads steps.new lines.reader.left) }
         ensures made { OnOk result (steps.old < steps.new) }
         ensures fault { IfErr result (IsRunFault steps.old steps.new max_reads) }
+        ensures early { IfErr result (λ fault. comes_before_reads fault ≡ false → steps.old < steps.new) }
     {
         let mut lines = Lines::new(alloc, reader, max_reads)?;
         lines.refill(steps)?;
@@ -85,6 +87,7 @@ impl<R: Read> Lines<R> {
     pub(crate) fn advance<L: Ledger>(&mut self, steps: &mut Steps<L>) -> Result<bool, Fault>
         ensures counted { AreCounted steps.old self.old.reader.left steps.new self.new.reader.left }
         ensures met { IfOk result (λ met. met ≡ true → bytes_to_come self.new.reader.left self.new.at self.new.end < bytes_to_come self.old.reader.left self.old.at self.old.end) }
+        ensures ended { IfOk result (λ met. met ≡ false → self.new.ended ≡ true) }
         ensures fault { IfErr result (IsRunFault steps.old steps.new self.old.reader.left) }
     {
         while self.next_line(steps)? {
@@ -100,6 +103,7 @@ impl<R: Read> Lines<R> {
     fn next_line<L: Ledger>(&mut self, steps: &mut Steps<L>) -> Result<bool, Fault>
         ensures counted { AreCounted steps.old self.old.reader.left steps.new self.new.reader.left }
         ensures met { IfOk result (λ met. met ≡ true → bytes_to_come self.new.reader.left self.new.at self.new.end < bytes_to_come self.old.reader.left self.old.at self.old.end) }
+        ensures ended { IfOk result (λ met. met ≡ false → self.new.ended ≡ true) }
         ensures fault { IfErr result (IsRunFault steps.old steps.new self.old.reader.left) }
     {
         self.line.clear();
@@ -116,10 +120,12 @@ impl<R: Read> Lines<R> {
     fn refill<L: Ledger>(&mut self, steps: &mut Steps<L>) -> Result<bool, Fault>
         ensures counted { AreCounted steps.old self.old.reader.left steps.new self.new.reader.left }
         ensures more { IfOk result (λ more. more ≡ true → self.new.at < self.new.end) }
+        ensures ended { IfOk result (λ more. more ≡ false → self.new.ended ≡ true) }
         ensures fewer { bytes_to_come self.new.reader.left self.new.at self.new.end ≤ bytes_to_come self.old.reader.left self.old.at self.old.end }
         ensures line { self.new.line ≡ self.old.line }
         ensures made { OnOk result (self.old.at ≡ self.old.end → self.old.ended ≡ false → steps.old < steps.new) }
         ensures fault { IfErr result (IsRunFault steps.old steps.new self.old.reader.left) }
+        ensures early { IfErr result (λ fault. comes_before_reads fault ≡ false → steps.old < steps.new) }
     {
         if self.at == self.end && !self.ended {
             self.end = self.reader.read(&mut self.bytes, steps)?;

@@ -1,7 +1,7 @@
 //! The run of a script.
-ghost use Rattle.std.specs.Prelude.{◌≡◌, ◌+◌, ◌<◌, ◌≤◌, true, OnOk, IfErr};
-ghost use Rattle.attrdir.specs.Script.{status_of};
-ghost use Rattle.attrdir.specs.Reads.{AreCounted, IsRunFault, is_run_fault};
+ghost use Rattle.std.specs.Prelude.{◌≡◌, ◌+◌, ◌<◌, ◌≤◌, true, false, OnOk, IfOk, IfErr};
+ghost use Rattle.attrdir.specs.Script.{EndsSo, bytes_to_come, status_of};
+ghost use Rattle.attrdir.specs.Reads.{AreCounted, IsRunFault, comes_before_reads, is_run_fault};
 
 use crate::lines::Lines;
 use crate::output::Output;
@@ -55,6 +55,7 @@ pub fn sim_run<R: Read + Drop, W: Write + Drop, L: Ledger>(
     ensures reads { steps.new ≤ steps.old + max_reads }
     ensures made { OnOk result (steps.old < steps.new) }
     ensures fault { IfErr result (IsRunFault steps.old steps.new max_reads) }
+    ensures early { IfErr result (λ fault. comes_before_reads fault ≡ false → steps.old < steps.new) }
 {
     let mut output = Output::new(alloc, writer)?;
     let mut lines = Lines::open(alloc, reader, max_reads, steps)?;
@@ -72,7 +73,9 @@ pub fn sim_run_uncounted<R: Read + Drop, W: Write + Drop>(
     writer: W,
     max_reads: u64,
 ) -> Result<Ending, Fault>
-    ensures { IfErr result (λ fault. is_run_fault fault ≡ true) }
+    ensures made { OnOk result (0 < max_reads) }
+    ensures fault { IfErr result (λ fault. is_run_fault fault ≡ true) }
+    ensures early { IfErr result (λ fault. comes_before_reads fault ≡ false → 0 < max_reads) }
 {
     run_on::<R, W, Brand>(alloc, reader, writer, max_reads, Blank::new(1))
 }
@@ -88,7 +91,9 @@ fn run_on<R: Read + Drop, W: Write + Drop, L: Ledger>(
     requires name { blank.name ≡ L.name }
     requires parts { blank.parts ≡ L.parts }
     requires some { 0 < blank.parts }
-    ensures { IfErr result (λ fault. is_run_fault fault ≡ true) }
+    ensures made { OnOk result (0 < max_reads) }
+    ensures fault { IfErr result (λ fault. is_run_fault fault ≡ true) }
+    ensures early { IfErr result (λ fault. comes_before_reads fault ≡ false → 0 < max_reads) }
 {
     let mut steps = Steps::<L>::new(blank);
     sim_run(alloc, reader, writer, max_reads, &mut steps)
@@ -102,6 +107,7 @@ fn play<R: Read, W: Write, L: Ledger>(
     steps: &mut Steps<L>,
 ) -> Result<Ending, Fault>
     ensures counted { AreCounted steps.old lines.old.reader.left steps.new lines.new.reader.left }
+    ensures ending { IfOk result (λ ending. EndsSo ending lines.new.ended (bytes_to_come lines.old.reader.left lines.old.at lines.old.end) (bytes_to_come lines.new.reader.left lines.new.at lines.new.end)) }
     ensures fault { IfErr result (IsRunFault steps.old steps.new lines.old.reader.left) }
 {
     if !lines.advance(steps)? {
@@ -127,7 +133,8 @@ fn play<R: Read, W: Write, L: Ledger>(
 
 /// Ends the run at a line that is no command.
 fn end_at<W: Write>(number: u64, output: &mut Output<W>) -> Result<Ending, Fault>
-    ensures { IfErr result (λ fault. fault ≡ Fault.WriteFailed output.new.writer.taken) }
+    ensures wrong { IfOk result (λ ending. ending ≡ Ending.WrongLine) }
+    ensures fault { IfErr result (λ fault. fault ≡ Fault.WriteFailed output.new.writer.taken) }
 {
     output.print(format_args!("line {number}"))?;
     Ok(Ending::WrongLine)

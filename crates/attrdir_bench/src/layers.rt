@@ -19,6 +19,15 @@ fn taken(end: BlockEnd) -> u64 {
     }
 }
 
+/// Enters the blocks, and answers how many entries were taken.
+fn enter_all(node: &mut Holdings, blocks: &[Block]) -> u64 {
+    let mut entries: u64 = 0;
+    for block in blocks {
+        entries = entries.saturating_add(taken(node.apply_block(block)));
+    }
+    entries
+}
+
 /// The blocks entered at a fresh node, by the entry.
 pub(crate) fn apply<R: CpuClock + Alloc<A = Global>>(
     rt: &R,
@@ -28,12 +37,8 @@ pub(crate) fn apply<R: CpuClock + Alloc<A = Global>>(
     let mut measured = Measured::new();
     for _ in 0..sizes.rounds {
         let mut node = fresh_node(rt.alloc())?;
-        let start = rt.process_cpu_time()?;
-        let mut entries: u64 = 0;
-        for block in blocks {
-            entries = entries.saturating_add(taken(node.apply_block(block)));
-        }
-        measured.add(rt, start, entries)?;
+        let entries = measured.time(rt, || Ok(enter_all(&mut node, blocks)))?;
+        measured.count(entries);
     }
     Ok(measured)
 }
@@ -44,11 +49,11 @@ pub(crate) fn digest<R: CpuClock + Alloc<A = Global>>(
     sizes: Sizes,
     node: &Holdings,
 ) -> Result<Measured, Problem> {
+    let alloc = rt.alloc();
     let mut measured = Measured::new();
     for _ in 0..sizes.rounds {
-        let start = rt.process_cpu_time()?;
-        let digest = build(rt.alloc(), node, None, true, BUDGET_MOST)?;
-        measured.add(rt, start, digest.pairs().len() as u64)?;
+        let digest = measured.time(rt, || build(alloc, node, None, true, BUDGET_MOST))?;
+        measured.count(digest.pairs().len() as u64);
     }
     Ok(measured)
 }
@@ -63,12 +68,12 @@ pub(crate) fn offer<R: CpuClock + Alloc<A = Global>>(
     sizes: Sizes,
     node: &Holdings,
 ) -> Result<Measured, Problem> {
+    let alloc = rt.alloc();
     let mut measured = Measured::new();
-    let digest = empty_digest(rt.alloc())?;
+    let digest = empty_digest(alloc)?;
     for _ in 0..sizes.rounds {
-        let start = rt.process_cpu_time()?;
-        let items = available(rt.alloc(), node, &digest)?;
-        measured.add(rt, start, items.len() as u64)?;
+        let items = measured.time(rt, || available(alloc, node, &digest))?;
+        measured.count(items.len() as u64);
     }
     Ok(measured)
 }
@@ -80,13 +85,13 @@ pub(crate) fn arrange<R: CpuClock + Alloc<A = Global>, O: DeltaOrder>(
     node: &Holdings,
     order: &O,
 ) -> Result<Measured, Problem> {
+    let alloc = rt.alloc();
     let mut measured = Measured::new();
-    let digest = empty_digest(rt.alloc())?;
+    let digest = empty_digest(alloc)?;
     for _ in 0..sizes.rounds {
-        let items = available(rt.alloc(), node, &digest)?;
-        let start = rt.process_cpu_time()?;
-        let items = order.arrange(rt.alloc(), items)?;
-        measured.add(rt, start, items.len() as u64)?;
+        let items = available(alloc, node, &digest)?;
+        let items = measured.time(rt, || order.arrange(alloc, items))?;
+        measured.count(items.len() as u64);
     }
     Ok(measured)
 }
@@ -105,13 +110,13 @@ pub(crate) fn cut_front<R: CpuClock + Alloc<A = Global>>(
     sizes: Sizes,
     node: &Holdings,
 ) -> Result<Measured, Problem> {
+    let alloc = rt.alloc();
     let mut measured = Measured::new();
-    let digest = empty_digest(rt.alloc())?;
+    let digest = empty_digest(alloc)?;
     for _ in 0..sizes.rounds {
-        let items = available(rt.alloc(), node, &digest)?;
-        let start = rt.process_cpu_time()?;
-        let delta = cut(rt.alloc(), items, BUDGET_MOST)?;
-        measured.add(rt, start, entries_in(&delta))?;
+        let items = available(alloc, node, &digest)?;
+        let delta = measured.time(rt, || cut(alloc, items, BUDGET_MOST))?;
+        measured.count(entries_in(&delta));
     }
     Ok(measured)
 }
@@ -140,11 +145,11 @@ pub(crate) fn encode<R: CpuClock + Alloc<A = Global>>(
     sizes: Sizes,
     delta: &WholeDelta,
 ) -> Result<Measured, Problem> {
+    let alloc = rt.alloc();
     let mut measured = Measured::new();
     for _ in 0..sizes.rounds {
-        let start = rt.process_cpu_time()?;
-        let _payload = encode_payload(rt.alloc(), &delta.message)?;
-        measured.add(rt, start, delta.entries)?;
+        let _payload = measured.time(rt, || encode_payload(alloc, &delta.message))?;
+        measured.count(delta.entries);
     }
     Ok(measured)
 }
@@ -155,18 +160,27 @@ pub(crate) fn decode<R: CpuClock + Alloc<A = Global>>(
     sizes: Sizes,
     delta: &WholeDelta,
 ) -> Result<Measured, Problem> {
+    let alloc = rt.alloc();
     let mut measured = Measured::new();
-    let payload = encode_payload(rt.alloc(), &delta.message)?;
+    let payload = encode_payload(alloc, &delta.message)?;
     for _ in 0..sizes.rounds {
-        let start = rt.process_cpu_time()?;
-        let _message = decode_payload(rt.alloc(), &payload)?;
-        measured.add(rt, start, delta.entries)?;
+        let _message = measured.time(rt, || decode_payload(alloc, &payload))?;
+        measured.count(delta.entries);
     }
     Ok(measured)
 }
 
 /// The bytes of each piece that a stream comes in.
 const PIECE_LENGTH: usize = 1024;
+
+/// Feeds the frame in pieces, and takes out what is whole.
+fn read_pieces(stream: &mut Frames, frame: &[u8]) -> Result<(), Fault> {
+    for piece in frame.chunks(PIECE_LENGTH) {
+        stream.feed(piece)?;
+        stream.next()?;
+    }
+    Ok(())
+}
 
 /// The delta's frame read from a stream in pieces, by the entry.
 pub(crate) fn frames<R: CpuClock + Alloc<A = Global>>(
@@ -178,12 +192,8 @@ pub(crate) fn frames<R: CpuClock + Alloc<A = Global>>(
     let frame = frame_of(rt.alloc(), &delta.message)?;
     let mut stream = Frames::new(rt.alloc());
     for _ in 0..sizes.rounds {
-        let start = rt.process_cpu_time()?;
-        for piece in frame.chunks(PIECE_LENGTH) {
-            stream.feed(piece)?;
-            stream.next()?;
-        }
-        measured.add(rt, start, delta.entries)?;
+        measured.time(rt, || read_pieces(&mut stream, &frame))?;
+        measured.count(delta.entries);
     }
     Ok(measured)
 }

@@ -1,3 +1,5 @@
+use crate::problem::Problem;
+use sb_types::Fault;
 use std::io;
 use std::io::Print;
 use std::time::{CpuClock, Duration};
@@ -26,17 +28,24 @@ impl Measured {
         }
     }
 
-    /// Adds what was done since the processor time `start`.
-    pub(crate) fn add<R: CpuClock>(
+    /// Does the work and adds the time that it took, without that of dropping what comes of it.
+    pub(crate) fn time<R: CpuClock, T: Drop, F: FnOnce() -> Result<T, Fault>>(
         &mut self,
         rt: &R,
-        start: Duration,
-        units: u64,
-    ) -> io::Result<()> {
+        work: F,
+    ) -> Result<T, Problem>
+        requires { F.IsAlwaysCallable work }
+    {
+        let start = rt.process_cpu_time()?;
+        let made = work()?;
         let spent = rt.process_cpu_time()?.saturating_sub(start);
         self.spent = self.spent.saturating_add(spent);
+        Ok(made)
+    }
+
+    /// Adds units that were done.
+    pub(crate) fn count(&mut self, units: u64) {
         self.units = self.units.saturating_add(units);
-        Ok(())
     }
 
     /// Prints a line of the name, the value and the unit.

@@ -12,29 +12,12 @@ pub(crate) struct Sizes {
     pub(crate) rounds: u64,
 }
 
-/// The last four decimal digits of a number.
-fn digits(number: u64) -> [u8; 4] {
-    [
-        digit(number / 1000),
-        digit(number / 100),
-        digit(number / 10),
-        digit(number),
-    ]
+fn owner_at(alloc: Global, index: u64) -> Result<Name, Fault> {
+    Name::read(format!(in alloc; "owner-{index:04}")?.as_bytes())
 }
 
-/// The last decimal digit of a number.
-fn digit(number: u64) -> u8 {
-    b'0' + (number % 10) as u8
-}
-
-fn owner_at(index: u64) -> Result<Name, Fault> {
-    let [a, b, c, d] = digits(index);
-    Name::read(&[b'o', b'w', b'n', b'e', b'r', b'-', a, b, c, d])
-}
-
-fn key_at(index: u64) -> Result<Key, Fault> {
-    let [a, b, c, d] = digits(index);
-    Key::read(&[b'w', b'e', b'i', b'g', b'h', b't', b'/', a, b, c, d])
+fn key_at(alloc: Global, index: u64) -> Result<Key, Fault> {
+    Key::read(format!(in alloc; "weight/{index:04}")?.as_bytes())
 }
 
 /// An owner's writes of a weight under each of its keys.
@@ -42,7 +25,7 @@ fn block_of(alloc: Global, owner: Name, keys: u64) -> Result<Block, Fault> {
     let mut entries = Vec::new(alloc);
     for index in 0..keys {
         let slot = Slot::Set(Value::weight(index)?);
-        entries.push(Entry::new(key_at(index)?, index + 1, slot))?;
+        entries.push(Entry::new(key_at(alloc, index)?, index + 1, slot))?;
     }
     Block::new(owner, 0, entries)
 }
@@ -51,7 +34,7 @@ fn block_of(alloc: Global, owner: Name, keys: u64) -> Result<Block, Fault> {
 pub(crate) fn blocks(alloc: Global, sizes: Sizes) -> Result<Vec<Block>, Fault> {
     let mut blocks = Vec::new(alloc);
     for index in 0..sizes.owners {
-        blocks.push(block_of(alloc, owner_at(index)?, sizes.keys)?)?;
+        blocks.push(block_of(alloc, owner_at(alloc, index)?, sizes.keys)?)?;
     }
     Ok(blocks)
 }
