@@ -5,12 +5,14 @@ use Rattle.std.proofs.lemmas.Bool.{cases_lt, and_parts, leb-true}
 use Rattle.std.proofs.lemmas.List.{take_all, take-take, take_at, take-append-le, get_or_append_left}
 use Rattle.std.proofs.lemmas.List.Sums.{sum_by-cons, sum_by_more, sum_by-take-le}
 use Rattle.std.proofs.lemmas.Option.{slice_get-get_or, slice_get_past}
-use Rattle.sb_types.specs.declared.limits.TheConstants.{PAYLOAD_MOST}
+use Rattle.sb_types.specs.declared.limits.TheConstants.{NAME_MOST, PAYLOAD_MOST}
+use Rattle.sb_types.specs.declared.format.TheConstants.{BYTE_LENGTH, HEADER_LENGTH, NAME_LENGTH_MOST, NUMBER_LENGTH}
 use Rattle.sb_types.specs.Text.{is_name, is_name_byte}
+use Rattle.sb_digest.specs.declared.digest.TheConstants.{HEAD_LENGTH_MOST}
 use Rattle.sb_digest.specs.Digests.{Pair, Digest, digest_of}
 use Rattle.sb_digest.specs.Lengths.{bound_length, pair_length, digest_length, frame_length}
 use Rattle.sb_digest.specs.Limits.{is_bound, is_pair, are_digest_parts, is_digest}
-use Rattle.sb_digest.specs.Fronts.{front_of, IsLongestFront}
+use Rattle.sb_digest.specs.Fronts.{front_of, IsLongestFront, cut_saves}
 
 abbrev pub nobody : Pair
 nobody = record { owner = []; held = 0; floor = 0; progress = 0 }
@@ -22,11 +24,10 @@ module _ (want : Bool) (from : Option (List ℕ)) where
   pub front_of-all : (ps : List Pair) → front_of want from ps (length ps) ≡ whole ps
   front_of-all ps = rw (slice_get_past ps (length ps) (omega arith), take_all (length ps) ps (omega arith))
 
-  -- to end before a pair takes nine bytes less than the pair
-  pub frame_length-front : (ps : List Pair) (count : ℕ) → count < length ps → frame_length (front_of want from ps count) + 9 ≡ frame_length (whole (take (count + 1) ps))
+  pub frame_length-front : (ps : List Pair) (count : ℕ) → count < length ps → frame_length (front_of want from ps count) + cut_saves ≡ frame_length (whole (take (count + 1) ps))
   frame_length-front ps count l = rw (slice_get-get_or ps count nobody l) (omega (arith, sum_by_more pair_length ps count nobody l))
 
-  pub digest_length-front : (ps : List Pair) → 0 < length ps → digest_length (front_of want from ps (length ps - 1)) + 9 ≡ digest_length (whole ps)
+  pub digest_length-front : (ps : List Pair) → 0 < length ps → digest_length (front_of want from ps (length ps - 1)) + cut_saves ≡ digest_length (whole ps)
   digest_length-front ps some =
       let all : take (length ps - 1 + 1) ps ≡ ps = take_all (length ps - 1 + 1) ps (omega arith) in
       omega (arith, frame_length-front ps (length ps - 1) (omega arith), ap (λ xs. frame_length (whole xs)) all)
@@ -44,7 +45,7 @@ module _ (want : Bool) (from : Option (List ℕ)) where
     longest-all ps fits = record { count = length ps; most = omega arith; front = sym (front_of-all ps); fits = fits; longest = λ more above most. absurd (omega arith) }
 
     -- all but the last, where all are too many
-    pub longest-but_last : (ps : List Pair) (count : ℕ) → count + 1 ≡ length ps → frame_length (whole ps) ≤ budget + 9 → budget < frame_length (whole ps) → IsLongestFront budget want from ps (front_of want from ps count)
+    pub longest-but_last : (ps : List Pair) (count : ℕ) → count + 1 ≡ length ps → frame_length (whole ps) ≤ budget + cut_saves → budget < frame_length (whole ps) → IsLongestFront budget want from ps (front_of want from ps count)
     longest-but_last ps count last room over = record {
       count = count;
       most = omega arith;
@@ -57,7 +58,7 @@ module _ (want : Bool) (from : Option (List ℕ)) where
     }
 
     -- all but the last of the first pairs, where one more is too many
-    pub longest-before : (ps : List Pair) (count : ℕ) → count + 1 < length ps → frame_length (whole (take (count + 1) ps)) ≤ budget + 9 → budget + 9 < frame_length (whole (take (count + 2) ps)) → IsLongestFront budget want from ps (front_of want from ps count)
+    pub longest-before : (ps : List Pair) (count : ℕ) → count + 1 < length ps → frame_length (whole (take (count + 1) ps)) ≤ budget + cut_saves → budget + cut_saves < frame_length (whole (take (count + 2) ps)) → IsLongestFront budget want from ps (front_of want from ps count)
     longest-before ps count inside room over = record {
       count = count;
       most = omega arith;
@@ -74,7 +75,7 @@ module _ (want : Bool) (from : Option (List ℕ)) where
     }
 
     -- the pairs so far, and one that has no room among them
-    pub longest-cut : (xs : List Pair) (x : Pair) (rest : List Pair) → 0 < length xs → frame_length (whole xs) ≤ budget + 9 → budget + 9 < frame_length (whole (xs ++ x ∷ [])) → IsLongestFront budget want from (xs ++ x ∷ rest) (front_of want from xs (length xs - 1))
+    pub longest-cut : (xs : List Pair) (x : Pair) (rest : List Pair) → 0 < length xs → frame_length (whole xs) ≤ budget + cut_saves → budget + cut_saves < frame_length (whole (xs ++ x ∷ [])) → IsLongestFront budget want from (xs ++ x ∷ rest) (front_of want from xs (length xs - 1))
     longest-cut xs x rest some room over =
         let count = length xs - 1 in
         let ps = xs ++ x ∷ rest in
@@ -87,25 +88,32 @@ module _ (want : Bool) (from : Option (List ℕ)) where
         subst (λ (d : Digest). IsLongestFront budget want from ps d) same (longest-before ps count (omega arith) (rw so_far room) (rw one_more over))
 
 -- how long a digest of a name's length bounds is
-pub bound_length-most : (from : Option (List ℕ)) → is_bound from ≡ true → bound_length from ≤ 33
+pub bound_length-most : (from : Option (List ℕ)) → is_bound from ≡ true → bound_length from ≤ NAME_LENGTH_MOST
 bound_length-most None is = omega arith
-bound_length-most (Some name) is = omega (arith, leb-true (length name) 32 (and_parts (leb 1 (length name)) _ (and_parts _ (list_all is_name_byte name) is).0).1)
+bound_length-most (Some name) is = omega (arith, leb-true (length name) NAME_MOST (and_parts (leb 1 (length name)) _ (and_parts _ (list_all is_name_byte name) is).0).1)
 
-pub owner-most : (p : Pair) → is_pair p ≡ true → length p.owner ≤ 32
+pub owner-most : (p : Pair) → is_pair p ≡ true → length p.owner ≤ NAME_MOST
 owner-most p is =
     let name : is_name p.owner ≡ true = (and_parts _ _ (and_parts _ _ (and_parts _ _ is).0).0).0 in
-    leb-true (length p.owner) 32 (and_parts (leb 1 (length p.owner)) _ (and_parts _ (list_all is_name_byte p.owner) name).0).1
+    leb-true (length p.owner) NAME_MOST (and_parts (leb 1 (length p.owner)) _ (and_parts _ (list_all is_name_byte p.owner) name).0).1
 
-pairs_length-most : (ps : List Pair) → list_all is_pair ps ≡ true → sum_by pair_length ps ≤ 41 * length ps
+abbrev pair_most : ℕ
+pair_most = NAME_LENGTH_MOST + NUMBER_LENGTH
+
+-- a frame without pairs and without an end
+abbrev head_most : ℕ
+head_most = HEADER_LENGTH + HEAD_LENGTH_MOST
+
+pairs_length-most : (ps : List Pair) → list_all is_pair ps ≡ true → sum_by pair_length ps ≤ pair_most * length ps
 pairs_length-most [] is = omega arith
 pairs_length-most (p ∷ ps) is =
     let parts = and_parts (is_pair p) (list_all is_pair ps) is in
     omega (arith, sum_by-cons pair_length p ps, owner-most p parts.0, pairs_length-most ps parts.1)
 
-pub frame_length-most : (want : Bool) (from : Option (List ℕ)) (ps : List Pair) → is_bound from ≡ true → list_all is_pair ps ≡ true → frame_length (digest_of want from None ps) ≤ 44 + 41 * length ps
+pub frame_length-most : (want : Bool) (from : Option (List ℕ)) (ps : List Pair) → is_bound from ≡ true → list_all is_pair ps ≡ true → frame_length (digest_of want from None ps) ≤ head_most + pair_most * length ps
 frame_length-most want from ps bound pairs = omega (arith, bound_length-most from bound, pairs_length-most ps pairs)
 
-pairs_length-least : (ps : List Pair) → 9 * length ps ≤ sum_by pair_length ps
+pairs_length-least : (ps : List Pair) → (BYTE_LENGTH + NUMBER_LENGTH) * length ps ≤ sum_by pair_length ps
 pairs_length-least [] = omega arith
 pairs_length-least (p ∷ ps) = omega (arith, sum_by-cons pair_length p ps, pairs_length-least ps)
 

@@ -30,10 +30,14 @@ pub record Front : Type 0 where
 abbrev pub with_pair : Front → Pair → Front
 with_pair f pair = record { budget = f.budget; from = f.from; pairs = f.pairs ++ pair ∷ [] }
 
--- a digest of all pairs but the last is within the budget: to end before a pair takes nine bytes less than the
--- pair, whose version and length byte it leaves out
+-- how many bytes it saves to end before a pair: its version, and one length byte, since its owner's name becomes
+-- the end of the range, whose own length byte stands there in any case
+abbrev pub cut_saves : ℕ
+cut_saves = 9
+
+-- a digest of all pairs but the last is within the budget
 abbrev pub has_room : Front → Bool
-has_room f = nat_le (frame_length (digest_of true f.from None f.pairs)) (f.budget + 9)
+has_room f = nat_le (frame_length (digest_of true f.from None f.pairs)) (f.budget + cut_saves)
 
 -- the pair's owner is in the range, and behind the owners so far
 abbrev pub comes_next : Front → Pair → Bool

@@ -7,7 +7,8 @@ ghost use Rattle.sb_digest.specs.Lengths.{bound_length, pair_length, digest_leng
 ghost use Rattle.sb_digest.specs.Limits.{are_pairs_above, is_range, are_digest_parts, is_bound, is_pair, is_digest};
 
 use sb_types::{
-    BYTE_LENGTH, COUNT_LENGTH, Fault, KIND_DIGEST, NAME_LENGTH_MOST, NUMBER_LENGTH, Name, PAYLOAD_MOST,
+    BYTE_LENGTH, COUNT_LENGTH, Fault, KIND_DIGEST, NAME_LENGTH_MOST, NUMBER_LENGTH, Name,
+    PAYLOAD_MOST,
 };
 use std::marker::Model;
 
@@ -116,8 +117,16 @@ fn do_owners_ascend(pairs: &[Pair]) -> bool
     true
 }
 
+/// The most bytes that the payload of a digest takes before its pairs: its kind, whether an answer is wanted, its
+/// bounds, and the number of its pairs.
+const HEAD_LENGTH_MOST: u64 = BYTE_LENGTH
+    + BYTE_LENGTH
+    + NAME_LENGTH_MOST
+    + NAME_LENGTH_MOST
+    + COUNT_LENGTH;
+
 /// How many bytes a bound takes in a message.
-pub(crate) fn length_of_bound(bound: Option<&Name>) -> u64
+fn length_of_bound(bound: Option<&Name>) -> u64
     ensures length { result ≡ bound_length (option_copied bound.entry) }
     ensures most { result ≤ NAME_LENGTH_MOST }
     ensures bound { is_bound (option_copied bound.entry) ≡ true }
@@ -128,13 +137,24 @@ pub(crate) fn length_of_bound(bound: Option<&Name>) -> u64
     }
 }
 
+/// How many bytes the payload of a digest between these bounds takes before its pairs.
+pub(crate) fn length_of_head(from: Option<&Name>, until: Option<&Name>) -> u64
+    ensures length { result ≡ digest_length (digest_of true (option_copied from.entry) (option_copied until.entry) []) }
+    ensures most { result ≤ HEAD_LENGTH_MOST }
+    ensures from { is_bound (option_copied from.entry) ≡ true }
+    ensures until { is_bound (option_copied until.entry) ≡ true }
+{
+    let bounds = length_of_bound(from) + length_of_bound(until);
+    BYTE_LENGTH + BYTE_LENGTH + bounds + COUNT_LENGTH
+}
+
 /// How many bytes these pairs take behind so many others, where that is within the limit of a payload.
-fn length_within(bounds: u64, pairs: &[Pair]) -> Option<u64>
-    requires { bounds ≤ PAYLOAD_MOST }
-    ensures length { result ≡ (let total = bounds + sum_by pair_length pairs.now in if nat_le total PAYLOAD_MOST then Some total else None) }
+fn length_within(head: u64, pairs: &[Pair]) -> Option<u64>
+    requires { head ≤ PAYLOAD_MOST }
+    ensures length { result ≡ (let total = head + sum_by pair_length pairs.now in if nat_le total PAYLOAD_MOST then Some total else None) }
     ensures each { OnSome result (list_all is_pair pairs.now ≡ true) }
 {
-    let mut length = bounds;
+    let mut length = head;
     for pair in pairs {
         length += pair.encoded_length();
         if length > PAYLOAD_MOST {
@@ -174,9 +194,7 @@ impl Digest {
         {
             return Err(Fault::Malformed(KIND_DIGEST));
         }
-        let head = BYTE_LENGTH + BYTE_LENGTH + COUNT_LENGTH;
-        let bounds = head + length_of_bound(low) + length_of_bound(high);
-        let Some(length) = length_within(bounds, &pairs) else {
+        let Some(length) = length_within(length_of_head(low, high), &pairs) else {
             return Err(Fault::Malformed(KIND_DIGEST));
         };
         Ok(Digest {

@@ -4,14 +4,12 @@ ghost use Rattle.sb_types.specs.declared.fault.Fault.TheVariants.{NoMemory};
 ghost use Rattle.std.specs.Option.{option_copied, option_map};
 ghost use Rattle.sb_digest.specs.Fronts.{front_of, IsLongestFront, with_pair, has_room, comes_next, IsFront};
 
-use crate::digest::{Digest, Pair, length_of_bound};
-use sb_types::{
-    BUDGET_LEAST, BUDGET_MOST, BYTE_LENGTH, Fault, HEADER_LENGTH, NUMBER_LENGTH, Name,
-};
+use crate::digest::{Digest, Pair, length_of_head};
+use sb_types::{BUDGET_LEAST, BUDGET_MOST, BYTE_LENGTH, Fault, HEADER_LENGTH, NUMBER_LENGTH, Name};
 use std::alloc::Global;
 use std::marker::Model;
 
-/// How many bytes a digest saves that ends before its last pair: that pair's number and a length byte.
+/// How many bytes a digest saves that ends before its last pair: that pair's version and a length byte.
 const CUT_SAVES: u64 = NUMBER_LENGTH + BYTE_LENGTH;
 
 /// Pairs from a bound on, as long as a digest that ends before the last of them is within the budget.
@@ -59,7 +57,7 @@ impl Front {
             budget,
             from: from.copied(),
             pairs: Vec::new(alloc),
-            length: 5 + length_of_bound(from),
+            length: length_of_head(from, None),
         }
     }
 

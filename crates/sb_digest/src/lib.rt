@@ -4,10 +4,11 @@
 mod building;
 mod digest;
 mod front;
-pub mod laws;
+mod laws;
 
 pub use building::build;
 pub use digest::{Digest, Pair};
+pub use laws::{digests_are_true, digests_have_few_pairs, one_front_is_longest};
 
 #[cfg(test)]
 mod tests;

@@ -5,6 +5,7 @@ use sb_holdings::Holdings;
 use sb_table::Table;
 use sb_types::{BUDGET_LEAST, BUDGET_MOST, Block, Entry, Fault, Key, Name, Slot, Value};
 use std::alloc::Global;
+use std::process::Abort;
 use std::test::Fail;
 
 /// Pairs of these owners, with the versions 1, 2 and so on.
@@ -118,6 +119,20 @@ fn asked(
     }
 }
 
+/// The digest has this range, so many pairs, and a payload of so many bytes; the next begins where it ends.
+fn assert_extent(
+    rt: &impl Abort,
+    digest: &Digest,
+    range: (Option<Name>, Option<Name>),
+    pairs: usize,
+    length: u64,
+) {
+    assert_eq!(rt; (digest.from(), digest.until()), range);
+    assert_eq!(rt; digest.next_from(), digest.until());
+    assert_eq!(rt; digest.pairs().len(), pairs);
+    assert_eq!(rt; digest.encoded_length(), length);
+}
+
 /// What a node holds that knows of no other.
 fn alone(alloc: Global, me: Name) -> Result<Holdings, Fault> {
     match Holdings::new(alloc, me, Table::new(alloc)) {
@@ -134,22 +149,16 @@ fn a_new_node_tells_of_itself(rt: HostRuntime) -> Result<(), Fail> {
     let holdings = alone(alloc, a)?;
     let digest = asked(alloc, &holdings, None, 256)?;
     assert!(rt; digest.want());
-    assert_eq!(rt; digest.from(), None);
-    assert_eq!(rt; digest.until(), None);
-    assert_eq!(rt; digest.pairs().len(), 1);
+    assert_extent(&rt, &digest, (None, None), 1, 16);
     assert!(rt;
         digest
             .pairs()
             .iter()
             .all(|pair| pair.owner == a && pair.version == 0)
     );
-    assert_eq!(rt; digest.next_from(), None);
-    assert_eq!(rt; digest.encoded_length(), 16);
 
     let rest = asked(alloc, &holdings, Some(&b), 256)?;
-    assert_eq!(rt; rest.from(), Some(b));
-    assert_eq!(rt; rest.until(), None);
-    assert!(rt; rest.pairs().is_empty());
+    assert_extent(&rt, &rest, (Some(b), None), 0, 7);
     Ok(())
 }
 
@@ -213,15 +222,13 @@ fn a_node_with_a_write_answers(rt: HostRuntime) -> Result<(), Fail> {
         built => built?,
     };
     assert!(rt; !digest.want());
-    assert_eq!(rt; (digest.from(), digest.until()), (None, None));
+    assert_extent(&rt, &digest, (None, None), 1, 16);
     assert!(rt;
         digest
             .pairs()
             .iter()
             .all(|pair| pair.owner == b && pair.version == 1)
     );
-    assert_eq!(rt; digest.pairs().len(), 1);
-    assert_eq!(rt; digest.encoded_length(), 16);
     Ok(())
 }
 
@@ -240,23 +247,18 @@ fn a_range_begins_at_any_name(rt: HostRuntime) -> Result<(), Fail> {
     hold(alloc, &mut holdings, &c, 1);
 
     let between = asked(alloc, &holdings, Some(&ab), 256)?;
-    assert_eq!(rt; (between.from(), between.until()), (Some(ab), None));
-    assert_eq!(rt; between.pairs().len(), 2);
+    assert_extent(&rt, &between, (Some(ab), None), 2, 28);
     assert!(rt; !between.covers(&a) && between.covers(&ab) && between.covers(&b));
     assert_eq!(rt; (between.number(&b), between.number(&c)), (1, 1));
 
     let last = asked(alloc, &holdings, Some(&c), 256)?;
-    assert_eq!(rt; (last.from(), last.until()), (Some(c), None));
-    assert_eq!(rt; last.pairs().len(), 1);
+    assert_extent(&rt, &last, (Some(c), None), 1, 17);
     assert_eq!(rt; last.number(&c), 1);
 
     let above = asked(alloc, &holdings, Some(&ca), 256)?;
     assert!(rt; above.want());
-    assert_eq!(rt; (above.from(), above.until()), (Some(ca), None));
-    assert_eq!(rt; above.next_from(), None);
-    assert!(rt; above.pairs().is_empty());
+    assert_extent(&rt, &above, (Some(ca), None), 0, 8);
     assert!(rt; above.covers(&ca) && !above.covers(&c));
-    assert_eq!(rt; above.encoded_length(), 8);
     Ok(())
 }
 
@@ -270,28 +272,18 @@ fn six_owners_take_two_digests(rt: HostRuntime) -> Result<(), Fail> {
         hold(alloc, &mut holdings, owner, 1);
     }
     let first = asked(alloc, &holdings, None, 256)?;
-    assert_eq!(rt; first.pairs().len(), 5);
-    assert_eq!(rt; first.until(), Some(owners[5]));
-    assert_eq!(rt; first.next_from(), Some(owners[5]));
-    assert_eq!(rt; first.encoded_length(), 243);
+    assert_extent(&rt, &first, (None, Some(owners[5])), 5, 243);
     assert_eq!(rt; first.number(&owners[0]), 0);
     assert_eq!(rt; first.number(&owners[4]), 1);
 
     let next = asked(alloc, &holdings, first.next_from().as_ref(), 256)?;
-    assert_eq!(rt; next.from(), Some(owners[5]));
-    assert_eq!(rt; next.pairs().len(), 1);
-    assert_eq!(rt; (next.until(), next.next_from()), (None, None));
-    assert_eq!(rt; next.encoded_length(), 79);
+    assert_extent(&rt, &next, (Some(owners[5]), None), 1, 79);
 
     let five = asked(alloc, &holdings, None, 257)?;
-    assert_eq!(rt; five.pairs().len(), 5);
-    assert_eq!(rt; five.until(), Some(owners[5]));
-    assert_eq!(rt; five.next_from(), Some(owners[5]));
+    assert_extent(&rt, &five, (None, Some(owners[5])), 5, 243);
 
     let all = asked(alloc, &holdings, None, 258)?;
-    assert_eq!(rt; all.pairs().len(), 6);
-    assert_eq!(rt; (all.until(), all.next_from()), (None, None));
-    assert_eq!(rt; all.encoded_length(), 252);
+    assert_extent(&rt, &all, (None, None), 6, 252);
     Ok(())
 }
 
@@ -307,17 +299,11 @@ fn seven_owners_take_two_digests(rt: HostRuntime) -> Result<(), Fail> {
         hold(alloc, &mut holdings, owner, 1);
     }
     let first = asked(alloc, &holdings, None, 256)?;
-    assert_eq!(rt; first.pairs().len(), 5);
-    assert_eq!(rt; first.until(), Some(owners[5]));
-    assert_eq!(rt; first.next_from(), Some(owners[5]));
-    assert_eq!(rt; first.encoded_length(), 243);
+    assert_extent(&rt, &first, (None, Some(owners[5])), 5, 243);
     assert!(rt; first.covers(&owners[4]) && !first.covers(&owners[5]));
 
     let next = asked(alloc, &holdings, first.next_from().as_ref(), 256)?;
-    assert_eq!(rt; next.pairs().len(), 2);
-    assert_eq!(rt; (next.from(), next.until()), (Some(owners[5]), None));
-    assert_eq!(rt; next.next_from(), None);
-    assert_eq!(rt; next.encoded_length(), 120);
+    assert_extent(&rt, &next, (Some(owners[5]), None), 2, 120);
     assert_eq!(rt; (next.number(&owners[5]), next.number(&seventh)), (1, 0));
     Ok(())
 }
@@ -338,12 +324,8 @@ fn a_digest_is_whole_or_not_there(rt: HostRuntime) -> Result<(), Fail> {
     match first_and_rest(rt.alloc(), a) {
         Ok((first, rest)) => {
             assert!(rt; first.want() && !rest.want());
-            assert_eq!(rt; (first.from(), first.until()), (Some(a), None));
-            assert_eq!(rt; first.pairs().len(), 1);
-            assert_eq!(rt; first.encoded_length(), 17);
-            assert_eq!(rt; (rest.from(), rest.until()), (Some(z), None));
-            assert!(rt; rest.pairs().is_empty());
-            assert_eq!(rt; rest.encoded_length(), 7);
+            assert_extent(&rt, &first, (Some(a), None), 1, 17);
+            assert_extent(&rt, &rest, (Some(z), None), 0, 7);
         }
         Err(fault) => assert_eq!(rt; fault, Fault::NoMemory),
     }

@@ -2,11 +2,14 @@
 #![tactic(auto)]
 
 mod after;
-pub mod laws;
+mod laws;
 mod prefixed;
 mod table;
 
 pub use after::After;
+pub use laws::{
+    by_key_sorts, entering_keeps_tables, what_is_entered_is_found, what_stands_is_found,
+};
 pub use prefixed::Prefixed;
 pub use table::{Table, entries_above};
 

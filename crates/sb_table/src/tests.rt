@@ -159,22 +159,28 @@ fn the_greatest_version_is_entered(rt: HostRuntime) -> Result<(), Fail> {
 // The letters as keys, at the versions from 1 on.
 const LETTERS: &[u8; 26] = b"qwertyuiopasdfghjklzxcvbnm";
 
-#[test]
-fn many_keys_come_in_order(rt: HostRuntime) -> Result<(), Fail> {
-    let alloc = rt.alloc();
+// Behind a k each letter as a key, then other keys, one written again, and one removed: 28 keys, 30 versions.
+fn many_keys(rt: &impl Abort, alloc: Global) -> Result<Table, Fault> {
     let mut table = Table::new(alloc);
     for place in 0..LETTERS.len() {
         let version = place as u64 + 1;
         push(
-            &rt,
+            rt,
             &mut table,
             weight_of(&[b'k', LETTERS[place]], version, 1)?,
         )?;
     }
-    push(&rt, &mut table, weight_of(b"j", 27, 1)?)?;
-    push(&rt, &mut table, weight_of(b"l", 28, 1)?)?;
-    push(&rt, &mut table, weight_of(b"kh", 29, 1)?)?;
-    push(&rt, &mut table, entry_of(b"kq", 30, Slot::Removed)?)?;
+    push(rt, &mut table, weight_of(b"j", 27, 1)?)?;
+    push(rt, &mut table, weight_of(b"l", 28, 1)?)?;
+    push(rt, &mut table, weight_of(b"kh", 29, 1)?)?;
+    push(rt, &mut table, entry_of(b"kq", 30, Slot::Removed)?)?;
+    Ok(table)
+}
+
+#[test]
+fn many_keys_come_in_the_order_of_versions(rt: HostRuntime) -> Result<(), Fail> {
+    let alloc = rt.alloc();
+    let table = many_keys(&rt, alloc)?;
     assert_eq!(rt; table.len(), 28);
     for (version, wanted) in [
         (
@@ -190,6 +196,13 @@ fn many_keys_come_in_order(rt: HostRuntime) -> Result<(), Fail> {
         let versions = versions_after(alloc, &table, version)?;
         assert_eq!(rt; versions.as_slice(), wanted, "above {version}");
     }
+    Ok(())
+}
+
+#[test]
+fn many_keys_come_in_the_order_of_keys(rt: HostRuntime) -> Result<(), Fail> {
+    let alloc = rt.alloc();
+    let table = many_keys(&rt, alloc)?;
     for (text, wanted) in [
         (
             b"k".as_slice(),
@@ -212,6 +225,12 @@ fn many_keys_come_in_order(rt: HostRuntime) -> Result<(), Fail> {
             Err(fault) => return Err(fault.into()),
         }
     }
+    Ok(())
+}
+
+#[test]
+fn many_keys_are_found(rt: HostRuntime) -> Result<(), Fail> {
+    let table = many_keys(&rt, rt.alloc())?;
     assert_eq!(rt; weight_at(&table, b"kz"), Some((20, Some(1))));
     assert_eq!(rt; weight_at(&table, b"kq"), Some((30, None)));
     assert_eq!(rt; weight_at(&table, b"k"), None);

@@ -8,11 +8,10 @@ const MAX_32: &[u8] = b"abcdefghijklmnopqrstuvwxyz-01234";
 
 const MAX_64: &[u8] = b"abcdefghijklmnopqrstuvwxyz012345.bcdefghijklmnopqrstuvwxyz_/-789";
 
-fn entry(alloc: Global, key: &[u8], version: u64, weight: u64) -> Result<Entry, Fault>
+fn entry(key: &[u8], version: u64, weight: u64) -> Result<Entry, Fault>
     requires { 1 ≤ version }
 {
     let slot = Slot::Set(Value::weight(weight)?);
-    let _ = alloc;
     Ok(Entry::new(Key::read(key)?, version, slot))
 }
 
@@ -104,6 +103,12 @@ fn values_from_words(rt: HostRuntime) -> Result<(), Fail> {
         Value::from_words(alloc, b"flag", b"false")?.as_flag(),
         Some(false)
     );
+    Ok(())
+}
+
+#[test]
+fn words_that_are_no_value(rt: HostRuntime) -> Result<(), Fail> {
+    let alloc = rt.alloc();
     let wrong = [
         (b"weight".as_slice(), b"".as_slice()),
         (b"weight", b"+1"),
@@ -156,45 +161,48 @@ fn blocks_within_their_limits(rt: HostRuntime) -> Result<(), Fail> {
     let good = Block::new(
         owner,
         0,
-        vec![in alloc; entry(alloc, b"x", 1, 5)?, entry(alloc, b"y", 3, 6)?]?,
+        vec![in alloc; entry(b"x", 1, 5)?, entry(b"y", 3, 6)?]?,
     )?;
     assert_eq!(rt; *good.owner(), owner);
     assert_eq!(rt; good.after(), 0);
     assert_eq!(rt; good.upto(), 3);
     assert_eq!(rt; good.entries().len(), 2);
     assert_eq!(rt; good.encoded_length(), 12 + 19 + 19);
+    let last = Block::new(
+        owner,
+        u64::MAX - 1,
+        vec![in alloc; entry(b"x", u64::MAX, 5)?]?,
+    )?;
+    assert_eq!(rt; last.upto(), u64::MAX);
+    Ok(())
+}
+
+#[test]
+fn entries_that_make_no_block(rt: HostRuntime) -> Result<(), Fail> {
+    let alloc = rt.alloc();
+    let owner = Name::read(b"a")?;
     let wrong = [
         Block::new(owner, 0, Vec::new(alloc)),
         Block::new(
             owner,
             0,
-            vec![in alloc; entry(alloc, b"x", 2, 5)?, entry(alloc, b"y", 1, 5)?]?,
+            vec![in alloc; entry(b"x", 2, 5)?, entry(b"y", 1, 5)?]?,
         ),
         Block::new(
             owner,
             0,
-            vec![in alloc; entry(alloc, b"x", 2, 5)?, entry(alloc, b"y", 2, 5)?]?,
+            vec![in alloc; entry(b"x", 2, 5)?, entry(b"y", 2, 5)?]?,
         ),
-        Block::new(owner, 1, vec![in alloc; entry(alloc, b"x", 1, 5)?]?),
+        Block::new(owner, 1, vec![in alloc; entry(b"x", 1, 5)?]?),
         Block::new(
             owner,
             0,
-            vec![in alloc;
-                entry(alloc, b"x", 1, 5)?,
-                entry(alloc, b"y", 2, 5)?,
-                entry(alloc, b"x", 3, 5)?,
-            ]?,
+            vec![in alloc; entry(b"x", 1, 5)?, entry(b"y", 2, 5)?, entry(b"x", 3, 5)?]?,
         ),
     ];
     for block in wrong {
         assert!(rt; matches!(block, Err(Fault::Malformed(3))));
     }
-    let last = Block::new(
-        owner,
-        u64::MAX - 1,
-        vec![in alloc; entry(alloc, b"x", u64::MAX, 5)?]?,
-    )?;
-    assert_eq!(rt; last.upto(), u64::MAX);
     Ok(())
 }
 
@@ -206,11 +214,7 @@ fn deltas_within_their_limits(rt: HostRuntime) -> Result<(), Fail> {
     let names = [b"a".as_slice(), b"a-", b"b"];
     let mut blocks = Vec::new(alloc);
     for name in names {
-        blocks.push(Block::new(
-            Name::read(name)?,
-            0,
-            vec![in alloc; entry(alloc, b"w", 1, 5)?]?,
-        )?)?;
+        blocks.push(Block::new(Name::read(name)?, 0, vec![in alloc; entry(b"w", 1, 5)?]?)?)?;
     }
     let delta = Delta::new(blocks)?;
     assert_eq!(rt; delta.encoded_length(), 3 + 31 + 32 + 31);
@@ -218,16 +222,8 @@ fn deltas_within_their_limits(rt: HostRuntime) -> Result<(), Fail> {
         assert_eq!(rt; block.owner().bytes(), name);
     }
     for (first, second) in [(b"b".as_slice(), b"a".as_slice()), (b"a", b"a")] {
-        let first = Block::new(
-            Name::read(first)?,
-            0,
-            vec![in alloc; entry(alloc, b"w", 1, 5)?]?,
-        )?;
-        let second = Block::new(
-            Name::read(second)?,
-            0,
-            vec![in alloc; entry(alloc, b"w", 1, 5)?]?,
-        )?;
+        let first = Block::new(Name::read(first)?, 0, vec![in alloc; entry(b"w", 1, 5)?]?)?;
+        let second = Block::new(Name::read(second)?, 0, vec![in alloc; entry(b"w", 1, 5)?]?)?;
         assert!(rt;
             matches!(
                 Delta::new(vec![in alloc; first, second]?),
@@ -273,17 +269,19 @@ fn the_longest_delta(rt: HostRuntime) -> Result<(), Fail> {
     Ok(())
 }
 
+/// Settings of which each number is the least or the greatest that is allowed.
+const OUTERMOST: RawSettings = RawSettings {
+    cluster: b"c1",
+    budget: 256,
+    order: Order::Depth,
+    max_version: 1_099_511_627_775,
+    seats: 64,
+    workers: 62,
+};
+
 #[test]
 fn settings_within_their_limits(rt: HostRuntime) -> Result<(), Fail> {
-    let raw = RawSettings {
-        cluster: b"c1",
-        budget: 256,
-        order: Order::Depth,
-        max_version: 1_099_511_627_775,
-        seats: 64,
-        workers: 62,
-    };
-    let settings = Settings::check(raw)?;
+    let settings = Settings::check(OUTERMOST)?;
     assert_eq!(rt; settings.cluster(), Name::read(b"c1")?);
     assert_eq!(rt; settings.budget(), 256);
     assert_eq!(rt; settings.order(), Order::Depth);
@@ -295,8 +293,14 @@ fn settings_within_their_limits(rt: HostRuntime) -> Result<(), Fail> {
         max_version: 1,
         seats: 1,
         workers: 1,
-        ..raw
+        ..OUTERMOST
     })?;
+    Ok(())
+}
+
+#[test]
+fn settings_past_their_limits(rt: HostRuntime) -> Result<(), Fail> {
+    let raw = OUTERMOST;
     let wrong = [
         RawSettings {
             cluster: b"",

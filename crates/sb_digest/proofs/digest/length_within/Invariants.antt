@@ -8,5 +8,5 @@ use Rattle.sb_digest.proofs.digest.length_within.Given as goal
 
 abbrev pub invariant-loop-pair : goal.invariant-loop-pair
 invariant-loop-pair l =
-    (l.length ≡ l.bounds + sum_by pair_length (take l.pair-index l.pairs)) × (l.length ≤ PAYLOAD_MOST)
+    (l.length ≡ l.head + sum_by pair_length (take l.pair-index l.pairs)) × (l.length ≤ PAYLOAD_MOST)
     × (list_all is_pair (take l.pair-index l.pairs) ≡ true)
