@@ -10,12 +10,7 @@ use sb_types::{Block, Entry, HEADER_LENGTH, Key, Name, Slot, Value};
 use std::test::Fail;
 
 /// Enters writes of an owner: addresses of 128 bytes under keys of 64 of these letters, entries of 203 bytes.
-fn enter(
-    alloc: Global,
-    holdings: &mut Holdings,
-    owner: Name,
-    letters: &[u8],
-) -> Result<(), Fault> {
+fn enter(alloc: Global, holdings: &mut Holdings, owner: Name, letters: &[u8]) -> Result<(), Fault> {
     let mut entries = Vec::new(alloc);
     for (index, letter) in letters.iter().enumerate() {
         let value = Value::addr(alloc, &[b'p'; 128])?;

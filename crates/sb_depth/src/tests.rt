@@ -10,12 +10,7 @@ use sb_types::{Block, Entry, HEADER_LENGTH, Key, Name, Slot, Value};
 use std::test::Fail;
 
 /// Enters writes of an owner: addresses of 128 bytes under keys of 64 of these letters, entries of 203 bytes.
-fn enter(
-    alloc: Global,
-    holdings: &mut Holdings,
-    owner: Name,
-    letters: &[u8],
-) -> Result<(), Fault> {
+fn enter(alloc: Global, holdings: &mut Holdings, owner: Name, letters: &[u8]) -> Result<(), Fault> {
     let mut entries = Vec::new(alloc);
     for (index, letter) in letters.iter().enumerate() {
         let value = Value::addr(alloc, &[b'p'; 128])?;
@@ -68,10 +63,7 @@ fn one_owner_is_told_of_at_length(rt: HostRuntime) -> Result<(), Fail> {
     let alloc = rt.alloc();
     let [a, b] = [Name::read(b"a")?, Name::read(b"b")?];
     let wide = [(a, 1), (a, 2)];
-    for (budget, length, entries) in [
-        (440, 427, wide.as_slice()),
-        (438, 427, wide.as_slice()),
-    ] {
+    for (budget, length, entries) in [(440, 427, wide.as_slice()), (438, 427, wide.as_slice())] {
         let delta = cut(alloc, arranged(alloc, a, &[b])?, budget)?;
         assert_eq!(rt; delta.encoded_length() + HEADER_LENGTH, length);
         let mut told = Vec::new(alloc);
