@@ -8,8 +8,8 @@ ghost use Rattle.sb_budget.specs.Gathered.{grown, begun, placed, cost_of};
 
 use crate::offered::Offered;
 use sb_types::{
-    BLOCK_HEAD_MOST, BYTE_LENGTH, Block, COUNT_LENGTH, ENTRY_LENGTH_MOST, Entry, Fault, NUMBER_LENGTH,
-    Name,
+    BLOCK_HEAD_MOST, BYTE_LENGTH, Block, COUNT_LENGTH, ENTRY_LENGTH_MOST, Entry, Fault,
+    NUMBER_LENGTH, Name,
 };
 use std::alloc::Global;
 use std::marker::Model;
