@@ -2,7 +2,7 @@ use Rattle.std.proofs.Common.{◌≡◌, ℕ, refl, ap, arith}
 use Rattle.sb_types.specs.declared.fault.Fault.{Fault}
 use Rattle.sb_types.specs.declared.fault.Fault.TheVariants.{NoMemory, ReadFailed, WriteFailed, TurnsSpent}
 use Rattle.sb_types.specs.Faults.{number_of}
-use Rattle.attrdir.specs.Reads.{AreCounted, IsRunFault, is_run_fault}
+use Rattle.attrdir.specs.Reads.{AreCounted, IsRunFault}
 
 -- want of memory is a fault of a run at any time
 pub memory_fault : (steps steps' allowed : ℕ) (fault : Fault) → fault ≡ NoMemory → IsRunFault steps steps' allowed fault
