@@ -1,6 +1,6 @@
 //! What a node holds, and what a delta does to it.
 use sb_table::Table;
-use sb_types::{Block, Delta, Entry, Fault, KEYS_MOST, Key, Name, Slot, Value};
+use sb_types::{Block, Delta, Entry, Fault, Key, Name, Slot, Value};
 use std::alloc::Global;
 use std::collections::BTreeMap;
 
@@ -100,11 +100,6 @@ impl Node {
     }
 }
 
-/// Whether an entry under this key keeps to the most keys.
-fn has_room(table: &Table, key: &Key) -> bool {
-    table.len() < KEYS_MOST || table.get(key).is_some()
-}
-
 /// Enters those of the entries that are above what the table has.
 fn enter_entries(alloc: Global, table: &mut Table, entries: &[Entry]) -> BlockEnd {
     let mut taken = 0;
@@ -112,7 +107,7 @@ fn enter_entries(alloc: Global, table: &mut Table, entries: &[Entry]) -> BlockEn
         if entry.version() <= table.upto() {
             continue;
         }
-        if !has_room(table, entry.key()) {
+        if table.is_full_for(entry.key()) {
             return BlockEnd::TooManyKeys(taken);
         }
         let Ok(entry) = entry.copy(alloc) else {

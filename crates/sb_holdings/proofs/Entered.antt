@@ -1,13 +1,10 @@
 -- Entries entered into a table in turn.
-use Rattle.std.proofs.Common.{◌≡◌, ℕ, zero, suc, ◌+◌, ◌≤◌, ◌<◌, Bool, true, false, not, ◌&&◌, ◌||◌, le-leb, nat_eq, List, [], ◌∷◌, ◌++◌, length, take, get_or, Option, Some, None, is_some, is_none, cond, refl, sym, ap, subst, ◌∙◌, arith}
+use Rattle.std.proofs.Common.{◌≡◌, ℕ, zero, suc, ◌+◌, ◌≤◌, ◌<◌, true, false, List, [], ◌∷◌, ◌++◌, length, take, get_or, refl, sym, ap, subst, ◌∙◌, arith}
 use Rattle.std.proofs.lemmas.Bool.{and_parts, ltb-true}
-use Rattle.std.proofs.Math.Bool.{and-true}
-use Rattle.std.specs.Option.{option_map}
 use Rattle.std.proofs.lemmas.List.{take_more}
-use Rattle.std.specs.Cmp.Lexicographic.{pointwise}
 use Rattle.sb_types.specs.declared.limits.TheConstants.{KEYS_MOST}
 use Rattle.sb_types.specs.Records.{Entry, Table}
-use Rattle.sb_types.specs.Runs.{are_ascending, are_distinct, entered, entry_at, has_key, last_version}
+use Rattle.sb_types.specs.Runs.{are_ascending, are_distinct, entered, last_version}
 use Rattle.sb_table.specs.Plain.{IsPlainTable, is_full_for, with_entry}
 use Rattle.sb_table.proofs.Ascent.{last_version-push}
 use Rattle.sb_table.proofs.Enter.{length-entered, length-entered_full}
@@ -59,27 +56,3 @@ module _ (t u : Table) (es : List Entry) (n : ℕ) (x : Entry) (key : List ℕ) 
 
   pub keys-full : are_distinct es ≡ true → is_full_for key u.entries ≡ true → KEYS_MOST < keys_with (n + 1) es t.entries
   keys-full apart full = omega (arith, length-entered_full x u.entries KEYS_MOST (ap (λ (k : List ℕ). is_full_for k u.entries) (sym key_is) ∙ full), keys-next apart)
-
--- ---- whether a key would be one too many
-
-is_none-map : {A B : Type 0} (f : A → B) (o : Option A) → is_none (option_map f o) ≡ is_none o
-is_none-map f None = refl
-is_none-map f (Some x) = refl
-
-is_none-cond : (b : Bool) (e : Entry) (o : Option Entry) (c : Bool) → is_none o ≡ not c → is_none (cond b (Some e) o) ≡ not (b || c)
-is_none-cond true e o c h = refl
-is_none-cond false e o c h = h
-
-is_none-entry_at : (key : List ℕ) (es : List Entry) → is_none (entry_at key es) ≡ not (has_key key es)
-is_none-entry_at key [] = refl
-is_none-entry_at key (e ∷ es) = is_none-cond (pointwise nat_eq e.key key) e (entry_at key es) (has_key key es) (is_none-entry_at key es)
-
-not-not : (b : Bool) → not (not b) ≡ b
-not-not true = refl
-not-not false = refl
-
-pub is_full_for-found : {A B : Type 0} (f : A → B) (g : Entry → B) (o : Option A) (key : List ℕ) (es : List Entry) (none : Bool) →
-    option_map f o ≡ option_map g (entry_at key es) → KEYS_MOST ≤ length es → is_some o ≡ not none → none ≡ is_full_for key es
-is_full_for-found f g o key es none found full is =
-    sym (not-not none) ∙ ap not (sym is) ∙ sym (is_none-map f o) ∙ ap is_none found ∙ is_none-map g (entry_at key es) ∙ is_none-entry_at key es
-    ∙ sym (and-true (not (has_key key es))) ∙ ap (λ b. not (has_key key es) && b) (sym (le-leb KEYS_MOST (length es) full))

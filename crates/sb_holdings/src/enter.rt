@@ -7,15 +7,8 @@ ghost use Rattle.sb_holdings.specs.Ends.{Enters, entered_count};
 
 use crate::ends::BlockEnd;
 use sb_table::Table;
-use sb_types::{Entry, Fault, KEYS_MOST, Key};
+use sb_types::{Entry, Fault};
 use std::alloc::Global;
-
-/// Whether a key would be one too many.
-fn is_full_for(table: &Table, key: &Key) -> bool
-    ensures { result ≡ is_full_for key.now table.now.entries }
-{
-    table.len() >= KEYS_MOST && table.get(key).is_none()
-}
 
 fn push_copy(alloc: Global, table: &mut Table, entry: &Entry) -> Result<(), Fault>
     requires later { table.old.held < entry.now.version }
@@ -37,7 +30,7 @@ pub(crate) fn enter_each(alloc: Global, table: &mut Table, entries: &[Entry]) ->
     ensures table { IsPlainTable table.new }
 {
     for (count, entry) in entries.iter().enumerate() {
-        if is_full_for(table, entry.key()) {
+        if table.is_full_for(entry.key()) {
             return BlockEnd::TooManyKeys(count as u64);
         }
         if push_copy(alloc, table, entry).is_err() {

@@ -63,14 +63,14 @@ impl Table {
         ensures err { OnErr result (self.new ≡ self.old) }
         ensures table { IsPlainTable self.new }
     {
-        if self.is_full_beside(entry.key()) {
+        if self.is_full_for(entry.key()) {
             return Err(Fault::TableFull);
         }
         enter(&mut self.entries, &mut self.versions, entry)
     }
 
-    /// Whether a key is new beside as many as there can be.
-    fn is_full_beside(&self, key: &Key) -> bool
+    /// Whether there is no room for a key: it is new beside 4,096 others.
+    pub fn is_full_for(&self, key: &Key) -> bool
         ensures full { result ≡ is_full_for key.now self.now.entries }
         ensures table { IsPlainTable self.now }
     {

@@ -16,7 +16,7 @@ returns-then-is_full_for-clause-end c =
     let lt : n < length es = omega arith in (
       lt,
       keys-so_far t u es n x x.key c.loop-count.invariant.entered lt c.index-entries-count.is refl c.loop-count.invariant.table,
-      keys-full t u es n x c.key.result.now c.loop-count.invariant.entered lt c.index-entries-count.is c.key.ensures.key c.requires.distinct (sym c.if-is_full_for.ensures),
+      keys-full t u es n x c.key.result.now c.loop-count.invariant.entered lt c.index-entries-count.is c.key.ensures.key c.requires.distinct (sym c.if-is_full_for.ensures.full),
     )
 
 pub push_copy-requires-clause-later : goal.push_copy-requires-clause-later
@@ -31,7 +31,7 @@ returns-then-is_err-clause-end c =
     let lt : c.loop-count.count < length c.args.entries.now = omega arith in (
       lt,
       keys-room c.args.table.now c.loop-count.table c.args.entries.now c.loop-count.count x c.key.result.now c.loop-count.invariant.entered lt c.index-entries-count.is c.key.ensures.key
-          c.requires.distinct c.loop-count.invariant.table (sym c.if-is_full_for.ensures),
+          c.requires.distinct c.loop-count.invariant.table (sym c.if-is_full_for.ensures.full),
     )
 
 pub loop-count-preserved : goal.loop-count-preserved

@@ -5,7 +5,7 @@ use Rattle.sb_types.specs.Records.{Table}
 use Rattle.sb_types.specs.Runs.{has_key}
 use Rattle.sb_table.specs.Plain.{is_full_for}
 use Rattle.sb_table.proofs.Maps.{has_key-version, is_full_for-from}
-use Rattle.sb_table.proofs.table.Table.is_full_beside.Goals as goal
+use Rattle.sb_table.proofs.table.Table.is_full_for.Goals as goal
 
 pub returns-then-len-ge-KEYS_MOST-clause-full : goal.returns-then-len-ge-KEYS_MOST-clause-full
 returns-then-len-ge-KEYS_MOST-clause-full c =
