@@ -57,10 +57,10 @@ impl Node {
     pub(crate) fn write(&mut self, key: Key, value: Value, max_version: u64) -> Result<u64, Fault> {
         let last = self.own.upto();
         if last >= max_version {
-            return Err(if has_room(&self.own, &key) {
-                Fault::VersionsSpent
-            } else {
+            return Err(if self.own.is_full_for(&key) {
                 Fault::TableFull
+            } else {
+                Fault::VersionsSpent
             });
         }
         self.own.push(Entry::new(key, last + 1, Slot::Set(value)))?;
