@@ -1,10 +1,10 @@
 -- Entries of which no marker is at or below a floor.
-use Rattle.std.proofs.Common.{◌≡◌, ℕ, suc, ◌≤◌, Bool, true, List, [], ◌∷◌, ◌++◌, ◌||◌, nat_lt, filter, refl, sym, ap, ap₂, subst, ◌∙◌, arith, lt-ltb}
+use Rattle.std.proofs.Common.{◌≡◌, ℕ, suc, ◌≤◌, Bool, true, List, [], ◌∷◌, ◌++◌, ◌||◌, nat_lt, filter, refl, ap, ap₂, subst, ◌∙◌, arith, lt-ltb}
 use Rattle.std.specs.List.{All}
 use Rattle.std.proofs.lemmas.Bool.{and_parts, cond-true, or_right, ltb-true}
 use Rattle.std.proofs.lemmas.List.Elements.{All-filter, filter-append, filter_passes}
 use Rattle.sb_types.specs.Records.{Entry}
-use Rattle.sb_types.specs.Runs.{are_ascending, entered, has_key, is_set, live, without}
+use Rattle.sb_types.specs.Runs.{are_ascending, entered, is_set, live, without}
 
 pub live-above : (floor last : ℕ) (es : List Entry) → floor ≤ last → are_ascending last es ≡ true → live floor es ≡ es
 live-above floor last [] le up = refl
