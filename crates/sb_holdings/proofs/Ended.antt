@@ -1,10 +1,11 @@
 -- What a block that joins on leaves, by its end.
-use Rattle.std.proofs.Common.{◌≡◌, ℕ, ◌≤◌, ◌<◌, max, true, ◌||◌, nat_lt, List, [], ◌∷◌, length, take, Option, refl, sym, ap, subst, ◌∙◌, arith, le-leb, lt-ltb}
+use Rattle.std.proofs.Common.{◌≡◌, ℕ, ◌≤◌, ◌<◌, max, Bool, true, ◌||◌, nat_lt, List, [], ◌∷◌, length, take, Option, inl, inr, refl, sym, ap, subst, ◌∙◌, arith, le-leb, lt-ltb}
 use Rattle.std.proofs.lemmas.Bool.{and_parts, and_from, cond-true, cond-false, cond_both, leb-true, ltb-true, ltb-false, eqb-true, or_right}
 use Rattle.std.proofs.lemmas.List.{take_all}
+use Rattle.std.specs.List.{list_all}
 use Rattle.sb_types.specs.Records.{Entry, Table, Stage, Block, Holder}
-use Rattle.sb_types.specs.Limits.{is_delta_block}
-use Rattle.sb_types.specs.Runs.{IsRun, IsBlock, are_ascending, are_distinct, above, entered, live, last_version, is_set}
+use Rattle.sb_types.specs.Limits.{is_delta, is_delta_block}
+use Rattle.sb_types.specs.Runs.{Stands, IsRun, IsBlock, are_ascending, are_distinct, above, entered, live, last_version, is_set}
 use Rattle.sb_table.specs.Plain.{IsPlainTable}
 use Rattle.sb_holdings.specs.declared.ends.BlockEnd.{BlockEnd}
 use Rattle.sb_holdings.specs.declared.ends.BlockEnd.TheVariants.{Own, OwnAhead, Gap, Stale, OwnersFull, Taken, TooManyKeys, NoMemory}
@@ -54,7 +55,7 @@ last_version-above after version (e ∷ es) up more le =
     (λ later. ap (last_version e.version) (above-all version e.version es (omega (arith, ltb-true version e.version later)) parts.1))
     (λ held. last_version-above e.version version es parts.1 more (ltb-false version e.version held))
 
-live-all : (last : ℕ) (es : List Entry) → are_ascending last es ≡ true → live 0 es ≡ es
+pub live-all : (last : ℕ) (es : List Entry) → are_ascending last es ≡ true → live 0 es ≡ es
 live-all last [] up = refl
 live-all last (e ∷ es) up =
     let parts = and_parts (nat_lt last e.version) (are_ascending e.version es) up in
@@ -141,6 +142,14 @@ IsBlock-delta b is =
       run = record { ascending = plain.ascending; most = omega (arith, plain.upto); distinct = plain.distinct };
       order = omega (arith, plain.upto, last-after b.after b.entries plain.ascending some);
     }
+
+all-each : {X : Type 0} (test : X → Bool) (xs : List X) (x : X) → list_all test xs ≡ true → Stands xs x → test x ≡ true
+all-each test [] x all s = absurd s
+all-each test (y ∷ ys) x all (inl same) = sym (ap test same) ∙ (and_parts _ _ all).0
+all-each test (y ∷ ys) x all (inr s) = all-each test ys x (and_parts _ _ all).1 s
+
+pub block-of_delta : (blocks : List Block) (b : Block) → is_delta blocks ≡ true → Stands blocks b → is_delta_block b ≡ true
+block-of_delta blocks b is s = all-each is_delta_block blocks b (and_parts _ _ is).0 s
 
 -- ---- the entries of a block above a version
 
