@@ -1,11 +1,11 @@
 -- What a log has once one more was written.
-use Rattle.std.proofs.Common.{◌≡◌, ℕ, zero, suc, ◌+◌, ◌-◌, true, List, [], ◌∷◌, ◌++◌, length, refl, sym, ap, ◌∙◌, Some, slice_get, arith, length-append, nat_eq}
+use Rattle.std.proofs.Common.{◌≡◌, ℕ, zero, suc, ◌+◌, ◌-◌, List, [], ◌∷◌, ◌++◌, length, refl, sym, ap, ◌∙◌, Some, slice_get, arith, length-append, nat_eq}
 use Rattle.std.proofs.lemmas.Cmp.{nat_list_eq_equiv}
 use Rattle.std.proofs.lemmas.List.Folds.{list_any-append}
 use Rattle.std.specs.Cmp.Lexicographic.{pointwise}
 use Rattle.sb_types.specs.declared.entry.Write.{Write}
-use Rattle.sb_types.specs.Records.{Entry, Table}
-use Rattle.sb_types.specs.Runs.{has_key, without, entered, live}
+use Rattle.sb_types.specs.Records.{Entry}
+use Rattle.sb_types.specs.Runs.{without, entered, live}
 use Rattle.sb_types.specs.Writes.{Written}
 use Rattle.sb_table.specs.Plain.{with_entry}
 use Rattle.sb_holdings.specs.Contents.{entry_of_write, numbered, last_each, content_table}

@@ -1,8 +1,8 @@
 -- How a block that joins on is taken up.
-use Rattle.std.proofs.Common.{◌≡◌, ℕ, true, false, take, List, refl, sym, ap, subst, ◌∙◌, arith, le-leb, lt-ltb, Option, nat_eq}
+use Rattle.std.proofs.Common.{◌≡◌, ℕ, true, take, refl, sym, ap, subst, ◌∙◌, arith, le-leb, lt-ltb, Option, nat_eq}
 use Rattle.std.proofs.lemmas.Bool.{and_from, cond-true, cond-false, false≢true}
 use Rattle.std.specs.Cmp.Lexicographic.{pointwise}
-use Rattle.sb_types.specs.Records.{Entry, Table, Stage, Block, Holder}
+use Rattle.sb_types.specs.Records.{Table, Stage, Block, Holder}
 use Rattle.sb_types.specs.Limits.{is_delta_block}
 use Rattle.sb_types.specs.Runs.{above}
 use Rattle.sb_holdings.specs.declared.ends.BlockEnd.{BlockEnd}

@@ -1,4 +1,4 @@
-use Rattle.std.proofs.Common.{ℕ, List, sym, subst}
+use Rattle.std.proofs.Common.{List, sym, subst}
 use Rattle.sb_types.specs.declared.entry.Write.{Write}
 use Rattle.sb_types.specs.Writes.{Written, Honest, HolderHolds}
 use Rattle.sb_holdings.specs.Nodes.{held_by}
