@@ -3,7 +3,7 @@ use Rattle.std.specs.Prelude.{None}
 use Rattle.sb_holdings.specs.Plain.{tables_from}
 use Rattle.sb_digest.specs.Digests.{covers, number}
 use Rattle.sb_budget.proofs.AvailableLemmas.{all_parts}
-use Rattle.sb_budget.proofs.answer.available.Given as goal
+use Rattle.sb_budget.proofs.availability.available.Given as goal
 
 abbrev pub invariant-loop-owner : goal.invariant-loop-owner
 invariant-loop-owner l =

@@ -4,10 +4,10 @@ use Rattle.std.proofs.lemmas.Iterator.Adapters.{YieldsList-from_vec}
 use Rattle.std.proofs.lemmas.Iterator.Consumers.{YieldsList-so_far, YieldsList-turn, YieldsList-end}
 use Rattle.std.proofs.lemmas.List.{map-id}
 use Rattle.sb_types.specs.Records.{Block}
-use Rattle.sb_budget.specs.Gathered.{placed}
+use Rattle.sb_budget.specs.BlocksByOwner.{placed}
 use Rattle.sb_budget.proofs.PlaceLemmas.{text_cmp}
 use Rattle.sb_budget.proofs.CutLemmas.{IsGathering, cut_here, cut_of_all, blocks_good, gathering_more, at_turn, room_short, name_above}
-use Rattle.sb_budget.proofs.delta.gather.Goals as goal
+use Rattle.sb_budget.proofs.cutting.gather.Goals as goal
 
 pub returns-in_default-clause-cut : goal.returns-in_default-clause-cut
 returns-in_default-clause-cut c =

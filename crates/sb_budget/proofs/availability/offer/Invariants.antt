@@ -1,7 +1,7 @@
 use Rattle.std.proofs.Common.{◌≡◌, ◌+◌, ◌++◌, length}
 use Rattle.sb_types.specs.Runs.{above}
 use Rattle.sb_budget.specs.Available.{ranked_from, ranked_of}
-use Rattle.sb_budget.proofs.answer.offer.Given as goal
+use Rattle.sb_budget.proofs.availability.offer.Given as goal
 
 abbrev pub invariant-loop-entry : goal.invariant-loop-entry
 invariant-loop-entry l = record {

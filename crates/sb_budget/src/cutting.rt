@@ -2,7 +2,7 @@ ghost use Rattle.std.specs.Prelude.{◌≡◌, ◌≤◌, ◌<◌, [], true, len
 ghost use Rattle.sb_types.specs.Limits.{are_block_entries, are_owners_above};
 ghost use Rattle.sb_budget.specs.Cut.{items_of_all, IsCut, CanCut};
 
-use crate::gathered::{Gathered, cost, place_of, put};
+use crate::block_builder::{BlockBuilder, cost, place_of, put};
 use crate::offered::Offered;
 use sb_types::{
     BUDGET_LEAST, BUDGET_MOST, BYTE_LENGTH, Block, COUNT_LENGTH, Delta, Fault, HEADER_LENGTH,
@@ -13,7 +13,7 @@ use std::alloc::Global;
 const EMPTY_FRAME: u64 = HEADER_LENGTH + BYTE_LENGTH + COUNT_LENGTH;
 
 /// The longest front of the items whose delta fits the budget, by owner.
-fn gather(alloc: Global, items: Vec<Offered>, budget: u64) -> Result<Vec<Gathered>, Fault>
+fn gather(alloc: Global, items: Vec<Offered>, budget: u64) -> Result<Vec<BlockBuilder>, Fault>
     requires least { BUDGET_LEAST ≤ budget }
     requires most { budget ≤ BUDGET_MOST }
     requires items { CanCut items.items }
@@ -37,7 +37,7 @@ fn gather(alloc: Global, items: Vec<Offered>, budget: u64) -> Result<Vec<Gathere
 }
 
 /// A block of each owner's entries.
-fn blocks_from(alloc: Global, gathered: Vec<Gathered>) -> Result<Vec<Block>, Fault>
+fn blocks_from(alloc: Global, gathered: Vec<BlockBuilder>) -> Result<Vec<Block>, Fault>
     requires { All (λ b. are_block_entries b.after b.entries ≡ true) gathered.items }
     ensures blocks { IfOk result (λ blocks. blocks.items ≡ gathered.items) }
     ensures memory { IfErr result (λ fault. fault ≡ Fault.NoMemory) }

@@ -2,7 +2,7 @@ use Rattle.std.proofs.Common.{◌≡◌, ◌++◌}
 use Rattle.std.specs.Prelude.{map}
 use Rattle.sb_digest.specs.Fronts.{IsFront}
 use Rattle.sb_digest.specs.Pairs.{pair_of, pairs_from}
-use Rattle.sb_digest.proofs.building.build.Given as goal
+use Rattle.sb_digest.proofs.digest_building.build.Given as goal
 
 abbrev pub invariant-loop-owner : goal.invariant-loop-owner
 invariant-loop-owner l = record {

@@ -1,6 +1,6 @@
 use Rattle.std.proofs.Common.{◌≡◌, arith, sym, ◌∙◌}
 use Rattle.sb_digest.proofs.Gathering.{next-comes, cut-longest}
-use Rattle.sb_digest.proofs.building.build.Goals as goal
+use Rattle.sb_digest.proofs.digest_building.build.Goals as goal
 
 pub push-requires : goal.push-requires
 push-requires c =

@@ -1,5 +1,5 @@
 use Rattle.sb_budget.proofs.CutLemmas.{IsGathering}
-use Rattle.sb_budget.proofs.delta.gather.Given as goal
+use Rattle.sb_budget.proofs.cutting.gather.Given as goal
 
 abbrev pub invariant-loop-item : goal.invariant-loop-item
 invariant-loop-item l =

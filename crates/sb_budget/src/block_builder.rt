@@ -4,7 +4,7 @@ ghost use Rattle.std.specs.Cmp.Lexicographic.{slice_cmp};
 ghost use Rattle.std.specs.List.Sorted.{IsSearchInRange, IsBinarySearchResult};
 ghost use Rattle.sb_types.specs.Text.{is_name};
 ghost use Rattle.sb_types.specs.Limits.{are_block_entries};
-ghost use Rattle.sb_budget.specs.Gathered.{grown, begun, placed, cost_of};
+ghost use Rattle.sb_budget.specs.BlocksByOwner.{grown, begun, placed, cost_of};
 
 use crate::offered::Offered;
 use sb_types::{
@@ -19,13 +19,13 @@ const BLOCK_START: u64 = BYTE_LENGTH + NUMBER_LENGTH + COUNT_LENGTH;
 
 /// The entries of one owner that are to make its block.
 #[derive(Drop)]
-pub(crate) struct Gathered {
+pub(crate) struct BlockBuilder {
     owner: Name,
     after: u64,
     entries: Vec<Entry>,
 }
 
-impl Model for Gathered {
+impl Model for BlockBuilder {
     ghost use Rattle.sb_types.specs.Records as records;
 
     ghost Value = { records.Block };
@@ -35,14 +35,14 @@ impl Model for Gathered {
     ghost view = { λ g. block_of_entries g.owner g.after g.entries.items };
 }
 
-impl Gathered {
-    fn new(alloc: Global, item: Offered) -> Result<Gathered, Fault>
+impl BlockBuilder {
+    fn new(alloc: Global, item: Offered) -> Result<BlockBuilder, Fault>
         ensures begun { IfOk result (λ g. g ≡ begun item) }
         ensures memory { IfErr result (λ fault. fault ≡ Fault.NoMemory) }
     {
         let mut entries = Vec::new(alloc);
         entries.push(item.entry)?;
-        Ok(Gathered {
+        Ok(BlockBuilder {
             owner: item.owner,
             after: item.after,
             entries,
@@ -68,7 +68,7 @@ impl Gathered {
         requires { are_block_entries self.after self.entries ≡ true }
         ensures { result ≡ Ok self }
     {
-        let Gathered {
+        let BlockBuilder {
             owner,
             after,
             entries,
@@ -78,7 +78,7 @@ impl Gathered {
 }
 
 /// Where the owner's entries stand among these, or else where they would come.
-pub(crate) fn place_of(gathered: &[Gathered], owner: Name) -> Result<usize, usize>
+pub(crate) fn place_of(gathered: &[BlockBuilder], owner: Name) -> Result<usize, usize>
     ensures bound { IsSearchInRange result (length gathered.now) }
     ensures place { IsBinarySearchResult (λ b. slice_cmp nat_cmp b.owner owner) gathered.now result }
 {
@@ -102,7 +102,7 @@ pub(crate) fn cost(item: &Offered, place: Result<usize, usize>) -> u64
 /// Puts the item to its owner's entries. `NoMemory`.
 pub(crate) fn put(
     alloc: Global,
-    gathered: &mut Vec<Gathered>,
+    gathered: &mut Vec<BlockBuilder>,
     place: Result<usize, usize>,
     item: Offered,
 ) -> Result<(), Fault>
@@ -116,7 +116,7 @@ pub(crate) fn put(
             group.push(item.entry)
         }
         Err(index) => {
-            let group = Gathered::new(alloc, item)?;
+            let group = BlockBuilder::new(alloc, item)?;
             gathered.insert(index, group)?;
             Ok(())
         }

@@ -8,7 +8,7 @@ use Rattle.sb_budget.specs.Cut.{items_of_all, CanCut}
 use Rattle.sb_budget.specs.Orders.{IsOffer}
 use Rattle.sb_budget.proofs.PlaceLemmas.{text_cmp}
 use Rattle.sb_budget.proofs.AvailableLemmas.{all_made, items_held, plain_tables, can_cut, is_offer, are_ranked}
-use Rattle.sb_budget.proofs.answer.available.Goals as goal
+use Rattle.sb_budget.proofs.availability.available.Goals as goal
 
 pub returns-clause-items : goal.returns-clause-items
 returns-clause-items c =
