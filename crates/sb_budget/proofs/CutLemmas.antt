@@ -15,7 +15,7 @@ use Rattle.sb_types.specs.Limits.{are_owners_above, are_block_entries, are_delta
 use Rattle.sb_holdings.proofs.Lists.{right, taken}
 use Rattle.sb_budget.specs.declared.offered.Offered.{Offered}
 use Rattle.sb_budget.specs.Cut.{item_of, items_of_all, delta_at, IsCut, CanCut}
-use Rattle.sb_budget.specs.Gathered.{placed, cost_of}
+use Rattle.sb_budget.specs.BlocksByOwner.{placed, cost_of}
 use Rattle.sb_budget.proofs.PlaceLemmas.{text_cmp, joined, are_ordered, ordered_above, placed_is_joined, placed_length, placed_some, joined_above, joined_ordered}
 use Rattle.sb_budget.proofs.GatherLemmas.{gathered, gathered_push, gathered_grows, AreKnown, after_of, all_known, gathered_good, delta_is_gathered}
 

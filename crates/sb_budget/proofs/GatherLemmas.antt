@@ -21,7 +21,7 @@ use Rattle.sb_budget.specs.declared.offered.Offered.{Offered}
 use Rattle.sb_budget.specs.Offers.{Item, of_owner, entries_of, block_from, block_of}
 use Rattle.sb_budget.specs.Orders.{offered_by}
 use Rattle.sb_budget.specs.Cut.{item_of, items_of_all, with_name, blocks_of, delta_at, IsPart, CanCut}
-use Rattle.sb_budget.specs.Gathered.{grown, begun}
+use Rattle.sb_budget.specs.BlocksByOwner.{grown, begun}
 use Rattle.sb_budget.proofs.NameLemmas.{some_of, unnamed_none, named_some}
 use Rattle.sb_budget.proofs.PlaceLemmas.{text_cmp, joined, are_ordered, same_from_Equal, Equal_from_same, Less_from_lt, lt_from_Less, ordered_above, joined_ordered, joined_no_less}
 

@@ -16,7 +16,7 @@ use Rattle.sb_types.specs.Limits.{text_lt, are_owners_above}
 use Rattle.sb_table.proofs.Texts.{text_lt-back}
 use Rattle.sb_holdings.proofs.Lists.{same_text}
 use Rattle.sb_budget.specs.declared.offered.Offered.{Offered}
-use Rattle.sb_budget.specs.Gathered.{grown, begun, placed, cost_of}
+use Rattle.sb_budget.specs.BlocksByOwner.{grown, begun, placed, cost_of}
 
 abbrev pub text_cmp : List ℕ → List ℕ → Ordering
 text_cmp = slice_cmp nat_cmp

@@ -1,5 +1,5 @@
 pub mod Offers
 pub mod Orders
 pub mod Cut
-pub mod Gathered
+pub mod BlocksByOwner
 pub mod Available

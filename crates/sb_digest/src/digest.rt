@@ -94,7 +94,7 @@ fn owner_of(pair: &Pair) -> Name
     pair.owner
 }
 
-fn do_bounds_ascend(from: Option<&Name>, until: Option<&Name>) -> bool
+fn are_bounds_ascending(from: Option<&Name>, until: Option<&Name>) -> bool
     ensures { result ≡ is_range (option_copied from.entry) (option_copied until.entry) }
 {
     match (from, until) {
@@ -103,7 +103,7 @@ fn do_bounds_ascend(from: Option<&Name>, until: Option<&Name>) -> bool
     }
 }
 
-fn do_owners_ascend(pairs: &[Pair]) -> bool
+fn are_owners_ascending(pairs: &[Pair]) -> bool
     ensures { result ≡ are_pairs_above [] pairs.now }
 {
     let mut last: &[u8] = &[];
@@ -188,8 +188,8 @@ impl Digest {
         ensures { result ≡ (let digest = digest_of want from until pairs.items in if are_digest_parts digest then Ok digest else Err (Fault.Malformed KIND_DIGEST)) }
     {
         let (low, high) = (from.as_ref(), until.as_ref());
-        if !do_bounds_ascend(low, high)
-            || !do_owners_ascend(&pairs)
+        if !are_bounds_ascending(low, high)
+            || !are_owners_ascending(&pairs)
             || !are_covered(low, high, &pairs)
         {
             return Err(Fault::Malformed(KIND_DIGEST));

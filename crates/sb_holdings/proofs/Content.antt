@@ -24,7 +24,7 @@ last_stands : (es : List Entry) (e : Entry) → Stands (last_each es) e → Stan
 last_stands [] e s = absurd s
 last_stands (x ∷ xs) e s = ⊎_elim (λ h. inl h.0) (λ r. inr (last_stands xs e r)) (last_cases x xs e s)
 
-ascending_last : (a : ℕ) (es : List Entry) → are_ascending a es ≡ true → are_ascending a (last_each es) ≡ true
+pub ascending_last : (a : ℕ) (es : List Entry) → are_ascending a es ≡ true → are_ascending a (last_each es) ≡ true
 ascending_last a [] h = refl
 ascending_last a (x ∷ xs) h =
     let p = and_parts (nat_lt a x.version) (are_ascending x.version xs) h in

@@ -1,11 +1,12 @@
 -- What a block that joins on leaves, by its end.
-use Rattle.std.proofs.Common.{◌≡◌, ℕ, ◌≤◌, ◌<◌, max, true, nat_lt, List, [], ◌∷◌, length, take, Option, refl, sym, ap, subst, ◌∙◌, arith, le-leb, lt-ltb}
+use Rattle.std.proofs.Common.{◌≡◌, ℕ, ◌≤◌, ◌<◌, max, Bool, true, nat_lt, List, [], ◌∷◌, length, take, Option, inl, inr, refl, sym, ap, subst, ◌∙◌, arith, le-leb, lt-ltb}
 use Rattle.std.proofs.lemmas.Bool.{and_parts, and_from, cond-true, cond-false, cond_both, leb-true, ltb-true, ltb-false, eqb-true}
 use Rattle.std.proofs.lemmas.List.{take_all}
+use Rattle.std.specs.List.{list_all}
 use Rattle.sb_types.proofs.Live.{live-above}
 use Rattle.sb_types.specs.Records.{Entry, Table, Stage, Block, Holder}
-use Rattle.sb_types.specs.Limits.{is_delta_block}
-use Rattle.sb_types.specs.Runs.{IsRun, IsBlock, are_ascending, are_distinct, above, entered, live, last_version}
+use Rattle.sb_types.specs.Limits.{is_delta, is_delta_block}
+use Rattle.sb_types.specs.Runs.{Stands, IsRun, IsBlock, are_ascending, are_distinct, above, entered, live, last_version}
 use Rattle.sb_table.specs.Plain.{IsPlainTable}
 use Rattle.sb_holdings.specs.declared.ends.BlockEnd.{BlockEnd}
 use Rattle.sb_holdings.specs.declared.ends.BlockEnd.TheVariants.{Own, OwnAhead, Gap, Stale, OwnersFull, Taken, TooManyKeys, NoMemory}
@@ -134,6 +135,14 @@ IsBlock-delta b is =
       run = record { ascending = plain.ascending; most = omega (arith, plain.upto); distinct = plain.distinct };
       order = omega (arith, plain.upto, last-after b.after b.entries plain.ascending some);
     }
+
+all-each : {X : Type 0} (test : X → Bool) (xs : List X) (x : X) → list_all test xs ≡ true → Stands xs x → test x ≡ true
+all-each test [] x all s = absurd s
+all-each test (y ∷ ys) x all (inl same) = sym (ap test same) ∙ (and_parts _ _ all).0
+all-each test (y ∷ ys) x all (inr s) = all-each test ys x (and_parts _ _ all).1 s
+
+pub block-of_delta : (blocks : List Block) (b : Block) → is_delta blocks ≡ true → Stands blocks b → is_delta_block b ≡ true
+block-of_delta blocks b is s = all-each is_delta_block blocks b (and_parts _ _ is).0 s
 
 -- ---- the entries of a block above a version
 

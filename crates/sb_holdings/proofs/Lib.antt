@@ -20,3 +20,8 @@ pub mod Entered
 pub mod Changed
 pub mod Ended
 pub mod Lent
+pub mod Growing
+pub mod Filling
+pub mod Opened
+pub mod TakenUp
+pub mod Replaced

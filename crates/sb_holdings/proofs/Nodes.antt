@@ -1,5 +1,5 @@
 -- Whole runs of events, on a node.
-use Rattle.std.proofs.Common.{◌≡◌, ℕ, Bool, true, false, cond, List, [], ◌∷◌, length, inl, inr, refl, sym, subst, Option, Some, None, is_none, unwrap_or, nat_eq, eqb-true, nat_cmp}
+use Rattle.std.proofs.Common.{◌≡◌, ℕ, Bool, true, false, cond, List, [], ◌∷◌, ◌++◌, length, inl, inr, refl, sym, subst, Option, Some, None, is_none, unwrap_or, nat_eq, eqb-true, nat_cmp}
 use Rattle.std.proofs.lemmas.Bool.{and_parts, cond_both, false≢true}
 use Rattle.std.proofs.lemmas.List.{nil_from_length}
 use Rattle.std.proofs.lemmas.Cmp.{nat_list_cmp_total}
@@ -45,17 +45,17 @@ module _ (owners : FinMap (slice_cmp nat_cmp) Holder) (owner : List ℕ) (h : Ho
   put true o = refl
   put false o = refl
 
-  same_test : (q : List ℕ) → eq_by_cmp (slice_cmp nat_cmp) q owner ≡ pointwise nat_eq q owner
+  pub same_test : (q : List ℕ) → eq_by_cmp (slice_cmp nat_cmp) q owner ≡ pointwise nat_eq q owner
   same_test q = sym (lists_ties nat_cmp unsigned_ties q owner)
 
   -- in the new map all is as it was, but of this owner there is this
-  abbrev Put : FinMap (slice_cmp nat_cmp) Holder → Type 0
+  abbrev pub Put : FinMap (slice_cmp nat_cmp) Holder → Type 0
   Put new = (q : List ℕ) → holder_of new q ≡ cond (pointwise nat_eq q owner) h (holder_of owners q)
 
   inserted : Put (insert owners owner h)
   inserted q = rw (get-insert nat_list_cmp_total owners owner h q, same_test q) (put (pointwise nat_eq q owner) (get owners q))
 
-  put_with : Put (with_holder owners owner h)
+  pub put_with : Put (with_holder owners owner h)
   put_with =
       cond_both (is_nothing h) (remove owners owner) (insert owners owner h) Put
       (λ none q. rw (get-remove nat_list_cmp_total owners owner q, same_test q) (found (pointwise nat_eq q owner) (get owners q) (is_nothing_is h none)))
@@ -105,6 +105,10 @@ same_me node (Took b OwnersFull) = refl
 same_me node (Took b (Taken n)) = same_me_taken node.held b (Taken n)
 same_me node (Took b (TooManyKeys n)) = same_me_taken node.held b (TooManyKeys n)
 same_me node (Took b (NoMemory n)) = same_me_taken node.held b (NoMemory n)
+
+pub replay_at-append : (node : Node) (events more : List NodeEvent) → replay_at node (events ++ more) ≡ replay_at (replay_at node events) more
+replay_at-append node [] more = refl
+replay_at-append node (event ∷ events) more = replay_at-append (happens_at node event) events more
 
 pub replay_at_step : (writes : List ℕ → List Write) (node : Node) (events : List NodeEvent) → IsNode node → AreNodeEvents events → (q : List ℕ) →
     Step (writes q) (AllTrueAt writes node.held.me events) (held_by node q) (held_by (replay_at node events) q)

@@ -4,10 +4,14 @@ use Rattle.sb_types.specs.declared.entry.Write.{Write}
 use Rattle.sb_types.specs.Records.{Entry, Table}
 use Rattle.sb_types.specs.Runs.{has_key, live}
 
+-- the write as the entry of this version
+abbrev pub entry_of_write : ℕ → Write → Entry
+entry_of_write version w = record { key = w.key; version = version; slot = w.slot }
+
 -- the writes as entries, numbered from the one after this version
 abbrev pub numbered : ℕ → List Write → List Entry
 numbered version [] = []
-numbered version (w ∷ ws) = record { key = w.key; version = version + 1; slot = w.slot } ∷ numbered (version + 1) ws
+numbered version (w ∷ ws) = entry_of_write (version + 1) w ∷ numbered (version + 1) ws
 
 -- the last entry of each key
 abbrev pub last_each : List Entry → List Entry

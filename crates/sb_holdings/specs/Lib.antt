@@ -11,3 +11,5 @@ pub mod ByVersion
 pub mod Contents
 pub mod Plain
 pub mod Ends
+pub mod Growth
+pub mod TakenUp

@@ -1,18 +1,23 @@
 -- A node, and what happens to it.
 use Rattle.std.specs.Prelude.{ℕ, max, List, [], ◌∷◌, Option, Some, None}
 use Rattle.sb_types.specs.declared.entry.Write.{Write}
-use Rattle.sb_types.specs.Records.{Entry, Block, Holder}
+use Rattle.sb_types.specs.Records.{Entry, Table, Block, Holder}
 use Rattle.sb_types.specs.Runs.{Stands, IsBlock}
 use Rattle.sb_types.specs.Writes.{Written, Honest, IsHolder, HolderHolds}
 use Rattle.sb_holdings.specs.declared.ends.BlockEnd.{BlockEnd}
 use Rattle.sb_holdings.specs.declared.ends.BlockEnd.TheVariants.{Own, OwnAhead, Gap, Stale, OwnersFull, Taken, TooManyKeys, NoMemory}
 use Rattle.sb_holdings.specs.Held.{Held, holder_of, written, treated}
+use Rattle.sb_holdings.specs.Plain.{held_of}
 use Rattle.sb_holdings.specs.Progress.{Later}
 
 -- what the node holds, and the greatest version under its name that it did not write
 pub record Node : Type 0 where
   pub held : Held
   pub conflict : Option ℕ
+
+-- a node that has just opened: its own name with this table, and nothing of any other owner
+abbrev pub opened_node : List ℕ → Table → Node
+opened_node me table = record { held = held_of me ((me, table) ∷ []); conflict = None }
 
 -- what it holds of an owner
 abbrev pub held_by : Node → List ℕ → Holder

@@ -3,8 +3,8 @@
 ghost use Rattle.std.specs.Prelude.{◌≡◌, ℕ, ◌+◌, true, List, ◌++◌, ◌↔◌, Option};
 ghost use Rattle.sb_types.specs.declared.entry.Write.{Write};
 ghost use Rattle.sb_types.specs.Records.{Entry, Table, Block, Holder};
-ghost use Rattle.sb_types.specs.Limits.{is_delta_block};
-ghost use Rattle.sb_types.specs.Runs.{are_distinct, entered, IsBlock};
+ghost use Rattle.sb_types.specs.Limits.{is_delta, is_delta_block};
+ghost use Rattle.sb_types.specs.Runs.{Stands, are_distinct, entered, IsBlock};
 ghost use Rattle.sb_types.specs.Writes.{Tells, Holds, Honest, IsHolder, HolderHolds};
 ghost use Rattle.sb_holdings.specs.declared.ends.BlockEnd.{BlockEnd};
 ghost use Rattle.sb_holdings.specs.Taken.{treat};
@@ -71,4 +71,5 @@ pub fn one_meaning()
 pub fn holdings_make_nodes()
     ensures node { (held : Held) (conflict : Option ℕ) → IsHoldings held → IsNode (record { held = held; conflict = conflict }) }
     ensures block { (b : Block) → is_delta_block b ≡ true → IsBlock b }
+    ensures delta { (blocks : List Block) (b : Block) → is_delta blocks ≡ true → Stands blocks b → is_delta_block b ≡ true }
 {}

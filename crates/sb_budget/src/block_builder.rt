@@ -1,0 +1,124 @@
+ghost use Rattle.std.specs.Prelude.{◌≡◌, ◌≤◌, ◌+◌, true, length, OnOk, IfOk, IfErr, if◌then◌else◌, Ok, Err};
+ghost use Rattle.std.specs.Ordering.{nat_cmp};
+ghost use Rattle.std.specs.Cmp.Lexicographic.{slice_cmp};
+ghost use Rattle.std.specs.List.Sorted.{IsSearchInRange, IsBinarySearchResult};
+ghost use Rattle.sb_types.specs.Text.{is_name};
+ghost use Rattle.sb_types.specs.Limits.{are_block_entries};
+ghost use Rattle.sb_budget.specs.BlocksByOwner.{grown, begun, placed, cost_of};
+
+use crate::offered::Offered;
+use sb_types::{
+    BLOCK_HEAD_MOST, BYTE_LENGTH, Block, COUNT_LENGTH, ENTRY_LENGTH_MOST, Entry, Fault,
+    NUMBER_LENGTH, Name,
+};
+use std::alloc::Global;
+use std::marker::Model;
+
+/// The bytes of a block before its entries, the text of its owner's name not counted.
+const BLOCK_START: u64 = BYTE_LENGTH + NUMBER_LENGTH + COUNT_LENGTH;
+
+/// The entries of one owner that are to make its block.
+#[derive(Drop)]
+pub(crate) struct BlockBuilder {
+    owner: Name,
+    after: u64,
+    entries: Vec<Entry>,
+}
+
+impl Model for BlockBuilder {
+    ghost use Rattle.sb_types.specs.Records as records;
+
+    ghost Value = { records.Block };
+
+    ghost use Rattle.sb_types.specs.Limits.{block_of_entries};
+
+    ghost view = { λ g. block_of_entries g.owner g.after g.entries.items };
+}
+
+impl BlockBuilder {
+    fn new(alloc: Global, item: Offered) -> Result<BlockBuilder, Fault>
+        ensures begun { IfOk result (λ g. g ≡ begun item) }
+        ensures memory { IfErr result (λ fault. fault ≡ Fault.NoMemory) }
+    {
+        let mut entries = Vec::new(alloc);
+        entries.push(item.entry)?;
+        Ok(BlockBuilder {
+            owner: item.owner,
+            after: item.after,
+            entries,
+        })
+    }
+
+    fn owner(&self) -> Name
+        ensures { result ≡ self.now.owner }
+    {
+        self.owner
+    }
+
+    fn push(&mut self, entry: Entry) -> Result<(), Fault>
+        ensures grown { OnOk result (self.new ≡ grown self.old entry) }
+        ensures memory { IfErr result (λ fault. fault ≡ Fault.NoMemory) }
+    {
+        self.entries.push(entry)?;
+        Ok(())
+    }
+
+    /// The block of these entries, which have to be those of a block. It takes no memory.
+    pub(crate) fn into_block(self) -> Result<Block, Fault>
+        requires { are_block_entries self.after self.entries ≡ true }
+        ensures { result ≡ Ok self }
+    {
+        let BlockBuilder {
+            owner,
+            after,
+            entries,
+        } = self;
+        Block::new(owner, after, entries)
+    }
+}
+
+/// Where the owner's entries stand among these, or else where they would come.
+pub(crate) fn place_of(gathered: &[BlockBuilder], owner: Name) -> Result<usize, usize>
+    ensures bound { IsSearchInRange result (length gathered.now) }
+    ensures place { IsBinarySearchResult (λ b. slice_cmp nat_cmp b.owner owner) gathered.now result }
+{
+    gathered.binary_search_by_key(&owner, |group| group.owner())
+}
+
+/// How many bytes the item adds to a delta, by where its owner's entries stand in it.
+pub(crate) fn cost(item: &Offered, place: Result<usize, usize>) -> u64
+    ensures cost { result ≡ cost_of item.now place }
+    ensures owner { is_name item.now.owner ≡ true }
+    ensures most { result ≤ BLOCK_HEAD_MOST + ENTRY_LENGTH_MOST }
+{
+    let name_length = item.owner.bytes().len() as u64;
+    let entry_length = item.entry.encoded_length();
+    match place {
+        Ok(_) => entry_length,
+        Err(_) => BLOCK_START + name_length + entry_length,
+    }
+}
+
+/// Puts the item to its owner's entries. `NoMemory`.
+pub(crate) fn put(
+    alloc: Global,
+    gathered: &mut Vec<BlockBuilder>,
+    place: Result<usize, usize>,
+    item: Offered,
+) -> Result<(), Fault>
+    requires { IsSearchInRange place (length gathered.old.items) }
+    ensures placed { OnOk result (gathered.new.items ≡ placed place item gathered.old.items) }
+    ensures memory { IfErr result (λ fault. fault ≡ Fault.NoMemory) }
+{
+    match place {
+        Ok(index) => {
+            let group = &mut gathered[index];
+            group.push(item.entry)
+        }
+        Err(index) => {
+            let group = BlockBuilder::new(alloc, item)?;
+            gathered.insert(index, group)?;
+            Ok(())
+        }
+    }
+}

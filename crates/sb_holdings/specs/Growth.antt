@@ -1,0 +1,7 @@
+-- Writes to which more were added.
+use Rattle.std.specs.Prelude.{◌≡◌, ℕ, List, ◌++◌}
+use Rattle.sb_types.specs.declared.entry.Write.{Write}
+
+-- each owner has written what it had, and perhaps more behind that
+abbrev pub Grows : (List ℕ → List Write) → (List ℕ → List Write) → Type 0
+Grows old new = (owner : List ℕ) → (more : List Write) × (new owner ≡ old owner ++ more)

@@ -1,0 +1,54 @@
+//! How nodes open, and what blocks and more writes leave of them.
+
+ghost use Rattle.std.specs.Prelude.{◌≡◌, ℕ, true, if◌then◌else◌, nat_eq, List, ◌++◌, Some, None};
+ghost use Rattle.std.specs.Ordering.{nat_cmp};
+ghost use Rattle.std.specs.Cmp.Lexicographic.{pointwise, slice_cmp};
+ghost use Rattle.std.specs.FinMap.{FinMap, get};
+ghost use Rattle.sb_types.specs.declared.entry.Write.{Write};
+ghost use Rattle.sb_types.specs.Records.{Entry, Table, Block, Holder};
+ghost use Rattle.sb_types.specs.Limits.{is_delta_block};
+ghost use Rattle.sb_types.specs.Writes.{Written, Holds, Honest};
+ghost use Rattle.sb_table.specs.Plain.{IsPlainTable};
+ghost use Rattle.sb_holdings.specs.declared.ends.BlockEnd.{BlockEnd};
+ghost use Rattle.sb_holdings.specs.Contents.{content_table};
+ghost use Rattle.sb_holdings.specs.Held.{holder_of, is_nothing, with_holder};
+ghost use Rattle.sb_holdings.specs.Plain.{IsHoldings};
+ghost use Rattle.sb_holdings.specs.Ends.{JoinsOn, Fits};
+ghost use Rattle.sb_holdings.specs.Nodes.{Node, NodeEvent, opened_node, treat_at, replay_at, NodeHolds};
+ghost use Rattle.sb_holdings.specs.Growth.{Grows};
+ghost use Rattle.sb_holdings.specs.TakenUp.{IsTakenUp};
+
+/// What was written, what a block tells and what a node holds stay true as owners write more.
+pub fn growing_keeps_truth()
+    ensures written { (old new : List ℕ → List Write) (owner : List ℕ) (e : Entry) → Grows old new → Written (old owner) e → Written (new owner) e }
+    ensures block { (old new : List ℕ → List Write) (b : Block) → Grows old new → Honest (old b.owner) b → Honest (new b.owner) b }
+    ensures node { (old new : List ℕ → List Write) (node : Node) → Grows old new → NodeHolds old node → NodeHolds new node }
+{}
+
+/// A node that opens with a table that holds of its own writes, as its log's content does, holds what is true
+/// of every owner's.
+pub fn opened_nodes_hold()
+    ensures table { (writes : List ℕ → List Write) (me : List ℕ) (t : Table) → Holds (writes me) t → NodeHolds writes (opened_node me t) }
+    ensures content { (writes : List ℕ → List Write) (me : List ℕ) (t : Table) → t ≡ content_table 0 (writes me) → NodeHolds writes (opened_node me t) }
+    ensures holdings { (me : List ℕ) (t : Table) → IsPlainTable t → IsHoldings (opened_node me t).held }
+{}
+
+/// A block that joins on is taken up, all of it or as much as there is room for.
+pub fn joining_blocks_are_taken_up()
+    ensures { (node : Node) (b : Block) (end : BlockEnd) →
+        is_delta_block b ≡ true → JoinsOn node.held b → Fits node.held b end → IsTakenUp node b end (treat_at node b end) }
+{}
+
+/// Two runs, one after the other, are one run.
+pub fn runs_join()
+    ensures { (node : Node) (events more : List NodeEvent) → replay_at node (events ++ more) ≡ replay_at (replay_at node events) more }
+{}
+
+/// With another holder for an owner this one is found of the owner, or none where it holds nothing, and of every
+/// other owner what was found before.
+pub fn holders_are_found()
+    ensures found { (owners : FinMap (slice_cmp nat_cmp) Holder) (owner name : List ℕ) (h : Holder) →
+        get (with_holder owners owner h) name ≡ (if pointwise nat_eq name owner then (if is_nothing h then None else Some h) else get owners name) }
+    ensures held { (owners : FinMap (slice_cmp nat_cmp) Holder) (owner name : List ℕ) (h : Holder) →
+        holder_of (with_holder owners owner h) name ≡ (if pointwise nat_eq name owner then h else holder_of owners name) }
+{}
