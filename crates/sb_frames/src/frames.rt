@@ -1,4 +1,6 @@
-ghost use Rattle.std.specs.Prelude.{◌≡◌, []};
+//! The messages of a stream.
+
+ghost use Rattle.std.specs.Prelude.{◌≡◌, ◌+◌, ◌≤◌, [], drop, length};
 ghost use Rattle.sb_frames.specs.Streams.{open_with, Feeds, TakesNext};
 
 use crate::front::message_in;
@@ -6,6 +8,20 @@ use sb_codec::Message;
 use sb_types::Fault;
 use std::alloc::Global;
 use std::marker::Model;
+
+/// Lets go of the bytes that were taken out, where they are more than those behind them, and answers how
+/// many are still kept.
+fn let_go(bytes: &mut Vec<u8>, taken: usize) -> usize
+    requires { taken ≤ length bytes.now.items }
+    ensures held { drop result bytes.new.items ≡ drop taken bytes.old.items }
+    ensures few { result + result ≤ length bytes.new.items }
+{
+    if taken <= bytes.len() - taken {
+        return taken;
+    }
+    bytes.drain(..taken);
+    0
+}
 
 /// The messages of one stream of bytes, which comes in any pieces. After a faulty frame it is closed.
 #[derive(Debug, Drop)]
@@ -17,14 +33,15 @@ pub struct Frames {
 }
 
 impl Model for Frames {
-    ghost use Rattle.std.specs.Prelude.{◌≤◌, if◌then◌else◌, drop, length};
+    ghost use Rattle.std.specs.Prelude.{◌+◌, ◌≤◌, if◌then◌else◌, drop, length};
     ghost use Rattle.sb_frames.specs.Streams.{Stream, open_with, shut};
 
     ghost Value = { Stream };
 
     ghost view = { λ f. if f.is_closed then shut else open_with (drop f.taken f.bytes.items) };
 
-    ghost invariant = { λ f. f.taken ≤ length f.bytes.items };
+    // No more is kept of what was taken out than is held.
+    ghost invariant = { λ f. f.taken + f.taken ≤ length f.bytes.items };
 }
 
 impl Frames {
@@ -47,11 +64,6 @@ impl Frames {
         if self.is_closed {
             return Err(Fault::Closed);
         }
-        // What is left moves to the front only where no more is left than was taken out.
-        if self.taken >= self.bytes.len() - self.taken {
-            self.bytes.drain(..self.taken);
-            self.taken = 0;
-        }
         self.bytes.extend_from_slice(piece)?;
         Ok(())
     }
@@ -69,7 +81,7 @@ impl Frames {
         let alloc = *self.bytes.allocator();
         match message_in(alloc, &self.bytes[self.taken..]) {
             Ok(Some((message, length))) => {
-                self.taken += length;
+                self.taken = let_go(&mut self.bytes, self.taken + length);
                 Ok(Some(message))
             }
             Ok(None) => Ok(None),
