@@ -34,4 +34,6 @@ pub use text::{Key, Name, Prefix};
 pub use value::Value;
 
 #[cfg(test)]
+mod fault_texts;
+#[cfg(test)]
 mod tests;
