@@ -7,12 +7,12 @@ use Rattle.attrdir.specs.declared.sim.Ending.TheVariants.{Whole, WrongLine, NoWo
 abbrev pub bytes_to_come : ℕ → ℕ → ℕ → ℕ
 bytes_to_come reads at end = reads * 65536 + (end - at)
 
--- how a script ends, by whether its reader came to the end and by the bytes to come before and after: whole only where
--- the reader came to the end, and otherwise at a line, which takes some of the bytes
-abbrev pub EndsSo : Ending → Bool → ℕ → ℕ → Type 0
-EndsSo Whole ended before after = ended ≡ true
-EndsSo WrongLine ended before after = after < before
-EndsSo NoWorld ended before after = after < before
+-- how a script ends, by whether its reader came to the end, how many bytes of a line wait, and the bytes to come before and
+-- after: whole only where the reader came to the end and no line waits, and otherwise at a line, which takes some of the bytes
+abbrev pub EndsSo : Ending → Bool → ℕ → ℕ → ℕ → Type 0
+EndsSo Whole ended waiting before after = (ended ≡ true) × (waiting ≡ 0)
+EndsSo WrongLine ended waiting before after = after < before
+EndsSo NoWorld ended waiting before after = after < before
 
 abbrev pub status_of : Ending → ℕ
 status_of Whole = 0

@@ -25,7 +25,14 @@ const SCRIPT: &str = "The lines of a script:
   give A B V                     node A sends node B what it wrote above the version V
   read N O K                     node N reads what owner O has under the key K
 
-The exit status is 0 after a whole script, 2 after a line that is none of these, and 3 after a fault.
+A fault of a line below the first is printed as `fault N`, leaves the nodes as they were, and the script goes on: 1 no
+memory, 2 a name, 3 a key, 4 a value that is none, 6 a key too many, 8 no version is left, 14 more than a frame carries,
+24 a node gives to itself. One of the first line is printed too (1, 2, 5 a setting, 24 two nodes of one name) and ends the run.
+
+A fault of the run ends it, after what was answered, with `fault N` and its text on standard error: 1 no memory, 16 the
+script cannot be read, 17 the answers cannot be written, 29 the script takes more than 1,000,000 reads.
+
+The exit status is 0 after a whole script, 2 after a line that is none of these, and 3 after a fault that ended the run.
 
 Example:
   $ printf 'world 256 breadth 100 a b\\nput a w weight 5\\ngive a b 0\\nread b a w\\n' | attrdir sim

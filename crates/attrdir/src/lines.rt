@@ -86,8 +86,11 @@ impl<R: Read> Lines<R> {
     #[tactic(auto, using(crate::proofs::Runs::counted_later, crate::proofs::Runs::fault_later))]
     pub(crate) fn advance<L: Ledger>(&mut self, steps: &mut Steps<L>) -> Result<bool, Fault>
         ensures counted { AreCounted steps.old self.old.reader.left steps.new self.new.reader.left }
-        ensures met { IfOk result (λ met. met ≡ true → bytes_to_come self.new.reader.left self.new.at self.new.end < bytes_to_come self.old.reader.left self.old.at self.old.end) }
+        ensures met { IfOk result (λ met. met ≡ true →
+            bytes_to_come self.new.reader.left self.new.at self.new.end
+            < bytes_to_come self.old.reader.left self.old.at self.old.end) }
         ensures ended { IfOk result (λ met. met ≡ false → self.new.ended ≡ true) }
+        ensures left { IfOk result (λ met. met ≡ false → vec_len self.new.line ≡ 0) }
         ensures fault { IfErr result (IsRunFault steps.old steps.new self.old.reader.left) }
     {
         while self.next_line(steps)? {
@@ -102,8 +105,11 @@ impl<R: Read> Lines<R> {
     #[tactic(auto, using(crate::proofs::Runs::counted_later, crate::proofs::Runs::fault_later, crate::proofs::Runs::memory_fault))]
     fn next_line<L: Ledger>(&mut self, steps: &mut Steps<L>) -> Result<bool, Fault>
         ensures counted { AreCounted steps.old self.old.reader.left steps.new self.new.reader.left }
-        ensures met { IfOk result (λ met. met ≡ true → bytes_to_come self.new.reader.left self.new.at self.new.end < bytes_to_come self.old.reader.left self.old.at self.old.end) }
+        ensures met { IfOk result (λ met. met ≡ true →
+            bytes_to_come self.new.reader.left self.new.at self.new.end
+            < bytes_to_come self.old.reader.left self.old.at self.old.end) }
         ensures ended { IfOk result (λ met. met ≡ false → self.new.ended ≡ true) }
+        ensures left { IfOk result (λ met. met ≡ false → vec_len self.new.line ≡ 0) }
         ensures fault { IfErr result (IsRunFault steps.old steps.new self.old.reader.left) }
     {
         self.line.clear();
@@ -139,8 +145,12 @@ impl<R: Read> Lines<R> {
     fn take_piece(&mut self) -> Result<bool, Fault>
         requires { self.old.at < self.old.end }
         ensures reader { self.new.reader ≡ self.old.reader }
-        ensures taken { OnOk result (vec_len self.new.line + bytes_to_come self.new.reader.left self.new.at self.new.end ≤ vec_len self.old.line + bytes_to_come self.old.reader.left self.old.at self.old.end) }
-        ensures fewer { OnOk result (bytes_to_come self.new.reader.left self.new.at self.new.end < bytes_to_come self.old.reader.left self.old.at self.old.end) }
+        ensures taken { OnOk result (
+            vec_len self.new.line + bytes_to_come self.new.reader.left self.new.at self.new.end
+            ≤ vec_len self.old.line + bytes_to_come self.old.reader.left self.old.at self.old.end) }
+        ensures fewer { OnOk result (
+            bytes_to_come self.new.reader.left self.new.at self.new.end
+            < bytes_to_come self.old.reader.left self.old.at self.old.end) }
         ensures fault { IfErr result (λ fault. fault ≡ Fault.NoMemory) }
     {
         let rest = &self.bytes[self.at..self.end];

@@ -11,6 +11,8 @@ mod print;
 mod sim;
 mod steps;
 #[cfg(test)]
+mod story;
+#[cfg(test)]
 mod tests;
 mod world;
 

@@ -1,5 +1,5 @@
 //! The run of a script.
-ghost use Rattle.std.specs.Prelude.{◌≡◌, ◌+◌, ◌<◌, ◌≤◌, true, false, OnOk, IfOk, IfErr};
+ghost use Rattle.std.specs.Prelude.{◌≡◌, ◌+◌, ◌<◌, ◌≤◌, true, false, vec_len, OnOk, IfOk, IfErr};
 ghost use Rattle.attrdir.specs.Script.{EndsSo, bytes_to_come, status_of};
 ghost use Rattle.attrdir.specs.Reads.{AreCounted, IsRunFault, comes_before_reads, is_run_fault};
 
@@ -107,7 +107,9 @@ fn play<R: Read, W: Write, L: Ledger>(
     steps: &mut Steps<L>,
 ) -> Result<Ending, Fault>
     ensures counted { AreCounted steps.old lines.old.reader.left steps.new lines.new.reader.left }
-    ensures ending { IfOk result (λ ending. EndsSo ending lines.new.ended (bytes_to_come lines.old.reader.left lines.old.at lines.old.end) (bytes_to_come lines.new.reader.left lines.new.at lines.new.end)) }
+    ensures ending { IfOk result (λ ending. EndsSo ending lines.new.ended (vec_len lines.new.line)
+        (bytes_to_come lines.old.reader.left lines.old.at lines.old.end)
+        (bytes_to_come lines.new.reader.left lines.new.at lines.new.end)) }
     ensures fault { IfErr result (IsRunFault steps.old steps.new lines.old.reader.left) }
 {
     if !lines.advance(steps)? {

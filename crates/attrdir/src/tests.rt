@@ -80,25 +80,31 @@ fn run(alloc: Global, script: &str) -> Result<(Ending, Page), Fault> {
     Ok((ending, page))
 }
 
-/// A reader whose second read fails.
+/// A reader that says so many times that it is at its end, and then fails.
 #[derive(Drop)]
 struct BreakingReader<'a> {
     bytes: &'a [u8],
+    ends: u64,
 }
 
 impl Read for BreakingReader<'_> {
     fn read(&mut self, buffer: &mut [u8]) -> io::Result<usize> {
-        if self.bytes.is_empty() {
+        if !self.bytes.is_empty() {
+            return self.bytes.read(buffer);
+        }
+        if self.ends == 0 {
             return Err(io::Error::from(ErrorKind::Other));
         }
-        self.bytes.read(buffer)
+        self.ends -= 1;
+        Ok(0)
     }
 }
 
-/// A writer that fails once it has taken so many bytes.
+/// A writer that fails once it has taken so many bytes, and at each flush where it is told to.
 #[derive(Drop)]
 struct ClosingWriter {
     left: usize,
+    is_flushed: bool,
 }
 
 impl Write for ClosingWriter {
@@ -112,7 +118,11 @@ impl Write for ClosingWriter {
     }
 
     fn flush(&mut self) -> io::Result<()> {
-        Ok(())
+        if self.is_flushed {
+            Ok(())
+        } else {
+            Err(io::Error::from(ErrorKind::BrokenPipe))
+        }
     }
 }
 
@@ -163,26 +173,35 @@ fn reads_are_counted(rt: HostRuntime) -> Result<(), Fail> {
 }
 
 #[test]
-fn what_was_answered_before_a_read_fails_is_written(rt: HostRuntime) -> Result<(), Fail> {
-    let alloc = rt.alloc();
-    let mut page = Page::new();
-    let reader = BreakingReader {
-        bytes: EXAMPLE.as_bytes(),
-    };
-    let ended = sim_run_uncounted(alloc, reader, &mut page, 100);
-    if !page.had_memory() {
-        return Err(Fault::NoMemory.into());
+fn a_failed_read_is_no_end_and_the_end_is_read_once(rt: HostRuntime) -> Result<(), Fail> {
+    for (script, ends, ended, printed) in [
+        ("", 0, Err(Fault::ReadFailed), ""),
+        (EXAMPLE, 0, Err(Fault::ReadFailed), PRINTED),
+        (EXAMPLE, 1, Ok(Ending::Whole), PRINTED),
+    ] {
+        let mut page = Page::new();
+        let bytes = script.as_bytes();
+        let run = sim_run_uncounted(rt.alloc(), BreakingReader { bytes, ends }, &mut page, 100);
+        if !page.had_memory() {
+            return Err(Fault::NoMemory.into());
+        }
+        assert_eq!(rt; with_memory(run)?, ended);
+        assert_eq!(rt; page.printed(), printed.as_bytes());
     }
-    assert_eq!(rt; with_memory(ended)?, Err(Fault::ReadFailed));
-    assert_eq!(rt; page.printed(), PRINTED.as_bytes());
     Ok(())
 }
 
 #[test]
 fn a_failed_write_says_how_much_was_written(rt: HostRuntime) -> Result<(), Fail> {
-    let writer = ClosingWriter { left: 17 };
-    let ended = sim_run_uncounted(rt.alloc(), EXAMPLE.as_bytes(), writer, 100);
-    assert_eq!(rt; with_memory(ended)?, Err(Fault::WriteFailed(17)));
+    for (left, is_flushed, wanted) in [
+        (17, true, Err(Fault::WriteFailed(17))),
+        (500, false, Err(Fault::WriteFailed(114))),
+        (114, true, Ok(Ending::Whole)),
+    ] {
+        let writer = ClosingWriter { left, is_flushed };
+        let ended = sim_run_uncounted(rt.alloc(), EXAMPLE.as_bytes(), writer, 100);
+        assert_eq!(rt; with_memory(ended)?, wanted);
+    }
     Ok(())
 }
 

@@ -8,7 +8,7 @@ use sb_digest::{Digest, build};
 use sb_frames::{Frames, frame_of};
 use sb_holdings::{BlockEnd, Holdings};
 use sb_types::{BUDGET_MOST, Block, Delta, Fault};
-use std::alloc::{Alloc, Global};
+use std::alloc::Global;
 use std::time::CpuClock;
 
 /// How many entries were taken of a block that ended so.
@@ -29,30 +29,26 @@ fn enter_all(node: &mut Holdings, blocks: &[Block]) -> u64 {
 }
 
 /// The blocks entered at a fresh node, by the entry.
-pub(crate) fn apply<R: CpuClock + Alloc<A = Global>>(
-    rt: &R,
-    sizes: Sizes,
-    blocks: &[Block],
-) -> Result<Measured, Problem> {
+pub(crate) fn apply(rt: &HostRuntime, sizes: Sizes, blocks: &[Block]) -> Result<Measured, Problem> {
     let mut measured = Measured::new();
     for _ in 0..sizes.rounds {
         let mut node = fresh_node(rt.alloc())?;
-        let entries = measured.time(rt, || Ok(enter_all(&mut node, blocks)))?;
+        let start = rt.process_cpu_time()?;
+        let entries = enter_all(&mut node, blocks);
+        measured.stop(rt, start)?;
         measured.count(entries);
     }
     Ok(measured)
 }
 
 /// The digest of all that is held, by the owner.
-pub(crate) fn digest<R: CpuClock + Alloc<A = Global>>(
-    rt: &R,
-    sizes: Sizes,
-    node: &Holdings,
-) -> Result<Measured, Problem> {
+pub(crate) fn digest(rt: &HostRuntime, sizes: Sizes, node: &Holdings) -> Result<Measured, Problem> {
     let alloc = rt.alloc();
     let mut measured = Measured::new();
     for _ in 0..sizes.rounds {
-        let digest = measured.time(rt, || build(alloc, node, None, true, BUDGET_MOST))?;
+        let start = rt.process_cpu_time()?;
+        let digest = build(alloc, node, None, true, BUDGET_MOST)?;
+        measured.stop(rt, start)?;
         measured.count(digest.pairs().len() as u64);
     }
     Ok(measured)
@@ -63,24 +59,22 @@ fn empty_digest(alloc: Global) -> Result<Digest, Fault> {
 }
 
 /// What a peer that holds nothing lacks, by the entry.
-pub(crate) fn offer<R: CpuClock + Alloc<A = Global>>(
-    rt: &R,
-    sizes: Sizes,
-    node: &Holdings,
-) -> Result<Measured, Problem> {
+pub(crate) fn offer(rt: &HostRuntime, sizes: Sizes, node: &Holdings) -> Result<Measured, Problem> {
     let alloc = rt.alloc();
     let mut measured = Measured::new();
     let digest = empty_digest(alloc)?;
     for _ in 0..sizes.rounds {
-        let items = measured.time(rt, || available(alloc, node, &digest))?;
+        let start = rt.process_cpu_time()?;
+        let items = available(alloc, node, &digest)?;
+        measured.stop(rt, start)?;
         measured.count(items.len() as u64);
     }
     Ok(measured)
 }
 
 /// The order of what a peer that holds nothing lacks, by the entry.
-pub(crate) fn arrange<R: CpuClock + Alloc<A = Global>, O: DeltaOrder>(
-    rt: &R,
+pub(crate) fn arrange<O: DeltaOrder>(
+    rt: &HostRuntime,
     sizes: Sizes,
     node: &Holdings,
     order: &O,
@@ -90,7 +84,9 @@ pub(crate) fn arrange<R: CpuClock + Alloc<A = Global>, O: DeltaOrder>(
     let digest = empty_digest(alloc)?;
     for _ in 0..sizes.rounds {
         let items = available(alloc, node, &digest)?;
-        let items = measured.time(rt, || order.arrange(alloc, items))?;
+        let start = rt.process_cpu_time()?;
+        let items = order.arrange(alloc, items)?;
+        measured.stop(rt, start)?;
         measured.count(items.len() as u64);
     }
     Ok(measured)
@@ -105,8 +101,8 @@ fn entries_in(delta: &Delta) -> u64 {
 }
 
 /// The longest front within the greatest budget, by the entry that it has.
-pub(crate) fn cut_front<R: CpuClock + Alloc<A = Global>>(
-    rt: &R,
+pub(crate) fn cut_front(
+    rt: &HostRuntime,
     sizes: Sizes,
     node: &Holdings,
 ) -> Result<Measured, Problem> {
@@ -115,7 +111,9 @@ pub(crate) fn cut_front<R: CpuClock + Alloc<A = Global>>(
     let digest = empty_digest(alloc)?;
     for _ in 0..sizes.rounds {
         let items = available(alloc, node, &digest)?;
-        let delta = measured.time(rt, || cut(alloc, items, BUDGET_MOST))?;
+        let start = rt.process_cpu_time()?;
+        let delta = cut(alloc, items, BUDGET_MOST)?;
+        measured.stop(rt, start)?;
         measured.count(entries_in(&delta));
     }
     Ok(measured)
@@ -140,23 +138,25 @@ pub(crate) fn greatest_delta(alloc: Global, node: &Holdings) -> Result<WholeDelt
 }
 
 /// The delta's payload made, by the entry.
-pub(crate) fn encode<R: CpuClock + Alloc<A = Global>>(
-    rt: &R,
+pub(crate) fn encode(
+    rt: &HostRuntime,
     sizes: Sizes,
     delta: &WholeDelta,
 ) -> Result<Measured, Problem> {
     let alloc = rt.alloc();
     let mut measured = Measured::new();
     for _ in 0..sizes.rounds {
-        let _payload = measured.time(rt, || encode_payload(alloc, &delta.message))?;
+        let start = rt.process_cpu_time()?;
+        let _payload = encode_payload(alloc, &delta.message)?;
+        measured.stop(rt, start)?;
         measured.count(delta.entries);
     }
     Ok(measured)
 }
 
 /// The delta's payload read, by the entry.
-pub(crate) fn decode<R: CpuClock + Alloc<A = Global>>(
-    rt: &R,
+pub(crate) fn decode(
+    rt: &HostRuntime,
     sizes: Sizes,
     delta: &WholeDelta,
 ) -> Result<Measured, Problem> {
@@ -164,7 +164,9 @@ pub(crate) fn decode<R: CpuClock + Alloc<A = Global>>(
     let mut measured = Measured::new();
     let payload = encode_payload(alloc, &delta.message)?;
     for _ in 0..sizes.rounds {
-        let _message = measured.time(rt, || decode_payload(alloc, &payload))?;
+        let start = rt.process_cpu_time()?;
+        let _message = decode_payload(alloc, &payload)?;
+        measured.stop(rt, start)?;
         measured.count(delta.entries);
     }
     Ok(measured)
@@ -183,8 +185,8 @@ fn read_pieces(stream: &mut Frames, frame: &[u8]) -> Result<(), Fault> {
 }
 
 /// The delta's frame read from a stream in pieces, by the entry.
-pub(crate) fn frames<R: CpuClock + Alloc<A = Global>>(
-    rt: &R,
+pub(crate) fn frames(
+    rt: &HostRuntime,
     sizes: Sizes,
     delta: &WholeDelta,
 ) -> Result<Measured, Problem> {
@@ -192,7 +194,9 @@ pub(crate) fn frames<R: CpuClock + Alloc<A = Global>>(
     let frame = frame_of(rt.alloc(), &delta.message)?;
     let mut stream = Frames::new(rt.alloc());
     for _ in 0..sizes.rounds {
-        measured.time(rt, || read_pieces(&mut stream, &frame))?;
+        let start = rt.process_cpu_time()?;
+        read_pieces(&mut stream, &frame)?;
+        measured.stop(rt, start)?;
         measured.count(delta.entries);
     }
     Ok(measured)

@@ -1,3 +1,4 @@
+//! Why a run fails.
 use sb_types::Fault;
 use std::alloc::AllocError;
 use std::io;

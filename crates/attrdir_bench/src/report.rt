@@ -1,7 +1,5 @@
-use crate::problem::Problem;
-use sb_types::Fault;
+//! What is measured of a layer, and its line.
 use std::io;
-use std::io::Print;
 use std::time::{CpuClock, Duration};
 
 /// What the lines tell: the time that each unit took, or how many units there were, which is the same in
@@ -28,19 +26,11 @@ impl Measured {
         }
     }
 
-    /// Does the work and adds the time that it took, without that of dropping what comes of it.
-    pub(crate) fn time<R: CpuClock, T: Drop, F: FnOnce() -> Result<T, Fault>>(
-        &mut self,
-        rt: &R,
-        work: F,
-    ) -> Result<T, Problem>
-        requires { F.IsAlwaysCallable work }
-    {
-        let start = rt.process_cpu_time()?;
-        let made = work()?;
+    /// Adds the processor time since `start`.
+    pub(crate) fn stop(&mut self, rt: &HostRuntime, start: Duration) -> io::Result<()> {
         let spent = rt.process_cpu_time()?.saturating_sub(start);
         self.spent = self.spent.saturating_add(spent);
-        Ok(made)
+        Ok(())
     }
 
     /// Adds units that were done.
@@ -49,9 +39,9 @@ impl Measured {
     }
 
     /// Prints a line of the name, the value and the unit.
-    pub(crate) fn print<R: Print>(
+    pub(crate) fn print(
         &self,
-        rt: &R,
+        rt: &HostRuntime,
         telling: Telling,
         name: &str,
         unit: &str,

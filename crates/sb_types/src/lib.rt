@@ -39,4 +39,6 @@ pub use text::{Key, Name, Prefix};
 pub use value::{Value, ValueRef};
 
 #[cfg(test)]
+mod fault_texts;
+#[cfg(test)]
 mod tests;
