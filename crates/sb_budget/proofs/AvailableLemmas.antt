@@ -17,7 +17,7 @@ use Rattle.sb_types.specs.Runs.{Stands, above}
 use Rattle.sb_table.specs.Plain.{IsPlainTable, plain_table}
 use Rattle.sb_holdings.specs.Held.{Held}
 use Rattle.sb_holdings.specs.Plain.{IsPlainHolder, IsHoldings, is_from, tables_from}
-use Rattle.sb_digest.specs.Digests.{Digest, covers, number}
+use Rattle.sb_digest.specs.Digests.{Digest, covers, held_in}
 use Rattle.sb_holdings.proofs.Lists.{same_text, text_same}
 use Rattle.sb_budget.specs.declared.offered.Offered.{Offered}
 use Rattle.sb_budget.specs.Offers.{Item, items_from, items_of}
@@ -141,7 +141,7 @@ module _ (reaches : List ℕ → Bool) (known : List ℕ → ℕ) where
     part : offered_by owner offered ≡ ranked_of owner table (known owner)
 
   nothing_plain : IsPlainTable (plain_table [])
-  nothing_plain = record { run = record { ascending = refl; most = omega arith; distinct = refl }; floor = refl; last = refl; few = omega arith }
+  nothing_plain = record { run = record { ascending = refl; most = omega arith; distinct = refl }; floor = refl; last = refl; limit = omega arith }
 
   by_owner : (ps : List (List ℕ × Table)) → IsStrictlySortedBy text_cmp (keys_of ps) → ((p : List ℕ × Table) → Stands ps p → IsPlainTable p.1) → (owner : List ℕ) → IsByOwner (all_parts ps) owner
   unfolding IsStrictlySortedBy
@@ -229,8 +229,8 @@ module _ (held : Held) (is : IsHoldings held) (up : IsStrictlySortedBy text_cmp 
       let from = mapped_from (λ (q : List ℕ × Holder). (q.0, q.1.shown)) (entries held.owners) p (subst (λ (ts : List (List ℕ × Table)). Stands ts p) all_tables s) in
       subst (λ (q : List ℕ × Table). IsPlainTable q.1) from.2 (plain_each from.0 from.1)
 
-  pub items_held : (digest : Digest) → items_of_all (all_parts (covers digest) (number digest) (tables_from None held)) ≡ available_for held digest
-  items_held digest = ap (λ ts. items_of_all (all_parts (covers digest) (number digest) ts)) all_tables ∙ items_all (covers digest) (number digest) (entries held.owners) plain_each
+  pub items_held : (digest : Digest) → items_of_all (all_parts (covers digest) (held_in digest) (tables_from None held)) ≡ available_for held digest
+  items_held digest = ap (λ ts. items_of_all (all_parts (covers digest) (held_in digest) ts)) all_tables ∙ items_all (covers digest) (held_in digest) (entries held.owners) plain_each
 
 -- where nothing is left to go over, all is there
 pub all_made : (reaches : List ℕ → Bool) (known : List ℕ → ℕ) (offered : List Offered) (left all : List (List ℕ × Table)) →

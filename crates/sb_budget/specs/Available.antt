@@ -4,14 +4,14 @@ use Rattle.std.specs.FinMap.{entries}
 use Rattle.sb_types.specs.Records.{Entry, Table}
 use Rattle.sb_types.specs.Runs.{above}
 use Rattle.sb_holdings.specs.Held.{Held}
-use Rattle.sb_digest.specs.Digests.{Digest, covers, number}
+use Rattle.sb_digest.specs.Digests.{Digest, covers, held_in}
 use Rattle.sb_budget.specs.declared.offered.Offered.{Offered}
 use Rattle.sb_budget.specs.Offers as offers
 use Rattle.sb_budget.specs.Orders.{offered_by}
 
 -- of each owner that the digest covers, what is held above its number
 abbrev pub available_for : Held → Digest → List offers.Item
-available_for held digest = offers.available (covers digest) (λ owner table. number digest owner) (entries held.owners)
+available_for held digest = offers.available (covers digest) (λ owner table. held_in digest owner) (entries held.owners)
 
 -- how many of the owner's items have a smaller version
 abbrev pub rank_of : List Offered → Offered → ℕ

@@ -34,16 +34,16 @@ blocks_of front rest = map (λ owner. block_of owner front rest) (owners_of fron
 abbrev pub delta_at : ℕ → List Item → List Block
 delta_at n items = blocks_of (take n items) (drop n items)
 
-abbrev pub frame_length : List Block → ℕ
-frame_length delta = HEADER_LENGTH + delta_length delta
+abbrev pub delta_frame_length : List Block → ℕ
+delta_frame_length delta = HEADER_LENGTH + delta_length delta
 
 -- the delta of the longest front whose frame has at most budget bytes
 pub record IsCut (budget : ℕ) (items : List Item) (delta : List Block) : Type 0 where
   pub count : ℕ
   pub within : count ≤ length items
   pub blocks : delta ≡ delta_at count items
-  pub fits : frame_length delta ≤ budget
-  pub longest : (n : ℕ) → count < n → n ≤ length items → budget < frame_length (delta_at n items)
+  pub fits : delta_frame_length delta ≤ budget
+  pub longest : (n : ℕ) → count < n → n ≤ length items → budget < delta_frame_length (delta_at n items)
 
 -- one owner's items: all above the same version, ascending, each key once, the last at the version that all reach up to
 pub record IsPart (after upto : ℕ) (part : List Offered) : Type 0 where

@@ -70,7 +70,7 @@ fn digest_of(alloc: Global, held: &[(Name, u64)]) -> Result<Digest, Fault> {
     for (owner, version) in held {
         pairs.push(Pair {
             owner: *owner,
-            version: *version,
+            upto: *upto: version,
         })?;
     }
     Digest::new(false, None, None, pairs)

@@ -19,56 +19,56 @@ use Rattle.sb_codec.specs.Lengths.{row_length, rows_length}
 use Rattle.sb_codec.specs.declared.message.hello.Hello.{Hello}
 use Rattle.sb_codec.specs.Limits.{is_hello, is_reason, is_optional, is_place, is_ask, is_row, are_rows_above, are_page_rows, is_page, is_write, is_version, is_fault_number}
 use Rattle.sb_codec.specs.Spelling.{number, text, content, value, optional, hello, pair, digest, place, ask, row, page, write}
-use Rattle.sb_codec.specs.Reading.{hello_of, hello_at, bye_at, write_of, write_at, done_at, refused_at, unless_empty, is_empty_or, optional_at, pair_of, pair_at, digest_of_parts, digest_at, prefix_at, are_alike, place_of, place_at, ask_of, ask_at, value_cases, value_at, addr_at, weight_at, is_written, row_of_parts, row_at, are_page_parts, page_of, page_at}
+use Rattle.sb_codec.specs.Reading.{hello_of_parts, hello_field, bye_field, write_of_parts, write_field, done_field, refused_field, unless_empty, is_empty_or, optional_field, pair_of_parts, pair_field, digest_of_parts, digest_field, prefix_field, are_alike, place_of, place_field, ask_of, ask_field, value_cases, value_field, addr_field, weight_field, is_written, row_of_parts, row_field, are_page_parts, page_of, page_field}
 use Rattle.sb_codec.proofs.Taken.{Takes, wide64, fits_takes, made_takes, then_takes, where_takes, byte_takes, number_takes, text_takes, list_takes, tagged_takes, made_case}
 use Rattle.sb_codec.proofs.Again.{Again, made_again, then_again, where_again, byte_again, number_again, text_again, list_again, tagged_again}
 use Rattle.sb_codec.proofs.Parts.{name_takes, name_again, key_takes, key_again, addr_takes, weight_takes, flag_takes, flag_again, weight_below, slot_takes, slot_again, between_parts, all_from, all_parts, count_below}
 
-pub hello_takes : Takes (λ h. is_hello h ≡ true) hello hello_at
-unfolding hello_at hello
-hello_takes = made_takes hello_of (then_takes name_takes name_takes) (λ h fits. (and_from _ _ fits.0 fits.1, refl))
+pub hello_takes : Takes (λ h. is_hello h ≡ true) hello hello_field
+unfolding hello_field hello
+hello_takes = made_takes hello_of_parts (then_takes name_takes name_takes) (λ h fits. (and_from _ _ fits.0 fits.1, refl))
 
-pub hello_again : (h : Hello) → is_hello h ≡ true → Again hello_at (hello h) h
-unfolding hello_at hello
+pub hello_again : (h : Hello) → is_hello h ≡ true → Again hello_field (hello h) h
+unfolding hello_field hello
 hello_again h fits =
     let parts = and_parts (is_name h.cluster) (is_name h.node) fits in
-    made_again hello_of (then_again (name_again h.cluster parts.0) (name_again h.node parts.1))
+    made_again hello_of_parts (then_again (name_again h.cluster parts.0) (name_again h.node parts.1))
 
-pub bye_takes : Takes (λ reason. is_reason reason ≡ true) (λ reason. reason ∷ []) bye_at
-unfolding bye_at
+pub bye_takes : Takes (λ reason. is_reason reason ≡ true) (λ reason. reason ∷ []) bye_field
+unfolding bye_field
 bye_takes = fits_takes (where_takes byte_takes) (λ reason fits. fits.1)
 
-pub bye_again : (reason : ℕ) → is_reason reason ≡ true → Again bye_at (reason ∷ []) reason
-unfolding bye_at
+pub bye_again : (reason : ℕ) → is_reason reason ≡ true → Again bye_field (reason ∷ []) reason
+unfolding bye_field
 bye_again reason fits = where_again is_reason fits (byte_again reason)
 
-pub write_takes : Takes (λ w. is_write w ≡ true) write write_at
-unfolding write_at write
-write_takes = made_takes write_of (then_takes key_takes slot_takes) (λ w fits. (and_from _ _ fits.0 fits.1, refl))
+pub write_takes : Takes (λ w. is_write w ≡ true) write write_field
+unfolding write_field write
+write_takes = made_takes write_of_parts (then_takes key_takes slot_takes) (λ w fits. (and_from _ _ fits.0 fits.1, refl))
 
-pub write_again : (w : Write) → is_write w ≡ true → Again write_at (write w) w
-unfolding write_at write
+pub write_again : (w : Write) → is_write w ≡ true → Again write_field (write w) w
+unfolding write_field write
 write_again w fits =
     let parts = and_parts (is_key w.key) (is_slot w.slot) fits in
-    made_again write_of (then_again (key_again w.key parts.0) (slot_again w.slot parts.1))
+    made_again write_of_parts (then_again (key_again w.key parts.0) (slot_again w.slot parts.1))
 
 version_below : (version : ℕ) → is_version version ≡ true → version < 2 ^ 64
 version_below version fits = let parts = between_parts 1 (2 ^ 64 - 1) version fits in omega arith
 
-pub done_takes : Takes (λ version. is_version version ≡ true) (number w64) done_at
-unfolding done_at
+pub done_takes : Takes (λ version. is_version version ≡ true) (number w64) done_field
+unfolding done_field
 done_takes = fits_takes (where_takes (number_takes wide64)) (λ version fits. fits.1)
 
-pub done_again : (version : ℕ) → is_version version ≡ true → Again done_at (number w64 version) version
-unfolding done_at
+pub done_again : (version : ℕ) → is_version version ≡ true → Again done_field (number w64 version) version
+unfolding done_field
 done_again version fits = where_again is_version fits (number_again wide64 version (version_below version fits))
 
-pub refused_takes : Takes (λ fault. is_fault_number fault ≡ true) (λ fault. fault ∷ []) refused_at
-unfolding refused_at
+pub refused_takes : Takes (λ fault. is_fault_number fault ≡ true) (λ fault. fault ∷ []) refused_field
+unfolding refused_field
 refused_takes = fits_takes (where_takes byte_takes) (λ fault fits. fits.1)
 
-pub refused_again : (fault : ℕ) → is_fault_number fault ≡ true → Again refused_at (fault ∷ []) fault
-unfolding refused_at
+pub refused_again : (fault : ℕ) → is_fault_number fault ≡ true → Again refused_field (fault ∷ []) fault
+unfolding refused_field
 refused_again fault fits = where_again is_fault_number fits (byte_again fault)
 
 -- ---- what may be none
@@ -77,46 +77,46 @@ optional_fits : (test : List ℕ → Bool) (t : List ℕ) → is_empty_or test t
 optional_fits test [] fits = (refl, refl)
 optional_fits test (byte ∷ bytes) fits = (fits, refl)
 
-pub optional_takes : (test : List ℕ → Bool) → Takes (λ t. is_optional test t ≡ true) optional (optional_at test)
-unfolding optional_at
+pub optional_takes : (test : List ℕ → Bool) → Takes (λ t. is_optional test t ≡ true) optional (optional_field test)
+unfolding optional_field
 optional_takes test = made_takes unless_empty (where_takes text_takes) (λ t fits. optional_fits test t fits.1)
 
-pub optional_again : (test : List ℕ → Bool) → test [] ≡ false → (t : Option (List ℕ)) → is_optional test t ≡ true → Again (optional_at test) (optional t) t
-unfolding optional_at
+pub optional_again : (test : List ℕ → Bool) → test [] ≡ false → (t : Option (List ℕ)) → is_optional test t ≡ true → Again (optional_field test) (optional t) t
+unfolding optional_field
 optional_again test some None fits = made_again unless_empty (where_again (is_empty_or test) refl (text_again []))
 optional_again test some (Some []) fits = absurd cc
 optional_again test some (Some (byte ∷ bytes)) fits = made_again unless_empty (where_again (is_empty_or test) fits (text_again (byte ∷ bytes)))
 
 -- ---- digests
 
-pair_takes : Takes (λ p. is_pair p ≡ true) pair pair_at
-unfolding pair_at pair
+pair_takes : Takes (λ p. is_pair p ≡ true) pair pair_field
+unfolding pair_field pair
 pair_takes =
-    made_takes pair_of (then_takes name_takes (number_takes wide64))
+    made_takes pair_of_parts (then_takes name_takes (number_takes wide64))
     (λ p fits. (and_from _ _ (and_from _ _ (and_from _ _ fits.0 (lt-ltb p.1 (2 ^ 64) fits.1)) refl) refl, refl))
 
 same_pair : (owner : List ℕ) (held floor progress : ℕ) → floor ≡ 0 → progress ≡ 0 → plain_pair owner held ≡ record { owner = owner; held = held; floor = floor; progress = progress }
 same_pair owner held floor progress no_floor no_progress = rw (no_floor, no_progress) refl
 
-pair_again : (p : Pair) → is_pair p ≡ true → Again pair_at (pair p) p
-unfolding pair_at pair
+pair_again : (p : Pair) → is_pair p ≡ true → Again pair_field (pair p) p
+unfolding pair_field pair
 pair_again p fits =
     let progress = and_parts (is_name p.owner && nat_lt p.held (2 ^ 64) && p.floor == 0) (p.progress == 0) fits in
     let floor = and_parts (is_name p.owner && nat_lt p.held (2 ^ 64)) (p.floor == 0) progress.0 in
     let parts = and_parts (is_name p.owner) (nat_lt p.held (2 ^ 64)) floor.0 in
     let read = then_again (name_again p.owner parts.0) (number_again wide64 p.held (ltb-true p.held (2 ^ 64) parts.1)) in
-    subst (λ (x : Pair). Again pair_at (pair p) x) (same_pair p.owner p.held p.floor p.progress (eqb-true _ _ floor.1) (eqb-true _ _ progress.1)) (made_again pair_of read)
+    subst (λ (x : Pair). Again pair_field (pair p) x) (same_pair p.owner p.held p.floor p.progress (eqb-true _ _ floor.1) (eqb-true _ _ progress.1)) (made_again pair_of_parts read)
 
 bound_from : (b : Option (List ℕ)) → is_optional is_name b ≡ true → is_bound b ≡ true
 bound_from None fits = refl
 bound_from (Some t) fits = fits
 
-bound_again : (b : Option (List ℕ)) → is_bound b ≡ true → Again (optional_at is_name) (optional b) b
+bound_again : (b : Option (List ℕ)) → is_bound b ≡ true → Again (optional_field is_name) (optional b) b
 bound_again None fits = optional_again is_name refl None refl
 bound_again (Some t) fits = optional_again is_name refl (Some t) fits
 
-pub digest_takes : Takes (λ d. is_digest d ≡ true) digest digest_at
-unfolding digest_at digest
+pub digest_takes : Takes (λ d. is_digest d ≡ true) digest digest_field
+unfolding digest_field digest
 digest_takes =
     fits_takes
     (where_takes
@@ -133,8 +133,8 @@ digest_within d fits =
 pub few_pairs : (d : Digest) → is_digest d ≡ true → length d.pairs < 2 ^ 16
 few_pairs d fits = let within = digest_within d fits in omega (arith, count_below pair_length (λ p. omega arith) d.pairs)
 
-pub digest_again : (d : Digest) → is_digest d ≡ true → Again digest_at (digest d) d
-unfolding digest_at digest
+pub digest_again : (d : Digest) → is_digest d ≡ true → Again digest_field (digest d) d
+unfolding digest_field digest
 digest_again d fits =
     let made = and_parts (is_bound d.from && is_bound d.until && list_all is_pair d.pairs) (are_digest_parts d) fits in
     let parts = and_parts (is_bound d.from && is_bound d.until) (list_all is_pair d.pairs) made.0 in
@@ -144,12 +144,12 @@ digest_again d fits =
 
 -- ---- questions for rows
 
-prefix_takes : Takes (λ t. is_prefix t ≡ true) text prefix_at
-unfolding prefix_at
+prefix_takes : Takes (λ t. is_prefix t ≡ true) text prefix_field
+unfolding prefix_field
 prefix_takes = fits_takes (where_takes text_takes) (λ t fits. fits.1)
 
-prefix_again : (t : List ℕ) → is_prefix t ≡ true → Again prefix_at (text t) t
-unfolding prefix_at
+prefix_again : (t : List ℕ) → is_prefix t ≡ true → Again prefix_field (text t) t
+unfolding prefix_field
 prefix_again t fits = where_again is_prefix fits (text_again t)
 
 place_fits : (owner key : Option (List ℕ)) → is_optional is_name owner ≡ true → is_optional is_key key ≡ true → are_alike (owner, key) ≡ true
@@ -159,25 +159,25 @@ place_fits None (Some k) name key alike = absurd cc
 place_fits (Some o) None name key alike = absurd cc
 place_fits (Some o) (Some k) name key alike = (and_from _ _ name key, refl)
 
-place_takes : Takes (λ p. is_optional is_place p ≡ true) place place_at
-unfolding place_at
+place_takes : Takes (λ p. is_optional is_place p ≡ true) place place_field
+unfolding place_field
 place_takes = made_takes place_of (where_takes (then_takes (optional_takes is_name) (optional_takes is_key))) (λ p fits. place_fits p.0 p.1 fits.0.0 fits.0.1 fits.1)
 
-place_again : (p : Option (List ℕ × List ℕ)) → is_optional is_place p ≡ true → Again place_at (place p) p
-unfolding place_at
+place_again : (p : Option (List ℕ × List ℕ)) → is_optional is_place p ≡ true → Again place_field (place p) p
+unfolding place_field
 place_again None fits = made_again place_of (where_again are_alike refl (then_again (optional_again is_name refl None refl) (optional_again is_key refl None refl)))
 place_again (Some p) fits =
     let parts = and_parts (is_name p.0) (is_key p.1) fits in
     made_again place_of (where_again are_alike refl (then_again (optional_again is_name refl (Some p.0) parts.0) (optional_again is_key refl (Some p.1) parts.1)))
 
-pub ask_takes : Takes (λ a. is_ask a ≡ true) ask ask_at
-unfolding ask_at ask
+pub ask_takes : Takes (λ a. is_ask a ≡ true) ask ask_field
+unfolding ask_field ask
 ask_takes =
     made_takes ask_of (then_takes (optional_takes is_name) (then_takes prefix_takes place_takes))
     (λ a fits. (and_from _ _ (and_from _ _ fits.0 fits.1.0) fits.1.1, refl))
 
-pub ask_again : (a : Ask) → is_ask a ≡ true → Again ask_at (ask a) a
-unfolding ask_at ask
+pub ask_again : (a : Ask) → is_ask a ≡ true → Again ask_field (ask a) a
+unfolding ask_field ask
 ask_again a fits =
     let after = and_parts (is_optional is_name a.owner && is_prefix a.prefix) (is_optional is_place a.after) fits in
     let parts = and_parts (is_optional is_name a.owner) (is_prefix a.prefix) after.0 in
@@ -185,8 +185,8 @@ ask_again a fits =
 
 -- ---- rows
 
-value_takes : Takes (λ v. is_value v ≡ true) value value_at
-unfolding value_at content
+value_takes : Takes (λ v. is_value v ≡ true) value value_field
+unfolding value_field content
 value_takes =
     tagged_takes value_cases (
       fits_takes addr_takes (λ v fits. (fits.0, ap (λ (tag : ℕ). tag ∷ content v) fits.1)),
@@ -199,20 +199,20 @@ value_takes =
       ),
     )
 
-value_again : (v : Value) → is_value v ≡ true → Again value_at (value v) v
-unfolding value_at addr_at weight_at content
+value_again : (v : Value) → is_value v ≡ true → Again value_field (value v) v
+unfolding value_field addr_field weight_field content
 value_again (Addr t) fits = tagged_again value_cases TAG_ADDR (where_again is_value fits (made_again Addr (text_again t)))
 value_again (Weight n) fits = tagged_again value_cases TAG_WEIGHT (where_again is_value fits (made_again Weight (number_again wide64 n (weight_below n fits))))
 value_again (Flag set) fits = tagged_again value_cases TAG_FLAG (made_again Flag (flag_again set))
 
-row_takes : Takes (λ r. is_row r ≡ true) row row_at
-unfolding row_at row
+row_takes : Takes (λ r. is_row r ≡ true) row row_field
+unfolding row_field row
 row_takes =
     made_takes row_of_parts (where_takes (then_takes name_takes (then_takes key_takes (then_takes (number_takes wide64) value_takes))))
     (λ r fits. (and_from _ _ (and_from _ _ (and_from _ _ fits.0.0 fits.0.1.0) fits.1) fits.0.1.1.1, refl))
 
-row_again : (r : Row) → is_row r ≡ true → Again row_at (row r) r
-unfolding row_at row
+row_again : (r : Row) → is_row r ≡ true → Again row_field (row r) r
+unfolding row_field row
 row_again r fits =
     let value = and_parts (is_name r.owner && is_key r.key && is_version r.version) (is_value r.value) fits in
     let version = and_parts (is_name r.owner && is_key r.key) (is_version r.version) value.0 in
@@ -220,8 +220,8 @@ row_again r fits =
     let number = number_again wide64 r.version (version_below r.version version.1) in
     made_again row_of_parts (where_again is_written version.1 (then_again (name_again r.owner place.0) (then_again (key_again r.key place.1) (then_again number (value_again r.value value.1)))))
 
-pub page_takes : Takes (λ p. is_page p ≡ true) page page_at
-unfolding page_at page
+pub page_takes : Takes (λ p. is_page p ≡ true) page page_field
+unfolding page_field page
 page_takes = made_takes page_of (where_takes (then_takes flag_takes (list_takes row_takes))) (λ p fits. (and_from _ _ (all_from is_row p.1 fits.0.1.1) fits.1, refl))
 
 pub page_within : (p : Rows) → is_page p ≡ true → rows_length p.rows ≤ PAYLOAD_MOST
@@ -232,8 +232,8 @@ page_within p fits =
 pub few_rows : (p : Rows) → is_page p ≡ true → length p.rows < 2 ^ 16
 few_rows p fits = let within = page_within p fits in omega (arith, count_below row_length (λ r. omega arith) p.rows)
 
-pub page_again : (p : Rows) → is_page p ≡ true → Again page_at (page p) p
-unfolding page_at page
+pub page_again : (p : Rows) → is_page p ≡ true → Again page_field (page p) p
+unfolding page_field page
 page_again p fits =
     let made = and_parts (list_all is_row p.rows) (are_page_rows p.rows) fits in
     let rows = list_again row_again p.rows (few_rows p fits) (all_parts is_row p.rows made.0) in

@@ -11,16 +11,16 @@ use Rattle.sb_types.specs.Faults.{Gives}
 use Rattle.sb_codec.specs.declared.message.Message.{Message}
 use Rattle.sb_codec.specs.declared.message.Message.TheVariants.{Hello, Digest, Delta, Bye, Ask, Rows, Put, Done, Refused}
 use Rattle.sb_types.specs.declared.format.TheConstants.{KIND_HELLO, KIND_DIGEST, KIND_DELTA, KIND_BYE, KIND_ASK, KIND_ROWS, KIND_PUT, KIND_DONE, KIND_REFUSED}
-use Rattle.sb_codec.specs.Fields.{AreBytes, byte_at, case_at, whole}
-use Rattle.sb_codec.specs.Messages.{spelling, is_message, Spells, IsSole, is_kind, fault_of, message_cases, message_at, reading}
+use Rattle.sb_codec.specs.Fields.{AreBytes, byte_field, case_field, whole}
+use Rattle.sb_codec.specs.Messages.{spelling, is_message, Spells, IsSole, is_kind, fault_of, message_cases, message_field, reading}
 use Rattle.sb_codec.proofs.Taken.{Takes, tagged_takes, made_case}
 use Rattle.sb_codec.proofs.Again.{Again, made_again, tagged_again}
 use Rattle.sb_codec.proofs.Parts.{delta_takes, delta_again}
 use Rattle.sb_codec.proofs.Bodies.{hello_takes, hello_again, digest_takes, digest_again, bye_takes, bye_again, ask_takes, ask_again, page_takes, page_again, write_takes, write_again, done_takes, done_again, refused_takes, refused_again}
 use Rattle.sb_codec.proofs.Sizes.{spelling-most}
 
-pub message_takes : Takes (λ m. is_message m ≡ true) spelling message_at
-unfolding message_at spelling
+pub message_takes : Takes (λ m. is_message m ≡ true) spelling message_field
+unfolding message_field spelling
 message_takes =
     tagged_takes message_cases (
       made_case KIND_HELLO Hello hello_takes (λ h fits. (fits, refl)),
@@ -51,8 +51,8 @@ message_takes =
       ),
     )
 
-pub message_again : (m : Message) → is_message m ≡ true → Again message_at (spelling m) m
-unfolding message_at spelling
+pub message_again : (m : Message) → is_message m ≡ true → Again message_field (spelling m) m
+unfolding message_field spelling
 message_again (Hello h) fits = tagged_again message_cases KIND_HELLO (made_again Hello (hello_again h fits))
 message_again (Digest d) fits = tagged_again message_cases KIND_DIGEST (made_again Digest (digest_again d fits))
 message_again (Delta blocks) fits = tagged_again message_cases KIND_DELTA (made_again Delta (delta_again blocks fits))
@@ -77,7 +77,7 @@ is_spelled payload m fits bytes = record { limits = fits; most = rw bytes (spell
 pub is_found : (payload : List ℕ) (m : Message) → AreBytes payload → reading payload ≡ Ok m → Spells payload m
 unfolding reading
 is_found payload m are e =
-    let read = nothing_behind (message_at payload) m (ok_some (whole message_at payload) (fault_of payload) m e) in
+    let read = nothing_behind (message_field payload) m (ok_some (whole message_field payload) (fault_of payload) m e) in
     let found = message_takes.parts payload m [] are read in
     let bytes : payload ≡ spelling m = found.1 ∙ append-nil (spelling m) in
     is_spelled payload m found.0 bytes
@@ -85,7 +85,7 @@ is_found payload m are e =
 pub is_read : (payload : List ℕ) (m : Message) → Spells payload m → reading payload ≡ Ok m
 unfolding reading
 is_read payload m spells =
-    let read : message_at payload ≡ Some (m, []) = ap message_at (spells.bytes ∙ sym (append-nil (spelling m))) ∙ (message_again m spells.limits).read [] in
+    let read : message_field payload ≡ Some (m, []) = ap message_field (spells.bytes ∙ sym (append-nil (spelling m))) ∙ (message_again m spells.limits).read [] in
     rw read refl
 
 pub is_sole : (payload : List ℕ) (m : Message) → Spells payload m → IsSole payload m
@@ -129,14 +129,14 @@ is_never false never = refl
 differs : (known first : ℕ) → is_kind known ≡ true → is_kind first ≡ false → (first == known) ≡ false
 differs known first is other = is_never (first == known) (λ same. sym is ∙ ap (λ kind. is_kind kind) (sym (eqb-true first known same)) ∙ other)
 
-no_case : (first : ℕ) (body : List ℕ) → is_kind first ≡ false → case_at message_cases first body ≡ None
+no_case : (first : ℕ) (body : List ℕ) → is_kind first ≡ false → case_field message_cases first body ≡ None
 no_case first body other =
     rw
     (differs KIND_HELLO first refl other, differs KIND_DIGEST first refl other, differs KIND_DELTA first refl other, differs KIND_BYE first refl other, differs KIND_ASK first refl other, differs KIND_ROWS first refl other, differs KIND_PUT first refl other, differs KIND_DONE first refl other, differs KIND_REFUSED first refl other)
     refl
 
 pub is_unknown : (payload : List ℕ) (kind : ℕ) → fault_of payload ≡ UnknownKind kind → reading payload ≡ Err (UnknownKind kind)
-unfolding reading message_at byte_at
+unfolding reading message_field byte_field
 is_unknown [] kind e = ap Err e
 is_unknown (first ∷ body) kind e =
     ap (λ read. ok_or (option_and_then (λ x. if length x.1 == 0 then Some x.0 else None) read) (fault_of (first ∷ body))) (no_case first body (is_other (is_kind first) first kind e))

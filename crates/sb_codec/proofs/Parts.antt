@@ -15,26 +15,26 @@ use Rattle.sb_types.specs.Lengths.{block_length, delta_length}
 use Rattle.sb_types.specs.Limits.{is_slot, is_entry, are_block_entries, block_of_entries, is_delta_block, are_owners_above, are_delta_blocks, is_delta}
 use Rattle.sb_types.specs.declared.format.TheConstants.{TAG_REMOVED, TAG_ADDR, TAG_WEIGHT, TAG_FLAG}
 use Rattle.sb_codec.specs.Spelling.{text, list, flag, tag_of, content, slot, entry, block}
-use Rattle.sb_codec.specs.Reading.{name_at, key_at, addr_at, weight_at, flag_cases, flag_at, flag_slot, slot_cases, slot_at, entry_of, entry_at, are_block_parts, block_of, block_at, delta_at}
+use Rattle.sb_codec.specs.Reading.{name_field, key_field, addr_field, weight_field, flag_cases, flag_field, flag_slot, slot_cases, slot_field, entry_of_parts, entry_field, are_block_parts, block_of_parts, block_field, delta_field}
 use Rattle.sb_codec.proofs.Taken.{Takes, wide64, fits_takes, made_takes, then_takes, where_takes, number_takes, text_takes, list_takes, tagged_takes, made_case, given_case}
 use Rattle.sb_codec.proofs.Again.{Again, given_again, made_again, then_again, where_again, number_again, text_again, list_again, tagged_again}
 
 -- ---- texts
 
-pub name_takes : Takes (λ t. is_name t ≡ true) text name_at
-unfolding name_at
+pub name_takes : Takes (λ t. is_name t ≡ true) text name_field
+unfolding name_field
 name_takes = fits_takes (where_takes text_takes) (λ t fits. fits.1)
 
-pub name_again : (t : List ℕ) → is_name t ≡ true → Again name_at (text t) t
-unfolding name_at
+pub name_again : (t : List ℕ) → is_name t ≡ true → Again name_field (text t) t
+unfolding name_field
 name_again t fits = where_again is_name fits (text_again t)
 
-pub key_takes : Takes (λ t. is_key t ≡ true) text key_at
-unfolding key_at
+pub key_takes : Takes (λ t. is_key t ≡ true) text key_field
+unfolding key_field
 key_takes = fits_takes (where_takes text_takes) (λ t fits. fits.1)
 
-pub key_again : (t : List ℕ) → is_key t ≡ true → Again key_at (text t) t
-unfolding key_at
+pub key_again : (t : List ℕ) → is_key t ≡ true → Again key_field (text t) t
+unfolding key_field
 key_again t fits = where_again is_key fits (text_again t)
 
 -- ---- values
@@ -43,20 +43,20 @@ key_again t fits = where_again is_key fits (text_again t)
 abbrev pub IsTagged : ℕ → Value → Type 0
 IsTagged tag v = (is_value v ≡ true) × (tag_of v ≡ tag)
 
-pub addr_takes : Takes (IsTagged TAG_ADDR) content addr_at
-unfolding addr_at content
+pub addr_takes : Takes (IsTagged TAG_ADDR) content addr_field
+unfolding addr_field content
 addr_takes = fits_takes (where_takes (made_takes {Q = λ v. tag_of v ≡ TAG_ADDR} Addr text_takes (λ t lt. (refl, refl)))) (λ v fits. (fits.1, fits.0))
 
-pub weight_takes : Takes (IsTagged TAG_WEIGHT) content weight_at
-unfolding weight_at content
+pub weight_takes : Takes (IsTagged TAG_WEIGHT) content weight_field
+unfolding weight_field content
 weight_takes = fits_takes (where_takes (made_takes {Q = λ v. tag_of v ≡ TAG_WEIGHT} Weight (number_takes wide64) (λ n lt. (refl, refl)))) (λ v fits. (fits.1, fits.0))
 
-pub flag_takes : Takes (λ set. Unit {0}) flag flag_at
-unfolding flag_at
+pub flag_takes : Takes (λ set. Unit {0}) flag flag_field
+unfolding flag_field
 flag_takes = tagged_takes flag_cases (given_case 0 false tt refl, (given_case 1 true tt refl, tt))
 
-pub slot_takes : Takes (λ s. is_slot s ≡ true) slot slot_at
-unfolding slot_at slot content
+pub slot_takes : Takes (λ s. is_slot s ≡ true) slot slot_field
+unfolding slot_field slot content
 slot_takes =
     let spelled : (tag : ℕ) (v : Value) → IsTagged tag v → (is_value v ≡ true) × (tag_of v ∷ content v ≡ tag ∷ content v) = λ tag v fits. (fits.0, ap (λ (k : ℕ). k ∷ content v) fits.1) in
     tagged_takes slot_cases (given_case TAG_REMOVED Removed refl refl, (made_case TAG_ADDR Set addr_takes (spelled TAG_ADDR), (made_case TAG_WEIGHT Set weight_takes (spelled TAG_WEIGHT), (made_case TAG_FLAG flag_slot flag_takes (λ set fits. (refl, refl)), tt))))
@@ -64,13 +64,13 @@ slot_takes =
 pub weight_below : (n : ℕ) → is_value (Weight n) ≡ true → n < 2 ^ 64
 weight_below n fits = omega (arith, ltb-true n (2 ^ 63) fits)
 
-pub flag_again : (set : Bool) → Again flag_at (flag set) set
-unfolding flag_at
+pub flag_again : (set : Bool) → Again flag_field (flag set) set
+unfolding flag_field
 flag_again false = tagged_again flag_cases 0 (given_again false)
 flag_again true = tagged_again flag_cases 1 (given_again true)
 
-pub slot_again : (s : Slot) → is_slot s ≡ true → Again slot_at (slot s) s
-unfolding slot_at slot addr_at weight_at content
+pub slot_again : (s : Slot) → is_slot s ≡ true → Again slot_field (slot s) s
+unfolding slot_field slot addr_field weight_field content
 slot_again Removed fits = tagged_again slot_cases TAG_REMOVED (given_again Removed)
 slot_again (Set (Addr t)) fits = tagged_again slot_cases TAG_ADDR (made_again Set (where_again is_value fits (made_again Addr (text_again t))))
 slot_again (Set (Weight n)) fits = tagged_again slot_cases TAG_WEIGHT (made_again Set (where_again is_value fits (made_again Weight (number_again wide64 n (weight_below n fits)))))
@@ -88,18 +88,18 @@ entry_parts e fits =
     let version = between_parts 1 (2 ^ 64 - 1) e.version key.1 in
     (key.0, version.0, omega arith, slot.1)
 
-pub entry_takes : Takes (λ e. is_entry e ≡ true) entry entry_at
-unfolding entry_at entry
+pub entry_takes : Takes (λ e. is_entry e ≡ true) entry entry_field
+unfolding entry_field entry
 entry_takes =
-    made_takes entry_of (then_takes key_takes (then_takes (where_takes (number_takes wide64)) slot_takes))
+    made_takes entry_of_parts (then_takes key_takes (then_takes (where_takes (number_takes wide64)) slot_takes))
     (λ e fits. (and_from _ _ (and_from _ _ fits.0 (and_from _ _ fits.1.0.1 (le-leb _ _ (omega (arith, fits.1.0.0))))) fits.1.1, refl))
 
-pub entry_again : (e : Entry) → is_entry e ≡ true → Again entry_at (entry e) e
-unfolding entry_at entry
+pub entry_again : (e : Entry) → is_entry e ≡ true → Again entry_field (entry e) e
+unfolding entry_field entry
 entry_again e fits =
     let parts = entry_parts e fits in
     let version = where_again (nat_le 1) (le-leb 1 e.version parts.1) (number_again wide64 e.version parts.2) in
-    made_again entry_of (then_again (key_again e.key parts.0) (then_again version (slot_again e.slot parts.3)))
+    made_again entry_of_parts (then_again (key_again e.key parts.0) (then_again version (slot_again e.slot parts.3)))
 
 -- ---- blocks
 
@@ -111,10 +111,10 @@ pub all_parts : {A : Type 0} (test : A → Bool) (xs : List A) → list_all test
 all_parts test [] all = tt
 all_parts test (x ∷ xs) all = let p = and_parts _ _ all in (p.0, all_parts test xs p.1)
 
-pub block_takes : Takes (λ b. is_delta_block b ≡ true) block block_at
-unfolding block_at block
+pub block_takes : Takes (λ b. is_delta_block b ≡ true) block block_field
+unfolding block_field block
 block_takes =
-    made_takes block_of (where_takes (then_takes name_takes (then_takes (number_takes wide64) (list_takes entry_takes))))
+    made_takes block_of_parts (where_takes (then_takes name_takes (then_takes (number_takes wide64) (list_takes entry_takes))))
     (λ b fits. (and_from _ _ (and_from _ _ (and_from _ _ (and_from _ _ fits.0.0 (all_from is_entry b.1.1 fits.0.1.1.1)) fits.1) refl) (eq-eqb _ _ refl), refl))
 
 entries_parts : (after : ℕ) (entries : List Entry) → are_block_entries after entries ≡ true → (is_between 1 ENTRIES_MOST (length entries) ≡ true) × (are_ascending after entries ≡ true)
@@ -131,8 +131,8 @@ same_block : (owner : List ℕ) (floor after upto : ℕ) (entries : List Entry) 
     → block_of_entries owner after entries ≡ record { owner = owner; floor = floor; after = after; upto = upto; entries = entries }
 same_block owner floor after upto entries no_floor last = rw (no_floor, last) refl
 
-pub block_again : (b : Block) → is_delta_block b ≡ true → Again block_at (block b) b
-unfolding block_at block
+pub block_again : (b : Block) → is_delta_block b ≡ true → Again block_field (block b) b
+unfolding block_field block
 block_again b fits =
     let last = and_parts (is_name b.owner && list_all is_entry b.entries && are_block_entries b.after b.entries && b.floor == 0) (b.upto == last_version b.after b.entries) fits in
     let floor = and_parts (is_name b.owner && list_all is_entry b.entries && are_block_entries b.after b.entries) (b.floor == 0) last.0 in
@@ -141,12 +141,12 @@ block_again b fits =
     let few = between_parts 1 ENTRIES_MOST (length b.entries) (entries_parts b.after b.entries run.1).0 in
     let entries = list_again entry_again b.entries (omega arith) (all_parts is_entry b.entries owner.1) in
     let parts = then_again (name_again b.owner owner.0) (then_again (number_again wide64 b.after (after_below b.after b.entries run.1 owner.1)) entries) in
-    subst (λ (x : Block). Again block_at (block b) x) (same_block b.owner b.floor b.after b.upto b.entries (eqb-true _ _ floor.1) (eqb-true _ _ last.1)) (made_again block_of (where_again are_block_parts run.1 parts))
+    subst (λ (x : Block). Again block_field (block b) x) (same_block b.owner b.floor b.after b.upto b.entries (eqb-true _ _ floor.1) (eqb-true _ _ last.1)) (made_again block_of_parts (where_again are_block_parts run.1 parts))
 
 -- ---- deltas
 
-pub delta_takes : Takes (λ blocks. is_delta blocks ≡ true) (list block) delta_at
-unfolding delta_at
+pub delta_takes : Takes (λ blocks. is_delta blocks ≡ true) (list block) delta_field
+unfolding delta_field
 delta_takes = fits_takes (where_takes (list_takes block_takes)) (λ blocks fits. and_from _ _ (all_from is_delta_block blocks fits.0.1) fits.1)
 
 -- what takes a byte at least each is no more than the bytes
@@ -162,8 +162,8 @@ delta_parts blocks fits =
 pub few_blocks : (blocks : List Block) → is_delta blocks ≡ true → length blocks < 2 ^ 16
 few_blocks blocks fits = let within = (delta_parts blocks fits).2 in omega (arith, count_below block_length (λ b. omega arith) blocks)
 
-pub delta_again : (blocks : List Block) → is_delta blocks ≡ true → Again delta_at (list block blocks) blocks
-unfolding delta_at
+pub delta_again : (blocks : List Block) → is_delta blocks ≡ true → Again delta_field (list block blocks) blocks
+unfolding delta_field
 delta_again blocks fits =
     let parts = delta_parts blocks fits in
     where_again are_delta_blocks parts.1 (list_again block_again blocks (few_blocks blocks fits) (all_parts is_delta_block blocks parts.0))

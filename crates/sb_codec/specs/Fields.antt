@@ -11,62 +11,62 @@ abbrev pub Field : Type 0 → Type 0
 Field A = List ℕ → Option (A × List ℕ)
 
 -- nothing is read
-abbrev pub none_at : {A : Type 0} → Field A
-none_at bytes = None
+abbrev pub none_field : {A : Type 0} → Field A
+none_field bytes = None
 
 -- the value, of no bytes
-abbrev pub given_at : {A : Type 0} → A → Field A
-given_at x bytes = Some (x, bytes)
+abbrev pub given_field : {A : Type 0} → A → Field A
+given_field x bytes = Some (x, bytes)
 
 -- a field, and behind it the field that its value asks for
-abbrev pub lead_at : {A B : Type 0} → Field A → (A → Field B) → Field B
-lead_at first next bytes = option_and_then (λ x. next x.0 x.1) (first bytes)
+abbrev pub lead_field : {A B : Type 0} → Field A → (A → Field B) → Field B
+lead_field first next bytes = option_and_then (λ x. next x.0 x.1) (first bytes)
 
 -- what is made of a field's value
-abbrev pub made_at : {A B : Type 0} → (A → B) → Field A → Field B
-made_at make field = lead_at field (λ x. given_at (make x))
+abbrev pub made_field : {A B : Type 0} → (A → B) → Field A → Field B
+made_field make field = lead_field field (λ x. given_field (make x))
 
 -- two fields
-abbrev pub then_at : {A B : Type 0} → Field A → Field B → Field (A × B)
-then_at first second = lead_at first (λ x. made_at (λ y. (x, y)) second)
+abbrev pub then_field : {A B : Type 0} → Field A → Field B → Field (A × B)
+then_field first second = lead_field first (λ x. made_field (λ y. (x, y)) second)
 
 -- a field whose value passes a test
-abbrev pub where_at : {A : Type 0} → (A → Bool) → Field A → Field A
-where_at test field = lead_at field (λ x. if test x then given_at x else none_at)
+abbrev pub where_field : {A : Type 0} → (A → Bool) → Field A → Field A
+where_field test field = lead_field field (λ x. if test x then given_field x else none_field)
 
 -- the same field so many times
-unfoldable pub times_at : {A : Type 0} → Field A → ℕ → Field (List A)
-times_at field zero = given_at []
-times_at field (suc n) = lead_at field (λ x. made_at (λ xs. x ∷ xs) (times_at field n))
+unfoldable pub times_field : {A : Type 0} → Field A → ℕ → Field (List A)
+times_field field zero = given_field []
+times_field field (suc n) = lead_field field (λ x. made_field (λ xs. x ∷ xs) (times_field field n))
 
-unfoldable pub byte_at : Field ℕ
-byte_at [] = None
-byte_at (byte ∷ bytes) = Some (byte, bytes)
+unfoldable pub byte_field : Field ℕ
+byte_field [] = None
+byte_field (byte ∷ bytes) = Some (byte, bytes)
 
 -- so many bytes
-unfoldable pub bytes_at : ℕ → Field (List ℕ)
-bytes_at count bytes = if nat_lt (length bytes) count then None else Some (take count bytes, drop count bytes)
+unfoldable pub bytes_field : ℕ → Field (List ℕ)
+bytes_field count bytes = if nat_lt (length bytes) count then None else Some (take count bytes, drop count bytes)
 
 -- a number of the width, high byte first
-unfoldable pub number_at : Width → Field ℕ
-number_at w = made_at (from_be_bytes w) (bytes_at (byte_len w))
+unfoldable pub number_field : Width → Field ℕ
+number_field w = made_field (from_be_bytes w) (bytes_field (byte_len w))
 
 -- a length byte, and that many bytes
-unfoldable pub text_at : Field (List ℕ)
-text_at = lead_at byte_at bytes_at
+unfoldable pub text_field : Field (List ℕ)
+text_field = lead_field byte_field bytes_field
 
 -- a count, and that many times a field
-unfoldable pub list_at : {A : Type 0} → Field A → Field (List A)
-list_at field = lead_at (number_at w16) (times_at field)
+unfoldable pub list_field : {A : Type 0} → Field A → Field (List A)
+list_field field = lead_field (number_field w16) (times_field field)
 
 -- the field of a tag
-abbrev pub case_at : {A : Type 0} → List (ℕ × Field A) → ℕ → Field A
-case_at [] tag = none_at
-case_at (c ∷ cases) tag = if tag == c.0 then c.1 else case_at cases tag
+abbrev pub case_field : {A : Type 0} → List (ℕ × Field A) → ℕ → Field A
+case_field [] tag = none_field
+case_field (c ∷ cases) tag = if tag == c.0 then c.1 else case_field cases tag
 
 -- a tag byte, and the field of that tag
-abbrev pub tagged_at : {A : Type 0} → List (ℕ × Field A) → Field A
-tagged_at cases = lead_at byte_at (case_at cases)
+abbrev pub tagged_field : {A : Type 0} → List (ℕ × Field A) → Field A
+tagged_field cases = lead_field byte_field (case_field cases)
 
 -- what a field makes of all of the bytes
 abbrev pub whole : {A : Type 0} → Field A → List ℕ → Option A

@@ -12,8 +12,8 @@ use Rattle.sb_codec.specs.Limits.{is_hello, is_reason, is_ask, is_page, is_write
 use Rattle.std.specs.Int.{w64}
 use Rattle.sb_types.specs.Text.{is_between}
 use Rattle.sb_codec.specs.Spelling.{number, list, block, hello, digest, ask, page, write}
-use Rattle.sb_codec.specs.Fields.{Field, made_at, tagged_at, whole}
-use Rattle.sb_codec.specs.Reading.{delta_at, hello_at, digest_at, bye_at, ask_at, page_at, write_at, done_at, refused_at}
+use Rattle.sb_codec.specs.Fields.{Field, made_field, tagged_field, whole}
+use Rattle.sb_codec.specs.Reading.{delta_field, hello_field, digest_field, bye_field, ask_field, page_field, write_field, done_field, refused_field}
 
 -- the kind, and the body
 unfoldable pub spelling : Message → List ℕ
@@ -59,20 +59,20 @@ fault_of (kind ∷ body) = if is_kind kind then Malformed kind else UnknownKind 
 
 abbrev pub message_cases : List (ℕ × Field Message)
 message_cases =
-    (KIND_HELLO, made_at Hello hello_at)
-    ∷ (KIND_DIGEST, made_at Digest digest_at)
-    ∷ (KIND_DELTA, made_at Delta delta_at)
-    ∷ (KIND_BYE, made_at Bye bye_at)
-    ∷ (KIND_ASK, made_at Ask ask_at)
-    ∷ (KIND_ROWS, made_at Rows page_at)
-    ∷ (KIND_PUT, made_at Put write_at)
-    ∷ (KIND_DONE, made_at Done done_at)
-    ∷ (KIND_REFUSED, made_at Refused refused_at)
+    (KIND_HELLO, made_field Hello hello_field)
+    ∷ (KIND_DIGEST, made_field Digest digest_field)
+    ∷ (KIND_DELTA, made_field Delta delta_field)
+    ∷ (KIND_BYE, made_field Bye bye_field)
+    ∷ (KIND_ASK, made_field Ask ask_field)
+    ∷ (KIND_ROWS, made_field Rows page_field)
+    ∷ (KIND_PUT, made_field Put write_field)
+    ∷ (KIND_DONE, made_field Done done_field)
+    ∷ (KIND_REFUSED, made_field Refused refused_field)
     ∷ []
 
-unfoldable pub message_at : Field Message
-message_at = tagged_at message_cases
+unfoldable pub message_field : Field Message
+message_field = tagged_field message_cases
 
 -- the message that is all of the payload, or the fault
 unfoldable pub reading : List ℕ → Result Message Fault
-reading payload = ok_or (whole message_at payload) (fault_of payload)
+reading payload = ok_or (whole message_field payload) (fault_of payload)

@@ -4,7 +4,7 @@ ghost use Rattle.std.specs.Prelude.{◌≡◌, ℕ, IfOk, Ok, Err};
 ghost use Rattle.sb_types.specs.Faults.{Gives};
 ghost use Rattle.sb_codec.specs.declared.message.Message.{Message};
 ghost use Rattle.sb_codec.specs.Fields.{whole};
-ghost use Rattle.sb_codec.specs.Messages.{Spells, IsSole, is_kind, fault_of, message_at, reading};
+ghost use Rattle.sb_codec.specs.Messages.{Spells, IsSole, is_kind, fault_of, message_field, reading};
 ghost use Rattle.sb_codec.specs.Refusal.{ReadsWhole};
 
 use crate::fields::Fields;
@@ -46,7 +46,7 @@ fn fault(payload: &[u8]) -> Fault
 }
 
 fn read_whole(alloc: Global, payload: &[u8]) -> Result<Message, Refusal>
-    ensures { ReadsWhole (whole message_at payload.now) result }
+    ensures { ReadsWhole (whole message_field payload.now) result }
 {
     let mut fields = Fields::new(payload);
     let message = fields.message(alloc)?;

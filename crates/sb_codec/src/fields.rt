@@ -4,14 +4,14 @@ ghost use Rattle.std.specs.Prelude.{◌≡◌, ◌==◌, ◌*◌, ◌≤◌, [],
 ghost use Rattle.std.specs.Vec.{vec_capacity};
 ghost use Rattle.std.specs.Int.{w16, w64};
 ghost use Rattle.sb_codec.specs.Refusal.{Reads};
-ghost use Rattle.sb_codec.specs.Fields.{byte_at, bytes_at, number_at, text_at, list_at, times_at};
+ghost use Rattle.sb_codec.specs.Fields.{byte_field, bytes_field, number_field, text_field, list_field, times_field};
 ghost use Rattle.sb_types.specs.Text.{is_name, is_key};
-ghost use Rattle.sb_codec.specs.Reading.{name_at, key_at, addr_at, weight_at, flag_at, slot_at, entry_at, block_at, delta_at, hello_at, bye_at, write_at, done_at, refused_at, optional_at, pair_at, digest_at, prefix_at, place_at, ask_at, value_at, row_at, page_at};
-ghost use Rattle.sb_codec.specs.Messages.{message_at};
+ghost use Rattle.sb_codec.specs.Reading.{name_field, key_field, addr_field, weight_field, flag_field, slot_field, entry_field, block_field, delta_field, hello_field, bye_field, write_field, done_field, refused_field, optional_field, pair_field, digest_field, prefix_field, place_field, ask_field, value_field, row_field, page_field};
+ghost use Rattle.sb_codec.specs.Messages.{message_field};
 
+use crate::list_item::ListItem;
 use crate::message::{Ask, Bye, Done, Hello, Message, Refused, Row, Rows};
 use crate::refusal::Refusal;
-use crate::spelled::Spelled;
 use sb_digest::{Digest, Pair};
 use sb_types::{
     Block, Delta, Entry, KIND_ASK, KIND_BYE, KIND_DELTA, KIND_DIGEST, KIND_DONE, KIND_HELLO,
@@ -23,7 +23,7 @@ use std::marker::Model;
 
 /// Room for so many items, and for no more than the bytes could spell, however many are told. `Memory` is
 /// its only refusal.
-fn room_for<T: Spelled>(alloc: Global, count: u16, bytes: &[u8]) -> Result<Vec<T>, Refusal>
+fn room_for<T: ListItem>(alloc: Global, count: u16, bytes: &[u8]) -> Result<Vec<T>, Refusal>
     ensures items { IfOk result (λ v. v.items ≡ []) }
     ensures within { IfOk result (λ v. T.LEAST * vec_capacity v ≤ length bytes.now) }
     ensures refusal { IfErr result (λ refusal. refusal ≡ Refusal.Memory) }
@@ -61,9 +61,9 @@ impl<'a> Fields<'a> {
         self.rest.is_empty()
     }
 
-    #[tactic(auto, unfolding(crate::specs::Fields::byte_at))]
+    #[tactic(auto, unfolding(crate::specs::Fields::byte_field))]
     fn byte(&mut self) -> Result<u8, Refusal>
-        ensures { Reads (λ x. x) (byte_at self.old) result self.new }
+        ensures { Reads (λ x. x) (byte_field self.old) result self.new }
     {
         match self.rest {
             [] => Err(Refusal::Malformed),
@@ -74,9 +74,9 @@ impl<'a> Fields<'a> {
         }
     }
 
-    #[tactic(auto, unfolding(crate::specs::Fields::bytes_at))]
+    #[tactic(auto, unfolding(crate::specs::Fields::bytes_field))]
     fn bytes(&mut self, count: usize) -> Result<&'a [u8], Refusal>
-        ensures read { Reads (λ x. x.now) (bytes_at count self.old) result self.new }
+        ensures read { Reads (λ x. x.now) (bytes_field count self.old) result self.new }
         ensures length { IfOk result (λ x. length x.now ≡ count) }
     {
         if self.rest.len() < count {
@@ -87,17 +87,17 @@ impl<'a> Fields<'a> {
         Ok(front)
     }
 
-    #[tactic(auto, unfolding(crate::specs::Fields::number_at))]
+    #[tactic(auto, unfolding(crate::specs::Fields::number_field))]
     fn u16(&mut self) -> Result<u16, Refusal>
-        ensures { Reads (λ x. x) (number_at w16 self.old) result self.new }
+        ensures { Reads (λ x. x) (number_field w16 self.old) result self.new }
     {
         let front = self.bytes(2)?;
         Ok(u16::from_be_bytes([front[0], front[1]]))
     }
 
-    #[tactic(auto, unfolding(crate::specs::Fields::number_at))]
+    #[tactic(auto, unfolding(crate::specs::Fields::number_field))]
     fn u64(&mut self) -> Result<u64, Refusal>
-        ensures { Reads (λ x. x) (number_at w64 self.old) result self.new }
+        ensures { Reads (λ x. x) (number_field w64 self.old) result self.new }
     {
         let front = self.bytes(8)?;
         Ok(u64::from_be_bytes([
@@ -105,38 +105,38 @@ impl<'a> Fields<'a> {
         ]))
     }
 
-    #[tactic(auto, unfolding(crate::specs::Fields::text_at))]
+    #[tactic(auto, unfolding(crate::specs::Fields::text_field))]
     fn text(&mut self) -> Result<&'a [u8], Refusal>
-        ensures { Reads (λ x. x.now) (text_at self.old) result self.new }
+        ensures { Reads (λ x. x.now) (text_field self.old) result self.new }
     {
         let len = self.byte()?;
         self.bytes(usize::from(len))
     }
 
-    #[tactic(auto, unfolding(crate::specs::Reading::name_at))]
+    #[tactic(auto, unfolding(crate::specs::Reading::name_field))]
     fn name(&mut self) -> Result<Name, Refusal>
-        ensures { Reads (λ x. x) (name_at self.old) result self.new }
+        ensures { Reads (λ x. x) (name_field self.old) result self.new }
     {
         Ok(Name::read(self.text()?)?)
     }
 
-    #[tactic(auto, unfolding(crate::specs::Reading::key_at))]
+    #[tactic(auto, unfolding(crate::specs::Reading::key_field))]
     fn key(&mut self) -> Result<Key, Refusal>
-        ensures { Reads (λ x. x) (key_at self.old) result self.new }
+        ensures { Reads (λ x. x) (key_field self.old) result self.new }
     {
         Ok(Key::read(self.text()?)?)
     }
 
-    #[tactic(auto, unfolding(crate::specs::Reading::prefix_at))]
+    #[tactic(auto, unfolding(crate::specs::Reading::prefix_field))]
     fn prefix(&mut self) -> Result<Prefix, Refusal>
-        ensures { Reads (λ x. x) (prefix_at self.old) result self.new }
+        ensures { Reads (λ x. x) (prefix_field self.old) result self.new }
     {
         Ok(Prefix::read(self.text()?)?)
     }
 
-    #[tactic(auto, unfolding(crate::specs::Reading::optional_at))]
+    #[tactic(auto, unfolding(crate::specs::Reading::optional_field))]
     fn optional_name(&mut self) -> Result<Option<Name>, Refusal>
-        ensures { Reads (λ x. x) (optional_at is_name self.old) result self.new }
+        ensures { Reads (λ x. x) (optional_field is_name self.old) result self.new }
     {
         match self.text()? {
             [] => Ok(None),
@@ -144,9 +144,9 @@ impl<'a> Fields<'a> {
         }
     }
 
-    #[tactic(auto, unfolding(crate::specs::Reading::optional_at))]
+    #[tactic(auto, unfolding(crate::specs::Reading::optional_field))]
     fn optional_key(&mut self) -> Result<Option<Key>, Refusal>
-        ensures { Reads (λ x. x) (optional_at is_key self.old) result self.new }
+        ensures { Reads (λ x. x) (optional_field is_key self.old) result self.new }
     {
         match self.text()? {
             [] => Ok(None),
@@ -154,9 +154,9 @@ impl<'a> Fields<'a> {
         }
     }
 
-    #[tactic(auto, unfolding(crate::specs::Reading::place_at))]
+    #[tactic(auto, unfolding(crate::specs::Reading::place_field))]
     fn place(&mut self) -> Result<Option<(Name, Key)>, Refusal>
-        ensures { Reads (λ x. x) (place_at self.old) result self.new }
+        ensures { Reads (λ x. x) (place_field self.old) result self.new }
     {
         let owner = self.optional_name()?;
         let key = self.optional_key()?;
@@ -167,23 +167,23 @@ impl<'a> Fields<'a> {
         }
     }
 
-    #[tactic(auto, unfolding(crate::specs::Reading::addr_at))]
+    #[tactic(auto, unfolding(crate::specs::Reading::addr_field))]
     fn addr(&mut self, alloc: Global) -> Result<Value, Refusal>
-        ensures { Reads (λ x. x) (addr_at self.old) result self.new }
+        ensures { Reads (λ x. x) (addr_field self.old) result self.new }
     {
         Ok(Value::addr(alloc, self.text()?)?)
     }
 
-    #[tactic(auto, unfolding(crate::specs::Reading::weight_at))]
+    #[tactic(auto, unfolding(crate::specs::Reading::weight_field))]
     fn weight(&mut self) -> Result<Value, Refusal>
-        ensures { Reads (λ x. x) (weight_at self.old) result self.new }
+        ensures { Reads (λ x. x) (weight_field self.old) result self.new }
     {
         Ok(Value::weight(self.u64()?)?)
     }
 
-    #[tactic(auto, unfolding(crate::specs::Reading::flag_at))]
+    #[tactic(auto, unfolding(crate::specs::Reading::flag_field))]
     fn flag(&mut self) -> Result<bool, Refusal>
-        ensures { Reads (λ x. x) (flag_at self.old) result self.new }
+        ensures { Reads (λ x. x) (flag_field self.old) result self.new }
     {
         match self.byte()? {
             0 => Ok(false),
@@ -192,9 +192,9 @@ impl<'a> Fields<'a> {
         }
     }
 
-    #[tactic(auto, unfolding(crate::specs::Reading::value_at))]
+    #[tactic(auto, unfolding(crate::specs::Reading::value_field))]
     fn value(&mut self, alloc: Global) -> Result<Value, Refusal>
-        ensures { Reads (λ x. x) (value_at self.old) result self.new }
+        ensures { Reads (λ x. x) (value_field self.old) result self.new }
     {
         match self.byte()? {
             TAG_ADDR => self.addr(alloc),
@@ -204,9 +204,9 @@ impl<'a> Fields<'a> {
         }
     }
 
-    #[tactic(auto, unfolding(crate::specs::Reading::slot_at))]
+    #[tactic(auto, unfolding(crate::specs::Reading::slot_field))]
     fn slot(&mut self, alloc: Global) -> Result<Slot, Refusal>
-        ensures { Reads (λ x. x) (slot_at self.old) result self.new }
+        ensures { Reads (λ x. x) (slot_field self.old) result self.new }
     {
         match self.byte()? {
             TAG_REMOVED => Ok(Slot::Removed),
@@ -217,9 +217,9 @@ impl<'a> Fields<'a> {
         }
     }
 
-    #[tactic(auto, unfolding(crate::specs::Reading::entry_at))]
+    #[tactic(auto, unfolding(crate::specs::Reading::entry_field))]
     pub(crate) fn entry(&mut self, alloc: Global) -> Result<Entry, Refusal>
-        ensures { Reads (λ x. x) (entry_at self.old) result self.new }
+        ensures { Reads (λ x. x) (entry_field self.old) result self.new }
     {
         let key = self.key()?;
         let version = self.u64()?;
@@ -230,9 +230,9 @@ impl<'a> Fields<'a> {
         Ok(Entry::new(key, version, slot))
     }
 
-    #[tactic(auto, unfolding(crate::specs::Reading::block_at))]
+    #[tactic(auto, unfolding(crate::specs::Reading::block_field))]
     pub(crate) fn block(&mut self, alloc: Global) -> Result<Block, Refusal>
-        ensures { Reads (λ x. x) (block_at self.old) result self.new }
+        ensures { Reads (λ x. x) (block_field self.old) result self.new }
     {
         let owner = self.name()?;
         let after = self.u64()?;
@@ -240,35 +240,35 @@ impl<'a> Fields<'a> {
         Ok(Block::new(owner, after, entries)?)
     }
 
-    #[tactic(auto, unfolding(crate::specs::Reading::delta_at))]
+    #[tactic(auto, unfolding(crate::specs::Reading::delta_field))]
     fn delta(&mut self, alloc: Global) -> Result<Delta, Refusal>
-        ensures { Reads (λ x. x) (delta_at self.old) result self.new }
+        ensures { Reads (λ x. x) (delta_field self.old) result self.new }
     {
         let blocks = self.list(alloc)?;
         Ok(Delta::new(blocks)?)
     }
 
-    #[tactic(auto, unfolding(crate::specs::Reading::hello_at))]
+    #[tactic(auto, unfolding(crate::specs::Reading::hello_field))]
     fn hello(&mut self) -> Result<Hello, Refusal>
-        ensures { Reads (λ x. x) (hello_at self.old) result self.new }
+        ensures { Reads (λ x. x) (hello_field self.old) result self.new }
     {
         let cluster = self.name()?;
         let node = self.name()?;
         Ok(Hello { cluster, node })
     }
 
-    #[tactic(auto, unfolding(crate::specs::Reading::pair_at))]
+    #[tactic(auto, unfolding(crate::specs::Reading::pair_field))]
     pub(crate) fn pair(&mut self) -> Result<Pair, Refusal>
-        ensures { Reads (λ x. x) (pair_at self.old) result self.new }
+        ensures { Reads (λ x. x) (pair_field self.old) result self.new }
     {
         let owner = self.name()?;
-        let version = self.u64()?;
-        Ok(Pair { owner, version })
+        let upto = self.u64()?;
+        Ok(Pair { owner, upto })
     }
 
-    #[tactic(auto, unfolding(crate::specs::Reading::digest_at))]
+    #[tactic(auto, unfolding(crate::specs::Reading::digest_field))]
     fn digest(&mut self, alloc: Global) -> Result<Digest, Refusal>
-        ensures { Reads (λ x. x) (digest_at self.old) result self.new }
+        ensures { Reads (λ x. x) (digest_field self.old) result self.new }
     {
         let want = self.flag()?;
         let from = self.optional_name()?;
@@ -277,16 +277,16 @@ impl<'a> Fields<'a> {
         Ok(Digest::new(want, from, until, pairs)?)
     }
 
-    #[tactic(auto, unfolding(crate::specs::Reading::bye_at))]
+    #[tactic(auto, unfolding(crate::specs::Reading::bye_field))]
     fn bye(&mut self) -> Result<Bye, Refusal>
-        ensures { Reads (λ x. x) (bye_at self.old) result self.new }
+        ensures { Reads (λ x. x) (bye_field self.old) result self.new }
     {
         Ok(Bye::new(self.byte()?)?)
     }
 
-    #[tactic(auto, unfolding(crate::specs::Reading::ask_at))]
+    #[tactic(auto, unfolding(crate::specs::Reading::ask_field))]
     fn ask(&mut self) -> Result<Ask, Refusal>
-        ensures { Reads (λ x. x) (ask_at self.old) result self.new }
+        ensures { Reads (λ x. x) (ask_field self.old) result self.new }
     {
         let owner = self.optional_name()?;
         let prefix = self.prefix()?;
@@ -298,9 +298,9 @@ impl<'a> Fields<'a> {
         })
     }
 
-    #[tactic(auto, unfolding(crate::specs::Reading::row_at))]
+    #[tactic(auto, unfolding(crate::specs::Reading::row_field))]
     pub(crate) fn row(&mut self, alloc: Global) -> Result<Row, Refusal>
-        ensures { Reads (λ x. x) (row_at self.old) result self.new }
+        ensures { Reads (λ x. x) (row_field self.old) result self.new }
     {
         let owner = self.name()?;
         let key = self.key()?;
@@ -309,41 +309,41 @@ impl<'a> Fields<'a> {
         Ok(Row::new(owner, key, version, value)?)
     }
 
-    #[tactic(auto, unfolding(crate::specs::Reading::page_at))]
+    #[tactic(auto, unfolding(crate::specs::Reading::page_field))]
     fn rows(&mut self, alloc: Global) -> Result<Rows, Refusal>
-        ensures { Reads (λ x. x) (page_at self.old) result self.new }
+        ensures { Reads (λ x. x) (page_field self.old) result self.new }
     {
         let more = self.flag()?;
         let rows = self.list(alloc)?;
         Ok(Rows::new(more, rows)?)
     }
 
-    #[tactic(auto, unfolding(crate::specs::Reading::write_at))]
+    #[tactic(auto, unfolding(crate::specs::Reading::write_field))]
     fn write(&mut self, alloc: Global) -> Result<Write, Refusal>
-        ensures { Reads (λ x. x) (write_at self.old) result self.new }
+        ensures { Reads (λ x. x) (write_field self.old) result self.new }
     {
         let key = self.key()?;
         let slot = self.slot(alloc)?;
         Ok(Write { key, slot })
     }
 
-    #[tactic(auto, unfolding(crate::specs::Reading::done_at))]
+    #[tactic(auto, unfolding(crate::specs::Reading::done_field))]
     fn done(&mut self) -> Result<Done, Refusal>
-        ensures { Reads (λ x. x) (done_at self.old) result self.new }
+        ensures { Reads (λ x. x) (done_field self.old) result self.new }
     {
         Ok(Done::new(self.u64()?)?)
     }
 
-    #[tactic(auto, unfolding(crate::specs::Reading::refused_at))]
+    #[tactic(auto, unfolding(crate::specs::Reading::refused_field))]
     fn refused(&mut self) -> Result<Refused, Refusal>
-        ensures { Reads (λ x. x) (refused_at self.old) result self.new }
+        ensures { Reads (λ x. x) (refused_field self.old) result self.new }
     {
         Ok(Refused::new(self.byte()?)?)
     }
 
-    #[tactic(auto, unfolding(crate::specs::Messages::message_at))]
+    #[tactic(auto, unfolding(crate::specs::Messages::message_field))]
     pub(crate) fn message(&mut self, alloc: Global) -> Result<Message, Refusal>
-        ensures { Reads (λ x. x) (message_at self.old) result self.new }
+        ensures { Reads (λ x. x) (message_field self.old) result self.new }
     {
         match self.byte()? {
             KIND_HELLO => Ok(Message::Hello(self.hello()?)),
@@ -359,16 +359,16 @@ impl<'a> Fields<'a> {
         }
     }
 
-    #[tactic(auto, unfolding(crate::specs::Fields::list_at))]
-    fn list<T: Spelled>(&mut self, alloc: Global) -> Result<Vec<T>, Refusal>
-        ensures { Reads (λ v. v.items) (list_at T.field self.old) result self.new }
+    #[tactic(auto, unfolding(crate::specs::Fields::list_field))]
+    fn list<T: ListItem>(&mut self, alloc: Global) -> Result<Vec<T>, Refusal>
+        ensures { Reads (λ v. v.items) (list_field T.field self.old) result self.new }
     {
         let count = self.u16()?;
         self.times(alloc, count)
     }
 
-    fn times<T: Spelled>(&mut self, alloc: Global, count: u16) -> Result<Vec<T>, Refusal>
-        ensures { Reads (λ v. v.items) (times_at T.field count self.old) result self.new }
+    fn times<T: ListItem>(&mut self, alloc: Global, count: u16) -> Result<Vec<T>, Refusal>
+        ensures { Reads (λ v. v.items) (times_field T.field count self.old) result self.new }
     {
         let mut items = room_for(alloc, count, self.rest)?;
         for _ in 0..count {

@@ -5,10 +5,10 @@ mod decode;
 mod encode;
 mod fields;
 mod lengths;
+mod list_item;
 mod message;
 mod payloads;
 mod refusal;
-mod spelled;
 mod writing;
 
 pub use decode::decode_payload;

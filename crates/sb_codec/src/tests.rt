@@ -103,7 +103,7 @@ fn first_accepted<'a>(
 fn pair(owner: &[u8], version: u64) -> Result<Pair, Fault> {
     Ok(Pair {
         owner: Name::read(owner)?,
-        version,
+        upto: version,
     })
 }
 

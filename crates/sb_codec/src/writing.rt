@@ -8,10 +8,12 @@ ghost use Rattle.sb_types.specs.Limits.{is_slot};
 ghost use Rattle.sb_codec.specs.Limits.{is_optional, is_place};
 ghost use Rattle.sb_codec.specs.Spelling.{number, text, list, flag, value, slot, entry, block, optional, pair, place, row};
 
+use crate::list_item::ListItem;
 use crate::message::Row;
-use crate::spelled::Spelled;
 use sb_digest::Pair;
-use sb_types::{Block, Entry, Key, Name, Slot, TAG_ADDR, TAG_FLAG, TAG_REMOVED, TAG_WEIGHT, Value, ValueRef};
+use sb_types::{
+    Block, Entry, Key, Name, Slot, TAG_ADDR, TAG_FLAG, TAG_REMOVED, TAG_WEIGHT, Value, ValueRef,
+};
 use std::alloc::AllocError;
 
 #[tactic(auto, unfolding(crate::specs::Spelling::number))]
@@ -92,7 +94,7 @@ pub(crate) fn write_block(out: &mut Vec<u8>, written: &Block) -> Result<(), Allo
     write_list(out, written.entries())
 }
 
-pub(crate) fn write_list<T: Spelled>(out: &mut Vec<u8>, items: &[T]) -> Result<(), AllocError>
+pub(crate) fn write_list<T: ListItem>(out: &mut Vec<u8>, items: &[T]) -> Result<(), AllocError>
     requires { length items.now < 65536 }
     ensures { OnOk result (out.new.items ≡ out.old.items ++ list T.spelling items.now) }
 {

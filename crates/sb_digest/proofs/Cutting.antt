@@ -10,10 +10,10 @@ use Rattle.sb_types.specs.Text.{is_name}
 use Rattle.sb_types.specs.Limits.{text_lt}
 use Rattle.sb_holdings.specs.Plain.{is_from}
 use Rattle.sb_digest.specs.Digests.{Pair, digest_of}
-use Rattle.sb_digest.specs.Lengths.{digest_length, frame_length}
+use Rattle.sb_digest.specs.Lengths.{digest_length, digest_frame_length}
 use Rattle.sb_digest.specs.Limits.{are_pairs_above, is_range, is_bound, is_pair, is_digest}
-use Rattle.sb_digest.specs.Fronts.{Front, IsFront, front_of}
-use Rattle.sb_digest.proofs.Longest.{nobody, frame_length-front}
+use Rattle.sb_digest.specs.Builders.{DigestBuilder, IsDigestBuilder, digest_of_first}
+use Rattle.sb_digest.proofs.Longest.{nobody, digest_frame_length-front}
 use Rattle.sb_digest.proofs.Texts.{text_lt-trans, text_le-text_lt}
 
 -- the last is behind each before it
@@ -62,13 +62,13 @@ unended None = refl
 unended (Some from) = refl
 
 -- the pairs so far are a digest, where it is within the budget
-pub whole_is_digest : (want : Bool) (f : Front) → IsFront f → frame_length (digest_of want f.from None f.pairs) ≤ f.budget → is_digest (digest_of want f.from None f.pairs) ≡ true
+pub whole_is_digest : (want : Bool) (f : DigestBuilder) → IsDigestBuilder f → digest_frame_length (digest_of want f.from None f.pairs) ≤ f.budget → is_digest (digest_of want f.from None f.pairs) ≡ true
 whole_is_digest want f is fits =
     and_from _ _ (and_from _ _ (and_from _ _ is.bound refl) is.pairs)
     (and_from _ _ (and_from _ _ (and_from _ _ (unended f.from) is.ascending) (uncut_covered f.from f.pairs is.reached)) (le-leb _ _ (omega (arith, is.most))))
 
 -- and without the last of them they are
-pub front_is_digest : (want : Bool) (f : Front) → IsFront f → 1 < length f.pairs → is_digest (front_of want f.from f.pairs (length f.pairs - 1)) ≡ true
+pub front_is_digest : (want : Bool) (f : DigestBuilder) → IsDigestBuilder f → 1 < length f.pairs → is_digest (digest_of_first want f.from f.pairs (length f.pairs - 1)) ≡ true
 front_is_digest want f is some =
     let count = length f.pairs - 1 in
     let last = get_or f.pairs count nobody in
@@ -76,7 +76,7 @@ front_is_digest want f is some =
     let all : take (count + 1) f.pairs ≡ f.pairs = take_all (count + 1) f.pairs (omega arith) in
     let parted : f.pairs ≡ take count f.pairs ++ last ∷ [] = sym all ∙ take_more f.pairs count nobody inside in
     let end : slice_get f.pairs count ≡ Some last = slice_get-get_or f.pairs count nobody inside in
-    let shorter = frame_length-front want f.from f.pairs count inside in
+    let shorter = digest_frame_length-front want f.from f.pairs count inside in
     let room = leb-true _ _ is.room in
-    let short : digest_length (front_of want f.from f.pairs count) ≤ PAYLOAD_MOST = omega (arith, ap (λ ps. frame_length (digest_of want f.from None ps)) all, is.most) in
+    let short : digest_length (digest_of_first want f.from f.pairs count) ≤ PAYLOAD_MOST = omega (arith, ap (λ ps. digest_frame_length (digest_of want f.from None ps)) all, is.most) in
     rw end (cut_is_digest want f.from (take count f.pairs) last (omega (arith, length-take count f.pairs)) is.bound (subst (λ ps. list_all is_pair ps ≡ true) parted is.pairs) (subst (λ ps. list_all (λ (p : Pair). is_from f.from p.owner) ps ≡ true) parted is.reached) (subst (λ ps. are_pairs_above [] ps ≡ true) parted is.ascending) (rw end at short))

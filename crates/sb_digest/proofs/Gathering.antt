@@ -16,9 +16,9 @@ use Rattle.sb_types.specs.Limits.{text_lt}
 use Rattle.sb_holdings.specs.Held.{Held}
 use Rattle.sb_holdings.specs.Plain.{is_from, tables_from}
 use Rattle.sb_digest.specs.Digests.{Pair, digest_of}
-use Rattle.sb_digest.specs.Lengths.{pair_length, frame_length}
+use Rattle.sb_digest.specs.Lengths.{pair_length, digest_frame_length}
 use Rattle.sb_digest.specs.Limits.{are_pairs_above, is_pair}
-use Rattle.sb_digest.specs.Fronts.{Front, IsFront, IsLongestFront, cut_saves, front_of, with_pair, has_room, comes_next}
+use Rattle.sb_digest.specs.Builders.{DigestBuilder, IsDigestBuilder, IsLongestFront, cut_saves, digest_of_first, with_pair, has_room, comes_next}
 use Rattle.sb_digest.specs.Pairs.{pair_of, pairs_from}
 use Rattle.sb_digest.proofs.Longest.{longest-cut}
 
@@ -51,7 +51,7 @@ owners-pair_of : (ts : List (List ℕ × Table)) → map (λ (p : Pair). p.owner
 owners-pair_of [] = refl
 owners-pair_of (t ∷ ts) = ap (λ names. t.0 ∷ names) (owners-pair_of ts)
 
-module _ (from : Option (List ℕ)) (held : Held) (f : Front) (x : List ℕ × Table) (more : List (List ℕ × Table)) (same : f.from ≡ from) (parted : f.pairs ++ map pair_of (x ∷ more) ≡ pairs_from from held) where
+module _ (from : Option (List ℕ)) (held : Held) (f : DigestBuilder) (x : List ℕ × Table) (more : List (List ℕ × Table)) (same : f.from ≡ from) (parted : f.pairs ++ map pair_of (x ∷ more) ≡ pairs_from from held) where
   pub next-comes : IsStrictlySortedBy (slice_cmp nat_cmp) (keys_of (tables_from from held)) → comes_next f (pair_of x) ≡ true
   next-comes rises =
       let reached : list_all (λ (p : Pair). is_from from p.owner) (f.pairs ++ map pair_of (x ∷ more)) ≡ true = rw parted (all_reached (is_from from) (entries held.owners)) in
@@ -59,12 +59,12 @@ module _ (from : Option (List ℕ)) (held : Held) (f : Front) (x : List ℕ × T
       let names : map (λ (p : Pair). p.owner) (f.pairs ++ map pair_of (x ∷ more)) ≡ keys_of (tables_from from held) = ap (map (λ (p : Pair). p.owner)) parted ∙ owners-pair_of (tables_from from held) in
       and_from _ _ (rw same last.0) (each_before f.pairs x more (rw names rises))
 
-  pub cut-longest : (want : Bool) (budget : ℕ) → f.budget ≡ budget → IsFront f → 0 < length f.pairs → has_room (with_pair f (pair_of x)) ≡ false → IsLongestFront budget want from (pairs_from from held) (front_of want f.from f.pairs (length f.pairs - 1))
+  pub cut-longest : (want : Bool) (budget : ℕ) → f.budget ≡ budget → IsDigestBuilder f → 0 < length f.pairs → has_room (with_pair f (pair_of x)) ≡ false → IsLongestFront budget want from (pairs_from from held) (digest_of_first want f.from f.pairs (length f.pairs - 1))
   cut-longest want budget bound is some full =
-      let room : frame_length (digest_of want f.from None f.pairs) ≤ f.budget + cut_saves = leb-true _ _ is.room in
-      let over : f.budget + cut_saves < frame_length (digest_of want f.from None (f.pairs ++ pair_of x ∷ [])) = leb-false _ _ full in
-      let longest : IsLongestFront f.budget want f.from (f.pairs ++ map pair_of (x ∷ more)) (front_of want f.from f.pairs (length f.pairs - 1)) = longest-cut want f.from f.budget f.pairs (pair_of x) (map pair_of more) some room over in
-      let family : ℕ × Option (List ℕ) → List Pair → Type 0 = λ p ps. IsLongestFront p.0 want p.1 ps (front_of want f.from f.pairs (length f.pairs - 1)) in
+      let room : digest_frame_length (digest_of want f.from None f.pairs) ≤ f.budget + cut_saves = leb-true _ _ is.room in
+      let over : f.budget + cut_saves < digest_frame_length (digest_of want f.from None (f.pairs ++ pair_of x ∷ [])) = leb-false _ _ full in
+      let longest : IsLongestFront f.budget want f.from (f.pairs ++ map pair_of (x ∷ more)) (digest_of_first want f.from f.pairs (length f.pairs - 1)) = longest-cut want f.from f.budget f.pairs (pair_of x) (map pair_of more) some room over in
+      let family : ℕ × Option (List ℕ) → List Pair → Type 0 = λ p ps. IsLongestFront p.0 want p.1 ps (digest_of_first want f.from f.pairs (length f.pairs - 1)) in
       subst (λ ps. family (budget, from) ps) parted (subst (λ o. family (budget, o) (f.pairs ++ map pair_of (x ∷ more))) same (subst (λ n. family (n, f.from) (f.pairs ++ map pair_of (x ∷ more))) bound longest))
 
 behind_nothing : (name : List ℕ) → is_name name ≡ true → text_lt [] name ≡ true
@@ -72,7 +72,7 @@ behind_nothing [] is = absurd (true≢false (sym is))
 behind_nothing (b ∷ bs) is = refl
 
 -- a pair that comes next and has room, laid behind the others
-pub pushed-is : (f : Front) (pair : Pair) (items : List Pair) → IsFront f → is_pair pair ≡ true → comes_next f pair ≡ true → frame_length (digest_of true f.from None f.pairs) + pair_length pair ≤ f.budget + cut_saves → items ≡ f.pairs ++ pair ∷ [] → IsFront (record { budget = f.budget; from = f.from; pairs = items })
+pub pushed-is : (f : DigestBuilder) (pair : Pair) (items : List Pair) → IsDigestBuilder f → is_pair pair ≡ true → comes_next f pair ≡ true → digest_frame_length (digest_of true f.from None f.pairs) + pair_length pair ≤ f.budget + cut_saves → items ≡ f.pairs ++ pair ∷ [] → IsDigestBuilder (record { budget = f.budget; from = f.from; pairs = items })
 pushed-is f pair items is one next room laid =
     let parts = and_parts (is_from f.from pair.owner) _ next in
     let name : is_name pair.owner ≡ true = (and_parts _ _ (and_parts _ _ (and_parts _ _ one).0).0).0 in rw laid record {

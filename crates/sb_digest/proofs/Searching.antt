@@ -9,7 +9,7 @@ use Rattle.std.proofs.lemmas.Bool.{cond-true, cond-false, cases_lt, and_parts}
 use Rattle.std.proofs.lemmas.Cmp.{nat_list_cmp_total}
 use Rattle.std.proofs.lemmas.List.Sorted.{searchable_from_sorted}
 use Rattle.std.proofs.lemmas.Map.Keys.{Less-from_sorted, sorted_tail}
-use Rattle.sb_digest.specs.Digests.{Pair, Digest, pair_at, number}
+use Rattle.sb_digest.specs.Digests.{Pair, Digest, pair_at, held_in}
 use Rattle.sb_digest.specs.Limits.{are_pairs_above, is_range, are_digest_parts, is_digest}
 use Rattle.sb_digest.proofs.Texts.{apart-from_Less, apart-from_Greater, same-from_Equal}
 use Rattle.sb_digest.proofs.Ascending.{by_owner, by_owner_total, rises_from_above}
@@ -49,8 +49,8 @@ above-from_is_digest d is =
     let parts = (and_parts _ (are_digest_parts d) is).1 in
     (and_parts (is_range d.from d.until) _ (and_parts _ _ (and_parts _ _ parts).0).0).1
 
-pub number-found : (d : Digest) (name : List ℕ) (i : ℕ) (p : Pair) → is_digest d ≡ true → IsSearchInRange (Ok i) (length d.pairs) → IsBinarySearchResult (λ p. slice_cmp nat_cmp p.owner name) d.pairs (Ok i) → p ≡ get_or d.pairs i p → number d name ≡ p.held
+pub number-found : (d : Digest) (name : List ℕ) (i : ℕ) (p : Pair) → is_digest d ≡ true → IsSearchInRange (Ok i) (length d.pairs) → IsBinarySearchResult (λ p. slice_cmp nat_cmp p.owner name) d.pairs (Ok i) → p ≡ get_or d.pairs i p → held_in d name ≡ p.held
 number-found d name i p is l same at = ap (λ o. option_map_or (λ (p : Pair). p.held) o 0) (found_at name d.pairs i p (above-from_is_digest d is) l same) ∙ ap (λ (p : Pair). p.held) (sym at)
 
-pub number-missing : (d : Digest) (name : List ℕ) (i : ℕ) → is_digest d ≡ true → IsSearchInRange (Err i) (length d.pairs) → IsBinarySearchResult (λ p. slice_cmp nat_cmp p.owner name) d.pairs (Err i) → number d name ≡ 0
+pub number-missing : (d : Digest) (name : List ℕ) (i : ℕ) → is_digest d ≡ true → IsSearchInRange (Err i) (length d.pairs) → IsBinarySearchResult (λ p. slice_cmp nat_cmp p.owner name) d.pairs (Err i) → held_in d name ≡ 0
 number-missing d name i is l parted = ap (λ o. option_map_or (λ (p : Pair). p.held) o 0) (not_found name d.pairs i (above-from_is_digest d is) l parted)

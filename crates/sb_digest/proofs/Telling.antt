@@ -16,9 +16,9 @@ use Rattle.sb_types.specs.Records.{Holder}
 use Rattle.sb_types.specs.Limits.{text_lt}
 use Rattle.sb_holdings.specs.Held.{Held, nothing, holder_of}
 use Rattle.sb_holdings.specs.Plain.{is_from}
-use Rattle.sb_digest.specs.Digests.{Pair, Digest, is_below, covers, pair_at, number}
-use Rattle.sb_digest.specs.Lengths.{frame_length}
-use Rattle.sb_digest.specs.Fronts.{front_of, IsLongestFront}
+use Rattle.sb_digest.specs.Digests.{Pair, Digest, is_below, covers, pair_at, held_in}
+use Rattle.sb_digest.specs.Lengths.{digest_frame_length}
+use Rattle.sb_digest.specs.Builders.{digest_of_first, IsLongestFront}
 use Rattle.sb_digest.specs.Pairs.{pair_of, pairs_from}
 use Rattle.sb_digest.proofs.Texts.{Less-from_text_lt, apart-from_Less, same-from_pointwise}
 use Rattle.sb_digest.proofs.Ascending.{by_owner}
@@ -26,9 +26,9 @@ use Rattle.sb_digest.proofs.Searching.{missing}
 
 pub one_longest : (budget : ℕ) (want : Bool) (from : Option (List ℕ)) (pairs : List Pair) (a b : Digest) → IsLongestFront budget want from pairs a → IsLongestFront budget want from pairs b → a ≡ b
 one_longest budget want from pairs a b p q = elim (cases_order p.count q.count) [
-  | inl same ↦ p.front ∙ ap (front_of want from pairs) same ∙ sym q.front
-  | inr (inl less) ↦ absurd (omega (arith, p.longest q.count less q.most, q.fits, ap frame_length q.front))
-  | inr (inr more) ↦ absurd (omega (arith, q.longest p.count more p.most, p.fits, ap frame_length p.front))
+  | inl same ↦ p.front ∙ ap (digest_of_first want from pairs) same ∙ sym q.front
+  | inr (inl less) ↦ absurd (omega (arith, p.longest q.count less q.most, q.fits, ap digest_frame_length q.front))
+  | inr (inr more) ↦ absurd (omega (arith, q.longest p.count more p.most, p.fits, ap digest_frame_length p.front))
 ]
 
 -- the owners' entries
@@ -90,7 +90,7 @@ cut_keeps owner [] (suc count) rises below = refl
 cut_keeps owner (p ∷ ps) zero rises below = sym (missing owner (p ∷ ps) (λ k d l. past_end owner p ps k d below rises l))
 cut_keeps owner (p ∷ ps) (suc count) rises below = ap (λ o. cond (pointwise nat_eq p.owner owner) (Some p) o) (cut_keeps owner ps count (sorted_tail by_owner p ps rises) below)
 
-pub number-held : (held : Held) (budget : ℕ) (want : Bool) (from : Option (List ℕ)) (d : Digest) (owner : List ℕ) → IsLongestFront budget want from (pairs_from from held) d → covers d owner ≡ true → number d owner ≡ (holder_of held.owners owner).shown.held
+pub number-held : (held : Held) (budget : ℕ) (want : Bool) (from : Option (List ℕ)) (d : Digest) (owner : List ℕ) → IsLongestFront budget want from (pairs_from from held) d → covers d owner ≡ true → held_in d owner ≡ (holder_of held.owners owner).shown.held
 number-held held budget want from d owner longest covered =
     let ps = pairs_from from held in
     let rises : IsStrictlySortedBy by_owner ps = rises_from_is_sorted _ (is_sorted-where_key (slice_cmp nat_cmp) (is_from from) (entries held.owners) (entries_sorted held.owners)) in

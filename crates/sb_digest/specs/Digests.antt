@@ -40,5 +40,5 @@ abbrev pub pair_at : List ℕ → List Pair → Option Pair
 pair_at owner pairs = find (λ pair. pointwise nat_eq pair.owner owner) pairs
 
 -- the version up to which an owner's writes are held, 0 where the digest does not name it
-abbrev pub number : Digest → List ℕ → ℕ
-number d owner = option_map_or (λ pair. pair.held) (pair_at owner d.pairs) 0
+abbrev pub held_in : Digest → List ℕ → ℕ
+held_in d owner = option_map_or (λ pair. pair.held) (pair_at owner d.pairs) 0

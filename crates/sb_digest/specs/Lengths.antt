@@ -16,5 +16,5 @@ pair_length p = 9 + length p.owner
 abbrev pub digest_length : Digest → ℕ
 digest_length d = 4 + bound_length d.from + bound_length d.until + sum_by pair_length d.pairs
 
-abbrev pub frame_length : Digest → ℕ
-frame_length d = HEADER_LENGTH + digest_length d
+abbrev pub digest_frame_length : Digest → ℕ
+digest_frame_length d = HEADER_LENGTH + digest_length d

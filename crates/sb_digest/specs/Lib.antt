@@ -1,5 +1,5 @@
 pub mod Digests
 pub mod Lengths
 pub mod Limits
-pub mod Fronts
+pub mod Builders
 pub mod Pairs

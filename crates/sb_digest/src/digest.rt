@@ -2,7 +2,7 @@ ghost use Rattle.std.specs.Prelude.{◌≡◌, ◌≤◌, ◌+◌, ◌&&◌, [],
 ghost use Rattle.std.specs.List.{list_all};
 ghost use Rattle.std.specs.Option.{option_copied};
 ghost use Rattle.sb_holdings.specs.Plain.{is_from};
-ghost use Rattle.sb_digest.specs.Digests.{digest_of, is_below, covers, number};
+ghost use Rattle.sb_digest.specs.Digests.{digest_of, is_below, covers, held_in};
 ghost use Rattle.sb_digest.specs.Lengths.{bound_length, pair_length, digest_length};
 ghost use Rattle.sb_digest.specs.Limits.{are_pairs_above, is_range, are_digest_parts, is_bound, is_pair, is_digest};
 
@@ -16,7 +16,7 @@ use std::marker::Model;
 #[derive(Clone, Copy, Debug)]
 pub struct Pair {
     pub owner: Name,
-    pub version: u64,
+    pub upto: u64,
 }
 
 impl Model for Pair {
@@ -27,11 +27,11 @@ impl Model for Pair {
 
     ghost use Rattle.sb_digest.specs.Digests.{plain_pair};
 
-    ghost view = { λ p. plain_pair p.owner p.version };
+    ghost view = { λ p. plain_pair p.owner p.upto };
 
-    ghost invariant = { λ p. p.version < 2 ^ 64 };
+    ghost invariant = { λ p. p.upto < 2 ^ 64 };
 
-    ghost inverse = { λ p. record { owner = p.owner; version = p.held } };
+    ghost inverse = { λ p. record { owner = p.owner; upto = p.held } };
 }
 
 /// How far a node holds the writes of the owners in a range of names: those at or above `from`, and
@@ -284,13 +284,13 @@ impl Digest {
 
     /// The greatest version that is known of the owner, 0 where it has no pair.
     pub fn number(&self, owner: &Name) -> u64
-        ensures { result ≡ number self.now owner.now }
+        ensures { result ≡ held_in self.now owner.now }
     {
         match self
             .pairs
             .binary_search_by_key(owner, |pair| owner_of(pair))
         {
-            Ok(place) => self.pairs[place].version,
+            Ok(place) => self.pairs[place].upto,
             Err(_) => 0,
         }
     }

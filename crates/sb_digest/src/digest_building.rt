@@ -1,10 +1,10 @@
 ghost use Rattle.std.specs.Prelude.{◌≡◌, ◌≤◌, ◌<◌, length, IfOk, IfErr};
 ghost use Rattle.sb_types.specs.declared.fault.Fault.TheVariants.{NoMemory};
-ghost use Rattle.sb_digest.specs.Fronts.{IsLongestFront};
+ghost use Rattle.sb_digest.specs.Builders.{IsLongestFront};
 ghost use Rattle.sb_digest.specs.Pairs.{pairs_from};
 
 use crate::digest::{Digest, Pair};
-use crate::front::Front;
+use crate::digest_builder::DigestBuilder;
 use sb_holdings::Holdings;
 use sb_types::{BUDGET_LEAST, BUDGET_MOST, Fault, Name};
 use std::alloc::Global;
@@ -28,11 +28,11 @@ pub fn build(
     ensures goes { IfOk result (λ digest. 0 < length (pairs_from from holdings.now) → 0 < length digest.pairs) }
     ensures memory { IfErr result (λ fault. fault ≡ NoMemory) }
 {
-    let mut front = Front::new(alloc, from.as_ref(), budget);
+    let mut front = DigestBuilder::new(alloc, from.as_ref(), budget);
     for (owner, table) in holdings.tables_from(from.as_ref()) {
         let pair = Pair {
             owner: *owner,
-            version: table.upto(),
+            upto: table.upto(),
         };
         if !front.push(pair)? {
             return Ok(front.cut(want));

@@ -3,9 +3,9 @@
 ghost use Rattle.std.specs.Prelude.{◌≡◌, ℕ, ◌<◌, ◌^◌, Bool, true, List, length, Option};
 ghost use Rattle.sb_holdings.specs.Held.{Held, shown_of};
 ghost use Rattle.sb_digest.specs.Digests as digests;
-ghost use Rattle.sb_digest.specs.Digests.{covers, number};
+ghost use Rattle.sb_digest.specs.Digests.{covers, held_in};
 ghost use Rattle.sb_digest.specs.Limits.{is_digest};
-ghost use Rattle.sb_digest.specs.Fronts.{IsLongestFront};
+ghost use Rattle.sb_digest.specs.Builders.{IsLongestFront};
 ghost use Rattle.sb_digest.specs.Pairs.{pairs_from};
 
 /// A digest has so few pairs that two bytes hold how many there are.
@@ -24,5 +24,5 @@ pub fn one_front_is_longest()
 pub fn digests_are_true()
     ensures { (held : Held) (budget : ℕ) (want : Bool) (from : Option (List ℕ)) (d : digests.Digest) (owner : List ℕ) →
         IsLongestFront budget want from (pairs_from from held) d → covers d owner ≡ true →
-        number d owner ≡ (shown_of held owner).held }
+        held_in d owner ≡ (shown_of held owner).held }
 {}

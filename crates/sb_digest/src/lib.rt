@@ -2,8 +2,8 @@
 #![tactic(auto)]
 
 mod digest;
+mod digest_builder;
 mod digest_building;
-mod front;
 mod laws;
 
 pub use digest::{Digest, Pair};

@@ -14,7 +14,7 @@ fn gathered(alloc: Global, owners: &[Name]) -> Result<Vec<Pair>, Fault> {
     for (version, owner) in (1..).zip(owners) {
         pairs.push(Pair {
             owner: *owner,
-            version,
+            upto: version,
         })?;
     }
     Ok(pairs)
@@ -154,7 +154,7 @@ fn a_new_node_tells_of_itself(rt: HostRuntime) -> Result<(), Fail> {
         digest
             .pairs()
             .iter()
-            .all(|pair| pair.owner == a && pair.version == 0)
+            .all(|pair| pair.owner == a && pair.upto == 0)
     );
 
     let rest = asked(alloc, &holdings, Some(&b), 256)?;
@@ -227,7 +227,7 @@ fn a_node_with_a_write_answers(rt: HostRuntime) -> Result<(), Fail> {
         digest
             .pairs()
             .iter()
-            .all(|pair| pair.owner == b && pair.version == 1)
+            .all(|pair| pair.owner == b && pair.upto == 1)
     );
     Ok(())
 }

@@ -14,8 +14,8 @@ use Rattle.sb_types.specs.declared.format.TheConstants.{FRAME_MARK, FRAME_VERSIO
 use Rattle.sb_types.specs.declared.limits.TheConstants.{PAYLOAD_MOST}
 use Rattle.sb_codec.specs.declared.message.Message.{Message}
 use Rattle.sb_codec.specs.Spelling.{number}
-use Rattle.sb_codec.specs.Fields.{Field, byte_at, number_at, bytes_at, whole as whole_field}
-use Rattle.sb_codec.specs.Messages.{spelling, is_message, Spells, is_kind, fault_of, message_at, reading}
+use Rattle.sb_codec.specs.Fields.{Field, byte_field, number_field, bytes_field, whole as whole_field}
+use Rattle.sb_codec.specs.Messages.{spelling, is_message, Spells, is_kind, fault_of, message_field, reading}
 use Rattle.sb_codec.proofs.Taken.{AreBytes, IsWide, byte_takes, bytes_takes, number_takes}
 use Rattle.sb_codec.proofs.Again.{bytes_again, number_again}
 use Rattle.sb_codec.proofs.Laws.{is_spelled, is_found, is_read}
@@ -35,16 +35,16 @@ fits_length count fits = let parts = and_parts _ _ fits in (leb-true _ _ parts.0
 -- ---- a payload behind its header
 
 pub front_framed : (payload rest : List ℕ) → is_payload_length (length payload) ≡ true → front_of (framed payload ++ rest) ≡ front_of_payload payload rest
-unfolding framed front_of byte_at
+unfolding framed front_of byte_field
 front_framed payload rest fits =
     let short : length payload < 2 ^ 32 = omega (arith, (fits_length (length payload) fits).1) in
-    let count : number_at w32 (number w32 (length payload) ++ payload ++ rest) ≡ Some (length payload, payload ++ rest) =
+    let count : number_field w32 (number w32 (length payload) ++ payload ++ rest) ≡ Some (length payload, payload ++ rest) =
     rw append_assoc ((number_again wide32 (length payload) short).read (payload ++ rest)) in
-    let all : bytes_at (length payload) (payload ++ rest) ≡ Some (payload, rest) = (bytes_again payload (length payload) refl).read rest in
+    let all : bytes_field (length payload) (payload ++ rest) ≡ Some (payload, rest) = (bytes_again payload (length payload) refl).read rest in
     rw (count, fits, all) refl
 
 reading_nothing : reading [] ≡ Err (UnknownKind 0)
-unfolding reading message_at byte_at
+unfolding reading message_field byte_field
 reading_nothing = refl
 
 pub length_fits : (count : ℕ) → 1 ≤ count → count ≤ PAYLOAD_MOST → is_payload_length count ≡ true
@@ -75,23 +75,23 @@ front_frame m rest fits =
 -- ---- the stages, one by one
 
 pub before_mark : (bytes : List ℕ) → length bytes ≡ 0 → front_of bytes ≡ short
-unfolding front_of byte_at
+unfolding front_of byte_field
 before_mark bytes none = rw (nil_from_length bytes none) refl
 
 pub wrong_mark : (bytes more : List ℕ) (mark : ℕ) → bytes ≡ mark ∷ more → mark ≢ FRAME_MARK → front_of bytes ≡ bad BadMark
-unfolding front_of byte_at
+unfolding front_of byte_field
 wrong_mark bytes more mark e ne = rw (e, ne_eqb mark FRAME_MARK ne) refl
 
 pub before_version : (bytes more : List ℕ) → bytes ≡ FRAME_MARK ∷ more → length more ≡ 0 → front_of bytes ≡ short
-unfolding front_of byte_at
+unfolding front_of byte_field
 before_version bytes more e none = rw (e, nil_from_length more none) refl
 
 pub wrong_version : (bytes more : List ℕ) (version : ℕ) → bytes ≡ FRAME_MARK ∷ version ∷ more → version ≢ FRAME_VERSION → front_of bytes ≡ bad BadVersion
-unfolding front_of byte_at
+unfolding front_of byte_field
 wrong_version bytes more version e ne = rw (e, ne_eqb version FRAME_VERSION ne) refl
 
 pub before_length : (bytes more : List ℕ) → bytes ≡ FRAME_MARK ∷ FRAME_VERSION ∷ more → length more < 4 → front_of bytes ≡ short
-unfolding front_of byte_at number_at bytes_at
+unfolding front_of byte_field number_field bytes_field
 before_length bytes more e few = rw (e, lt-ltb (length more) 4 few) refl
 
 -- the mark and the version are there, and behind them the four bytes of a length
@@ -106,14 +106,14 @@ has_length bytes more count rest e front back len = record {
 }
 
 at_length : (bytes count rest : List ℕ) (n : ℕ) → HasLength bytes count rest → n ≡ from_be_bytes w32 count → front_of bytes ≡ front_after_length n rest
-unfolding front_of byte_at number_at
+unfolding front_of byte_field number_field
 at_length bytes count rest n has is = rw (has.laid, (bytes_again count 4 has.four).read rest, is) refl
 
 pub wrong_length : (bytes count rest : List ℕ) (n : ℕ) → HasLength bytes count rest → n ≡ from_be_bytes w32 count → (n ≡ 0) ⊎ ((n ≢ 0) × (PAYLOAD_MOST < n)) → front_of bytes ≡ bad BadLength
 wrong_length bytes count rest n has is out = rw (at_length bytes count rest n has is, length_out n out) refl
 
 pub before_payload : (bytes count rest : List ℕ) (n : ℕ) → HasLength bytes count rest → n ≡ from_be_bytes w32 count → 1 ≤ n → n ≤ PAYLOAD_MOST → length rest < n → front_of bytes ≡ short
-unfolding bytes_at
+unfolding bytes_field
 before_payload bytes count rest n has is some most few = rw (at_length bytes count rest n has is, length_fits n some most, lt-ltb (length rest) n few) refl
 
 behind : (bytes front rest : List ℕ) → bytes ≡ front ++ rest → AreBytes bytes → AreBytes rest
@@ -162,29 +162,29 @@ read_whole : (r : Result Message Fault) (rest : List ℕ) (m : Message) (more : 
 read_whole (Ok x) rest m more e = (cc, cc)
 read_whole (Err fault) rest m more e = absurd cc
 
-whole_payload : (count : ℕ) (bytes : List ℕ) (m : Message) (rest : List ℕ) → AreBytes bytes → once (bytes_at count bytes) front_of_payload ≡ whole m rest
+whole_payload : (count : ℕ) (bytes : List ℕ) (m : Message) (rest : List ℕ) → AreBytes bytes → once (bytes_field count bytes) front_of_payload ≡ whole m rest
     → (is_message m ≡ true) × (length (spelling m) ≡ count) × (bytes ≡ spelling m ++ rest)
 whole_payload count bytes m rest are e =
-    let one = once_whole (bytes_at count bytes) front_of_payload m rest e in
+    let one = once_whole (bytes_field count bytes) front_of_payload m rest e in
     let read = read_whole (reading one.0) one.1 m rest one.3 in
     let cut = (bytes_takes count).parts bytes one.0 one.1 are one.2 in
     let spells = is_found one.0 m cut.0.1 read.0 in
     (spells.limits, sym (ap length spells.bytes) ∙ cut.0.0, cut.1 ∙ rw (spells.bytes, read.1) refl)
 
-whole_length : (bytes : List ℕ) (m : Message) (rest : List ℕ) → AreBytes bytes → once (number_at w32 bytes) front_after_length ≡ whole m rest
+whole_length : (bytes : List ℕ) (m : Message) (rest : List ℕ) → AreBytes bytes → once (number_field w32 bytes) front_after_length ≡ whole m rest
     → (is_message m ≡ true) × (bytes ≡ number w32 (length (spelling m)) ++ spelling m ++ rest)
 whole_length bytes m rest are e =
-    let one = once_whole (number_at w32 bytes) front_after_length m rest e in
-    let fits = chosen_whole (is_payload_length one.0) (once (bytes_at one.0 one.1) front_of_payload) BadLength m rest one.3 in
+    let one = once_whole (number_field w32 bytes) front_after_length m rest e in
+    let fits = chosen_whole (is_payload_length one.0) (once (bytes_field one.0 one.1) front_of_payload) BadLength m rest one.3 in
     let cut = ((number_takes wide32).parts bytes one.0 one.1 are one.2).1 in
     let back = whole_payload one.0 one.1 m rest (behind bytes (number w32 one.0) one.1 cut are) fits.1 in
     (back.0, cut ∙ ap (λ (x : List ℕ). number w32 one.0 ++ x) back.2 ∙ sym (append_assoc (number w32 one.0) (spelling m) rest) ∙ ap (λ n. number w32 n ++ spelling m ++ rest) (sym back.1))
 
-whole_version : (bytes : List ℕ) (m : Message) (rest : List ℕ) → AreBytes bytes → once (byte_at bytes) front_after_version ≡ whole m rest
+whole_version : (bytes : List ℕ) (m : Message) (rest : List ℕ) → AreBytes bytes → once (byte_field bytes) front_after_version ≡ whole m rest
     → (is_message m ≡ true) × (bytes ≡ FRAME_VERSION ∷ (number w32 (length (spelling m)) ++ spelling m ++ rest))
 whole_version bytes m rest are e =
-    let one = once_whole (byte_at bytes) front_after_version m rest e in
-    let fits = chosen_whole (one.0 == FRAME_VERSION) (once (number_at w32 one.1) front_after_length) BadVersion m rest one.3 in
+    let one = once_whole (byte_field bytes) front_after_version m rest e in
+    let fits = chosen_whole (one.0 == FRAME_VERSION) (once (number_field w32 one.1) front_after_length) BadVersion m rest one.3 in
     let cut = (byte_takes.parts bytes one.0 one.1 are one.2).1 in
     let back = whole_length one.1 m rest (behind bytes (one.0 ∷ []) one.1 cut are) fits.1 in
     (back.0, cut ∙ ap (λ n. n ∷ one.1) (eqb-true one.0 FRAME_VERSION fits.0) ∙ ap (λ (x : List ℕ). FRAME_VERSION ∷ x) back.1)
@@ -192,8 +192,8 @@ whole_version bytes m rest are e =
 pub whole_frame : (bytes : List ℕ) (m : Message) (rest : List ℕ) → AreBytes bytes → front_of bytes ≡ whole m rest → Leads bytes m rest
 unfolding front_of frame framed
 whole_frame bytes m rest are e =
-    let one = once_whole (byte_at bytes) front_after_mark m rest e in
-    let fits = chosen_whole (one.0 == FRAME_MARK) (once (byte_at one.1) front_after_version) BadMark m rest one.3 in
+    let one = once_whole (byte_field bytes) front_after_mark m rest e in
+    let fits = chosen_whole (one.0 == FRAME_MARK) (once (byte_field one.1) front_after_version) BadMark m rest one.3 in
     let cut = (byte_takes.parts bytes one.0 one.1 are one.2).1 in
     let back = whole_version one.1 m rest (behind bytes (one.0 ∷ []) one.1 cut are) fits.1 in
     record { limits = back.0; laid = cut ∙ ap (λ n. n ∷ one.1) (eqb-true one.0 FRAME_MARK fits.0) ∙ ap (λ (x : List ℕ). FRAME_MARK ∷ x) back.1 }
@@ -269,15 +269,15 @@ reading_known (Some m) payload rest = tt
 
 payload_known : (payload rest : List ℕ) → NotMemory (front_of_payload payload rest)
 unfolding reading
-payload_known payload rest = reading_known (whole_field message_at payload) payload rest
+payload_known payload rest = reading_known (whole_field message_field payload) payload rest
 
 front_known : (bytes : List ℕ) → NotMemory (front_of bytes)
 unfolding front_of
 front_known bytes =
-    once_known (byte_at bytes) front_after_mark (λ mark bytes. chosen_known (mark == FRAME_MARK) _ BadMark
-    (once_known (byte_at bytes) front_after_version (λ version bytes. chosen_known (version == FRAME_VERSION) _ BadVersion
-    (once_known (number_at w32 bytes) front_after_length (λ count bytes. chosen_known (is_payload_length count) _ BadLength
-    (once_known (bytes_at count bytes) front_of_payload payload_known) (λ e. absurd cc))) (λ e. absurd cc))) (λ e. absurd cc))
+    once_known (byte_field bytes) front_after_mark (λ mark bytes. chosen_known (mark == FRAME_MARK) _ BadMark
+    (once_known (byte_field bytes) front_after_version (λ version bytes. chosen_known (version == FRAME_VERSION) _ BadVersion
+    (once_known (number_field w32 bytes) front_after_length (λ count bytes. chosen_known (is_payload_length count) _ BadLength
+    (once_known (bytes_field count bytes) front_of_payload payload_known) (λ e. absurd cc))) (λ e. absurd cc))) (λ e. absurd cc))
 
 pub not_for_memory : (bytes : List ℕ) (fault : Fault) → front_of bytes ≡ bad fault → fault ≢ NoMemory
 not_for_memory bytes fault e = subst NotMemory e (front_known bytes)
@@ -295,18 +295,18 @@ some_parts (Some x) n rest e = let same = some_pair_parts (from_be_bytes w32 x.0
 record Stays {A : Type 0} (field : Field A) : Type 0 where
   pub more : (bytes : List ℕ) (x : A) (rest more : List ℕ) → field bytes ≡ Some (x, rest) → field (bytes ++ more) ≡ Some (x, rest ++ more)
 
-byte_stays : Stays byte_at
-unfolding byte_at
+byte_stays : Stays byte_field
+unfolding byte_field
 byte_stays = record {
   more = λ bytes x rest more e.
-      elim bytes as (λ bytes. byte_at bytes ≡ Some (x, rest) → byte_at (bytes ++ more) ≡ Some (x, rest ++ more)) [
+      elim bytes as (λ bytes. byte_field bytes ≡ Some (x, rest) → byte_field (bytes ++ more) ≡ Some (x, rest ++ more)) [
         | [] ↦ λ e. absurd cc
         | byte ∷ others ↦ λ e. let same = some_pair_parts byte x others rest e in rw (same.0, same.1) refl
       ] e;
 }
 
-bytes_stay : (count : ℕ) → Stays (bytes_at count)
-unfolding bytes_at
+bytes_stay : (count : ℕ) → Stays (bytes_field count)
+unfolding bytes_field
 bytes_stay count = record {
   more = λ bytes x rest more e.
       let cut = not_none (ltb (length bytes) count) (take count bytes) x (drop count bytes) rest e in
@@ -315,11 +315,11 @@ bytes_stay count = record {
       rw (still, take-append-le count bytes more long, drop-append-le count bytes more long, cut.1, cut.2) refl;
 }
 
-number_stays : Stays (number_at w32)
-unfolding number_at
+number_stays : Stays (number_field w32)
+unfolding number_field
 number_stays = record {
   more = λ bytes x rest more e.
-      let found = some_parts (bytes_at 4 bytes) x rest e in
+      let found = some_parts (bytes_field 4 bytes) x rest e in
       rw ((bytes_stay 4).more bytes found.0 rest more found.1, found.2) refl;
 }
 

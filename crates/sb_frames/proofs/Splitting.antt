@@ -9,7 +9,7 @@ use Rattle.sb_codec.specs.declared.message.Message.{Message}
 use Rattle.sb_codec.specs.Messages.{spelling, is_message}
 use Rattle.sb_frames.specs.Frames.{frame, Front, short, whole, bad, front_of, Extends}
 use Rattle.sb_frames.specs.Streams.{Stream, open_with, shut, Splits}
-use Rattle.sb_frames.specs.Runs.{Call, feed, next, Run, fed, taken, IsLeft, IsSpent, Accounts}
+use Rattle.sb_frames.specs.Runs.{Call, feed, next, Run, bytes_fed, messages_taken, IsLeft, IsSpent, Accounts}
 use Rattle.sb_frames.proofs.Fronts.{length-framed, fits_length, spelling_fits, front_frame, front_extends}
 
 pub length-frame : (m : Message) → length (frame m) ≡ HEADER_LENGTH + length (spelling m)
@@ -61,7 +61,7 @@ one_reading stream (m ∷ ms) (n ∷ ns) rest more one two =
 
 -- ---- any calls
 
-nothing_more : (calls : List Call) (new : Stream) → Run shut calls new → (new ≡ shut) × (fed calls ≡ []) × (taken calls ≡ [])
+nothing_more : (calls : List Call) (new : Stream) → Run shut calls new → (new ≡ shut) × (bytes_fed calls ≡ []) × (messages_taken calls ≡ [])
 nothing_more [] new run = (run, refl, refl)
 nothing_more (feed piece (Ok done) ∷ calls) new run = absurd cc
 nothing_more (feed piece (Err fault) ∷ calls) new run = nothing_more calls new (subst (λ s. Run s calls new) run.1.1 run.2)
@@ -69,18 +69,18 @@ nothing_more (next (Ok (Some m)) ∷ calls) new run = absurd cc
 nothing_more (next (Ok None) ∷ calls) new run = absurd cc
 nothing_more (next (Err fault) ∷ calls) new run = nothing_more calls new (subst (λ s. Run s calls new) run.1.1 run.2)
 
-accounted : (held : List ℕ) (calls : List Call) (new : Stream) → Run (open_with held) calls new → Accounts (held ++ fed calls) (taken calls) new
+accounted : (held : List ℕ) (calls : List Call) (new : Stream) → Run (open_with held) calls new → Accounts (held ++ bytes_fed calls) (messages_taken calls) new
 accounted held [] new run = record { rest = held; whole = append-nil held; each = refl; left = subst (IsLeft held) (sym run) refl }
 accounted held (feed piece (Ok done) ∷ calls) new run =
     let more = accounted (held ++ piece) calls new (subst (λ s. Run s calls new) run.1 run.2) in
-    record { rest = more.rest; whole = sym (append_assoc held piece (fed calls)) ∙ more.whole; each = more.each; left = more.left }
+    record { rest = more.rest; whole = sym (append_assoc held piece (bytes_fed calls)) ∙ more.whole; each = more.each; left = more.left }
 accounted held (feed piece (Err fault) ∷ calls) new run = accounted held calls new (subst (λ s. Run s calls new) run.1.1 run.2)
 accounted held (next (Ok (Some m)) ∷ calls) new run =
     let hands = run.1 in
     let more = accounted hands.rest calls new (subst (λ s. Run s calls new) hands.left run.2) in
     record {
       rest = more.rest;
-      whole = ap (λ (x : List ℕ). x ++ fed calls) hands.leads.laid ∙ append_assoc (frame m) hands.rest (fed calls) ∙ ap (λ (x : List ℕ). frame m ++ x) more.whole ∙ sym (append_assoc (frame m) (flat_map frame (taken calls)) more.rest);
+      whole = ap (λ (x : List ℕ). x ++ bytes_fed calls) hands.leads.laid ∙ append_assoc (frame m) hands.rest (bytes_fed calls) ∙ ap (λ (x : List ℕ). frame m ++ x) more.whole ∙ sym (append_assoc (frame m) (flat_map frame (messages_taken calls)) more.rest);
       each = rw (hands.leads.limits, more.each) refl;
       left = more.left;
     }
@@ -93,7 +93,7 @@ accounted held (next (Err fault) ∷ calls) new run =
       | inr memory ↦ accounted held calls new (subst (λ s. Run s calls new) memory.2 run.2)
     ]
 
-pub any_calls : (calls : List Call) (new : Stream) → Run (open_with []) calls new → Accounts (fed calls) (taken calls) new
+pub any_calls : (calls : List Call) (new : Stream) → Run (open_with []) calls new → Accounts (bytes_fed calls) (messages_taken calls) new
 any_calls calls new run = accounted [] calls new run
 
 not_first : (front : Front) (rest : List ℕ) → front_of rest ≡ front → ((m : Message) (more : List ℕ) → front ≢ whole m more) → (m : Message) (more : List ℕ) → is_message m ≡ true → rest ≢ frame m ++ more
@@ -103,7 +103,7 @@ left_partial : (rest : List ℕ) (new : Stream) → IsLeft rest new → IsSpent 
 left_partial rest (open_with held) left spent = not_first short rest (ap front_of (sym left) ∙ spent) (λ m more e. absurd cc)
 left_partial rest shut left spent = not_first (bad left.0) rest left.1 (λ m more e. absurd cc)
 
-pub all_taken : (calls : List Call) (new : Stream) → Run (open_with []) calls new → IsSpent new → (rest : List ℕ) × IsLeft rest new × Splits (fed calls) (taken calls) rest
+pub all_taken : (calls : List Call) (new : Stream) → Run (open_with []) calls new → IsSpent new → (rest : List ℕ) × IsLeft rest new × Splits (bytes_fed calls) (messages_taken calls) rest
 all_taken calls new run spent =
     let all = accounted [] calls new run in
     (all.rest, all.left, record { whole = all.whole; each = all.each; partial = left_partial all.rest new all.left spent })

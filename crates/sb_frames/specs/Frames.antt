@@ -8,7 +8,7 @@ use Rattle.sb_types.specs.declared.limits.TheConstants.{PAYLOAD_MOST}
 use Rattle.sb_types.specs.Text.{is_between}
 use Rattle.sb_codec.specs.declared.message.Message.{Message}
 use Rattle.sb_codec.specs.Spelling.{number}
-use Rattle.sb_codec.specs.Fields.{byte_at, number_at, bytes_at}
+use Rattle.sb_codec.specs.Fields.{byte_field, number_field, bytes_field}
 use Rattle.sb_codec.specs.Messages.{spelling, is_message, is_kind, reading}
 
 -- the mark, the version and the payload's length, and the payload
@@ -60,17 +60,17 @@ abbrev pub front_of_payload : List ℕ → List ℕ → Front
 front_of_payload payload rest = front_by (reading payload) rest
 
 abbrev pub front_after_length : ℕ → List ℕ → Front
-front_after_length count bytes = if is_payload_length count then once (bytes_at count bytes) front_of_payload else bad BadLength
+front_after_length count bytes = if is_payload_length count then once (bytes_field count bytes) front_of_payload else bad BadLength
 
 abbrev pub front_after_version : ℕ → List ℕ → Front
-front_after_version version bytes = if version == FRAME_VERSION then once (number_at w32 bytes) front_after_length else bad BadVersion
+front_after_version version bytes = if version == FRAME_VERSION then once (number_field w32 bytes) front_after_length else bad BadVersion
 
 abbrev pub front_after_mark : ℕ → List ℕ → Front
-front_after_mark mark bytes = if mark == FRAME_MARK then once (byte_at bytes) front_after_version else bad BadMark
+front_after_mark mark bytes = if mark == FRAME_MARK then once (byte_field bytes) front_after_version else bad BadMark
 
 -- The mark is looked at as soon as it has come, then the version, the length and the payload.
 unfoldable pub front_of : List ℕ → Front
-front_of bytes = once (byte_at bytes) front_after_mark
+front_of bytes = once (byte_field bytes) front_after_mark
 
 -- what stands at the front once more bytes have come: only what was too short may become something else
 abbrev pub Extends : Front → List ℕ → Front → Type 0

@@ -19,17 +19,17 @@ Run old (feed piece answer ∷ calls) new = (mid : Stream) × Feeds old piece an
 Run old (next answer ∷ calls) new = (mid : Stream) × TakesNext old answer mid × Run mid calls new
 
 -- the bytes that were fed
-abbrev pub fed : List Call → List ℕ
-fed [] = []
-fed (feed piece (Ok done) ∷ calls) = piece ++ fed calls
-fed (feed piece (Err fault) ∷ calls) = fed calls
-fed (next answer ∷ calls) = fed calls
+abbrev pub bytes_fed : List Call → List ℕ
+bytes_fed [] = []
+bytes_fed (feed piece (Ok done) ∷ calls) = piece ++ bytes_fed calls
+bytes_fed (feed piece (Err fault) ∷ calls) = bytes_fed calls
+bytes_fed (next answer ∷ calls) = bytes_fed calls
 
 -- the messages that were taken out
-abbrev pub taken : List Call → List Message
-taken [] = []
-taken (next (Ok (Some message)) ∷ calls) = message ∷ taken calls
-taken (_ ∷ calls) = taken calls
+abbrev pub messages_taken : List Call → List Message
+messages_taken [] = []
+messages_taken (next (Ok (Some message)) ∷ calls) = message ∷ messages_taken calls
+messages_taken (_ ∷ calls) = messages_taken calls
 
 -- the rest is held; or, where no more is, it begins with a faulty frame
 abbrev pub IsLeft : List ℕ → Stream → Type 0

@@ -6,7 +6,7 @@ ghost use Rattle.sb_codec.specs.declared.message.Message.{Message};
 ghost use Rattle.sb_codec.specs.Messages.{spelling, is_message};
 ghost use Rattle.sb_frames.specs.Frames.{frame, short, whole, bad, front_of, Leads, Extends};
 ghost use Rattle.sb_frames.specs.Streams.{Stream, open_with, Splits};
-ghost use Rattle.sb_frames.specs.Runs.{Call, Run, fed, taken, IsLeft, IsSpent, Accounts};
+ghost use Rattle.sb_frames.specs.Runs.{Call, Run, bytes_fed, messages_taken, IsLeft, IsSpent, Accounts};
 
 use sb_types::{BUDGET_MOST, HEADER_LENGTH};
 
@@ -55,7 +55,7 @@ pub fn streams_have_one_reading()
 /// they are the messages of the one reading of those bytes.
 pub fn pieces_do_not_matter()
     ensures accounts { (calls : List Call) (new : Stream) → Run (open_with []) calls new →
-        Accounts (fed calls) (taken calls) new }
+        Accounts (bytes_fed calls) (messages_taken calls) new }
     ensures splits { (calls : List Call) (new : Stream) → Run (open_with []) calls new → IsSpent new →
-        (rest : List ℕ) × IsLeft rest new × Splits (fed calls) (taken calls) rest }
+        (rest : List ℕ) × IsLeft rest new × Splits (bytes_fed calls) (messages_taken calls) rest }
 {}

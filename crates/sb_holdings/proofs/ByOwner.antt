@@ -95,7 +95,7 @@ IsHoldings-alone me table plain =
       each = λ owner. subst (λ (o : Option Holder). IfSome o IsPlainHolder) (sym (got owner))
           (cond_both (is_at (by_text owner) me) (Some table) None (λ (o : Option Table). IfSome (option_map alone o) IsPlainHolder) (λ _. record { shown = plain; stage = refl }) (λ _. tt));
       others = λ owner apart. subst (λ (o : Option Holder). IfSome o (λ holder. 0 < length holder.shown.entries)) (sym (got owner ∙ ap (λ (b : Bool). option_map alone (cond b (Some table) None)) (sym (texts_ties owner me) ∙ apart))) tt;
-      few = omega (arith, len-held_of me tables up);
+      limit = omega (arith, len-held_of me tables up);
     }
 
 -- ---- the tables from an owner on

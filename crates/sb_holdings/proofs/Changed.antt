@@ -23,7 +23,7 @@ use Rattle.sb_holdings.proofs.ByOwner.{by_text, Ascend, found, get-held_of}
 -- ---- what is held of an owner
 
 empty-plain : IsPlainTable nothing.shown
-empty-plain = record { run = record { ascending = refl; most = omega arith; distinct = refl }; floor = refl; last = refl; few = omega arith }
+empty-plain = record { run = record { ascending = refl; most = omega arith; distinct = refl }; floor = refl; last = refl; limit = omega arith }
 
 plain_or_nothing : (o : Option Holder) → IfSome o IsPlainHolder → (unwrap_or o nothing ≡ alone (unwrap_or o nothing).shown) × IsPlainTable (unwrap_or o nothing).shown
 plain_or_nothing None is = (refl, empty-plain)
@@ -76,8 +76,8 @@ module _ (held : Held) (owner : List ℕ) (t : Table) (some : 0 < length t.entri
             (cond_both (eq_by_cmp by_text q owner) (Some (alone t)) (get held.owners q) (λ (o : Option Holder). IfSome o IsPlainHolder) (λ _. record { shown = plain; stage = refl }) (λ _. is.each q));
         others = λ q apart. subst (λ (o : Option Holder). IfSome o (λ h. 0 < length h.shown.entries)) (sym (got q))
             (cond_both (eq_by_cmp by_text q owner) (Some (alone t)) (get held.owners q) (λ (o : Option Holder). IfSome o (λ h. 0 < length h.shown.entries)) (λ _. some) (λ _. is.others q apart));
-        few = subst (λ (n : ℕ). n ≤ OWNERS_MOST) (sym (len-insert nat_list_cmp_total held.owners owner (alone t)))
-            (cond_both (contains_key held.owners owner) (len held.owners) (len held.owners + 1) (λ (n : ℕ). n ≤ OWNERS_MOST) (λ _. is.few)
+        limit = subst (λ (n : ℕ). n ≤ OWNERS_MOST) (sym (len-insert nat_list_cmp_total held.owners owner (alone t)))
+            (cond_both (contains_key held.owners owner) (len held.owners) (len held.owners + 1) (λ (n : ℕ). n ≤ OWNERS_MOST) (λ _. is.limit)
             (λ unknown. omega (arith, ltb-true (len held.owners) OWNERS_MOST (sym (ap (λ b. b || nat_lt (len held.owners) OWNERS_MOST) unknown) ∙ place))));
       })
 

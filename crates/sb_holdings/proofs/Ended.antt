@@ -13,8 +13,8 @@ use Rattle.sb_holdings.specs.declared.ends.BlockEnd.TheVariants.{Own, OwnAhead, 
 use Rattle.sb_holdings.specs.Blocks.{part_above, front}
 use Rattle.sb_holdings.specs.Shown.{joins_shown, joined, shown_with}
 use Rattle.sb_holdings.specs.Stages.{staged_all, staged_front, staged_refused}
-use Rattle.sb_holdings.specs.Taken.{routed, treat}
-use Rattle.sb_holdings.specs.Held.{Held, shown_of, with_owner, taken, treated}
+use Rattle.sb_holdings.specs.Taken.{routed, holder_after_block}
+use Rattle.sb_holdings.specs.Held.{Held, shown_of, with_owner, held_after_taking, held_after_block}
 use Rattle.sb_holdings.specs.Plain.{alone, with_entries, with_entered, IsHoldings}
 use Rattle.sb_holdings.specs.Ends.{is_own, JoinsOn, Enters, entered_count}
 use Rattle.sb_holdings.proofs.Order.{least, lower, run_above}
@@ -72,51 +72,51 @@ module _ (t : Table) (plain : IsPlainTable t) where
         and_from _ _ (le-leb b.floor t.held (omega (arith, is.floor))) (and_from _ _ (le-leb b.after t.held after) (lt-ltb t.held b.upto more)) in
         cond-true (joins_shown t b) (shown_with (alone t) p) _ joins ∙ ap alone (joined-plain p (floor ∙ is.floor) upto)
 
-    pub treat-entered : (end : BlockEnd) → Enters t.entries (above t.held b.entries) end → treat (alone t) b end ≡ alone (with_entries t (take (entered_count end) (above t.held b.entries)))
-    treat-entered Own e = absurd e
-    treat-entered (OwnAhead upto) e = absurd e
-    treat-entered Gap e = absurd e
-    treat-entered Stale e = absurd e
-    treat-entered OwnersFull e = absurd e
-    treat-entered (Taken n) e =
+    pub holder_after_block-entered : (end : BlockEnd) → Enters t.entries (above t.held b.entries) end → holder_after_block (alone t) b end ≡ alone (with_entries t (take (entered_count end) (above t.held b.entries)))
+    holder_after_block-entered Own e = absurd e
+    holder_after_block-entered (OwnAhead upto) e = absurd e
+    holder_after_block-entered Gap e = absurd e
+    holder_after_block-entered Stale e = absurd e
+    holder_after_block-entered OwnersFull e = absurd e
+    holder_after_block-entered (Taken n) e =
         let new = above t.held b.entries in
         let upto : b.upto ≡ last_version t.held new = is.upto ∙ sym (last_version-above b.after t.held b.entries is.ascending (omega (arith, is.upto)) after) in
         shown (part_above t.held b) (staged_all (alone t) b) refl upto ∙ ap (λ (es : List Entry). alone (with_entries t es)) (sym (take_all n new (omega arith)))
-    treat-entered (TooManyKeys n) e = shown (front n (part_above t.held b)) (staged_front n (alone t) b) refl refl
-    treat-entered (NoMemory n) e = shown (front n (part_above t.held b)) (staged_refused n (alone t) b) refl refl
+    holder_after_block-entered (TooManyKeys n) e = shown (front n (part_above t.held b)) (staged_front n (alone t) b) refl refl
+    holder_after_block-entered (NoMemory n) e = shown (front n (part_above t.held b)) (staged_refused n (alone t) b) refl refl
 
 -- ---- all owners
 
 taken-entered : (held : Held) (b : Block) (end : BlockEnd) → IsHoldings held → IsPlainBlock b → JoinsOn held b → Enters (shown_of held b.owner).entries (above (shown_of held b.owner).held b.entries) end →
-    taken held b end ≡ with_owner held b.owner (alone (with_entries (shown_of held b.owner) (take (entered_count end) (above (shown_of held b.owner).held b.entries))))
+    held_after_taking held b end ≡ with_owner held b.owner (alone (with_entries (shown_of held b.owner) (take (entered_count end) (above (shown_of held b.owner).held b.entries))))
 taken-entered held b end is plain joins enters =
     cond-false (is_own held b) held _ joins.other
-    ∙ ap (λ (h : Holder). with_owner held b.owner (treat h b end)) (holder-alone held is b.owner)
-    ∙ ap (with_owner held b.owner) (treat-entered (shown_of held b.owner) (shown-plain held is b.owner) b plain joins.after joins.more end enters)
+    ∙ ap (λ (h : Holder). with_owner held b.owner (holder_after_block h b end)) (holder-alone held is b.owner)
+    ∙ ap (with_owner held b.owner) (holder_after_block-entered (shown_of held b.owner) (shown-plain held is b.owner) b plain joins.after joins.more end enters)
 
-treated-taken : (held : Held) (b : Block) (end : BlockEnd) (entries new : List Entry) → Enters entries new end → treated held b end ≡ taken held b end
-treated-taken held b Own entries new e = absurd e
-treated-taken held b (OwnAhead upto) entries new e = absurd e
-treated-taken held b Gap entries new e = absurd e
-treated-taken held b Stale entries new e = absurd e
-treated-taken held b OwnersFull entries new e = absurd e
-treated-taken held b (Taken n) entries new e = refl
-treated-taken held b (TooManyKeys n) entries new e = refl
-treated-taken held b (NoMemory n) entries new e = refl
+held_after_block-taken : (held : Held) (b : Block) (end : BlockEnd) (entries new : List Entry) → Enters entries new end → held_after_block held b end ≡ held_after_taking held b end
+held_after_block-taken held b Own entries new e = absurd e
+held_after_block-taken held b (OwnAhead upto) entries new e = absurd e
+held_after_block-taken held b Gap entries new e = absurd e
+held_after_block-taken held b Stale entries new e = absurd e
+held_after_block-taken held b OwnersFull entries new e = absurd e
+held_after_block-taken held b (Taken n) entries new e = refl
+held_after_block-taken held b (TooManyKeys n) entries new e = refl
+held_after_block-taken held b (NoMemory n) entries new e = refl
 
 -- what a block that joins on leaves
-treated-entered : (held : Held) (b : Block) (end : BlockEnd) → IsHoldings held → is_delta_block b ≡ true → JoinsOn held b →
+held_after_block-entered : (held : Held) (b : Block) (end : BlockEnd) → IsHoldings held → is_delta_block b ≡ true → JoinsOn held b →
     Enters (shown_of held b.owner).entries (above (shown_of held b.owner).held b.entries) end →
-    treated held b end ≡ with_owner held b.owner (alone (with_entries (shown_of held b.owner) (take (entered_count end) (above (shown_of held b.owner).held b.entries))))
-treated-entered held b end is block joins enters = treated-taken held b end _ _ enters ∙ taken-entered held b end is (block-plain b block) joins enters
+    held_after_block held b end ≡ with_owner held b.owner (alone (with_entries (shown_of held b.owner) (take (entered_count end) (above (shown_of held b.owner).held b.entries))))
+held_after_block-entered held b end is block joins enters = held_after_block-taken held b end _ _ enters ∙ taken-entered held b end is (block-plain b block) joins enters
 
 -- the same of entries and an owner that are those of the block
-pub with_entered-treated : (held : Held) (b : Block) (end : BlockEnd) (owner : List ℕ) (new : List Entry) → IsHoldings held → is_delta_block b ≡ true → JoinsOn held b →
-    owner ≡ b.owner → new ≡ above (shown_of held b.owner).held b.entries → Enters (shown_of held owner).entries new end → with_entered held owner (take (entered_count end) new) ≡ treated held b end
-with_entered-treated held b end owner new is block joins same_owner same_new enters =
+pub with_entered-held_after_block : (held : Held) (b : Block) (end : BlockEnd) (owner : List ℕ) (new : List Entry) → IsHoldings held → is_delta_block b ≡ true → JoinsOn held b →
+    owner ≡ b.owner → new ≡ above (shown_of held b.owner).held b.entries → Enters (shown_of held owner).entries new end → with_entered held owner (take (entered_count end) new) ≡ held_after_block held b end
+with_entered-held_after_block held b end owner new is block joins same_owner same_new enters =
     ap (λ (o : List ℕ). with_entered held o (take (entered_count end) new)) same_owner
     ∙ ap (λ (es : List Entry). with_entered held b.owner (take (entered_count end) es)) same_new
-    ∙ sym (treated-entered held b end is block joins (subst (λ (es : List Entry). Enters (shown_of held b.owner).entries es end) same_new (subst (λ (o : List ℕ). Enters (shown_of held o).entries new end) same_owner enters)))
+    ∙ sym (held_after_block-entered held b end is block joins (subst (λ (es : List Entry). Enters (shown_of held b.owner).entries es end) same_new (subst (λ (o : List ℕ). Enters (shown_of held o).entries new end) same_owner enters)))
 
 -- ---- a block of a delta
 

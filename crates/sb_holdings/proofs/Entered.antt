@@ -49,10 +49,10 @@ module _ (t u : Table) (es : List Entry) (n : ℕ) (x : Entry) (key : List ℕ) 
   keys-next apart = ap (λ (v : Table). length v.entries) (with_entries-next apart)
 
   pub keys-so_far : IsPlainTable u → keys_with n es t.entries ≤ KEYS_MOST
-  keys-so_far plain = omega (arith, plain.few, ap (λ (v : Table). length v.entries) at)
+  keys-so_far plain = omega (arith, plain.limit, ap (λ (v : Table). length v.entries) at)
 
   pub keys-room : are_distinct es ≡ true → IsPlainTable u → is_full_for key u.entries ≡ false → keys_with (n + 1) es t.entries ≤ KEYS_MOST
-  keys-room apart plain room = omega (arith, length-entered x u.entries KEYS_MOST plain.few (ap (λ (k : List ℕ). is_full_for k u.entries) (sym key_is) ∙ room), keys-next apart)
+  keys-room apart plain room = omega (arith, length-entered x u.entries KEYS_MOST plain.limit (ap (λ (k : List ℕ). is_full_for k u.entries) (sym key_is) ∙ room), keys-next apart)
 
   pub keys-full : are_distinct es ≡ true → is_full_for key u.entries ≡ true → KEYS_MOST < keys_with (n + 1) es t.entries
   keys-full apart full = omega (arith, length-entered_full x u.entries KEYS_MOST (ap (λ (k : List ℕ). is_full_for k u.entries) (sym key_is) ∙ full), keys-next apart)

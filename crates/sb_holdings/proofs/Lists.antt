@@ -6,7 +6,7 @@ use Rattle.std.specs.Cmp.Lexicographic.{pointwise, pointwise_decides}
 use Rattle.sb_types.specs.declared.entry.Slot.{Slot}
 use Rattle.sb_types.specs.declared.entry.Slot.TheVariants.{Set, Removed}
 use Rattle.sb_types.specs.Records.{Entry}
-use Rattle.sb_types.specs.Runs.{Stands, has_key, above, within, without, only, is_set, live, entered}
+use Rattle.sb_types.specs.Runs.{Stands, has_key, above, up_to, without, under_keys_of, is_set, live, entered}
 use Rattle.sb_types.specs.Writes.{Gone}
 
 module _ {X : Type 0} where
@@ -85,16 +85,16 @@ in_above v es e s l = kept _ es e s (lt-ltb v e.version l)
 pub of_above : (v : ℕ) (es : List Entry) (e : Entry) → Stands (above v es) e → Stands es e × (v < e.version)
 of_above v es e s = let k = of_kept _ es e s in (k.0, ltb-true v e.version k.1)
 
-pub in_within : (v : ℕ) (es : List Entry) (e : Entry) → Stands es e → e.version ≤ v → Stands (within v es) e
+pub in_within : (v : ℕ) (es : List Entry) (e : Entry) → Stands es e → e.version ≤ v → Stands (up_to v es) e
 in_within v es e s l = kept _ es e s (le-leb e.version v l)
 
-pub of_within : (v : ℕ) (es : List Entry) (e : Entry) → Stands (within v es) e → Stands es e × (e.version ≤ v)
+pub of_within : (v : ℕ) (es : List Entry) (e : Entry) → Stands (up_to v es) e → Stands es e × (e.version ≤ v)
 of_within v es e s = let k = of_kept _ es e s in (k.0, leb-true e.version v k.1)
 
-pub in_only : (os es : List Entry) (e o : Entry) → Stands es e → Stands os o → o.key ≡ e.key → Stands (only os es) e
+pub in_only : (os es : List Entry) (e o : Entry) → Stands es e → Stands os o → o.key ≡ e.key → Stands (under_keys_of os es) e
 in_only os es e o s t k = kept _ es e s (has e.key os o t k)
 
-pub of_only : (os es : List Entry) (e : Entry) → Stands (only os es) e → Stands es e × ((o : Entry) × Stands os o × (o.key ≡ e.key))
+pub of_only : (os es : List Entry) (e : Entry) → Stands (under_keys_of os es) e → Stands es e × ((o : Entry) × Stands os o × (o.key ≡ e.key))
 of_only os es e s = let k = of_kept _ es e s in (k.0, keyed e.key os k.1)
 
 -- an entry is a marker up to the floor, or it lives

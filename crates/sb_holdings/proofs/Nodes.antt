@@ -12,8 +12,8 @@ use Rattle.sb_types.specs.Records.{Stage, Block, Holder}
 use Rattle.sb_types.specs.Writes.{Honest, IsHolder}
 use Rattle.sb_holdings.specs.declared.ends.BlockEnd.{BlockEnd}
 use Rattle.sb_holdings.specs.declared.ends.BlockEnd.TheVariants.{Own, OwnAhead, Gap, Stale, OwnersFull, Taken, TooManyKeys, NoMemory}
-use Rattle.sb_holdings.specs.Held.{Held, nothing, is_nothing, holder_of, with_holder, taken}
-use Rattle.sb_holdings.specs.Nodes.{Node, held_by, NodeEvent, Wrote, Took, happens_at, replay_at, IsNodeEvent, TrueAt, AreNodeEvents, AllTrueAt, IsNode}
+use Rattle.sb_holdings.specs.Held.{Held, nothing, is_nothing, holder_of, with_holder, held_after_taking}
+use Rattle.sb_holdings.specs.Nodes.{Node, held_by, NodeEvent, Wrote, Took, node_after_event, replay_node, IsNodeEvent, TrueAt, AreNodeEvents, AllTrueAt, IsNode}
 use Rattle.sb_holdings.proofs.Lists.{same_text}
 use Rattle.sb_holdings.proofs.Steps.{Step, unchanged, two_steps}
 use Rattle.sb_holdings.proofs.Joining.{own_step}
@@ -75,13 +75,13 @@ put_step writes owners new owner h assumed is_put is step q =
 
 module _ (writes : List ℕ → List Write) (node : Node) (is : IsNode node) where
   taken_step : (b : Block) (end : BlockEnd) → IsNodeEvent (Took b end) → (q : List ℕ) →
-      Step (writes q) (Honest (writes b.owner) b) (held_by node q) (holder_of (taken node.held b end).owners q)
+      Step (writes q) (Honest (writes b.owner) b) (held_by node q) (holder_of (held_after_taking node.held b end).owners q)
   taken_step b end i q =
       cond_both (pointwise nat_eq b.owner node.held.me) node.held _ (λ (h : Held). Step (writes q) (Honest (writes b.owner) b) (held_by node q) (holder_of h.owners q))
       (λ _. unchanged (is q))
       (λ _. put_step writes node.held.owners _ b.owner _ _ (put_with node.held.owners b.owner _) is (treat_step (writes b.owner) (held_by node b.owner) b (is b.owner) i end) q)
 
-  happens_at_step : (event : NodeEvent) → IsNodeEvent event → (q : List ℕ) → Step (writes q) (TrueAt writes node.held.me event) (held_by node q) (held_by (happens_at node event) q)
+  happens_at_step : (event : NodeEvent) → IsNodeEvent event → (q : List ℕ) → Step (writes q) (TrueAt writes node.held.me event) (held_by node q) (held_by (node_after_event node event) q)
   happens_at_step (Wrote e) i q = put_step writes node.held.owners _ node.held.me _ _ (inserted node.held.owners node.held.me _) is (own_step (writes node.held.me) (held_by node node.held.me) e (is node.held.me)) q
   happens_at_step (Took b Own) i q = unchanged (is q)
   happens_at_step (Took b (OwnAhead upto)) i q = unchanged (is q)
@@ -92,10 +92,10 @@ module _ (writes : List ℕ → List Write) (node : Node) (is : IsNode node) whe
   happens_at_step (Took b (TooManyKeys n)) i q = taken_step b (TooManyKeys n) i q
   happens_at_step (Took b (NoMemory n)) i q = taken_step b (NoMemory n) i q
 
-same_me_taken : (held : Held) (b : Block) (end : BlockEnd) → (taken held b end).me ≡ held.me
+same_me_taken : (held : Held) (b : Block) (end : BlockEnd) → (held_after_taking held b end).me ≡ held.me
 same_me_taken held b end = cond_both (pointwise nat_eq b.owner held.me) held _ (λ (h : Held). h.me ≡ held.me) (λ _. refl) (λ _. refl)
 
-same_me : (node : Node) (event : NodeEvent) → (happens_at node event).held.me ≡ node.held.me
+same_me : (node : Node) (event : NodeEvent) → (node_after_event node event).held.me ≡ node.held.me
 same_me node (Wrote e) = refl
 same_me node (Took b Own) = refl
 same_me node (Took b (OwnAhead upto)) = refl
@@ -106,14 +106,14 @@ same_me node (Took b (Taken n)) = same_me_taken node.held b (Taken n)
 same_me node (Took b (TooManyKeys n)) = same_me_taken node.held b (TooManyKeys n)
 same_me node (Took b (NoMemory n)) = same_me_taken node.held b (NoMemory n)
 
-pub replay_at-append : (node : Node) (events more : List NodeEvent) → replay_at node (events ++ more) ≡ replay_at (replay_at node events) more
-replay_at-append node [] more = refl
-replay_at-append node (event ∷ events) more = replay_at-append (happens_at node event) events more
+pub replay_node-append : (node : Node) (events more : List NodeEvent) → replay_node node (events ++ more) ≡ replay_node (replay_node node events) more
+replay_node-append node [] more = refl
+replay_node-append node (event ∷ events) more = replay_node-append (node_after_event node event) events more
 
 pub replay_at_step : (writes : List ℕ → List Write) (node : Node) (events : List NodeEvent) → IsNode node → AreNodeEvents events → (q : List ℕ) →
-    Step (writes q) (AllTrueAt writes node.held.me events) (held_by node q) (held_by (replay_at node events) q)
+    Step (writes q) (AllTrueAt writes node.held.me events) (held_by node q) (held_by (replay_node node events) q)
 replay_at_step writes node [] is each q = unchanged (is q)
 replay_at_step writes node (event ∷ events) is each q =
     let one = happens_at_step writes node is event (each event (inl refl)) in
-    let rest = replay_at_step writes (happens_at node event) events (λ o. (one o).is) (λ e s. each e (inr s)) q in
+    let rest = replay_at_step writes (node_after_event node event) events (λ o. (one o).is) (λ e s. each e (inr s)) q in
     two_steps (λ true. true event (inl refl)) (λ true e s. rw (same_me node event) (true e (inr s))) (one q) rest

@@ -7,7 +7,7 @@ use Rattle.sb_types.specs.declared.entry.Slot.TheVariants.{Set, Removed}
 use Rattle.sb_types.specs.declared.entry.Write.{Write}
 use Rattle.sb_types.specs.Value.{Value}
 use Rattle.sb_types.specs.Records.{Entry, Table}
-use Rattle.sb_types.specs.Runs.{Stands, IsTable, are_distinct, entry_at, set_at, shown_of, shown_at}
+use Rattle.sb_types.specs.Runs.{Stands, IsTable, are_distinct, entry_at, shown_slot, shown_by_entry, shown_at}
 use Rattle.sb_types.specs.Writes.{Written, Superseded, Gone, Holds}
 use Rattle.sb_holdings.proofs.Lists.{same_text, text_same, not_there}
 use Rattle.sb_holdings.proofs.Telling.{one_write, same_parts}
@@ -32,17 +32,17 @@ stands_found (x ∷ xs) e d (inr s) =
     let other : pointwise nat_eq x.key e.key ≡ false = false_from_ne_true _ (λ t. not_there x.key xs e (and_parts _ _ d).0 s (sym (same_text x.key e.key t))) in
     rw other (stands_found xs e (and_parts _ _ d).1 s)
 
-shown_none : (o : Option Entry) → ((x : Entry) → o ≡ Some x → x.slot ≡ Removed) → shown_of o ≡ None
+shown_none : (o : Option Entry) → ((x : Entry) → o ≡ Some x → x.slot ≡ Removed) → shown_by_entry o ≡ None
 shown_none None f = refl
-shown_none (Some x) f = ap (set_at x.version) (f x refl)
+shown_none (Some x) f = ap (shown_slot x.version) (f x refl)
 
-set_entry : (version at : ℕ) (slot : Slot) (value : Value) → set_at version slot ≡ Some (value, at) → (slot ≡ Set value) × (version ≡ at)
+set_entry : (version at : ℕ) (slot : Slot) (value : Value) → shown_slot version slot ≡ Some (value, at) → (slot ≡ Set value) × (version ≡ at)
 set_entry version at (Set v) value e =
     let same : ◌≡◌ {A = Value × ℕ} (v, version) (value, at) = cc in
     (ap (λ (p : Value × ℕ). Set p.0) same, ap (λ (p : Value × ℕ). p.1) same)
 set_entry version at Removed value e = absurd (cc)
 
-shown_entry : (o : Option Entry) (value : Value) (version : ℕ) → shown_of o ≡ Some (value, version) → (e : Entry) × (o ≡ Some e) × (e.slot ≡ Set value) × (e.version ≡ version)
+shown_entry : (o : Option Entry) (value : Value) (version : ℕ) → shown_by_entry o ≡ Some (value, version) → (e : Entry) × (o ≡ Some e) × (e.slot ≡ Set value) × (e.version ≡ version)
 shown_entry None value version f = absurd (cc)
 shown_entry (Some e) value version f = let s = set_entry e.version version e.slot value f in (e, refl, s.0, s.1)
 
@@ -54,8 +54,8 @@ read_written writes t key value version h f =
 
 module _ (writes : List Write) (t : Table) (e : Entry) (i : IsTable t) (h : Holds writes t) (w : Written writes e) (last : Superseded writes e → ⊥) where
   -- a marker that may have gone: what stands under its key is no other entry
-  read_gone : Gone t.floor e → shown_at e.key t.entries ≡ set_at e.version e.slot
-  read_gone g = shown_none (entry_at e.key t.entries) marker ∙ sym (ap (set_at e.version) g.0)
+  read_gone : Gone t.floor e → shown_at e.key t.entries ≡ shown_slot e.version e.slot
+  read_gone g = shown_none (entry_at e.key t.entries) marker ∙ sym (ap (shown_slot e.version) g.0)
     where
       marker : (x : Entry) → entry_at e.key t.entries ≡ Some x → x.slot ≡ Removed
       marker x f =
@@ -65,8 +65,8 @@ module _ (writes : List Write) (t : Table) (e : Entry) (i : IsTable t) (h : Hold
           (λ apart. absurd (⊎_elim (λ older. last (h.past e x w g s.0 s.1 older)) (λ newer. last (x, h.true_each x s.0, s.1, newer)) apart))
           (cases_order x.version e.version)
 
-  pub read_exact : e.version ≤ t.held → shown_at e.key t.entries ≡ set_at e.version e.slot
+  pub read_exact : e.version ≤ t.held → shown_at e.key t.entries ≡ shown_slot e.version e.slot
   read_exact l = ⊎_elim
-      (λ s. ap shown_of (stands_found t.entries e i.run.distinct s))
+      (λ s. ap shown_by_entry (stands_found t.entries e i.run.distinct s))
       (λ rest. ⊎_elim (λ s. absurd (last s)) read_gone rest)
       (h.whole e w w.counted l)

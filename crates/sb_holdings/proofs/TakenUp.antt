@@ -10,10 +10,10 @@ use Rattle.sb_holdings.specs.declared.ends.BlockEnd.TheVariants.{Own, OwnAhead, 
 use Rattle.sb_holdings.specs.Blocks.{part_above, front}
 use Rattle.sb_holdings.specs.Shown.{joins_shown, joined, shown_with}
 use Rattle.sb_holdings.specs.Stages.{staged_all, staged_front, staged_refused}
-use Rattle.sb_holdings.specs.Taken.{routed, treat}
-use Rattle.sb_holdings.specs.Held.{Held, holder_of, shown_of, taken}
+use Rattle.sb_holdings.specs.Taken.{routed, holder_after_block}
+use Rattle.sb_holdings.specs.Held.{Held, holder_of, shown_of, held_after_taking}
 use Rattle.sb_holdings.specs.Ends.{is_own, JoinsOn, Fits}
-use Rattle.sb_holdings.specs.Nodes.{Node, treat_at}
+use Rattle.sb_holdings.specs.Nodes.{Node, node_after_block}
 use Rattle.sb_holdings.specs.TakenUp.{HasFront, IsTakenUp}
 use Rattle.sb_holdings.proofs.Lists.{text_same, right}
 use Rattle.sb_holdings.proofs.Nodes.{put_with}
@@ -21,9 +21,9 @@ use Rattle.sb_holdings.proofs.Ended.{block-plain}
 
 module _ (held : Held) (b : Block) (is : is_delta_block b ≡ true) (joins : JoinsOn held b) where
   -- what is shown of the owner is what the block leaves of it
-  shown-taken : (end : BlockEnd) → shown_of (taken held b end) b.owner ≡ (treat (holder_of held.owners b.owner) b end).shown
+  shown-taken : (end : BlockEnd) → shown_of (held_after_taking held b end) b.owner ≡ (holder_after_block (holder_of held.owners b.owner) b end).shown
   shown-taken end =
-      let h = treat (holder_of held.owners b.owner) b end in
+      let h = holder_after_block (holder_of held.owners b.owner) b end in
       ap (λ (new : Held). shown_of new b.owner) (cond-false (is_own held b) held _ joins.other)
       ∙ ap (λ (new : Holder). new.shown) (put_with held.owners b.owner h b.owner ∙ cond-true (pointwise nat_eq b.owner b.owner) h _ (text_same b.owner b.owner refl))
 
@@ -43,7 +43,7 @@ module _ (held : Held) (b : Block) (is : is_delta_block b ≡ true) (joins : Joi
       let es = take n (above t.held b.entries) in
       subst (HasFront t es) (sym same) (record { held = refl; each = λ e s. right _ es e s })
 
-pub taken_up : (node : Node) (b : Block) (end : BlockEnd) → is_delta_block b ≡ true → JoinsOn node.held b → Fits node.held b end → IsTakenUp node b end (treat_at node b end)
+pub taken_up : (node : Node) (b : Block) (end : BlockEnd) → is_delta_block b ≡ true → JoinsOn node.held b → Fits node.held b end → IsTakenUp node b end (node_after_block node b end)
 taken_up node b Own is joins fits = absurd (false≢true (sym joins.other ∙ fits.0))
 taken_up node b (OwnAhead upto) is joins fits = absurd (false≢true (sym joins.other ∙ fits.0))
 taken_up node b Gap is joins fits = absurd (omega (arith, fits.1, joins.after))

@@ -10,7 +10,7 @@ use Rattle.sb_holdings.specs.declared.ends.BlockEnd.TheVariants.{Own, OwnAhead, 
 use Rattle.sb_holdings.specs.Blocks.{part_above, front}
 use Rattle.sb_holdings.specs.Shown.{joins_shown, shown_with}
 use Rattle.sb_holdings.specs.Stages.{stage_for, staged_all, staged_front, staged_refused}
-use Rattle.sb_holdings.specs.Taken.{routed, treat}
+use Rattle.sb_holdings.specs.Taken.{routed, holder_after_block}
 use Rattle.sb_holdings.proofs.Parts.{IsPart, part_is, front_is}
 use Rattle.sb_holdings.proofs.Steps.{Step, unchanged}
 use Rattle.sb_holdings.proofs.Joining.{shown_step}
@@ -48,7 +48,7 @@ module _ (writes : List Write) (h : Holder) (b : Block) (i : IsHolder h) (is : I
       (λ beyond. to_stage (stage_for h.stage b) (stage_joins h b i is (ltb-true h.shown.held b.floor beyond) h.stage refl))
       (λ _. unchanged i))
 
-  pub treat_step : (end : BlockEnd) → Step writes (Honest writes b) h (treat h b end)
+  pub treat_step : (end : BlockEnd) → Step writes (Honest writes b) h (holder_after_block h b end)
   treat_step Own = unchanged i
   treat_step (OwnAhead upto) = unchanged i
   treat_step Gap = unchanged i

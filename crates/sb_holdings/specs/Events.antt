@@ -6,20 +6,20 @@ use Rattle.sb_types.specs.Runs.{Stands, IsBlock}
 use Rattle.sb_types.specs.Writes.{Written, Honest}
 use Rattle.sb_holdings.specs.declared.ends.BlockEnd.{BlockEnd}
 use Rattle.sb_holdings.specs.Shown.{own}
-use Rattle.sb_holdings.specs.Taken.{treat}
+use Rattle.sb_holdings.specs.Taken.{holder_after_block}
 
 -- the owner wrote, or a block came and was ended so
 pub data Event : Type 0 where
   Owned : Entry → Event
   Came : Block → BlockEnd → Event
 
-abbrev pub happens : Holder → Event → Holder
-happens h (Owned e) = own h e
-happens h (Came b end) = treat h b end
+abbrev pub holder_after_event : Holder → Event → Holder
+holder_after_event h (Owned e) = own h e
+holder_after_event h (Came b end) = holder_after_block h b end
 
-abbrev pub replay : Holder → List Event → Holder
-replay h [] = h
-replay h (event ∷ events) = replay (happens h event) events
+abbrev pub replay_holder : Holder → List Event → Holder
+replay_holder h [] = h
+replay_holder h (event ∷ events) = replay_holder (holder_after_event h event) events
 
 abbrev pub IsEvent : Event → Type 0
 IsEvent (Owned e) = Unit {0}

@@ -7,7 +7,7 @@ use Rattle.sb_types.specs.Records.{Entry, Table, Block, Holder}
 use Rattle.sb_holdings.specs.declared.ends.BlockEnd.{BlockEnd}
 use Rattle.sb_holdings.specs.declared.ends.BlockEnd.TheVariants.{Own, OwnAhead, Gap, Stale, OwnersFull, Taken, TooManyKeys, NoMemory}
 use Rattle.sb_holdings.specs.Shown.{own}
-use Rattle.sb_holdings.specs.Taken.{treat}
+use Rattle.sb_holdings.specs.Taken.{holder_after_block}
 
 -- the node's own name, and what it holds of each owner
 pub record Held : Type 0 where
@@ -39,16 +39,16 @@ abbrev pub written : Held → Entry → Held
 written held e = record { me = held.me; owners = insert held.owners held.me (own (holder_of held.owners held.me) e) }
 
 -- no block of the node's own name is taken
-abbrev pub taken : Held → Block → BlockEnd → Held
-taken held b end = if pointwise nat_eq b.owner held.me then held else with_owner held b.owner (treat (holder_of held.owners b.owner) b end)
+abbrev pub held_after_taking : Held → Block → BlockEnd → Held
+held_after_taking held b end = if pointwise nat_eq b.owner held.me then held else with_owner held b.owner (holder_after_block (holder_of held.owners b.owner) b end)
 
 -- after a block that was ended so
-abbrev pub treated : Held → Block → BlockEnd → Held
-treated held b Own = held
-treated held b (OwnAhead upto) = held
-treated held b Gap = held
-treated held b Stale = held
-treated held b OwnersFull = held
-treated held b (Taken n) = taken held b (Taken n)
-treated held b (TooManyKeys n) = taken held b (TooManyKeys n)
-treated held b (NoMemory n) = taken held b (NoMemory n)
+abbrev pub held_after_block : Held → Block → BlockEnd → Held
+held_after_block held b Own = held
+held_after_block held b (OwnAhead upto) = held
+held_after_block held b Gap = held
+held_after_block held b Stale = held
+held_after_block held b OwnersFull = held
+held_after_block held b (Taken n) = held_after_taking held b (Taken n)
+held_after_block held b (TooManyKeys n) = held_after_taking held b (TooManyKeys n)
+held_after_block held b (NoMemory n) = held_after_taking held b (NoMemory n)

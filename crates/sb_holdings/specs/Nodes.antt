@@ -6,7 +6,7 @@ use Rattle.sb_types.specs.Runs.{Stands, IsBlock}
 use Rattle.sb_types.specs.Writes.{Written, Honest, IsHolder, HolderHolds}
 use Rattle.sb_holdings.specs.declared.ends.BlockEnd.{BlockEnd}
 use Rattle.sb_holdings.specs.declared.ends.BlockEnd.TheVariants.{Own, OwnAhead, Gap, Stale, OwnersFull, Taken, TooManyKeys, NoMemory}
-use Rattle.sb_holdings.specs.Held.{Held, holder_of, written, treated}
+use Rattle.sb_holdings.specs.Held.{Held, holder_of, written, held_after_block}
 use Rattle.sb_holdings.specs.Plain.{held_of}
 use Rattle.sb_holdings.specs.Progress.{Later}
 
@@ -38,21 +38,21 @@ conflict_after known (Taken n) = known
 conflict_after known (TooManyKeys n) = known
 conflict_after known (NoMemory n) = known
 
-abbrev pub treat_at : Node → Block → BlockEnd → Node
-treat_at node b end = record { held = treated node.held b end; conflict = conflict_after node.conflict end }
+abbrev pub node_after_block : Node → Block → BlockEnd → Node
+node_after_block node b end = record { held = held_after_block node.held b end; conflict = conflict_after node.conflict end }
 
 -- the node wrote, or took a block and ended it so
 pub data NodeEvent : Type 0 where
   Wrote : Entry → NodeEvent
   Took : Block → BlockEnd → NodeEvent
 
-abbrev pub happens_at : Node → NodeEvent → Node
-happens_at node (Wrote e) = record { held = written node.held e; conflict = node.conflict }
-happens_at node (Took b end) = treat_at node b end
+abbrev pub node_after_event : Node → NodeEvent → Node
+node_after_event node (Wrote e) = record { held = written node.held e; conflict = node.conflict }
+node_after_event node (Took b end) = node_after_block node b end
 
-abbrev pub replay_at : Node → List NodeEvent → Node
-replay_at node [] = node
-replay_at node (event ∷ events) = replay_at (happens_at node event) events
+abbrev pub replay_node : Node → List NodeEvent → Node
+replay_node node [] = node
+replay_node node (event ∷ events) = replay_node (node_after_event node event) events
 
 abbrev pub IsNodeEvent : NodeEvent → Type 0
 IsNodeEvent (Wrote e) = Unit {0}

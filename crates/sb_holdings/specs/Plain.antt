@@ -33,7 +33,7 @@ pub record IsHoldings (held : Held) : Type 0 where
   pub own : contains_key held.owners held.me ≡ true
   pub each : (owner : List ℕ) → IfSome (get held.owners owner) IsPlainHolder
   pub others : (owner : List ℕ) → pointwise nat_eq owner held.me ≡ false → IfSome (get held.owners owner) (λ h. 0 < length h.shown.entries)
-  pub few : len held.owners ≤ OWNERS_MOST
+  pub limit : len held.owners ≤ OWNERS_MOST
 
 -- the table that is shown of an owner
 abbrev pub table_of : Held → List ℕ → Option Table

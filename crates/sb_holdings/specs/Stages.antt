@@ -1,7 +1,7 @@
 -- How a block of a floor above all that is held joins a stage, and how the stage comes to be shown.
 use Rattle.std.specs.Prelude.{ℕ, zero, suc, Bool, ◌&&◌, nat_lt, nat_le, nat_eq, if◌then◌else◌, [], ◌++◌, length, Option, Some, None}
 use Rattle.sb_types.specs.Records.{Table, Stage, Block, Holder}
-use Rattle.sb_types.specs.Runs.{above, within, only, entered, live}
+use Rattle.sb_types.specs.Runs.{above, up_to, under_keys_of, entered, live}
 use Rattle.sb_holdings.specs.Blocks.{part_above, front}
 
 -- a stage of which nothing has come
@@ -25,7 +25,7 @@ stage_with s b = record { floor = s.floor; progress = b.upto; entries = entered 
 
 -- the stage shown: its entries above held, and under its other keys what was shown; markers up to its floor go
 abbrev pub swapped : Table → Stage → Table
-swapped t s = record { held = s.progress; floor = s.floor; entries = live s.floor (only (within t.held s.entries) t.entries ++ above t.held s.entries) }
+swapped t s = record { held = s.progress; floor = s.floor; entries = live s.floor (under_keys_of (up_to t.held s.entries) t.entries ++ above t.held s.entries) }
 
 -- once the stage has reached its floor it is shown
 abbrev pub settled : Holder → Stage → Holder

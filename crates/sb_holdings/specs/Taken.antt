@@ -12,12 +12,12 @@ abbrev pub routed : Holder → Block → Holder → (Option Stage → Holder) �
 routed h b shown staged = if joins_shown h.shown b then shown else (if nat_lt h.shown.held b.floor then staged (stage_for h.stage b) else h)
 
 -- what is held of the block's owner after a block that was ended so
-abbrev pub treat : Holder → Block → BlockEnd → Holder
-treat h b Own = h
-treat h b (OwnAhead upto) = h
-treat h b Gap = h
-treat h b Stale = h
-treat h b OwnersFull = h
-treat h b (Taken n) = routed h b (shown_with h (part_above h.shown.held b)) (staged_all h b)
-treat h b (TooManyKeys n) = routed h b (shown_with h (front n (part_above h.shown.held b))) (staged_front n h b)
-treat h b (NoMemory n) = routed h b (shown_with h (front n (part_above h.shown.held b))) (staged_refused n h b)
+abbrev pub holder_after_block : Holder → Block → BlockEnd → Holder
+holder_after_block h b Own = h
+holder_after_block h b (OwnAhead upto) = h
+holder_after_block h b Gap = h
+holder_after_block h b Stale = h
+holder_after_block h b OwnersFull = h
+holder_after_block h b (Taken n) = routed h b (shown_with h (part_above h.shown.held b)) (staged_all h b)
+holder_after_block h b (TooManyKeys n) = routed h b (shown_with h (front n (part_above h.shown.held b))) (staged_front n h b)
+holder_after_block h b (NoMemory n) = routed h b (shown_with h (front n (part_above h.shown.held b))) (staged_refused n h b)

@@ -7,7 +7,7 @@ ghost use Rattle.std.specs.Option.{option_copied};
 ghost use Rattle.sb_types.specs.Faults.{Gives};
 ghost use Rattle.std.specs.Map.{keys_of};
 ghost use Rattle.sb_types.specs.Runs.{are_ascending, are_distinct};
-ghost use Rattle.sb_holdings.specs.Held.{shown_of, written, treated};
+ghost use Rattle.sb_holdings.specs.Held.{shown_of, written, held_after_block};
 ghost use Rattle.sb_holdings.specs.Plain.{IsHoldings, held_of, table_of, tables_from, with_entered, own_answer};
 ghost use Rattle.sb_holdings.specs.Ends.{JoinsOn, has_place, Enters, entered_count, Fits};
 
@@ -131,7 +131,7 @@ impl Holdings {
     /// ended. Of these entries the first are entered, as many as `Taken`, `TooManyKeys` or `NoMemory` says;
     /// every other end leaves everything as it was.
     pub fn apply_block(&mut self, block: &Block) -> BlockEnd
-        ensures effect { self.new ≡ treated self.old block.now result }
+        ensures effect { self.new ≡ held_after_block self.old block.now result }
         ensures end { Fits self.old block.now result }
         ensures holdings { IsHoldings self.new }
     {
@@ -145,7 +145,7 @@ impl Holdings {
     /// How a block ends of which nothing can be entered.
     fn refusal(&self, block: &Block) -> Option<BlockEnd>
         ensures end { IfSome result (Fits self.now block.now) }
-        ensures effect { IfSome result (λ end. treated self.now block.now end ≡ self.now) }
+        ensures effect { IfSome result (λ end. held_after_block self.now block.now end ≡ self.now) }
         ensures joins { IfNone result (JoinsOn self.now block.now) }
         ensures place { IfNone result (has_place self.now block.now.owner ≡ true) }
         ensures holdings { IsHoldings self.now }

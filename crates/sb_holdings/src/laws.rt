@@ -7,12 +7,12 @@ ghost use Rattle.sb_types.specs.Limits.{is_delta, is_delta_block};
 ghost use Rattle.sb_types.specs.Runs.{Stands, are_distinct, entered, IsBlock};
 ghost use Rattle.sb_types.specs.Writes.{Tells, Holds, Honest, IsHolder, HolderHolds};
 ghost use Rattle.sb_holdings.specs.declared.ends.BlockEnd.{BlockEnd};
-ghost use Rattle.sb_holdings.specs.Taken.{treat};
-ghost use Rattle.sb_holdings.specs.Events.{Event, replay, AreEvents, AllTrue};
+ghost use Rattle.sb_holdings.specs.Taken.{holder_after_block};
+ghost use Rattle.sb_holdings.specs.Events.{Event, replay_holder, AreEvents, AllTrue};
 ghost use Rattle.sb_holdings.specs.Progress.{Later};
 ghost use Rattle.sb_holdings.specs.Held.{Held, shown_of, written};
 ghost use Rattle.sb_holdings.specs.Plain.{IsHoldings};
-ghost use Rattle.sb_holdings.specs.Nodes.{Node, NodeEvent, replay_at, AreNodeEvents, AllTrueAt, IsNode, NodeHolds, NodeLater};
+ghost use Rattle.sb_holdings.specs.Nodes.{Node, NodeEvent, replay_node, AreNodeEvents, AllTrueAt, IsNode, NodeHolds, NodeLater};
 ghost use Rattle.sb_holdings.specs.Entering.{entered_each};
 ghost use Rattle.sb_holdings.specs.ByVersion.{TellsByVersion};
 
@@ -30,29 +30,29 @@ pub fn one_by_one()
 /// What is held stays true, whichever honest block comes and whatever its end.
 pub fn blocks_keep_truth()
     ensures holds { (writes : List Write) (h : Holder) (b : Block) (end : BlockEnd) →
-        IsHolder h → IsBlock b → HolderHolds writes h → Honest writes b → HolderHolds writes (treat h b end) }
-    ensures is { (h : Holder) (b : Block) (end : BlockEnd) → IsHolder h → IsBlock b → IsHolder (treat h b end) }
+        IsHolder h → IsBlock b → HolderHolds writes h → Honest writes b → HolderHolds writes (holder_after_block h b end) }
+    ensures is { (h : Holder) (b : Block) (end : BlockEnd) → IsHolder h → IsBlock b → IsHolder (holder_after_block h b end) }
 {}
 
 /// Over any events, honest or not, held does not fall and no key's version does.
 pub fn nothing_goes_back()
-    ensures later { (h : Holder) (events : List Event) → IsHolder h → AreEvents events → Later h.shown (replay h events).shown }
-    ensures is { (h : Holder) (events : List Event) → IsHolder h → AreEvents events → IsHolder (replay h events) }
+    ensures later { (h : Holder) (events : List Event) → IsHolder h → AreEvents events → Later h.shown (replay_holder h events).shown }
+    ensures is { (h : Holder) (events : List Event) → IsHolder h → AreEvents events → IsHolder (replay_holder h events) }
 {}
 
 /// What honest blocks and committed writes leave of an owner is true.
 pub fn replays_hold()
     ensures { (writes : List Write) (h : Holder) (events : List Event) →
-        IsHolder h → AreEvents events → HolderHolds writes h → AllTrue writes events → HolderHolds writes (replay h events) }
+        IsHolder h → AreEvents events → HolderHolds writes h → AllTrue writes events → HolderHolds writes (replay_holder h events) }
 {}
 
 /// Over a node's whole run, what honest blocks and committed writes leave of each owner is true; and whatever
 /// blocks come, held does not fall for any owner and no key's version does.
 pub fn nodes_hold()
     ensures holds { (writes : List ℕ → List Write) (node : Node) (events : List NodeEvent) →
-        IsNode node → AreNodeEvents events → NodeHolds writes node → AllTrueAt writes node.held.me events → NodeHolds writes (replay_at node events) }
-    ensures later { (node : Node) (events : List NodeEvent) → IsNode node → AreNodeEvents events → NodeLater node (replay_at node events) }
-    ensures is { (node : Node) (events : List NodeEvent) → IsNode node → AreNodeEvents events → IsNode (replay_at node events) }
+        IsNode node → AreNodeEvents events → NodeHolds writes node → AllTrueAt writes node.held.me events → NodeHolds writes (replay_node node events) }
+    ensures later { (node : Node) (events : List NodeEvent) → IsNode node → AreNodeEvents events → NodeLater node (replay_node node events) }
+    ensures is { (node : Node) (events : List NodeEvent) → IsNode node → AreNodeEvents events → IsNode (replay_node node events) }
 {}
 
 /// An own write that is not the next changes nothing.

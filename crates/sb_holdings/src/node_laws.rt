@@ -14,7 +14,7 @@ ghost use Rattle.sb_holdings.specs.Contents.{content_table};
 ghost use Rattle.sb_holdings.specs.Held.{holder_of, is_nothing, with_holder};
 ghost use Rattle.sb_holdings.specs.Plain.{IsHoldings};
 ghost use Rattle.sb_holdings.specs.Ends.{JoinsOn, Fits};
-ghost use Rattle.sb_holdings.specs.Nodes.{Node, NodeEvent, opened_node, treat_at, replay_at, NodeHolds};
+ghost use Rattle.sb_holdings.specs.Nodes.{Node, NodeEvent, opened_node, node_after_block, replay_node, NodeHolds};
 ghost use Rattle.sb_holdings.specs.Growth.{Grows};
 ghost use Rattle.sb_holdings.specs.TakenUp.{IsTakenUp};
 
@@ -36,12 +36,12 @@ pub fn opened_nodes_hold()
 /// A block that joins on is taken up, all of it or as much as there is room for.
 pub fn joining_blocks_are_taken_up()
     ensures { (node : Node) (b : Block) (end : BlockEnd) →
-        is_delta_block b ≡ true → JoinsOn node.held b → Fits node.held b end → IsTakenUp node b end (treat_at node b end) }
+        is_delta_block b ≡ true → JoinsOn node.held b → Fits node.held b end → IsTakenUp node b end (node_after_block node b end) }
 {}
 
 /// Two runs, one after the other, are one run.
 pub fn runs_join()
-    ensures { (node : Node) (events more : List NodeEvent) → replay_at node (events ++ more) ≡ replay_at (replay_at node events) more }
+    ensures { (node : Node) (events more : List NodeEvent) → replay_node node (events ++ more) ≡ replay_node (replay_node node events) more }
 {}
 
 /// With another holder for an owner this one is found of the owner, or none where it holds nothing, and of every

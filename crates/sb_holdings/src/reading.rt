@@ -5,7 +5,7 @@ ghost use Rattle.sb_types.specs.declared.entry.Slot.TheVariants.{Set};
 ghost use Rattle.sb_types.specs.declared.entry.Write.{Write};
 ghost use Rattle.sb_types.specs.Value.{Value};
 ghost use Rattle.sb_types.specs.Records.{Entry, Table};
-ghost use Rattle.sb_types.specs.Runs.{IsTable, set_at, shown_at};
+ghost use Rattle.sb_types.specs.Runs.{IsTable, shown_slot, shown_at};
 ghost use Rattle.sb_types.specs.Writes.{Written, Superseded, Holds};
 
 /// What is read of a table that holds was written so, and a key whose last write of all is at or below held
@@ -16,5 +16,5 @@ pub fn reads_are_true()
         Written writes (record { key = key; version = version; slot = Set value }) }
     ensures exact { (writes : List Write) (t : Table) (e : Entry) →
         IsTable t → Holds writes t → Written writes e → e.version ≤ t.held → (Superseded writes e → ⊥) →
-        shown_at e.key t.entries ≡ set_at e.version e.slot }
+        shown_at e.key t.entries ≡ shown_slot e.version e.slot }
 {}

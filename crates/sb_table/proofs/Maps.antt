@@ -16,16 +16,16 @@ use Rattle.std.specs.declared.ops.Bound.TheVariants.{Excluded, Unbounded}
 use Rattle.sb_types.specs.Records.{Entry}
 use Rattle.sb_types.specs.Runs.{Stands, above, are_ascending, are_distinct, entered, entry_at, has_key, last_version}
 use Rattle.sb_table.specs.Plain.{IsPlainTable, plain_table, version_and_slot}
-use Rattle.sb_table.specs.Maps.{numbered, version_at, Agree}
+use Rattle.sb_table.specs.Maps.{with_versions, version_at, Agree}
 use Rattle.sb_table.proofs.Enter.{without-none}
 use Rattle.sb_table.proofs.Lookup.{Stands-entry_at, entry_at-entered_same, entry_at-entered_other}
 
 at_number : (m n : ℕ) → is_at (nat_cmp m) n ≡ nat_eq m n
 at_number m n = grind (arith, nat_tests)
 
-pub values-numbered : (es : List Entry) → values_of (numbered es) ≡ es
-values-numbered [] = refl
-values-numbered (x ∷ xs) = ap (λ (ys : List Entry). x ∷ ys) (values-numbered xs)
+pub values-with_versions : (es : List Entry) → values_of (with_versions es) ≡ es
+values-with_versions [] = refl
+values-with_versions (x ∷ xs) = ap (λ (ys : List Entry). x ∷ ys) (values-with_versions xs)
 
 above_stands : (low : ℕ) (es : List Entry) (e : Entry) → are_ascending low es ≡ true → Stands es e → low < e.version
 above_stands low [] e up stands = absurd stands
@@ -37,7 +37,7 @@ low_last low [] up = omega arith
 low_last low (x ∷ xs) up = grind (arith, nat_tests, low_last x.version xs)
 
 -- at its version stands the entry of a key
-lookup-stands : (low : ℕ) (es : List Entry) (e : Entry) → are_ascending low es ≡ true → Stands es e → lookup (is_at (nat_cmp e.version)) (numbered es) ≡ Some e
+lookup-stands : (low : ℕ) (es : List Entry) (e : Entry) → are_ascending low es ≡ true → Stands es e → lookup (is_at (nat_cmp e.version)) (with_versions es) ≡ Some e
 lookup-stands low [] e up stands = absurd stands
 lookup-stands low (x ∷ xs) e up (inl same) = grind (arith, nat_tests, at_number e.version x.version)
 lookup-stands low (x ∷ xs) e up (inr behind) =
@@ -58,19 +58,19 @@ entry-version key v es is = of (entry_at key es) refl is
 
 -- a key's version leads to its entry
 pub lookup-version : (key : List ℕ) (v : ℕ) (es : List Entry) → are_ascending 0 es ≡ true → version_at key es ≡ Some v
-    → lookup (is_at (nat_cmp v)) (numbered es) ≡ entry_at key es
+    → lookup (is_at (nat_cmp v)) (with_versions es) ≡ entry_at key es
 lookup-version key v es up is =
     let found = entry-version key v es is in
-    ap (λ (n : ℕ). lookup (is_at (nat_cmp n)) (numbered es)) (sym found.version)
+    ap (λ (n : ℕ). lookup (is_at (nat_cmp n)) (with_versions es)) (sym found.version)
     ∙ lookup-stands 0 es found.entry up (Stands-entry_at key es found.entry found.at) ∙ sym found.at
 
-not_missed : (key : List ℕ) (v : ℕ) (es : List Entry) → are_ascending 0 es ≡ true → version_at key es ≡ Some v → None ≡ lookup (is_at (nat_cmp v)) (numbered es) → ⊥
+not_missed : (key : List ℕ) (v : ℕ) (es : List Entry) → are_ascending 0 es ≡ true → version_at key es ≡ Some v → None ≡ lookup (is_at (nat_cmp v)) (with_versions es) → ⊥
 not_missed key v es up is missed =
     let found = entry-version key v es is in
     let both : None ≡ Some found.entry = missed ∙ lookup-version key v es up is ∙ found.at in
     absurd (cc)
 
-found-slot : (key : List ℕ) (v : ℕ) (es : List Entry) (e : Entry) → are_ascending 0 es ≡ true → version_at key es ≡ Some v → Some e ≡ lookup (is_at (nat_cmp v)) (numbered es)
+found-slot : (key : List ℕ) (v : ℕ) (es : List Entry) (e : Entry) → are_ascending 0 es ≡ true → version_at key es ≡ Some v → Some e ≡ lookup (is_at (nat_cmp v)) (with_versions es)
     → Some (v, e.slot) ≡ option_map version_and_slot (entry_at key es)
 found-slot key v es e up is there =
     let found = entry-version key v es is in
@@ -83,11 +83,11 @@ module _ (key : List ℕ) (entries : List (ℕ × Entry)) (versions : List (List
   pub looked_up : (v : ℕ) (e : Entry) → Some v ≡ lookup (is_at (slice_cmp nat_cmp key)) versions → Some e ≡ lookup (is_at (nat_cmp v)) entries
       → Some (v, e.slot) ≡ option_map version_and_slot (entry_at key (values_of entries))
   looked_up v e at there =
-      found-slot key v (values_of entries) e plain.run.ascending (sym (agree.keyed key) ∙ sym at) (there ∙ ap (lookup (is_at (nat_cmp v))) agree.numbered)
+      found-slot key v (values_of entries) e plain.run.ascending (sym (agree.keyed key) ∙ sym at) (there ∙ ap (lookup (is_at (nat_cmp v))) agree.with_versions)
 
   pub never_missed : (v : ℕ) → Some v ≡ lookup (is_at (slice_cmp nat_cmp key)) versions → None ≡ lookup (is_at (nat_cmp v)) entries → ⊥
   never_missed v at missed =
-      not_missed key v (values_of entries) plain.run.ascending (sym (agree.keyed key) ∙ sym at) (missed ∙ ap (lookup (is_at (nat_cmp v))) agree.numbered)
+      not_missed key v (values_of entries) plain.run.ascending (sym (agree.keyed key) ∙ sym at) (missed ∙ ap (lookup (is_at (nat_cmp v))) agree.with_versions)
 
 pub has_key-version : (key : List ℕ) (es : List Entry) → is_some (version_at key es) ≡ has_key key es
 has_key-version key [] = refl
@@ -102,29 +102,29 @@ values-cond : (b : Bool) (x : Entry) (ps : List (ℕ × Entry)) (xs : List Entry
 values-cond true x ps xs is = ap (λ (ys : List Entry). x ∷ ys) is
 values-cond false x ps xs is = is
 
-values-filter : (p : ℕ → Bool) (es : List Entry) → values_of (filter (λ at. p at.0) (numbered es)) ≡ filter (λ e. p e.version) es
+values-filter : (p : ℕ → Bool) (es : List Entry) → values_of (filter (λ at. p at.0) (with_versions es)) ≡ filter (λ e. p e.version) es
 values-filter p [] = refl
-values-filter p (x ∷ xs) = values-cond (p x.version) x (filter (λ at. p at.0) (numbered xs)) (filter (λ e. p e.version) xs) (values-filter p xs)
+values-filter p (x ∷ xs) = values-cond (p x.version) x (filter (λ at. p at.0) (with_versions xs)) (filter (λ e. p e.version) xs) (values-filter p xs)
 
 less_number : (m n : ℕ) → (is_lt (nat_cmp m n) && true) ≡ nat_lt m n
 less_number m n = grind (arith, nat_tests)
 
-pub values-above : (v : ℕ) (es : List Entry) → values_of (entries_between nat_cmp (Excluded v) Unbounded (numbered es)) ≡ above v es
+pub values-above : (v : ℕ) (es : List Entry) → values_of (entries_between nat_cmp (Excluded v) Unbounded (with_versions es)) ≡ above v es
 values-above v es =
     values-filter (λ n. range_contains nat_cmp (Excluded v) Unbounded n) es
     ∙ filter_agree (λ e. range_contains nat_cmp (Excluded v) Unbounded e.version) (λ e. nat_lt v e.version) (λ e. less_number v e.version) es
 
-version-at : (before : ℕ) (es : List Entry) (n v : ℕ) (e : Entry) → length es ≡ suc n → slice_get (numbered es) n ≡ Some (v, e) → v ≡ last_version before es
+version-at : (before : ℕ) (es : List Entry) (n v : ℕ) (e : Entry) → length es ≡ suc n → slice_get (with_versions es) n ≡ Some (v, e) → v ≡ last_version before es
 version-at before [] n v e long found = absurd (omega arith)
 version-at before (x ∷ []) zero v e long found = ap (λ (o : Option (ℕ × Entry)). unwrap_or (option_map (λ p. p.0) o) 0) (sym found)
 version-at before (x ∷ []) (suc n) v e long found = absurd (omega arith)
 version-at before (x ∷ y ∷ ys) zero v e long found = absurd (omega arith)
 version-at before (x ∷ y ∷ ys) (suc n) v e long found = version-at x.version (y ∷ ys) n v e (omega arith) found
 
-pub version-last : (es : List Entry) (v : ℕ) (e : Entry) → slice_get (numbered es) (length (numbered es) - 1) ≡ Some (v, e) → v ≡ last_version 0 es
+pub version-last : (es : List Entry) (v : ℕ) (e : Entry) → slice_get (with_versions es) (length (with_versions es) - 1) ≡ Some (v, e) → v ≡ last_version 0 es
 version-last [] v e found = absurd (cc)
 version-last (x ∷ xs) v e found =
-    let n : length (numbered (x ∷ xs)) - 1 ≡ length xs = omega (arith, length-map {B = ℕ × Entry} xs (λ e. (e.version, e))) in
+    let n : length (with_versions (x ∷ xs)) - 1 ≡ length xs = omega (arith, length-map {B = ℕ × Entry} xs (λ e. (e.version, e))) in
     version-at 0 (x ∷ xs) (length xs) v e refl (rw n at found)
 
 -- ---- a write
@@ -136,7 +136,7 @@ in_front-of : (x : Entry) {ps qs : List (ℕ × Entry)} → ps ≡ qs → (x.ver
 in_front-of x is = ap (λ rest. (x.version, x) ∷ rest) is
 
 insert-last : (low : ℕ) (es : List Entry) (e : Entry) → are_ascending low es ≡ true → last_version low es < e.version
-    → insert_entry nat_cmp (numbered es) e.version e ≡ numbered (es ++ e ∷ [])
+    → insert_entry nat_cmp (with_versions es) e.version e ≡ with_versions (es ++ e ∷ [])
 insert-last low [] e up later = refl
 insert-last low (x ∷ xs) e up later =
     let parts = and_parts (nat_lt low x.version) (are_ascending x.version xs) up in
@@ -144,7 +144,7 @@ insert-last low (x ∷ xs) e up later =
     rw behind (in_front-of x (insert-last x.version xs e parts.1 later))
 
 remove-last : (low : ℕ) (es : List Entry) (e : Entry) → are_ascending low es ≡ true → last_version low es < e.version
-    → remove_entry (is_at (nat_cmp e.version)) (numbered (es ++ e ∷ [])) ≡ numbered es
+    → remove_entry (is_at (nat_cmp e.version)) (with_versions (es ++ e ∷ [])) ≡ with_versions es
 remove-last low [] e up later = grind (arith, nat_tests, at_number e.version e.version)
 remove-last low (x ∷ xs) e up later =
     let parts = and_parts (nat_lt low x.version) (are_ascending x.version xs) up in
@@ -152,20 +152,20 @@ remove-last low (x ∷ xs) e up later =
     rw behind (in_front-of x (remove-last x.version xs e parts.1 later))
 
 remove-here : (x : Entry) (xs : List Entry) (e : Entry) → pointwise nat_eq x.key e.key ≡ true → has_key x.key xs ≡ false
-    → remove_entry (is_at (nat_cmp x.version)) (numbered (x ∷ xs ++ e ∷ [])) ≡ numbered (entered (x ∷ xs) (e ∷ []))
+    → remove_entry (is_at (nat_cmp x.version)) (with_versions (x ∷ xs ++ e ∷ [])) ≡ with_versions (entered (x ∷ xs) (e ∷ []))
 remove-here x xs e here alone =
     let none : has_key e.key xs ≡ false = ap (λ (key : List ℕ). has_key key xs) (sym ((bytes_decides x.key e.key).0 here)) ∙ alone in
     let others = without-none e xs none in
     grind (arith, nat_tests, at_number x.version x.version, nat_list_eq_equiv.symm x.key e.key)
 
 remove-behind : (x : Entry) (xs : List Entry) (e : Entry) (v : ℕ) → pointwise nat_eq x.key e.key ≡ false → x.version < v
-    → remove_entry (is_at (nat_cmp v)) (numbered (xs ++ e ∷ [])) ≡ numbered (entered xs (e ∷ []))
-    → remove_entry (is_at (nat_cmp v)) (numbered (x ∷ xs ++ e ∷ [])) ≡ numbered (entered (x ∷ xs) (e ∷ []))
+    → remove_entry (is_at (nat_cmp v)) (with_versions (xs ++ e ∷ [])) ≡ with_versions (entered xs (e ∷ []))
+    → remove_entry (is_at (nat_cmp v)) (with_versions (x ∷ xs ++ e ∷ [])) ≡ with_versions (entered (x ∷ xs) (e ∷ []))
 remove-behind x xs e v other later rest = grind (arith, greater v x.version, nat_list_eq_equiv.symm x.key e.key)
 
 -- what stood under the key goes
 remove-old : (low : ℕ) (es : List Entry) (e : Entry) (v : ℕ) → are_ascending low es ≡ true → are_distinct es ≡ true → version_at e.key es ≡ Some v
-    → remove_entry (is_at (nat_cmp v)) (numbered (es ++ e ∷ [])) ≡ numbered (entered es (e ∷ []))
+    → remove_entry (is_at (nat_cmp v)) (with_versions (es ++ e ∷ [])) ≡ with_versions (entered es (e ∷ []))
 remove-old low [] e v up apart is = absurd (cc)
 remove-old low (x ∷ xs) e v up apart is =
     let rises = and_parts (nat_lt low x.version) (are_ascending x.version xs) up in
@@ -173,7 +173,7 @@ remove-old low (x ∷ xs) e v up apart is =
     ⊎_elim
     (λ here.
     let first : x.version ≡ v = grind arith in
-    subst (λ (n : ℕ). remove_entry (is_at (nat_cmp n)) (numbered (x ∷ xs ++ e ∷ [])) ≡ numbered (entered (x ∷ xs) (e ∷ []))) first
+    subst (λ (n : ℕ). remove_entry (is_at (nat_cmp n)) (with_versions (x ∷ xs ++ e ∷ [])) ≡ with_versions (entered (x ∷ xs) (e ∷ []))) first
     (remove-here x xs e here (not-true (has_key x.key xs) parts.0)))
     (λ other.
     let behind : version_at e.key xs ≡ Some v = grind arith in
@@ -204,10 +204,10 @@ pub record AreOf (entries : List (ℕ × Entry)) (versions : List (List ℕ × �
   pub values : values_of entries ≡ es
   pub agree : Agree entries versions
 
-AreOf-numbered : (entries : List (ℕ × Entry)) (versions : List (List ℕ × ℕ)) (es : List Entry) → entries ≡ numbered es → Keyed versions es → AreOf entries versions es
-AreOf-numbered entries versions es is keyed =
-    let values : values_of entries ≡ es = ap values_of is ∙ values-numbered es in
-    record { values = values; agree = record { numbered = is ∙ ap numbered (sym values); keyed = subst (Keyed versions) (sym values) keyed } }
+AreOf-with_versions : (entries : List (ℕ × Entry)) (versions : List (List ℕ × ℕ)) (es : List Entry) → entries ≡ with_versions es → Keyed versions es → AreOf entries versions es
+AreOf-with_versions entries versions es is keyed =
+    let values : values_of entries ≡ es = ap values_of is ∙ values-with_versions es in
+    record { values = values; agree = record { with_versions = is ∙ ap with_versions (sym values); keyed = subst (Keyed versions) (sym values) keyed } }
 
 -- the versions are those before, with that of the entry under its key
 abbrev pub Takes : Entry → List (List ℕ × ℕ) → List (List ℕ × ℕ) → Type 0
@@ -216,21 +216,21 @@ Takes e old new =
 
 module _ (m0 m1 : List (ℕ × Entry)) (old new : List (List ℕ × ℕ)) (e : Entry) (agree : Agree m0 old) (plain : IsPlainTable (plain_table (values_of m0)))
     (later : last_version 0 (values_of m0) < e.version) (inserted : m1 ≡ insert_entry nat_cmp m0 e.version e) where
-  inserted-last : m1 ≡ numbered (values_of m0 ++ e ∷ [])
+  inserted-last : m1 ≡ with_versions (values_of m0 ++ e ∷ [])
   inserted-last =
-      inserted ∙ ap (λ (m : List (ℕ × Entry)). insert_entry nat_cmp m e.version e) agree.numbered ∙ insert-last 0 (values_of m0) e plain.run.ascending later
+      inserted ∙ ap (λ (m : List (ℕ × Entry)). insert_entry nat_cmp m e.version e) agree.with_versions ∙ insert-last 0 (values_of m0) e plain.run.ascending later
 
   -- the key is new
   pub AreOf-added : Takes e old new → lookup (is_at (slice_cmp nat_cmp e.key)) old ≡ None → AreOf m1 new (entered (values_of m0) (e ∷ []))
   AreOf-added takes none =
-      AreOf-numbered m1 new (entered (values_of m0) (e ∷ [])) (inserted-last ∙ ap numbered (entered-new (values_of m0) e (sym (agree.keyed e.key) ∙ none)))
+      AreOf-with_versions m1 new (entered (values_of m0) (e ∷ [])) (inserted-last ∙ ap with_versions (entered-new (values_of m0) e (sym (agree.keyed e.key) ∙ none)))
       (Keyed-entered (values_of m0) e old new agree.keyed takes)
 
   -- the key had an entry, which goes
   pub AreOf-replaced : (v : ℕ) (m2 : List (ℕ × Entry)) → Takes e old new → lookup (is_at (slice_cmp nat_cmp e.key)) old ≡ Some v → m2 ≡ remove_entry (is_at (nat_cmp v)) m1
       → AreOf m2 new (entered (values_of m0) (e ∷ []))
   AreOf-replaced v m2 takes some removed =
-      AreOf-numbered m2 new (entered (values_of m0) (e ∷ []))
+      AreOf-with_versions m2 new (entered (values_of m0) (e ∷ []))
       (removed ∙ ap (remove_entry (is_at (nat_cmp v))) inserted-last
       ∙ remove-old 0 (values_of m0) e v plain.run.ascending plain.run.distinct (sym (agree.keyed e.key) ∙ some))
       (Keyed-entered (values_of m0) e old new agree.keyed takes)
@@ -238,6 +238,6 @@ module _ (m0 m1 : List (ℕ × Entry)) (old new : List (List ℕ × ℕ)) (e : E
   -- the new entry goes again
   pub AreOf-undone : (m2 : List (ℕ × Entry)) → new ≡ old → m2 ≡ remove_entry (is_at (nat_cmp e.version)) m1 → AreOf m2 new (values_of m0)
   AreOf-undone m2 same removed =
-      AreOf-numbered m2 new (values_of m0)
+      AreOf-with_versions m2 new (values_of m0)
       (removed ∙ ap (remove_entry (is_at (nat_cmp e.version))) inserted-last ∙ remove-last 0 (values_of m0) e plain.run.ascending later)
       (subst (λ (versions : List (List ℕ × ℕ)). Keyed versions (values_of m0)) (sym same) agree.keyed)

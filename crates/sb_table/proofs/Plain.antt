@@ -27,7 +27,7 @@ IsPlainTable-with_entry t e plain later room =
       };
       floor = plain.floor;
       last = sym last;
-      few = length-entered e t.entries KEYS_MOST plain.few room;
+      limit = length-entered e t.entries KEYS_MOST plain.limit room;
     }
 
 -- what `push` leaves, whichever way it ends

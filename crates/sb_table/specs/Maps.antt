@@ -10,8 +10,8 @@ use Rattle.sb_types.specs.Records.{Entry}
 use Rattle.sb_types.specs.Runs.{entry_at}
 
 -- each entry with its version
-abbrev pub numbered : List Entry → List (ℕ × Entry)
-numbered entries = map (λ entry. (entry.version, entry)) entries
+abbrev pub with_versions : List Entry → List (ℕ × Entry)
+with_versions entries = map (λ entry. (entry.version, entry)) entries
 
 -- the version of the entry under a key, where there is one
 abbrev pub version_at : List ℕ → List Entry → Option ℕ
@@ -19,7 +19,7 @@ version_at key entries = option_map (λ entry. entry.version) (entry_at key entr
 
 -- each entry stands at its version, and each key at the version of its entry
 pub record Agree (entries : List (ℕ × Entry)) (versions : List (List ℕ × ℕ)) : Type 0 where
-  pub numbered : entries ≡ numbered (values_of entries)
+  pub with_versions : entries ≡ with_versions (values_of entries)
   pub keyed : (key : List ℕ) → lookup (is_at (slice_cmp nat_cmp key)) versions ≡ version_at key (values_of entries)
 
 -- the entry in front of the others, where there is one

@@ -14,7 +14,7 @@ pub record IsPlainTable (t : Table) : Type 0 where
   pub run : IsRun 0 t.held t.entries
   pub floor : t.floor ≡ 0
   pub last : t.held ≡ last_version 0 t.entries
-  pub few : length t.entries ≤ KEYS_MOST
+  pub limit : length t.entries ≤ KEYS_MOST
 
 -- the table with the entry in place of its key's
 abbrev pub with_entry : Table → Entry → Table

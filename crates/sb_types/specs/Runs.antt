@@ -36,16 +36,16 @@ abbrev pub above : ℕ → List Entry → List Entry
 above version entries = filter (λ entry. nat_lt version entry.version) entries
 
 -- the entries up to a version
-abbrev pub within : ℕ → List Entry → List Entry
-within version entries = filter (λ entry. nat_le entry.version version) entries
+abbrev pub up_to : ℕ → List Entry → List Entry
+up_to version entries = filter (λ entry. nat_le entry.version version) entries
 
 -- the entries under none of these entries' keys
 abbrev pub without : List Entry → List Entry → List Entry
 without others entries = filter (λ entry. not (has_key entry.key others)) entries
 
 -- the entries under one of these entries' keys
-abbrev pub only : List Entry → List Entry → List Entry
-only others entries = filter (λ entry. has_key entry.key others) entries
+abbrev pub under_keys_of : List Entry → List Entry → List Entry
+under_keys_of others entries = filter (λ entry. has_key entry.key others) entries
 
 abbrev pub is_set : Slot → Bool
 is_set (Set value) = true
@@ -79,14 +79,14 @@ pub record IsBlock (b : Block) : Type 0 where
 abbrev pub entry_at : List ℕ → List Entry → Option Entry
 entry_at key entries = find (λ entry. pointwise nat_eq entry.key key) entries
 
-abbrev pub set_at : ℕ → Slot → Option (Value × ℕ)
-set_at version (Set value) = Some (value, version)
-set_at version Removed = None
+abbrev pub shown_slot : ℕ → Slot → Option (Value × ℕ)
+shown_slot version (Set value) = Some (value, version)
+shown_slot version Removed = None
 
-abbrev pub shown_of : Option Entry → Option (Value × ℕ)
-shown_of None = None
-shown_of (Some e) = set_at e.version e.slot
+abbrev pub shown_by_entry : Option Entry → Option (Value × ℕ)
+shown_by_entry None = None
+shown_by_entry (Some e) = shown_slot e.version e.slot
 
 -- what a reader is shown of a key: the value and its version, or nothing for a marker or an absent key
 abbrev pub shown_at : List ℕ → List Entry → Option (Value × ℕ)
-shown_at key entries = shown_of (entry_at key entries)
+shown_at key entries = shown_by_entry (entry_at key entries)

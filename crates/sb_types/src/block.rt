@@ -44,7 +44,7 @@ impl Model for Block {
 }
 
 /// Whether each version is above the one before, and the first above `after`.
-fn do_ascend(after: u64, entries: &[Entry]) -> bool
+fn are_versions_ascending(after: u64, entries: &[Entry]) -> bool
     ensures { result ≡ are_ascending after entries.now }
 {
     let mut last = after;
@@ -82,7 +82,7 @@ impl Block {
     {
         if entries.is_empty()
             || entries.len() > ENTRIES_MOST
-            || !do_ascend(after, &entries)
+            || !are_versions_ascending(after, &entries)
             || !are_keys_distinct(&mut entries)
         {
             return Err(Fault::Malformed(KIND_DELTA));

@@ -66,7 +66,7 @@ impl Model for Rows {
 }
 
 /// Whether each row is behind the one before, by owner and then by key.
-fn do_ascend(rows: &[Row]) -> bool
+fn are_rows_ascending(rows: &[Row]) -> bool
     ensures { result ≡ are_rows_above [] [] rows.now }
 {
     let mut last_owner: &[u8] = &[];
@@ -170,7 +170,7 @@ impl Rows {
     pub fn new(more: bool, rows: Vec<Row>) -> Result<Rows, Fault>
         ensures { result ≡ (if are_page_rows rows.items then Ok (rows_of more rows.items) else Err (Fault.Malformed KIND_ROWS)) }
     {
-        if !do_ascend(&rows) {
+        if !are_rows_ascending(&rows) {
             return Err(Fault::Malformed(KIND_ROWS));
         }
         let Some(length) = length_within(&rows) else {

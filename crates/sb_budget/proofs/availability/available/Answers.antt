@@ -2,7 +2,7 @@ use Rattle.std.proofs.Common.{None, sym, ap, subst, ◌∙◌}
 use Rattle.std.specs.List.Sorted.{IsStrictlySortedBy}
 use Rattle.std.specs.Map.{keys_of}
 use Rattle.sb_holdings.specs.Plain.{tables_from}
-use Rattle.sb_digest.specs.Digests.{covers, number}
+use Rattle.sb_digest.specs.Digests.{covers, held_in}
 use Rattle.sb_budget.specs.Available.{AreRanked}
 use Rattle.sb_budget.specs.Cut.{items_of_all, CanCut}
 use Rattle.sb_budget.specs.Orders.{IsOffer}

@@ -1,7 +1,7 @@
 use Rattle.std.proofs.Common.{◌≡◌, ◌++◌}
 use Rattle.std.specs.Prelude.{None}
 use Rattle.sb_holdings.specs.Plain.{tables_from}
-use Rattle.sb_digest.specs.Digests.{covers, number}
+use Rattle.sb_digest.specs.Digests.{covers, held_in}
 use Rattle.sb_budget.proofs.AvailableLemmas.{all_parts}
 use Rattle.sb_budget.proofs.availability.available.Given as goal
 

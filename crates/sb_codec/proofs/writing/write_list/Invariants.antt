@@ -5,4 +5,4 @@ use Rattle.sb_codec.specs.Spelling.{number}
 use Rattle.sb_codec.proofs.writing.write_list.Given as goal
 
 abbrev pub invariant-loop-item : goal.invariant-loop-item
-invariant-loop-item g l = l.out.items ≡ l.fn.out.items ++ (number w16 (length l.items) ++ flat_map g.T.Spelled.spelling (take l.item-index l.items))
+invariant-loop-item g l = l.out.items ≡ l.fn.out.items ++ (number w16 (length l.items) ++ flat_map g.T.ListItem.spelling (take l.item-index l.items))

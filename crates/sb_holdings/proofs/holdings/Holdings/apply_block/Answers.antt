@@ -2,7 +2,7 @@ use Rattle.std.proofs.Common.{◌≡◌, ◌<◌, List, ℕ, true, length, sym, 
 use Rattle.sb_types.specs.Records.{Entry, Block}
 use Rattle.sb_types.specs.Runs.{above, are_ascending, are_distinct}
 use Rattle.sb_holdings.specs.Held.{Held, shown_of}
-use Rattle.sb_holdings.proofs.Ended.{block-ascending, new-some, new-run, with_entered-treated}
+use Rattle.sb_holdings.proofs.Ended.{block-ascending, new-some, new-run, with_entered-held_after_block}
 use Rattle.sb_holdings.proofs.holdings.Holdings.apply_block.Goals as goal
 
 pub entries_above-requires : goal.entries_above-requires
@@ -40,4 +40,4 @@ returns-clause-effect c =
     let b = c.args.block.now in
     let new = new_entries c.args.self.now b c.owner.result.now c.upto-held.result c.entries.result.now c.entries_above.result.now c.owner.ensures.owner c.upto-held.ensures.version c.entries.ensures.entries c.entries_above.ensures in
     c.enter.ensures.effect
-    ∙ with_entered-treated c.args.self.now b c.enter.result c.owner-2.result.now c.entries_above.result.now c.upto-held.ensures.holdings c.entries.ensures.block c.in_default.ensures.joins c.owner-2.ensures.owner new c.enter.ensures.end
+    ∙ with_entered-held_after_block c.args.self.now b c.enter.result c.owner-2.result.now c.entries_above.result.now c.upto-held.ensures.holdings c.entries.ensures.block c.in_default.ensures.joins c.owner-2.ensures.owner new c.enter.ensures.end

@@ -11,5 +11,5 @@ use Rattle.sb_table.proofs.table.Table.after.Goals as goal
 pub returns-clause-entries : goal.returns-clause-entries
 returns-clause-entries c =
     let version = c.args.version in
-    c.new.ensures ∙ ap values_of (c.range.ensures.between tt ∙ ap (entries_between nat_cmp (Excluded version) Unbounded) c.self.invariant.1.numbered)
+    c.new.ensures ∙ ap values_of (c.range.ensures.between tt ∙ ap (entries_between nat_cmp (Excluded version) Unbounded) c.self.invariant.1.with_versions)
     ∙ values-above version (values_of c.self.inside.entries.entries) ∙ ap (λ (t : Table). above version t.entries) c.self.view_is

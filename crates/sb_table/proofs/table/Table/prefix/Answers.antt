@@ -15,7 +15,7 @@ pub new-requires : goal.new-requires
 new-requires c =
     let entries = c.self.inside.entries.entries in
     let table = c.self.invariant in
-    subst (λ (m : List (ℕ × Entry)). Ends c.args.prefix.now m c.range.result) (sym table.1.numbered)
+    subst (λ (m : List (ℕ × Entry)). Ends c.args.prefix.now m c.range.result) (sym table.1.with_versions)
     (Ends-under c.args.prefix.now (values_of entries) table.0.run.ascending table.0.run.distinct
     (range_contains (slice_cmp nat_cmp) c.start_of.result Unbounded) (λ key. and-true _ ∙ c.start_of.ensures key)
     c.self.inside.versions.entries c.range.result table.1.keyed c.range.ensures.ordered (c.range.ensures.between tt) (λ k d lt. ((c.range.ensures.in_range tt).0 k d lt).1))
@@ -24,7 +24,7 @@ pub returns-clause-entries : goal.returns-clause-entries
 returns-clause-entries c =
     let entries = c.self.inside.entries.entries in
     let table = c.self.invariant in
-    c.new.ensures ∙ ap (λ (m : List (ℕ × Entry)). reached c.args.prefix.now m c.range.result) table.1.numbered
+    c.new.ensures ∙ ap (λ (m : List (ℕ × Entry)). reached c.args.prefix.now m c.range.result) table.1.with_versions
     ∙ reached-under c.args.prefix.now (values_of entries) table.0.run.ascending table.0.run.distinct
     (range_contains (slice_cmp nat_cmp) c.start_of.result Unbounded) (λ key. and-true _ ∙ c.start_of.ensures key)
     c.self.inside.versions.entries c.range.result table.1.keyed c.range.ensures.ordered (c.range.ensures.between tt) (λ k d lt. ((c.range.ensures.in_range tt).0 k d lt).1)

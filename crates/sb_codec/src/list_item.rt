@@ -9,7 +9,7 @@ use sb_types::{Block, Entry};
 use std::alloc::{AllocError, Global};
 
 /// What a counted list holds.
-pub(crate) trait Spelled: Drop {
+pub(crate) trait ListItem: Drop {
     ghost use Rattle.std.specs.Prelude.{◌≡◌, ℕ, ◌<◌, List, ◌++◌, OnOk};
     ghost use Rattle.sb_codec.specs.Refusal.{Reads};
     ghost use Rattle.sb_codec.specs.Fields.{Field};
@@ -34,15 +34,15 @@ pub(crate) trait Spelled: Drop {
     ghost least: { 0 < LEAST };
 }
 
-impl Spelled for Entry {
+impl ListItem for Entry {
     ghost use Rattle.std.specs.Prelude.{◌<◌};
     ghost use Rattle.std.proofs.Common.{lit<};
     ghost use Rattle.sb_codec.specs.Spelling.{entry};
-    ghost use Rattle.sb_codec.specs.Reading.{entry_at};
+    ghost use Rattle.sb_codec.specs.Reading.{entry_field};
 
     ghost spelling = { entry };
 
-    ghost field = { entry_at };
+    ghost field = { entry_field };
 
     ghost LEAST = { 11 };
 
@@ -60,15 +60,15 @@ impl Spelled for Entry {
     }
 }
 
-impl Spelled for Block {
+impl ListItem for Block {
     ghost use Rattle.std.specs.Prelude.{◌<◌};
     ghost use Rattle.std.proofs.Common.{lit<};
     ghost use Rattle.sb_codec.specs.Spelling.{block};
-    ghost use Rattle.sb_codec.specs.Reading.{block_at};
+    ghost use Rattle.sb_codec.specs.Reading.{block_field};
 
     ghost spelling = { block };
 
-    ghost field = { block_at };
+    ghost field = { block_field };
 
     ghost LEAST = { 23 };
 
@@ -86,15 +86,15 @@ impl Spelled for Block {
     }
 }
 
-impl Spelled for Pair {
+impl ListItem for Pair {
     ghost use Rattle.std.specs.Prelude.{◌<◌};
     ghost use Rattle.std.proofs.Common.{lit<};
     ghost use Rattle.sb_codec.specs.Spelling.{pair};
-    ghost use Rattle.sb_codec.specs.Reading.{pair_at};
+    ghost use Rattle.sb_codec.specs.Reading.{pair_field};
 
     ghost spelling = { pair };
 
-    ghost field = { pair_at };
+    ghost field = { pair_field };
 
     ghost LEAST = { 10 };
 
@@ -112,15 +112,15 @@ impl Spelled for Pair {
     }
 }
 
-impl Spelled for Row {
+impl ListItem for Row {
     ghost use Rattle.std.specs.Prelude.{◌<◌};
     ghost use Rattle.std.proofs.Common.{lit<};
     ghost use Rattle.sb_codec.specs.Spelling.{row};
-    ghost use Rattle.sb_codec.specs.Reading.{row_at};
+    ghost use Rattle.sb_codec.specs.Reading.{row_field};
 
     ghost spelling = { row };
 
-    ghost field = { row_at };
+    ghost field = { row_field };
 
     ghost LEAST = { 14 };
 

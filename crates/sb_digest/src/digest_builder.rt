@@ -2,7 +2,7 @@
 ghost use Rattle.std.specs.Prelude.{◌≡◌, ◌≤◌, ◌<◌, ◌-◌, true, false, [], length, take, slice_get, if◌then◌else◌, IfOk, OnErr, IfErr};
 ghost use Rattle.sb_types.specs.declared.fault.Fault.TheVariants.{NoMemory};
 ghost use Rattle.std.specs.Option.{option_copied, option_map};
-ghost use Rattle.sb_digest.specs.Fronts.{front_of, IsLongestFront, with_pair, has_room, comes_next, IsFront};
+ghost use Rattle.sb_digest.specs.Builders.{digest_of_first, IsLongestFront, with_pair, has_room, comes_next, IsDigestBuilder};
 
 use crate::digest::{Digest, Pair, length_of_head};
 use sb_types::{BUDGET_LEAST, BUDGET_MOST, BYTE_LENGTH, Fault, HEADER_LENGTH, NUMBER_LENGTH, Name};
@@ -14,7 +14,7 @@ const CUT_SAVES: u64 = NUMBER_LENGTH + BYTE_LENGTH;
 
 /// Pairs from a bound on, as long as a digest that ends before the last of them is within the budget.
 #[derive(Drop)]
-pub(crate) struct Front {
+pub(crate) struct DigestBuilder {
     budget: u64,
     from: Option<Name>,
     pairs: Vec<Pair>,
@@ -22,17 +22,17 @@ pub(crate) struct Front {
     length: u64,
 }
 
-impl Model for Front {
+impl Model for DigestBuilder {
     ghost use Rattle.std.specs.Prelude.{◌≡◌, true, None};
     ghost use Rattle.sb_digest.specs.Digests.{digest_of};
     ghost use Rattle.sb_digest.specs.Lengths.{digest_length};
-    ghost use Rattle.sb_digest.specs.Fronts as fronts;
+    ghost use Rattle.sb_digest.specs.Builders as fronts;
 
-    ghost Value = { fronts.Front };
+    ghost Value = { fronts.DigestBuilder };
 
     ghost view = { λ f. record { budget = f.budget; from = f.from; pairs = f.pairs.items } };
 
-    ghost invariant = { λ f. fronts.IsFront (record { budget = f.budget; from = f.from; pairs = f.pairs.items }) × (f.length ≡ digest_length (digest_of true f.from None f.pairs.items)) };
+    ghost invariant = { λ f. fronts.IsDigestBuilder (record { budget = f.budget; from = f.from; pairs = f.pairs.items }) × (f.length ≡ digest_length (digest_of true f.from None f.pairs.items)) };
 }
 
 /// Takes the last pair out, and gives its owner.
@@ -45,15 +45,15 @@ fn pop_owner(pairs: &mut Vec<Pair>) -> Option<Name>
     Some(last.owner)
 }
 
-impl Front {
+impl DigestBuilder {
     /// No pairs yet, from a bound on, within a budget of 256 to 65,536 bytes. It takes no memory.
-    pub(crate) fn new(alloc: Global, from: Option<&Name>, budget: u64) -> Front
+    pub(crate) fn new(alloc: Global, from: Option<&Name>, budget: u64) -> DigestBuilder
         requires least { BUDGET_LEAST ≤ budget }
         requires most { budget ≤ BUDGET_MOST }
         ensures nothing { result ≡ record { budget = budget; from = option_copied from.entry; pairs = [] } }
-        ensures front { IsFront result }
+        ensures front { IsDigestBuilder result }
     {
-        Front {
+        DigestBuilder {
             budget,
             from: from.copied(),
             pairs: Vec::new(alloc),
@@ -69,7 +69,7 @@ impl Front {
         ensures ok { IfOk result (λ taken. self.new ≡ (if taken then with_pair self.old pair else self.old)) }
         ensures err { OnErr result (self.new ≡ self.old) }
         ensures memory { IfErr result (λ fault. fault ≡ NoMemory) }
-        ensures front { IsFront self.new }
+        ensures front { IsDigestBuilder self.new }
 
         // There is always room for two.
         ensures two { IfOk result (λ taken. taken ≡ false → 1 < length self.old.pairs) }
@@ -86,9 +86,9 @@ impl Front {
     /// The digest of all pairs but the last, which ends before that.
     pub(crate) fn cut(self, want: bool) -> Digest
         requires { 1 < length self.pairs }
-        ensures { result ≡ front_of want self.from self.pairs (length self.pairs - 1) }
+        ensures { result ≡ digest_of_first want self.from self.pairs (length self.pairs - 1) }
     {
-        let Front {
+        let DigestBuilder {
             from,
             mut pairs,
             length,
@@ -106,7 +106,7 @@ impl Front {
         if HEADER_LENGTH + self.length > self.budget {
             return self.cut(want);
         }
-        let Front {
+        let DigestBuilder {
             from,
             pairs,
             length,

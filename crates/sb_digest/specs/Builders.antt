@@ -6,28 +6,28 @@ use Rattle.sb_types.specs.declared.limits.TheConstants.{BUDGET_LEAST, BUDGET_MOS
 use Rattle.sb_types.specs.Limits.{text_lt}
 use Rattle.sb_holdings.specs.Plain.{is_from}
 use Rattle.sb_digest.specs.Digests.{Pair, Digest, digest_of}
-use Rattle.sb_digest.specs.Lengths.{frame_length}
+use Rattle.sb_digest.specs.Lengths.{digest_frame_length}
 use Rattle.sb_digest.specs.Limits.{are_pairs_above, is_bound, is_pair}
 
 -- the first pairs, up to the name of the next; of all pairs there is no next, and the range has no end
-abbrev pub front_of : Bool → Option (List ℕ) → List Pair → ℕ → Digest
-front_of want from pairs count = digest_of want from (option_map (λ pair. pair.owner) (slice_get pairs count)) (take count pairs)
+abbrev pub digest_of_first : Bool → Option (List ℕ) → List Pair → ℕ → Digest
+digest_of_first want from pairs count = digest_of want from (option_map (λ pair. pair.owner) (slice_get pairs count)) (take count pairs)
 
 -- of the fronts whose frames are within the budget, the one with the most pairs
 pub record IsLongestFront (budget : ℕ) (want : Bool) (from : Option (List ℕ)) (pairs : List Pair) (d : Digest) : Type 0 where
   pub count : ℕ
   pub most : count ≤ length pairs
-  pub front : d ≡ front_of want from pairs count
-  pub fits : frame_length d ≤ budget
-  pub longest : (more : ℕ) → count < more → more ≤ length pairs → budget < frame_length (front_of want from pairs more)
+  pub front : d ≡ digest_of_first want from pairs count
+  pub fits : digest_frame_length d ≤ budget
+  pub longest : (more : ℕ) → count < more → more ≤ length pairs → budget < digest_frame_length (digest_of_first want from pairs more)
 
 -- the pairs so far, from a bound on
-pub record Front : Type 0 where
+pub record DigestBuilder : Type 0 where
   pub budget : ℕ
   pub from : Option (List ℕ)
   pub pairs : List Pair
 
-abbrev pub with_pair : Front → Pair → Front
+abbrev pub with_pair : DigestBuilder → Pair → DigestBuilder
 with_pair f pair = record { budget = f.budget; from = f.from; pairs = f.pairs ++ pair ∷ [] }
 
 -- how many bytes it saves to end before a pair: its version, and one length byte, since its owner's name becomes
@@ -36,14 +36,14 @@ abbrev pub cut_saves : ℕ
 cut_saves = 9
 
 -- a digest of all pairs but the last is within the budget
-abbrev pub has_room : Front → Bool
-has_room f = nat_le (frame_length (digest_of true f.from None f.pairs)) (f.budget + cut_saves)
+abbrev pub has_room : DigestBuilder → Bool
+has_room f = nat_le (digest_frame_length (digest_of true f.from None f.pairs)) (f.budget + cut_saves)
 
 -- the pair's owner is in the range, and behind the owners so far
-abbrev pub comes_next : Front → Pair → Bool
+abbrev pub comes_next : DigestBuilder → Pair → Bool
 comes_next f pair = is_from f.from pair.owner && list_all (λ before. text_lt before.owner pair.owner) f.pairs
 
-pub record IsFront (f : Front) : Type 0 where
+pub record IsDigestBuilder (f : DigestBuilder) : Type 0 where
   pub least : BUDGET_LEAST ≤ f.budget
   pub most : f.budget ≤ BUDGET_MOST
   pub bound : is_bound f.from ≡ true

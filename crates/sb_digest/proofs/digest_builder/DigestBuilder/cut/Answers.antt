@@ -1,7 +1,7 @@
 use Rattle.std.proofs.Common.{◌<◌, length, arith}
 use Rattle.sb_digest.proofs.Longest.{digest_length-front}
 use Rattle.sb_digest.proofs.Cutting.{front_is_digest}
-use Rattle.sb_digest.proofs.front.Front.cut.Goals as goal
+use Rattle.sb_digest.proofs.digest_builder.DigestBuilder.cut.Goals as goal
 
 pub overflow_sub-length : goal.overflow_sub-length
 overflow_sub-length c =
