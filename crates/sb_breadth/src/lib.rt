@@ -10,6 +10,16 @@ use sb_types::Fault;
 use std::alloc::Global;
 
 /// By rank, and of equal rank by the owner's name.
+///
+/// The test `example_of_breadth` runs these lines, for holdings with two writes of `a` and one of `b`:
+/// ```
+/// let digest = Digest::new(true, None, None, Vec::new(alloc))?;
+/// let offered = available(alloc, &holdings, &digest)?;
+/// let ordered = Breadth.arrange(alloc, offered)?;
+/// for (item, version) in ordered.iter().zip([1, 1, 2]) {
+///     assert_eq!(rt; item.entry.version(), version);
+/// }
+/// ```
 #[derive(Clone, Copy, Debug)]
 pub struct Breadth;
 

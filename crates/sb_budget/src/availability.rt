@@ -1,3 +1,4 @@
+//! What a node has to offer in answer to a digest.
 ghost use Rattle.std.specs.Prelude.{◌≡◌, ◌++◌, OnOk, IfOk, IfErr};
 ghost use Rattle.sb_budget.specs.Available.{available_for, ranked_of, AreRanked};
 ghost use Rattle.sb_budget.specs.Cut.{items_of_all, CanCut};

@@ -1,3 +1,4 @@
+//! Entries gathered by owner, as the blocks that they are to make.
 ghost use Rattle.std.specs.Prelude.{◌≡◌, ◌≤◌, ◌+◌, true, length, OnOk, IfOk, IfErr, if◌then◌else◌, Ok, Err};
 ghost use Rattle.std.specs.Ordering.{nat_cmp};
 ghost use Rattle.std.specs.Cmp.Lexicographic.{slice_cmp};

@@ -1,3 +1,4 @@
+//! The longest front of what is offered that fits a budget, as a delta.
 ghost use Rattle.std.specs.Prelude.{◌≡◌, ◌≤◌, ◌<◌, [], true, length, All, IfOk, IfErr};
 ghost use Rattle.sb_types.specs.Limits.{are_block_entries, are_owners_above};
 ghost use Rattle.sb_budget.specs.Cut.{items_of_all, IsCut, CanCut};
@@ -52,6 +53,16 @@ fn blocks_from(alloc: Global, gathered: Vec<BlockBuilder>) -> Result<Vec<Block>,
 /// The longest front of the items whose delta has a frame of at most `budget` bytes, 256 to 65,536, as that
 /// delta. The items have to be as an order leaves them, each owner's in ascending version. The delta has at
 /// least one entry where there is an item; the other items are dropped. `NoMemory`.
+///
+/// The test `example_of_cut` runs these lines, for holdings with one write of a flag under the key `up`, by `a`:
+/// ```
+/// let digest = Digest::new(true, None, None, Vec::new(alloc))?;
+/// let offered = available(alloc, &holdings, &digest)?;
+/// let delta = cut(alloc, offered, 256)?;
+/// assert_eq!(rt; delta.blocks().len(), 1);
+/// // 3 bytes, the block's 12, and the entry's 13.
+/// assert_eq!(rt; delta.encoded_length(), 28);
+/// ```
 pub fn cut(alloc: Global, items: Vec<Offered>, budget: u64) -> Result<Delta, Fault>
     requires least { BUDGET_LEAST ≤ budget }
     requires most { budget ≤ BUDGET_MOST }

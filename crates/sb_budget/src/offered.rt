@@ -1,3 +1,4 @@
+//! What is offered: an entry, with what an order and a cut have to know of it.
 use sb_types::{Entry, Name};
 
 /// An entry that a peer lacks, with what an order and a cut have to know of it.

@@ -1,3 +1,4 @@
+//! What each order of what is offered promises, and what follows of any.
 ghost use Rattle.std.specs.Prelude.{◌≡◌, ℕ, List, IfOk, IfErr, IsPermutation};
 ghost use Rattle.sb_budget.specs.declared.offered.Offered.{Offered};
 ghost use Rattle.sb_budget.specs.Cut.{items_of_all, CanCut};

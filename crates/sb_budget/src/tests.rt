@@ -1,3 +1,4 @@
+//! What is offered and cut at exact budgets, also of all keys that an owner may have.
 ghost use Rattle.std.specs.Prelude.{◌≡◌, ◌≤◌, IfOk};
 
 use super::*;
@@ -94,6 +95,61 @@ fn told(alloc: Global, delta: &Delta) -> Result<Vec<(Name, u64)>, Fault> {
         }
     }
     Ok(told)
+}
+
+/// The own name a, with a flag under each of as many keys of four letters.
+fn flags(alloc: Global, count: u64) -> Result<Holdings, Fault> {
+    let mut holdings = Holdings::new(alloc, Name::read(b"a")?, Table::new(alloc))?;
+    for number in 0..count {
+        let mut key = [b'k'; 4];
+        let mut rest = number;
+        for letter in key.iter_mut() {
+            *letter = b'a' + (rest % 26) as u8;
+            rest /= 26;
+        }
+        let slot = Slot::Set(Value::flag(true));
+        holdings.push_own(Entry::new(Key::read(&key)?, number + 1, slot))?;
+    }
+    Ok(holdings)
+}
+
+/// All 4,096 keys of an owner are offered, and fit a frame of 61,461 bytes.
+#[test]
+fn all_keys_of_an_owner_are_cut(rt: HostRuntime) -> Result<(), Fail> {
+    let alloc = rt.alloc();
+    let holdings = flags(alloc, 4_096)?;
+    for (budget, count, length) in [
+        (65_536, 4_096, 61_461),
+        (61_461, 4_096, 61_461),
+        (61_460, 4_095, 61_446),
+        (256, 15, 246),
+    ] {
+        let delta = cut_of_all(alloc, &holdings, budget)?;
+        assert_eq!(rt; delta.encoded_length() + 6, length, "at {budget}");
+        assert_eq!(rt; delta.blocks().len(), 1, "at {budget}");
+        for block in delta.blocks() {
+            assert_eq!(rt; block.entries().len(), count, "at {budget}");
+            assert_eq!(rt; block.upto(), count as u64, "at {budget}");
+        }
+    }
+    Ok(())
+}
+
+/// The lines of the example of `cut`.
+#[test]
+fn example_of_cut(rt: HostRuntime) -> Result<(), Fail> {
+    let alloc = rt.alloc();
+    let mut table = Table::new(alloc);
+    let slot = Slot::Set(Value::flag(true));
+    table.push(Entry::new(Key::read(b"up")?, 1, slot))?;
+    let holdings = Holdings::new(alloc, Name::read(b"a")?, table)?;
+    let digest = Digest::new(true, None, None, Vec::new(alloc))?;
+    let offered = available(alloc, &holdings, &digest)?;
+    let delta = cut(alloc, offered, 256)?;
+    assert_eq!(rt; delta.blocks().len(), 1);
+    // 3 bytes, the block's 12, and the entry's 13.
+    assert_eq!(rt; delta.encoded_length(), 28);
+    Ok(())
 }
 
 #[test]

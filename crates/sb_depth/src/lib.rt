@@ -11,6 +11,16 @@ use std::alloc::Global;
 use std::cmp::Reverse;
 
 /// By count, the greatest first; of equal count by the owner's name; of one owner by version.
+///
+/// The test `example_of_depth` runs these lines, for holdings with two writes of `a` and one of `b`:
+/// ```
+/// let digest = Digest::new(true, None, None, Vec::new(alloc))?;
+/// let offered = available(alloc, &holdings, &digest)?;
+/// let ordered = Depth.arrange(alloc, offered)?;
+/// for (item, version) in ordered.iter().zip([1, 2, 1]) {
+///     assert_eq!(rt; item.entry.version(), version);
+/// }
+/// ```
 #[derive(Clone, Copy, Debug)]
 pub struct Depth;
 

@@ -1,4 +1,5 @@
-ghost use Rattle.std.specs.Prelude.{IfOk};
+//! In which order items come and are cut, also those of 1,000 owners.
+ghost use Rattle.std.specs.Prelude.{◌≤◌, IfOk};
 ghost use Rattle.sb_budget.specs.Cut.{CanCut};
 
 use super::*;
@@ -23,17 +24,44 @@ fn enter(alloc: Global, holdings: &mut Holdings, owner: Name, letters: &[u8]) ->
     }
 }
 
-/// In this order, all of an owner that wrote three keys, and of others that wrote one each.
-fn arranged(alloc: Global, first: Name, others: &[Name]) -> Result<Vec<Offered>, Fault>
-    ensures { IfOk result (λ ordered. CanCut ordered.items) }
-{
+/// An owner that wrote three keys, and others that wrote one each.
+fn one_and_others(alloc: Global, first: Name, others: &[Name]) -> Result<Holdings, Fault> {
     let mut holdings = Holdings::new(alloc, Name::read(b"n")?, Table::new(alloc))?;
     enter(alloc, &mut holdings, first, b"xyz")?;
     for owner in others {
         enter(alloc, &mut holdings, *owner, b"x")?;
     }
+    Ok(holdings)
+}
+
+fn flag(key: &[u8], version: u64) -> Result<Entry, Fault>
+    requires { 1 ≤ version }
+{
+    Ok(Entry::new(Key::read(key)?, version, Slot::Set(Value::flag(true))))
+}
+
+/// 1,000 owners of names of four letters, each with two writes of 12 bytes.
+fn thousand_owners(alloc: Global) -> Result<Holdings, Fault> {
+    let mut holdings = Holdings::new(alloc, Name::read(b"n")?, Table::new(alloc))?;
+    for number in 0..1_000_u64 {
+        let mut text = [b'a'; 4];
+        let mut rest = number;
+        for letter in text.iter_mut() {
+            *letter = b'a' + (rest % 26) as u8;
+            rest /= 26;
+        }
+        let entries = vec![in alloc; flag(b"x", 1)?, flag(b"y", 2)?]?;
+        holdings.apply_block(&Block::new(Name::read(&text)?, 0, entries)?);
+    }
+    Ok(holdings)
+}
+
+/// All that is held, in this order.
+fn arranged(alloc: Global, holdings: &Holdings) -> Result<Vec<Offered>, Fault>
+    ensures { IfOk result (λ ordered. CanCut ordered.items) }
+{
     let digest = Digest::new(false, None, None, Vec::new(alloc))?;
-    let offered = available(alloc, &holdings, &digest)?;
+    let offered = available(alloc, holdings, &digest)?;
     let ordered = Depth.arrange(alloc, offered)?;
     orders_keep_owners();
     Ok(ordered)
@@ -49,7 +77,7 @@ fn the_longest_owner_comes_first(rt: HostRuntime) -> Result<(), Fail> {
         (a, [b].as_slice(), of_two.as_slice()),
         (b, [c, a].as_slice(), of_three.as_slice()),
     ] {
-        let ordered = arranged(alloc, first, others)?;
+        let ordered = arranged(alloc, &one_and_others(alloc, first, others)?)?;
         assert_eq!(rt; ordered.len(), order.len());
         for (item, place) in ordered.iter().zip(order) {
             assert_eq!(rt; (item.owner, item.entry.version()), *place);
@@ -64,7 +92,11 @@ fn one_owner_is_told_of_at_length(rt: HostRuntime) -> Result<(), Fail> {
     let [a, b] = [Name::read(b"a")?, Name::read(b"b")?];
     let wide = [(a, 1), (a, 2)];
     for (budget, length, entries) in [(440, 427, wide.as_slice()), (438, 427, wide.as_slice())] {
-        let delta = cut(alloc, arranged(alloc, a, &[b])?, budget)?;
+        let delta = cut(
+            alloc,
+            arranged(alloc, &one_and_others(alloc, a, &[b])?)?,
+            budget,
+        )?;
         assert_eq!(rt; delta.encoded_length() + HEADER_LENGTH, length);
         let mut told = Vec::new(alloc);
         for block in delta.blocks() {
@@ -73,6 +105,44 @@ fn one_owner_is_told_of_at_length(rt: HostRuntime) -> Result<(), Fail> {
             }
         }
         assert_eq!(rt; told.as_slice(), entries);
+    }
+    Ok(())
+}
+
+#[test]
+fn a_thousand_owners_are_cut(rt: HostRuntime) -> Result<(), Fail> {
+    let alloc = rt.alloc();
+    let holdings = thousand_owners(alloc)?;
+    for (budget, blocks, entries, length) in [
+        (65_536, 1_000, 2_000, 39_009),
+        (30_000, 769, 1_538, 30_000),
+        (29_999, 769, 1_537, 29_988),
+        (256, 6, 12, 243),
+    ] {
+        let delta = cut(alloc, arranged(alloc, &holdings)?, budget)?;
+        assert_eq!(rt; delta.encoded_length() + HEADER_LENGTH, length);
+        assert_eq!(rt; delta.blocks().len(), blocks);
+        let mut told = 0_usize;
+        for block in delta.blocks() {
+            told = told.wrapping_add(block.entries().len());
+        }
+        assert_eq!(rt; told, entries);
+    }
+    Ok(())
+}
+
+/// The lines of the example of `Depth`.
+#[test]
+fn example_of_depth(rt: HostRuntime) -> Result<(), Fail> {
+    let alloc = rt.alloc();
+    let mut holdings = Holdings::new(alloc, Name::read(b"n")?, Table::new(alloc))?;
+    enter(alloc, &mut holdings, Name::read(b"a")?, b"xy")?;
+    enter(alloc, &mut holdings, Name::read(b"b")?, b"x")?;
+    let digest = Digest::new(true, None, None, Vec::new(alloc))?;
+    let offered = available(alloc, &holdings, &digest)?;
+    let ordered = Depth.arrange(alloc, offered)?;
+    for (item, version) in ordered.iter().zip([1, 2, 1]) {
+        assert_eq!(rt; item.entry.version(), version);
     }
     Ok(())
 }

@@ -1,3 +1,4 @@
+//! Digests and their pairs: their parts, their lengths, and what they say of an owner.
 ghost use Rattle.std.specs.Prelude.{◌≡◌, ◌≤◌, ◌+◌, ◌&&◌, [], nat_le, true, Some, None, OnSome, sum_by, if◌then◌else◌, Ok, Err};
 ghost use Rattle.std.specs.List.{list_all};
 ghost use Rattle.std.specs.Option.{option_copied};
@@ -37,6 +38,17 @@ impl Model for Pair {
 /// How far a node holds the writes of the owners in a range of names: those at or above `from`, and
 /// below `until` where that is given. An owner in the range without a pair is held up to 0. Its payload
 /// has at most 65,530 bytes.
+///
+/// The test `example_of_digest` runs these lines:
+/// ```
+/// let a = Name::read(b"a")?;
+/// let b = Name::read(b"b")?;
+/// let pairs = vec![in alloc; Pair { owner: a, version: 3 }]?;
+/// let digest = Digest::new(true, None, Some(b), pairs)?;
+/// assert!(rt; digest.covers(&a) && !digest.covers(&b));
+/// assert_eq!(rt; digest.number(&a), 3);
+/// assert_eq!(rt; digest.next_from(), Some(b));
+/// ```
 #[derive(Debug, Drop)]
 pub struct Digest {
     want: bool,

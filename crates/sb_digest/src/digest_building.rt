@@ -1,3 +1,4 @@
+//! The digest of what a node holds, within a budget.
 ghost use Rattle.std.specs.Prelude.{◌≡◌, ◌≤◌, ◌<◌, length, IfOk, IfErr};
 ghost use Rattle.sb_types.specs.declared.fault.Fault.TheVariants.{NoMemory};
 ghost use Rattle.sb_digest.specs.Builders.{IsLongestFront};

@@ -1,3 +1,4 @@
+//! Digests that are made, refused, read and built, also of all owners that a node may hold.
 ghost use Rattle.std.specs.Prelude.{◌≤◌, ◌<◌};
 
 use super::*;
@@ -37,6 +38,25 @@ fn six_owners() -> Result<[Name; 6], Fault> {
         Name::read(&[b'e'; 32])?,
         Name::read(&[b'f'; 32])?,
     ])
+}
+
+/// The lines of the example of `Digest`.
+#[test]
+fn example_of_digest(rt: HostRuntime) -> Result<(), Fail> {
+    let alloc = rt.alloc();
+    let a = Name::read(b"a")?;
+    let b = Name::read(b"b")?;
+    let pairs = vec![in alloc;
+        Pair {
+            owner: a,
+            upto: 3
+        },
+    ]?;
+    let digest = Digest::new(true, None, Some(b), pairs)?;
+    assert!(rt; digest.covers(&a) && !digest.covers(&b));
+    assert_eq!(rt; digest.number(&a), 3);
+    assert_eq!(rt; digest.next_from(), Some(b));
+    Ok(())
 }
 
 #[test]
@@ -305,6 +325,50 @@ fn seven_owners_take_two_digests(rt: HostRuntime) -> Result<(), Fail> {
     let next = asked(alloc, &holdings, first.next_from().as_ref(), 256)?;
     assert_extent(&rt, &next, (Some(owners[5]), None), 2, 120);
     assert_eq!(rt; (next.number(&owners[5]), next.number(&seventh)), (1, 0));
+    Ok(())
+}
+
+/// A name of 32 letters for each number.
+fn numbered_name(number: u64) -> Result<Name, Fault> {
+    let mut text = [b'a'; 32];
+    let mut rest = number;
+    for letter in text.iter_mut() {
+        *letter = b'a' + (rest % 26) as u8;
+        rest /= 26;
+    }
+    Name::read(&text)
+}
+
+/// As many owners as a node may hold, the own name without a write and each other with one.
+fn holdings_of_all_owners(alloc: Global) -> Result<Holdings, Fault> {
+    let mut holdings = alone(alloc, numbered_name(0)?)?;
+    for number in 1..1_024 {
+        holdings.apply_block(&write(alloc, &numbered_name(number)?, 1)?);
+    }
+    Ok(holdings)
+}
+
+/// At the greatest budget one digest has all 1,024 owners, at the least one each has a few.
+#[test]
+fn all_owners_are_told_of(rt: HostRuntime) -> Result<(), Fail> {
+    let alloc = rt.alloc();
+    let holdings = holdings_of_all_owners(alloc)?;
+    let all = asked(alloc, &holdings, None, 65_536)?;
+    assert_extent(&rt, &all, (None, None), 1_024, 41_990);
+    assert_eq!(rt; all.number(&numbered_name(0)?), 0);
+    assert_eq!(rt; all.number(&numbered_name(1_023)?), 1);
+    let mut from = None;
+    for turn in 0..256_u32 {
+        let digest = asked(alloc, &holdings, from.as_ref(), 256)?;
+        let (pairs, length) = match turn {
+            0 => (5, 243),
+            255 => (3, 161),
+            _ => (4, 234),
+        };
+        assert_extent(&rt, &digest, (from, digest.until()), pairs, length);
+        from = digest.next_from();
+    }
+    assert_eq!(rt; from, None);
     Ok(())
 }
 

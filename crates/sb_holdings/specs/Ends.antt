@@ -55,7 +55,8 @@ pub record IsTaken (held : Held) (b : Block) (end : BlockEnd) : Type 0 where
   pub place : has_place held b.owner ≡ true
   pub enters : let t = shown_of held b.owner in Enters t.entries (above t.held b.entries) end
 
--- the end is the first that fits
+-- the end is the first that fits; of floors and stages it says nothing yet: it is for blocks whose floor is 0, at nodes
+-- without a stage, as all are until purging comes
 abbrev pub Fits : Held → Block → BlockEnd → Type 0
 Fits held b Own = (is_own held b ≡ true) × (b.upto ≤ (shown_of held b.owner).held)
 Fits held b (OwnAhead upto) = (is_own held b ≡ true) × ((shown_of held b.owner).held < b.upto) × (upto ≡ b.upto)

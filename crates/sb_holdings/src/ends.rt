@@ -1,3 +1,4 @@
+//! How a node ends a block.
 /// How a node ended a block: the first of these that fits.
 #[derive(Clone, Copy, Debug, PartialEq, Eq)]
 pub enum BlockEnd {

@@ -1,3 +1,4 @@
+//! A node's own table and those of other owners, and how blocks and own writes enter them.
 ghost use Rattle.std.specs.Prelude.{◌≡◌, ◌<◌, true, false, nat_eq, Err, OnOk, OnErr, IfOk, IfErr, IfSome, IfNone, List, [], ◌∷◌, length, take};
 ghost use Rattle.std.specs.FinMap.{get, keys};
 ghost use Rattle.std.specs.Ordering.{nat_cmp};
@@ -22,6 +23,17 @@ use std::marker::Model;
 use std::ops::Bound;
 
 /// What a node holds: its own table and those of at most 1,023 other owners, none of them empty.
+///
+/// The test `example_of_holdings` runs these lines:
+/// ```
+/// let a = Name::read(b"a")?;
+/// let mut holdings = Holdings::new(alloc, Name::read(b"b")?, Table::new(alloc))?;
+/// let entry = Entry::new(Key::read(b"up")?, 1, Slot::Set(Value::flag(true)));
+/// let block = Block::new(a, 0, vec![in alloc; entry]?)?;
+/// assert_eq!(rt; holdings.apply_block(&block), BlockEnd::Taken(1));
+/// assert_eq!(rt; holdings.apply_block(&block), BlockEnd::Stale);
+/// assert_eq!(rt; holdings.upto(&a), 1);
+/// ```
 #[derive(Drop)]
 pub struct Holdings {
     me: Name,

@@ -1,3 +1,4 @@
+//! How the blocks of a delta ended.
 ghost use Rattle.std.specs.Prelude.{◌≡◌, length, ◌==◌};
 
 use crate::ends::BlockEnd;

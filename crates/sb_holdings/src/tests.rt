@@ -1,28 +1,25 @@
-ghost use Rattle.std.specs.Prelude.{◌≤◌, ◌<◌};
+//! What is taken of blocks and of own writes, by tables of cases, also at the greatest sizes.
 
 use super::*;
 use sb_table::Table;
 use sb_types::{Block, Entry, Fault, Key, Name, Slot, Value};
 use std::alloc::Global;
+use std::process::Abort;
 use std::test::Fail;
 
-fn weight(key: &[u8], version: u64) -> Result<Entry, Fault>
-    requires { 1 ≤ version }
-{
-    Ok(Entry::new(Key::read(key)?, version, Slot::Set(Value::weight(version)?)))
+/// A write of at least version 1: its version as a weight, or a removal.
+fn entry(key: &[u8], version: u64, is_set: bool) -> Result<Entry, Fault> {
+    let slot = if is_set {
+        Slot::Set(Value::weight(version)?)
+    } else {
+        Slot::Removed
+    };
+    Ok(Entry::new(Key::read(key)?, version.max(1), slot))
 }
 
-fn address(alloc: Global, key: &[u8], version: u64) -> Result<Entry, Fault>
-    requires { 1 ≤ version }
-{
+fn address(alloc: Global, key: &[u8], version: u64) -> Result<Entry, Fault> {
     let slot = Slot::Set(Value::addr(alloc, b"10.0.0.1")?);
-    Ok(Entry::new(Key::read(key)?, version, slot))
-}
-
-fn removal(key: &[u8], version: u64) -> Result<Entry, Fault>
-    requires { 1 ≤ version }
-{
-    Ok(Entry::new(Key::read(key)?, version, Slot::Removed))
+    Ok(Entry::new(Key::read(key)?, version.max(1), slot))
 }
 
 /// The version under a key, with its weight where it is not removed.
@@ -49,38 +46,14 @@ fn text_of(number: u64) -> [u8; 4] {
     text
 }
 
-/// The entries of these versions, each under a key of its own.
-fn entries(alloc: Global, first: u64, last: u64) -> Result<Vec<Entry>, Fault>
-    requires one { 1 ≤ first }
-    requires fits { last < 100000 }
-{
+/// So many entries from a version on, each under a key of its own, numbered from this one.
+fn entries(alloc: Global, first: u32, count: u32, key: u32) -> Result<Vec<Entry>, Fault> {
     let mut entries = Vec::new(alloc);
-    for version in first..last + 1 {
-        entries.push(weight(&text_of(version), version)?)?;
+    for index in 0..count {
+        let text = text_of(u64::from(key) + u64::from(index));
+        entries.push(entry(&text, u64::from(first) + u64::from(index), true)?)?;
     }
     Ok(entries)
-}
-
-fn block_of_one(alloc: Global, owner: Name, after: u64, entry: Entry) -> Result<Block, Fault> {
-    Block::new(owner, after, vec![in alloc; entry]?)
-}
-
-fn block_of_two(
-    alloc: Global,
-    owner: Name,
-    after: u64,
-    first: Entry,
-    last: Entry,
-) -> Result<Block, Fault> {
-    Block::new(owner, after, vec![in alloc; first, last]?)
-}
-
-fn add_name(names: &mut Vec<Name>, name: &Name) -> Result<(), Fault> {
-    Ok(names.push(*name)?)
-}
-
-fn report_of_two(alloc: Global) -> Result<Report, Fault> {
-    Ok(Report::new(vec![in alloc; BlockEnd::Taken(2), BlockEnd::Gap]?))
 }
 
 /// How a block ended, unless memory ran out.
@@ -95,55 +68,151 @@ fn holdings_of(alloc: Global, me: &[u8]) -> Result<Holdings, Fault> {
     Holdings::new(alloc, Name::read(me)?, Table::new(alloc))
 }
 
+/// A block of entries as `entries` makes them, how it ends, and what is then held of its owner.
+#[derive(Clone, Copy)]
+struct Case {
+    after: u64,
+    first: u32,
+    count: u32,
+    key: u32,
+    end: BlockEnd,
+    upto: u64,
+    keys: Option<usize>,
+}
+
+/// The case of a block whose keys are numbered as its versions are.
+fn block_case(
+    after: u64,
+    first: u32,
+    count: u32,
+    end: BlockEnd,
+    upto: u64,
+    keys: Option<usize>,
+) -> Case {
+    Case {
+        after,
+        first,
+        count,
+        key: first,
+        end,
+        upto,
+        keys,
+    }
+}
+
+/// The blocks come in turn, and each is ended and held as its case says.
+fn assert_cases(
+    rt: &impl Abort,
+    alloc: Global,
+    holdings: &mut Holdings,
+    owner: &Name,
+    cases: &[Case],
+) -> Result<(), Fault> {
+    for case in cases {
+        let entries = entries(alloc, case.first, case.count, case.key)?;
+        let block = Block::new(*owner, case.after, entries)?;
+        assert_eq!(rt; applied(holdings, &block)?, case.end, "at {}", case.first);
+        assert_eq!(rt; holdings.upto(owner), case.upto, "at {}", case.first);
+        let keys = holdings.table(owner).map(|table| table.len());
+        assert_eq!(rt; keys, case.keys, "at {}", case.first);
+    }
+    Ok(())
+}
+
+/// The lines of the example of `Holdings`.
+#[test]
+fn example_of_holdings(rt: HostRuntime) -> Result<(), Fail> {
+    let alloc = rt.alloc();
+    let a = Name::read(b"a")?;
+    let mut holdings = Holdings::new(alloc, Name::read(b"b")?, Table::new(alloc))?;
+    let entry = Entry::new(Key::read(b"up")?, 1, Slot::Set(Value::flag(true)));
+    let block = Block::new(a, 0, vec![in alloc; entry]?)?;
+    assert_eq!(rt; holdings.apply_block(&block), BlockEnd::Taken(1));
+    assert_eq!(rt; holdings.apply_block(&block), BlockEnd::Stale);
+    assert_eq!(rt; holdings.upto(&a), 1);
+    Ok(())
+}
+
 #[test]
 fn blocks_join_on_or_change_nothing(rt: HostRuntime) -> Result<(), Fail> {
     let alloc = rt.alloc();
-    let a = Name::read(b"a")?;
     let mut holdings = holdings_of(alloc, b"b")?;
-    let last = Block::new(a, 2, entries(alloc, 3, 3)?)?;
-    let first = Block::new(a, 0, entries(alloc, 1, 2)?)?;
-    assert_eq!(rt; holdings.apply_block(&last), BlockEnd::Gap);
-    assert_eq!(rt; holdings.upto(&a), 0);
-    assert!(rt; holdings.table(&a).is_none());
-    assert_eq!(rt; applied(&mut holdings, &first)?, BlockEnd::Taken(2));
-    assert_eq!(rt; applied(&mut holdings, &last)?, BlockEnd::Taken(1));
-    assert_eq!(rt; holdings.apply_block(&last), BlockEnd::Stale);
-    assert_eq!(rt; holdings.upto(&a), 3);
-    let all = Block::new(a, 0, entries(alloc, 1, 4)?)?;
-    assert_eq!(rt; applied(&mut holdings, &all)?, BlockEnd::Taken(1));
-    assert_eq!(rt; holdings.table(&a).map_or(0, |table| table.len()), 4);
+    let cases = [
+        block_case(2, 3, 1, BlockEnd::Gap, 0, None),
+        block_case(0, 1, 2, BlockEnd::Taken(2), 2, Some(2)),
+        block_case(2, 3, 1, BlockEnd::Taken(1), 3, Some(3)),
+        block_case(2, 3, 1, BlockEnd::Stale, 3, Some(3)),
+        block_case(0, 1, 4, BlockEnd::Taken(1), 4, Some(4)),
+    ];
+    assert_cases(&rt, alloc, &mut holdings, &Name::read(b"a")?, &cases)?;
     Ok(())
 }
 
+/// Superseded versions may be missing, and removals leave markers.
 #[test]
-fn superseded_versions_may_be_missing(rt: HostRuntime) -> Result<(), Fail> {
+fn keys_show_their_last_write(rt: HostRuntime) -> Result<(), Fail> {
     let alloc = rt.alloc();
-    let a = Name::read(b"a")?;
-    let mut holdings = holdings_of(alloc, b"b")?;
-    let y = block_of_one(alloc, a, 0, weight(b"y", 2)?)?;
-    assert_eq!(rt; applied(&mut holdings, &y)?, BlockEnd::Taken(1));
-    assert_eq!(rt; holdings.upto(&a), 2);
-    assert_eq!(rt; weight_at(&holdings, &a, b"y"), Some((2, Some(2))));
-    assert_eq!(rt; weight_at(&holdings, &a, b"x"), None);
-    let x = block_of_one(alloc, a, 2, weight(b"x", 3)?)?;
-    assert_eq!(rt; applied(&mut holdings, &x)?, BlockEnd::Taken(1));
-    assert_eq!(rt; weight_at(&holdings, &a, b"x"), Some((3, Some(3))));
+    let mut holdings = holdings_of(alloc, b"n")?;
+    let second = Some((2, Some(2)));
+    for (owner, key, after, is_set, end, x, y) in [
+        (b"a", b"y", 1, true, BlockEnd::Gap, None, None),
+        (b"a", b"y", 0, true, BlockEnd::Taken(1), None, second),
+        (
+            b"a",
+            b"x",
+            2,
+            true,
+            BlockEnd::Taken(1),
+            Some((3, Some(3))),
+            second,
+        ),
+        (
+            b"b",
+            b"x",
+            0,
+            true,
+            BlockEnd::Taken(1),
+            Some((2, Some(2))),
+            None,
+        ),
+        (
+            b"b",
+            b"x",
+            2,
+            false,
+            BlockEnd::Taken(1),
+            Some((3, None)),
+            None,
+        ),
+        (b"b", b"x", 0, true, BlockEnd::Stale, Some((3, None)), None),
+    ] {
+        let owner = Name::read(owner)?;
+        let version = if after == 0 { 2 } else { 3 };
+        let entries = vec![in alloc; entry(key, version, is_set)?]?;
+        let block = Block::new(owner, after, entries)?;
+        assert_eq!(rt; applied(&mut holdings, &block)?, end);
+        assert_eq!(rt; weight_at(&holdings, &owner, b"x"), x);
+        assert_eq!(rt; weight_at(&holdings, &owner, b"y"), y);
+    }
     Ok(())
 }
 
-#[test]
-fn removals_leave_markers(rt: HostRuntime) -> Result<(), Fail> {
-    let alloc = rt.alloc();
-    let a = Name::read(b"a")?;
-    let mut holdings = holdings_of(alloc, b"b")?;
-    let set = block_of_one(alloc, a, 0, weight(b"x", 1)?)?;
-    let removed = block_of_one(alloc, a, 1, removal(b"x", 2)?)?;
-    assert_eq!(rt; applied(&mut holdings, &set)?, BlockEnd::Taken(1));
-    assert_eq!(rt; weight_at(&holdings, &a, b"x"), Some((1, Some(1))));
-    assert_eq!(rt; applied(&mut holdings, &removed)?, BlockEnd::Taken(1));
-    assert_eq!(rt; weight_at(&holdings, &a, b"x"), Some((2, None)));
-    assert_eq!(rt; holdings.apply_block(&set), BlockEnd::Stale);
-    assert_eq!(rt; weight_at(&holdings, &a, b"x"), Some((2, None)));
+/// An own write is answered so, and leaves this of its key.
+fn assert_own(
+    rt: &impl Abort,
+    holdings: &mut Holdings,
+    write: (&[u8], u64, bool),
+    answer: Result<(), Fault>,
+    shown: Option<(u64, Option<u64>)>,
+) -> Result<(), Fault> {
+    let (key, version, is_set) = write;
+    let me = *holdings.me();
+    assert_eq!(rt;
+        holdings.push_own(entry(key, version, is_set)?),
+        answer,
+        "{version}"
+    );
+    assert_eq!(rt; weight_at(holdings, &me, key), shown, "{version}");
     Ok(())
 }
 
@@ -154,22 +223,34 @@ fn own_writes_come_in_turn(rt: HostRuntime) -> Result<(), Fail> {
     let mut holdings = holdings_of(alloc, b"m")?;
     assert_eq!(rt; *holdings.me(), me);
     assert_eq!(rt; holdings.upto(&me), 0);
-    assert_eq!(rt; holdings.table(&me).map_or(1, |table| table.len()), 0);
-    assert_eq!(rt;
-        holdings.push_own(weight(b"w", 2)?),
-        Err(Fault::OutOfTurn(1))
-    );
-    holdings.push_own(weight(b"w", 1)?)?;
-    assert_eq!(rt;
-        holdings.push_own(weight(b"w", 1)?),
-        Err(Fault::OutOfTurn(2))
-    );
-    assert_eq!(rt; holdings.upto(&me), 1);
-    let held = Block::new(me, 0, entries(alloc, 1, 1)?)?;
-    assert_eq!(rt; holdings.apply_block(&held), BlockEnd::Own);
-    let ahead = Block::new(me, 1, entries(alloc, 2, 2)?)?;
-    assert_eq!(rt; holdings.apply_block(&ahead), BlockEnd::OwnAhead(2));
-    assert_eq!(rt; holdings.upto(&me), 1);
+    assert_eq!(rt; holdings.table(&me).map(|table| table.len()), Some(0));
+    let first = Some((1, Some(1)));
+    for (version, answer, shown) in [
+        (2, Err(Fault::OutOfTurn(1)), None),
+        (1, Ok(()), first),
+        (1, Err(Fault::OutOfTurn(2)), first),
+    ] {
+        assert_own(&rt, &mut holdings, (b"w", version, true), answer, shown)?;
+    }
+    let cases = [
+        block_case(0, 1, 1, BlockEnd::Own, 1, Some(1)),
+        block_case(1, 2, 1, BlockEnd::OwnAhead(2), 1, Some(1)),
+    ];
+    assert_cases(&rt, alloc, &mut holdings, &me, &cases)?;
+    Ok(())
+}
+
+#[test]
+fn own_keys_have_a_limit(rt: HostRuntime) -> Result<(), Fail> {
+    let mut holdings = holdings_of(rt.alloc(), b"m")?;
+    for version in 1..4_097 {
+        holdings.push_own(entry(&text_of(version), version, true)?)?;
+    }
+    let first = text_of(1);
+    let full = Err(Fault::TableFull);
+    assert_own(&rt, &mut holdings, (b"w", 4_097, true), full, None)?;
+    let gone = Some((4_097, None));
+    assert_own(&rt, &mut holdings, (&first, 4_097, false), Ok(()), gone)?;
     Ok(())
 }
 
@@ -177,100 +258,104 @@ fn own_writes_come_in_turn(rt: HostRuntime) -> Result<(), Fail> {
 fn owners_have_a_limit(rt: HostRuntime) -> Result<(), Fail> {
     let alloc = rt.alloc();
     let mut holdings = holdings_of(alloc, b"m")?;
+    let first = [block_case(0, 1, 1, BlockEnd::Taken(1), 1, Some(1))];
     for number in 1..1_024 {
         let owner = Name::read(&text_of(number))?;
-        let block = Block::new(owner, 0, entries(alloc, 1, 1)?)?;
-        assert_eq!(rt;
-            applied(&mut holdings, &block)?,
-            BlockEnd::Taken(1),
-            "{number}"
-        );
+        assert_cases(&rt, alloc, &mut holdings, &owner, &first)?;
     }
-    let other = Name::read(b"zz")?;
-    let block = Block::new(other, 0, entries(alloc, 1, 1)?)?;
-    assert_eq!(rt; holdings.apply_block(&block), BlockEnd::OwnersFull);
-    let gap = Block::new(other, 2, entries(alloc, 3, 3)?)?;
-    assert_eq!(rt; holdings.apply_block(&gap), BlockEnd::Gap);
-    assert_eq!(rt; holdings.upto(&other), 0);
-    let mut owners = 0_u64;
-    for _ in holdings.owners() {
-        owners = owners.wrapping_add(1);
-    }
-    assert_eq!(rt; owners, 1_024);
-    let known = Block::new(Name::read(&text_of(1))?, 1, entries(alloc, 2, 2)?)?;
-    assert_eq!(rt; applied(&mut holdings, &known)?, BlockEnd::Taken(1));
+    let refused = [
+        block_case(0, 1, 1, BlockEnd::OwnersFull, 0, None),
+        block_case(2, 3, 1, BlockEnd::Gap, 0, None),
+    ];
+    assert_cases(&rt, alloc, &mut holdings, &Name::read(b"zz")?, &refused)?;
+    assert_eq!(rt; holdings.owners().count(), 1_024);
+    let known = Name::read(&text_of(1))?;
+    let second = [block_case(1, 2, 1, BlockEnd::Taken(1), 2, Some(2))];
+    assert_cases(&rt, alloc, &mut holdings, &known, &second)?;
     Ok(())
 }
 
+/// All 4,096 keys of one owner, written again up to versions past 10,000.
 #[test]
 fn keys_have_a_limit(rt: HostRuntime) -> Result<(), Fail> {
     let alloc = rt.alloc();
     let a = Name::read(b"a")?;
     let mut holdings = holdings_of(alloc, b"b")?;
-    let most = Block::new(a, 0, entries(alloc, 1, 4_094)?)?;
-    assert_eq!(rt; applied(&mut holdings, &most)?, BlockEnd::Taken(4_094));
-    let more = Block::new(a, 4_092, entries(alloc, 4_093, 4_099)?)?;
-    assert_eq!(rt; applied(&mut holdings, &more)?, BlockEnd::TooManyKeys(2));
-    assert_eq!(rt; holdings.upto(&a), 4_096);
-    assert_eq!(rt; holdings.apply_block(&more), BlockEnd::TooManyKeys(0));
-    let again = block_of_two(
-        alloc,
-        a,
-        4_096,
-        weight(&text_of(1), 4_097)?,
-        weight(&text_of(2), 4_098)?,
-    )?;
-    assert_eq!(rt; applied(&mut holdings, &again)?, BlockEnd::Taken(2));
-    assert_eq!(rt; holdings.table(&a).map_or(0, |table| table.len()), 4_096);
+    let all = Some(4_096);
+    let again = |after, first, count, upto| Case {
+        key: 1,
+        ..block_case(
+            after,
+            first,
+            count,
+            BlockEnd::Taken(u64::from(count)),
+            upto,
+            all,
+        )
+    };
+    let cases = [
+        block_case(0, 1, 4_094, BlockEnd::Taken(4_094), 4_094, Some(4_094)),
+        block_case(4_092, 4_093, 7, BlockEnd::TooManyKeys(2), 4_096, all),
+        block_case(4_092, 4_093, 7, BlockEnd::TooManyKeys(0), 4_096, all),
+        again(4_096, 4_097, 2, 4_098),
+        again(4_098, 4_099, 4_096, 8_194),
+        again(8_194, 8_195, 4_096, 12_290),
+    ];
+    assert_cases(&rt, alloc, &mut holdings, &a, &cases)?;
+    for (key, version) in [(1, 8_195), (2, 8_196), (4_096, 12_290)] {
+        let shown = weight_at(&holdings, &a, &text_of(key));
+        assert_eq!(rt; shown, Some((version, Some(version))));
+    }
     Ok(())
 }
 
+/// A block may have 65,535 entries: of new keys 4,096 are taken.
 #[test]
-fn own_keys_have_a_limit(rt: HostRuntime) -> Result<(), Fail> {
+fn the_greatest_block_is_taken(rt: HostRuntime) -> Result<(), Fail> {
     let alloc = rt.alloc();
-    let me = Name::read(b"m")?;
-    let mut holdings = holdings_of(alloc, b"m")?;
-    for version in 1..4_097 {
-        holdings.push_own(weight(&text_of(version), version)?)?;
-    }
-    assert_eq!(rt;
-        holdings.push_own(weight(b"w", 4_097)?),
-        Err(Fault::TableFull)
-    );
-    assert_eq!(rt; holdings.upto(&me), 4_096);
-    assert_eq!(rt; weight_at(&holdings, &me, b"w"), None);
-    holdings.push_own(removal(&text_of(1), 4_097)?)?;
-    assert_eq!(rt; weight_at(&holdings, &me, &text_of(1)), Some((4_097, None)));
+    let mut holdings = holdings_of(alloc, b"b")?;
+    let greatest = [block_case(
+        0,
+        1,
+        65_535,
+        BlockEnd::TooManyKeys(4_096),
+        4_096,
+        Some(4_096),
+    )];
+    assert_cases(&rt, alloc, &mut holdings, &Name::read(b"a")?, &greatest)?;
     Ok(())
+}
+
+/// How many owners there are from a name on.
+fn count_from(holdings: &Holdings, first: Option<&Name>) -> u64 {
+    let mut count = 0_u64;
+    for _ in holdings.tables_from(first) {
+        count = count.wrapping_add(1);
+    }
+    count
 }
 
 #[test]
 fn owners_come_in_the_order_of_their_names(rt: HostRuntime) -> Result<(), Fail> {
     let alloc = rt.alloc();
     let mut holdings = holdings_of(alloc, b"m")?;
-    for name in [b"z".as_slice(), b"a", b"ma"] {
-        let block = Block::new(Name::read(name)?, 0, entries(alloc, 1, 2)?)?;
-        assert_eq!(rt; applied(&mut holdings, &block)?, BlockEnd::Taken(2));
-    }
     let [a, m, ma, z] = [
         Name::read(b"a")?,
         Name::read(b"m")?,
         Name::read(b"ma")?,
         Name::read(b"z")?,
     ];
+    let two = [block_case(0, 1, 2, BlockEnd::Taken(2), 2, Some(2))];
+    for owner in [z, a, ma] {
+        assert_cases(&rt, alloc, &mut holdings, &owner, &two)?;
+    }
     let names: Vec<Name> = holdings.owners().copied().collect(alloc)?;
     assert_eq!(rt; names.as_slice(), [a, m, ma, z].as_slice());
-    let mut names = Vec::new(alloc);
-    for (name, table) in holdings.tables_from(Some(&ma)) {
-        assert_eq!(rt; table.upto(), 2);
-        add_name(&mut names, name)?;
+    assert_eq!(rt; count_from(&holdings, Some(&ma)), 2);
+    for ((name, table), want) in holdings.tables_from(Some(&ma)).zip([ma, z]) {
+        assert_eq!(rt; (*name, table.upto()), (want, 2));
     }
-    assert_eq!(rt; names.as_slice(), [ma, z].as_slice());
-    let mut all = 0_u64;
-    for _ in holdings.tables_from(None) {
-        all = all.wrapping_add(1);
-    }
-    assert_eq!(rt; all, 4);
+    assert_eq!(rt; count_from(&holdings, None), 4);
     Ok(())
 }
 
@@ -278,15 +363,11 @@ fn owners_come_in_the_order_of_their_names(rt: HostRuntime) -> Result<(), Fail> 
 fn taken_twice(alloc: Global) -> Result<(BlockEnd, u64, BlockEnd, u64), Fault> {
     let a = Name::read(b"a")?;
     let mut holdings = holdings_of(alloc, b"b")?;
-    let block = Block::new(
-        a,
-        0,
-        vec![in alloc;
-            address(alloc, b"x", 1)?,
-            address(alloc, b"y", 2)?,
-            address(alloc, b"z", 3)?,
-        ]?,
-    )?;
+    let mut entries = Vec::new(alloc);
+    for (key, version) in [(b"x", 1), (b"y", 2), (b"z", 3)] {
+        entries.push(address(alloc, key, version)?)?;
+    }
+    let block = Block::new(a, 0, entries)?;
     let end = holdings.apply_block(&block);
     let held = holdings.upto(&a);
     let again = holdings.apply_block(&block);
@@ -299,13 +380,12 @@ fn a_front_stays_where_memory_runs_out(rt: HostRuntime) -> Result<(), Fail> {
     match taken_twice(rt.alloc()) {
         Ok((end, held, again, upto)) => {
             let rest = 3_u64.saturating_sub(held);
-            if rest == 0 {
-                assert_eq!(rt; end, BlockEnd::Taken(3));
-                assert_eq!(rt; again, BlockEnd::Stale);
+            let ends = if rest == 0 {
+                (BlockEnd::Taken(3), BlockEnd::Stale)
             } else {
-                assert_eq!(rt; end, BlockEnd::NoMemory(held));
-                assert_eq!(rt; again, BlockEnd::Taken(rest));
-            }
+                (BlockEnd::NoMemory(held), BlockEnd::Taken(rest))
+            };
+            assert_eq!(rt; (end, again), ends);
             assert_eq!(rt; upto, 3);
         }
         Err(fault) => assert_eq!(rt; fault, Fault::NoMemory),
@@ -313,24 +393,29 @@ fn a_front_stays_where_memory_runs_out(rt: HostRuntime) -> Result<(), Fail> {
     Ok(())
 }
 
-/// Whichever allocation is refused, a refused own write leaves what was held.
+/// A refused own write leaves what was held.
+fn assert_unchanged(rt: &impl Abort, holdings: &mut Holdings, key: &[u8]) -> Result<(), Fault> {
+    let me = *holdings.me();
+    let before = holdings.upto(&me);
+    let next = before.saturating_add(1);
+    match holdings.push_own(entry(key, next, true)?) {
+        Ok(()) => assert_eq!(rt; holdings.upto(&me), next),
+        Err(fault) => {
+            assert_eq!(rt; fault, Fault::NoMemory);
+            assert_eq!(rt; holdings.upto(&me), before);
+            assert_eq!(rt; weight_at(holdings, &me, key), None);
+        }
+    }
+    Ok(())
+}
+
+/// Whichever allocation is refused.
 #[test]
 fn own_writes_without_memory_change_nothing(rt: HostRuntime) -> Result<(), Fail> {
-    let alloc = rt.alloc();
-    let me = Name::read(b"m")?;
-    match holdings_of(alloc, b"m") {
+    match holdings_of(rt.alloc(), b"m") {
         Ok(mut holdings) => {
-            for version in 1..10 {
-                let before = holdings.upto(&me);
-                let entry = weight(&text_of(version), before.saturating_add(1))?;
-                match holdings.push_own(entry) {
-                    Ok(()) => assert_eq!(rt; holdings.upto(&me), before.saturating_add(1)),
-                    Err(fault) => {
-                        assert_eq!(rt; fault, Fault::NoMemory);
-                        assert_eq!(rt; holdings.upto(&me), before);
-                        assert_eq!(rt; weight_at(&holdings, &me, &text_of(version)), None);
-                    }
-                }
+            for number in 1..10 {
+                assert_unchanged(&rt, &mut holdings, &text_of(number))?;
             }
         }
         Err(fault) => assert_eq!(rt; fault, Fault::NoMemory),
@@ -340,13 +425,10 @@ fn own_writes_without_memory_change_nothing(rt: HostRuntime) -> Result<(), Fail>
 
 #[test]
 fn reports_list_the_ends(rt: HostRuntime) -> Result<(), Fail> {
-    let alloc = rt.alloc();
-    let report = report_of_two(alloc)?;
+    let ends = [BlockEnd::Taken(2), BlockEnd::Gap];
+    let report = Report::new(Vec::from_array(rt.alloc(), ends)?);
     assert_eq!(rt; report.len(), 2);
     assert!(rt; !report.is_empty());
-    assert_eq!(rt;
-        report.ends(),
-        [BlockEnd::Taken(2), BlockEnd::Gap].as_slice()
-    );
+    assert_eq!(rt; report.ends(), ends.as_slice());
     Ok(())
 }
