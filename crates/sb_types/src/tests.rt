@@ -82,53 +82,44 @@ fn values_within_their_limits(rt: HostRuntime) -> Result<(), Fail> {
     Ok(())
 }
 
+/// Whether the value is this one, in each way to read it.
+fn is_seen(value: &Value, wanted: ValueRef<'_>) -> bool {
+    let read = match wanted {
+        ValueRef::Addr(text) => value.as_addr() == Some(text),
+        ValueRef::Weight(weight) => value.as_weight() == Some(weight),
+        ValueRef::Flag(flag) => value.as_flag() == Some(flag),
+    };
+    read && value.view() == wanted
+}
+
+/// What is read of two words, is copied, and prints the same words.
 #[test]
 fn values_from_words(rt: HostRuntime) -> Result<(), Fail> {
     let alloc = rt.alloc();
-    assert_eq!(rt;
-        Value::from_words(alloc, b"addr", b"10.0.0.1:80")?.as_addr(),
-        Some(b"10.0.0.1:80".as_slice())
-    );
-    assert_eq!(rt;
-        Value::from_words(alloc, b"weight", b"0")?.as_weight(),
-        Some(0)
-    );
-    assert_eq!(rt;
-        Value::from_words(alloc, b"weight", b"9223372036854775807")?.as_weight(),
-        Some(9_223_372_036_854_775_807)
-    );
-    assert_eq!(rt;
-        Value::from_words(alloc, b"flag", b"true")?.as_flag(),
-        Some(true)
-    );
-    assert_eq!(rt;
-        Value::from_words(alloc, b"flag", b"false")?.as_flag(),
-        Some(false)
-    );
-    Ok(())
-}
-
-/// What a value prints is what is read.
-#[test]
-fn values_print_their_words(rt: HostRuntime) -> Result<(), Fail> {
-    let alloc = rt.alloc();
-    for (kind, word, line) in [
+    let greatest = ValueRef::Weight(9_223_372_036_854_775_807);
+    for (kind, word, seen, line) in [
         (
-            b"addr".as_slice(),
-            b"10.0.0.1:80".as_slice(),
-            "addr 10.0.0.1:80",
+            "addr",
+            "host:80",
+            ValueRef::Addr(b"host:80"),
+            "addr host:80",
         ),
-        (b"addr", b"~!", "addr ~!"),
-        (b"weight", b"0", "weight 0"),
+        ("addr", "~!", ValueRef::Addr(b"~!"), "addr ~!"),
+        ("weight", "0", ValueRef::Weight(0), "weight 0"),
+        ("weight", "5", ValueRef::Weight(5), "weight 5"),
         (
-            b"weight",
-            b"9223372036854775807",
+            "weight",
+            "9223372036854775807",
+            greatest,
             "weight 9223372036854775807",
         ),
-        (b"flag", b"true", "flag true"),
-        (b"flag", b"false", "flag false"),
+        ("flag", "true", ValueRef::Flag(true), "flag true"),
+        ("flag", "false", ValueRef::Flag(false), "flag false"),
     ] {
-        let value = Value::from_words(alloc, kind, word)?;
+        let value = Value::from_words(alloc, kind.as_bytes(), word.as_bytes())?;
+        assert!(rt; is_seen(&value, seen), "{line}");
+        let copy = value.copy(alloc)?;
+        assert!(rt; is_seen(&copy, seen), "{line}");
         assert_eq!(rt; value.to_string(alloc)?.as_str(), line);
     }
     Ok(())
@@ -141,10 +132,6 @@ fn example_of_values_and_names(rt: HostRuntime) -> Result<(), Fail> {
     let value = Value::from_words(alloc, b"weight", b"7")?;
     assert_eq!(rt; value.view(), ValueRef::Weight(7));
     assert_eq!(rt; value.to_string(alloc)?.as_str(), "weight 7");
-    assert_eq!(rt; Value::flag(true).view(), ValueRef::Flag(true));
-    let addr = Value::addr(alloc, b"host:80")?;
-    assert_eq!(rt; addr.view(), ValueRef::Addr(b"host:80"));
-
     let name = Name::read(b"node-7")?;
     assert_eq!(rt; name.bytes(), b"node-7".as_slice());
     assert!(rt; matches!(Name::read(b"Node 7"), Err(Fault::BadName)));
@@ -193,31 +180,38 @@ fn copies_are_equal(rt: HostRuntime) -> Result<(), Fail> {
         Slot::Removed => assert!(rt; false),
     }
     assert_eq!(rt; copy.encoded_length(), 10 + 5 + 7);
-    assert_eq!(rt; Value::weight(5)?.copy(alloc)?.as_weight(), Some(5));
-    assert_eq!(rt; Value::flag(true).copy(alloc)?.as_flag(), Some(true));
     assert!(rt; matches!(Slot::Removed.copy(alloc)?, Slot::Removed));
     Ok(())
+}
+
+/// A block of weights of 5 under these keys, at these versions.
+fn block_of(
+    alloc: Global,
+    owner: &str,
+    after: u64,
+    writes: &[(&str, u64)],
+) -> Result<Block, Fault> {
+    let mut entries = Vec::new(alloc);
+    for write in writes {
+        let (key, version) = *write;
+        if version == 0 {
+            return Err(Fault::BadVersion);
+        }
+        entries.push(entry(key.as_bytes(), version, 5)?)?;
+    }
+    Block::new(Name::read(owner.as_bytes())?, after, entries)
 }
 
 #[test]
 fn blocks_within_their_limits(rt: HostRuntime) -> Result<(), Fail> {
     let alloc = rt.alloc();
-    let owner = Name::read(b"a")?;
-    let good = Block::new(
-        owner,
-        0,
-        vec![in alloc; entry(b"x", 1, 5)?, entry(b"y", 3, 6)?]?,
-    )?;
-    assert_eq!(rt; *good.owner(), owner);
+    let good = block_of(alloc, "a", 0, &[("x", 1), ("y", 3)])?;
+    assert_eq!(rt; good.owner().bytes(), b"a".as_slice());
     assert_eq!(rt; good.after(), 0);
     assert_eq!(rt; good.upto(), 3);
     assert_eq!(rt; good.entries().len(), 2);
     assert_eq!(rt; good.encoded_length(), 12 + 19 + 19);
-    let last = Block::new(
-        owner,
-        u64::MAX - 1,
-        vec![in alloc; entry(b"x", u64::MAX, 5)?]?,
-    )?;
+    let last = block_of(alloc, "a", u64::MAX - 1, &[("x", u64::MAX)])?;
     assert_eq!(rt; last.upto(), u64::MAX);
     Ok(())
 }
@@ -250,56 +244,45 @@ fn the_longest_block(rt: HostRuntime) -> Result<(), Fail> {
 #[test]
 fn entries_that_make_no_block(rt: HostRuntime) -> Result<(), Fail> {
     let alloc = rt.alloc();
-    let owner = Name::read(b"a")?;
-    let wrong = [
-        Block::new(owner, 0, Vec::new(alloc)),
-        Block::new(
-            owner,
-            0,
-            vec![in alloc; entry(b"x", 2, 5)?, entry(b"y", 1, 5)?]?,
-        ),
-        Block::new(
-            owner,
-            0,
-            vec![in alloc; entry(b"x", 2, 5)?, entry(b"y", 2, 5)?]?,
-        ),
-        Block::new(owner, 1, vec![in alloc; entry(b"x", 1, 5)?]?),
-        Block::new(
-            owner,
-            0,
-            vec![in alloc; entry(b"x", 1, 5)?, entry(b"y", 2, 5)?, entry(b"x", 3, 5)?]?,
-        ),
-    ];
-    for block in wrong {
-        assert!(rt; matches!(block, Err(Fault::Malformed(3))));
+    for (after, writes) in [
+        (0, [("x", 2), ("y", 1)].as_slice()),
+        (0, &[("x", 2), ("y", 2)]),
+        (1, &[("x", 1)]),
+        (0, &[("x", 1), ("y", 2), ("x", 3)]),
+        (0, &[]),
+    ] {
+        match block_of(alloc, "a", after, writes) {
+            Err(Fault::NoMemory) => return Err(Fault::NoMemory.into()),
+            block => assert!(rt; matches!(block, Err(Fault::Malformed(3)))),
+        }
     }
     Ok(())
+}
+
+/// A delta of one block for each of these owners: 30 bytes and the owner's name.
+fn delta_of(alloc: Global, owners: &[&str]) -> Result<Delta, Fault> {
+    let mut blocks = Vec::new(alloc);
+    for owner in owners {
+        blocks.push(block_of(alloc, owner, 0, &[("w", 1)])?)?;
+    }
+    Delta::new(blocks)
 }
 
 #[test]
 fn deltas_within_their_limits(rt: HostRuntime) -> Result<(), Fail> {
     let alloc = rt.alloc();
-    let empty = Delta::new(Vec::new(alloc))?;
-    assert_eq!(rt; empty.encoded_length(), 3);
-    let names = [b"a".as_slice(), b"a-", b"b"];
-    let mut blocks = Vec::new(alloc);
-    for name in names {
-        blocks.push(Block::new(Name::read(name)?, 0, vec![in alloc; entry(b"w", 1, 5)?]?)?)?;
-    }
-    let delta = Delta::new(blocks)?;
+    assert_eq!(rt; delta_of(alloc, &[])?.encoded_length(), 3);
+    let owners = ["a", "a-", "b"];
+    let delta = delta_of(alloc, &owners)?;
     assert_eq!(rt; delta.encoded_length(), 3 + 31 + 32 + 31);
-    for (block, name) in delta.blocks().iter().zip(names) {
-        assert_eq!(rt; block.owner().bytes(), name);
+    for (block, owner) in delta.blocks().iter().zip(owners) {
+        assert_eq!(rt; block.owner().bytes(), owner.as_bytes());
     }
-    for (first, second) in [(b"b".as_slice(), b"a".as_slice()), (b"a", b"a")] {
-        let first = Block::new(Name::read(first)?, 0, vec![in alloc; entry(b"w", 1, 5)?]?)?;
-        let second = Block::new(Name::read(second)?, 0, vec![in alloc; entry(b"w", 1, 5)?]?)?;
-        assert!(rt;
-            matches!(
-                Delta::new(vec![in alloc; first, second]?),
-                Err(Fault::Malformed(3))
-            )
-        );
+    for owners in [["b", "a"], ["a", "a"]] {
+        match delta_of(alloc, &owners) {
+            Err(Fault::NoMemory) => return Err(Fault::NoMemory.into()),
+            delta => assert!(rt; matches!(delta, Err(Fault::Malformed(3)))),
+        }
     }
     Ok(())
 }
