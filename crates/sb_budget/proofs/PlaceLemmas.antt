@@ -13,7 +13,7 @@ use Rattle.std.proofs.lemmas.List.Sums.{sum_by-cons, sum_by-set, sum_by-insert, 
 use Rattle.sb_types.specs.Records.{Entry, Block}
 use Rattle.sb_types.specs.Lengths.{entry_length, entries_length, block_length}
 use Rattle.sb_types.specs.Limits.{text_lt, are_owners_above}
-use Rattle.sb_table.proofs.Texts.{text_lt-back}
+use Rattle.sb_types.proofs.Texts.{text_lt-back}
 use Rattle.sb_holdings.proofs.Lists.{same_text}
 use Rattle.sb_budget.specs.declared.offered.Offered.{Offered}
 use Rattle.sb_budget.specs.BlocksByOwner.{grown, begun, placed, cost_of}

@@ -10,7 +10,7 @@ use Rattle.std.proofs.lemmas.Cmp.{nat_list_cmp_total, on_total}
 use Rattle.sb_types.specs.Limits.{text_lt}
 use Rattle.sb_digest.specs.Digests.{Pair}
 use Rattle.sb_digest.specs.Limits.{are_pairs_above}
-use Rattle.sb_digest.proofs.Texts.{Less-from_text_lt, text_lt-trans}
+use Rattle.sb_types.proofs.Texts.{Less-from_text_lt, text_lt-trans}
 
 abbrev pub by_owner : Pair → Pair → Ordering
 by_owner = on (λ (p : Pair). p.owner) (slice_cmp nat_cmp)

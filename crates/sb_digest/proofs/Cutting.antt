@@ -14,7 +14,7 @@ use Rattle.sb_digest.specs.Lengths.{digest_length, digest_frame_length}
 use Rattle.sb_digest.specs.Limits.{are_pairs_above, is_range, is_bound, is_pair, is_digest}
 use Rattle.sb_digest.specs.Builders.{DigestBuilder, IsDigestBuilder, digest_of_first}
 use Rattle.sb_digest.proofs.Longest.{nobody, digest_frame_length-front}
-use Rattle.sb_digest.proofs.Texts.{text_lt-trans, text_le-text_lt}
+use Rattle.sb_types.proofs.Texts.{text_lt-trans, text_le-text_lt}
 
 -- the last is behind each before it
 last_behind : (name : List ℕ) (ps : List Pair) (x : Pair) → are_pairs_above name (ps ++ x ∷ []) ≡ true → text_lt name x.owner ≡ true

@@ -1,4 +1,3 @@
-pub mod Texts
 pub mod Ascending
 pub mod Searching
 pub mod Longest

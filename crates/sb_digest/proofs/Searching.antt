@@ -11,7 +11,7 @@ use Rattle.std.proofs.lemmas.List.Sorted.{searchable_from_sorted}
 use Rattle.std.proofs.lemmas.Map.Keys.{Less-from_sorted, sorted_tail}
 use Rattle.sb_digest.specs.Digests.{Pair, Digest, pair_at, held_in}
 use Rattle.sb_digest.specs.Limits.{are_pairs_above, is_range, are_digest_parts, is_digest}
-use Rattle.sb_digest.proofs.Texts.{apart-from_Less, apart-from_Greater, same-from_Equal}
+use Rattle.sb_types.proofs.Texts.{apart-from_Less, apart-from_Greater, same-from_Equal}
 use Rattle.sb_digest.proofs.Ascending.{by_owner, by_owner_total, rises_from_above}
 
 found : (name : List ℕ) (ps : List Pair) (i : ℕ) (d : Pair) → IsStrictlySortedBy by_owner ps → i < length ps → slice_cmp nat_cmp (get_or ps i d).owner name ≡ Equal → pair_at name ps ≡ Some (get_or ps i d)

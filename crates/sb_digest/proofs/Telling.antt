@@ -20,7 +20,7 @@ use Rattle.sb_digest.specs.Digests.{Pair, Digest, is_below, covers, pair_at, hel
 use Rattle.sb_digest.specs.Lengths.{digest_frame_length}
 use Rattle.sb_digest.specs.Builders.{digest_of_first, IsLongestFront}
 use Rattle.sb_digest.specs.Pairs.{pair_of, pairs_from}
-use Rattle.sb_digest.proofs.Texts.{Less-from_text_lt, apart-from_Less, same-from_pointwise}
+use Rattle.sb_types.proofs.Texts.{Less-from_text_lt, apart-from_Less, same-from_pointwise}
 use Rattle.sb_digest.proofs.Ascending.{by_owner}
 use Rattle.sb_digest.proofs.Searching.{missing}
 

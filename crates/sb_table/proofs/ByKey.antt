@@ -9,7 +9,7 @@ use Rattle.sb_types.specs.Runs.{Stands, are_distinct, has_key}
 use Rattle.sb_table.specs.Order.{put_by_key, by_key}
 use Rattle.sb_table.proofs.Enter.{are_distinct-filter}
 use Rattle.sb_table.proofs.Lookup.{apart_from}
-use Rattle.sb_table.proofs.Texts.{text_lt-same, text_lt-trans, text_lt-other}
+use Rattle.sb_types.proofs.Texts.{text_lt-same, text_lt-trans, text_lt-other}
 
 -- whether a key begins so and comes behind the last, where one was
 abbrev pub is_left : List ℕ → Option (List ℕ) → List ℕ → Bool

@@ -26,7 +26,7 @@ use Rattle.sb_table.specs.Maps.{with_versions, version_at, in_front, reached, En
 use Rattle.sb_table.proofs.ByKey.{is_left, entries_left, entries_left-first, none_left}
 use Rattle.sb_table.proofs.Lookup.{Stands-entry_at, key-entry_at, entry_at-stands}
 use Rattle.sb_table.proofs.Maps.{Keyed, Found, entry-version, lookup-version}
-use Rattle.sb_table.proofs.Texts.{Less-from_is_lt, text_lt-same, text_lt-trans, text_lt-back, starts-behind, starts-between}
+use Rattle.sb_types.proofs.Texts.{Less-from_is_lt, text_lt-same, text_lt-trans, text_lt-back, starts-behind, starts-between}
 
 abbrev by_text : List ℕ → List ℕ → Ordering
 by_text = slice_cmp nat_cmp

@@ -8,7 +8,7 @@ use Rattle.std.specs.List.Sorted.{IsPermutation, IsSortedByKey}
 use Rattle.sb_types.specs.Limits.{text_lt}
 use Rattle.sb_types.specs.Records.{Entry}
 use Rattle.sb_table.specs.Order.{put_by_key, by_key}
-use Rattle.sb_table.proofs.Texts.{text_lt-back}
+use Rattle.sb_types.proofs.Texts.{text_lt-back}
 
 IsPermutation-put_by_key : (e : Entry) (zs : List Entry) → IsPermutation (e ∷ zs) (put_by_key e zs)
 IsPermutation-put_by_key e [] = IsPermutation-refl (e ∷ [])

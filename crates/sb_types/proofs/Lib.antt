@@ -3,3 +3,4 @@ pub mod DistinctKeys
 pub mod Rising
 pub mod Words
 pub mod Live
+pub mod Texts
