@@ -131,7 +131,7 @@ pub(crate) fn write_pair(out: &mut Vec<u8>, written: &Pair) -> Result<(), AllocE
     ensures { OnOk result (out.new.items ≡ out.old.items ++ pair written.now) }
 {
     write_text(out, written.owner.bytes())?;
-    write_u64(out, written.version)
+    write_u64(out, written.upto)
 }
 
 #[tactic(auto, unfolding(crate::specs::Spelling::row))]
