@@ -95,5 +95,5 @@ number-held held budget want from d owner longest covered =
     let ps = pairs_from from held in
     let rises : IsStrictlySortedBy by_owner ps = rises_from_is_sorted _ (is_sorted-where_key (slice_cmp nat_cmp) (is_from from) (entries held.owners) (entries_sorted held.owners)) in
     let parts = and_parts (is_from from owner) _ (subst (λ (e : Digest). covers e owner ≡ true) longest.front covered) in
-    ap (λ (e : Digest). number e owner) longest.front ∙ ap version_of (cut_keeps owner ps longest.count rises parts.1) ∙ found_passed (is_from from) owner parts.0 (entries held.owners)
+    ap (λ (e : Digest). held_in e owner) longest.front ∙ ap version_of (cut_keeps owner ps longest.count rises parts.1) ∙ found_passed (is_from from) owner parts.0 (entries held.owners)
     ∙ ap (λ (o : Option Holder). (unwrap_or o nothing).shown.held) (sym (get-entries held.owners owner))

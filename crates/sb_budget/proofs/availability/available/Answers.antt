@@ -13,23 +13,23 @@ use Rattle.sb_budget.proofs.availability.available.Goals as goal
 pub returns-clause-items : goal.returns-clause-items
 returns-clause-items c =
     let up : IsStrictlySortedBy text_cmp (keys_of (tables_from None c.args.holdings.now)) = rw c.tables_from-owner-items.ensures.tables at c.tables_from-owner-items.ensures.ascending in
-    let made = all_made (covers c.args.digest.now) (number c.args.digest.now) c.loop-owner.offered.items c.loop-owner.owner-iterator (tables_from None c.args.holdings.now) c.loop-owner.invariant c.in-None.ensures.steps.0 in
+    let made = all_made (covers c.args.digest.now) (held_in c.args.digest.now) c.loop-owner.offered.items c.loop-owner.owner-iterator (tables_from None c.args.holdings.now) c.loop-owner.invariant c.in-None.ensures.steps.0 in
     ap items_of_all made ∙ items_held c.args.holdings.now c.tables_from-owner-items.ensures.holdings up c.args.digest.now
 
 pub returns-clause-ranks : goal.returns-clause-ranks
 returns-clause-ranks c =
     let up : IsStrictlySortedBy text_cmp (keys_of (tables_from None c.args.holdings.now)) = rw c.tables_from-owner-items.ensures.tables at c.tables_from-owner-items.ensures.ascending in
-    let made = all_made (covers c.args.digest.now) (number c.args.digest.now) c.loop-owner.offered.items c.loop-owner.owner-iterator (tables_from None c.args.holdings.now) c.loop-owner.invariant c.in-None.ensures.steps.0 in
-    subst AreRanked (sym made) (are_ranked (covers c.args.digest.now) (number c.args.digest.now) (tables_from None c.args.holdings.now) up (plain_tables c.args.holdings.now c.tables_from-owner-items.ensures.holdings up))
+    let made = all_made (covers c.args.digest.now) (held_in c.args.digest.now) c.loop-owner.offered.items c.loop-owner.owner-iterator (tables_from None c.args.holdings.now) c.loop-owner.invariant c.in-None.ensures.steps.0 in
+    subst AreRanked (sym made) (are_ranked (covers c.args.digest.now) (held_in c.args.digest.now) (tables_from None c.args.holdings.now) up (plain_tables c.args.holdings.now c.tables_from-owner-items.ensures.holdings up))
 
 pub returns-clause-offer : goal.returns-clause-offer
 returns-clause-offer c =
     let up : IsStrictlySortedBy text_cmp (keys_of (tables_from None c.args.holdings.now)) = rw c.tables_from-owner-items.ensures.tables at c.tables_from-owner-items.ensures.ascending in
-    let made = all_made (covers c.args.digest.now) (number c.args.digest.now) c.loop-owner.offered.items c.loop-owner.owner-iterator (tables_from None c.args.holdings.now) c.loop-owner.invariant c.in-None.ensures.steps.0 in
-    subst IsOffer (sym made) (is_offer (covers c.args.digest.now) (number c.args.digest.now) (tables_from None c.args.holdings.now) up (plain_tables c.args.holdings.now c.tables_from-owner-items.ensures.holdings up))
+    let made = all_made (covers c.args.digest.now) (held_in c.args.digest.now) c.loop-owner.offered.items c.loop-owner.owner-iterator (tables_from None c.args.holdings.now) c.loop-owner.invariant c.in-None.ensures.steps.0 in
+    subst IsOffer (sym made) (is_offer (covers c.args.digest.now) (held_in c.args.digest.now) (tables_from None c.args.holdings.now) up (plain_tables c.args.holdings.now c.tables_from-owner-items.ensures.holdings up))
 
 pub returns-clause-cut : goal.returns-clause-cut
 returns-clause-cut c =
     let up : IsStrictlySortedBy text_cmp (keys_of (tables_from None c.args.holdings.now)) = rw c.tables_from-owner-items.ensures.tables at c.tables_from-owner-items.ensures.ascending in
-    let made = all_made (covers c.args.digest.now) (number c.args.digest.now) c.loop-owner.offered.items c.loop-owner.owner-iterator (tables_from None c.args.holdings.now) c.loop-owner.invariant c.in-None.ensures.steps.0 in
-    subst CanCut (sym made) (can_cut (covers c.args.digest.now) (number c.args.digest.now) (tables_from None c.args.holdings.now) up (plain_tables c.args.holdings.now c.tables_from-owner-items.ensures.holdings up))
+    let made = all_made (covers c.args.digest.now) (held_in c.args.digest.now) c.loop-owner.offered.items c.loop-owner.owner-iterator (tables_from None c.args.holdings.now) c.loop-owner.invariant c.in-None.ensures.steps.0 in
+    subst CanCut (sym made) (can_cut (covers c.args.digest.now) (held_in c.args.digest.now) (tables_from None c.args.holdings.now) up (plain_tables c.args.holdings.now c.tables_from-owner-items.ensures.holdings up))

@@ -7,4 +7,4 @@ use Rattle.sb_budget.proofs.availability.available.Given as goal
 
 abbrev pub invariant-loop-owner : goal.invariant-loop-owner
 invariant-loop-owner l =
-    l.offered.items ++ all_parts (covers l.digest) (number l.digest) l.owner-iterator ≡ all_parts (covers l.digest) (number l.digest) (tables_from None l.holdings)
+    l.offered.items ++ all_parts (covers l.digest) (held_in l.digest) l.owner-iterator ≡ all_parts (covers l.digest) (held_in l.digest) (tables_from None l.holdings)
