@@ -1,0 +1,4 @@
+pub mod Turns
+pub mod Honesty
+pub mod Truth
+pub mod Own

@@ -1,0 +1,18 @@
+-- The blocks of a delta, some taken and others to come.
+use Rattle.std.proofs.Common.{◌≡◌, List, [], ◌++◌, sym, ap, subst, ◌∙◌}
+use Rattle.std.proofs.lemmas.List.{append-nil}
+use Rattle.sb_types.specs.Records.{Block}
+use Rattle.sb_holdings.specs.declared.ends.BlockEnd.{BlockEnd}
+use Rattle.sb_holdings.specs.Nodes.{Node, replay_node}
+use Rattle.sb_node.specs.Ends.{Treats, took_each}
+
+-- from the first state these ends lead to the present one, where the rest of the blocks are to come
+pub record Turned (first now : Node) (blocks rest : List Block) (ends : List BlockEnd) : Type 0 where
+  pub treats : (more : List BlockEnd) → Treats now rest more → Treats first blocks (ends ++ more)
+  pub node : (more : List BlockEnd) → replay_node first (took_each blocks (ends ++ more)) ≡ replay_node now (took_each rest more)
+
+pub all_treated : {first now : Node} {blocks : List Block} {ends : List BlockEnd} → Turned first now blocks [] ends → Treats first blocks ends
+all_treated {first} {now} {blocks} {ends} turned = subst (Treats first blocks) (append-nil ends) (turned.treats [] tt)
+
+pub all_replayed : {first now : Node} {blocks : List Block} {ends : List BlockEnd} → Turned first now blocks [] ends → now ≡ replay_node first (took_each blocks ends)
+all_replayed {first} {now} {blocks} {ends} turned = sym (ap (λ (es : List BlockEnd). replay_node first (took_each blocks es)) (sym (append-nil ends)) ∙ turned.node [])

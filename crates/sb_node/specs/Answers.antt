@@ -1,0 +1,34 @@
+-- What a node tells a peer that sent a digest.
+use Rattle.std.specs.Prelude.{◌≡◌, ℕ, List, IsPermutation, IsSorted}
+use Rattle.sb_types.specs.declared.settings.Order.{Order}
+use Rattle.sb_types.specs.declared.settings.Order.TheVariants as orders
+use Rattle.sb_types.specs.Records.{Block, Settings}
+use Rattle.sb_holdings.specs.Held.{Held}
+use Rattle.sb_digest.specs.Digests.{Digest}
+use Rattle.sb_budget.specs.declared.offered.Offered.{Offered}
+use Rattle.sb_budget.specs.Available.{available_for, AreRanked}
+use Rattle.sb_budget.specs.Offers.{Item, of_owner}
+use Rattle.sb_budget.specs.Cut.{items_of_all, IsCut}
+use Rattle.sb_breadth.specs.Breadth.{by_rank}
+use Rattle.sb_depth.specs.Depth.{by_count}
+
+-- the items stand in the order of the settings
+abbrev pub IsListedBy : Order → List Offered → Type 0
+IsListedBy orders.Breadth items = IsSorted by_rank items
+IsListedBy orders.Depth items = IsSorted by_count items
+
+-- all that is available, each once, in the order of the settings, and of that the longest front within their budget
+pub record IsDelta (settings : Settings) (held : Held) (digest : Digest) (blocks : List Block) : Type 0 where
+  pub offered : List Offered
+  pub available : items_of_all offered ≡ available_for held digest
+  pub ranks : AreRanked offered
+  pub listed : List Offered
+  pub each_once : IsPermutation offered listed
+  pub order : IsListedBy settings.order listed
+  pub cut : IsCut settings.budget (items_of_all listed) blocks
+
+-- the same of any order: of a list in which each owner's items stand as they are available, the longest front within the budget
+pub record IsAnswer (budget : ℕ) (held : Held) (digest : Digest) (blocks : List Block) : Type 0 where
+  pub items : List Item
+  pub each : (owner : List ℕ) → of_owner owner items ≡ of_owner owner (available_for held digest)
+  pub cut : IsCut budget items blocks

@@ -1,0 +1,26 @@
+-- A node with its settings, and what it answers to its own writes.
+use Rattle.std.specs.Prelude.{ℕ, nat_eq, if◌then◌else◌, Option, Some, None, Result, Err}
+use Rattle.std.specs.Cmp.Lexicographic.{pointwise}
+use Rattle.sb_types.specs.declared.fault.Fault.{Fault}
+use Rattle.sb_types.specs.declared.fault.Fault.TheVariants.{WrongOwner, OwnerConflict}
+use Rattle.sb_types.specs.Records.{Settings}
+use Rattle.sb_holdings.specs.Nodes.{Node}
+use Rattle.sb_holdings.specs.Plain.{own_answer}
+use Rattle.sb_log.specs.Records.{Committed}
+
+pub record Core : Type 0 where
+  pub settings : Settings
+  pub node : Node
+
+-- the node with the settings that it has
+abbrev pub with_node : Core → Node → Core
+with_node core node = record { settings = core.settings; node = node }
+
+-- a version under the own name that the node did not write stands before every other answer
+abbrev pub unless_conflict : Option ℕ → Result (Unit {0}) Fault → Result (Unit {0}) Fault
+unless_conflict None answer = answer
+unless_conflict (Some version) answer = Err (OwnerConflict version)
+
+-- what a committed write is answered, where there is memory
+abbrev pub committed_answer : Node → Committed → Result (Unit {0}) Fault
+committed_answer node c = if pointwise nat_eq c.owner node.held.me then unless_conflict node.conflict (own_answer node.held c.entry) else Err WrongOwner

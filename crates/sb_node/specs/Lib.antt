@@ -1,0 +1,4 @@
+pub mod Cores
+pub mod Ends
+pub mod Answers
+pub mod Calls
