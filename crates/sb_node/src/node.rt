@@ -1,3 +1,5 @@
+//! The node core: what a node holds, and each of its calls as one event.
+
 ghost use Rattle.std.specs.Prelude.{◌≡◌, ◌<◌, ℕ, List, true, None, Some, Ok, Err, length, OnOk, OnErr, IfOk, IfErr, IfSome, IfNone, IsPermutation};
 ghost use Rattle.std.specs.Option.{option_map};
 ghost use Rattle.sb_types.specs.Faults.{Gives};
@@ -8,7 +10,7 @@ ghost use Rattle.sb_holdings.specs.Ends.{Fits};
 ghost use Rattle.sb_holdings.specs.Held.{shown_of};
 ghost use Rattle.sb_holdings.specs.Nodes.{Wrote, node_after_block, node_after_event, replay_node, opened_node};
 ghost use Rattle.sb_holdings.specs.Plain.{IsHoldings, own_answer};
-ghost use Rattle.sb_digest.specs.Fronts.{IsLongestFront};
+ghost use Rattle.sb_digest.specs.Builders.{IsLongestFront};
 ghost use Rattle.sb_digest.specs.Pairs.{pairs_from};
 ghost use Rattle.sb_budget.specs.Available.{available_for};
 ghost use Rattle.sb_budget.specs.Orders.{IsOffer, AscendsByOwner};
@@ -242,14 +244,14 @@ impl NodeCore {
         let blocks = delta.blocks();
         let mut ends = Vec::with_capacity(self.alloc, blocks.len())?;
         for block in blocks {
-            let end = self.holder_after_block(block);
+            let end = self.take_block(block);
             ends.push_reserved(end);
         }
         Ok(Report::new(ends))
     }
 
     /// Takes a block, and tells how it ended.
-    fn holder_after_block(&mut self, block: &Block) -> BlockEnd
+    fn take_block(&mut self, block: &Block) -> BlockEnd
         ensures end { Fits self.old.node.held block.now result }
         ensures effect { self.new ≡ with_node self.old (node_after_block self.old.node block.now result) }
         ensures holdings { IsHoldings self.new.node.held }

@@ -46,7 +46,7 @@ module _ (t copy : Table) (e : Entry) (rest : List Entry) (is : IsPlainTable t) 
   new = new_behind copy.entries e rest (ap are_distinct copying.parts ∙ is.run.distinct)
 
   pub has_room : is_full_for e.key copy.entries ≡ false
-  has_room = grind (arith, nat_tests, is.few, ap length copying.parts, length-append copy.entries (e ∷ rest))
+  has_room = grind (arith, nat_tests, is.limit, ap length copying.parts, length-append copy.entries (e ∷ rest))
 
   pub copying-goes_on : IsCopying t (with_entry copy e) rest
   copying-goes_on = record {
