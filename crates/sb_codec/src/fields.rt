@@ -7,7 +7,8 @@ ghost use Rattle.sb_codec.specs.Refusal.{Reads};
 ghost use Rattle.sb_codec.specs.Fields.{byte_field, bytes_field, number_field, text_field, list_field, times_field};
 ghost use Rattle.sb_types.specs.Text.{is_name, is_key};
 ghost use Rattle.sb_codec.specs.Reading.{name_field, key_field, addr_field, weight_field, flag_field, slot_field, entry_field, block_field, delta_field};
-ghost use Rattle.sb_codec.specs.Reading.{hello_field, bye_field, write_field, done_field, refused_field, optional_field, pair_field, digest_field, prefix_field, place_field, ask_field, value_field, row_field, page_field};
+ghost use Rattle.sb_codec.specs.Reading.{hello_field, bye_field, write_field, done_field, refused_field, optional_field, pair_field};
+ghost use Rattle.sb_codec.specs.Reading.{digest_field, prefix_field, place_field, ask_field, value_field, row_field, page_field};
 ghost use Rattle.sb_codec.specs.Messages.{message_field};
 
 use crate::list_item::ListItem;
