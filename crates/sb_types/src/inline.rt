@@ -9,12 +9,12 @@ use std::marker::Model;
 
 /// A short text that lies in the value itself. The bytes behind it are 0.
 #[derive(Clone, Copy)]
-pub(crate) struct Inline<const CAP: usize> {
+pub(crate) struct InlineText<const CAP: usize> {
     cells: [u8; CAP],
     len: u8,
 }
 
-impl<const CAP: usize> Model for Inline<CAP> {
+impl<const CAP: usize> Model for InlineText<CAP> {
     ghost use Rattle.std.specs.Prelude.{◌≡◌, ℕ, ◌≤◌, ◌-◌, List, ◌++◌, length, take, replicate};
 
     ghost Value = { List ℕ };
@@ -26,7 +26,7 @@ impl<const CAP: usize> Model for Inline<CAP> {
     ghost inverse = { λ text. record { cells = text ++ replicate (CAP - length text) 0; len = length text } };
 }
 
-impl<const CAP: usize> Inline<CAP> {
+impl<const CAP: usize> InlineText<CAP> {
     /// The text, which has to fit and to be shorter than 256 bytes.
     pub(crate) fn new(text: &[u8]) -> Self
         requires fits { length text.now ≤ CAP }
@@ -36,7 +36,7 @@ impl<const CAP: usize> Inline<CAP> {
         let mut cells = [0; CAP];
         let len = text.len();
         cells[..len].copy_from_slice(text);
-        Inline {
+        InlineText {
             cells,
             len: len as u8,
         }
@@ -50,7 +50,7 @@ impl<const CAP: usize> Inline<CAP> {
     }
 }
 
-impl<const CAP: usize> PartialEq for Inline<CAP> {
+impl<const CAP: usize> PartialEq for InlineText<CAP> {
     ghost use Rattle.std.specs.Prelude.{nat_eq};
     ghost use Rattle.std.specs.Cmp.Lexicographic.{pointwise};
     ghost use Rattle.std.specs.Cmp.Rules.{comparing};
@@ -65,14 +65,14 @@ impl<const CAP: usize> PartialEq for Inline<CAP> {
     }
 }
 
-impl<const CAP: usize> Eq for Inline<CAP> {
+impl<const CAP: usize> Eq for InlineText<CAP> {
     ghost use Rattle.std.specs.Cmp.Rules.{comparing};
     ghost use Rattle.std.proofs.Common.{rules};
 
     ghost laws = { Prim.search (comparing, rules) };
 }
 
-impl<const CAP: usize> PartialOrd for Inline<CAP> {
+impl<const CAP: usize> PartialOrd for InlineText<CAP> {
     ghost use Rattle.std.specs.Ordering.{nat_cmp, as_partial_cmp};
     ghost use Rattle.std.specs.Cmp.{partial_order_from_own_ties};
     ghost use Rattle.std.specs.Cmp.Lexicographic.{slice_cmp};
@@ -88,7 +88,7 @@ impl<const CAP: usize> PartialOrd for Inline<CAP> {
     }
 }
 
-impl<const CAP: usize> Ord for Inline<CAP> {
+impl<const CAP: usize> Ord for InlineText<CAP> {
     ghost use Rattle.std.specs.Ordering.{nat_cmp};
     ghost use Rattle.std.specs.Cmp.Lexicographic.{slice_cmp};
     ghost use Rattle.std.specs.Cmp.Rules.{comparing};
@@ -107,7 +107,7 @@ impl<const CAP: usize> Ord for Inline<CAP> {
     }
 }
 
-impl<const CAP: usize> fmt::Debug for Inline<CAP> {
+impl<const CAP: usize> fmt::Debug for InlineText<CAP> {
     fn fmt<W: fmt::Write>(&self, f: &mut fmt::Formatter<W>) -> fmt::Result {
         f.write_str("\"")?;
         for byte in self.bytes() {

@@ -5,7 +5,7 @@ ghost use Rattle.std.specs.List.{list_all};
 ghost use Rattle.sb_types.specs.Text.{is_name_byte, is_key_byte, is_name, is_key, is_prefix};
 
 use crate::fault::Fault;
-use crate::inline::Inline;
+use crate::inline::InlineText;
 use crate::limits::{KEY_MOST, NAME_MOST};
 use std::marker::Model;
 
@@ -45,7 +45,7 @@ fn has_key_bytes(text: &[u8]) -> bool
 /// The test `example_of_values_and_names` runs these lines.
 #[derive(Clone, Copy, Debug, PartialEq, Eq, PartialOrd, Ord)]
 pub struct Name {
-    text: Inline<NAME_MOST>,
+    text: InlineText<NAME_MOST>,
 }
 
 impl Model for Name {
@@ -70,7 +70,7 @@ impl Name {
             return Err(Fault::BadName);
         }
         Ok(Name {
-            text: Inline::new(text),
+            text: InlineText::new(text),
         })
     }
 
@@ -87,7 +87,7 @@ impl Name {
 /// are ordered by their bytes.
 #[derive(Clone, Copy, Debug, PartialEq, Eq, PartialOrd, Ord)]
 pub struct Key {
-    text: Inline<KEY_MOST>,
+    text: InlineText<KEY_MOST>,
 }
 
 impl Model for Key {
@@ -112,7 +112,7 @@ impl Key {
             return Err(Fault::BadKey);
         }
         Ok(Key {
-            text: Inline::new(text),
+            text: InlineText::new(text),
         })
     }
 
@@ -128,7 +128,7 @@ impl Key {
 /// The beginning of keys: 0 to 64 of the bytes of keys.
 #[derive(Clone, Copy, Debug, PartialEq, Eq, PartialOrd, Ord)]
 pub struct Prefix {
-    text: Inline<KEY_MOST>,
+    text: InlineText<KEY_MOST>,
 }
 
 impl Model for Prefix {
@@ -153,7 +153,7 @@ impl Prefix {
             return Err(Fault::BadKey);
         }
         Ok(Prefix {
-            text: Inline::new(text),
+            text: InlineText::new(text),
         })
     }
 
