@@ -1,5 +1,5 @@
 -- What stands among the events of calls.
-use Rattle.std.proofs.Common.{◌≡◌, ℕ, Bool, true, List, [], ◌∷◌, ◌++◌, ◌⊎◌, inl, inr, ⊎_elim, refl, sym, ap, subst, ◌∙◌}
+use Rattle.std.proofs.Common.{◌≡◌, ℕ, Bool, true, List, [], ◌∷◌, ◌⊎◌, inl, inr, ⊎_elim, refl, sym, ap, subst, ◌∙◌}
 use Rattle.std.proofs.lemmas.Bool.{and_parts}
 use Rattle.std.specs.List.{flat_map, list_all}
 use Rattle.sb_types.specs.declared.entry.Write.{Write}
@@ -7,7 +7,7 @@ use Rattle.sb_types.specs.Limits.{is_delta_block, is_delta}
 use Rattle.sb_types.specs.Records.{Block}
 use Rattle.sb_types.specs.Runs.{Stands}
 use Rattle.sb_holdings.specs.declared.ends.BlockEnd.{BlockEnd}
-use Rattle.sb_holdings.specs.Nodes.{NodeEvent, Wrote, Took, IsNodeEvent, TrueAt, AreNodeEvents, AllTrueAt}
+use Rattle.sb_holdings.specs.Nodes.{NodeEvent, Took, IsNodeEvent, TrueAt, AreNodeEvents, AllTrueAt}
 use Rattle.sb_holdings.proofs.Lists.{either}
 use Rattle.sb_node.specs.Ends.{took_each}
 use Rattle.sb_node.specs.Calls.{Call, TookOwn, Applied, events_of, AreBlocks, AreHonest, IsCall, TrueCall, AreCalls, AreTrue}

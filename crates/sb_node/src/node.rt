@@ -1,6 +1,6 @@
 //! The node core: what a node holds, and each of its calls as one event.
 
-ghost use Rattle.std.specs.Prelude.{◌≡◌, ◌<◌, ℕ, List, true, None, Some, Ok, Err, length, OnOk, OnErr, IfOk, IfErr, IfSome, IfNone, IsPermutation};
+ghost use Rattle.std.specs.Prelude.{◌≡◌, ◌<◌, true, None, Some, Ok, Err, length, OnOk, OnErr, IfOk, IfErr, IfSome, IfNone, IsPermutation};
 ghost use Rattle.std.specs.Option.{option_map};
 ghost use Rattle.sb_types.specs.Faults.{Gives};
 ghost use Rattle.sb_types.specs.Limits.{is_delta, are_settings};
