@@ -71,7 +71,7 @@ fn digest_of(alloc: Global, held: &[(Name, u64)]) -> Result<Digest, Fault> {
     for (owner, version) in held {
         pairs.push(Pair {
             owner: *owner,
-            upto: *upto: version,
+            upto: *version,
         })?;
     }
     Digest::new(false, None, None, pairs)

@@ -220,9 +220,9 @@ fn hello() -> Result<Message, Fault> {
     Ok(Message::Hello(Hello { cluster, node }))
 }
 
-fn pair(owner: &[u8], version: u64) -> Result<Pair, Fault> {
+fn pair(owner: &[u8], upto: u64) -> Result<Pair, Fault> {
     let owner = Name::read(owner)?;
-    Ok(Pair { owner, version })
+    Ok(Pair { owner, upto })
 }
 
 fn digest(alloc: Global) -> Result<Message, Fault> {

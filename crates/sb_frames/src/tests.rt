@@ -182,7 +182,7 @@ fn is_digest(message: &Message) -> bool {
         return false;
     };
     let is_whole = digest.from().is_none() && digest.until().is_none();
-    digest.want() && is_whole && pair.owner.bytes() == b"a".as_slice() && pair.version == 0
+    digest.want() && is_whole && pair.owner.bytes() == b"a".as_slice() && pair.upto == 0
 }
 
 #[test]

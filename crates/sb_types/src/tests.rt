@@ -117,9 +117,9 @@ fn values_from_words(rt: HostRuntime) -> Result<(), Fail> {
         ("flag", "false", ValueRef::Flag(false), "flag false"),
     ] {
         let value = Value::from_words(alloc, kind.as_bytes(), word.as_bytes())?;
-        assert!(rt; is_seen(&value, seen), "{line}");
+        assert!(rt; is_seen(&value, seen));
         let copy = value.copy(alloc)?;
-        assert!(rt; is_seen(&copy, seen), "{line}");
+        assert!(rt; is_seen(&copy, seen));
         assert_eq!(rt; value.to_string(alloc)?.as_str(), line);
     }
     Ok(())
