@@ -9,7 +9,7 @@ abbrev pub no_table : Table
 no_table = record { held = 0; floor = 0; entries = [] }
 
 pub no_table_is : IsTable no_table
-no_table_is = record { run = record { ascending = refl; most = omega arith; distinct = refl }; floor = omega arith }
+no_table_is = record { run = record { ascending = refl; most = omega arith; distinct = refl }; floor = omega arith; live = refl }
 
 pub no_table_holds : (writes : List Write) → Holds writes no_table
 no_table_holds writes = record {
