@@ -1,17 +1,17 @@
 -- Messages out of a reader.
-use Rattle.std.proofs.Common.{◌≡◌, ◌≢◌, ℕ, ◌+◌, ◌-◌, ◌*◌, ◌<◌, ◌≤◌, true, false, List, [], ◌∷◌, ◌++◌, length, take, drop, replicate, Option, Some, None, Result, Ok, Err, refl, sym, ap, subst, ◌∙◌, ◌⊎◌, inl, inr, Bool, if◌then◌else◌, append_assoc, arith, length-append}
+use Rattle.std.proofs.Common.{◌≡◌, ◌≢◌, ℕ, ◌+◌, ◌*◌, ◌<◌, ◌≤◌, true, false, List, [], ◌∷◌, ◌++◌, length, take, drop, Option, Some, None, Result, Ok, Err, refl, sym, ap, subst, ◌∙◌, ◌⊎◌, inl, inr, Bool, if◌then◌else◌, append_assoc, arith, length-append}
 use Rattle.std.proofs.lemmas.List.{append-nil, nil_from_length, take-append-le, drop-append-le, length-take-le, take_all}
 use Rattle.std.proofs.Math.Seq.{take-append-add, take-append_seam}
 use Rattle.std.specs.Result.{result_unwrap_or}
 use Rattle.std.proofs.KnownBytes.{Consumes-nil, Consumes-trans, Consumes-kept, Keeps-refl}
-use Rattle.std.specs.Io.KnownBytes.{Keeps, Consumes, IsAtEnd}
+use Rattle.std.specs.Io.KnownBytes.{Keeps, Consumes}
 use Rattle.sb_types.specs.declared.fault.Fault.{Fault}
 use Rattle.sb_types.specs.declared.fault.Fault.TheVariants.{Closed, Truncated}
 use Rattle.sb_codec.specs.declared.message.Message.{Message}
-use Rattle.sb_frames.specs.declared.frames.TheConstants.{PIECE}
-use Rattle.sb_frames.specs.Frames.{frame, short, bad, front_of}
+use Rattle.sb_frames.specs.declared.frames.TheConstants.{READ_LENGTH}
+use Rattle.sb_frames.specs.Frames.{frame, short, front_of}
 use Rattle.sb_frames.specs.Streams.{Stream, open_with, shut, Takes, TakesNext, Hands}
-use Rattle.sb_frames.specs.Receiving.{is_shut, held_of, end_of_held, end_of, GivesBytes, Misses, Filled, Fills, Stops, is_bad, no_memory, read_failed, cut_short, turns_spent, Gives, ReceivesOpen, Receives}
+use Rattle.sb_frames.specs.Receiving.{is_shut, held_of, end_of_held, end_of, GivesBytes, Misses, Fills, Stops, is_bad, no_memory, read_failed, cut_short, turns_spent, ReceivesOpen, Receives}
 use Rattle.sb_frames.proofs.Splitting.{within_frame}
 
 -- what stands before each look at what is held
@@ -21,7 +21,7 @@ pub record Reading (held : List ℕ) (now : Stream) (from to : Option (List ℕ)
   pub stands : now ≡ open_with (held ++ bytes)
   pub needed : (front_of held ≡ short) ⊎ ((bytes ≡ []) × (left ≡ before))
   pub fewer : left ≤ before
-  pub room : length bytes + PIECE * left ≤ PIECE * before
+  pub room : length bytes + READ_LENGTH * left ≤ READ_LENGTH * before
 
 pub reading_begins : (old : Stream) (from : Option (List ℕ)) (before : ℕ) → is_shut old ≡ false → Reading (held_of old) old from from before before
 reading_begins (open_with held) from before e = record {
@@ -58,7 +58,7 @@ reading_hands held now new from to before left m r hands =
     record { bytes = r.bytes; consumed = r.consumed; needed = r.needed; fewer = r.fewer; given = subst (λ s. TakesNext s (Ok (Some m)) new) r.stands hands }
 
 pub reading_goes : (held : List ℕ) (now new : Stream) (from to : Option (List ℕ)) (before left : ℕ) (m : Message) → Reading held now from to before left
-    → TakesNext now (Ok (Some m)) new → length (held_of new) + PIECE * left < length held + PIECE * before
+    → TakesNext now (Ok (Some m)) new → length (held_of new) + READ_LENGTH * left < length held + READ_LENGTH * before
 reading_goes held now new from to before left m r hands =
     let h : Hands (held ++ r.bytes) m new = subst (λ s. TakesNext s (Ok (Some m)) new) r.stands hands in
     let some = (within_frame m h.leads.limits).0 in
@@ -175,7 +175,7 @@ pub within_got : (from to : Option (List ℕ)) (got : List ℕ) (before left : �
 within_got from to got before left (Ok n) gives = gives.0
 within_got from to got before left (Err fault) gives = omega arith
 
-pub fills_by : (items : List ℕ) (taken : ℕ) (from to : Option (List ℕ)) (before left : ℕ) (result : Result ℕ Fault) (got new : List ℕ) → taken ≤ length items → length got ≡ PIECE
+pub fills_by : (items : List ℕ) (taken : ℕ) (from to : Option (List ℕ)) (before left : ℕ) (result : Result ℕ Fault) (got new : List ℕ) → taken ≤ length items → length got ≡ READ_LENGTH
     → GivesBytes from to got before left result → new ≡ items ++ take (count_in result) got → Fills (drop taken items) from to before left result (open_with (drop taken new))
 fills_by items taken from to before left (Ok n) got new within size gives is = record {
   bytes = take n got;

@@ -4,7 +4,7 @@ use Rattle.std.specs.Io.KnownBytes.{Keeps, Consumes, IsAtEnd}
 use Rattle.sb_types.specs.declared.fault.Fault.{Fault}
 use Rattle.sb_types.specs.declared.fault.Fault.TheVariants.{NoMemory, Closed, ReadFailed, Truncated, TurnsSpent}
 use Rattle.sb_codec.specs.declared.message.Message.{Message}
-use Rattle.sb_frames.specs.declared.frames.TheConstants.{PIECE}
+use Rattle.sb_frames.specs.declared.frames.TheConstants.{READ_LENGTH}
 use Rattle.sb_frames.specs.Frames.{short, bad, front_of}
 use Rattle.sb_frames.specs.Streams.{Stream, open_with, shut, Hands}
 
@@ -41,7 +41,7 @@ pub record Filled (held : List ℕ) (from to : Option (List ℕ)) (before left c
   pub bytes : List ℕ
   pub consumed : Consumes from to bytes
   pub filled : length bytes ≡ count
-  pub most : count ≤ PIECE
+  pub most : count ≤ READ_LENGTH
   pub end : count ≡ 0 → IsAtEnd to
   pub stands : new ≡ open_with (held ++ bytes)
   pub read : left < before

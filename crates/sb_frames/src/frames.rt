@@ -11,8 +11,8 @@ use std::io::Read;
 use std::marker::Model;
 use std::sync::ledger::Ledger;
 
-/// How many bytes are asked for at once.
-pub(crate) const PIECE: usize = 4_096;
+/// How many bytes a read asks for.
+pub const READ_LENGTH: usize = 4_096;
 
 /// The messages of one stream of bytes, which comes in any pieces. After a faulty frame it is closed.
 #[derive(Debug, Drop)]
@@ -118,7 +118,7 @@ impl Frames {
         ensures counted { steps.new + left.new ≡ steps.old + left.old }
     {
         let start = self.bytes.len();
-        self.bytes.resize(start + PIECE, 0)?;
+        self.bytes.resize(start + READ_LENGTH, 0)?;
         let answer = read_within(reader, &mut self.bytes[start..], left, steps);
         let count = answer.unwrap_or(0);
         self.bytes.truncate(start + count);

@@ -8,7 +8,7 @@ mod receiving;
 mod sending;
 mod steps;
 
-pub use frames::Frames;
+pub use frames::{Frames, READ_LENGTH};
 pub use laws::{
     faults_are_of_the_bytes, frames_are_read, frames_have_a_length, only_frames_are_read,
     parts_of_frames_are_short, pieces_do_not_matter, streams_have_one_reading, verdicts_stand,

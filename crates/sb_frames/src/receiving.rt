@@ -2,7 +2,7 @@
 
 ghost use Rattle.std.specs.Prelude.{◌≡◌, ◌+◌, ◌*◌, ◌<◌, ℕ, false, length, IfOk, IfSome};
 ghost use Rattle.sb_frames.specs.Receiving.{is_shut, held_of, Receives, ReceivesOpen};
-ghost use Rattle.sb_frames.specs.declared.frames.TheConstants.{PIECE};
+ghost use Rattle.sb_frames.specs.declared.frames.TheConstants.{READ_LENGTH};
 
 use crate::frames::Frames;
 use crate::steps::Steps;
@@ -21,7 +21,7 @@ fn receive_open<R: Read, L: Ledger>(
     requires { is_shut frames.old ≡ false }
     ensures gives { ReceivesOpen (held_of frames.old) frames.new (R.remaining reader.old) (R.remaining reader.new) left.old left.new result }
     ensures counted { steps.new + left.new ≡ steps.old + left.old }
-    ensures goes { IfOk result (λ found. IfSome found (λ _. length (held_of frames.new) + PIECE * left.new < length (held_of frames.old) + PIECE * left.old)) }
+    ensures goes { IfOk result (λ found. IfSome found (λ _. length (held_of frames.new) + READ_LENGTH * left.new < length (held_of frames.old) + READ_LENGTH * left.old)) }
 {
     loop {
         if let Some(message) = frames.next()? {
@@ -51,7 +51,7 @@ pub fn receive_within<R: Read, L: Ledger>(
     ensures counted { steps.new + left.new ≡ steps.old + left.old }
 
     // What is held and what may still be read grows less with each message.
-    ensures goes { IfOk result (λ found. IfSome found (λ _. length (held_of frames.new) + PIECE * left.new < length (held_of frames.old) + PIECE * left.old)) }
+    ensures goes { IfOk result (λ found. IfSome found (λ _. length (held_of frames.new) + READ_LENGTH * left.new < length (held_of frames.old) + READ_LENGTH * left.old)) }
 {
     if frames.is_shut() {
         return Err(Fault::Closed);

@@ -1,4 +1,4 @@
-use Rattle.std.proofs.Common.{◌≡◌, Some, None, Ok, Err, sym}
+use Rattle.std.proofs.Common.{Some, None, Ok, sym}
 use Rattle.std.proofs.lemmas.Result.{err_from_is_err_and}
 use Rattle.sb_frames.specs.Streams.{TakesNext}
 use Rattle.sb_frames.specs.Receiving.{held_of, Fills}

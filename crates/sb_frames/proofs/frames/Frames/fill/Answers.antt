@@ -1,6 +1,6 @@
-use Rattle.std.proofs.Common.{◌≡◌, ◌+◌, ◌-◌, ◌≤◌, ◌++◌, length, take, drop, vec_len, rules, refl, sym, ap, ◌∙◌, arith, length-append, length-drop}
+use Rattle.std.proofs.Common.{◌≡◌, ◌+◌, ◌-◌, ◌≤◌, ◌++◌, length, take, drop, vec_len, rules, ap, ◌∙◌, arith, length-append, length-drop}
 use Rattle.std.proofs.lemmas.List.{with_items_is, places, length-take-le}
-use Rattle.sb_frames.specs.declared.frames.TheConstants.{PIECE}
+use Rattle.sb_frames.specs.declared.frames.TheConstants.{READ_LENGTH}
 use Rattle.sb_frames.proofs.OutOfReaders.{read_in, count_in, same_count, within_got, fills_by, open_view, resized_front}
 use Rattle.sb_frames.proofs.frames.Frames.fill.Goals as goal
 use borrow.Rule.Slice.PartMut.{put_mid, post_of}
@@ -14,16 +14,16 @@ returns-clause-filled g c =
     let got = c.read_within-answer.new.bytes in
     let start = c.len-start.result in
     let is : start ≡ length old = omega arith in
-    let most : length all ≡ start + PIECE = omega (arith, c.deref_mut.ensures.len, c.in_ok-resize.ensures.len) in
+    let most : length all ≡ start + READ_LENGTH = omega (arith, c.deref_mut.ensures.len, c.in_ok-resize.ensures.len) in
     let bound : start ≤ length all = omega (arith, most) in
     let rest = length all - start in
     let post = post_of start rest all in
     let after = put_mid start rest all got in
     let whole_len : length after ≡ vec_len c.resize.new.self = search (rules, places) in
-    let size : length got ≡ PIECE = omega (arith, whole_len, most, length-append (take start all) (got ++ post), length-append got post, length-take-le start all bound, length-drop rest (drop start all), length-drop start all,
+    let size : length got ≡ READ_LENGTH = omega (arith, whole_len, most, length-append (take start all) (got ++ post), length-append got post, length-take-le start all bound, length-drop rest (drop start all), length-drop start all,
     c.in_ok-resize.ensures.len) in
     let counted : c.unwrap_or-count.result ≡ count_in c.read_within-answer.result = c.unwrap_or-count.ensures ∙ same_count c.read_within-answer.result in
-    let front : take start all ≡ old = ap (take start) (c.deref_mut.ensures.value ∙ c.in_ok-resize.ensures.items) ∙ resized_front old _ start (start + PIECE) is (omega arith) in
+    let front : take start all ≡ old = ap (take start) (c.deref_mut.ensures.value ∙ c.in_ok-resize.ensures.items) ∙ resized_front old _ start (start + READ_LENGTH) is (omega arith) in
     let whole : c.truncate.new.self.items ≡ take (start + c.unwrap_or-count.result) after =
     c.truncate.ensures.items ∙ ap (take (start + c.unwrap_or-count.result)) (with_items_is c.resize.new.self after whole_len) in
     let items : c.truncate.new.self.items ≡ old ++ take (count_in c.read_within-answer.result) got =
