@@ -1,5 +1,5 @@
 -- What comes of a message that a session takes, and of a digest that it asks with, over the steps of a handler.
-use Rattle.std.specs.Prelude.{◌≡◌, Bool, true, false, ◌⊎◌, List, [], ◌∷◌, Option, Some, None, Result, Ok, Err}
+use Rattle.std.specs.Prelude.{◌≡◌, ℕ, Bool, true, false, ◌⊎◌, List, [], ◌∷◌, Option, Some, None, Result, Ok, Err}
 use Rattle.sb_types.specs.declared.fault.Fault.{Fault}
 use Rattle.sb_types.specs.declared.fault.Fault.TheVariants as faults
 use Rattle.sb_types.specs.Records.{Block}
@@ -20,6 +20,14 @@ messages_of (Answered blocks) = Delta blocks ∷ []
 messages_of (Exchanged blocks digest) = Delta blocks ∷ Digest digest ∷ []
 messages_of (Applied ends) = []
 messages_of (Ended reason) = []
+
+-- why the peer said Bye, where it did
+abbrev pub bye_of : Replies → Option ℕ
+bye_of Greeted = None
+bye_of (Answered blocks) = None
+bye_of (Exchanged blocks digest) = None
+bye_of (Applied ends) = None
+bye_of (Ended reason) = Some reason
 
 -- a digest that wants none in answer: the delta for it, or the handler's refusal
 abbrev pub Answers : {H : Type 0} → (H → Act → H → Type 0) → Session → H → digests.Digest → Result Replies Fault → Session → H → Type 0

@@ -14,6 +14,9 @@ pub trait Handler {
     /// It may come from the one state to the other by calls that enter nothing.
     ghost stays: { Self → Self → Type 0 };
 
+    /// What stays true from the one state to the other over any calls, as that nothing goes back.
+    ghost grows: { Self → Self → Type 0 };
+
     /// How far owners are held, from a name on, or from the least where none is given. `want` says
     /// whether a digest is wanted in answer.
     fn digest(&mut self, from: Option<Name>, want: bool) -> Result<Digest, Fault>
@@ -38,4 +41,13 @@ pub trait Handler {
 
     /// What enters nothing twice enters nothing.
     ghost stays_on: { (old mid new : Self) → stays old mid → stays mid new → stays old new };
+
+    /// It stays true over each call,
+    ghost step_grows: { (old new : Self) (act : Act) → step old act new → grows old new };
+
+    /// over none,
+    ghost grows_still: { (state : Self) → grows state state };
+
+    /// and over calls after others.
+    ghost grows_on: { (old mid new : Self) → grows old mid → grows mid new → grows old new };
 }

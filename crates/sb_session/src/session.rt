@@ -1,4 +1,4 @@
-ghost use Rattle.std.specs.Prelude.{◌≡◌, Err};
+ghost use Rattle.std.specs.Prelude.{◌≡◌, Err, OnErr};
 ghost use Rattle.sb_session.specs.declared.session.Phase.TheVariants as phases;
 ghost use Rattle.sb_session.specs.Sessions.{new_session, hello_of, in_phase, greeting_refusal};
 ghost use Rattle.sb_session.specs.Taking.{Takes, Asks, Greets, AnswersDigest};
@@ -69,6 +69,8 @@ impl Session {
     /// and `NoMemory`, with the session unchanged.
     pub fn ask<H: Handler>(&mut self, handler: &mut H) -> Result<Message, Fault>
         ensures asks { Asks H.step self.old handler.old result self.new handler.new }
+        ensures stays { H.stays handler.old handler.new }
+        ensures grows { H.grows handler.old handler.new }
     {
         if matches!(self.phase, Phase::Closed) {
             return Err(Fault::Closed);
@@ -88,6 +90,8 @@ impl Session {
         handler: &mut H,
     ) -> Result<Replies, Fault>
         ensures takes { Takes H.step self.old handler.old message result self.new handler.new }
+        ensures stays { OnErr result (H.stays handler.old handler.new) }
+        ensures grows { H.grows handler.old handler.new }
     {
         match (self.phase, message) {
             (Phase::Closed, _) => Err(Fault::Closed),
@@ -134,7 +138,9 @@ impl Session {
     /// The delta for a digest and, where it wants one, the own next digest. Both are made before either
     /// is sent.
     fn answer<H: Handler>(&mut self, told: &Digest, handler: &mut H) -> Result<Replies, Fault>
-        ensures { AnswersDigest H.step self.old handler.old told.now told.now.want result self.new handler.new }
+        ensures answers { AnswersDigest H.step self.old handler.old told.now told.now.want result self.new handler.new }
+        ensures stays { H.stays handler.old handler.new }
+        ensures grows { H.grows handler.old handler.new }
     {
         let delta = handler.deltas(told)?;
         if !told.want() {
