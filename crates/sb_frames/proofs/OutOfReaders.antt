@@ -71,14 +71,18 @@ pub reading_refused : (held : List ℕ) (now new : Stream) (from to : Option (Li
 reading_refused held now new from to before left fault r refused =
     let next : Takes (held ++ r.bytes) (Err fault) new = subst (λ s. TakesNext s (Err fault) new) r.stands refused in
     record {
-      bytes = r.bytes; consumed = r.consumed; needed = r.needed; fewer = r.fewer;
+      bytes = r.bytes;
+      consumed = r.consumed;
+      needed = r.needed;
+      fewer = r.fewer;
       given = elim next [
         | inl front ↦ is_bad front.0 front.1
         | inr memory ↦ no_memory memory.0 memory.2
       ];
     }
 
-stopped : (fault : Fault) (bytes : List ℕ) (new : Stream) (to : Option (List ℕ)) (before left less : ℕ) → front_of bytes ≡ short → new ≡ open_with bytes → left ≤ before → Misses fault left less → Stops fault bytes new to before less
+stopped : (fault : Fault) (bytes : List ℕ) (new : Stream) (to : Option (List ℕ)) (before left less : ℕ) → front_of bytes ≡ short → new ≡ open_with bytes → left ≤ before
+    → Misses fault left less → Stops fault bytes new to before less
 stopped fault bytes new to before left less none stands fewer misses =
     elim misses [
       | inl memory ↦ no_memory memory.0 stands
@@ -135,7 +139,8 @@ reading_cut held now mid new from via to before left less fault r none fills end
     let on = reading_on held now mid new from via to before left less 0 r none fills in
     let some = some_left _ fault (ap end_of (sym on.stands) ∙ ended) in
     let next : Takes (held ++ r.bytes) (Ok None) mid = subst (λ s. TakesNext s (Ok None) mid) r.stands none in
-    let same : held ++ on.bytes ≡ held ++ r.bytes = ap (λ (x : List ℕ). held ++ (r.bytes ++ x)) (nil_from_length fills.bytes fills.filled) ∙ ap (λ (x : List ℕ). held ++ x) (append-nil r.bytes) in
+    let same : held ++ on.bytes ≡ held ++ r.bytes = ap (λ (x : List ℕ). held ++ (r.bytes ++ x)) (nil_from_length fills.bytes fills.filled) ∙ ap (λ (x : List ℕ). held ++ x) (append-nil
+    r.bytes) in
     record { bytes = on.bytes; consumed = on.consumed; needed = on.needed; fewer = on.fewer; given = cut_short some.0 (ap front_of same ∙ next.0) on.stands some.1 (fills.end refl) }
 
 pub receives_shut : (old : Stream) (from : Option (List ℕ)) (before : ℕ) → is_shut old ≡ true → Receives old old from from before before (Err Closed)

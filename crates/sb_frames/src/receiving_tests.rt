@@ -86,8 +86,17 @@ fn whole(bytes: &[u8]) -> Pieces<'_> {
 #[test]
 fn messages_out_of_a_reader(rt: HostRuntime) -> Result<(), Fail> {
     let alloc = rt.alloc();
-    for (piece, interrupts, max_reads) in [(1usize, false, 8), (1, true, 16), (5, false, 2), (16, false, 1)] {
-        let mut reader = Pieces { piece, interrupts, ..whole(BYES) };
+    for (piece, interrupts, max_reads) in [
+        (1usize, false, 8),
+        (1, true, 16),
+        (5, false, 2),
+        (16, false, 1),
+    ] {
+        let mut reader = Pieces {
+            piece,
+            interrupts,
+            ..whole(BYES)
+        };
         let (count, last) = received(alloc, &mut reader, b"", max_reads)?;
         assert_eq!(rt; count, 2);
         assert!(rt; matches!(last, Ok(None)));
@@ -109,7 +118,10 @@ fn readers_that_give_out(rt: HostRuntime) -> Result<(), Fail> {
         (16, true, 9, 2, Fault::ReadFailed),
         (12, true, 9, 1, Fault::ReadFailed),
     ] {
-        let mut reader = Pieces { breaks, ..whole(&BYES[..length]) };
+        let mut reader = Pieces {
+            breaks,
+            ..whole(BYES.get(..length).unwrap_or(&[]))
+        };
         let (count, last) = received(alloc, &mut reader, b"", max_reads)?;
         assert_eq!(rt; count, expected);
         assert!(rt; matches!(last, Err(found) if found == fault));

@@ -26,7 +26,11 @@ pub says_one : {X : Type 0} (a b : Option (List ℕ)) (m : Message) (r : Result 
 says_one a b m (Ok x) sends = rw (append-nil (frame m)) sends
 says_one a b m (Err NoMemory) sends =
     record {
-      sent = []; last = m; unsent = []; count = 0; all = refl;
+      sent = [];
+      last = m;
+      unsent = [];
+      count = 0;
+      all = refl;
       part = omega (arith, length-frame m);
       put_out = kept_nothing a b sends;
       why = inr (refl, refl);
@@ -39,11 +43,15 @@ says_one a b m (Err _) sends = absurd sends
 pub cut_behind : (a b c : Option (List ℕ)) (ms ns : List Message) (fault : Fault) → Appends a b (flat_map frame ms) → CutShort b c ns fault → CutShort a c (ms ++ ns) fault
 cut_behind a b c ms ns fault first cut =
     record {
-      sent = ms ++ cut.sent; last = cut.last; unsent = cut.unsent; count = cut.count;
+      sent = ms ++ cut.sent;
+      last = cut.last;
+      unsent = cut.unsent;
+      count = cut.count;
       all = ap (λ (x : List Message). ms ++ x) cut.all ∙ sym (append_assoc ms cut.sent (cut.last ∷ cut.unsent));
       part = cut.part;
       put_out = subst (λ (x : List ℕ). Appends a c x)
-          (sym (append_assoc (flat_map frame ms) (flat_map frame cut.sent) (take cut.count (frame cut.last))) ∙ ap (λ (x : List ℕ). x ++ take cut.count (frame cut.last)) (sym (flat_map-append frame ms cut.sent)))
+          (sym (append_assoc (flat_map frame ms) (flat_map frame cut.sent) (take cut.count (frame cut.last))) ∙ ap (λ (x : List ℕ). x ++ take cut.count (frame cut.last)) (sym
+          (flat_map-append frame ms cut.sent)))
           (Appends-trans a b c (flat_map frame ms) (flat_map frame cut.sent ++ take cut.count (frame cut.last)) first cut.put_out);
       why = cut.why;
     }
@@ -60,7 +68,12 @@ says_more a b c ms ns (Err fault) first next = cut_behind a b c ms ns fault firs
 pub cut_in_front : (a b : Option (List ℕ)) (ms ns : List Message) (fault : Fault) → CutShort a b ms fault → CutShort a b (ms ++ ns) fault
 cut_in_front a b ms ns fault cut =
     record {
-      sent = cut.sent; last = cut.last; unsent = cut.unsent ++ ns; count = cut.count;
+      sent = cut.sent;
+      last = cut.last;
+      unsent = cut.unsent ++ ns;
+      count = cut.count;
       all = ap (λ (x : List Message). x ++ ns) cut.all ∙ append_assoc cut.sent (cut.last ∷ cut.unsent) ns;
-      part = cut.part; put_out = cut.put_out; why = cut.why;
+      part = cut.part;
+      put_out = cut.put_out;
+      why = cut.why;
     }

@@ -33,7 +33,8 @@ pending_of (hears message) = message ∷ []
 pending_of speaks = []
 
 -- a message that came is pending until a move hears it
-pub record Talking {H : Type 0} (step : H → Act → H → Type 0) (a now : Party H) (pending : List Message) (frames : Stream) (from to old new : Option (List ℕ)) (before left : ℕ) : Type 0 where
+pub record Talking {H : Type 0} (step : H → Act → H
+    → Type 0) (a now : Party H) (pending : List Message) (frames : Stream) (from to old new : Option (List ℕ)) (before left : ℕ) : Type 0 where
   pub bytes : List ℕ
   pub held : List ℕ
   pub moves : List Move
@@ -66,21 +67,35 @@ heard_on (speaks ∷ moves) move = heard_on moves move
 pub talk_begins : {H : Type 0} (step : H → Act → H → Type 0) (a : Party H) (frames : Stream) (from old new : Option (List ℕ)) (before : ℕ) → frames ≡ open_with []
     → Appends old new (flat_map frame (hello_of a.session ∷ [])) → Talking step a a [] frames from from old new before before
 talk_begins step a frames from old new before stands put = record {
-  bytes = []; held = []; moves = []; said = [];
-  consumed = Consumes-nil from; heard = refl; each = refl; run = (refl, refl); put_out = put; stands = stands; fewer = omega arith;
+  bytes = [];
+  held = [];
+  moves = [];
+  said = [];
+  consumed = Consumes-nil from;
+  heard = refl;
+  each = refl;
+  run = (refl, refl);
+  put_out = put;
+  stands = stands;
+  fewer = omega arith;
 }
 
-pub talk_moves : {H : Type 0} (step : H → Act → H → Type 0) (a now next : Party H) (move : Move) (more : List Message) (frames : Stream) (from to old mid new : Option (List ℕ)) (before left : ℕ)
+pub talk_moves : {H : Type 0} (step : H → Act → H
+    → Type 0) (a now next : Party H) (move : Move) (more : List Message) (frames : Stream) (from to old mid new : Option (List ℕ)) (before left : ℕ)
     → Talking step a now (pending_of move) frames from to old mid before left → Moves step now move more next → Appends mid new (flat_map frame more)
     → Talking step a next [] frames from to old new before left
 talk_moves step a now next move more frames from to old mid new before left t moved put = record {
-  bytes = t.bytes; held = t.held; moves = t.moves ++ move ∷ []; said = t.said ++ more;
+  bytes = t.bytes;
+  held = t.held;
+  moves = t.moves ++ move ∷ [];
+  said = t.said ++ more;
   consumed = t.consumed;
   heard = t.heard ∙ ap (λ (x : List Message). flat_map frame x ++ t.held) (sym (append-nil _ ∙ heard_on t.moves move));
   each = refl;
   run = run_on step a t.moves t.said now move more next t.run moved;
   put_out = put_behind old mid new (hello_of a.session ∷ t.said) more t.put_out put;
-  stands = t.stands; fewer = t.fewer;
+  stands = t.stands;
+  fewer = t.fewer;
 }
 
 one_more : (hm : List Message) (m : Message) (bytes held more rest : List ℕ) → bytes ≡ flat_map frame (hm ++ []) ++ held → held ++ more ≡ frame m ++ rest
@@ -98,11 +113,17 @@ talk_receives step a now m frames after from mid to old new before left less t r
     let r : ReceivesOpen t.held after mid to left less (Ok (Some m)) = subst (λ s. Receives s after mid to left less (Ok (Some m))) t.stands received in
     let hands : Hands (t.held ++ r.bytes) m after = r.given in
     record {
-      bytes = t.bytes ++ r.bytes; held = hands.rest; moves = t.moves; said = t.said;
+      bytes = t.bytes ++ r.bytes;
+      held = hands.rest;
+      moves = t.moves;
+      said = t.said;
       consumed = Consumes-trans from mid to t.bytes r.bytes t.consumed r.consumed;
       heard = one_more (heard_in t.moves) m t.bytes t.held r.bytes hands.rest t.heard hands.leads.laid;
       each = rw hands.leads.limits refl;
-      run = t.run; put_out = t.put_out; stands = hands.left; fewer = omega (arith, t.fewer, r.fewer);
+      run = t.run;
+      put_out = t.put_out;
+      stands = hands.left;
+      fewer = omega (arith, t.fewer, r.fewer);
     }
 
 -- ---- ending
@@ -115,15 +136,27 @@ pub talk_ends : {H : Type 0} (step : H → Act → H → Type 0) (a now : Party 
     → (t : Talking step a now [] frames from to old new before left) → Ends step t.moves now h t.held (hello_of a.session ∷ t.said) to old new before left result
     → Talks step a h from to old new before left result
 talk_ends step a now h frames from to old new before left result t ends = record {
-  bytes = t.bytes; held = t.held; moves = t.moves; said = t.said; last = now;
-  consumed = t.consumed; heard = settled (heard_in t.moves) t.bytes t.held t.heard; run = t.run; ends = ends;
+  bytes = t.bytes;
+  held = t.held;
+  moves = t.moves;
+  said = t.said;
+  last = now;
+  consumed = t.consumed;
+  heard = settled (heard_in t.moves) t.bytes t.held t.heard;
+  run = t.run;
+  ends = ends;
 }
 
-pub talk_cut : {H : Type 0} (step : H → Act → H → Type 0) (a now next : Party H) (move : Move) (more : List Message) (frames : Stream) (from to old mid new : Option (List ℕ)) (before left : ℕ) (fault : Fault)
+pub talk_cut : {H : Type 0} (step : H → Act → H
+    → Type 0) (a now next : Party H) (move : Move) (more : List Message) (frames : Stream) (from to old mid new : Option (List ℕ)) (before left : ℕ) (fault : Fault)
     → Talking step a now (pending_of move) frames from to old mid before left → Moves step now move more next → CutShort mid new more fault
     → Talks step a next.handler from to old new before left (Err fault)
 talk_cut step a now next move more frames from to old mid new before left fault t moved cut = record {
-  bytes = t.bytes; held = t.held; moves = t.moves ++ move ∷ []; said = t.said ++ more; last = next;
+  bytes = t.bytes;
+  held = t.held;
+  moves = t.moves ++ move ∷ [];
+  said = t.said ++ more;
+  last = next;
   consumed = t.consumed;
   heard = t.heard ∙ ap (λ (x : List Message). flat_map frame x ++ t.held) (sym (heard_on t.moves move));
   run = run_on step a t.moves t.said now move more next t.run moved;
@@ -133,15 +166,27 @@ talk_cut step a now next move more frames from to old mid new before left fault 
 pub hello_cut : {H : Type 0} (step : H → Act → H → Type 0) (a : Party H) (from old new : Option (List ℕ)) (before : ℕ) (fault : Fault)
     → CutShort old new (hello_of a.session ∷ []) fault → Talks step a a.handler from from old new before before (Err fault)
 hello_cut step a from old new before fault cut = record {
-  bytes = []; held = []; moves = []; said = []; last = a;
-  consumed = Consumes-nil from; heard = refl; run = (refl, refl); ends = at_writing fault refl cut refl;
+  bytes = [];
+  held = [];
+  moves = [];
+  said = [];
+  last = a;
+  consumed = Consumes-nil from;
+  heard = refl;
+  run = (refl, refl);
+  ends = at_writing fault refl cut refl;
 }
 
-pub talk_refused : {H : Type 0} (step : H → Act → H → Type 0) (a now : Party H) (h : H) (move : Move) (frames : Stream) (from to old mid new : Option (List ℕ)) (before left : ℕ) (fault : Fault)
+pub talk_refused : {H : Type 0} (step : H → Act → H
+    → Type 0) (a now : Party H) (h : H) (move : Move) (frames : Stream) (from to old mid new : Option (List ℕ)) (before left : ℕ) (fault : Fault)
     → Talking step a now (pending_of move) frames from to old mid before left → Refuses step now move fault h → Keeps mid new
     → Talks step a h from to old new before left (Err fault)
 talk_refused step a now h (hears m) frames from to old mid new before left fault t refused kept = record {
-  bytes = t.bytes; held = frame m ++ t.held; moves = t.moves; said = t.said; last = now;
+  bytes = t.bytes;
+  held = frame m ++ t.held;
+  moves = t.moves;
+  said = t.said;
+  last = now;
   consumed = t.consumed;
   heard = t.heard ∙ ap (λ (x : List ℕ). x ++ t.held) (flat_map-append frame (heard_in t.moves) (m ∷ []) ∙ ap (λ (x : List ℕ). flat_map frame (heard_in t.moves) ++ x) (append-nil (frame m)))
       ∙ append_assoc (flat_map frame (heard_in t.moves)) (frame m) t.held;
@@ -149,12 +194,19 @@ talk_refused step a now h (hears m) frames from to old mid new before left fault
   ends = at_message fault m t.held refl (front_frame m t.held (and_parts _ _ t.each).0) refused (kept_after old mid new _ t.put_out kept);
 }
 talk_refused step a now h speaks frames from to old mid new before left fault t refused kept = record {
-  bytes = t.bytes; held = t.held; moves = t.moves; said = t.said; last = now;
-  consumed = t.consumed; heard = settled (heard_in t.moves) t.bytes t.held t.heard; run = t.run;
+  bytes = t.bytes;
+  held = t.held;
+  moves = t.moves;
+  said = t.said;
+  last = now;
+  consumed = t.consumed;
+  heard = settled (heard_in t.moves) t.bytes t.held t.heard;
+  run = t.run;
   ends = at_speaking fault refl refused (kept_after old mid new _ t.put_out kept);
 }
 
-stops_later : (fault : Fault) (bytes : List ℕ) (rest : Stream) (to : Option (List ℕ)) (before left less : ℕ) → left ≤ before → Stops fault bytes rest to left less → Stops fault bytes rest to before less
+stops_later : (fault : Fault) (bytes : List ℕ) (rest : Stream) (to : Option (List ℕ)) (before left less : ℕ) → left ≤ before → Stops fault bytes rest to left less
+    → Stops fault bytes rest to before less
 stops_later fault bytes rest to before left less fewer (is_bad front new) = is_bad front new
 stops_later fault bytes rest to before left less fewer (no_memory is new) = no_memory is new
 stops_later fault bytes rest to before left less fewer (read_failed is none new made) = read_failed is none new (omega (arith, fewer, made))
@@ -170,7 +222,11 @@ pub talk_reading : {H : Type 0} (step : H → Act → H → Type 0) (a now : Par
 talk_reading step a now frames after from mid to old new before left less fault quiet goes t received =
     let r : ReceivesOpen t.held after mid to left less (Err fault) = subst (λ s. Receives s after mid to left less (Err fault)) t.stands received in
     record {
-      bytes = t.bytes ++ r.bytes; held = t.held ++ r.bytes; moves = t.moves; said = t.said; last = now;
+      bytes = t.bytes ++ r.bytes;
+      held = t.held ++ r.bytes;
+      moves = t.moves;
+      said = t.said;
+      last = now;
       consumed = Consumes-trans from mid to t.bytes r.bytes t.consumed r.consumed;
       heard = more_read (heard_in t.moves) t.bytes t.held r.bytes t.heard;
       run = t.run;
@@ -183,7 +239,11 @@ pub talk_at_end : {H : Type 0} (step : H → Act → H → Type 0) (a now : Part
 talk_at_end step a now frames after from mid to old new before left less quiet goes t received =
     let r : ReceivesOpen t.held after mid to left less (Ok None) = subst (λ s. Receives s after mid to left less (Ok None)) t.stands received in
     record {
-      bytes = t.bytes ++ r.bytes; held = t.held ++ r.bytes; moves = t.moves; said = t.said; last = now;
+      bytes = t.bytes ++ r.bytes;
+      held = t.held ++ r.bytes;
+      moves = t.moves;
+      said = t.said;
+      last = now;
       consumed = Consumes-trans from mid to t.bytes r.bytes t.consumed r.consumed;
       heard = more_read (heard_in t.moves) t.bytes t.held r.bytes t.heard;
       run = t.run;
@@ -223,22 +283,26 @@ bye_taken step s h m (replies.Applied ends) reason s' h' takes e = absurd cc
 bye_taken step s h m (replies.Ended said) reason s' h' takes e =
     let same : said ≡ reason = cc in ended_by step s h m said s' h' takes ∙ ap kinds.Bye same
 
-module _ {H : Type 0} (step : H → Act → H → Type 0) (a : Party H) (rounds : Option ℕ) (s : Session) (h : H) (s' : Session) (h' : H) (frames : Stream) (from to old mid new : Option (List ℕ)) (before left : ℕ) where
-
-  pub talk_heard : (m : Message) → are_done rounds ≡ false → Talking step a (party_of false rounds s h) (m ∷ []) frames from to old mid before left → Hearing step m s h s' h' mid new (Ok None)
+module _ {H : Type 0} (step : H → Act → H
+    → Type 0) (a : Party H) (rounds : Option ℕ) (s : Session) (h : H) (s' : Session) (h' : H) (frames : Stream) (from to old mid new : Option (List ℕ)) (before left : ℕ) where
+  pub talk_heard : (m : Message) → are_done rounds ≡ false → Talking step a (party_of false rounds s h) (m ∷ []) frames from to old mid before left
+      → Hearing step m s h s' h' mid new (Ok None)
       → Talking step a (party_of (ends_round m) (rounds_after (ends_round m) rounds) s' h') [] frames from to old new before left
   talk_heard m goes t hearing =
       elim hearing [
-        | inl heard ↦ talk_moves step a (party_of false rounds s h) (party_of (ends_round m) (rounds_after (ends_round m) rounds) s' h') (hears m) (messages_of heard.0) frames from to old mid new before left
+        | inl heard ↦ talk_moves step a (party_of false rounds s h) (party_of (ends_round m) (rounds_after (ends_round m) rounds) s' h') (hears m) (messages_of heard.0) frames from to old
+            mid new before left
             t (refl, goes, refl, refl, (heard.0, heard.1, refl)) heard.2
         | inr refused ↦ absurd cc (refused.1)
       ]
 
-  pub talk_heard_fault : (m : Message) (fault : Fault) → are_done rounds ≡ false → Talking step a (party_of false rounds s h) (m ∷ []) frames from to old mid before left → Hearing step m s h s' h' mid new (Err fault)
+  pub talk_heard_fault : (m : Message) (fault : Fault) → are_done rounds ≡ false → Talking step a (party_of false rounds s h) (m ∷ []) frames from to old mid before left
+      → Hearing step m s h s' h' mid new (Err fault)
       → Talks step a h' from to old new before left (Err fault)
   talk_heard_fault m fault goes t hearing =
       elim hearing [
-        | inl heard ↦ talk_cut step a (party_of false rounds s h) (party_of (ends_round m) (rounds_after (ends_round m) rounds) s' h') (hears m) (messages_of heard.0) frames from to old mid new before left fault
+        | inl heard ↦ talk_cut step a (party_of false rounds s h) (party_of (ends_round m) (rounds_after (ends_round m) rounds) s' h') (hears m) (messages_of heard.0) frames from to old mid
+            new before left fault
             t (refl, goes, refl, refl, (heard.0, heard.1, refl)) heard.2
         | inr refused ↦
             let same : fault ≡ refused.0 = cc (refused.1) in
@@ -246,7 +310,8 @@ module _ {H : Type 0} (step : H → Act → H → Type 0) (a : Party H) (rounds 
             t (refl, goes, (s', rw same refused.2)) refused.3
       ]
 
-  pub talk_heard_bye : (m : Message) (reason : ℕ) → are_done rounds ≡ false → Talking step a (party_of false rounds s h) (m ∷ []) frames from to old mid before left → Hearing step m s h s' h' mid new (Ok (Some reason))
+  pub talk_heard_bye : (m : Message) (reason : ℕ) → are_done rounds ≡ false → Talking step a (party_of false rounds s h) (m ∷ []) frames from to old mid before left
+      → Hearing step m s h s' h' mid new (Ok (Some reason))
       → Talks step a h' from to old new before left (Ok (endings.Bye reason))
   unfolding talk_moves
   talk_heard_bye m reason goes t hearing =
@@ -276,7 +341,8 @@ module _ {H : Type 0} (step : H → Act → H → Type 0) (a : Party H) (rounds 
       → Talks step a h' from to old new before left (Err fault)
   talk_spoke_fault fault t speaking =
       elim speaking [
-        | inl spoke ↦ talk_cut step a (party_of true rounds s h) (party_of false rounds s' h') speaks spoke.0 frames from to old mid new before left fault t (refl, refl, refl, spoke.1) spoke.2
+        | inl spoke ↦ talk_cut step a (party_of true rounds s h) (party_of false rounds s' h') speaks spoke.0 frames from to old mid new before left fault t (refl, refl, refl, spoke.1)
+            spoke.2
         | inr refused ↦
             let same : fault ≡ refused.0 = cc (refused.1) in
             talk_refused step a (party_of true rounds s h) h' speaks frames from to old mid new before left fault t (refl, refused.2, (s', rw same refused.3)) refused.4
@@ -299,25 +365,31 @@ pub speaking_bye : {H : Type 0} (step : H → Act → H → Type 0) (rounds : Op
     → rounds ≡ Some n → n ≡ 0 → reason ≡ REASON_ROUNDS_DONE → Says old new (kinds.Bye reason ∷ []) result → IfOk result (λ done. done ≡ true) → Speaking step rounds s h s h old new result
 speaking_bye step rounds n reason s h old new result is zero one says done =
     let all : rounds ≡ Some 0 = is ∙ ap Some zero in
-    inl (kinds.Bye reason ∷ [],
+    inl (
+      kinds.Bye reason ∷ [],
       subst (λ (o : Option ℕ). Speaks step o s h (kinds.Bye reason ∷ []) s h) (sym all) (ap (λ r. kinds.Bye r ∷ []) one, refl, refl),
       says,
-      subst (λ (o : Option ℕ). IfOk result (λ d. d ≡ are_done o)) (sym all) done)
+      subst (λ (o : Option ℕ). IfOk result (λ d. d ≡ are_done o)) (sym all) done,
+    )
 
-pub speaking_digest : {H : Type 0} (step : H → Act → H → Type 0) (rounds : Option ℕ) (n : ℕ) (message : Message) (s : Session) (h : H) (s' : Session) (h' : H) (old new : Option (List ℕ)) (result : Result Bool Fault)
+pub speaking_digest : {H : Type 0} (step : H → Act → H
+    → Type 0) (rounds : Option ℕ) (n : ℕ) (message : Message) (s : Session) (h : H) (s' : Session) (h' : H) (old new : Option (List ℕ)) (result : Result Bool Fault)
     → rounds ≡ Some n → n ≢ 0 → Asks step s h (Ok message) s' h' → Says old new (message ∷ []) result → IfOk result (λ done. done ≡ false) → Speaking step rounds s h s' h' old new result
 speaking_digest step rounds n message s h s' h' old new result is some asks says done =
     let more : (n == 0) ≡ false = ne_eqb n 0 some in
-    inl (message ∷ [],
+    inl (
+      message ∷ [],
       subst (λ (o : Option ℕ). Speaks step o s h (message ∷ []) s' h') (sym is) (subst (λ (b : Bool). SpeaksOn step b s h (message ∷ []) s' h') (sym more) (message, asks, refl)),
       says,
-      subst (λ (o : Option ℕ). IfOk result (λ d. d ≡ are_done o)) (sym is) (subst (λ (b : Bool). IfOk result (λ d. d ≡ b)) (sym more) done))
+      subst (λ (o : Option ℕ). IfOk result (λ d. d ≡ are_done o)) (sym is) (subst (λ (b : Bool). IfOk result (λ d. d ≡ b)) (sym more) done),
+    )
 
 pub same_reason : (x y : ℕ) (r : Result ℕ Fault) → r ≡ Ok x → r ≡ Ok y → x ≡ y
 same_reason x y r e f = cc
 
 -- after a message: whether it is this end's turn, and the rounds that are left
-pub talk_turns : {H : Type 0} (step : H → Act → H → Type 0) (a : Party H) (m : Message) (ends b : Bool) (rounds after : Option ℕ) (s : Session) (h : H) (frames : Stream) (from to old new : Option (List ℕ)) (before left : ℕ)
+pub talk_turns : {H : Type 0} (step : H → Act → H
+    → Type 0) (a : Party H) (m : Message) (ends b : Bool) (rounds after : Option ℕ) (s : Session) (h : H) (frames : Stream) (from to old new : Option (List ℕ)) (before left : ℕ)
     → ends ≡ ends_round m → after ≡ rounds_after ends rounds → ends ≡ b
     → Talking step a (party_of (ends_round m) (rounds_after (ends_round m) rounds) s h) [] frames from to old new before left
     → Talking step a (party_of b after s h) [] frames from to old new before left

@@ -84,11 +84,7 @@ impl Session {
     /// `NoHello` of what comes before the peer's Hello; `SecondHello`; `WrongCluster` and `SameName` of
     /// the peer's Hello. After these it is closed. Then the handler's `TurnsSpent` and `NoMemory`, with
     /// the session unchanged and nothing entered; the message is lost.
-    pub fn take<H: Handler>(
-        &mut self,
-        message: Message,
-        handler: &mut H,
-    ) -> Result<Replies, Fault>
+    pub fn take<H: Handler>(&mut self, message: Message, handler: &mut H) -> Result<Replies, Fault>
         ensures takes { Takes H.step self.old handler.old message result self.new handler.new }
         ensures stays { OnErr result (H.stays handler.old handler.new) }
         ensures grows { H.grows handler.old handler.new }

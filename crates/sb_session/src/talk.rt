@@ -167,7 +167,9 @@ pub fn serve<R: Read, W: Write, H: Handler, L: Ledger>(
         (W.contents writer.old) (W.contents writer.new) max_reads left result × (steps.new + left ≡ steps.old + max_reads) }
     ensures grows { H.grows handler.old handler.new }
 {
-    talk(alloc, reader, writer, session, handler, None, max_reads, steps)
+    talk(
+        alloc, reader, writer, session, handler, None, max_reads, steps,
+    )
 }
 
 /// Says Hello, and then asks with a digest that wants one in answer, `rounds` times; it answers whatever
@@ -187,5 +189,14 @@ pub fn dial<R: Read, W: Write, H: Handler, L: Ledger>(
         (W.contents writer.old) (W.contents writer.new) max_reads left result × (steps.new + left ≡ steps.old + max_reads) }
     ensures grows { H.grows handler.old handler.new }
 {
-    talk(alloc, reader, writer, session, handler, Some(rounds), max_reads, steps)
+    talk(
+        alloc,
+        reader,
+        writer,
+        session,
+        handler,
+        Some(rounds),
+        max_reads,
+        steps,
+    )
 }

@@ -1,7 +1,8 @@
 ghost use Rattle.std.specs.Prelude.{◌≡◌, ◌<◌};
 
 use crate::tests::{
-    BYE, CONTROLS, DELTA_B, DELTA_NONE, DIGEST_A, DIGEST_B, HELLO_A, HELLO_B, HELLO_C2, Node, joined,
+    BYE, CONTROLS, DELTA_B, DELTA_NONE, DIGEST_A, DIGEST_B, HELLO_A, HELLO_B, HELLO_C2, Node,
+    joined,
 };
 use crate::{Ended, Session, dial, serve};
 use sb_frames::Steps;
@@ -140,7 +141,15 @@ fn talk_on<L: Ledger>(
         interrupts: false,
     };
     match terms.rounds {
-        None => serve(alloc, &mut reader, writer, session, node, terms.reads, &mut steps),
+        None => serve(
+            alloc,
+            &mut reader,
+            writer,
+            session,
+            node,
+            terms.reads,
+            &mut steps,
+        ),
         Some(rounds) => dial(
             alloc,
             &mut reader,
@@ -168,7 +177,10 @@ fn one_end_answers_until_bye(rt: HostRuntime) -> Result<(), Fail> {
     for piece in [1usize, 7, 42, 4_096] {
         let mut node = Node::new(alloc, b"b", true)?;
         let mut writer = Room::new(128);
-        let terms = Terms { piece, ..serving(&input) };
+        let terms = Terms {
+            piece,
+            ..serving(&input)
+        };
         assert_eq!(rt; talk(&mut node, &mut writer, terms), Ok(Ended::Bye(1)));
         assert!(rt; writer.has_written(&written));
         assert_eq!(rt; writer.written, 67);
@@ -185,7 +197,10 @@ fn writers_and_readers_fail(rt: HostRuntime) -> Result<(), Fail> {
         let mut node = Node::new(alloc, b"b", true)?;
         let mut writer = Room::new(room);
         let terms = serving(&input);
-        assert_eq!(rt; talk(&mut node, &mut writer, terms), Err(Fault::WriteFailed(count)));
+        assert_eq!(rt;
+            talk(&mut node, &mut writer, terms),
+            Err(Fault::WriteFailed(count))
+        );
         assert!(rt; writer.has_written(&written));
     }
     // The reader fails behind the Hello, between and inside frames; the reads are spent.
@@ -199,7 +214,11 @@ fn writers_and_readers_fail(rt: HostRuntime) -> Result<(), Fail> {
     ] {
         let mut node = Node::new(alloc, b"b", true)?;
         let mut writer = Room::new(128);
-        let terms = Terms { breaks, reads, ..serving(&input[..length]) };
+        let terms = Terms {
+            breaks,
+            reads,
+            ..serving(input.get(..length).unwrap_or(&[]))
+        };
         assert_eq!(rt; talk(&mut node, &mut writer, terms), Err(fault));
         assert_eq!(rt; writer.written, count);
     }
@@ -211,14 +230,20 @@ fn the_other_end_asks(rt: HostRuntime) -> Result<(), Fail> {
     let alloc = rt.alloc();
     let mut node = Node::new(alloc, b"b", true)?;
     let mut writer = Room::new(128);
-    assert_eq!(rt; talk(&mut node, &mut writer, dialing(&[], 0)), Ok(Ended::RoundsDone));
+    assert_eq!(rt;
+        talk(&mut node, &mut writer, dialing(&[], 0)),
+        Ok(Ended::RoundsDone)
+    );
     assert!(rt; writer.has_written(&[HELLO_B, BYE]));
     assert_eq!(rt; writer.written, 20);
 
     let input = joined(alloc, &[HELLO_B, DELTA_B, DIGEST_B])?;
     let mut node = Node::new(alloc, b"a", false)?;
     let mut writer = Room::new(128);
-    assert_eq!(rt; talk(&mut node, &mut writer, dialing(&input, 1)), Ok(Ended::RoundsDone));
+    assert_eq!(rt;
+        talk(&mut node, &mut writer, dialing(&input, 1)),
+        Ok(Ended::RoundsDone)
+    );
     assert!(rt; writer.has_written(&[HELLO_A, DIGEST_A, DELTA_NONE, BYE]));
     assert_eq!(rt; writer.written, 51);
     assert_eq!(rt; node.upto(b"b")?, 1);
@@ -226,7 +251,10 @@ fn the_other_end_asks(rt: HostRuntime) -> Result<(), Fail> {
     // A second round asks again, and the peer's bytes end.
     let mut node = Node::new(alloc, b"a", false)?;
     let mut writer = Room::new(128);
-    assert_eq!(rt; talk(&mut node, &mut writer, dialing(&input, 2)), Ok(Ended::End));
+    assert_eq!(rt;
+        talk(&mut node, &mut writer, dialing(&input, 2)),
+        Ok(Ended::End)
+    );
     assert_eq!(rt; writer.written, 12 + 22 + 9 + 32);
     Ok(())
 }
@@ -245,24 +273,31 @@ fn faulty_talks_end(rt: HostRuntime) -> Result<(), Fail> {
         (&[HELLO_A, b"\xa7\x09"], Fault::BadVersion),
         (&[HELLO_A, b"\xa7\x01\x00\x00\x00\x00"], Fault::BadLength),
         (&[b"\xa7\x01\x00\x00\x00\x01\x55"], Fault::UnknownKind(0x55)),
-        (&[HELLO_A, b"\xa7\x01\x00\x00\x00\x02\x04\x06"], Fault::Malformed(4)),
+        (
+            &[HELLO_A, b"\xa7\x01\x00\x00\x00\x02\x04\x06"],
+            Fault::Malformed(4),
+        ),
     ];
     for (pieces, fault) in cases {
         let input = joined(alloc, pieces)?;
         for (terms, length) in [(serving(&input), 12usize), (dialing(&input, 1), 34)] {
             let mut node = Node::new(alloc, b"b", false)?;
             let mut writer = Room::new(128);
-            assert_eq!(rt; talk(&mut node, &mut writer, terms), Err(fault), "{pieces:?}");
+            assert_eq!(rt;
+                talk(&mut node, &mut writer, terms),
+                Err(fault),
+                "{pieces:?}"
+            );
             assert_eq!(rt; writer.written, length);
         }
     }
-    for control in CONTROLS {
+    for (control, kind) in CONTROLS {
         for greeting in [b"".as_slice(), HELLO_A] {
             let input = joined(alloc, &[greeting, control])?;
             let mut node = Node::new(alloc, b"b", false)?;
             let mut writer = Room::new(128);
             let answer = talk(&mut node, &mut writer, serving(&input));
-            assert_eq!(rt; answer, Err(Fault::UnknownKind(control[6])));
+            assert_eq!(rt; answer, Err(Fault::UnknownKind(kind)));
         }
     }
     Ok(())

@@ -13,6 +13,7 @@ use std::test::Fail;
 
 /// Hello of the nodes a and b of the cluster c1.
 pub(crate) const HELLO_A: &[u8] = b"\xa7\x01\x00\x00\x00\x06\x01\x02c1\x01a";
+
 pub(crate) const HELLO_B: &[u8] = b"\xa7\x01\x00\x00\x00\x06\x01\x02c1\x01b";
 
 /// Hello of a node a of the cluster c2.
@@ -23,7 +24,8 @@ pub(crate) const DIGEST_A: &[u8] = b"\xa7\x01\x00\x00\x00\x10\x02\x01\x00\x00\
     \x00\x01\x01a\x00\x00\x00\x00\x00\x00\x00\x00";
 
 /// The delta of the flag true that b wrote under w as its version 1.
-pub(crate) const DELTA_B: &[u8] = b"\xa7\x01\x00\x00\x00\x1b\x03\x00\x01\x01b\x00\x00\x00\x00\x00\x00\x00\x00\
+pub(crate) const DELTA_B: &[u8] =
+    b"\xa7\x01\x00\x00\x00\x1b\x03\x00\x01\x01b\x00\x00\x00\x00\x00\x00\x00\x00\
     \x00\x01\x01w\x00\x00\x00\x00\x00\x00\x00\x01\x03\x01";
 
 /// The digest of b, which holds itself up to 1; none is wanted in answer.
@@ -36,8 +38,17 @@ pub(crate) const DELTA_NONE: &[u8] = b"\xa7\x01\x00\x00\x00\x03\x03\x00\x00";
 /// Bye, since the rounds are done.
 pub(crate) const BYE: &[u8] = b"\xa7\x01\x00\x00\x00\x02\x04\x01";
 
-/// An Ask, Rows, a Put, a Done and a Refused, which have no place in a session.
-pub(crate) const CONTROLS: [&[u8]; 5] = [
+/// An Ask, Rows, a Put, a Done and a Refused, which have no place in a session, with their kinds.
+pub(crate) const CONTROLS: [(&[u8], u8); 5] = [
+    (b"\xa7\x01\x00\x00\x00\x05\x10\x00\x00\x00\x00", 0x10),
+    (b"\xa7\x01\x00\x00\x00\x04\x11\x00\x00\x00", 0x11),
+    (
+        b"\xa7\x01\x00\x00\x00\x0c\x12\x01w\x02\x00\x00\x00\x00\x00\x00\x00\x05",
+        0x12,
+    ),
+    (b"\xa7\x01\x00\x00\x00\x09\x13\x00\x00\x00\x00\x00\x00\x00\x01", 0x13),
+    (b"\xa7\x01\x00\x00\x00\x02\x14\x01", 0x14),
+]; 5] = [
     b"\xa7\x01\x00\x00\x00\x05\x10\x00\x00\x00\x00",
     b"\xa7\x01\x00\x00\x00\x04\x11\x00\x00\x00",
     b"\xa7\x01\x00\x00\x00\x0c\x12\x01w\x02\x00\x00\x00\x00\x00\x00\x00\x05",
@@ -167,7 +178,8 @@ fn a_session_takes_what_comes(rt: HostRuntime) -> Result<(), Fail> {
     let greeted = session.take(read(alloc, HELLO_A)?, &mut node);
     assert!(rt; matches!(greeted, Ok(Replies::Greeted)));
 
-    let Ok(Replies::Exchanged(delta, digest)) = session.take(read(alloc, DIGEST_A)?, &mut node) else {
+    let Ok(Replies::Exchanged(delta, digest)) = session.take(read(alloc, DIGEST_A)?, &mut node)
+    else {
         return Err("no delta and digest".into());
     };
     assert!(rt; is_spelled(alloc, &Message::Delta(delta), DELTA_B)?);
@@ -180,7 +192,12 @@ fn a_session_takes_what_comes(rt: HostRuntime) -> Result<(), Fail> {
 
     let ended = session.take(read(alloc, BYE)?, &mut node);
     assert!(rt; matches!(ended, Ok(Replies::Ended(bye)) if bye.reason() == 1));
-    assert!(rt; matches!(session.take(read(alloc, BYE)?, &mut node), Err(Fault::Closed)));
+    assert!(rt;
+        matches!(
+            session.take(read(alloc, BYE)?, &mut node),
+            Err(Fault::Closed)
+        )
+    );
     assert!(rt; matches!(session.ask(&mut node), Err(Fault::Closed)));
 
     let mut node = Node::new(alloc, b"a", false)?;
@@ -228,8 +245,8 @@ fn messages_out_of_place_close(rt: HostRuntime) -> Result<(), Fail> {
     for (frames, fault) in cases {
         assert_eq!(rt; fault_of(alloc, frames)?, Some(fault), "{frames:?}");
     }
-    for control in CONTROLS {
-        let fault = Fault::UnknownKind(control[6]);
+    for (control, kind) in CONTROLS {
+        let fault = Fault::UnknownKind(kind);
         assert_eq!(rt; fault_of(alloc, &[control])?, Some(fault));
         assert_eq!(rt; fault_of(alloc, &[HELLO_A, control])?, Some(fault));
     }

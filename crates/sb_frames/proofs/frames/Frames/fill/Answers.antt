@@ -20,8 +20,18 @@ returns-clause-filled g c =
     let post = post_of start rest all in
     let after = put_mid start rest all got in
     let whole_len : length after ≡ vec_len c.resize.new.self = search (rules, places) in
-    let size : length got ≡ READ_LENGTH = omega (arith, whole_len, most, length-append (take start all) (got ++ post), length-append got post, length-take-le start all bound, length-drop rest (drop start all), length-drop start all,
-    c.in_ok-resize.ensures.len) in
+    let size : length got ≡ READ_LENGTH = omega (
+      arith,
+      whole_len,
+      most,
+      length-append (take start all) (got ++ post),
+      length-append got post,
+      length-take-le start all bound,
+      length-drop
+          rest (drop start all),
+      length-drop start all,
+      c.in_ok-resize.ensures.len,
+    ) in
     let counted : c.unwrap_or-count.result ≡ count_in c.read_within-answer.result = c.unwrap_or-count.ensures ∙ same_count c.read_within-answer.result in
     let front : take start all ≡ old = ap (take start) (c.deref_mut.ensures.value ∙ c.in_ok-resize.ensures.items) ∙ resized_front old _ start (start + READ_LENGTH) is (omega arith) in
     let whole : c.truncate.new.self.items ≡ take (start + c.unwrap_or-count.result) after =
