@@ -1,8 +1,8 @@
 ghost use Rattle.std.specs.Prelude.{◌≡◌, ◌<◌};
 
 use crate::tests::{
-    BYE, CONTROLS, DELTA_B, DELTA_NONE, DIGEST_A, DIGEST_B, HELLO_A, HELLO_B, HELLO_C2, Node,
-    joined,
+    ASK, BYE, DELTA_B, DELTA_NONE, DIGEST_A, DIGEST_B, DONE, HELLO_A, HELLO_B, HELLO_C2, Node, PUT,
+    REFUSED, ROWS, joined,
 };
 use crate::{Ended, Session, dial, serve};
 use sb_frames::Steps;
@@ -291,7 +291,13 @@ fn faulty_talks_end(rt: HostRuntime) -> Result<(), Fail> {
             assert_eq!(rt; writer.written, length);
         }
     }
-    for (control, kind) in CONTROLS {
+    for (control, kind) in [
+        (ASK, 0x10u8),
+        (ROWS, 0x11),
+        (PUT, 0x12),
+        (DONE, 0x13),
+        (REFUSED, 0x14),
+    ] {
         for greeting in [b"".as_slice(), HELLO_A] {
             let input = joined(alloc, &[greeting, control])?;
             let mut node = Node::new(alloc, b"b", false)?;

@@ -38,23 +38,17 @@ pub(crate) const DELTA_NONE: &[u8] = b"\xa7\x01\x00\x00\x00\x03\x03\x00\x00";
 /// Bye, since the rounds are done.
 pub(crate) const BYE: &[u8] = b"\xa7\x01\x00\x00\x00\x02\x04\x01";
 
-/// An Ask, Rows, a Put, a Done and a Refused, which have no place in a session, with their kinds.
-pub(crate) const CONTROLS: [(&[u8], u8); 5] = [
-    (b"\xa7\x01\x00\x00\x00\x05\x10\x00\x00\x00\x00", 0x10),
-    (b"\xa7\x01\x00\x00\x00\x04\x11\x00\x00\x00", 0x11),
-    (
-        b"\xa7\x01\x00\x00\x00\x0c\x12\x01w\x02\x00\x00\x00\x00\x00\x00\x00\x05",
-        0x12,
-    ),
-    (b"\xa7\x01\x00\x00\x00\x09\x13\x00\x00\x00\x00\x00\x00\x00\x01", 0x13),
-    (b"\xa7\x01\x00\x00\x00\x02\x14\x01", 0x14),
-]; 5] = [
-    b"\xa7\x01\x00\x00\x00\x05\x10\x00\x00\x00\x00",
-    b"\xa7\x01\x00\x00\x00\x04\x11\x00\x00\x00",
-    b"\xa7\x01\x00\x00\x00\x0c\x12\x01w\x02\x00\x00\x00\x00\x00\x00\x00\x05",
-    b"\xa7\x01\x00\x00\x00\x09\x13\x00\x00\x00\x00\x00\x00\x00\x01",
-    b"\xa7\x01\x00\x00\x00\x02\x14\x01",
-];
+/// An Ask, Rows, a Put, a Done and a Refused, which have no place in a session.
+pub(crate) const ASK: &[u8] = b"\xa7\x01\x00\x00\x00\x05\x10\x00\x00\x00\x00";
+
+pub(crate) const ROWS: &[u8] = b"\xa7\x01\x00\x00\x00\x04\x11\x00\x00\x00";
+
+pub(crate) const PUT: &[u8] = b"\xa7\x01\x00\x00\x00\x0c\x12\x01w\x02\
+    \x00\x00\x00\x00\x00\x00\x00\x05";
+
+pub(crate) const DONE: &[u8] = b"\xa7\x01\x00\x00\x00\x09\x13\x00\x00\x00\x00\x00\x00\x00\x01";
+
+pub(crate) const REFUSED: &[u8] = b"\xa7\x01\x00\x00\x00\x02\x14\x01";
 
 /// What a node holds, told and taken up without an order and a budget of deltas.
 #[derive(Drop)]
@@ -245,7 +239,13 @@ fn messages_out_of_place_close(rt: HostRuntime) -> Result<(), Fail> {
     for (frames, fault) in cases {
         assert_eq!(rt; fault_of(alloc, frames)?, Some(fault), "{frames:?}");
     }
-    for (control, kind) in CONTROLS {
+    for (control, kind) in [
+        (ASK, 0x10u8),
+        (ROWS, 0x11),
+        (PUT, 0x12),
+        (DONE, 0x13),
+        (REFUSED, 0x14),
+    ] {
         let fault = Fault::UnknownKind(kind);
         assert_eq!(rt; fault_of(alloc, &[control])?, Some(fault));
         assert_eq!(rt; fault_of(alloc, &[HELLO_A, control])?, Some(fault));
