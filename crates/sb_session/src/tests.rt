@@ -163,6 +163,14 @@ fn is_spelled(alloc: Global, message: &Message, frame: &[u8]) -> Result<bool, Fa
     Ok(frame_of(alloc, message)?.as_slice() == frame)
 }
 
+/// Why the peer said Bye, where it did.
+fn reason_of(replies: &Replies) -> Option<u8> {
+    match replies {
+        Replies::Ended(bye) => Some(bye.reason()),
+        _ => None,
+    }
+}
+
 #[test]
 fn a_session_takes_what_comes(rt: HostRuntime) -> Result<(), Fail> {
     let alloc = rt.alloc();
@@ -184,8 +192,8 @@ fn a_session_takes_what_comes(rt: HostRuntime) -> Result<(), Fail> {
     };
     assert!(rt; is_spelled(alloc, &Message::Delta(delta), DELTA_NONE)?);
 
-    let ended = session.take(read(alloc, BYE)?, &mut node);
-    assert!(rt; matches!(ended, Ok(Replies::Ended(bye)) if bye.reason() == 1));
+    let ended = session.take(read(alloc, BYE)?, &mut node)?;
+    assert_eq!(rt; reason_of(&ended), Some(1));
     assert!(rt;
         matches!(
             session.take(read(alloc, BYE)?, &mut node),
