@@ -1,7 +1,7 @@
 -- A talk as far as it has come, and how it goes on and ends.
-use Rattle.std.proofs.Common.{◌≡◌, ◌≢◌, ℕ, ◌+◌, ◌<◌, ◌≤◌, Bool, true, false, List, [], ◌∷◌, ◌++◌, ◌⊎◌, length, Option, Some, None, Result, Ok, Err, IfOk, ◌==◌, refl, sym, ap, subst, ◌∙◌, inl, inr, append_assoc, arith}
+use Rattle.std.proofs.Common.{◌≡◌, ◌≢◌, ℕ, ◌≤◌, Bool, true, false, List, [], ◌∷◌, ◌++◌, Option, Some, None, Result, Ok, Err, IfOk, ◌==◌, refl, sym, ap, subst, ◌∙◌, inl, inr, append_assoc, arith}
 use Rattle.std.specs.List.{flat_map, list_all}
-use Rattle.std.specs.Io.KnownBytes.{Keeps, Appends, Consumes, IsAtEnd}
+use Rattle.std.specs.Io.KnownBytes.{Keeps, Appends, Consumes}
 use Rattle.std.proofs.KnownBytes.{Consumes-nil, Consumes-trans}
 use Rattle.std.proofs.lemmas.Grind.{flat_map-append}
 use Rattle.std.proofs.lemmas.Bool.{and_parts, ne_eqb}
@@ -12,7 +12,7 @@ use Rattle.sb_digest.specs.Digests as digests
 use Rattle.sb_codec.specs.declared.message.Message.{Message}
 use Rattle.sb_codec.specs.declared.message.Message.TheVariants as kinds
 use Rattle.sb_codec.specs.Messages.{is_message}
-use Rattle.sb_frames.specs.Frames.{frame, short, front_of}
+use Rattle.sb_frames.specs.Frames.{frame}
 use Rattle.sb_frames.specs.Streams.{Stream, open_with, Hands}
 use Rattle.sb_frames.specs.Receiving.{Receives, ReceivesOpen, Stops, is_bad, no_memory, read_failed, cut_short, turns_spent}
 use Rattle.sb_frames.proofs.Fronts.{front_frame}
@@ -22,7 +22,7 @@ use Rattle.sb_session.specs.declared.talk.Ended.{Ended}
 use Rattle.sb_session.specs.declared.talk.Ended.TheVariants as endings
 use Rattle.sb_session.specs.Handlers.{Act}
 use Rattle.sb_session.specs.Sessions.{Session, hello_of}
-use Rattle.sb_session.specs.Taking.{Takes, TakesUnless, TakesUp, AnswersDigest, Asks, messages_of, bye_of}
+use Rattle.sb_session.specs.Taking.{TakesUnless, TakesUp, AnswersDigest, Asks, messages_of, bye_of}
 use Rattle.sb_session.specs.Telling.{CutShort, Says}
 use Rattle.sb_session.specs.Talks.{Party, party_of, ends_round, rounds_after, are_done, Speaks, SpeaksOn, Move, hears, speaks, Moves, Refuses, Run, heard_in, Ends, at_end, at_bye, at_rounds, at_reading, at_message, at_speaking, at_writing, Talks, Hearing, Speaking}
 use Rattle.sb_session.proofs.Saying.{kept_after, cut_behind, put_behind}

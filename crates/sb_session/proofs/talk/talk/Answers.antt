@@ -1,6 +1,6 @@
-use Rattle.std.proofs.Common.{◌≡◌, ◌+◌, true, false, [], refl, sym, ◌∙◌, arith}
+use Rattle.std.proofs.Common.{true, false, refl, arith}
 use Rattle.std.proofs.lemmas.Result.{err_from_is_err_and}
-use Rattle.sb_session.specs.Talks.{party_of, are_done}
+use Rattle.sb_session.specs.Talks.{party_of}
 use Rattle.sb_session.proofs.Talking.{
   hello_cut,
   talk_begins,
