@@ -1,0 +1,10 @@
+//! An owner's log: its own writes, each of which stands before anybody is told of it.
+#![tactic(auto)]
+
+mod committed;
+mod log;
+mod plain;
+
+pub use committed::Committed;
+pub use log::WriteLog;
+pub use plain::PlainLog;
