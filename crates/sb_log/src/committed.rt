@@ -1,6 +1,7 @@
 //! A write that stands in its owner's log.
 ghost use Rattle.std.specs.Prelude.{◌≡◌, true};
 ghost use Rattle.sb_types.specs.Limits.{is_entry};
+ghost use Rattle.sb_types.specs.Text.{is_name};
 
 use sb_types::{Entry, Name};
 use std::marker::Model;
@@ -29,15 +30,21 @@ impl Committed {
 
     /// Whose write it is.
     pub fn owner(&self) -> &Name
-        ensures { result.now ≡ self.now.owner }
+        ensures owner { result.now ≡ self.now.owner }
+        ensures name { is_name self.now.owner ≡ true }
     {
+        // Does nothing: the call tells the prover that the name keeps its limits.
+        let _ = self.owner.bytes();
         &self.owner
     }
 
     /// The write, with its version.
     pub fn entry(&self) -> &Entry
-        ensures { result.now ≡ self.now.entry }
+        ensures entry { result.now ≡ self.now.entry }
+        ensures limits { is_entry self.now.entry ≡ true }
     {
+        // Does nothing: the call tells the prover that the entry keeps its limits.
+        let _ = self.entry.version();
         &self.entry
     }
 }

@@ -1,6 +1,7 @@
 //! An owner's log: its own writes, each of which stands before anybody is told of it.
 #![tactic(auto)]
 
+mod check;
 mod committed;
 mod log;
 mod plain;

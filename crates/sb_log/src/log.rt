@@ -1,8 +1,9 @@
 //! What a log promises, wherever it keeps its writes.
-ghost use Rattle.std.specs.Prelude.{◌≡◌, ◌≢◌, ◌⊎◌, ℕ, Bool, true, false, List, None, Some, Err, IfOk, IfErr, OnOk};
-ghost use Rattle.sb_types.specs.Records.{Table};
-ghost use Rattle.sb_table.specs.Plain.{with_entry, IsPlainTable};
-ghost use Rattle.sb_log.specs.Puts.{next_entry, refusal};
+ghost use Rattle.std.specs.Prelude.{◌≡◌, false, IfErr};
+ghost use Rattle.sb_types.specs.Records as records;
+ghost use Rattle.sb_types.specs.Text.{is_name};
+ghost use Rattle.sb_log.specs.Records.{Log};
+ghost use Rattle.sb_log.specs.Puts.{Puts, Loads, IsSettled, PutSurvives};
 
 use crate::committed::Committed;
 use sb_table::Table;
@@ -11,58 +12,40 @@ use std::alloc::Global;
 
 /// The writes of one owner, each kept before it is acknowledged.
 pub trait WriteLog {
-    /// What it holds: the last write of each key, and the version of the last of all.
-    ghost content: { Self → Table };
+    /// The log as plain data.
+    ghost seen: { Self → Log };
 
-    /// Whose writes they are.
-    ghost own: { Self → List ℕ };
-
-    /// Of which cluster the owner is.
-    ghost cluster_of: { Self → List ℕ };
-
-    /// The greatest version that it gives.
-    ghost most: { Self → ℕ };
-
-    /// Whether a fault of the store closed it.
-    ghost is_closed: { Self → Bool };
-
-    /// The store below did what it promises, up to now.
-    ghost is_honest: { Self → Type 0 };
-
-    /// What a crash at this moment may leave.
-    ghost may_leave: { Self → Table → Type 0 };
+    /// What a crash at this moment may leave as its content.
+    ghost leaves: { Self → records.Table → Type 0 };
 
     /// Whose writes they are.
     fn owner(&self) -> &Name
-        ensures { result.now ≡ own self.now };
+        ensures { result.now ≡ (seen self.now).owner };
 
     /// Of which cluster the owner is.
     fn cluster(&self) -> &Name
-        ensures { result.now ≡ cluster_of self.now };
+        ensures { result.now ≡ (seen self.now).cluster };
 
-    /// Keeps a write, under the next version. `Closed` after a fault of the store; `NothingThere` for a removal where
-    /// the key has no value; `TableFull` where the key is new beside 4,096 others; `VersionsSpent` where the versions
-    /// that the settings allow are spent; `NoMemory`. Each of these leaves everything as it was. `StoreFailed`, for
-    /// whatever cause, which may come before the last four: the write stands or doesn't, and the log is closed.
+    /// Keeps a write, under the next version, and gives it back with that version. `Closed` after a fault of the
+    /// store; `NothingThere` for a removal where the key has no value; `TableFull` where the key is new beside
+    /// 4,096 others, removed ones counted; `VersionsSpent` where the last version is not below the greatest that
+    /// this log gives; `NoMemory`. Each of these leaves everything as it was. `StoreFailed`, for whatever cause: the
+    /// write stands or doesn't, and the log is closed until it is opened again.
     fn put(&mut self, key: &Key, slot: &Slot) -> Result<Committed, Fault>
-        ensures honest { is_honest self.new → is_honest self.old }
-        ensures closed { is_closed self.old ≡ true → result ≡ Err Fault.Closed }
-        ensures kept { is_honest self.new → IfOk result (λ c.
-            (c.owner ≡ own self.old) × (c.entry ≡ next_entry (content self.old) key.now slot.now)
-            × (refusal (most self.old) (content self.old) key.now slot.now ≡ None)
-            × (content self.new ≡ with_entry (content self.old) c.entry)) }
-        ensures refused { is_honest self.new → is_closed self.old ≡ false → IfErr result (λ fault.
-            fault ≢ Fault.StoreFailed → fault ≢ Fault.NoMemory → refusal (most self.old) (content self.old) key.now slot.now ≡ Some fault) }
-        ensures unchanged { IfErr result (λ fault. fault ≢ Fault.StoreFailed → self.new ≡ self.old) }
-        ensures shuts { IfErr result (λ fault. fault ≡ Fault.StoreFailed → is_closed self.new ≡ true) }
-        ensures crash { is_honest self.new → is_closed self.old ≡ false → (left : Table) → may_leave self.new left →
-            (left ≡ content self.old) ⊎ (left ≡ with_entry (content self.old) (next_entry (content self.old) key.now slot.now)) }
-        ensures durable { is_honest self.new → OnOk result ((left : Table) → may_leave self.new left → left ≡ content self.new) };
+        ensures puts { Puts (seen self.old) key.now slot.now result (seen self.new) }
+        ensures closed { (seen self.old).is_open ≡ false → self.new ≡ self.old }
+        ensures crash { PutSurvives (seen self.old) key.now slot.now (seen self.new) (leaves self.new) }
+        ensures settled { IsSettled (seen self.new) (leaves self.new) };
 
-    /// All that it holds, as a table. `Closed` after a fault of the store; `NoMemory`; `StoreFailed`; `LogDamaged`.
+    /// All that it holds, read from where it is kept, as a table. `Closed` after a fault of the store; `NoMemory`,
+    /// which leaves everything as it was; `StoreFailed`, and `LogDamaged` where the store gives other rows than were
+    /// written: each of the two closes the log.
     fn load(&mut self, alloc: Global) -> Result<Table, Fault>
-        ensures honest { is_honest self.new → is_honest self.old }
-        ensures closed { is_closed self.old ≡ true → result ≡ Err Fault.Closed }
-        ensures table { is_honest self.new → IfOk result (λ table. table ≡ content self.old) }
-        ensures content { is_honest self.new → content self.new ≡ content self.old };
+        ensures loads { Loads (seen self.old) result (seen self.new) }
+        ensures closed { (seen self.old).is_open ≡ false → self.new ≡ self.old }
+        ensures settled { IsSettled (seen self.new) (leaves self.new) };
+
+    /// Ends the log. Nothing is promised of its store afterwards. `StoreFailed` where that could not be let go.
+    fn close(self) -> Result<(), Fault>
+        ensures { IfErr result (λ fault. fault ≡ Fault.StoreFailed) };
 }

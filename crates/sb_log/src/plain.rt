@@ -1,14 +1,15 @@
 //! A log that is kept in memory alone.
-ghost use Rattle.std.specs.Prelude.{◌≡◌, ◌≤◌, [], Ok, true, false};
+ghost use Rattle.std.specs.Prelude.{◌≡◌, ◌≤◌, Ok, true};
 ghost use Rattle.sb_types.specs.Records as records;
-ghost use Rattle.sb_table.specs.Plain.{IsPlainTable, plain_table};
 ghost use Rattle.sb_log.specs.Puts as spec;
 
+use crate::check::refusal;
 use crate::committed::Committed;
 use crate::log::WriteLog;
 use sb_table::Table;
 use sb_types::{Entry, Fault, Key, Name, Slot};
 use std::alloc::Global;
+use std::marker::Model;
 
 /// A log in memory, which ends with the process. It never fails but for want of memory.
 #[derive(Debug, Drop)]
@@ -20,39 +21,19 @@ pub struct PlainLog {
     alloc: Global,
 }
 
-/// Why a log of these entries refuses a write, the first reason that holds.
-fn refusal(table: &Table, max_version: u64, key: &Key, slot: &Slot) -> Option<Fault>
-    ensures { result ≡ spec.refusal max_version table.now key.now slot.now }
-{
-    if is_idle(table, key, slot) {
-        return Some(Fault::NothingThere);
-    }
-    if table.is_full_for(key) {
-        return Some(Fault::TableFull);
-    }
-    if table.upto() >= max_version {
-        return Some(Fault::VersionsSpent);
-    }
-    None
-}
+impl Model for PlainLog {
+    ghost use Rattle.std.specs.Prelude.{true};
+    ghost use Rattle.sb_log.specs.Records as records;
 
-/// Whether it is a removal that has nothing to remove.
-fn is_idle(table: &Table, key: &Key, slot: &Slot) -> bool
-    ensures { result ≡ spec.is_idle table.now key.now slot.now }
-{
-    match slot {
-        Slot::Set(_) => false,
-        Slot::Removed => !matches!(table.get(key), Some((_, Slot::Set(_)))),
-    }
+    ghost Value = { records.Log };
+
+    ghost view = { λ l. record { owner = l.owner; cluster = l.cluster; most = l.max_version; content = l.table; is_open = true; is_clean = true } };
 }
 
 impl PlainLog {
     /// An empty log of an owner of a cluster, which gives versions up to `max_version`. It takes no memory.
     pub fn new(alloc: Global, owner: Name, cluster: Name, max_version: u64) -> PlainLog
-        ensures owner { result.owner ≡ owner }
-        ensures cluster { result.cluster ≡ cluster }
-        ensures most { result.max_version ≡ max_version }
-        ensures nothing { result.table ≡ plain_table [] }
+        ensures { result ≡ spec.new_log owner cluster max_version }
     {
         PlainLog {
             owner,
@@ -65,21 +46,11 @@ impl PlainLog {
 }
 
 impl WriteLog for PlainLog {
-    ghost use Rattle.std.specs.Prelude.{◌≡◌, false};
+    ghost use Rattle.std.specs.Prelude.{◌≡◌};
 
-    ghost content = { λ l. l.table };
+    ghost seen = { λ l. l };
 
-    ghost own = { λ l. l.owner };
-
-    ghost cluster_of = { λ l. l.cluster };
-
-    ghost most = { λ l. l.max_version };
-
-    ghost is_closed = { λ l. false };
-
-    ghost is_honest = { λ l. Unit {0} };
-
-    ghost may_leave = { λ l left. left ≡ l.table };
+    ghost leaves = { λ l left. left ≡ l.content };
 
     fn owner(&self) -> &Name {
         &self.owner
@@ -102,5 +73,9 @@ impl WriteLog for PlainLog {
 
     fn load(&mut self, alloc: Global) -> Result<Table, Fault> {
         self.table.copy(alloc)
+    }
+
+    fn close(self) -> Result<(), Fault> {
+        Ok(())
     }
 }
