@@ -9,3 +9,6 @@ mod plain;
 pub use committed::Committed;
 pub use log::WriteLog;
 pub use plain::PlainLog;
+
+#[cfg(test)]
+mod tests;
