@@ -104,3 +104,7 @@ IsSettled log leaves = log.is_clean ≡ true → log.is_open ≡ true → (left 
 -- a write to a log that stands leaves over a crash the content before it or the content with it
 abbrev pub PutSurvives : Log → List ℕ → Slot → Log → (Table → Type 0) → Type 0
 PutSurvives old key slot new leaves = new.is_clean ≡ true → old.is_open ≡ true → (left : Table) → leaves left → (left ≡ old.content) ⊎ (left ≡ next_content old key slot)
+
+-- reading it leaves over a crash what was there
+abbrev pub LoadSurvives : Log → Log → (Table → Type 0) → Type 0
+LoadSurvives old new leaves = new.is_clean ≡ true → old.is_open ≡ true → (left : Table) → leaves left → left ≡ old.content

@@ -3,7 +3,7 @@ ghost use Rattle.std.specs.Prelude.{◌≡◌, false, IfErr};
 ghost use Rattle.sb_types.specs.Records as records;
 ghost use Rattle.sb_types.specs.Text.{is_name};
 ghost use Rattle.sb_log.specs.Records.{Log};
-ghost use Rattle.sb_log.specs.Puts.{Puts, Loads, IsSettled, PutSurvives};
+ghost use Rattle.sb_log.specs.Puts.{Puts, Loads, IsSettled, PutSurvives, LoadSurvives};
 
 use crate::committed::Committed;
 use sb_table::Table;
@@ -43,6 +43,7 @@ pub trait WriteLog {
     fn load(&mut self, alloc: Global) -> Result<Table, Fault>
         ensures loads { Loads (seen self.old) result (seen self.new) }
         ensures closed { (seen self.old).is_open ≡ false → self.new ≡ self.old }
+        ensures crash { LoadSurvives (seen self.old) (seen self.new) (leaves self.new) }
         ensures settled { IsSettled (seen self.new) (leaves self.new) };
 
     /// Ends the log. Nothing is promised of its store afterwards. `StoreFailed` where that could not be let go.
