@@ -5,3 +5,4 @@ mod Reading
 mod Making
 mod Upserting
 mod Unique
+mod Updating
