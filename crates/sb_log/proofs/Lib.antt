@@ -5,4 +5,3 @@ mod Reading
 mod Making
 mod Upserting
 mod Unique
-mod Updating
