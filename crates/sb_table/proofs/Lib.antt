@@ -7,3 +7,4 @@ pub mod Lookup
 pub mod Sorting
 pub mod Maps
 pub mod Reached
+pub mod Copying

@@ -69,6 +69,18 @@ impl Table {
         enter(&mut self.entries, &mut self.versions, entry)
     }
 
+    /// An equal table. `NoMemory`.
+    pub fn copy(&self, alloc: Global) -> Result<Table, Fault>
+        ensures copy { Gives result (Ok self.now) }
+        ensures table { IsPlainTable self.now }
+    {
+        let mut copy = Table::new(alloc);
+        for entry in self.after(0) {
+            copy.push(entry.copy(alloc)?)?;
+        }
+        Ok(copy)
+    }
+
     /// Whether there is no room for a key: it is new beside 4,096 others.
     pub fn is_full_for(&self, key: &Key) -> bool
         ensures full { result ≡ is_full_for key.now self.now.entries }

@@ -1,0 +1,106 @@
+-- What a log does with a write, and what it gives back.
+use Rattle.std.specs.Prelude.{◌≡◌, ◌≢◌, ◌⊎◌, ◌↔◌, ℕ, ◌+◌, Bool, true, false, nat_le, if◌then◌else◌, List, [], Option, Some, None, Result, Err, IfOk, IfErr}
+use Rattle.sb_types.specs.declared.entry.Slot.{Slot}
+use Rattle.sb_types.specs.declared.entry.Slot.TheVariants.{Set, Removed}
+use Rattle.sb_types.specs.declared.fault.Fault.{Fault}
+use Rattle.sb_types.specs.declared.fault.Fault.TheVariants.{NoMemory, TableFull, VersionsSpent, NothingThere, Closed, StoreFailed, LogDamaged}
+use Rattle.sb_types.specs.Records.{Entry, Table}
+use Rattle.sb_types.specs.Runs.{shown_at}
+use Rattle.sb_table.specs.Plain.{IsPlainTable, plain_table, with_entry, is_full_for}
+use Rattle.sb_log.specs.Records.{Committed, Log}
+
+-- the write, with the next version
+abbrev pub next_entry : Table → List ℕ → Slot → Entry
+next_entry content key slot = record { key = key; version = content.held + 1; slot = slot }
+
+abbrev pub is_none : {A : Type 0} → Option A → Bool
+is_none None = true
+is_none (Some x) = false
+
+-- a removal that has nothing to remove: its key never had a value, or was removed
+abbrev pub is_idle : Table → List ℕ → Slot → Bool
+is_idle content key (Set value) = false
+is_idle content key Removed = is_none (shown_at key content.entries)
+
+-- why the write is refused, the first that holds
+abbrev pub refusal : ℕ → Table → List ℕ → Slot → Option Fault
+refusal most content key slot =
+    if is_idle content key slot then Some NothingThere
+    else (if is_full_for key content.entries then Some TableFull
+    else (if nat_le most content.held then Some VersionsSpent else None))
+
+-- the content with the write
+abbrev pub next_content : Log → List ℕ → Slot → Table
+next_content log key slot = with_entry log.content (next_entry log.content key slot)
+
+-- a log of nothing
+abbrev pub new_log : List ℕ → List ℕ → ℕ → Log
+new_log owner cluster most = record { owner = owner; cluster = cluster; most = most; content = plain_table []; is_open = true; is_clean = true }
+
+-- whose log it is stays, and a store that broke its promise is not trusted again
+pub record Stays (old new : Log) : Type 0 where
+  pub owner : new.owner ≡ old.owner
+  pub cluster : new.cluster ≡ old.cluster
+  pub most : new.most ≡ old.most
+  pub clean : new.is_clean ≡ true → old.is_clean ≡ true
+
+-- ---- a write
+
+-- it is kept, and the log stands
+pub record Keeps (old : Log) (key : List ℕ) (slot : Slot) (c : Committed) (new : Log) : Type 0 where
+  pub is_open : new.is_open ≡ true
+  pub owner : c.owner ≡ old.owner
+  pub fits : new.is_clean ≡ true → refusal old.most old.content key slot ≡ None
+  pub entry : new.is_clean ≡ true → c.entry ≡ next_entry old.content key slot
+  pub content : new.is_clean ≡ true → new.content ≡ with_entry old.content c.entry
+
+-- where there is a reason to refuse the write that one is given, and else memory or the store failed
+abbrev pub IsReason : Option Fault → Fault → Type 0
+IsReason (Some refused) fault = fault ≡ refused
+IsReason None fault = (fault ≡ NoMemory) ⊎ (fault ≡ StoreFailed)
+
+-- a fault of the store closes the log, and any other changes nothing
+pub record Refuses (old : Log) (key : List ℕ) (slot : Slot) (fault : Fault) (new : Log) : Type 0 where
+  pub reason : new.is_clean ≡ true → old.is_open ≡ true → IsReason (refusal old.most old.content key slot) fault
+  pub unchanged : fault ≢ StoreFailed → new ≡ old
+  pub closes : fault ≡ StoreFailed → new.is_open ≡ false
+
+pub record Puts (old : Log) (key : List ℕ) (slot : Slot) (result : Result Committed Fault) (new : Log) : Type 0 where
+  pub stays : Stays old new
+  -- a closed log gives this fault and no other, and no other log gives it
+  pub closed : (result ≡ Err Closed) ↔ (old.is_open ≡ false)
+  pub kept : IfOk result (λ c. Keeps old key slot c new)
+  pub refused : IfErr result (λ fault. Refuses old key slot fault new)
+
+-- ---- reading it again
+
+-- the content, in a table
+pub record Gives (old : Log) (table : Table) (new : Log) : Type 0 where
+  pub is_open : new.is_open ≡ true
+  pub plain : IsPlainTable table
+  pub same : new.is_clean ≡ true → table ≡ old.content
+  pub content : new.is_clean ≡ true → new.content ≡ old.content
+
+-- Rows that are damaged come of a store that broke its promise. They close the log too, as a fault of the store does.
+pub record FailsToLoad (old : Log) (fault : Fault) (new : Log) : Type 0 where
+  pub reason : old.is_open ≡ true → (fault ≡ NoMemory) ⊎ ((fault ≡ StoreFailed) ⊎ ((fault ≡ LogDamaged) × (new.is_clean ≡ false)))
+  pub is_open : fault ≡ NoMemory → new.is_open ≡ old.is_open
+  pub content : fault ≡ NoMemory → new.is_clean ≡ true → new.content ≡ old.content
+  pub closes : (fault ≡ StoreFailed) ⊎ (fault ≡ LogDamaged) → new.is_open ≡ false
+  pub unchanged : fault ≡ Closed → new ≡ old
+
+pub record Loads (old : Log) (result : Result Table Fault) (new : Log) : Type 0 where
+  pub stays : Stays old new
+  pub closed : (result ≡ Err Closed) ↔ (old.is_open ≡ false)
+  pub given : IfOk result (λ table. Gives old table new)
+  pub failed : IfErr result (λ fault. FailsToLoad old fault new)
+
+-- ---- crashes
+
+-- what a crash may leave is the content, as long as the log stands
+abbrev pub IsSettled : Log → (Table → Type 0) → Type 0
+IsSettled log leaves = log.is_clean ≡ true → log.is_open ≡ true → (left : Table) → leaves left → left ≡ log.content
+
+-- a write to a log that stands leaves over a crash the content before it or the content with it
+abbrev pub PutSurvives : Log → List ℕ → Slot → Log → (Table → Type 0) → Type 0
+PutSurvives old key slot new leaves = new.is_clean ≡ true → old.is_open ≡ true → (left : Table) → leaves left → (left ≡ old.content) ⊎ (left ≡ next_content old key slot)

@@ -1,0 +1,14 @@
+//! An owner's log: its own writes, each of which stands before anybody is told of it.
+#![tactic(auto)]
+
+mod check;
+mod committed;
+mod log;
+mod plain;
+
+pub use committed::Committed;
+pub use log::WriteLog;
+pub use plain::PlainLog;
+
+#[cfg(test)]
+mod tests;

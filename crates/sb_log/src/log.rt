@@ -1,0 +1,51 @@
+//! What a log promises, wherever it keeps its writes.
+ghost use Rattle.std.specs.Prelude.{◌≡◌, false, IfErr};
+ghost use Rattle.sb_types.specs.Records as records;
+ghost use Rattle.sb_types.specs.Text.{is_name};
+ghost use Rattle.sb_log.specs.Records.{Log};
+ghost use Rattle.sb_log.specs.Puts.{Puts, Loads, IsSettled, PutSurvives};
+
+use crate::committed::Committed;
+use sb_table::Table;
+use sb_types::{Fault, Key, Name, Slot};
+use std::alloc::Global;
+
+/// The writes of one owner, each kept before it is acknowledged.
+pub trait WriteLog {
+    /// The log as plain data.
+    ghost seen: { Self → Log };
+
+    /// What a crash at this moment may leave as its content.
+    ghost leaves: { Self → records.Table → Type 0 };
+
+    /// Whose writes they are.
+    fn owner(&self) -> &Name
+        ensures { result.now ≡ (seen self.now).owner };
+
+    /// Of which cluster the owner is.
+    fn cluster(&self) -> &Name
+        ensures { result.now ≡ (seen self.now).cluster };
+
+    /// Keeps a write, under the next version, and gives it back with that version. `Closed` after a fault of the
+    /// store; `NothingThere` for a removal where the key has no value; `TableFull` where the key is new beside
+    /// 4,096 others, removed ones counted; `VersionsSpent` where the last version is not below the greatest that
+    /// this log gives; `NoMemory`. Each of these leaves everything as it was. `StoreFailed`, for whatever cause: the
+    /// write stands or doesn't, and the log is closed until it is opened again.
+    fn put(&mut self, key: &Key, slot: &Slot) -> Result<Committed, Fault>
+        ensures puts { Puts (seen self.old) key.now slot.now result (seen self.new) }
+        ensures closed { (seen self.old).is_open ≡ false → self.new ≡ self.old }
+        ensures crash { PutSurvives (seen self.old) key.now slot.now (seen self.new) (leaves self.new) }
+        ensures settled { IsSettled (seen self.new) (leaves self.new) };
+
+    /// All that it holds, read from where it is kept, as a table. `Closed` after a fault of the store; `NoMemory`,
+    /// which leaves everything as it was; `StoreFailed`, and `LogDamaged` where the store gives other rows than were
+    /// written: each of the two closes the log.
+    fn load(&mut self, alloc: Global) -> Result<Table, Fault>
+        ensures loads { Loads (seen self.old) result (seen self.new) }
+        ensures closed { (seen self.old).is_open ≡ false → self.new ≡ self.old }
+        ensures settled { IsSettled (seen self.new) (leaves self.new) };
+
+    /// Ends the log. Nothing is promised of its store afterwards. `StoreFailed` where that could not be let go.
+    fn close(self) -> Result<(), Fault>
+        ensures { IfErr result (λ fault. fault ≡ Fault.StoreFailed) };
+}

@@ -1,0 +1,81 @@
+//! A log that is kept in memory alone.
+ghost use Rattle.std.specs.Prelude.{◌≡◌, ◌≤◌, Ok, true};
+ghost use Rattle.sb_types.specs.Records as records;
+ghost use Rattle.sb_log.specs.Puts as spec;
+
+use crate::check::refusal;
+use crate::committed::Committed;
+use crate::log::WriteLog;
+use sb_table::Table;
+use sb_types::{Entry, Fault, Key, Name, Slot};
+use std::alloc::Global;
+use std::marker::Model;
+
+/// A log in memory, which ends with the process. It never fails but for want of memory.
+#[derive(Debug, Drop)]
+pub struct PlainLog {
+    owner: Name,
+    cluster: Name,
+    max_version: u64,
+    table: Table,
+    alloc: Global,
+}
+
+impl Model for PlainLog {
+    ghost use Rattle.std.specs.Prelude.{true};
+    ghost use Rattle.sb_log.specs.Records as records;
+
+    ghost Value = { records.Log };
+
+    ghost view = { λ l. record { owner = l.owner; cluster = l.cluster; most = l.max_version; content = l.table; is_open = true; is_clean = true } };
+}
+
+impl PlainLog {
+    /// An empty log of an owner of a cluster, which gives versions up to `max_version`. It takes no memory.
+    pub fn new(alloc: Global, owner: Name, cluster: Name, max_version: u64) -> PlainLog
+        ensures { result ≡ spec.new_log owner cluster max_version }
+    {
+        PlainLog {
+            owner,
+            cluster,
+            max_version,
+            table: Table::new(alloc),
+            alloc,
+        }
+    }
+}
+
+impl WriteLog for PlainLog {
+    ghost use Rattle.std.specs.Prelude.{◌≡◌};
+
+    ghost seen = { λ l. l };
+
+    ghost leaves = { λ l left. left ≡ l.content };
+
+    fn owner(&self) -> &Name {
+        &self.owner
+    }
+
+    fn cluster(&self) -> &Name {
+        &self.cluster
+    }
+
+    fn put(&mut self, key: &Key, slot: &Slot) -> Result<Committed, Fault> {
+        if let Some(fault) = refusal(&self.table, self.max_version, key, slot) {
+            return Err(fault);
+        }
+        let version = self.table.upto() + 1;
+        let entry = Entry::new(*key, version, slot.copy(self.alloc)?);
+        let kept = entry.copy(self.alloc)?;
+        self.table.push(kept)?;
+        Ok(Committed::new(self.owner, entry))
+    }
+
+    fn load(&mut self, alloc: Global) -> Result<Table, Fault> {
+        self.table.copy(alloc)
+    }
+
+    fn close(self) -> Result<(), Fault> {
+        Ok(())
+    }
+}
