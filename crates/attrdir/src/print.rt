@@ -44,10 +44,6 @@ struct Hex<'a>(&'a [u8]);
 #[derive(Clone, Copy)]
 struct Text<'a>(&'a [u8]);
 
-/// A value in its two words.
-#[derive(Clone, Copy)]
-struct Words<'a>(&'a Value);
-
 impl fmt::Display for Hex<'_> {
     fn fmt<W: fmt::Write>(&self, f: &mut fmt::Formatter<W>) -> fmt::Result {
         for byte in self.0 {
@@ -60,18 +56,6 @@ impl fmt::Display for Hex<'_> {
 impl fmt::Display for Text<'_> {
     fn fmt<W: fmt::Write>(&self, f: &mut fmt::Formatter<W>) -> fmt::Result {
         f.write_str(str::from_utf8(self.0).unwrap_or(""))
-    }
-}
-
-impl fmt::Display for Words<'_> {
-    fn fmt<W: fmt::Write>(&self, f: &mut fmt::Formatter<W>) -> fmt::Result {
-        if let Some(text) = self.0.as_addr() {
-            return write!(f, "addr {}", Text(text));
-        }
-        if let Some(weight) = self.0.as_weight() {
-            return write!(f, "weight {weight}");
-        }
-        write!(f, "flag {}", self.0.as_flag() == Some(true))
     }
 }
 
@@ -110,7 +94,6 @@ impl fmt::Display for Answer<'_> {
             } => {
                 let owner = Text(owner.bytes());
                 let key = Text(key.bytes());
-                let value = Words(value);
                 write!(f, "{owner} {key} {version} {value}")
             }
             Answer::Absent => write!(f, "none"),

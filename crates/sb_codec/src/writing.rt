@@ -11,7 +11,7 @@ ghost use Rattle.sb_codec.specs.Spelling.{number, text, list, flag, value, slot,
 use crate::message::Row;
 use crate::spelled::Spelled;
 use sb_digest::Pair;
-use sb_types::{Block, Entry, Key, Name, Slot, TAG_ADDR, TAG_FLAG, TAG_REMOVED, TAG_WEIGHT, Value};
+use sb_types::{Block, Entry, Key, Name, Slot, TAG_ADDR, TAG_FLAG, TAG_REMOVED, TAG_WEIGHT, Value, ValueRef};
 use std::alloc::AllocError;
 
 #[tactic(auto, unfolding(crate::specs::Spelling::number))]
@@ -46,16 +46,20 @@ fn write_value(out: &mut Vec<u8>, written: &Value) -> Result<(), AllocError>
     ensures written { OnOk result (out.new.items ≡ out.old.items ++ value written.now) }
     ensures value { is_value written.now ≡ true }
 {
-    if let Some(bytes) = written.as_addr() {
-        out.push(TAG_ADDR)?;
-        return write_text(out, bytes);
+    match written.view() {
+        ValueRef::Addr(bytes) => {
+            out.push(TAG_ADDR)?;
+            write_text(out, bytes)
+        }
+        ValueRef::Weight(weight) => {
+            out.push(TAG_WEIGHT)?;
+            write_u64(out, weight)
+        }
+        ValueRef::Flag(set) => {
+            out.push(TAG_FLAG)?;
+            write_flag(out, set)
+        }
     }
-    if let Some(weight) = written.as_weight() {
-        out.push(TAG_WEIGHT)?;
-        return write_u64(out, weight);
-    }
-    out.push(TAG_FLAG)?;
-    write_flag(out, written.as_flag() == Some(true))
 }
 
 #[tactic(auto, unfolding(crate::specs::Spelling::slot))]

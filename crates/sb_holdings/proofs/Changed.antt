@@ -9,6 +9,7 @@ use Rattle.std.specs.Ordering.{eq_by_cmp}
 use Rattle.std.specs.Cmp.{eq_by_cmp_equiv}
 use Rattle.std.specs.Cmp.Lexicographic.{texts_ties}
 use Rattle.std.specs.FinMap.{FinMap, get, contains_key, len, insert, remove, get-insert, get-remove, len-insert, same_map, slice_cmp-IsAntisymmetric, nat_cmp-IsAntisymmetric}
+use Rattle.sb_types.proofs.Live.{live-above}
 use Rattle.sb_types.specs.declared.limits.TheConstants.{OWNERS_MOST}
 use Rattle.sb_types.specs.Records.{Entry, Table, Holder}
 use Rattle.sb_types.specs.Writes.{IsHolder}
@@ -36,7 +37,10 @@ module _ (held : Held) (is : IsHoldings held) (owner : List ℕ) where
   shown-plain = (plain_or_nothing (get held.owners owner) (is.each owner)).1
 
 IsHolder-plain : (t : Table) → IsPlainTable t → IsHolder (alone t)
-IsHolder-plain t plain = record { shown = record { run = plain.run; floor = omega (arith, plain.floor) }; stage = tt }
+IsHolder-plain t plain = record {
+  shown = record { run = plain.run; floor = omega (arith, plain.floor); live = live-above t.floor 0 t.entries (omega (arith, plain.floor)) plain.run.ascending };
+  stage = tt;
+}
 
 pub IsHolder-held : (held : Held) → IsHoldings held → (owner : List ℕ) → IsHolder (holder_of held.owners owner)
 IsHolder-held held is owner = subst IsHolder (sym (holder-alone held is owner)) (IsHolder-plain (shown_of held owner) (shown-plain held is owner))

@@ -1,6 +1,7 @@
 -- What a log of all writes has is true, and is a table.
 use Rattle.std.proofs.Common.{◌≡◌, ℕ, ◌<◌, ◌≤◌, true, false, List, [], ◌∷◌, length, ◌⊎◌, inl, inr, ⊎_elim, refl, sym, ap, ◌∙◌, arith, ltb-true, nat_lt}
 use Rattle.std.proofs.lemmas.Bool.{and_parts, and_from, cond_both, not_from_false, false≢true}
+use Rattle.sb_types.proofs.Live.{live-live}
 use Rattle.sb_types.specs.declared.entry.Write.{Write}
 use Rattle.sb_types.specs.Records.{Entry}
 use Rattle.sb_types.specs.Runs.{Stands, are_ascending, are_distinct, has_key, IsRun, IsTable}
@@ -93,7 +94,7 @@ module _ (writes : List Write) where
   }
 
   pub content_is : (floor : ℕ) → floor ≤ length writes → IsTable (content_table floor writes)
-  content_is floor l = record { run = run_kept _ last_run; floor = l }
+  content_is floor l = record { run = run_kept _ last_run; floor = l; live = live-live floor (last_each (numbered 0 writes)) }
 
   pub content_tells : (floor : ℕ) → floor ≤ length writes → Holds writes (content_table floor writes)
   content_tells floor l = tells_live (last_tells floor l)

@@ -1,10 +1,11 @@
 -- What a block that joins on leaves, by its end.
-use Rattle.std.proofs.Common.{◌≡◌, ℕ, ◌≤◌, ◌<◌, max, true, ◌||◌, nat_lt, List, [], ◌∷◌, length, take, Option, refl, sym, ap, subst, ◌∙◌, arith, le-leb, lt-ltb}
-use Rattle.std.proofs.lemmas.Bool.{and_parts, and_from, cond-true, cond-false, cond_both, leb-true, ltb-true, ltb-false, eqb-true, or_right}
+use Rattle.std.proofs.Common.{◌≡◌, ℕ, ◌≤◌, ◌<◌, max, true, nat_lt, List, [], ◌∷◌, length, take, Option, refl, sym, ap, subst, ◌∙◌, arith, le-leb, lt-ltb}
+use Rattle.std.proofs.lemmas.Bool.{and_parts, and_from, cond-true, cond-false, cond_both, leb-true, ltb-true, ltb-false, eqb-true}
 use Rattle.std.proofs.lemmas.List.{take_all}
+use Rattle.sb_types.proofs.Live.{live-above}
 use Rattle.sb_types.specs.Records.{Entry, Table, Stage, Block, Holder}
 use Rattle.sb_types.specs.Limits.{is_delta_block}
-use Rattle.sb_types.specs.Runs.{IsRun, IsBlock, are_ascending, are_distinct, above, entered, live, last_version, is_set}
+use Rattle.sb_types.specs.Runs.{IsRun, IsBlock, are_ascending, are_distinct, above, entered, live, last_version}
 use Rattle.sb_table.specs.Plain.{IsPlainTable}
 use Rattle.sb_holdings.specs.declared.ends.BlockEnd.{BlockEnd}
 use Rattle.sb_holdings.specs.declared.ends.BlockEnd.TheVariants.{Own, OwnAhead, Gap, Stale, OwnersFull, Taken, TooManyKeys, NoMemory}
@@ -54,21 +55,13 @@ last_version-above after version (e ∷ es) up more le =
     (λ later. ap (last_version e.version) (above-all version e.version es (omega (arith, ltb-true version e.version later)) parts.1))
     (λ held. last_version-above e.version version es parts.1 more (ltb-false version e.version held))
 
-live-all : (last : ℕ) (es : List Entry) → are_ascending last es ≡ true → live 0 es ≡ es
-live-all last [] up = refl
-live-all last (e ∷ es) up =
-    let parts = and_parts (nat_lt last e.version) (are_ascending e.version es) up in
-    let later : nat_lt 0 e.version ≡ true = lt-ltb 0 e.version (omega (arith, ltb-true last e.version parts.0)) in
-    cond-true (is_set e.slot || nat_lt 0 e.version) (e ∷ live 0 es) (live 0 es) (or_right (is_set e.slot) (nat_lt 0 e.version) later)
-    ∙ ap (λ (xs : List Entry). e ∷ xs) (live-all e.version es parts.1)
-
 -- ---- one owner
 
 module _ (t : Table) (plain : IsPlainTable t) where
   joined-plain : (p : Block) → p.floor ≡ 0 → p.upto ≡ last_version t.held p.entries → joined t p ≡ with_entries t p.entries
   joined-plain p floor upto =
       let none : max t.floor p.floor ≡ 0 = omega (arith, plain.floor, floor) in
-      let all = ap (λ (n : ℕ). live n t.entries) none ∙ live-all 0 t.entries plain.run.ascending in
+      let all = ap (λ (n : ℕ). live n t.entries) none ∙ live-above 0 0 t.entries (omega arith) plain.run.ascending in
       λ i. record { held = upto i; floor = (none ∙ sym plain.floor) i; entries = entered (all i) p.entries }
 
   module _ (b : Block) (is : IsPlainBlock b) (after : b.after ≤ t.held) (more : t.held < b.upto) where

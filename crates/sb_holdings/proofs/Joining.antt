@@ -1,6 +1,7 @@
 -- What a block and an own write do to the shown table.
 use Rattle.std.proofs.Common.{◌≡◌, ℕ, ◌+◌, ◌<◌, ◌≤◌, max, List, [], ◌∷◌, inl, inr, ⊎_elim, refl, ap, subst, Option, Some, None, IfSome, nat_lt, nat_eq, arith, ltb-true, eqb-true, lt-ltb}
 use Rattle.std.proofs.lemmas.Bool.{and_from, cond_both}
+use Rattle.sb_types.proofs.Live.{live-above, live-entered, live-live}
 use Rattle.sb_types.specs.declared.entry.Write.{Write}
 use Rattle.sb_types.specs.Records.{Entry, Stage, Block, Holder}
 use Rattle.sb_types.specs.Runs.{live, entered, IsRun}
@@ -34,6 +35,10 @@ shown_step writes h b p i part l = record {
     shown = record {
       run = run_entered (run_kept _ i.shown.run) part.run;
       floor = omega (arith, i.shown.floor, part.floor, run_order part.run);
+      live =
+          let floor = max h.shown.floor p.floor in
+          live-entered floor (live floor h.shown.entries) p.entries (live-live floor h.shown.entries)
+          (live-above floor h.shown.held p.entries (omega (arith, i.shown.floor, part.floor)) part.run.ascending);
     };
     stage = beyond_is h.shown.held p.upto h.stage i.stage;
   };
@@ -68,7 +73,11 @@ own_step writes h e i = cond_both (nat_eq e.version (h.shown.held + 1)) _ h (Ste
         let one = one_run h.shown.held e l in
         record {
           is = record {
-            shown = record { run = run_entered i.shown.run one; floor = omega (arith, i.shown.floor) };
+            shown = record {
+              run = run_entered i.shown.run one;
+              floor = omega (arith, i.shown.floor);
+              live = live-entered h.shown.floor h.shown.entries (e ∷ []) i.shown.live (live-above h.shown.floor h.shown.held (e ∷ []) i.shown.floor one.ascending);
+            };
             stage = beyond_is h.shown.held e.version h.stage i.stage;
           };
           onward = record {

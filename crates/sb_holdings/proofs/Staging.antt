@@ -1,6 +1,7 @@
 -- What a block does to the stage.
 use Rattle.std.proofs.Common.{◌≡◌, ℕ, ◌<◌, ◌≤◌, true, cond, List, [], refl, sym, ◌∙◌, Option, Some, None, IfSome, nat_lt, nat_le, nat_eq, arith, ltb-true, leb-true, eqb-true}
 use Rattle.std.proofs.lemmas.Bool.{and_parts, cond_both}
+use Rattle.sb_types.proofs.Live.{live-live}
 use Rattle.sb_types.specs.declared.entry.Write.{Write}
 use Rattle.sb_types.specs.Records.{Entry, Stage, Block, Holder}
 use Rattle.sb_types.specs.Runs.{entered, IsRun, IsBlock}
@@ -94,7 +95,7 @@ module _ (writes : List Write) (h : Holder) (b p : Block) (s : Stage) (i : IsHol
   swap_step : s.floor ≤ p.upto → Step writes (Honest writes b) h (record { shown = swapped h.shown (stage_with s p); stage = None })
   swap_step l = record {
     is = record {
-      shown = record { run = swapped_run i.shown.run with_run s.floor (omega (arith, j.beyond)); floor = l };
+      shown = record { run = swapped_run i.shown.run with_run s.floor (omega (arith, j.beyond)); floor = l; live = live-live s.floor _ };
       stage = tt;
     };
     onward = record {

@@ -1,3 +1,5 @@
+//! The table of one owner, and the entries of a list above a version.
+
 ghost use Rattle.std.specs.Prelude.{◌≡◌, ◌<◌, ◌≤◌, ◌==◌, ℕ, List, true, [], if◌then◌else◌, Ok, Err, OnOk, OnErr, IfErr, ◌∷◌, length, drop};
 ghost use Rattle.std.specs.Option.{option_map};
 ghost use Rattle.std.specs.Ordering.{nat_cmp, is_le};
@@ -20,6 +22,17 @@ use std::ops::Bound;
 
 /// What one owner last wrote under each of its keys, removals included: at most 4,096 entries, in ascending
 /// version, one a key.
+///
+/// ```
+/// let mut table = Table::new(alloc);
+/// let key = Key::read(b"port")?;
+/// push(&rt, &mut table, Entry::new(key, 1, Slot::Set(Value::weight(80)?)))?;
+/// push(&rt, &mut table, Entry::new(key, 2, Slot::Removed))?;
+/// assert_eq!(rt; (table.len(), table.upto()), (1, 2));
+/// assert!(rt; matches!(table.get(&key), Some((2, Slot::Removed))));
+/// ```
+///
+/// The test `example_of_a_table` runs these lines; its `push` first tests that the version is the greatest.
 #[derive(Debug, Drop)]
 pub struct Table {
     // By version.

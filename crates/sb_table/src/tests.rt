@@ -1,3 +1,5 @@
+//! What no clause says, and each limit at its full size.
+
 ghost use Rattle.std.specs.Prelude.{◌≡◌, ◌≤◌, IfOk, map};
 ghost use Rattle.sb_types.specs.Runs.{above};
 ghost use Rattle.sb_table.specs.Order.{by_key, under};
@@ -113,34 +115,93 @@ fn a_prefix_gives_its_keys_in_order(rt: HostRuntime) -> Result<(), Fail> {
     Ok(())
 }
 
+/// The example of `Table`.
+#[test]
+fn example_of_a_table(rt: HostRuntime) -> Result<(), Fail> {
+    let alloc = rt.alloc();
+    let mut table = Table::new(alloc);
+    let key = Key::read(b"port")?;
+    push(
+        &rt,
+        &mut table,
+        Entry::new(key, 1, Slot::Set(Value::weight(80)?)),
+    )?;
+    push(&rt, &mut table, Entry::new(key, 2, Slot::Removed))?;
+    assert_eq!(rt; (table.len(), table.upto()), (1, 2));
+    assert!(rt; matches!(table.get(&key), Some((2, Slot::Removed))));
+    Ok(())
+}
+
+// 4,096 keys, each written three times, from k4096 at the versions 1, 4,097 and 8,193 down to k0001 at 4,096, 8,192
+// and 12,288.
+fn full_table(rt: &impl Abort, alloc: Global) -> Result<Table, Fault> {
+    let mut table = Table::new(alloc);
+    for place in 0..3 * KEYS_MOST as u64 {
+        let key = format!(in alloc; "k{:04}", 4096 - place % 4096)?;
+        let version = place + 1;
+        push(rt, &mut table, weight_of(key.as_bytes(), version, version)?)?;
+    }
+    Ok(table)
+}
+
+// The first and the last of these, and how many there are.
+fn ends(versions: &[u64]) -> (Option<u64>, Option<u64>, usize) {
+    (
+        versions.first().copied(),
+        versions.last().copied(),
+        versions.len(),
+    )
+}
+
 #[test]
 fn a_full_table_takes_no_new_key(rt: HostRuntime) -> Result<(), Fail> {
     let alloc = rt.alloc();
-    let mut table = Table::new(alloc);
-    for version in 1..=KEYS_MOST as u64 {
-        push(
-            &rt,
-            &mut table,
-            weight_of(
-                format!(in alloc; "k{version}")?.as_bytes(),
-                version,
-                version,
-            )?,
-        )?;
+    let mut table = full_table(&rt, alloc)?;
+    for version in [12_289, 12_290] {
+        assert_eq!(rt;
+            push(&rt, &mut table, weight_of(b"new", version, 1)?),
+            Err(Fault::TableFull)
+        );
+        assert_eq!(rt; (table.len(), table.upto()), (4096, 12_288));
+        assert_eq!(rt; weight_at(&table, b"new"), None);
+        assert_eq!(rt; weight_at(&table, b"k4096"), Some((8193, Some(8193))));
     }
     assert_eq!(rt;
-        push(&rt, &mut table, weight_of(b"new", 4097, 1)?),
-        Err(Fault::TableFull)
+        push(&rt, &mut table, weight_of(b"k0007", 12_290, 1)?),
+        Ok(())
     );
-    assert_eq!(rt; (table.len(), table.upto()), (4096, 4096));
-    assert_eq!(rt; weight_at(&table, b"new"), None);
-    assert_eq!(rt; push(&rt, &mut table, weight_of(b"k7", 4097, 1)?), Ok(()));
-    assert_eq!(rt; (table.len(), table.upto()), (4096, 4097));
-    assert_eq!(rt; weight_at(&table, b"k7"), Some((4097, Some(1))));
+    assert_eq!(rt; (table.len(), table.upto()), (4096, 12_290));
+    assert_eq!(rt; weight_at(&table, b"k0007"), Some((12_290, Some(1))));
     assert_eq!(rt;
-        push(&rt, &mut table, weight_of(b"new", 4098, 1)?),
+        push(&rt, &mut table, weight_of(b"new", 12_291, 1)?),
         Err(Fault::TableFull)
     );
+    Ok(())
+}
+
+#[test]
+fn a_full_table_gives_all_that_it_has(rt: HostRuntime) -> Result<(), Fail> {
+    let alloc = rt.alloc();
+    let table = full_table(&rt, alloc)?;
+    for (version, wanted) in [
+        (0, (Some(8193), Some(12_288), 4096)),
+        (10_000, (Some(10_001), Some(12_288), 2288)),
+        (12_287, (Some(12_288), Some(12_288), 1)),
+        (12_288, (None, None, 0)),
+    ] {
+        let versions = versions_after(alloc, &table, version)?;
+        assert_eq!(rt; ends(&versions), wanted);
+    }
+    for (text, wanted) in [
+        (b"".as_slice(), (Some(12_288), Some(8193), 4096)),
+        (b"k", (Some(12_288), Some(8193), 4096)),
+        (b"k20", (Some(10_289), Some(10_190), 100)),
+        (b"k4096", (Some(8193), Some(8193), 1)),
+        (b"k4097", (None, None, 0)),
+    ] {
+        let versions = versions_under(alloc, &table, &Prefix::read(text)?)?;
+        assert_eq!(rt; ends(&versions), wanted);
+    }
     Ok(())
 }
 

@@ -1,3 +1,5 @@
 pub mod RunLemmas
 pub mod DistinctKeys
 pub mod Rising
+pub mod Words
+pub mod Live

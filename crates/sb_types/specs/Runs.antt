@@ -68,6 +68,8 @@ pub record IsRun (after upto : ℕ) (entries : List Entry) : Type 0 where
 pub record IsTable (t : Table) : Type 0 where
   pub run : IsRun 0 t.held t.entries
   pub floor : t.floor ≤ t.held
+  -- no marker stands at or below the floor
+  pub live : live t.floor t.entries ≡ t.entries
 
 pub record IsBlock (b : Block) : Type 0 where
   pub run : IsRun b.after b.upto b.entries

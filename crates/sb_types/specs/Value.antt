@@ -1,5 +1,6 @@
 -- A value as plain data, its limits, and its words in a script.
-use Rattle.std.specs.Prelude.{ℕ, ◌^◌, Bool, true, false, nat_lt, List, codes, decimal, Option, Some, None}
+use Rattle.std.specs.Prelude.{ℕ, ◌^◌, Bool, true, false, not, ◌==◌, nat_lt, List, ◌∷◌, ◌++◌, codes, decimal, Option, Some, None}
+use Rattle.std.specs.List.{list_all}
 use Rattle.sb_types.specs.Text.{is_addr}
 
 pub data Value : Type 0 where
@@ -21,6 +22,14 @@ abbrev pub words_of : Value → List ℕ × List ℕ
 words_of (Addr text) = (codes "addr", text)
 words_of (Weight weight) = (codes "weight", decimal weight)
 words_of (Flag flag) = (codes "flag", flag_word flag)
+
+-- the text has no space
+abbrev pub is_word : List ℕ → Bool
+is_word text = list_all (λ byte. not (byte == 32)) text
+
+-- the two words as they are printed, with a space between
+abbrev pub line_of : Value → List ℕ
+line_of value = (words_of value).0 ++ 32 ∷ (words_of value).1
 
 abbrev pub addr_of : Value → Option (List ℕ)
 addr_of (Addr text) = Some text

@@ -1,3 +1,5 @@
+//! Blocks: a part of one owner's writes.
+
 ghost use Rattle.std.specs.Prelude.{◌≡◌, ◌≤◌, ◌+◌, ◌*◌, length, true, if◌then◌else◌, Ok, Err};
 ghost use Rattle.std.specs.List.{list_all};
 ghost use Rattle.sb_types.specs.Runs.{are_ascending};

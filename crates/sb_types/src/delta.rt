@@ -1,3 +1,5 @@
+//! Deltas: what a node tells a peer.
+
 ghost use Rattle.std.specs.Prelude.{◌≡◌, [], nat_le, true, Some, None, OnSome, if◌then◌else◌, Ok, Err};
 ghost use Rattle.std.specs.List.{list_all};
 ghost use Rattle.sb_types.specs.Lengths.{block_length, delta_length};

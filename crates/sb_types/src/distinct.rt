@@ -1,3 +1,5 @@
+//! Whether the keys of entries differ.
+
 ghost use Rattle.std.specs.Prelude.{◌≡◌, true};
 ghost use Rattle.sb_types.specs.Runs.{are_ascending, are_distinct};
 

@@ -1,3 +1,5 @@
+//! Writes, and entries, which are writes with their versions.
+
 ghost use Rattle.std.specs.Prelude.{◌≡◌, ◌≤◌, true, Ok};
 ghost use Rattle.sb_types.specs.Lengths.{slot_length, entry_length};
 ghost use Rattle.sb_types.specs.Limits.{is_slot, is_entry};

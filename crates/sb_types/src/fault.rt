@@ -1,3 +1,5 @@
+//! Faults: why a call was refused.
+
 ghost use Rattle.std.specs.Prelude.{◌≡◌};
 ghost use Rattle.sb_types.specs.Faults.{number_of};
 

@@ -1,3 +1,5 @@
+//! Short texts that lie in the value itself.
+
 ghost use Rattle.std.specs.Prelude.{◌≡◌, ◌≤◌, ◌<◌, length};
 ghost use Rattle.std.proofs.Common.{rules};
 

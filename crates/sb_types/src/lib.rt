@@ -10,6 +10,7 @@ mod entry;
 mod fault;
 mod format;
 mod inline;
+mod laws;
 mod limits;
 mod settings;
 mod text;
@@ -25,13 +26,17 @@ pub use format::{
     KIND_HELLO, KIND_PUT, KIND_REFUSED, KIND_ROWS, NAME_LENGTH_MOST, NUMBER_LENGTH, REASON_MOST,
     REASON_ROUNDS_DONE, TAG_ADDR, TAG_FLAG, TAG_REMOVED, TAG_WEIGHT, VALUE_LENGTH_MOST,
 };
+pub use laws::{
+    lengths_are_these_numbers, limits_are_these_numbers, marks_are_these_numbers,
+    words_tell_values_apart,
+};
 pub use limits::{
     ADDR_MOST, BUDGET_LEAST, BUDGET_MOST, ENTRIES_MOST, FAULT_NUMBER_MOST, KEY_MOST, KEYS_MOST,
     NAME_MOST, OWNERS_MOST, PAYLOAD_MOST, SEATS_MOST, VERSION_MOST, WEIGHT_MOST, WORKERS_MOST,
 };
 pub use settings::{Order, RawSettings, Settings};
 pub use text::{Key, Name, Prefix};
-pub use value::Value;
+pub use value::{Value, ValueRef};
 
 #[cfg(test)]
 mod fault_texts;

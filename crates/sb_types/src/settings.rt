@@ -1,3 +1,5 @@
+//! Settings within their limits.
+
 ghost use Rattle.std.specs.Prelude.{◌≡◌, true, if◌then◌else◌, Ok, Err};
 ghost use Rattle.sb_types.specs.Text as numbers;
 ghost use Rattle.sb_types.specs.Limits.{are_settings};

@@ -1,3 +1,5 @@
+//! What no clause says, and each limit at its full size.
+
 ghost use Rattle.std.specs.Prelude.{◌≤◌};
 
 use super::*;
@@ -106,6 +108,49 @@ fn values_from_words(rt: HostRuntime) -> Result<(), Fail> {
     Ok(())
 }
 
+/// What a value prints is what is read.
+#[test]
+fn values_print_their_words(rt: HostRuntime) -> Result<(), Fail> {
+    let alloc = rt.alloc();
+    for (kind, word, line) in [
+        (
+            b"addr".as_slice(),
+            b"10.0.0.1:80".as_slice(),
+            "addr 10.0.0.1:80",
+        ),
+        (b"addr", b"~!", "addr ~!"),
+        (b"weight", b"0", "weight 0"),
+        (
+            b"weight",
+            b"9223372036854775807",
+            "weight 9223372036854775807",
+        ),
+        (b"flag", b"true", "flag true"),
+        (b"flag", b"false", "flag false"),
+    ] {
+        let value = Value::from_words(alloc, kind, word)?;
+        assert_eq!(rt; value.to_string(alloc)?.as_str(), line);
+    }
+    Ok(())
+}
+
+/// The example of `Value` and of `Name`.
+#[test]
+fn example_of_values_and_names(rt: HostRuntime) -> Result<(), Fail> {
+    let alloc = rt.alloc();
+    let value = Value::from_words(alloc, b"weight", b"7")?;
+    assert_eq!(rt; value.view(), ValueRef::Weight(7));
+    assert_eq!(rt; value.to_string(alloc)?.as_str(), "weight 7");
+    assert_eq!(rt; Value::flag(true).view(), ValueRef::Flag(true));
+    let addr = Value::addr(alloc, b"host:80")?;
+    assert_eq!(rt; addr.view(), ValueRef::Addr(b"host:80"));
+
+    let name = Name::read(b"node-7")?;
+    assert_eq!(rt; name.bytes(), b"node-7".as_slice());
+    assert!(rt; matches!(Name::read(b"Node 7"), Err(Fault::BadName)));
+    Ok(())
+}
+
 #[test]
 fn words_that_are_no_value(rt: HostRuntime) -> Result<(), Fail> {
     let alloc = rt.alloc();
@@ -174,6 +219,31 @@ fn blocks_within_their_limits(rt: HostRuntime) -> Result<(), Fail> {
         vec![in alloc; entry(b"x", u64::MAX, 5)?]?,
     )?;
     assert_eq!(rt; last.upto(), u64::MAX);
+    Ok(())
+}
+
+/// A block of this many entries of 23 bytes, the key of each its version in hexadecimal.
+fn long_block(alloc: Global, count: u32) -> Result<Block, Fault> {
+    let mut entries = Vec::new(alloc);
+    for place in 0..count {
+        let version = u64::from(place) + 1;
+        let key = format!(in alloc; "{version:05x}")?;
+        entries.push(entry(key.as_bytes(), version, 5)?)?;
+    }
+    Block::new(Name::read(b"a")?, 0, entries)
+}
+
+#[test]
+fn the_longest_block(rt: HostRuntime) -> Result<(), Fail> {
+    let alloc = rt.alloc();
+    let longest = long_block(alloc, 65_535)?;
+    assert_eq!(rt; longest.upto(), 65_535);
+    assert_eq!(rt; longest.entries().len(), 65_535);
+    assert_eq!(rt; longest.encoded_length(), 12 + 65_535 * 23);
+    match long_block(alloc, 65_536) {
+        Err(Fault::NoMemory) => return Err(Fault::NoMemory.into()),
+        longer => assert!(rt; matches!(longer, Err(Fault::Malformed(3)))),
+    }
     Ok(())
 }
 

@@ -1,3 +1,5 @@
+//! Names, keys and prefixes.
+
 ghost use Rattle.std.specs.Prelude.{◌≡◌, true, if◌then◌else◌, Ok, Err};
 ghost use Rattle.std.specs.List.{list_all};
 ghost use Rattle.sb_types.specs.Text.{is_name_byte, is_key_byte, is_name, is_key, is_prefix};
@@ -33,6 +35,14 @@ fn has_key_bytes(text: &[u8]) -> bool
 
 /// The name of a node, which is also the owner of what it writes, or of a cluster: 1 to 32 of the
 /// bytes `a-z`, `0-9` and `-`. Names are ordered by their bytes.
+///
+/// ```
+/// let name = Name::read(b"node-7")?;
+/// assert_eq!(rt; name.bytes(), b"node-7".as_slice());
+/// assert!(rt; matches!(Name::read(b"Node 7"), Err(Fault::BadName)));
+/// ```
+///
+/// The test `example_of_values_and_names` runs these lines.
 #[derive(Clone, Copy, Debug, PartialEq, Eq, PartialOrd, Ord)]
 pub struct Name {
     text: Inline<NAME_MOST>,

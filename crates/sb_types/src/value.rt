@@ -1,3 +1,5 @@
+//! Values: their kinds, their limits and their words.
+
 ghost use Rattle.std.specs.Prelude.{◌≡◌, ◌≢◌, ℕ, ◌≤◌, ◌^◌, nat_lt, Bool, codes, decimal, true, false, if◌then◌else◌, Ok, Err, IfOk, IfErr};
 ghost use Rattle.std.specs.Option.{option_copied};
 ghost use Rattle.std.specs.List.{list_all};
@@ -10,7 +12,17 @@ use crate::fault::Fault;
 use crate::format::{BYTE_LENGTH, NUMBER_LENGTH, VALUE_LENGTH_MOST};
 use crate::limits::{ADDR_MOST, WEIGHT_MOST};
 use std::alloc::Global;
+use std::fmt;
 use std::marker::Model;
+
+/// What a value is, with what it holds lent: one variant for each kind.
+#[derive(Clone, Copy, Debug, PartialEq, Eq)]
+pub enum ValueRef<'a> {
+    /// The text of an address.
+    Addr(&'a [u8]),
+    Weight(u64),
+    Flag(bool),
+}
 
 #[derive(Debug, Drop, PartialEq, Eq)]
 enum Content {
@@ -20,6 +32,14 @@ enum Content {
 }
 
 /// What an owner keeps under a key: an address of 1 to 128 printing bytes, a weight below 2^63, or a flag.
+///
+/// ```
+/// let value = Value::from_words(alloc, b"weight", b"7")?;
+/// assert_eq!(rt; value.view(), ValueRef::Weight(7));
+/// assert_eq!(rt; value.to_string(alloc)?.as_str(), "weight 7");
+/// ```
+///
+/// The test `example_of_values_and_names` runs these lines.
 #[derive(Debug, Drop)]
 pub struct Value {
     content: Content,
@@ -51,6 +71,8 @@ fn has_addr_bytes(text: &[u8]) -> bool
 }
 
 impl Value {
+    ghost use Rattle.sb_types.specs.Content.{lent};
+
     /// An address. `BadValue` where the text is not one; then `NoMemory`.
     pub fn addr(alloc: Global, text: &[u8]) -> Result<Value, Fault>
         ensures exact { Gives result (if is_addr text.now then Ok (values.Addr text.now) else Err Fault.BadValue) }
@@ -101,6 +123,18 @@ impl Value {
             b"weight" => read_weight(word),
             b"flag" => read_flag(word),
             _ => Err(Fault::BadValue),
+        }
+    }
+
+    /// Which kind it is, and what it holds.
+    pub fn view(&self) -> ValueRef<'_>
+        ensures content { lent result ≡ self.now }
+        ensures value { values.is_value self.now ≡ true }
+    {
+        match &self.content {
+            Content::Addr(text) => ValueRef::Addr(text),
+            Content::Weight(weight) => ValueRef::Weight(*weight),
+            Content::Flag(flag) => ValueRef::Flag(*flag),
         }
     }
 
@@ -162,6 +196,32 @@ impl Value {
             Content::Flag(_) => BYTE_LENGTH,
         }
     }
+}
+
+/// The two words of a value, with a space between: what `from_words` reads.
+impl fmt::Display for Value {
+    ghost use Rattle.std.specs.Prelude.{Some};
+
+    ghost output = { λ value. Some (values.line_of value) };
+
+    fn fmt<W: fmt::Write>(&self, f: &mut fmt::Formatter<W>) -> fmt::Result {
+        match self.view() {
+            ValueRef::Addr(text) => {
+                f.write_str("addr ")?;
+                f.write_str(addr_text(text))
+            }
+            ValueRef::Weight(weight) => write!(f, "weight {weight}"),
+            ValueRef::Flag(flag) => write!(f, "flag {flag}"),
+        }
+    }
+}
+
+/// The text of an address, which is ASCII.
+fn addr_text(text: &[u8]) -> &str
+    requires { is_addr text.now ≡ true }
+    ensures { result.now ≡ text.now }
+{
+    str::from_utf8(text).unwrap_or("")
 }
 
 fn read_flag(word: &[u8]) -> Result<Value, Fault>
