@@ -24,6 +24,17 @@ fn let_go(bytes: &mut Vec<u8>, taken: usize) -> usize
 }
 
 /// The messages of one stream of bytes, which comes in any pieces. After a faulty frame it is closed.
+///
+/// ```
+/// let mut frames = Frames::new(alloc);
+/// frames.feed(b"\xa7\x01\x00\x00\x00")?;
+/// assert!(frames.next()?.is_none());
+/// frames.feed(b"\x02\x04\x01")?;
+/// let message = frames.next()?;
+/// assert!(matches!(&message, Some(Message::Bye(bye)) if bye.reason() == 1));
+/// ```
+///
+/// The test `the_example_of_frames` runs these lines.
 #[derive(Debug, Drop)]
 pub struct Frames {
     bytes: Vec<u8>,
