@@ -1,10 +1,11 @@
 //! What a log holds, in lines.
 ghost use Rattle.std.specs.Prelude.{◌≡◌, ◌∷◌, ◌++◌, [], decimal, true, OnOk, IfOk, IfErr};
 ghost use Rattle.std.specs.Io.KnownBytes.{Appends};
+ghost use Rattle.sb_frames.specs.Sending.{OnlyWhereFailed};
 ghost use Rattle.attrdir.specs.Printed.{slot_text, entry_line, printed, PrintsLog};
 
 use itoa::Buffer;
-use sb_frames::write_counted;
+use sb_frames::{LastWrite, write_counted};
 use sb_log::WriteLog;
 use sb_table::Table;
 use sb_types::{Entry, Fault, Name, Prefix, Slot};
@@ -83,8 +84,24 @@ pub fn log_run<L: WriteLog, W: Write>(
     ensures content { (L.seen log.new).is_clean ≡ true → OnOk result (
         Appends (W.contents writer.old) (W.contents writer.new) (printed (L.seen log.old).owner (L.seen log.old).content)) }
 {
+    log_run_telling(alloc, log, writer, &mut LastWrite::new())
+}
+
+/// As `log_run`, and tells in `last` what the last write answered.
+pub fn log_run_telling<L: WriteLog, W: Write>(
+    alloc: Global,
+    log: &mut L,
+    writer: &mut W,
+    last: &mut LastWrite,
+) -> Result<(), Fault>
+    ensures prints { PrintsLog (L.seen log.old) (L.seen log.new) (W.contents writer.old) (W.contents writer.new) result }
+    ensures content { (L.seen log.new).is_clean ≡ true → OnOk result (
+        Appends (W.contents writer.old) (W.contents writer.new) (printed (L.seen log.old).owner (L.seen log.old).content)) }
+    // A write that did not fail is no reason to stop.
+    ensures failed { OnlyWhereFailed result last.new }
+{
     let owner = *log.owner();
     let table = log.load(alloc)?;
     let lines = lines_of(alloc, &owner, &table)?;
-    write_counted(writer, &lines)
+    write_counted(writer, &lines, last)
 }

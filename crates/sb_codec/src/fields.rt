@@ -1,6 +1,7 @@
 //! What is left of a payload, read from left to right.
 
-ghost use Rattle.std.specs.Prelude.{◌≡◌, ◌==◌, length, IfOk};
+ghost use Rattle.std.specs.Prelude.{◌≡◌, ◌==◌, ◌*◌, ◌≤◌, [], length, IfOk, IfErr};
+ghost use Rattle.std.specs.Vec.{vec_capacity};
 ghost use Rattle.std.specs.Int.{w16, w64};
 ghost use Rattle.sb_codec.specs.Refusal.{Reads};
 ghost use Rattle.sb_codec.specs.Fields.{byte_at, bytes_at, number_at, text_at, list_at, times_at};
@@ -19,6 +20,17 @@ use sb_types::{
 };
 use std::alloc::Global;
 use std::marker::Model;
+
+/// Room for so many items, and for no more than the bytes could spell, however many are told. `Memory` is
+/// its only refusal.
+fn room_for<T: Spelled>(alloc: Global, count: u16, bytes: &[u8]) -> Result<Vec<T>, Refusal>
+    ensures items { IfOk result (λ v. v.items ≡ []) }
+    ensures within { IfOk result (λ v. T.LEAST * vec_capacity v ≤ length bytes.now) }
+    ensures refusal { IfErr result (λ refusal. refusal ≡ Refusal.Memory) }
+{
+    let most = bytes.len() / T::LEAST;
+    Ok(Vec::with_capacity(alloc, most.min(usize::from(count)))?)
+}
 
 /// The bytes that are still to be read. After a refusal they say nothing.
 #[derive(Drop)]
@@ -358,9 +370,7 @@ impl<'a> Fields<'a> {
     fn times<T: Spelled>(&mut self, alloc: Global, count: u16) -> Result<Vec<T>, Refusal>
         ensures { Reads (λ v. v.items) (times_at T.field count self.old) result self.new }
     {
-        // a count that is a lie gets no more room than the bytes that are left could fill
-        let room = self.rest.len() / T::LEAST;
-        let mut items = Vec::with_capacity(alloc, room.min(usize::from(count)))?;
+        let mut items = room_for(alloc, count, self.rest)?;
         for _ in 0..count {
             items.push(T::read(alloc, self)?)?;
         }

@@ -17,6 +17,15 @@ use sb_digest::Digest;
 use sb_types::{Delta, Write};
 
 /// What one node sends to another, or a control socket and its caller to each other.
+///
+/// ```
+/// let payload = encode_payload(alloc, &Message::Bye(Bye::new(1)?))?;
+/// assert_eq!(payload.as_slice(), b"\x04\x01".as_slice());
+/// let message = decode_payload(alloc, &payload)?;
+/// assert!(matches!(&message, Message::Bye(bye) if bye.reason() == 1));
+/// ```
+///
+/// The test `the_example_of_a_message` runs these lines.
 #[derive(Debug, Drop)]
 pub enum Message {
     /// Who speaks: the first message of each end.

@@ -1,9 +1,8 @@
+//! Payloads by hand, the greatest of each kind, and what is no payload.
+
 use super::*;
 use sb_digest::{Digest, Pair};
-use sb_types::{
-    Block, Delta, Entry, Fault, KIND_ASK, KIND_BYE, KIND_DELTA, KIND_DIGEST, KIND_DONE, KIND_HELLO,
-    KIND_PUT, KIND_REFUSED, KIND_ROWS, Key, Name, Prefix, Slot, Value, Write,
-};
+use sb_types::{Block, Delta, Entry, Fault, KIND_DELTA, Key, Name, Prefix, Slot, Value, Write};
 use std::alloc::Global;
 use std::test::Fail;
 
@@ -43,8 +42,113 @@ const DONE: &str = "13 0000000000000001";
 
 const REFUSED: &str = "14 0d";
 
+// The longest of their kinds: names of 32 bytes, keys of 64, and an address of 128.
+
+const LONGEST_HELLO: &str = "01 \
+    20 6161616161616161616161616161616161616161616161616161616161616161 \
+    20 6161616161616161616161616161616161616161616161616161616161616161";
+
+const LONGEST_ASK: &str = "10 \
+    20 6161616161616161616161616161616161616161616161616161616161616161 \
+    40 6b6b6b6b6b6b6b6b6b6b6b6b6b6b6b6b6b6b6b6b6b6b6b6b6b6b6b6b6b6b6b6b6b6b6b6b6b6b6b6b6b6b6b6b6b6b6b6b6b6b6b6b6b6b6b6b6b6b6b6b6b6b6b6b \
+    20 6161616161616161616161616161616161616161616161616161616161616161 \
+    40 6b6b6b6b6b6b6b6b6b6b6b6b6b6b6b6b6b6b6b6b6b6b6b6b6b6b6b6b6b6b6b6b6b6b6b6b6b6b6b6b6b6b6b6b6b6b6b6b6b6b6b6b6b6b6b6b6b6b6b6b6b6b6b6b";
+
+const LONGEST_ROW: &str = "11 00 0001 \
+    20 6161616161616161616161616161616161616161616161616161616161616161 \
+    40 6b6b6b6b6b6b6b6b6b6b6b6b6b6b6b6b6b6b6b6b6b6b6b6b6b6b6b6b6b6b6b6b6b6b6b6b6b6b6b6b6b6b6b6b6b6b6b6b6b6b6b6b6b6b6b6b6b6b6b6b6b6b6b6b \
+    0000000000000001 01 \
+    80 68686868686868686868686868686868686868686868686868686868686868686868686868686868686868686868686868686868686868686868686868686868 \
+    68686868686868686868686868686868686868686868686868686868686868686868686868686868686868686868686868686868686868686868686868686868";
+
+const LONGEST_PUT: &str = "12 \
+    40 6b6b6b6b6b6b6b6b6b6b6b6b6b6b6b6b6b6b6b6b6b6b6b6b6b6b6b6b6b6b6b6b6b6b6b6b6b6b6b6b6b6b6b6b6b6b6b6b6b6b6b6b6b6b6b6b6b6b6b6b6b6b6b6b \
+    01 \
+    80 68686868686868686868686868686868686868686868686868686868686868686868686868686868686868686868686868686868686868686868686868686868 \
+    68686868686868686868686868686868686868686868686868686868686868686868686868686868686868686868686868686868686868686868686868686868";
+
+const LONGEST_ENTRY: &str = "03 0001 \
+    20 6161616161616161616161616161616161616161616161616161616161616161 \
+    0000000000000000 0001 \
+    40 6b6b6b6b6b6b6b6b6b6b6b6b6b6b6b6b6b6b6b6b6b6b6b6b6b6b6b6b6b6b6b6b6b6b6b6b6b6b6b6b6b6b6b6b6b6b6b6b6b6b6b6b6b6b6b6b6b6b6b6b6b6b6b6b \
+    0000000000000001 01 \
+    80 68686868686868686868686868686868686868686868686868686868686868686868686868686868686868686868686868686868686868686868686868686868 \
+    68686868686868686868686868686868686868686868686868686868686868686868686868686868686868686868686868686868686868686868686868686868";
+
+/// Not one of these is a payload.
+const WRONG: &[&str] = &[
+    // no entry; versions 2, then 1; a first version that is not above after; a version of 0
+    "03 0001 0161 0000000000000000 0000",
+    "03 0001 0161 0000000000000000 0002 0176 0000000000000002 00 0177 0000000000000001 00",
+    "03 0001 0161 0000000000000001 0001 0177 0000000000000001 00",
+    "03 0001 0161 0000000000000000 0001 0177 0000000000000000 00",
+    // owners b, then a; a twice; a key twice
+    "03 0002 0162 0000000000000000 0001 0177 0000000000000001 00 0161 0000000000000000 0001 0177 0000000000000001 00",
+    "03 0002 0161 0000000000000000 0001 0177 0000000000000001 00 0161 0000000000000000 0001 0177 0000000000000001 00",
+    "03 0001 0161 0000000000000000 0002 0177 0000000000000001 00 0177 0000000000000002 00",
+    // the tag 4; a flag of 2; a weight of 2^63; an address with a space
+    "03 0001 0161 0000000000000000 0001 0177 0000000000000001 04 01",
+    "03 0001 0161 0000000000000000 0001 0177 0000000000000001 03 02",
+    "03 0001 0161 0000000000000000 0001 0177 0000000000000001 02 8000000000000000",
+    "03 0001 0161 0000000000000000 0001 0177 0000000000000001 01 0120",
+    // a name with a capital; an empty key
+    "03 0001 0141 0000000000000000 0001 0177 0000000000000001 00",
+    "03 0001 0161 0000000000000000 0001 00 0000000000000001 00",
+    // one more byte; counts of what is not there
+    "03 0000 00",
+    "03 ffff",
+    "03 0001 0161 0000000000000000 ffff",
+    // a cluster of 33 bytes; no node; a node with a capital; one more byte
+    "01 21 616161616161616161616161616161616161616161616161616161616161616161 0161",
+    "01 026331",
+    "01 026331 0141",
+    "01 026331 0161 00",
+    // want 2; a pair at until; above it; below from; bounds that are equal; owners twice, descending; one more
+    // byte
+    "02 02 00 00 0000",
+    "02 00 00 0162 0001 0162 0000000000000000",
+    "02 00 00 0162 0001 0163 0000000000000000",
+    "02 00 0162 00 0001 0161 0000000000000000",
+    "02 00 0162 0162 0000",
+    "02 00 00 00 0002 0161 0000000000000000 0161 0000000000000000",
+    "02 00 00 00 0002 0162 0000000000000000 0161 0000000000000000",
+    "02 01 00 00 0001 0161 0000000000000000 00",
+    // the reasons 0 and 6; none; one more byte
+    "04 00",
+    "04 06",
+    "04",
+    "04 01 00",
+    // an owner with no key; a key with no owner; an owner, a prefix and a key with a capital; one more byte
+    "10 00 00 0161 00",
+    "10 00 00 00 0177",
+    "10 0141 00 00 00",
+    "10 00 0141 00 00",
+    "10 00 00 0161 0141",
+    "10 00 00 00 00 00",
+    // more is 2; a version of 0; the tag 0; owners b, then a; keys w, then v; w twice; one more byte
+    "11 02 0000",
+    "11 00 0001 0161 0177 0000000000000000 03 00",
+    "11 00 0001 0161 0177 0000000000000001 00",
+    "11 00 0002 0162 0177 0000000000000001 03 00 0161 0177 0000000000000001 03 00",
+    "11 00 0002 0161 0177 0000000000000001 03 00 0161 0176 0000000000000001 03 00",
+    "11 00 0002 0161 0177 0000000000000001 03 00 0161 0177 0000000000000002 03 00",
+    "11 00 0001 0161 0177 0000000000000001 02 0000000000000005 00",
+    // a flag of 2; an empty key; the tag 4; one more byte
+    "12 0177 03 02",
+    "12 00 00",
+    "12 0177 04",
+    "12 0177 02 0000000000000005 00",
+    // the version 0; one more byte
+    "13 0000000000000000",
+    "13 0000000000000001 00",
+    // the numbers 0 and 32; one more byte
+    "14 00",
+    "14 20",
+    "14 0d 00",
+];
+
 /// The bytes that hexadecimal words stand for; nothing where memory runs out.
-fn bytes(alloc: Global, words: &str) -> Option<Vec<u8>> {
+fn bytes_of(alloc: Global, words: &str) -> Option<Vec<u8>> {
     let mut out = Vec::new(alloc);
     for word in words.split(' ') {
         for pair in word.as_bytes().chunks(2) {
@@ -55,22 +159,24 @@ fn bytes(alloc: Global, words: &str) -> Option<Vec<u8>> {
     Some(out)
 }
 
-fn one_entry(alloc: Global) -> Result<Message, Fault> {
-    let entry = Entry::new(Key::read(b"w")?, 1, Slot::Set(Value::weight(5)?));
-    let block = Block::new(Name::read(b"a")?, 0, vec![in alloc; entry]?)?;
-    Ok(Message::Delta(Delta::new(vec![in alloc; block]?)?))
+fn bytes(alloc: Global, words: &str) -> Result<Vec<u8>, Fault> {
+    bytes_of(alloc, words).ok_or(Fault::NoMemory)
 }
 
-/// Whether the words are the payload of what they are read as.
-fn again(alloc: Global, words: &str) -> Result<bool, Fault> {
-    let expected = bytes(alloc, words).ok_or(Fault::NoMemory)?;
-    Ok(encode_payload(alloc, &decode_payload(alloc, &expected)?)? == expected)
+/// How long the frame is of the message that the bytes are read as; nothing where they are not its payload.
+fn frame_length(alloc: Global, payload: &[u8]) -> Result<Option<u32>, Fault> {
+    let message = decode_payload(alloc, payload)?;
+    if encode_payload(alloc, &message)?.as_slice() != payload {
+        return Ok(None);
+    }
+    Ok(Some(length(&message)))
 }
 
-/// Whether the words are the payload of the message, and are read as it.
+/// Whether the words are the payload of the message, and of what they are read as.
 fn is_payload(alloc: Global, message: &Message, words: &str) -> Result<bool, Fault> {
-    let expected = bytes(alloc, words).ok_or(Fault::NoMemory)?;
-    Ok(encode_payload(alloc, message)? == expected && again(alloc, words)?)
+    let expected = bytes(alloc, words)?;
+    let is_written = encode_payload(alloc, message)? == expected;
+    Ok(is_written && frame_length(alloc, &expected)? == Some(length(message)))
 }
 
 /// Why the bytes are no payload. The error is `NoMemory` where that is what they are answered.
@@ -81,158 +187,163 @@ fn refusal(alloc: Global, payload: &[u8]) -> Result<Option<Fault>, Fault> {
     }
 }
 
-/// The same of words.
-fn refusal_of(alloc: Global, words: &str) -> Result<Option<Fault>, Fault> {
-    refusal(alloc, &bytes(alloc, words).ok_or(Fault::NoMemory)?)
+fn one_entry(alloc: Global) -> Result<Message, Fault> {
+    let entry = Entry::new(Key::read(b"w")?, 1, Slot::Set(Value::weight(5)?));
+    let block = Block::new(Name::read(b"a")?, 0, vec![in alloc; entry]?)?;
+    Ok(Message::Delta(Delta::new(vec![in alloc; block]?)?))
 }
 
-/// The first of the words that are not refused as malformed, of this kind; nothing where each is.
-fn first_accepted<'a>(
-    alloc: Global,
-    kind: u8,
-    wrong: &[&'a str],
-) -> Result<Option<&'a str>, Fault> {
-    for words in wrong {
-        if refusal_of(alloc, words)? != Some(Fault::Malformed(kind)) {
-            return Ok(Some(words));
-        }
+fn no_block(alloc: Global) -> Result<Message, Fault> {
+    Ok(Message::Delta(Delta::new(Vec::new(alloc))?))
+}
+
+fn entry(key: &[u8], version: u64, slot: Slot) -> Result<Entry, Fault> {
+    if version == 0 {
+        return Err(Fault::Malformed(KIND_DELTA));
     }
-    Ok(None)
+    Ok(Entry::new(Key::read(key)?, version, slot))
+}
+
+fn every_slot(alloc: Global) -> Result<Message, Fault> {
+    let mut entries = Vec::new(alloc);
+    entries.push(entry(b"a", 1, Slot::Removed)?)?;
+    entries.push(entry(b"b", 2, Slot::Set(Value::addr(alloc, b"h:1")?))?)?;
+    entries.push(entry(b"c", 3, Slot::Set(Value::flag(false)))?)?;
+    entries.push(entry(b"d", 260, Slot::Set(Value::flag(true)))?)?;
+    let block = Block::new(Name::read(b"n1")?, 0, entries)?;
+    Ok(Message::Delta(Delta::new(vec![in alloc; block]?)?))
+}
+
+fn hello() -> Result<Message, Fault> {
+    let cluster = Name::read(b"c1")?;
+    let node = Name::read(b"a")?;
+    Ok(Message::Hello(Hello { cluster, node }))
 }
 
 fn pair(owner: &[u8], version: u64) -> Result<Pair, Fault> {
-    Ok(Pair {
-        owner: Name::read(owner)?,
-        version,
-    })
+    let owner = Name::read(owner)?;
+    Ok(Pair { owner, version })
+}
+
+fn digest(alloc: Global) -> Result<Message, Fault> {
+    let pairs = vec![in alloc; pair(b"a", 0)?]?;
+    Ok(Message::Digest(Digest::new(true, None, None, pairs)?))
+}
+
+fn digest_of_a_range(alloc: Global) -> Result<Message, Fault> {
+    let pairs = vec![in alloc; pair(b"b", 5)?, pair(b"c", 7)?]?;
+    let (from, until) = (Some(Name::read(b"b")?), Some(Name::read(b"d")?));
+    Ok(Message::Digest(Digest::new(false, from, until, pairs)?))
+}
+
+fn ask() -> Result<Message, Fault> {
+    Ok(Message::Ask(Ask {
+        owner: None,
+        prefix: Prefix::read(b"")?,
+        after: None,
+    }))
+}
+
+fn ask_behind() -> Result<Message, Fault> {
+    let owner = Name::read(b"a")?;
+    Ok(Message::Ask(Ask {
+        owner: Some(owner),
+        prefix: Prefix::read(b"w/")?,
+        after: Some((owner, Key::read(b"w")?)),
+    }))
 }
 
 fn row(owner: &[u8], version: u64) -> Result<Row, Fault> {
-    Row::new(
-        Name::read(owner)?,
-        Key::read(b"w")?,
-        version,
-        Value::weight(5)?,
-    )
+    let (owner, key) = (Name::read(owner)?, Key::read(b"w")?);
+    Row::new(owner, key, version, Value::weight(5)?)
+}
+
+fn rows(alloc: Global) -> Result<Message, Fault> {
+    let rows = vec![in alloc; row(b"a", 1)?]?;
+    Ok(Message::Rows(Rows::new(false, rows)?))
+}
+
+fn put() -> Result<Message, Fault> {
+    let (key, slot) = (Key::read(b"w")?, Slot::Set(Value::weight(5)?));
+    Ok(Message::Put(Write { key, slot }))
+}
+
+/// A message by its number, and its payload.
+fn made(alloc: Global, number: usize) -> Result<(Message, &'static str), Fault> {
+    Ok(match number {
+        0 => (one_entry(alloc)?, ONE_ENTRY),
+        1 => (no_block(alloc)?, NO_BLOCK),
+        2 => (every_slot(alloc)?, EVERY_SLOT),
+        3 => (hello()?, HELLO),
+        4 => (digest(alloc)?, DIGEST),
+        5 => (digest_of_a_range(alloc)?, DIGEST_OF_A_RANGE),
+        6 => (Message::Bye(Bye::new(1)?), BYE),
+        7 => (ask()?, ASK),
+        8 => (ask_behind()?, ASK_BEHIND),
+        9 => (rows(alloc)?, ROWS),
+        10 => (put()?, PUT),
+        11 => (Message::Done(Done::new(1)?), DONE),
+        _ => (Message::Refused(Refused::new(13)?), REFUSED),
+    })
 }
 
 #[test]
-fn the_payload_of_a_delta(rt: HostRuntime) -> Result<(), Fail> {
+fn the_payload_of_each_message(rt: HostRuntime) -> Result<(), Fail> {
     let alloc = rt.alloc();
-    let expected = bytes(alloc, ONE_ENTRY).ok_or(Fault::NoMemory)?;
-    assert_eq!(rt; expected.len(), 34);
-    let payload = encode_payload(alloc, &one_entry(alloc)?)?;
-    assert_eq!(rt; payload.as_slice(), expected.as_slice());
-    let Message::Delta(delta) = decode_payload(alloc, &expected)? else {
-        return Err("another kind".into());
-    };
-    assert_eq!(rt; delta.blocks().len(), 1);
-    for block in delta.blocks() {
-        assert_eq!(rt; block.owner().bytes(), b"a".as_slice());
-        assert_eq!(rt; block.after(), 0);
-        assert_eq!(rt; block.entries().len(), 1);
-        for entry in block.entries() {
-            assert_eq!(rt; entry.key().bytes(), b"w".as_slice());
-            assert_eq!(rt; entry.version(), 1);
-            assert!(rt; matches!(entry.slot(), Slot::Set(value) if value.as_weight() == Some(5)));
-        }
+    for number in 0..=12 {
+        let (message, words) = made(alloc, number)?;
+        assert!(rt; is_payload(alloc, &message, words)?, "{words}");
     }
     Ok(())
 }
 
+/// The lines of the example that stands at `Message`.
 #[test]
-fn the_payload_of_an_empty_delta(rt: HostRuntime) -> Result<(), Fail> {
+fn the_example_of_a_message(rt: HostRuntime) -> Result<(), Fail> {
     let alloc = rt.alloc();
-    let expected = bytes(alloc, NO_BLOCK).ok_or(Fault::NoMemory)?;
-    let empty = Message::Delta(Delta::new(Vec::new(alloc))?);
-    assert_eq!(rt;
-        encode_payload(alloc, &empty)?.as_slice(),
-        expected.as_slice()
-    );
-    let Message::Delta(delta) = decode_payload(alloc, &expected)? else {
-        return Err("another kind".into());
-    };
-    assert!(rt; delta.blocks().is_empty());
+    let payload = encode_payload(alloc, &Message::Bye(Bye::new(1)?))?;
+    assert_eq!(rt; payload.as_slice(), b"\x04\x01".as_slice());
+    let message = decode_payload(alloc, &payload)?;
+    assert!(rt; matches!(&message, Message::Bye(bye) if bye.reason() == 1));
     Ok(())
 }
 
-#[test]
-fn the_payload_of_every_slot(rt: HostRuntime) -> Result<(), Fail> {
-    let alloc = rt.alloc();
-    let expected = bytes(alloc, EVERY_SLOT).ok_or(Fault::NoMemory)?;
-    let entries = vec![in alloc;
-        Entry::new(Key::read(b"a")?, 1, Slot::Removed),
-        Entry::new(Key::read(b"b")?, 2, Slot::Set(Value::addr(alloc, b"h:1")?)),
-        Entry::new(Key::read(b"c")?, 3, Slot::Set(Value::flag(false))),
-        Entry::new(Key::read(b"d")?, 260, Slot::Set(Value::flag(true))),
-    ]?;
-    let block = Block::new(Name::read(b"n1")?, 0, entries)?;
-    let message = Message::Delta(Delta::new(vec![in alloc; block]?)?);
-    assert_eq!(rt;
-        encode_payload(alloc, &message)?.as_slice(),
-        expected.as_slice()
-    );
-    let again = encode_payload(alloc, &decode_payload(alloc, &expected)?)?;
-    assert_eq!(rt; again.as_slice(), expected.as_slice());
-    Ok(())
+/// Whether it is the delta that `ONE_ENTRY` spells.
+fn is_one_entry(message: &Message) -> bool {
+    let Message::Delta(delta) = message else {
+        return false;
+    };
+    let [block] = delta.blocks() else {
+        return false;
+    };
+    let [entry] = block.entries() else {
+        return false;
+    };
+    let is_block = block.owner().bytes() == b"a".as_slice() && block.after() == 0;
+    let is_entry = entry.key().bytes() == b"w".as_slice() && entry.version() == 1;
+    let is_weight = matches!(entry.slot(), Slot::Set(value) if value.as_weight() == Some(5));
+    is_block && is_entry && is_weight
 }
 
 #[test]
-fn the_payload_of_each_other_kind(rt: HostRuntime) -> Result<(), Fail> {
+fn what_a_delta_says(rt: HostRuntime) -> Result<(), Fail> {
     let alloc = rt.alloc();
-    let a = Name::read(b"a")?;
-    let w = Key::read(b"w")?;
-    let hello = Hello {
-        cluster: Name::read(b"c1")?,
-        node: a,
-    };
-    assert!(rt; is_payload(alloc, &Message::Hello(hello), HELLO)?);
-    let digest = Digest::new(true, None, None, vec![in alloc; pair(b"a", 0)?]?)?;
-    assert!(rt; is_payload(alloc, &Message::Digest(digest), DIGEST)?);
-    let (from, until) = (Some(Name::read(b"b")?), Some(Name::read(b"d")?));
-    let pairs = vec![in alloc; pair(b"b", 5)?, pair(b"c", 7)?]?;
-    let digest = Digest::new(false, from, until, pairs)?;
-    assert!(rt; is_payload(alloc, &Message::Digest(digest), DIGEST_OF_A_RANGE)?);
-    assert!(rt; is_payload(alloc, &Message::Bye(Bye::new(1)?), BYE)?);
-    let ask = Ask {
-        owner: None,
-        prefix: Prefix::read(b"")?,
-        after: None,
-    };
-    assert!(rt; is_payload(alloc, &Message::Ask(ask), ASK)?);
-    let ask = Ask {
-        owner: Some(a),
-        prefix: Prefix::read(b"w/")?,
-        after: Some((a, w)),
-    };
-    assert!(rt; is_payload(alloc, &Message::Ask(ask), ASK_BEHIND)?);
-    let rows = Rows::new(false, vec![in alloc; row(b"a", 1)?]?)?;
-    assert!(rt; is_payload(alloc, &Message::Rows(rows), ROWS)?);
-    let put = Write {
-        key: w,
-        slot: Slot::Set(Value::weight(5)?),
-    };
-    assert!(rt; is_payload(alloc, &Message::Put(put), PUT)?);
-    assert!(rt; is_payload(alloc, &Message::Done(Done::new(1)?), DONE)?);
-    assert!(rt; is_payload(alloc, &Message::Refused(Refused::new(13)?), REFUSED)?);
+    let message = decode_payload(alloc, &bytes(alloc, ONE_ENTRY)?)?;
+    assert!(rt; is_one_entry(&message));
+    let message = decode_payload(alloc, &bytes(alloc, NO_BLOCK)?)?;
+    assert!(rt; matches!(&message, Message::Delta(delta) if delta.blocks().is_empty()));
     Ok(())
 }
 
 #[test]
 fn payloads_one_behind_the_other(rt: HostRuntime) -> Result<(), Fail> {
     let alloc = rt.alloc();
-    let mut out = bytes(alloc, BYE).ok_or(Fault::NoMemory)?;
+    let mut out = bytes(alloc, BYE)?;
     append_payload(&mut out, &Message::Done(Done::new(1)?))?;
     append_payload(&mut out, &Message::Refused(Refused::new(13)?))?;
-    let expected = bytes(alloc, "04 01 13 0000000000000001 14 0d").ok_or(Fault::NoMemory)?;
+    let expected = bytes(alloc, "04 01 13 0000000000000001 14 0d")?;
     assert_eq!(rt; out.as_slice(), expected.as_slice());
     Ok(())
-}
-
-/// How long the frame is of what the words are read as.
-fn frame_length(alloc: Global, words: &str) -> Result<u32, Fault> {
-    let payload = bytes(alloc, words).ok_or(Fault::NoMemory)?;
-    Ok(length(&decode_payload(alloc, &payload)?))
 }
 
 #[test]
@@ -253,40 +364,92 @@ fn the_length_of_each_frame(rt: HostRuntime) -> Result<(), Fail> {
         (PUT_OF_A_REMOVAL, 10),
         (DONE, 15),
         (REFUSED, 8),
+        (LONGEST_HELLO, 73),
+        (LONGEST_ASK, 203),
+        (LONGEST_ROW, 246),
+        (LONGEST_PUT, 202),
+        (LONGEST_ENTRY, 255),
     ] {
-        assert_eq!(rt; frame_length(alloc, words)?, expected, "{words}");
+        let payload = bytes(alloc, words)?;
+        assert_eq!(rt; frame_length(alloc, &payload)?, Some(expected), "{words}");
     }
     Ok(())
 }
 
+/// Numbers from 1, each as a text of 32 digits and as 8 bytes, between the same bytes.
+fn append_numbered(
+    out: &mut Vec<u8>,
+    count: u64,
+    before: &[u8],
+    behind: &[u8],
+) -> Result<(), Fault> {
+    let alloc = *out.allocator();
+    for number in 1..=count {
+        out.extend_from_slice(before)?;
+        out.extend_from_slice(format!(in alloc; "{number:032}")?.as_bytes())?;
+        out.extend_from_slice(&number.to_be_bytes())?;
+        out.extend_from_slice(behind)?;
+    }
+    Ok(())
+}
+
+/// A payload with a long list, and with one item more behind it.
+struct Long {
+    front: &'static str,
+    count: u64,
+    before: &'static str,
+    behind: &'static str,
+    last: &'static str,
+}
+
+/// 1,310 entries of 50 bytes and one of 15, behind 15: 65,530 bytes.
+const GREATEST_DELTA: Long = Long {
+    front: "03 0001 0161 0000000000000000 051f",
+    count: 1_310,
+    before: "20",
+    behind: "02 0000000000000005",
+    last: "05 7a7a7a7a7a 000000000000051f 00",
+};
+
+/// 1,259 rows of 52 bytes and one of 58, with 44 bytes of address, behind 4: 65,530 bytes.
+const GREATEST_ROWS: Long = Long {
+    front: "11 00 04ec",
+    count: 1_259,
+    before: "0161 20",
+    behind: "02 0000000000000005",
+    last: "0161 017a 00000000000004ec 01 2c \
+        68686868686868686868686868686868686868686868686868686868686868686868686868686868686868 68",
+};
+
+/// 1,024 pairs of 41 bytes, behind 6: 41,990 bytes.
+const GREATEST_DIGEST: Long = Long {
+    front: "02 00 00 00 0400",
+    count: 1_024,
+    before: "20",
+    behind: "",
+    last: "",
+};
+
+fn payload_of(alloc: Global, parts: &Long) -> Result<Vec<u8>, Fault> {
+    let mut out = bytes(alloc, parts.front)?;
+    let before = bytes(alloc, parts.before)?;
+    append_numbered(&mut out, parts.count, &before, &bytes(alloc, parts.behind)?)?;
+    out.extend_from_slice(&bytes(alloc, parts.last)?)?;
+    Ok(out)
+}
+
 #[test]
-fn the_longest_frames(rt: HostRuntime) -> Result<(), Fail> {
+fn the_greatest_payloads(rt: HostRuntime) -> Result<(), Fail> {
     let alloc = rt.alloc();
-    let name = Name::read(&[b'a'; 32])?;
-    let key = Key::read(&[b'k'; 64])?;
-    let hello = Hello {
-        cluster: name,
-        node: name,
-    };
-    assert_eq!(rt; length(&Message::Hello(hello)), 73);
-    let ask = Ask {
-        owner: Some(name),
-        prefix: Prefix::read(&[b'k'; 64])?,
-        after: Some((name, key)),
-    };
-    assert_eq!(rt; length(&Message::Ask(ask)), 203);
-    let put = Write {
-        key,
-        slot: Slot::Set(Value::addr(alloc, &[b'h'; 128])?),
-    };
-    assert_eq!(rt; length(&Message::Put(put)), 202);
-    let row = Row::new(name, key, 1, Value::addr(alloc, &[b'h'; 128])?)?;
-    let rows = Rows::new(false, vec![in alloc; row]?)?;
-    assert_eq!(rt; length(&Message::Rows(rows)), 246);
-    let entry = Entry::new(key, 1, Slot::Set(Value::addr(alloc, &[b'h'; 128])?));
-    let block = Block::new(name, 0, vec![in alloc; entry]?)?;
-    let delta = Delta::new(vec![in alloc; block]?)?;
-    assert_eq!(rt; length(&Message::Delta(delta)), 255);
+    for (parts, payload_length, expected) in [
+        (&GREATEST_DELTA, 65_530, 65_536),
+        (&GREATEST_ROWS, 65_530, 65_536),
+        (&GREATEST_DIGEST, 41_990, 41_996),
+    ] {
+        let payload = payload_of(alloc, parts)?;
+        assert_eq!(rt; payload.len(), payload_length);
+        assert_eq!(rt; frame_length(alloc, &payload)?, Some(expected));
+    }
     Ok(())
 }
 
@@ -312,38 +475,20 @@ fn what_messages_say(rt: HostRuntime) -> Result<(), Fail> {
 }
 
 #[test]
-fn deltas_that_break_the_format(rt: HostRuntime) -> Result<(), Fail> {
-    let wrong = [
-        // no entry; versions 2, then 1; a first version that is not above after; a version of 0
-        "03 0001 0161 0000000000000000 0000",
-        "03 0001 0161 0000000000000000 0002 0176 0000000000000002 00 0177 0000000000000001 00",
-        "03 0001 0161 0000000000000001 0001 0177 0000000000000001 00",
-        "03 0001 0161 0000000000000000 0001 0177 0000000000000000 00",
-        // owners b, then a; a twice; a key twice
-        "03 0002 0162 0000000000000000 0001 0177 0000000000000001 00 0161 0000000000000000 0001 0177 0000000000000001 00",
-        "03 0002 0161 0000000000000000 0001 0177 0000000000000001 00 0161 0000000000000000 0001 0177 0000000000000001 00",
-        "03 0001 0161 0000000000000000 0002 0177 0000000000000001 00 0177 0000000000000002 00",
-        // the tag 4; a flag of 2; a weight of 2^63; an address with a space
-        "03 0001 0161 0000000000000000 0001 0177 0000000000000001 04 01",
-        "03 0001 0161 0000000000000000 0001 0177 0000000000000001 03 02",
-        "03 0001 0161 0000000000000000 0001 0177 0000000000000001 02 8000000000000000",
-        "03 0001 0161 0000000000000000 0001 0177 0000000000000001 01 0120",
-        // a name with a capital; an empty key
-        "03 0001 0141 0000000000000000 0001 0177 0000000000000001 00",
-        "03 0001 0161 0000000000000000 0001 00 0000000000000001 00",
-        // one more byte; counts of what is not there
-        "03 0000 00",
-        "03 ffff",
-        "03 0001 0161 0000000000000000 ffff",
-    ];
-    assert_eq!(rt; first_accepted(rt.alloc(), KIND_DELTA, &wrong)?, None);
+fn payloads_that_break_the_format(rt: HostRuntime) -> Result<(), Fail> {
+    let alloc = rt.alloc();
+    for words in WRONG {
+        let payload = bytes(alloc, words)?;
+        let expected = payload.first().map(|kind| Fault::Malformed(*kind));
+        assert_eq!(rt; refusal(alloc, &payload)?, expected, "{words}");
+    }
     Ok(())
 }
 
 #[test]
 fn parts_of_a_delta(rt: HostRuntime) -> Result<(), Fail> {
     let alloc = rt.alloc();
-    let whole = bytes(alloc, ONE_ENTRY).ok_or(Fault::NoMemory)?;
+    let whole = bytes(alloc, ONE_ENTRY)?;
     for len in 1..whole.len() {
         let front = whole.get(..len).unwrap_or(&[]);
         assert_eq!(rt;
@@ -352,112 +497,6 @@ fn parts_of_a_delta(rt: HostRuntime) -> Result<(), Fail> {
             "{front:?}"
         );
     }
-    Ok(())
-}
-
-#[test]
-fn hellos_that_break_the_format(rt: HostRuntime) -> Result<(), Fail> {
-    let wrong = [
-        // a cluster of 33 bytes; no node; a node with a capital; one more byte
-        "01 21 616161616161616161616161616161616161616161616161616161616161616161 0161",
-        "01 026331",
-        "01 026331 0141",
-        "01 026331 0161 00",
-    ];
-    assert_eq!(rt; first_accepted(rt.alloc(), KIND_HELLO, &wrong)?, None);
-    Ok(())
-}
-
-#[test]
-fn digests_that_break_the_format(rt: HostRuntime) -> Result<(), Fail> {
-    let wrong = [
-        // want 2; a pair at until; above it; below from; bounds that are equal; owners twice, descending; one more
-        // byte
-        "02 02 00 00 0000",
-        "02 00 00 0162 0001 0162 0000000000000000",
-        "02 00 00 0162 0001 0163 0000000000000000",
-        "02 00 0162 00 0001 0161 0000000000000000",
-        "02 00 0162 0162 0000",
-        "02 00 00 00 0002 0161 0000000000000000 0161 0000000000000000",
-        "02 00 00 00 0002 0162 0000000000000000 0161 0000000000000000",
-        "02 01 00 00 0001 0161 0000000000000000 00",
-    ];
-    assert_eq!(rt; first_accepted(rt.alloc(), KIND_DIGEST, &wrong)?, None);
-    Ok(())
-}
-
-#[test]
-fn byes_that_break_the_format(rt: HostRuntime) -> Result<(), Fail> {
-    let wrong = [
-        // the reasons 0 and 6; none; one more byte
-        "04 00", "04 06", "04", "04 01 00",
-    ];
-    assert_eq!(rt; first_accepted(rt.alloc(), KIND_BYE, &wrong)?, None);
-    Ok(())
-}
-
-#[test]
-fn asks_that_break_the_format(rt: HostRuntime) -> Result<(), Fail> {
-    let wrong = [
-        // an owner with no key; a key with no owner; an owner, a prefix and a key with a capital; one more byte
-        "10 00 00 0161 00",
-        "10 00 00 00 0177",
-        "10 0141 00 00 00",
-        "10 00 0141 00 00",
-        "10 00 00 0161 0141",
-        "10 00 00 00 00 00",
-    ];
-    assert_eq!(rt; first_accepted(rt.alloc(), KIND_ASK, &wrong)?, None);
-    Ok(())
-}
-
-#[test]
-fn pages_that_break_the_format(rt: HostRuntime) -> Result<(), Fail> {
-    let wrong = [
-        // more is 2; a version of 0; the tag 0; owners b, then a; keys w, then v; w twice; one more byte
-        "11 02 0000",
-        "11 00 0001 0161 0177 0000000000000000 03 00",
-        "11 00 0001 0161 0177 0000000000000001 00",
-        "11 00 0002 0162 0177 0000000000000001 03 00 0161 0177 0000000000000001 03 00",
-        "11 00 0002 0161 0177 0000000000000001 03 00 0161 0176 0000000000000001 03 00",
-        "11 00 0002 0161 0177 0000000000000001 03 00 0161 0177 0000000000000002 03 00",
-        "11 00 0001 0161 0177 0000000000000001 02 0000000000000005 00",
-    ];
-    assert_eq!(rt; first_accepted(rt.alloc(), KIND_ROWS, &wrong)?, None);
-    Ok(())
-}
-
-#[test]
-fn puts_that_break_the_format(rt: HostRuntime) -> Result<(), Fail> {
-    let wrong = [
-        // a flag of 2; an empty key; the tag 4; one more byte
-        "12 0177 03 02",
-        "12 00 00",
-        "12 0177 04",
-        "12 0177 02 0000000000000005 00",
-    ];
-    assert_eq!(rt; first_accepted(rt.alloc(), KIND_PUT, &wrong)?, None);
-    Ok(())
-}
-
-#[test]
-fn dones_that_break_the_format(rt: HostRuntime) -> Result<(), Fail> {
-    let wrong = [
-        // the version 0; one more byte
-        "13 0000000000000000",
-        "13 0000000000000001 00",
-    ];
-    assert_eq!(rt; first_accepted(rt.alloc(), KIND_DONE, &wrong)?, None);
-    Ok(())
-}
-
-#[test]
-fn refusals_that_break_the_format(rt: HostRuntime) -> Result<(), Fail> {
-    let wrong = [
-        // the numbers 0 and 32; one more byte
-        "14 00", "14 20", "14 0d 00",
-    ];
-    assert_eq!(rt; first_accepted(rt.alloc(), KIND_REFUSED, &wrong)?, None);
     Ok(())
 }
 
@@ -482,33 +521,35 @@ fn payloads_of_unknown_kinds(rt: HostRuntime) {
     }
 }
 
+/// How long the frame is of what the words are read as.
+fn frame_length_of(alloc: Global, words: &str) -> Result<Option<u32>, Fault> {
+    frame_length(alloc, &bytes(alloc, words)?)
+}
+
 /// Passes with any one allocation refused: each call then gives `NoMemory`, or what it gives with memory.
 #[test]
 fn refused_allocations(rt: HostRuntime) {
     let alloc = rt.alloc();
-    let Some(expected) = bytes(alloc, ONE_ENTRY) else {
-        return;
-    };
     match one_entry(alloc) {
-        Ok(message) => match encode_payload(alloc, &message) {
-            Ok(payload) => assert_eq!(rt; payload.as_slice(), expected.as_slice()),
+        Ok(message) => match is_payload(alloc, &message, ONE_ENTRY) {
+            Ok(is_written) => assert!(rt; is_written),
             Err(fault) => assert_eq!(rt; fault, Fault::NoMemory),
         },
         Err(fault) => assert_eq!(rt; fault, Fault::NoMemory),
     }
-    for words in [
-        ONE_ENTRY,
-        HELLO,
-        DIGEST_OF_A_RANGE,
-        BYE,
-        ASK_BEHIND,
-        ROWS,
-        PUT,
-        DONE,
-        REFUSED,
+    for (words, expected) in [
+        (ONE_ENTRY, 40),
+        (HELLO, 12),
+        (DIGEST_OF_A_RANGE, 34),
+        (BYE, 8),
+        (ASK_BEHIND, 16),
+        (ROWS, 31),
+        (PUT, 18),
+        (DONE, 15),
+        (REFUSED, 8),
     ] {
-        match again(alloc, words) {
-            Ok(same) => assert!(rt; same, "{words}"),
+        match frame_length_of(alloc, words) {
+            Ok(found) => assert_eq!(rt; found, Some(expected), "{words}"),
             Err(fault) => assert_eq!(rt; fault, Fault::NoMemory, "{words}"),
         }
     }

@@ -1,4 +1,6 @@
-ghost use Rattle.std.specs.Prelude.{◌≡◌, []};
+//! The messages of a stream.
+
+ghost use Rattle.std.specs.Prelude.{◌≡◌, ◌+◌, ◌≤◌, [], drop, length};
 ghost use Rattle.sb_frames.specs.Streams.{open_with, Feeds, TakesNext};
 
 use crate::front::message_in;
@@ -7,7 +9,32 @@ use sb_types::Fault;
 use std::alloc::Global;
 use std::marker::Model;
 
+/// Lets go of the bytes that were taken out, where they are more than those behind them, and answers how
+/// many are still kept.
+fn let_go(bytes: &mut Vec<u8>, taken: usize) -> usize
+    requires { taken ≤ length bytes.now.items }
+    ensures held { drop result bytes.new.items ≡ drop taken bytes.old.items }
+    ensures few { result + result ≤ length bytes.new.items }
+{
+    if taken <= bytes.len() - taken {
+        return taken;
+    }
+    bytes.drain(..taken);
+    0
+}
+
 /// The messages of one stream of bytes, which comes in any pieces. After a faulty frame it is closed.
+///
+/// ```
+/// let mut frames = Frames::new(alloc);
+/// frames.feed(b"\xa7\x01\x00\x00\x00")?;
+/// assert!(frames.next()?.is_none());
+/// frames.feed(b"\x02\x04\x01")?;
+/// let message = frames.next()?;
+/// assert!(matches!(&message, Some(Message::Bye(bye)) if bye.reason() == 1));
+/// ```
+///
+/// The test `the_example_of_frames` runs these lines.
 #[derive(Debug, Drop)]
 pub struct Frames {
     bytes: Vec<u8>,
@@ -17,14 +44,15 @@ pub struct Frames {
 }
 
 impl Model for Frames {
-    ghost use Rattle.std.specs.Prelude.{◌≤◌, if◌then◌else◌, drop, length};
+    ghost use Rattle.std.specs.Prelude.{◌+◌, ◌≤◌, if◌then◌else◌, drop, length};
     ghost use Rattle.sb_frames.specs.Streams.{Stream, open_with, shut};
 
     ghost Value = { Stream };
 
     ghost view = { λ f. if f.is_closed then shut else open_with (drop f.taken f.bytes.items) };
 
-    ghost invariant = { λ f. f.taken ≤ length f.bytes.items };
+    // No more is kept of what was taken out than is held.
+    ghost invariant = { λ f. f.taken + f.taken ≤ length f.bytes.items };
 }
 
 impl Frames {
@@ -47,11 +75,6 @@ impl Frames {
         if self.is_closed {
             return Err(Fault::Closed);
         }
-        // What is left moves to the front only where no more is left than was taken out.
-        if self.taken >= self.bytes.len() - self.taken {
-            self.bytes.drain(..self.taken);
-            self.taken = 0;
-        }
         self.bytes.extend_from_slice(piece)?;
         Ok(())
     }
@@ -69,7 +92,7 @@ impl Frames {
         let alloc = *self.bytes.allocator();
         match message_in(alloc, &self.bytes[self.taken..]) {
             Ok(Some((message, length))) => {
-                self.taken += length;
+                self.taken = let_go(&mut self.bytes, self.taken + length);
                 Ok(Some(message))
             }
             Ok(None) => Ok(None),

@@ -2,8 +2,9 @@
 
 ghost use Rattle.std.specs.Prelude.{◌≡◌, IfOk, IfErr};
 ghost use Rattle.sb_frames.specs.Frames.{frame};
-ghost use Rattle.sb_frames.specs.Sending.{Sends};
+ghost use Rattle.sb_frames.specs.Sending.{Sends, OnlyWhereFailed};
 
+use crate::last_write::LastWrite;
 use sb_codec::{Message, append_payload, length};
 use sb_types::{FRAME_MARK, FRAME_VERSION, Fault, HEADER_LENGTH};
 use std::alloc::Global;
@@ -23,14 +24,19 @@ pub fn frame_of(alloc: Global, message: &Message) -> Result<Vec<u8>, Fault>
     Ok(frame)
 }
 
-/// Writes all of the bytes. `WriteFailed` with how many were written, always fewer than all. A write that takes no byte
-/// has failed.
-pub fn write_counted<W: Write>(writer: &mut W, bytes: &[u8]) -> Result<(), Fault>
-    ensures { Sends (W.contents writer.old) (W.contents writer.new) bytes.now result }
+/// Writes all of the bytes, and tells in `last` what the last write answered. `WriteFailed` with how many were
+/// written, always fewer than all. A write that takes no byte has failed.
+pub fn write_counted<W: Write>(
+    writer: &mut W,
+    bytes: &[u8],
+    last: &mut LastWrite,
+) -> Result<(), Fault>
+    ensures sends { Sends (W.contents writer.old) (W.contents writer.new) bytes.now result }
+    ensures failed { OnlyWhereFailed result last.new }
 {
     let mut count = 0;
     while count < bytes.len() {
-        match writer.write(&bytes[count..]) {
+        match last.write(writer, &bytes[count..]) {
             Ok(0) | Err(_) => return Err(Fault::WriteFailed(count as u64)),
             Ok(written) => count += written,
         }
@@ -38,11 +44,25 @@ pub fn write_counted<W: Write>(writer: &mut W, bytes: &[u8]) -> Result<(), Fault
     Ok(())
 }
 
+/// Writes the message's frame, and tells in `last` what the last write answered. The faults of `send`.
+pub fn send_telling<W: Write>(
+    alloc: Global,
+    writer: &mut W,
+    message: &Message,
+    last: &mut LastWrite,
+) -> Result<(), Fault>
+    ensures sends { Sends (W.contents writer.old) (W.contents writer.new) (frame message.now) result }
+    // A write that did not fail is no reason to stop.
+    ensures failed { OnlyWhereFailed result last.new }
+{
+    let frame = frame_of(alloc, message)?;
+    write_counted(writer, &frame, last)
+}
+
 /// Writes the message's frame. `NoMemory`, with nothing written; `WriteFailed` with how many bytes of
 /// the frame were written, always fewer than all. A write that takes no byte has failed.
 pub fn send<W: Write>(alloc: Global, writer: &mut W, message: &Message) -> Result<(), Fault>
     ensures { Sends (W.contents writer.old) (W.contents writer.new) (frame message.now) result }
 {
-    let frame = frame_of(alloc, message)?;
-    write_counted(writer, &frame)
+    send_telling(alloc, writer, message, &mut LastWrite::new())
 }

@@ -1,7 +1,9 @@
+//! Frames by hand, in any pieces and through any writer.
+
 use super::*;
 use sb_codec::{Bye, Hello, Message};
 use sb_types::{Block, Delta, Entry, Fault, Key, Name, Slot, Value};
-use std::alloc::Global;
+use std::alloc::{AllocError, Global};
 use std::io::{self, ErrorKind, Write};
 use std::test::Fail;
 
@@ -30,51 +32,37 @@ const DIGEST: &[u8] = b"\xa7\x01\x00\x00\x00\x10\x02\x01\x00\x00\
 /// Bye, since the rounds are done.
 const BYE: &[u8] = b"\xa7\x01\x00\x00\x00\x02\x04\x01";
 
-/// Takes one byte in each write, and fails once it has no room.
+/// Takes a few bytes in each write, and fails once it has no room.
 #[derive(Drop)]
 struct Narrow {
-    bytes: [u8; 64],
-    written: usize,
+    bytes: Vec<u8>,
+    most: usize,
     room: usize,
 }
 
 impl Narrow {
-    fn new(room: usize) -> Narrow {
+    fn new(alloc: Global, most: usize, room: usize) -> Narrow {
         Narrow {
-            bytes: [0; 64],
-            written: 0,
+            bytes: Vec::new(alloc),
+            most,
             room,
         }
     }
 
     fn has_written(&self, expected: &[u8]) -> bool {
-        self.bytes.get(..self.written) == Some(expected)
+        self.bytes.as_slice() == expected
     }
 }
 
 impl Write for Narrow {
     fn write(&mut self, buf: &[u8]) -> io::Result<usize> {
-        let [byte, ..] = buf else { return Ok(0) };
-        if self.written >= self.room || self.written >= 64 {
+        let room = self.room.saturating_sub(self.bytes.len());
+        if room == 0 {
             return Err(ErrorKind::BrokenPipe.into());
         }
-        self.bytes[self.written] = *byte;
-        self.written += 1;
-        Ok(1)
-    }
-
-    fn flush(&mut self) -> io::Result<()> {
-        Ok(())
-    }
-}
-
-/// Takes no byte, and says so.
-#[derive(Drop)]
-struct Full;
-
-impl Write for Full {
-    fn write(&mut self, _: &[u8]) -> io::Result<usize> {
-        Ok(0)
+        let taken = buf.get(..self.most.min(room)).unwrap_or(buf);
+        self.bytes.extend_from_slice(taken)?;
+        Ok(taken.len())
     }
 
     fn flush(&mut self) -> io::Result<()> {
@@ -124,7 +112,7 @@ fn count_messages(alloc: Global, frames: &mut Frames) -> Result<usize, Fault> {
         let Some(message) = taken(frames)? else {
             return Ok(count);
         };
-        let mut writer = Narrow::new(64);
+        let mut writer = Narrow::new(alloc, 1, 64);
         sent(alloc, &mut writer, &message)?;
         if !writer.has_written(FRAME) {
             return Err(Fault::Malformed(0));
@@ -172,7 +160,7 @@ fn read(alloc: Global, frame: &[u8]) -> Result<Option<Message>, Fault> {
 
 /// Whether the frame is what goes out.
 fn goes_out_as(alloc: Global, message: &Message, frame: &[u8]) -> Result<bool, Fault> {
-    let mut narrow = Narrow::new(64);
+    let mut narrow = Narrow::new(alloc, 1, 64);
     sent(alloc, &mut narrow, message)?;
     Ok(narrow.has_written(frame))
 }
@@ -250,20 +238,99 @@ fn faulty_frames_close(rt: HostRuntime) -> Result<(), Fail> {
 fn frames_go_out_whole(rt: HostRuntime) -> Result<(), Fail> {
     let alloc = rt.alloc();
     let message = message(alloc)?;
-    let mut narrow = Narrow::new(64);
+    let mut narrow = Narrow::new(alloc, 1, 64);
     sent(alloc, &mut narrow, &message)?;
     assert!(rt; narrow.has_written(FRAME));
 
-    let mut narrow = Narrow::new(17);
+    let mut narrow = Narrow::new(alloc, 1, 17);
     assert_eq!(rt;
         sent(alloc, &mut narrow, &message),
         Err(Fault::WriteFailed(17))
     );
     assert!(rt; narrow.has_written(&FRAME[..17]));
 
+    // It takes no byte, and says so.
+    let mut full = Narrow::new(alloc, 0, 64);
     assert_eq!(rt;
-        sent(alloc, &mut Full, &message),
+        sent(alloc, &mut full, &message),
         Err(Fault::WriteFailed(0))
     );
+    Ok(())
+}
+
+/// A frame of 65,536 bytes: a delta of 1,310 entries of 50 bytes and one of 15, behind 15 of its payload.
+fn greatest_frame(alloc: Global) -> Result<Vec<u8>, AllocError> {
+    let mut frame = Vec::new(alloc);
+    frame.extend_from_slice(b"\xa7\x01\x00\x00\xff\xfa\x03\x00\x01\x01a")?;
+    frame.extend_from_slice(b"\x00\x00\x00\x00\x00\x00\x00\x00\x05\x1f")?;
+    for version in 1..=1_310u64 {
+        frame.push(b'\x20')?;
+        frame.extend_from_slice(format!(in alloc; "{version:032}")?.as_bytes())?;
+        frame.extend_from_slice(&version.to_be_bytes())?;
+        frame.extend_from_slice(b"\x02\x00\x00\x00\x00\x00\x00\x00\x05")?;
+    }
+    frame.extend_from_slice(b"\x05zzzzz\x00\x00\x00\x00\x00\x00\x05\x1f\x00")?;
+    Ok(frame)
+}
+
+/// The message of a frame that comes in pieces of so many bytes; nothing where it comes before the last.
+fn read_in_pieces(alloc: Global, frame: &[u8], most: usize) -> Result<Option<Message>, Fault> {
+    let mut frames = Frames::new(alloc);
+    for piece in frame.chunks(most.max(1)) {
+        if taken(&mut frames)?.is_some() {
+            return Ok(None);
+        }
+        fed(&mut frames, piece)?;
+    }
+    taken(&mut frames)
+}
+
+#[test]
+fn the_greatest_frame(rt: HostRuntime) -> Result<(), Fail> {
+    let alloc = rt.alloc();
+    let frame = greatest_frame(alloc)?;
+    assert_eq!(rt; frame.len(), 65_536);
+    let Some(message) = read_in_pieces(alloc, &frame, 4_099)? else {
+        return Err("no message".into());
+    };
+    for most in [1, 7, 4_096] {
+        let mut narrow = Narrow::new(alloc, most, 65_536);
+        sent(alloc, &mut narrow, &message)?;
+        assert!(rt; narrow.has_written(&frame), "{most}");
+    }
+    Ok(())
+}
+
+/// What a writer with room for so many bytes gives a message, and whether its last write is said to have failed.
+fn told(alloc: Global, room: usize, message: &Message) -> (Result<(), Fault>, bool) {
+    let mut last = LastWrite::new();
+    let mut narrow = Narrow::new(alloc, 7, room);
+    let answer = send_telling(alloc, &mut narrow, message, &mut last);
+    (answer, last.has_failed())
+}
+
+#[test]
+fn what_the_last_write_answered(rt: HostRuntime) -> Result<(), Fail> {
+    let alloc = rt.alloc();
+    let message = message(alloc)?;
+    for (room, expected) in [
+        (40, (Ok(()), false)),
+        (39, (Err(Fault::WriteFailed(39)), true)),
+        (0, (Err(Fault::WriteFailed(0)), true)),
+    ] {
+        assert_eq!(rt; told(alloc, room, &message), expected);
+    }
+    Ok(())
+}
+
+/// The lines of the example that stands at `Frames`.
+#[test]
+fn the_example_of_frames(rt: HostRuntime) -> Result<(), Fail> {
+    let mut frames = Frames::new(rt.alloc());
+    frames.feed(b"\xa7\x01\x00\x00\x00")?;
+    assert!(rt; frames.next()?.is_none());
+    frames.feed(b"\x02\x04\x01")?;
+    let message = frames.next()?;
+    assert!(rt; matches!(&message, Some(Message::Bye(bye)) if bye.reason() == 1));
     Ok(())
 }

@@ -1,3 +1,5 @@
+//! The question for rows.
+
 use sb_types::{Key, Name, Prefix};
 
 /// Which rows are asked for: those of the owner, of every owner where there is none, under keys that

@@ -1,3 +1,5 @@
+//! The end of a session, and its reason.
+
 ghost use Rattle.std.specs.Prelude.{◌≡◌, true, if◌then◌else◌, Ok, Err};
 ghost use Rattle.sb_codec.specs.Limits.{is_reason};
 

@@ -1,3 +1,5 @@
+//! The answer to a write that was made.
+
 ghost use Rattle.std.specs.Prelude.{◌≡◌, true, if◌then◌else◌, Ok, Err};
 ghost use Rattle.sb_codec.specs.Limits.{is_version};
 

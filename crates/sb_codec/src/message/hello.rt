@@ -1,3 +1,5 @@
+//! The greeting of each end: its cluster and its name.
+
 use sb_types::Name;
 
 /// Of which cluster a node is, and its name.

@@ -1,3 +1,5 @@
+//! The answer to what was refused.
+
 ghost use Rattle.std.specs.Prelude.{◌≡◌, true, if◌then◌else◌, Ok, Err};
 ghost use Rattle.sb_codec.specs.Limits.{is_fault_number};
 

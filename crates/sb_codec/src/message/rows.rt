@@ -1,3 +1,5 @@
+//! Rows, and pages of them.
+
 ghost use Rattle.std.specs.Prelude.{◌≡◌, ◌≤◌, ◌&&◌, [], nat_le, true, Some, None, OnSome, if◌then◌else◌, Ok, Err};
 ghost use Rattle.std.specs.List.{list_all};
 ghost use Rattle.sb_codec.specs.Records.{row_of, rows_of};

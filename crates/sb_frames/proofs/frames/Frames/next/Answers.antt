@@ -10,7 +10,7 @@ returns-in-Ok-Some c =
     let held = drop c.self.inside.taken c.self.inside.bytes.items in
     let was : c.args.self.now ≡ open_with held = sym c.self.view_is ∙ rw c.if-self.false refl in
     let leads = rw (c.in-Ok-Some.field-0-is, take_rest, c.deref.ensures.value) at c.in-Ok-Some.ensures.leads in
-    rw (was, c.if-self.false, ← drop-drop c.in-Ok-Some.length c.self.inside.taken c.self.inside.bytes.items) (takes_message held c.in-Ok-Some.message c.in-Ok-Some.length leads)
+    rw (was, c.if-self.false, c.let_go-self-inside.ensures.held, ← drop-drop c.in-Ok-Some.length c.self.inside.taken c.self.inside.bytes.items) (takes_message held c.in-Ok-Some.message c.in-Ok-Some.length leads)
 
 pub returns-after-matches : goal.returns-after-matches
 returns-after-matches c =
