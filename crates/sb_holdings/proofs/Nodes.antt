@@ -14,7 +14,7 @@ use Rattle.sb_holdings.specs.declared.ends.BlockEnd.{BlockEnd}
 use Rattle.sb_holdings.specs.declared.ends.BlockEnd.TheVariants.{Own, OwnAhead, Gap, Stale, OwnersFull, Taken, TooManyKeys, NoMemory}
 use Rattle.sb_holdings.specs.Held.{Held, nothing, is_nothing, holder_of, with_holder, held_after_taking}
 use Rattle.sb_holdings.specs.Nodes.{Node, held_by, NodeEvent, Wrote, Took, node_after_event, replay_node, IsNodeEvent, TrueAt, AreNodeEvents, AllTrueAt, IsNode}
-use Rattle.sb_holdings.proofs.Lists.{same_text}
+use Rattle.sb_types.proofs.Texts.{same_text}
 use Rattle.sb_holdings.proofs.Steps.{Step, unchanged, two_steps}
 use Rattle.sb_holdings.proofs.Joining.{own_step}
 use Rattle.sb_holdings.proofs.Treating.{treat_step}

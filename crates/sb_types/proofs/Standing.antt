@@ -1,13 +1,13 @@
 -- What stands in a list, and in the parts of a list of entries.
 use Rattle.std.proofs.Common.{◌≡◌, ℕ, suc, zero, ◌<◌, ◌≤◌, Bool, true, false, cond, not, ◌||◌, List, [], ◌∷◌, ◌++◌, take, filter, ◌⊎◌, inl, inr, ⊎_elim, refl, sym, ap, ◌∙◌, nat_eq, nat_lt, lt-ltb, ltb-true, le-leb, leb-true, ltb-false}
 use Rattle.std.proofs.lemmas.Bool.{or_cases, or_left, or_right, not-true, cases_Bool, false_from_ne_true, false≢true}
-use Rattle.std.specs.Cmp.{unsigned_Decides}
-use Rattle.std.specs.Cmp.Lexicographic.{pointwise, pointwise_decides}
+use Rattle.std.specs.Cmp.Lexicographic.{pointwise}
 use Rattle.sb_types.specs.declared.entry.Slot.{Slot}
 use Rattle.sb_types.specs.declared.entry.Slot.TheVariants.{Set, Removed}
 use Rattle.sb_types.specs.Records.{Entry}
 use Rattle.sb_types.specs.Runs.{Stands, has_key, above, up_to, without, under_keys_of, is_set, live, entered}
 use Rattle.sb_types.specs.Writes.{Gone}
+use Rattle.sb_types.proofs.Texts.{same_text, text_same}
 
 module _ {X : Type 0} where
   pub left : (xs ys : List X) (e : X) → Stands xs e → Stands (xs ++ ys) e
@@ -52,12 +52,6 @@ module _ {X : Type 0} where
       (chosen (p x) x (filter p xs) e s)
 
 -- ---- keys
-
-pub same_text : (a b : List ℕ) → pointwise nat_eq a b ≡ true → a ≡ b
-same_text a b = (pointwise_decides unsigned_Decides a b).0
-
-pub text_same : (a b : List ℕ) → a ≡ b → pointwise nat_eq a b ≡ true
-text_same a b = (pointwise_decides unsigned_Decides a b).1
 
 pub keyed : (key : List ℕ) (es : List Entry) → has_key key es ≡ true → (e : Entry) × Stands es e × (e.key ≡ key)
 keyed key [] h = absurd (false≢true h)
