@@ -1,5 +1,5 @@
 -- An item put to its owner's block among blocks in order of their owners.
-use Rattle.std.proofs.Common.{◌≡◌, ℕ, zero, suc, ◌+◌, ◌<◌, ◌≤◌, Bool, true, List, [], ◌∷◌, ◌++◌, length, get_or, set, refl, sym, ap, ◌∙◌, arith, add-one, Result, Ok, Err, Ordering, Less, Equal, Greater, is_lt, true≢false}
+use Rattle.std.proofs.Common.{◌≡◌, ℕ, zero, suc, ◌+◌, ◌<◌, ◌≤◌, Bool, true, List, [], ◌∷◌, ◌++◌, length, get_or, set, refl, sym, ap, ◌∙◌, arith, add-one, Result, Ok, Err, Ordering, Less, Equal, Greater, is_lt}
 use Rattle.std.specs.Prelude.{sum_by, insert}
 use Rattle.std.specs.Ordering.{nat_cmp, is_eq, ordering_reverse, match_ordering}
 use Rattle.std.specs.Cmp.Lexicographic.{slice_cmp, texts_ties}
