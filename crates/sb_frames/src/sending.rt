@@ -24,8 +24,13 @@ pub fn frame_of(alloc: Global, message: &Message) -> Result<Vec<u8>, Fault>
     Ok(frame)
 }
 
-/// Writes all of the bytes, or says how many were written.
-fn write_counted<W: Write>(writer: &mut W, bytes: &[u8], last: &mut LastWrite) -> Result<(), Fault>
+/// Writes all of the bytes, and tells in `last` what the last write answered. `WriteFailed` with how many were
+/// written, always fewer than all. A write that takes no byte has failed.
+pub fn write_counted<W: Write>(
+    writer: &mut W,
+    bytes: &[u8],
+    last: &mut LastWrite,
+) -> Result<(), Fault>
     ensures sends { Sends (W.contents writer.old) (W.contents writer.new) bytes.now result }
     ensures failed { OnlyWhereFailed result last.new }
 {

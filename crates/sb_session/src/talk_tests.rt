@@ -1,0 +1,310 @@
+ghost use Rattle.std.specs.Prelude.{◌≡◌, ◌<◌};
+
+use crate::tests::{
+    ASK, BYE, DELTA_B, DELTA_NONE, DIGEST_A, DIGEST_B, DONE, HELLO_A, HELLO_B, HELLO_C2, Node, PUT,
+    REFUSED, ROWS, joined,
+};
+use crate::{Ended, Session, dial, serve};
+use sb_frames::Steps;
+use sb_types::{Fault, Name};
+use std::io::{self, ErrorKind, Read, Write};
+use std::marker::Brand;
+use std::sync::ledger::{Blank, Ledger};
+use std::test::Fail;
+
+/// Gives so many bytes a read, and fails at the end or not. Every other read is interrupted.
+#[derive(Drop)]
+struct Pieces<'a> {
+    bytes: &'a [u8],
+    piece: usize,
+    breaks: bool,
+    interrupts: bool,
+}
+
+impl Read for Pieces<'_> {
+    fn read(&mut self, buf: &mut [u8]) -> io::Result<usize> {
+        self.interrupts = !self.interrupts;
+        if self.interrupts {
+            return Err(ErrorKind::Interrupted.into());
+        }
+        if self.bytes.is_empty() && self.breaks {
+            return Err(ErrorKind::ConnectionReset.into());
+        }
+        let count = self.piece.min(buf.len()).min(self.bytes.len());
+        let (front, rest) = self.bytes.split_at(count);
+        buf[..count].copy_from_slice(front);
+        self.bytes = rest;
+        Ok(count)
+    }
+}
+
+/// Takes a few bytes in each write, and fails once it has no room.
+#[derive(Drop)]
+struct Room {
+    bytes: [u8; 128],
+    written: usize,
+    room: usize,
+}
+
+impl Room {
+    fn new(room: usize) -> Room {
+        Room {
+            bytes: [0; 128],
+            written: 0,
+            room,
+        }
+    }
+
+    /// Whether these pieces were written, one after the other, up to the room.
+    fn has_written(&self, pieces: &[&[u8]]) -> bool {
+        let mut at = 0;
+        for piece in pieces {
+            for byte in *piece {
+                if at >= self.room || at >= 128 {
+                    return self.written == at;
+                }
+                if self.bytes[at] != *byte {
+                    return false;
+                }
+                at += 1;
+            }
+        }
+        self.written == at
+    }
+}
+
+impl Write for Room {
+    fn write(&mut self, buf: &[u8]) -> io::Result<usize> {
+        let [byte, ..] = buf else { return Ok(0) };
+        if self.written >= self.room || self.written >= 128 {
+            return Err(ErrorKind::BrokenPipe.into());
+        }
+        self.bytes[self.written] = *byte;
+        self.written += 1;
+        Ok(1)
+    }
+
+    fn flush(&mut self) -> io::Result<()> {
+        Ok(())
+    }
+}
+
+/// What a talk has to go on: the peer's bytes, how many come in a read, whether the reader fails after them,
+/// how many bytes may be written, how many reads may be made, and the rounds of one that dials.
+#[derive(Clone, Copy)]
+struct Terms<'a> {
+    bytes: &'a [u8],
+    piece: usize,
+    breaks: bool,
+    room: usize,
+    reads: u64,
+    rounds: Option<u64>,
+}
+
+/// The terms of one that serves with ample reads and room.
+fn serving(bytes: &[u8]) -> Terms<'_> {
+    Terms {
+        bytes,
+        piece: 7,
+        breaks: false,
+        room: 128,
+        reads: 1_000,
+        rounds: None,
+    }
+}
+
+/// The terms of one that dials.
+fn dialing(bytes: &[u8], rounds: u64) -> Terms<'_> {
+    Terms {
+        rounds: Some(rounds),
+        ..serving(bytes)
+    }
+}
+
+fn talk_on<L: Ledger>(
+    node: &mut Node,
+    writer: &mut Room,
+    session: Session,
+    terms: Terms<'_>,
+    blank: Blank,
+) -> Result<Ended, Fault>
+    requires name { blank.name ≡ L.name }
+    requires parts { blank.parts ≡ L.parts }
+    requires some { 0 < blank.parts }
+{
+    let alloc = node.alloc;
+    let mut steps = Steps::<L>::new(blank);
+    let mut reader = Pieces {
+        bytes: terms.bytes,
+        piece: terms.piece,
+        breaks: terms.breaks,
+        interrupts: false,
+    };
+    match terms.rounds {
+        None => serve(
+            alloc,
+            &mut reader,
+            writer,
+            session,
+            node,
+            terms.reads,
+            &mut steps,
+        ),
+        Some(rounds) => dial(
+            alloc,
+            &mut reader,
+            writer,
+            session,
+            node,
+            rounds,
+            terms.reads,
+            &mut steps,
+        ),
+    }
+}
+
+/// A whole talk of a node of the cluster c1.
+fn talk(node: &mut Node, writer: &mut Room, terms: Terms<'_>) -> Result<Ended, Fault> {
+    let session = Session::new(Name::read(b"c1")?, *node.holdings.me());
+    talk_on::<Brand>(node, writer, session, terms, Blank::new(1))
+}
+
+#[test]
+fn one_end_answers_until_bye(rt: HostRuntime) -> Result<(), Fail> {
+    let alloc = rt.alloc();
+    let input = joined(alloc, &[HELLO_A, DIGEST_A, BYE])?;
+    let written: [&[u8]; 3] = [HELLO_B, DELTA_B, DIGEST_B];
+    for piece in [1usize, 7, 42, 4_096] {
+        let mut node = Node::new(alloc, b"b", true)?;
+        let mut writer = Room::new(128);
+        let terms = Terms {
+            piece,
+            ..serving(&input)
+        };
+        assert_eq!(rt; talk(&mut node, &mut writer, terms), Ok(Ended::Bye(1)));
+        assert!(rt; writer.has_written(&written));
+        assert_eq!(rt; writer.written, 67);
+    }
+    Ok(())
+}
+
+#[test]
+fn writers_and_readers_fail(rt: HostRuntime) -> Result<(), Fail> {
+    let alloc = rt.alloc();
+    let input = joined(alloc, &[HELLO_A, DIGEST_A, BYE])?;
+    let written: [&[u8]; 3] = [HELLO_B, DELTA_B, DIGEST_B];
+    for (room, count) in [(20usize, 8), (12, 0), (45, 0), (0, 0), (66, 21)] {
+        let mut node = Node::new(alloc, b"b", true)?;
+        let mut writer = Room::new(room);
+        let terms = serving(&input);
+        assert_eq!(rt;
+            talk(&mut node, &mut writer, terms),
+            Err(Fault::WriteFailed(count))
+        );
+        assert!(rt; writer.has_written(&written));
+    }
+    // The reader fails behind the Hello, between and inside frames; the reads are spent.
+    for (length, breaks, reads, fault, count) in [
+        (12usize, true, 1_000, Fault::ReadFailed, 12usize),
+        (20, true, 1_000, Fault::ReadFailed, 12),
+        (34, true, 1_000, Fault::ReadFailed, 67),
+        (20, false, 1_000, Fault::Truncated, 12),
+        (34, false, 0, Fault::TurnsSpent, 12),
+        (34, false, 3, Fault::TurnsSpent, 12),
+    ] {
+        let mut node = Node::new(alloc, b"b", true)?;
+        let mut writer = Room::new(128);
+        let terms = Terms {
+            breaks,
+            reads,
+            ..serving(input.get(..length).unwrap_or(&[]))
+        };
+        assert_eq!(rt; talk(&mut node, &mut writer, terms), Err(fault));
+        assert_eq!(rt; writer.written, count);
+    }
+    Ok(())
+}
+
+#[test]
+fn the_other_end_asks(rt: HostRuntime) -> Result<(), Fail> {
+    let alloc = rt.alloc();
+    let mut node = Node::new(alloc, b"b", true)?;
+    let mut writer = Room::new(128);
+    assert_eq!(rt;
+        talk(&mut node, &mut writer, dialing(&[], 0)),
+        Ok(Ended::RoundsDone)
+    );
+    assert!(rt; writer.has_written(&[HELLO_B, BYE]));
+    assert_eq!(rt; writer.written, 20);
+
+    let input = joined(alloc, &[HELLO_B, DELTA_B, DIGEST_B])?;
+    let mut node = Node::new(alloc, b"a", false)?;
+    let mut writer = Room::new(128);
+    assert_eq!(rt;
+        talk(&mut node, &mut writer, dialing(&input, 1)),
+        Ok(Ended::RoundsDone)
+    );
+    assert!(rt; writer.has_written(&[HELLO_A, DIGEST_A, DELTA_NONE, BYE]));
+    assert_eq!(rt; writer.written, 51);
+    assert_eq!(rt; node.upto(b"b")?, 1);
+
+    // A second round asks again, and the peer's bytes end.
+    let mut node = Node::new(alloc, b"a", false)?;
+    let mut writer = Room::new(128);
+    assert_eq!(rt;
+        talk(&mut node, &mut writer, dialing(&input, 2)),
+        Ok(Ended::End)
+    );
+    assert_eq!(rt; writer.written, 12 + 22 + 9 + 32);
+    Ok(())
+}
+
+#[test]
+fn faulty_talks_end(rt: HostRuntime) -> Result<(), Fail> {
+    let alloc = rt.alloc();
+    let cases: [(&[&[u8]], Fault); 11] = [
+        (&[DIGEST_A], Fault::NoHello),
+        (&[BYE], Fault::NoHello),
+        (&[HELLO_C2], Fault::WrongCluster),
+        (&[HELLO_B], Fault::SameName),
+        (&[HELLO_A, HELLO_A], Fault::SecondHello),
+        (&[HELLO_A, HELLO_C2], Fault::SecondHello),
+        (&[b"\xa6"], Fault::BadMark),
+        (&[HELLO_A, b"\xa7\x09"], Fault::BadVersion),
+        (&[HELLO_A, b"\xa7\x01\x00\x00\x00\x00"], Fault::BadLength),
+        (&[b"\xa7\x01\x00\x00\x00\x01\x55"], Fault::UnknownKind(0x55)),
+        (
+            &[HELLO_A, b"\xa7\x01\x00\x00\x00\x02\x04\x06"],
+            Fault::Malformed(4),
+        ),
+    ];
+    for (pieces, fault) in cases {
+        let input = joined(alloc, pieces)?;
+        for (terms, length) in [(serving(&input), 12usize), (dialing(&input, 1), 34)] {
+            let mut node = Node::new(alloc, b"b", false)?;
+            let mut writer = Room::new(128);
+            assert_eq!(rt;
+                talk(&mut node, &mut writer, terms),
+                Err(fault),
+                "{pieces:?}"
+            );
+            assert_eq!(rt; writer.written, length);
+        }
+    }
+    for (control, kind) in [
+        (ASK, 0x10u8),
+        (ROWS, 0x11),
+        (PUT, 0x12),
+        (DONE, 0x13),
+        (REFUSED, 0x14),
+    ] {
+        for greeting in [b"".as_slice(), HELLO_A] {
+            let input = joined(alloc, &[greeting, control])?;
+            let mut node = Node::new(alloc, b"b", false)?;
+            let mut writer = Room::new(128);
+            let answer = talk(&mut node, &mut writer, serving(&input));
+            assert_eq!(rt; answer, Err(Fault::UnknownKind(kind)));
+        }
+    }
+    Ok(())
+}
