@@ -16,7 +16,7 @@ pub use laws::{
     parts_of_frames_are_short, pieces_do_not_matter, streams_have_one_reading, verdicts_stand,
 };
 pub use receiving::{receive, receive_within};
-pub use sending::{frame_of, send, send_telling, write_counted};
+pub use sending::{frame_of, send, send_from, send_telling, write_counted};
 pub use steps::Steps;
 
 #[cfg(test)]

@@ -13,6 +13,18 @@ use Rattle.sb_session.specs.declared.replies.Replies.TheVariants.{Greeted, Answe
 use Rattle.sb_session.specs.Handlers.{Act, tells, gives, applies}
 use Rattle.sb_session.specs.Sessions.{Session, in_phase, with_cursor, refusal_of}
 
+-- the faults of a message that is taken, and of a digest that is asked with
+abbrev pub is_session_fault : Fault → Bool
+is_session_fault faults.Closed = true
+is_session_fault (faults.UnknownKind kind) = true
+is_session_fault faults.NoHello = true
+is_session_fault faults.SecondHello = true
+is_session_fault faults.WrongCluster = true
+is_session_fault faults.SameName = true
+is_session_fault faults.TurnsSpent = true
+is_session_fault faults.NoMemory = true
+is_session_fault _ = false
+
 -- the messages that are to be sent, in order
 abbrev pub messages_of : Replies → List Message
 messages_of Greeted = []

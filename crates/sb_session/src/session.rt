@@ -1,7 +1,7 @@
-ghost use Rattle.std.specs.Prelude.{◌≡◌, Err, OnErr};
+ghost use Rattle.std.specs.Prelude.{◌≡◌, true, Err, OnErr, IfErr};
 ghost use Rattle.sb_session.specs.declared.session.Phase.TheVariants as phases;
 ghost use Rattle.sb_session.specs.Sessions.{new_session, hello_of, in_phase, greeting_refusal};
-ghost use Rattle.sb_session.specs.Taking.{Takes, Asks, Greets, AnswersDigest};
+ghost use Rattle.sb_session.specs.Taking.{is_session_fault, Takes, Asks, Greets, AnswersDigest};
 
 use crate::handler::Handler;
 use crate::replies::Replies;
@@ -69,6 +69,7 @@ impl Session {
     /// and `NoMemory`, with the session unchanged.
     pub fn ask<H: Handler>(&mut self, handler: &mut H) -> Result<Message, Fault>
         ensures asks { Asks H.step self.old handler.old result self.new handler.new }
+        ensures fault { IfErr result (λ fault. is_session_fault fault ≡ true) }
         ensures stays { H.stays handler.old handler.new }
         ensures grows { H.grows handler.old handler.new }
     {
@@ -86,6 +87,7 @@ impl Session {
     /// the session unchanged and nothing entered; the message is lost.
     pub fn take<H: Handler>(&mut self, message: Message, handler: &mut H) -> Result<Replies, Fault>
         ensures takes { Takes H.step self.old handler.old message result self.new handler.new }
+        ensures fault { IfErr result (λ fault. is_session_fault fault ≡ true) }
         ensures stays { OnErr result (H.stays handler.old handler.new) }
         ensures grows { H.grows handler.old handler.new }
     {
@@ -119,7 +121,8 @@ impl Session {
 
     /// Takes the first Hello.
     fn greet(&mut self, hello: &Hello) -> Result<Replies, Fault>
-        ensures { Greets (greeting_refusal self.old hello.now) self.old result self.new }
+        ensures greets { Greets (greeting_refusal self.old hello.now) self.old result self.new }
+        ensures fault { IfErr result (λ fault. is_session_fault fault ≡ true) }
     {
         if hello.cluster != self.cluster {
             return self.refuse(Fault::WrongCluster);
@@ -135,6 +138,7 @@ impl Session {
     /// is sent.
     fn answer<H: Handler>(&mut self, told: &Digest, handler: &mut H) -> Result<Replies, Fault>
         ensures answers { AnswersDigest H.step self.old handler.old told.now told.now.want result self.new handler.new }
+        ensures fault { IfErr result (λ fault. is_session_fault fault ≡ true) }
         ensures stays { H.stays handler.old handler.new }
         ensures grows { H.grows handler.old handler.new }
     {

@@ -2,6 +2,7 @@
 
 ghost use Rattle.std.specs.Prelude.{◌≡◌, ◌+◌, ℕ, true, false, [], ◌∷◌, Some, None, IfOk};
 ghost use Rattle.sb_frames.specs.Receiving.{held_of};
+ghost use Rattle.sb_frames.specs.Sending.{OnlyWhereFailed};
 ghost use Rattle.sb_session.specs.Telling.{Says};
 ghost use Rattle.sb_session.specs.Taking.{messages_of, bye_of};
 ghost use Rattle.sb_session.specs.Talks.{party_of, ends_round, rounds_after, Hearing, Speaking, Talks};
@@ -10,7 +11,7 @@ use crate::handler::Handler;
 use crate::replies::Replies;
 use crate::session::Session;
 use sb_codec::{Bye, Message};
-use sb_frames::{Frames, Steps, receive_within, send};
+use sb_frames::{Frames, LastWrite, Steps, receive_within, send_from};
 use sb_types::{Fault, REASON_ROUNDS_DONE};
 use std::alloc::Global;
 use std::io::{Read, Write};
@@ -27,27 +28,39 @@ pub enum Ended {
     RoundsDone,
 }
 
-/// Sends one message.
-fn say<W: Write>(alloc: Global, writer: &mut W, message: Message) -> Result<(), Fault>
-    ensures { Says (W.contents writer.old) (W.contents writer.new) (message ∷ []) result }
+/// Sends one message, out of the buffer of all frames of a talk.
+fn say<W: Write>(
+    buffer: &mut Vec<u8>,
+    writer: &mut W,
+    last: &mut LastWrite,
+    message: Message,
+) -> Result<(), Fault>
+    ensures says { Says (W.contents writer.old) (W.contents writer.new) (message ∷ []) result }
+    ensures failed { OnlyWhereFailed result last.new }
 {
-    send(alloc, writer, &message)
+    send_from(buffer, writer, &message, last)
 }
 
 /// Sends what comes of a message that was taken, and gives the reason of a Bye.
-fn reply<W: Write>(alloc: Global, writer: &mut W, replies: Replies) -> Result<Option<u8>, Fault>
+fn reply<W: Write>(
+    buffer: &mut Vec<u8>,
+    writer: &mut W,
+    last: &mut LastWrite,
+    replies: Replies,
+) -> Result<Option<u8>, Fault>
     ensures says { Says (W.contents writer.old) (W.contents writer.new) (messages_of replies) result }
     ensures bye { IfOk result (λ bye. bye ≡ bye_of replies) }
+    ensures failed { OnlyWhereFailed result last.new }
 {
     match replies {
         Replies::Greeted | Replies::Applied(_) => Ok(None),
         Replies::Answered(delta) => {
-            say(alloc, writer, Message::Delta(delta))?;
+            say(buffer, writer, last, Message::Delta(delta))?;
             Ok(None)
         }
         Replies::Exchanged(delta, digest) => {
-            say(alloc, writer, Message::Delta(delta))?;
-            say(alloc, writer, Message::Digest(digest))?;
+            say(buffer, writer, last, Message::Delta(delta))?;
+            say(buffer, writer, last, Message::Digest(digest))?;
             Ok(None)
         }
         Replies::Ended(bye) => Ok(Some(bye.reason())),
@@ -56,39 +69,43 @@ fn reply<W: Write>(alloc: Global, writer: &mut W, replies: Replies) -> Result<Op
 
 /// Takes a message and answers it, and gives the reason of a Bye.
 fn hear<W: Write, H: Handler>(
-    alloc: Global,
+    buffer: &mut Vec<u8>,
     writer: &mut W,
+    last: &mut LastWrite,
     session: &mut Session,
     handler: &mut H,
     message: Message,
 ) -> Result<Option<u8>, Fault>
     ensures hears { Hearing H.step message session.old handler.old session.new handler.new (W.contents writer.old) (W.contents writer.new) result }
+    ensures failed { OnlyWhereFailed result last.new }
     ensures grows { H.grows handler.old handler.new }
 {
     let replies = session.take(message, handler)?;
-    reply(alloc, writer, replies)
+    reply(buffer, writer, last, replies)
 }
 
 /// Says what this end is to say unasked, and whether its rounds are done.
 fn speak<W: Write, H: Handler>(
-    alloc: Global,
+    buffer: &mut Vec<u8>,
     writer: &mut W,
+    last: &mut LastWrite,
     session: &mut Session,
     handler: &mut H,
     rounds: Option<u64>,
 ) -> Result<bool, Fault>
     ensures speaks { Speaking H.step rounds session.old handler.old session.new handler.new (W.contents writer.old) (W.contents writer.new) result }
+    ensures failed { OnlyWhereFailed result last.new }
     ensures grows { H.grows handler.old handler.new }
 {
     let Some(rounds) = rounds else {
         return Ok(false);
     };
     if rounds == 0 {
-        say(alloc, writer, Message::Bye(Bye::new(REASON_ROUNDS_DONE)?))?;
+        say(buffer, writer, last, Message::Bye(Bye::new(REASON_ROUNDS_DONE)?))?;
         return Ok(true);
     }
     let digest = session.ask(handler)?;
-    say(alloc, writer, digest)?;
+    say(buffer, writer, last, digest)?;
     Ok(false)
 }
 
@@ -121,25 +138,28 @@ fn talk<R: Read, W: Write, H: Handler, L: Ledger>(
     all: Option<u64>,
     max_reads: u64,
     steps: &mut Steps<L>,
+    last: &mut LastWrite,
 ) -> Result<Ended, Fault>
     ensures talks { (left : ℕ) × Talks H.step (party_of true all first handler.old) handler.new (R.remaining reader.old) (R.remaining reader.new)
         (W.contents writer.old) (W.contents writer.new) max_reads left result × (steps.new + left ≡ steps.old + max_reads) }
+    ensures failed { OnlyWhereFailed result last.new }
     ensures grows { H.grows handler.old handler.new }
 {
     let (mut session, mut rounds, mut left) = (first, all, max_reads);
     let mut frames = Frames::new(alloc);
-    say(alloc, writer, session.hello())?;
-    if speak(alloc, writer, &mut session, handler, rounds)? {
+    let mut buffer = Vec::new(alloc);
+    say(&mut buffer, writer, last, session.hello())?;
+    if speak(&mut buffer, writer, last, &mut session, handler, rounds)? {
         return Ok(Ended::RoundsDone);
     }
     while let Some(message) = receive_within(reader, &mut frames, &mut left, steps)? {
         let ends = ends_round(&message);
-        if let Some(reason) = hear(alloc, writer, &mut session, handler, message)? {
+        if let Some(reason) = hear(&mut buffer, writer, last, &mut session, handler, message)? {
             return Ok(Ended::Bye(reason));
         }
         rounds = rounds_after(ends, rounds);
         if ends {
-            if speak(alloc, writer, &mut session, handler, rounds)? {
+            if speak(&mut buffer, writer, last, &mut session, handler, rounds)? {
                 return Ok(Ended::RoundsDone);
             }
         }
@@ -154,6 +174,7 @@ fn talk<R: Read, W: Write, H: Handler, L: Ledger>(
 /// peer's bytes; `WriteFailed` with how many bytes of the frame that was being written are out; `NoHello`,
 /// `WrongCluster`, `SameName` and `SecondHello` of the peer's messages; `TurnsSpent` where one more read
 /// is needed, or the handler's; `NoMemory`, with whole frames written. What was applied before stands.
+/// `last` tells what the last write answered.
 pub fn serve<R: Read, W: Write, H: Handler, L: Ledger>(
     alloc: Global,
     reader: &mut R,
@@ -162,13 +183,15 @@ pub fn serve<R: Read, W: Write, H: Handler, L: Ledger>(
     handler: &mut H,
     max_reads: u64,
     steps: &mut Steps<L>,
+    last: &mut LastWrite,
 ) -> Result<Ended, Fault>
     ensures talks { (left : ℕ) × Talks H.step (party_of true None session handler.old) handler.new (R.remaining reader.old) (R.remaining reader.new)
         (W.contents writer.old) (W.contents writer.new) max_reads left result × (steps.new + left ≡ steps.old + max_reads) }
+    ensures failed { OnlyWhereFailed result last.new }
     ensures grows { H.grows handler.old handler.new }
 {
     talk(
-        alloc, reader, writer, session, handler, None, max_reads, steps,
+        alloc, reader, writer, session, handler, None, max_reads, steps, last,
     )
 }
 
@@ -184,9 +207,11 @@ pub fn dial<R: Read, W: Write, H: Handler, L: Ledger>(
     rounds: u64,
     max_reads: u64,
     steps: &mut Steps<L>,
+    last: &mut LastWrite,
 ) -> Result<Ended, Fault>
     ensures talks { (left : ℕ) × Talks H.step (party_of true (Some rounds) session handler.old) handler.new (R.remaining reader.old) (R.remaining reader.new)
         (W.contents writer.old) (W.contents writer.new) max_reads left result × (steps.new + left ≡ steps.old + max_reads) }
+    ensures failed { OnlyWhereFailed result last.new }
     ensures grows { H.grows handler.old handler.new }
 {
     talk(
@@ -198,5 +223,6 @@ pub fn dial<R: Read, W: Write, H: Handler, L: Ledger>(
         Some(rounds),
         max_reads,
         steps,
+        last,
     )
 }

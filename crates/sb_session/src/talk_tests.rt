@@ -5,7 +5,7 @@ use crate::tests::{
     REFUSED, ROWS, joined,
 };
 use crate::{Ended, Session, dial, serve};
-use sb_frames::Steps;
+use sb_frames::{LastWrite, Steps};
 use sb_types::{Fault, Name};
 use std::io::{self, ErrorKind, Read, Write};
 use std::marker::Brand;
@@ -126,6 +126,7 @@ fn talk_on<L: Ledger>(
     writer: &mut Room,
     session: Session,
     terms: Terms<'_>,
+    last: &mut LastWrite,
     blank: Blank,
 ) -> Result<Ended, Fault>
     requires name { blank.name ≡ L.name }
@@ -149,6 +150,7 @@ fn talk_on<L: Ledger>(
             node,
             terms.reads,
             &mut steps,
+            last,
         ),
         Some(rounds) => dial(
             alloc,
@@ -159,14 +161,25 @@ fn talk_on<L: Ledger>(
             rounds,
             terms.reads,
             &mut steps,
+            last,
         ),
     }
 }
 
+/// A whole talk of a node of the cluster c1, and what its last write answered.
+fn talk_telling(
+    node: &mut Node,
+    writer: &mut Room,
+    terms: Terms<'_>,
+    last: &mut LastWrite,
+) -> Result<Ended, Fault> {
+    let session = Session::new(Name::read(b"c1")?, *node.holdings.me());
+    talk_on::<Brand>(node, writer, session, terms, last, Blank::new(1))
+}
+
 /// A whole talk of a node of the cluster c1.
 fn talk(node: &mut Node, writer: &mut Room, terms: Terms<'_>) -> Result<Ended, Fault> {
-    let session = Session::new(Name::read(b"c1")?, *node.holdings.me());
-    talk_on::<Brand>(node, writer, session, terms, Blank::new(1))
+    talk_telling(node, writer, terms, &mut LastWrite::new())
 }
 
 #[test]
@@ -196,12 +209,13 @@ fn writers_and_readers_fail(rt: HostRuntime) -> Result<(), Fail> {
     for (room, count) in [(20usize, 8), (12, 0), (45, 0), (0, 0), (66, 21)] {
         let mut node = Node::new(alloc, b"b", true)?;
         let mut writer = Room::new(room);
+        let mut last = LastWrite::new();
         let terms = serving(&input);
         assert_eq!(rt;
-            talk(&mut node, &mut writer, terms),
+            talk_telling(&mut node, &mut writer, terms, &mut last),
             Err(Fault::WriteFailed(count))
         );
-        assert!(rt; writer.has_written(&written));
+        assert!(rt; writer.has_written(&written) && last.has_failed());
     }
     // The reader fails behind the Hello, between and inside frames; the reads are spent.
     for (length, breaks, reads, fault, count) in [

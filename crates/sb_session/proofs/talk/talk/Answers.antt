@@ -28,7 +28,7 @@ returns-in_err-say-clause-talks g c =
     let p = err_from_is_err_and c.from_residual.result c.from_residual.ensures.1 in (
       c.args.max_reads,
       rw (p.1, p.2) (hello_cut step a (rem c.args.reader.now) (put c.args.writer.now) (put c.say.new.writer) c.args.max_reads _ (rw c.hello.ensures at
-          c.in_err-say.ensures)),
+          c.in_err-say.ensures.says)),
       refl,
     )
 
@@ -39,7 +39,7 @@ returns-in_err-speak-clause-talks g c =
     let put = g.W.Write.contents in
     let a = party_of true c.args.all c.args.first c.args.handler.now in
     let begun = talk_begins step a c.new-frames.result (rem c.args.reader.now) (put c.args.writer.now) (put c.say.new.writer) c.args.max_reads c.new-frames.ensures (rw
-    c.hello.ensures at c.in_ok-say.ensures) in
+    c.hello.ensures at c.in_ok-say.ensures.says) in
     let p = err_from_is_err_and c.from_residual-in_err-speak.result c.from_residual-in_err-speak.ensures.1 in (
       c.args.max_reads,
       rw (p.1, p.2) (talk_spoke_fault step a c.args.all c.args.first c.args.handler.now c.speak.new.session c.speak.new.handler c.new-frames.result (rem
@@ -55,7 +55,7 @@ returns-then-branch-clause-talks g c =
     let put = g.W.Write.contents in
     let a = party_of true c.args.all c.args.first c.args.handler.now in
     let begun = talk_begins step a c.new-frames.result (rem c.args.reader.now) (put c.args.writer.now) (put c.say.new.writer) c.args.max_reads c.new-frames.ensures (rw
-    c.hello.ensures at c.in_ok-say.ensures) in (
+    c.hello.ensures at c.in_ok-say.ensures.says) in (
       c.args.max_reads,
       talk_done step a c.args.all c.args.first c.args.handler.now c.speak.new.session c.speak.new.handler c.new-frames.result (rem c.args.reader.now) (rem
           c.args.reader.now) (put c.args.writer.now) (put c.say.new.writer) (put c.speak.new.writer) c.args.max_reads c.args.max_reads begun (rw c.if-branch.true at
@@ -63,14 +63,14 @@ returns-then-branch-clause-talks g c =
       refl,
     )
 
-pub loop-frames-init : goal.loop-frames-init
-loop-frames-init g c =
+pub loop-buffer-init : goal.loop-buffer-init
+loop-buffer-init g c =
     let step = g.H.Handler.step in
     let rem = g.R.Read.remaining in
     let put = g.W.Write.contents in
     let a = party_of true c.args.all c.args.first c.args.handler.now in
     let begun = talk_begins step a c.new-frames.result (rem c.args.reader.now) (put c.args.writer.now) (put c.say.new.writer) c.args.max_reads c.new-frames.ensures (rw
-    c.hello.ensures at c.in_ok-say.ensures) in
+    c.hello.ensures at c.in_ok-say.ensures.says) in
     let spoke = rw c.if-branch.false at c.in_ok-speak.ensures.speaks in
     record {
       talking = talk_spoke step a c.args.all c.args.first c.args.handler.now c.speak.new.session c.speak.new.handler c.new-frames.result (rem c.args.reader.now) (rem
@@ -87,19 +87,19 @@ returns-in_err-message-clause-talks g c =
     let rem = g.R.Read.remaining in
     let put = g.W.Write.contents in
     let a = party_of true c.args.all c.args.first c.args.handler.now in
-    let now = party_of false c.loop-frames.rounds c.loop-frames.session c.loop-frames.handler in
+    let now = party_of false c.loop-buffer.rounds c.loop-buffer.session c.loop-buffer.handler in
     let from = rem c.args.reader.now in
     let to = rem c.receive_within.new.reader in
     let old = put c.args.writer.now in
-    let was = put c.loop-frames.writer in
+    let was = put c.loop-buffer.writer in
     let after = c.receive_within.new.frames in
     let less = c.receive_within.new.left in
-    let i = c.loop-frames.invariant in
+    let i = c.loop-buffer.invariant in
     let p = err_from_is_err_and c.from_residual-in_err-message.result c.from_residual-in_err-message.ensures.1 in (
       less,
-      rw (p.1, p.2) (talk_reading step a now c.loop-frames.frames after from (rem c.loop-frames.reader) to old was c.args.max_reads c.loop-frames.left less _ refl i.goes
+      rw (p.1, p.2) (talk_reading step a now c.loop-buffer.frames after from (rem c.loop-buffer.reader) to old was c.args.max_reads c.loop-buffer.left less _ refl i.goes
           i.talking c.in_err-message.ensures.gives),
-      omega (arith, c.loop-frames.invariant.counted, c.receive_within.ensures.counted),
+      omega (arith, c.loop-buffer.invariant.counted, c.receive_within.ensures.counted),
     )
 
 pub returns-in_err-reason-clause-talks : goal.returns-in_err-reason-clause-talks
@@ -108,22 +108,22 @@ returns-in_err-reason-clause-talks g c =
     let rem = g.R.Read.remaining in
     let put = g.W.Write.contents in
     let a = party_of true c.args.all c.args.first c.args.handler.now in
-    let now = party_of false c.loop-frames.rounds c.loop-frames.session c.loop-frames.handler in
+    let now = party_of false c.loop-buffer.rounds c.loop-buffer.session c.loop-buffer.handler in
     let from = rem c.args.reader.now in
     let to = rem c.receive_within.new.reader in
     let old = put c.args.writer.now in
-    let was = put c.loop-frames.writer in
+    let was = put c.loop-buffer.writer in
     let after = c.receive_within.new.frames in
     let less = c.receive_within.new.left in
-    let i = c.loop-frames.invariant in
+    let i = c.loop-buffer.invariant in
     let m = c.in-Some.message in
-    let pending = talk_receives step a now m c.loop-frames.frames after from (rem c.loop-frames.reader) to old was c.args.max_reads c.loop-frames.left less i.talking (rw
+    let pending = talk_receives step a now m c.loop-buffer.frames after from (rem c.loop-buffer.reader) to old was c.args.max_reads c.loop-buffer.left less i.talking (rw
     c.in-Some.is at c.in_ok-message.ensures.gives) in
     let p = err_from_is_err_and c.from_residual-in_err-reason.result c.from_residual-in_err-reason.ensures.1 in (
       less,
-      rw (p.1, p.2) (talk_heard_fault step a c.loop-frames.rounds c.loop-frames.session c.loop-frames.handler c.hear.new.session c.hear.new.handler after from to old was (put
+      rw (p.1, p.2) (talk_heard_fault step a c.loop-buffer.rounds c.loop-buffer.session c.loop-buffer.handler c.hear.new.session c.hear.new.handler after from to old was (put
           c.hear.new.writer) c.args.max_reads less m _ i.goes pending c.in_err-reason.ensures.hears),
-      omega (arith, c.loop-frames.invariant.counted, c.receive_within.ensures.counted),
+      omega (arith, c.loop-buffer.invariant.counted, c.receive_within.ensures.counted),
     )
 
 pub returns-in-Some-2-clause-talks : goal.returns-in-Some-2-clause-talks
@@ -132,23 +132,23 @@ returns-in-Some-2-clause-talks g c =
     let rem = g.R.Read.remaining in
     let put = g.W.Write.contents in
     let a = party_of true c.args.all c.args.first c.args.handler.now in
-    let now = party_of false c.loop-frames.rounds c.loop-frames.session c.loop-frames.handler in
+    let now = party_of false c.loop-buffer.rounds c.loop-buffer.session c.loop-buffer.handler in
     let from = rem c.args.reader.now in
     let to = rem c.receive_within.new.reader in
     let old = put c.args.writer.now in
-    let was = put c.loop-frames.writer in
+    let was = put c.loop-buffer.writer in
     let after = c.receive_within.new.frames in
     let less = c.receive_within.new.left in
-    let i = c.loop-frames.invariant in
+    let i = c.loop-buffer.invariant in
     let m = c.in-Some.message in
-    let pending = talk_receives step a now m c.loop-frames.frames after from (rem c.loop-frames.reader) to old was c.args.max_reads c.loop-frames.left less i.talking (rw
+    let pending = talk_receives step a now m c.loop-buffer.frames after from (rem c.loop-buffer.reader) to old was c.args.max_reads c.loop-buffer.left less i.talking (rw
     c.in-Some.is at c.in_ok-message.ensures.gives) in (
       less,
-      talk_heard_bye step a c.loop-frames.rounds c.loop-frames.session c.loop-frames.handler c.hear.new.session c.hear.new.handler after from to old was (put
+      talk_heard_bye step a c.loop-buffer.rounds c.loop-buffer.session c.loop-buffer.handler c.hear.new.session c.hear.new.handler after from to old was (put
           c.hear.new.writer) c.args.max_reads less m c.in-Some-2.reason i.goes pending (rw c.in-Some-2.is at c.in_ok-reason.ensures.hears),
       omega (
         arith,
-        c.loop-frames.invariant.counted,
+        c.loop-buffer.invariant.counted,
         c.receive_within.ensures.counted,
       ),
     )
@@ -159,20 +159,20 @@ returns-in_err-speak-2-clause-talks g c =
     let rem = g.R.Read.remaining in
     let put = g.W.Write.contents in
     let a = party_of true c.args.all c.args.first c.args.handler.now in
-    let now = party_of false c.loop-frames.rounds c.loop-frames.session c.loop-frames.handler in
+    let now = party_of false c.loop-buffer.rounds c.loop-buffer.session c.loop-buffer.handler in
     let from = rem c.args.reader.now in
     let to = rem c.receive_within.new.reader in
     let old = put c.args.writer.now in
-    let was = put c.loop-frames.writer in
+    let was = put c.loop-buffer.writer in
     let after = c.receive_within.new.frames in
     let less = c.receive_within.new.left in
-    let i = c.loop-frames.invariant in
+    let i = c.loop-buffer.invariant in
     let m = c.in-Some.message in
-    let pending = talk_receives step a now m c.loop-frames.frames after from (rem c.loop-frames.reader) to old was c.args.max_reads c.loop-frames.left less i.talking (rw
+    let pending = talk_receives step a now m c.loop-buffer.frames after from (rem c.loop-buffer.reader) to old was c.args.max_reads c.loop-buffer.left less i.talking (rw
     c.in-Some.is at c.in_ok-message.ensures.gives) in
-    let heard = talk_heard step a c.loop-frames.rounds c.loop-frames.session c.loop-frames.handler c.hear.new.session c.hear.new.handler after from to old was (put
+    let heard = talk_heard step a c.loop-buffer.rounds c.loop-buffer.session c.loop-buffer.handler c.hear.new.session c.hear.new.handler after from to old was (put
     c.hear.new.writer) c.args.max_reads less m i.goes pending (rw c.in_default-2.is at c.in_ok-reason.ensures.hears) in
-    let turned = talk_turns step a m c.ends_round-ends.result true c.loop-frames.rounds c.rounds_after-rounds.result c.hear.new.session c.hear.new.handler after from to old (put
+    let turned = talk_turns step a m c.ends_round-ends.result true c.loop-buffer.rounds c.rounds_after-rounds.result c.hear.new.session c.hear.new.handler after from to old (put
     c.hear.new.writer) c.args.max_reads less
     c.ends_round-ends.ensures c.rounds_after-rounds.ensures c.if-ends.true heard in
     let p = err_from_is_err_and c.from_residual-in_err-speak-2.result c.from_residual-in_err-speak-2.ensures.1 in (
@@ -181,7 +181,7 @@ returns-in_err-speak-2-clause-talks g c =
           after from to old (put c.hear.new.writer) (put c.speak-then-ends.new.writer) c.args.max_reads less _ turned c.in_err-speak-2.ensures.speaks),
       omega (
         arith,
-        c.loop-frames.invariant.counted,
+        c.loop-buffer.invariant.counted,
         c.receive_within.ensures.counted,
       ),
     )
@@ -192,20 +192,20 @@ returns-then-branch-2-clause-talks g c =
     let rem = g.R.Read.remaining in
     let put = g.W.Write.contents in
     let a = party_of true c.args.all c.args.first c.args.handler.now in
-    let now = party_of false c.loop-frames.rounds c.loop-frames.session c.loop-frames.handler in
+    let now = party_of false c.loop-buffer.rounds c.loop-buffer.session c.loop-buffer.handler in
     let from = rem c.args.reader.now in
     let to = rem c.receive_within.new.reader in
     let old = put c.args.writer.now in
-    let was = put c.loop-frames.writer in
+    let was = put c.loop-buffer.writer in
     let after = c.receive_within.new.frames in
     let less = c.receive_within.new.left in
-    let i = c.loop-frames.invariant in
+    let i = c.loop-buffer.invariant in
     let m = c.in-Some.message in
-    let pending = talk_receives step a now m c.loop-frames.frames after from (rem c.loop-frames.reader) to old was c.args.max_reads c.loop-frames.left less i.talking (rw
+    let pending = talk_receives step a now m c.loop-buffer.frames after from (rem c.loop-buffer.reader) to old was c.args.max_reads c.loop-buffer.left less i.talking (rw
     c.in-Some.is at c.in_ok-message.ensures.gives) in
-    let heard = talk_heard step a c.loop-frames.rounds c.loop-frames.session c.loop-frames.handler c.hear.new.session c.hear.new.handler after from to old was (put
+    let heard = talk_heard step a c.loop-buffer.rounds c.loop-buffer.session c.loop-buffer.handler c.hear.new.session c.hear.new.handler after from to old was (put
     c.hear.new.writer) c.args.max_reads less m i.goes pending (rw c.in_default-2.is at c.in_ok-reason.ensures.hears) in
-    let turned = talk_turns step a m c.ends_round-ends.result true c.loop-frames.rounds c.rounds_after-rounds.result c.hear.new.session c.hear.new.handler after from to old (put
+    let turned = talk_turns step a m c.ends_round-ends.result true c.loop-buffer.rounds c.rounds_after-rounds.result c.hear.new.session c.hear.new.handler after from to old (put
     c.hear.new.writer) c.args.max_reads less
     c.ends_round-ends.ensures c.rounds_after-rounds.ensures c.if-ends.true heard in (
       less,
@@ -213,31 +213,31 @@ returns-then-branch-2-clause-talks g c =
           c.hear.new.writer) (put c.speak-then-ends.new.writer) c.args.max_reads less turned (rw c.if-branch-2.true at c.in_ok-speak-2.ensures.speaks),
       omega (
         arith,
-        c.loop-frames.invariant.counted,
+        c.loop-buffer.invariant.counted,
         c.receive_within.ensures.counted,
       ),
     )
 
-pub loop-frames-preserved-else-branch-2 : goal.loop-frames-preserved-else-branch-2
-loop-frames-preserved-else-branch-2 g c =
+pub loop-buffer-preserved-else-branch-2 : goal.loop-buffer-preserved-else-branch-2
+loop-buffer-preserved-else-branch-2 g c =
     let step = g.H.Handler.step in
     let rem = g.R.Read.remaining in
     let put = g.W.Write.contents in
     let a = party_of true c.args.all c.args.first c.args.handler.now in
-    let now = party_of false c.loop-frames.rounds c.loop-frames.session c.loop-frames.handler in
+    let now = party_of false c.loop-buffer.rounds c.loop-buffer.session c.loop-buffer.handler in
     let from = rem c.args.reader.now in
     let to = rem c.receive_within.new.reader in
     let old = put c.args.writer.now in
-    let was = put c.loop-frames.writer in
+    let was = put c.loop-buffer.writer in
     let after = c.receive_within.new.frames in
     let less = c.receive_within.new.left in
-    let i = c.loop-frames.invariant in
+    let i = c.loop-buffer.invariant in
     let m = c.in-Some.message in
-    let pending = talk_receives step a now m c.loop-frames.frames after from (rem c.loop-frames.reader) to old was c.args.max_reads c.loop-frames.left less i.talking (rw
+    let pending = talk_receives step a now m c.loop-buffer.frames after from (rem c.loop-buffer.reader) to old was c.args.max_reads c.loop-buffer.left less i.talking (rw
     c.in-Some.is at c.in_ok-message.ensures.gives) in
-    let heard = talk_heard step a c.loop-frames.rounds c.loop-frames.session c.loop-frames.handler c.hear.new.session c.hear.new.handler after from to old was (put
+    let heard = talk_heard step a c.loop-buffer.rounds c.loop-buffer.session c.loop-buffer.handler c.hear.new.session c.hear.new.handler after from to old was (put
     c.hear.new.writer) c.args.max_reads less m i.goes pending (rw c.in_default-2.is at c.in_ok-reason.ensures.hears) in
-    let turned = talk_turns step a m c.ends_round-ends.result true c.loop-frames.rounds c.rounds_after-rounds.result c.hear.new.session c.hear.new.handler after from to old (put
+    let turned = talk_turns step a m c.ends_round-ends.result true c.loop-buffer.rounds c.rounds_after-rounds.result c.hear.new.session c.hear.new.handler after from to old (put
     c.hear.new.writer) c.args.max_reads less
     c.ends_round-ends.ensures c.rounds_after-rounds.ensures c.if-ends.true heard in
     let spoke = rw c.if-branch-2.false at c.in_ok-speak-2.ensures.speaks in
@@ -247,37 +247,37 @@ loop-frames-preserved-else-branch-2 g c =
       goes = goes_on step a c.rounds_after-rounds.result c.hear.new.session c.hear.new.handler c.speak-then-ends.new.session c.speak-then-ends.new.handler after from to old (put
           c.hear.new.writer) (put c.speak-then-ends.new.writer) c.args.max_reads less spoke;
       grows = g.met.H.Handler.grows_on c.args.handler.now c.hear.new.handler c.speak-then-ends.new.handler
-          (g.met.H.Handler.grows_on c.args.handler.now c.loop-frames.handler c.hear.new.handler i.grows c.in_ok-reason.ensures.grows) c.in_ok-speak-2.ensures.grows;
-      counted = omega (arith, c.loop-frames.invariant.counted, c.receive_within.ensures.counted);
+          (g.met.H.Handler.grows_on c.args.handler.now c.loop-buffer.handler c.hear.new.handler i.grows c.in_ok-reason.ensures.grows) c.in_ok-speak-2.ensures.grows;
+      counted = omega (arith, c.loop-buffer.invariant.counted, c.receive_within.ensures.counted);
     }
 
-pub loop-frames-preserved : goal.loop-frames-preserved
-loop-frames-preserved g c =
+pub loop-buffer-preserved : goal.loop-buffer-preserved
+loop-buffer-preserved g c =
     let step = g.H.Handler.step in
     let rem = g.R.Read.remaining in
     let put = g.W.Write.contents in
     let a = party_of true c.args.all c.args.first c.args.handler.now in
-    let now = party_of false c.loop-frames.rounds c.loop-frames.session c.loop-frames.handler in
+    let now = party_of false c.loop-buffer.rounds c.loop-buffer.session c.loop-buffer.handler in
     let from = rem c.args.reader.now in
     let to = rem c.receive_within.new.reader in
     let old = put c.args.writer.now in
-    let was = put c.loop-frames.writer in
+    let was = put c.loop-buffer.writer in
     let after = c.receive_within.new.frames in
     let less = c.receive_within.new.left in
-    let i = c.loop-frames.invariant in
+    let i = c.loop-buffer.invariant in
     let m = c.in-Some.message in
-    let pending = talk_receives step a now m c.loop-frames.frames after from (rem c.loop-frames.reader) to old was c.args.max_reads c.loop-frames.left less i.talking (rw
+    let pending = talk_receives step a now m c.loop-buffer.frames after from (rem c.loop-buffer.reader) to old was c.args.max_reads c.loop-buffer.left less i.talking (rw
     c.in-Some.is at c.in_ok-message.ensures.gives) in
-    let heard = talk_heard step a c.loop-frames.rounds c.loop-frames.session c.loop-frames.handler c.hear.new.session c.hear.new.handler after from to old was (put
+    let heard = talk_heard step a c.loop-buffer.rounds c.loop-buffer.session c.loop-buffer.handler c.hear.new.session c.hear.new.handler after from to old was (put
     c.hear.new.writer) c.args.max_reads less m i.goes pending (rw c.in_default-2.is at c.in_ok-reason.ensures.hears) in
-    let turned = talk_turns step a m c.ends_round-ends.result false c.loop-frames.rounds c.rounds_after-rounds.result c.hear.new.session c.hear.new.handler after from to old (put
+    let turned = talk_turns step a m c.ends_round-ends.result false c.loop-buffer.rounds c.rounds_after-rounds.result c.hear.new.session c.hear.new.handler after from to old (put
     c.hear.new.writer) c.args.max_reads less
     c.ends_round-ends.ensures c.rounds_after-rounds.ensures c.if-ends.false heard in
     record {
       talking = turned;
-      goes = still_goes c.ends_round-ends.result c.loop-frames.rounds c.rounds_after-rounds.result c.rounds_after-rounds.ensures c.if-ends.false i.goes;
-      grows = g.met.H.Handler.grows_on c.args.handler.now c.loop-frames.handler c.hear.new.handler i.grows c.in_ok-reason.ensures.grows;
-      counted = omega (arith, c.loop-frames.invariant.counted, c.receive_within.ensures.counted);
+      goes = still_goes c.ends_round-ends.result c.loop-buffer.rounds c.rounds_after-rounds.result c.rounds_after-rounds.ensures c.if-ends.false i.goes;
+      grows = g.met.H.Handler.grows_on c.args.handler.now c.loop-buffer.handler c.hear.new.handler i.grows c.in_ok-reason.ensures.grows;
+      counted = omega (arith, c.loop-buffer.invariant.counted, c.receive_within.ensures.counted);
     }
 
 pub returns-clause-talks : goal.returns-clause-talks
@@ -286,16 +286,16 @@ returns-clause-talks g c =
     let rem = g.R.Read.remaining in
     let put = g.W.Write.contents in
     let a = party_of true c.args.all c.args.first c.args.handler.now in
-    let now = party_of false c.loop-frames.rounds c.loop-frames.session c.loop-frames.handler in
+    let now = party_of false c.loop-buffer.rounds c.loop-buffer.session c.loop-buffer.handler in
     let from = rem c.args.reader.now in
     let to = rem c.receive_within.new.reader in
     let old = put c.args.writer.now in
-    let was = put c.loop-frames.writer in
+    let was = put c.loop-buffer.writer in
     let after = c.receive_within.new.frames in
     let less = c.receive_within.new.left in
-    let i = c.loop-frames.invariant in (
+    let i = c.loop-buffer.invariant in (
       less,
-      talk_at_end step a now c.loop-frames.frames after from (rem c.loop-frames.reader) to old was c.args.max_reads c.loop-frames.left less refl i.goes i.talking (rw
+      talk_at_end step a now c.loop-buffer.frames after from (rem c.loop-buffer.reader) to old was c.args.max_reads c.loop-buffer.left less refl i.goes i.talking (rw
           c.in_default.is at c.in_ok-message.ensures.gives),
-      omega (arith, c.loop-frames.invariant.counted, c.receive_within.ensures.counted),
+      omega (arith, c.loop-buffer.invariant.counted, c.receive_within.ensures.counted),
     )
