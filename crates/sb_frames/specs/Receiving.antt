@@ -2,7 +2,7 @@
 use Rattle.std.specs.Prelude.{◌≡◌, ◌≢◌, ℕ, ◌<◌, ◌≤◌, Bool, true, false, List, [], ◌∷◌, ◌++◌, ◌⊎◌, length, take, Option, Some, None, Result, Ok, Err}
 use Rattle.std.specs.Io.KnownBytes.{Keeps, Consumes, IsAtEnd}
 use Rattle.sb_types.specs.declared.fault.Fault.{Fault}
-use Rattle.sb_types.specs.declared.fault.Fault.TheVariants.{NoMemory, Closed, ReadFailed, Truncated, TurnsSpent}
+use Rattle.sb_types.specs.declared.fault.Fault.TheVariants.{NoMemory, Closed, BadMark, BadVersion, BadLength, UnknownKind, Malformed, ReadFailed, Truncated, TurnsSpent}
 use Rattle.sb_codec.specs.declared.message.Message.{Message}
 use Rattle.sb_frames.specs.declared.frames.TheConstants.{READ_LENGTH}
 use Rattle.sb_frames.specs.Frames.{short, bad, front_of}
@@ -49,6 +49,15 @@ pub record Filled (held : List ℕ) (from to : Option (List ℕ)) (before left c
 abbrev pub Fills : List ℕ → Option (List ℕ) → Option (List ℕ) → ℕ → ℕ → Result ℕ Fault → Stream → Type 0
 Fills held from to before left (Ok count) new = Filled held from to before left count new
 Fills held from to before left (Err fault) new = (new ≡ open_with held) × Keeps from to × Misses fault before left
+
+-- the faults of a frame
+abbrev pub is_frame_fault : Fault → Bool
+is_frame_fault BadMark = true
+is_frame_fault BadVersion = true
+is_frame_fault BadLength = true
+is_frame_fault (UnknownKind kind) = true
+is_frame_fault (Malformed kind) = true
+is_frame_fault _ = false
 
 -- why no message is handed out, over all that was held and read
 pub data Stops (fault : Fault) (bytes : List ℕ) (new : Stream) (to : Option (List ℕ)) (before left : ℕ) : Type 0 where

@@ -1,15 +1,18 @@
 -- Messages that are sent one after the other.
-use Rattle.std.proofs.Common.{ℕ, List, [], ◌∷◌, ◌++◌, take, Option, Result, Ok, Err, refl, sym, ap, subst, ◌∙◌, inl, inr, append_assoc, arith}
+use Rattle.std.proofs.Common.{◌≡◌, ℕ, Bool, true, List, [], ◌∷◌, ◌++◌, take, Option, Result, Ok, Err, refl, sym, ap, subst, ◌∙◌, inl, inr, append_assoc, arith}
 use Rattle.std.specs.List.{flat_map}
 use Rattle.std.specs.Io.KnownBytes.{Keeps, Appends}
 use Rattle.std.proofs.KnownBytes.{Appends-trans, Appends-kept, Appends-nil}
 use Rattle.std.proofs.lemmas.Grind.{flat_map-append}
 use Rattle.std.proofs.lemmas.List.{append-nil}
 use Rattle.sb_types.specs.declared.fault.Fault.{Fault}
-use Rattle.sb_types.specs.declared.fault.Fault.TheVariants.{NoMemory, WriteFailed}
+use Rattle.sb_types.specs.declared.fault.Fault.TheVariants.{NoMemory, Closed, WriteFailed}
 use Rattle.sb_codec.specs.declared.message.Message.{Message}
 use Rattle.sb_frames.specs.Frames.{frame}
-use Rattle.sb_frames.specs.Sending.{Sends}
+use Rattle.sb_frames.specs.Streams.{Stream, open_with, shut}
+use Rattle.sb_frames.specs.Sending.{Sends, OnlyWhereFailed}
+use Rattle.sb_frames.specs.Receiving.{is_frame_fault, Receives, Stops, is_bad, no_memory, read_failed, cut_short, turns_spent}
+use Rattle.sb_frames.proofs.Fronts.{of_a_frame}
 use Rattle.sb_frames.proofs.Splitting.{length-frame}
 use Rattle.sb_session.specs.Telling.{CutShort, Says}
 
@@ -75,3 +78,29 @@ cut_in_front a b ms ns fault cut =
       put_out = cut.put_out;
       why = cut.why;
     }
+
+-- ---- no write failed
+
+frame_wrote : (X : Type 0) (fault : Fault) (b : Bool) → is_frame_fault fault ≡ true → OnlyWhereFailed {X = X} (Err fault) b
+frame_wrote X (WriteFailed count) b is = absurd cc
+frame_wrote X _ b is = tt
+
+stops_wrote : (X : Type 0) (fault : Fault) (bytes : List ℕ) (new : Stream) (to : Option (List ℕ)) (before left : ℕ) (b : Bool)
+    → Stops fault bytes new to before left → OnlyWhereFailed {X = X} (Err fault) b
+stops_wrote X fault bytes new to before left b (is_bad front closed) = frame_wrote X fault b (of_a_frame bytes fault front)
+stops_wrote X fault bytes new to before left b (no_memory is held) = rw is tt
+stops_wrote X fault bytes new to before left b (read_failed is front held made) = rw is tt
+stops_wrote X fault bytes new to before left b (cut_short is front held some end) = rw is tt
+stops_wrote X fault bytes new to before left b (turns_spent is front held spent) = rw is tt
+
+fault_wrote : (X : Type 0) (frames new : Stream) (from to : Option (List ℕ)) (before left : ℕ) (fault : Fault) (b : Bool)
+    → Receives frames new from to before left (Err fault) → OnlyWhereFailed {X = X} (Err fault) b
+fault_wrote X (open_with held) new from to before left fault b r = stops_wrote X fault (held ++ r.bytes) new to before left b r.given
+fault_wrote X shut new from to before left fault b r =
+    let is : fault ≡ Closed = cc (r.0) in
+    rw is tt
+
+-- what is received tells of no write
+pub received_wrote : {X : Type 0} (answer : Result X Fault) (frames new : Stream) (from to : Option (List ℕ)) (before left : ℕ) (fault : Fault) (b : Bool)
+    → answer ≡ Err fault → Receives frames new from to before left (Err fault) → OnlyWhereFailed answer b
+received_wrote {X} answer frames new from to before left fault b is r = rw is (fault_wrote X frames new from to before left fault b r)

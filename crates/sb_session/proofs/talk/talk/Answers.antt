@@ -1,5 +1,6 @@
-use Rattle.std.proofs.Common.{true, false, refl, arith}
+use Rattle.std.proofs.Common.{true, false, Err, refl, ap, ◌∙◌, arith}
 use Rattle.std.proofs.lemmas.Result.{err_from_is_err_and}
+use Rattle.sb_session.proofs.Saying.{received_wrote}
 use Rattle.sb_session.specs.Talks.{party_of}
 use Rattle.sb_session.proofs.Talking.{
   hello_cut,
@@ -101,6 +102,13 @@ returns-in_err-message-clause-talks g c =
           i.talking c.in_err-message.ensures.gives),
       omega (arith, c.loop-buffer.invariant.counted, c.receive_within.ensures.counted),
     )
+
+pub returns-in_err-message-clause-failed : goal.returns-in_err-message-clause-failed
+returns-in_err-message-clause-failed g c =
+    let rem = g.R.Read.remaining in
+    let p = err_from_is_err_and c.from_residual-in_err-message.result c.from_residual-in_err-message.ensures.1 in
+    received_wrote c.from_residual-in_err-message.result c.loop-buffer.frames c.receive_within.new.frames (rem c.loop-buffer.reader) (rem c.receive_within.new.reader) c.loop-buffer.left
+    c.receive_within.new.left _ c.loop-buffer.last (p.1 ∙ ap Err p.2) c.in_err-message.ensures.gives
 
 pub returns-in_err-reason-clause-talks : goal.returns-in_err-reason-clause-talks
 returns-in_err-reason-clause-talks g c =
