@@ -2,3 +2,4 @@ pub mod Turns
 pub mod Honesty
 pub mod Truth
 pub mod Own
+pub mod Acts
