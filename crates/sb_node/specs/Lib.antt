@@ -3,3 +3,4 @@ pub mod Ends
 pub mod Answers
 pub mod Calls
 pub mod Steps
+pub mod Acts

@@ -11,7 +11,7 @@ impl Handler for NodeCore {
     ghost use Rattle.std.specs.Prelude.{◌≡◌};
     ghost use Rattle.std.proofs.Common.{refl, ◌∙◌};
     ghost use Rattle.sb_node.specs.Steps.{Steps, IsReplay};
-    ghost use Rattle.sb_node.proofs.Acts.{enters_nothing, no_replay, step_replays, replays_on};
+    ghost use Rattle.sb_node.specs.Acts.{enters_nothing, no_replay, step_replays, replays_on};
 
     ghost step = { Steps };
 

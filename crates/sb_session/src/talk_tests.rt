@@ -7,6 +7,7 @@ use crate::tests::{
 use crate::{Ended, Session, dial, serve};
 use sb_frames::{LastWrite, Steps};
 use sb_types::{Fault, Name};
+use std::alloc::{AllocError, Global};
 use std::io::{self, ErrorKind, Read, Write};
 use std::marker::Brand;
 use std::sync::ledger::{Blank, Ledger};
@@ -201,40 +202,140 @@ fn one_end_answers_until_bye(rt: HostRuntime) -> Result<(), Fail> {
     Ok(())
 }
 
+/// A talk that goes well: who speaks, in how many rounds if it dials, what it hears and what it writes; and how many
+/// bytes it has written before it has heard so many, and then.
+#[derive(Clone, Copy)]
+struct Course<'a> {
+    name: &'a [u8],
+    has_written: bool,
+    rounds: Option<u64>,
+    heard: [&'a [u8]; 3],
+    written: &'a [&'a [u8]],
+    early: usize,
+    turn: usize,
+    late: usize,
+}
+
+/// The course of one that serves, and of one that dials.
+const SERVED: Course<'static> = Course {
+    name: b"b",
+    has_written: true,
+    rounds: None,
+    heard: [HELLO_A, DIGEST_A, BYE],
+    written: &[HELLO_B, DELTA_B, DIGEST_B],
+    early: 12,
+    turn: 34,
+    late: 67,
+};
+
+const DIALED: Course<'static> = Course {
+    name: b"a",
+    has_written: false,
+    rounds: Some(1),
+    heard: [HELLO_B, DELTA_B, DIGEST_B],
+    written: &[HELLO_A, DIGEST_A, DELTA_NONE, BYE],
+    early: 34,
+    turn: 67,
+    late: 51,
+};
+
+/// How many bytes of its piece stand before the byte at a place, of pieces that stand one after the other.
+fn within(pieces: &[&[u8]], place: usize) -> usize {
+    let mut left = place;
+    for piece in pieces {
+        if left < piece.len() {
+            break;
+        }
+        left -= piece.len();
+    }
+    left
+}
+
+/// The first place at which a writer fails and it is not told so, with how much of its frame is out.
+fn wrong_room(alloc: Global, course: Course<'_>) -> Result<Option<usize>, Fault> {
+    let input = joined(alloc, &course.heard)?;
+    for room in 0..course.late {
+        let mut node = Node::new(alloc, course.name, course.has_written)?;
+        let mut writer = Room::new(room);
+        let mut last = LastWrite::new();
+        let terms = Terms {
+            rounds: course.rounds,
+            ..serving(&input)
+        };
+        let answer = talk_telling(&mut node, &mut writer, terms, &mut last);
+        let fault = Fault::WriteFailed(within(course.written, room) as u64);
+        if answer != Err(fault) || !writer.has_written(course.written) || !last.has_failed() {
+            return Ok(Some(room));
+        }
+    }
+    Ok(None)
+}
+
+/// The first place at which a reader fails, or comes to its end, and it is not told so, or something else is written.
+fn wrong_length(alloc: Global, course: Course<'_>, breaks: bool) -> Result<Option<usize>, Fault> {
+    let input = joined(alloc, &course.heard)?;
+    for length in 0..input.len() {
+        let mut node = Node::new(alloc, course.name, course.has_written)?;
+        let mut writer = Room::new(128);
+        let terms = Terms {
+            rounds: course.rounds,
+            breaks,
+            ..serving(input.get(..length).unwrap_or(&[]))
+        };
+        let answer = talk(&mut node, &mut writer, terms);
+        let expected = match (breaks, within(&course.heard, length)) {
+            (true, _) => Err(Fault::ReadFailed),
+            (false, 0) => Ok(Ended::End),
+            (false, _) => Err(Fault::Truncated),
+        };
+        let is_early = length < course.turn;
+        let count = if is_early { course.early } else { course.late };
+        if answer != expected || writer.written != count {
+            return Ok(Some(length));
+        }
+    }
+    Ok(None)
+}
+
+/// What comes where so many reads, or calls of the handler, are allowed; and how many bytes are written.
+fn spent(
+    alloc: Global,
+    course: Course<'_>,
+    reads: u64,
+    grants: u64,
+) -> Result<(Result<Ended, Fault>, usize), Fault> {
+    let input = joined(alloc, &course.heard)?;
+    let mut node = Node::new(alloc, course.name, course.has_written)?;
+    node.grants = grants;
+    let mut writer = Room::new(128);
+    let terms = Terms {
+        rounds: course.rounds,
+        reads,
+        ..serving(&input)
+    };
+    Ok((talk(&mut node, &mut writer, terms), writer.written))
+}
+
 #[test]
 fn writers_and_readers_fail(rt: HostRuntime) -> Result<(), Fail> {
     let alloc = rt.alloc();
-    let input = joined(alloc, &[HELLO_A, DIGEST_A, BYE])?;
-    let written: [&[u8]; 3] = [HELLO_B, DELTA_B, DIGEST_B];
-    for (room, count) in [(20usize, 8), (12, 0), (45, 0), (0, 0), (66, 21)] {
-        let mut node = Node::new(alloc, b"b", true)?;
-        let mut writer = Room::new(room);
-        let mut last = LastWrite::new();
-        let terms = serving(&input);
-        assert_eq!(rt;
-            talk_telling(&mut node, &mut writer, terms, &mut last),
-            Err(Fault::WriteFailed(count))
-        );
-        assert!(rt; writer.has_written(&written) && last.has_failed());
+    for course in [SERVED, DIALED] {
+        assert_eq!(rt; wrong_room(alloc, course)?, None);
+        assert_eq!(rt; wrong_length(alloc, course, true)?, None);
+        assert_eq!(rt; wrong_length(alloc, course, false)?, None);
     }
-    // The reader fails behind the Hello, between and inside frames; the reads are spent.
-    for (length, breaks, reads, fault, count) in [
-        (12usize, true, 1_000, Fault::ReadFailed, 12usize),
-        (20, true, 1_000, Fault::ReadFailed, 12),
-        (34, true, 1_000, Fault::ReadFailed, 67),
-        (20, false, 1_000, Fault::Truncated, 12),
-        (34, false, 0, Fault::TurnsSpent, 12),
-        (34, false, 3, Fault::TurnsSpent, 12),
+    for (course, reads, grants, count) in [
+        (SERVED, 0, 9, 12usize),
+        (SERVED, 3, 9, 12),
+        (SERVED, 99, 0, 12),
+        (SERVED, 99, 1, 12),
+        (DIALED, 3, 9, 34),
+        (DIALED, 99, 0, 12),
+        (DIALED, 99, 1, 34),
+        (DIALED, 99, 2, 34),
     ] {
-        let mut node = Node::new(alloc, b"b", true)?;
-        let mut writer = Room::new(128);
-        let terms = Terms {
-            breaks,
-            reads,
-            ..serving(input.get(..length).unwrap_or(&[]))
-        };
-        assert_eq!(rt; talk(&mut node, &mut writer, terms), Err(fault));
-        assert_eq!(rt; writer.written, count);
+        let ended = spent(alloc, course, reads, grants)?;
+        assert_eq!(rt; ended, (Err(Fault::TurnsSpent), count));
     }
     Ok(())
 }
@@ -276,8 +377,9 @@ fn the_other_end_asks(rt: HostRuntime) -> Result<(), Fail> {
 #[test]
 fn faulty_talks_end(rt: HostRuntime) -> Result<(), Fail> {
     let alloc = rt.alloc();
-    let cases: [(&[&[u8]], Fault); 11] = [
+    let cases: [(&[&[u8]], Fault); 12] = [
         (&[DIGEST_A], Fault::NoHello),
+        (&[DELTA_B, DELTA_B, DELTA_B, HELLO_A], Fault::NoHello),
         (&[BYE], Fault::NoHello),
         (&[HELLO_C2], Fault::WrongCluster),
         (&[HELLO_B], Fault::SameName),
@@ -314,11 +416,45 @@ fn faulty_talks_end(rt: HostRuntime) -> Result<(), Fail> {
     ] {
         for greeting in [b"".as_slice(), HELLO_A] {
             let input = joined(alloc, &[greeting, control])?;
-            let mut node = Node::new(alloc, b"b", false)?;
-            let mut writer = Room::new(128);
-            let answer = talk(&mut node, &mut writer, serving(&input));
-            assert_eq!(rt; answer, Err(Fault::UnknownKind(kind)));
+            for terms in [serving(&input), dialing(&input, 1)] {
+                let mut node = Node::new(alloc, b"b", false)?;
+                let mut writer = Room::new(128);
+                let answer = talk(&mut node, &mut writer, terms);
+                assert_eq!(rt; answer, Err(Fault::UnknownKind(kind)));
+            }
         }
+    }
+    Ok(())
+}
+
+/// A frame of 65,536 bytes: a delta of 1,310 entries of 50 bytes and one of 15, behind 15 of its payload.
+fn greatest_frame(alloc: Global) -> Result<Vec<u8>, AllocError> {
+    let mut frame = Vec::new(alloc);
+    frame.extend_from_slice(b"\xa7\x01\x00\x00\xff\xfa\x03\x00\x01\x01a")?;
+    frame.extend_from_slice(b"\x00\x00\x00\x00\x00\x00\x00\x00\x05\x1f")?;
+    for version in 1..=1_310u64 {
+        frame.push(b'\x20')?;
+        frame.extend_from_slice(format!(in alloc; "{version:032}")?.as_bytes())?;
+        frame.extend_from_slice(&version.to_be_bytes())?;
+        frame.extend_from_slice(b"\x02\x00\x00\x00\x00\x00\x00\x00\x05")?;
+    }
+    frame.extend_from_slice(b"\x05zzzzz\x00\x00\x00\x00\x00\x00\x05\x1f\x00")?;
+    Ok(frame)
+}
+
+#[test]
+fn the_greatest_frame_is_taken(rt: HostRuntime) -> Result<(), Fail> {
+    let alloc = rt.alloc();
+    let input = joined(alloc, &[HELLO_A, &greatest_frame(alloc)?, BYE])?;
+    assert_eq!(rt; input.len(), 12 + 65_536 + 8);
+    for terms in [serving(&input), dialing(&input, 1)] {
+        let terms = Terms {
+            piece: 4_099,
+            ..terms
+        };
+        let mut node = Node::new(alloc, b"b", false)?;
+        assert_eq!(rt; talk(&mut node, &mut Room::new(128), terms), Ok(Ended::Bye(1)));
+        assert_eq!(rt; node.upto(b"a")?, 1_311);
     }
     Ok(())
 }

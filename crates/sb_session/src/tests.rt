@@ -50,10 +50,11 @@ pub(crate) const DONE: &[u8] = b"\xa7\x01\x00\x00\x00\x09\x13\x00\x00\x00\x00\x0
 
 pub(crate) const REFUSED: &[u8] = b"\xa7\x01\x00\x00\x00\x02\x14\x01";
 
-/// What a node holds, told and taken up without an order and a budget of deltas.
+/// What a node holds, told and taken up without an order and a budget of deltas, in so many calls.
 #[derive(Drop)]
 pub(crate) struct Node {
     pub(crate) alloc: Global,
+    pub(crate) grants: u64,
     pub(crate) holdings: Holdings,
 }
 
@@ -66,7 +67,22 @@ impl Node {
             table.push(entry)?;
         }
         let holdings = Holdings::new(alloc, Name::read(name)?, table)?;
-        Ok(Node { alloc, holdings })
+        Ok(Node {
+            alloc,
+            grants: 1_000,
+            holdings,
+        })
+    }
+
+    /// Grants a call, while there are any.
+    fn grant(&mut self) -> Result<(), Fault>
+        ensures { IfErr result IsRefusal }
+    {
+        if self.grants == 0 {
+            return Err(Fault::TurnsSpent);
+        }
+        self.grants -= 1;
+        Ok(())
     }
 
     pub(crate) fn upto(&self, name: &[u8]) -> Result<u64, Fault> {
@@ -116,14 +132,17 @@ impl Handler for Node {
     ghost grows = { λ _ _. Unit {0} };
 
     fn digest(&mut self, from: Option<Name>, want: bool) -> Result<Digest, Fault> {
+        self.grant()?;
         granted(build(self.alloc, &self.holdings, from, want, BUDGET_LEAST))
     }
 
     fn deltas(&mut self, told: &Digest) -> Result<Delta, Fault> {
+        self.grant()?;
         granted(self.lacking(told))
     }
 
     fn apply(&mut self, delta: &Delta) -> Result<Report, Fault> {
+        self.grant()?;
         granted(self.take_up(delta))
     }
 
@@ -258,5 +277,23 @@ fn messages_out_of_place_close(rt: HostRuntime) -> Result<(), Fail> {
         assert_eq!(rt; fault_of(alloc, &[control])?, Some(fault));
         assert_eq!(rt; fault_of(alloc, &[HELLO_A, control])?, Some(fault));
     }
+    Ok(())
+}
+
+#[test]
+fn refusals_leave_the_session(rt: HostRuntime) -> Result<(), Fail> {
+    let alloc = rt.alloc();
+    let mut node = Node::new(alloc, b"b", true)?;
+    let mut session = Session::new(Name::read(b"c1")?, Name::read(b"b")?);
+    session.take(read(alloc, HELLO_A)?, &mut node)?;
+    for (message, grants) in [(DIGEST_A, 0u64), (DIGEST_A, 1), (DIGEST_B, 0), (DELTA_B, 0)] {
+        node.grants = grants;
+        let answer = session.take(read(alloc, message)?, &mut node);
+        assert!(rt; matches!(answer, Err(Fault::TurnsSpent)));
+    }
+    assert!(rt; matches!(session.ask(&mut node), Err(Fault::TurnsSpent)));
+    node.grants = 2;
+    let answer = session.take(read(alloc, DIGEST_A)?, &mut node);
+    assert!(rt; matches!(answer, Ok(Replies::Exchanged(_, _))));
     Ok(())
 }
