@@ -445,7 +445,8 @@ fn greatest_frame(alloc: Global) -> Result<Vec<u8>, AllocError> {
 #[test]
 fn the_greatest_frame_is_taken(rt: HostRuntime) -> Result<(), Fail> {
     let alloc = rt.alloc();
-    let input = joined(alloc, &[HELLO_A, &greatest_frame(alloc)?, BYE])?;
+    let frame = greatest_frame(alloc)?;
+    let input = joined(alloc, &[HELLO_A, &frame, BYE])?;
     assert_eq!(rt; input.len(), 12 + 65_536 + 8);
     for terms in [serving(&input), dialing(&input, 1)] {
         let terms = Terms {
@@ -453,7 +454,8 @@ fn the_greatest_frame_is_taken(rt: HostRuntime) -> Result<(), Fail> {
             ..terms
         };
         let mut node = Node::new(alloc, b"b", false)?;
-        assert_eq!(rt; talk(&mut node, &mut Room::new(128), terms), Ok(Ended::Bye(1)));
+        let mut writer = Room::new(128);
+        assert_eq!(rt; talk(&mut node, &mut writer, terms), Ok(Ended::Bye(1)));
         assert_eq!(rt; node.upto(b"a")?, 1_311);
     }
     Ok(())
