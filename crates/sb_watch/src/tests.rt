@@ -1,0 +1,3 @@
+//! Watches by tables of cases.
+
+use super::*;
