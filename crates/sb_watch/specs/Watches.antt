@@ -44,6 +44,4 @@ answer_of w = if w.lost == 0 then oldest w.notes else answers.Lagged w.lost
 
 -- the watch once it has answered: that number is told, or that note is handed out
 abbrev pub answered : Watch → Watch
-answered w =
-    if w.lost == 0 then record { id = w.id; filter = w.filter; capacity = w.capacity; notes = drop 1 w.notes; lost = 0 }
-    else record { id = w.id; filter = w.filter; capacity = w.capacity; notes = w.notes; lost = 0 }
+answered w = record { id = w.id; filter = w.filter; capacity = w.capacity; notes = if w.lost == 0 then drop 1 w.notes else w.notes; lost = 0 }

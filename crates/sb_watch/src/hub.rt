@@ -1,6 +1,6 @@
 //! All watches of a node.
 
-ghost use Rattle.std.specs.Prelude.{◌≡◌, false, if◌then◌else◌, map, position, Ok, Err, tt, IfOk, OnOk, OnErr};
+ghost use Rattle.std.specs.Prelude.{◌≡◌, false, if◌then◌else◌, map, position, Ok, Err, IfOk, OnOk, OnErr};
 ghost use Rattle.sb_types.specs.Faults.{Gives};
 ghost use Rattle.sb_watch.specs.Watches.{told};
 ghost use Rattle.sb_watch.specs.Hubs as spec;
