@@ -1,6 +1,6 @@
 //! All watches of a node.
 
-ghost use Rattle.std.specs.Prelude.{◌≡◌, false, if◌then◌else◌, map, position, Ok, Err, IfOk, OnOk, OnErr};
+ghost use Rattle.std.specs.Prelude.{◌≡◌, false, [], if◌then◌else◌, map, position, Ok, Err, IfOk, OnOk, OnErr};
 ghost use Rattle.sb_types.specs.Faults.{Gives};
 ghost use Rattle.sb_watch.specs.Watches.{told};
 ghost use Rattle.sb_watch.specs.Hubs as spec;
@@ -47,9 +47,16 @@ impl Hub {
     pub fn new(alloc: Global) -> Hub
         ensures { result ≡ spec.new_hub }
     {
+        Hub::beginning_at(alloc, 0)
+    }
+
+    /// A hub without watches, whose first id is this one.
+    pub(crate) fn beginning_at(alloc: Global, next: u64) -> Hub
+        ensures { result ≡ record { watches = []; next = next } }
+    {
         Hub {
             watches: Vec::new(alloc),
-            next: 0,
+            next,
             alloc,
         }
     }
