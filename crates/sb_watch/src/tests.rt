@@ -26,6 +26,11 @@ fn filter(owner: &[u8], prefix: &[u8]) -> Result<Filter, Fault> {
     })
 }
 
+// Adds a watch for all notes.
+fn watch_all(hub: &mut Hub, capacity: usize) -> Result<WatchId, Fault> {
+    hub.add(filter(b"", b"")?, capacity)
+}
+
 // Of all owners where none is named.
 #[derive(Clone, Copy)]
 struct Case {
@@ -100,7 +105,7 @@ fn watches_keep_the_last_notes(rt: HostRuntime) -> Result<(), Fail> {
 fn lost_notes_are_told_once(rt: HostRuntime) -> Result<(), Fail> {
     let notes = read_notes(rt.alloc())?;
     let mut hub = Hub::new(rt.alloc());
-    let id = hub.add(filter(b"", b"")?, 2)?;
+    let id = watch_all(&mut hub, 2)?;
     let (early, late) = notes.split_at(3);
     for note in early.iter() {
         hub.push(note);
@@ -120,10 +125,10 @@ fn lost_notes_are_told_once(rt: HostRuntime) -> Result<(), Fail> {
 fn capacities_are_1_to_1024(rt: HostRuntime) -> Result<(), Fail> {
     let mut hub = Hub::new(rt.alloc());
     for capacity in [0, 1025, usize::MAX] {
-        assert_eq!(rt; hub.add(filter(b"", b"")?, capacity), Err(Fault::BadSetting));
+        assert_eq!(rt; watch_all(&mut hub, capacity), Err(Fault::BadSetting));
     }
-    let least = hub.add(filter(b"", b"")?, 1)?;
-    let greatest = hub.add(filter(b"", b"")?, 1024)?;
+    let least = watch_all(&mut hub, 1)?;
+    let greatest = watch_all(&mut hub, 1024)?;
     assert!(rt; hub.has(least) && hub.has(greatest));
     Ok(())
 }
@@ -131,15 +136,14 @@ fn capacities_are_1_to_1024(rt: HostRuntime) -> Result<(), Fail> {
 #[test]
 fn at_most_64_watches_stand(rt: HostRuntime) -> Result<(), Fail> {
     let mut hub = Hub::new(rt.alloc());
-    let any = filter(b"", b"")?;
-    let first = hub.add(any, 1)?;
+    let first = watch_all(&mut hub, 1)?;
     for _ in 1..64 {
-        hub.add(any, 1)?;
+        watch_all(&mut hub, 1)?;
     }
-    assert_eq!(rt; hub.add(any, 1), Err(Fault::WatchesFull));
-    assert_eq!(rt; hub.add(any, 0), Err(Fault::BadSetting));
+    assert_eq!(rt; watch_all(&mut hub, 1), Err(Fault::WatchesFull));
+    assert_eq!(rt; watch_all(&mut hub, 0), Err(Fault::BadSetting));
     assert_eq!(rt; hub.drop_watch(first), Ok(()));
-    let last = hub.add(any, 1)?;
+    let last = watch_all(&mut hub, 1)?;
     assert!(rt; last != first && hub.has(last));
     hub.push(&note(b"a", b"x", 7)?);
     assert_eq!(rt; hub.take(last), Ok(Polled::Note(note(b"a", b"x", 7)?)));
@@ -152,11 +156,10 @@ fn at_most_64_watches_stand(rt: HostRuntime) -> Result<(), Fail> {
 #[test]
 fn ids_end_with_the_numbers(rt: HostRuntime) -> Result<(), Fail> {
     let mut hub = Hub::beginning_at(rt.alloc(), u64::MAX - 1);
-    let any = filter(b"", b"")?;
-    let id = hub.add(any, 1)?;
-    assert_eq!(rt; hub.add(any, 1), Err(Fault::WatchesFull));
+    let id = watch_all(&mut hub, 1)?;
+    assert_eq!(rt; watch_all(&mut hub, 1), Err(Fault::WatchesFull));
     assert_eq!(rt; hub.drop_watch(id), Ok(()));
-    assert_eq!(rt; hub.add(any, 1), Err(Fault::WatchesFull));
+    assert_eq!(rt; watch_all(&mut hub, 1), Err(Fault::WatchesFull));
     assert!(rt; !hub.has(id));
     Ok(())
 }
