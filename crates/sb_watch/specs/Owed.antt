@@ -10,8 +10,8 @@ use Rattle.sb_watch.specs.Watches.{matches, told, oldest, answer_of, answered}
 
 -- what happens to a watch: a note comes, or it is asked
 pub data Deed : Type 0 where
-  pub comes : Note → Deed
-  pub asked : Deed
+  comes : Note → Deed
+  asked : Deed
 
 -- the watch after these deeds, one after the other
 abbrev pub watch_after : List Deed → Watch → Watch

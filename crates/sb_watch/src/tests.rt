@@ -28,7 +28,14 @@ fn filter(owner: &[u8], prefix: &[u8]) -> Result<Filter, Fault> {
 
 // Adds a watch for all notes.
 fn watch_all(hub: &mut Hub, capacity: usize) -> Result<WatchId, Fault> {
-    hub.add(filter(b"", b"")?, capacity)
+    let prefix = Prefix::read(b"")?;
+    hub.add(
+        Filter {
+            owner: None,
+            prefix,
+        },
+        capacity,
+    )
 }
 
 // Of all owners where none is named.
@@ -106,12 +113,11 @@ fn lost_notes_are_told_once(rt: HostRuntime) -> Result<(), Fail> {
     let notes = read_notes(rt.alloc())?;
     let mut hub = Hub::new(rt.alloc());
     let id = watch_all(&mut hub, 2)?;
-    let (early, late) = notes.split_at(3);
-    for note in early.iter() {
+    for note in notes.iter().take(3) {
         hub.push(note);
     }
     assert_eq!(rt; hub.take(id), Ok(Polled::Lagged(1)));
-    for note in late.iter() {
+    for note in notes.iter().skip(3) {
         hub.push(note);
     }
     assert_eq!(rt; hub.take(id), Ok(Polled::Lagged(2)));
