@@ -1,0 +1,4 @@
+pub mod Records
+pub mod Watches
+pub mod Hubs
+pub mod Owed

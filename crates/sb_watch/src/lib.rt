@@ -1,0 +1,18 @@
+//! Watches: what a node was told lately, for those who ask.
+//!
+//! A watch has a filter and a ring of notes. It is polled: it wakes nobody.
+#![tactic(auto)]
+
+mod hub;
+mod laws;
+mod limits;
+mod note;
+mod watch;
+
+pub use hub::Hub;
+pub use laws::limits_are_these_numbers;
+pub use limits::{RING_MOST, WATCHES_MOST};
+pub use note::{Filter, Note, Polled, WatchId};
+
+#[cfg(test)]
+mod tests;
