@@ -34,7 +34,7 @@ either_left s core told fault new refuses =
 digest_left : (s : Session) (core : Core) (told : digests.Digest) (want : Bool) (result : Result Replies Fault) (t : Session) (new : Core)
     → AnswersDigest Steps s core told want result t new → new ≡ core
 digest_left s core told true (Ok (replies.Exchanged blocks digest)) t new a =
-    told_nothing a.1 new s.cursor false (Ok digest) a.3 ∙ gave_nothing core a.1 told (Ok blocks) a.2
+    told_nothing a.1.0 new s.cursor false (Ok digest) a.1.2 ∙ gave_nothing core a.1.0 told (Ok blocks) a.1.1
 digest_left s core told true (Ok replies.Greeted) t new a = absurd a
 digest_left s core told true (Ok (replies.Answered blocks)) t new a = absurd a
 digest_left s core told true (Ok (replies.Applied ends)) t new a = absurd a
@@ -50,8 +50,9 @@ digest_left s core told false (Err fault) t new a = gave_nothing core new told (
 digest_replied : (s : Session) (core : Core) (told : digests.Digest) (want : Bool) (answer : Replies) (t : Session) (new : Core)
     → told.want ≡ want → AnswersDigest Steps s core told want (Ok answer) t new → IsReply core s told answer
 digest_replied s core told true (replies.Exchanged blocks digest) t new is a =
-    let same : a.1 ≡ core = gave_nothing core a.1 told (Ok blocks) a.2 in
-    (is, a.2.answers.0, a.2.answers.1, (subst (λ (c : Core). Steps c (tells s.cursor false (Ok digest)) new) same a.3).answers)
+    let same : a.1.0 ≡ core = gave_nothing core a.1.0 told (Ok blocks) a.1.1 in
+    let step : Steps core (tells s.cursor false (Ok digest)) new = subst (λ (c : Core). Steps c (tells s.cursor false (Ok digest)) new) same a.1.2 in
+    (is, a.1.1.answers.0, a.1.1.answers.1, step.answers)
 digest_replied s core told true replies.Greeted t new is a = absurd a
 digest_replied s core told true (replies.Answered blocks) t new is a = absurd a
 digest_replied s core told true (replies.Applied ends) t new is a = absurd a
@@ -105,7 +106,7 @@ not_up s core (kinds.Put wanted) fault t new a = absurd a
 not_up s core (kinds.Done version) fault t new a = absurd a
 not_up s core (kinds.Refused reason) fault t new a = absurd a
 
-up_unless : (refusal : Option Fault) (s : Session) (core : Core) (m : Message) (answer : Replies) (t : Session) (new : Core)
+pub up_unless : (refusal : Option Fault) (s : Session) (core : Core) (m : Message) (answer : Replies) (t : Session) (new : Core)
     → TakesUnless refusal Steps s core m (Ok answer) t new → TakesUp Steps s core m (Ok answer) t new
 up_unless (Some fault) s core m answer t new a = absurd cc (a.0)
 up_unless None s core m answer t new a = a

@@ -132,7 +132,7 @@ pub record Laws : Type 0 where
 pub record Kept (writes : List ℕ → List Write) (core : Core) (said : List Message) : Type 0 where
   pub is : IsNode core.node
   pub holds : NodeHolds writes core.node
-  pub said : AreTrueMessages writes said
+  pub each : AreTrueMessages writes said
 
 module _ (laws : Laws) (writes : List ℕ → List Write) where
   reply_true : (s : Session) (core : Core) (told : digests.Digest) (answer : Replies) → IsNode core.node → NodeHolds writes core.node → IsReply core s told answer
@@ -152,22 +152,22 @@ module _ (laws : Laws) (writes : List ℕ → List Write) where
   ends_said core blocks (replies.Exchanged delta digest) fit = absurd fit
   ends_said core blocks (replies.Ended reason) fit = absurd fit
 
-  greeted_said : (answer : Replies) → Result.Ok {T = Replies} {E = Fault} answer ≡ Ok replies.Greeted → AreTrueMessages writes (messages_of answer)
-  greeted_said answer e =
+  greeted_said : (answer : Replies) (r : Result Replies Fault) → r ≡ Ok answer → r ≡ Ok replies.Greeted → AreTrueMessages writes (messages_of answer)
+  greeted_said answer r is e =
       let same : answer ≡ replies.Greeted = cc in
       rw same (none_said writes)
 
-  ended_said : (answer : Replies) (reason : ℕ) → Result.Ok {T = Replies} {E = Fault} answer ≡ Ok (replies.Ended reason) → AreTrueMessages writes (messages_of answer)
-  ended_said answer reason e =
+  ended_said : (answer : Replies) (reason : ℕ) (r : Result Replies Fault) → r ≡ Ok answer → r ≡ Ok (replies.Ended reason) → AreTrueMessages writes (messages_of answer)
+  ended_said answer reason r is e =
       let same : answer ≡ replies.Ended reason = cc in
       rw same (none_said writes)
 
   heard_said : (s : Session) (core : Core) (m : Message) (answer : Replies) (t : Session) (new : Core) → IsNode core.node → NodeHolds writes core.node
       → Takes Steps s core m (Ok answer) t new → AreTrueMessages writes (messages_of answer)
-  heard_said s core (kinds.Hello hello) answer t new is holds a = greeted_said answer (up_unless (refusal_of s (kinds.Hello hello)) s core (kinds.Hello hello) answer t new a).0
+  heard_said s core (kinds.Hello hello) answer t new is holds a = greeted_said answer (Ok answer) refl (up_unless (refusal_of s (kinds.Hello hello)) s core (kinds.Hello hello) answer t new a).0
   heard_said s core (kinds.Digest told) answer t new is holds a = reply_true s core told answer is holds (replied s core told answer t new a)
   heard_said s core (kinds.Delta blocks) answer t new is holds a = ends_said core blocks answer (ended s core blocks answer t new a).1
-  heard_said s core (kinds.Bye reason) answer t new is holds a = ended_said answer reason (up_unless (refusal_of s (kinds.Bye reason)) s core (kinds.Bye reason) answer t new a).0
+  heard_said s core (kinds.Bye reason) answer t new is holds a = ended_said answer reason (Ok answer) refl (up_unless (refusal_of s (kinds.Bye reason)) s core (kinds.Bye reason) answer t new a).0
   heard_said s core (kinds.Ask asked) answer t new is holds a = absurd (up_unless (refusal_of s (kinds.Ask asked)) s core (kinds.Ask asked) answer t new a)
   heard_said s core (kinds.Rows rows) answer t new is holds a = absurd (up_unless (refusal_of s (kinds.Rows rows)) s core (kinds.Rows rows) answer t new a)
   heard_said s core (kinds.Put wanted) answer t new is holds a = absurd (up_unless (refusal_of s (kinds.Put wanted)) s core (kinds.Put wanted) answer t new a)
@@ -183,7 +183,7 @@ module _ (laws : Laws) (writes : List ℕ → List Write) where
         is = subst (λ (c : Core). IsNode c.node) (sym after) (laws.is core.node (taken_of m answer) is are);
         holds = subst (λ (c : Core). NodeHolds writes c.node) (sym after)
             (laws.holds writes core.node (taken_of m answer) is are holds (calls_true writes core.node.held.me m answer true_m));
-        said = subst (AreTrueMessages writes) (sym e) (heard_said s core m answer t new is holds a);
+        each = subst (AreTrueMessages writes) (sym e) (heard_said s core m answer t new is holds a);
       }
 
   spoken_kept : (rounds : Option ℕ) (s : Session) (core : Core) (said : List Message) (t : Session) (new : Core) → IsNode core.node → NodeHolds writes core.node
@@ -193,7 +193,7 @@ module _ (laws : Laws) (writes : List ℕ → List Write) where
       record {
         is = subst (λ (c : Core). IsNode c.node) (sym p.0) is;
         holds = subst (λ (c : Core). NodeHolds writes c.node) (sym p.0) holds;
-        said = p.1;
+        each = p.1;
       }
 
   behind : (core : Core) (first rest said : List Message) → AreTrueMessages writes first → Kept writes core rest → said ≡ first ++ rest → Kept writes core said
@@ -201,7 +201,7 @@ module _ (laws : Laws) (writes : List ℕ → List Write) where
       record {
         is = kept.is;
         holds = kept.holds;
-        said = subst (AreTrueMessages writes) (sym e) (λ m stands. ⊎_elim (are m) (kept.said m) (either first rest m stands));
+        each = subst (AreTrueMessages writes) (sym e) (λ m stands. ⊎_elim (are m) (kept.each m) (either first rest m stands));
       }
 
   pub run_kept : (a : Party Core) (moves : List Move) (said : List Message) (b : Party Core) → IsNode a.handler.node → NodeHolds writes a.handler.node
@@ -210,13 +210,13 @@ module _ (laws : Laws) (writes : List ℕ → List Write) where
       record {
         is = subst (λ (p : Party Core). IsNode p.handler.node) (sym run.1) is;
         holds = subst (λ (p : Party Core). NodeHolds writes p.handler.node) (sym run.1) holds;
-        said = subst (AreTrueMessages writes) (sym run.0) (none_said writes);
+        each = subst (AreTrueMessages writes) (sym run.0) (none_said writes);
       }
   run_kept a (hears m ∷ moves) said b is holds run heard =
       let x = run.3 in
-      let first = heard_kept a.session a.handler m x.4 run.0 run.2.session run.2.handler is holds (heard m (inl refl)) x.5 x.6 in
-      behind b.handler run.0 run.1 said first.said (run_kept run.2 moves run.1 b first.is first.holds run.4 (λ n stands. heard n (inr stands))) run.5
+      let first = heard_kept a.session a.handler m x.4.0 run.0 run.2.session run.2.handler is holds (heard m (inl refl)) x.4.1 x.4.2 in
+      behind b.handler run.0 run.1 said first.each (run_kept run.2 moves run.1 b first.is first.holds run.4 (λ n stands. heard n (inr stands))) run.5
   run_kept a (speaks ∷ moves) said b is holds run heard =
       let x = run.3 in
       let first = spoken_kept a.rounds a.session a.handler run.0 run.2.session run.2.handler is holds x.3 in
-      behind b.handler run.0 run.1 said first.said (run_kept run.2 moves run.1 b first.is first.holds run.4 heard) run.5
+      behind b.handler run.0 run.1 said first.each (run_kept run.2 moves run.1 b first.is first.holds run.4 heard) run.5

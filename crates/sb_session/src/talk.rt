@@ -101,7 +101,12 @@ fn speak<W: Write, H: Handler>(
         return Ok(false);
     };
     if rounds == 0 {
-        say(buffer, writer, last, Message::Bye(Bye::new(REASON_ROUNDS_DONE)?))?;
+        say(
+            buffer,
+            writer,
+            last,
+            Message::Bye(Bye::new(REASON_ROUNDS_DONE)?),
+        )?;
         return Ok(true);
     }
     let digest = session.ask(handler)?;

@@ -10,4 +10,4 @@ returns-clause-holds c = λ writes a moves said b is holds run heard.
 pub returns-clause-said : goal.returns-clause-said
 returns-clause-said c = λ writes a moves said b is holds run heard.
     let laws : Laws = record { holds = c.calls_keep_truth.ensures.holds; is = c.calls_keep_truth.ensures.is; honest = c.answers_are_honest.ensures.honest } in
-    (run_kept laws writes a moves said b is holds run heard).said
+    (run_kept laws writes a moves said b is holds run heard).each
