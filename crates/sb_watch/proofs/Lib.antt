@@ -1,2 +1,4 @@
 pub mod Places
 pub mod Ids
+pub mod Owing
+pub mod KeptNotes
