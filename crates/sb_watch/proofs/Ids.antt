@@ -116,7 +116,7 @@ hub_mapped f hub same is = record {
   few = let same = same_length f hub.watches in let few = is.few in omega (arith, same, few)
 }
 
-cond_id : (b : Bool) (v w : Watch) → v.id ≡ w.id → (cond b v w).id ≡ w.id
+pub cond_id : (b : Bool) (v w : Watch) → v.id ≡ w.id → (cond b v w).id ≡ w.id
 cond_id true v w same = same
 cond_id false v w same = refl
 

@@ -1,12 +1,14 @@
 //! What follows from the definitions alone. The functions do nothing: each clause is a law.
 
-ghost use Rattle.std.specs.Prelude.{◌≡◌, ℕ, ◌<◌, ◌^◌, Bool, true, List, length, Ok};
+ghost use Rattle.std.specs.Prelude.{◌≡◌, ◌≢◌, ℕ, ◌<◌, ◌^◌, Bool, true, false, List, length, Some, None, Ok};
+ghost use Rattle.std.specs.Option.{option_map};
 ghost use Rattle.sb_watch.specs.declared.note.Filter.{Filter};
 ghost use Rattle.sb_watch.specs.declared.note.Note.{Note};
 ghost use Rattle.sb_watch.specs.declared.note.Polled.TheVariants as answers;
 ghost use Rattle.sb_watch.specs.Records.{Hub};
-ghost use Rattle.sb_watch.specs.Watches.{new_watch};
-ghost use Rattle.sb_watch.specs.Hubs.{AllNotes, new_hub, answer_at, with_watch, with_push, with_answer, without_watch};
+ghost use Rattle.sb_watch.specs.Watches.{new_watch, told, answered};
+ghost use Rattle.sb_watch.specs.Hubs.{AllNotes, IsHub, new_hub, has_watch, watch_at, answer_at, with_watch, with_push, with_answer, without_watch};
+ghost use Rattle.sb_watch.specs.Calls.{Call, hub_after};
 ghost use Rattle.sb_watch.specs.Owed.{Deed, came, answers_after, watch_after, Account, Keeps};
 
 use crate::limits::{RING_MOST, WATCHES_MOST};
@@ -37,4 +39,20 @@ pub fn notes_keep_what_holds()
     ensures dropped { (test : Note → Bool) (hub : Hub) (id : ℕ) → AllNotes test hub → AllNotes test (without_watch hub id) }
     ensures given { (test : Note → Bool) (hub : Hub) (id : ℕ) (note : Note) → AllNotes test hub → answer_at hub id ≡ Ok (answers.Note note) → test note ≡ true }
     ensures weaker { (test other : Note → Bool) (hub : Hub) → ((note : Note) → test note ≡ true → other note ≡ true) → AllNotes test hub → AllNotes other hub }
+{}
+
+/// A call changes the watches that it is about, and leaves the others as they were.
+pub fn watches_stand_alone()
+    ensures pushed { (hub : Hub) (note : Note) (id : ℕ) → watch_at (with_push hub note) id ≡ option_map (told note) (watch_at hub id) }
+    ensures taken { (hub : Hub) (id : ℕ) → watch_at (with_answer hub id) id ≡ option_map answered (watch_at hub id) }
+    ensures unasked { (hub : Hub) (id other : ℕ) → other ≢ id → watch_at (with_answer hub id) other ≡ watch_at hub other }
+    ensures added { (hub : Hub) (filter : Filter) (capacity : ℕ) → IsHub hub → watch_at (with_watch hub filter capacity) hub.next ≡ Some (new_watch hub.next filter capacity) }
+    ensures beside { (hub : Hub) (filter : Filter) (capacity other : ℕ) → other ≢ hub.next → watch_at (with_watch hub filter capacity) other ≡ watch_at hub other }
+    ensures dropped { (hub : Hub) (id : ℕ) → watch_at (without_watch hub id) id ≡ None }
+    ensures left { (hub : Hub) (id other : ℕ) → other ≢ id → watch_at (without_watch hub id) other ≡ watch_at hub other }
+{}
+
+/// An id that was given, and whose watch was dropped, is never again that of a watch, whatever is called.
+pub fn ids_are_not_used_again()
+    ensures { (calls : List Call) (hub : Hub) (id : ℕ) → id < hub.next → has_watch hub id ≡ false → has_watch (hub_after calls hub) id ≡ false }
 {}
