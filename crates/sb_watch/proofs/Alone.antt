@@ -1,5 +1,5 @@
 -- Each watch by itself: what a call makes of the watch with an id; and ids that no later watch has.
-use Rattle.std.proofs.Common.{◌≡◌, ◌≢◌, ℕ, ◌+◌, ◌<◌, ◌==◌, Bool, true, false, not, cond, List, [], ◌∷◌, ◌++◌, map, filter, find, Option, Some, None, refl, sym, ap, ap₂, ◌∙◌, ◌||◌, arith, true≢false, inl, inr}
+use Rattle.std.proofs.Common.{◌≡◌, ◌≢◌, ℕ, ◌<◌, ◌==◌, Bool, true, false, not, cond, List, [], ◌∷◌, ◌++◌, map, filter, find, Option, Some, None, refl, sym, ap, ◌∙◌, arith, inl, inr}
 use Rattle.std.specs.List.{list_any}
 use Rattle.std.specs.Option.{option_map, option_or}
 use Rattle.std.proofs.lemmas.Bool.{cond-true, cond-false, eqb-true, eq-eqb, ne_eqb, cases_Bool, or_parts, or_from, not_from_true, not_from_false}
@@ -9,7 +9,7 @@ use Rattle.sb_watch.specs.declared.note.Note.{Note}
 use Rattle.sb_watch.specs.Records.{Watch, Hub}
 use Rattle.sb_watch.specs.Watches.{matches, new_watch, with_note, told, answered}
 use Rattle.sb_watch.specs.Hubs.{is_id, IsHub, has_watch, watch_at, with_watch, with_push, with_answer, without_watch}
-use Rattle.sb_watch.specs.Calls.{Call, adds, pushes, takes, drops, hub_after_call, hub_after}
+use Rattle.sb_watch.specs.Calls.{Call, adds, pushes, takes, drops, hub_after}
 use Rattle.sb_watch.proofs.Places.{change, none_found}
 use Rattle.sb_watch.proofs.Ids.{cond_id, none_at_next}
 

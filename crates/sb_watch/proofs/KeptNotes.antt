@@ -1,13 +1,12 @@
 -- What holds of every note that is pushed holds of every note that is kept, and of every one that is handed out.
-use Rattle.std.proofs.Common.{◌≡◌, ℕ, zero, suc, ◌-◌, ◌==◌, Bool, true, false, cond, List, [], ◌∷◌, ◌++◌, length, drop, map, filter, find, not, Option, Some, None, Ok, Err, refl, sym, ap, subst, ◌∙◌}
+use Rattle.std.proofs.Common.{◌≡◌, ℕ, zero, suc, ◌-◌, ◌==◌, Bool, true, false, cond, List, [], ◌∷◌, ◌++◌, length, drop, map, filter, find, not, Option, Some, None, Ok, refl, subst}
 use Rattle.std.proofs.lemmas.Option.{none-some}
 use Rattle.std.specs.List.{AllByRecursion}
-use Rattle.circular_buffer.specs.Buffer.{keep_last}
 use Rattle.sb_watch.specs.declared.note.Filter.{Filter}
 use Rattle.sb_watch.specs.declared.note.Note.{Note}
 use Rattle.sb_watch.specs.declared.note.Polled.TheVariants as answers
 use Rattle.sb_watch.specs.Records.{Watch, Hub}
-use Rattle.sb_watch.specs.Watches.{matches, new_watch, with_note, told, oldest, answer_of, answered}
+use Rattle.sb_watch.specs.Watches.{matches, new_watch, with_note, told, oldest, answered}
 use Rattle.sb_watch.specs.Hubs.{is_id, watch_at, answer_if_found, answer_at, with_watch, with_push, with_answer, without_watch}
 
 module _ {X : Type 0} (P : X → Type 0) where
@@ -86,9 +85,11 @@ module _ (P : Note → Type 0) where
       first : (notes : List Note) → AllByRecursion P notes → oldest notes ≡ answers.Note note → P note
       first [] kept same = absurd cc
       first (next ∷ notes) kept same = let equal : next ≡ note = cc in subst P equal kept.0
+
       answer : (w : Watch) (b : Bool) → AllByRecursion P w.notes → cond b (oldest w.notes) (answers.Lagged w.lost) ≡ answers.Note note → P note
       answer w true kept same = first w.notes kept same
       answer w false kept same = absurd cc
+
       at : (found : Option Watch) → watch_at hub id ≡ found → answer_if_found found ≡ Ok (answers.Note note) → P note
       at None found same = absurd cc
       at (Some w) found same = answer w (w.lost == 0) (holds_of_found (λ (v : Watch). AllByRecursion P v.notes) (is_id id) hub.watches w all found) cc

@@ -1,11 +1,10 @@
 -- A watch keeps the last of what it owes, and its answers account for the others.
-use Rattle.std.proofs.Common.{◌≡◌, ℕ, suc, ◌+◌, ◌-◌, ◌^◌, ◌<◌, ◌≤◌, Bool, true, false, cond, ltb, min, List, [], ◌∷◌, ◌++◌, length, drop, refl, sym, ap, subst, ◌∙◌, arith, length-append, length-drop, append_assoc, nat_lt, ◌==◌, inl, inr}
+use Rattle.std.proofs.Common.{◌≡◌, ℕ, ◌+◌, ◌-◌, ◌^◌, ◌<◌, ◌≤◌, Bool, true, false, cond, min, List, [], ◌∷◌, ◌++◌, length, drop, refl, sym, ap, subst, ◌∙◌, arith, length-append, length-drop, append_assoc, nat_lt, ◌==◌, inl, inr}
 use Rattle.std.proofs.lemmas.Bool.{cond-true, cond-false, cases_lt, cases_eq, lt-ltb, le-ltb, eqb-true, eqb-false}
 use Rattle.std.proofs.lemmas.List.{append-nil, drop-append-le, drop-drop}
 use Rattle.circular_buffer.specs.Buffer.{keep_last}
 use Rattle.sb_watch.specs.declared.note.Note.{Note}
 use Rattle.sb_watch.specs.declared.note.Filter.{Filter}
-use Rattle.sb_watch.specs.declared.note.Polled.{Polled}
 use Rattle.sb_watch.specs.declared.note.Polled.TheVariants as answers
 use Rattle.sb_watch.specs.Records.{Watch}
 use Rattle.sb_watch.specs.Watches.{matches, new_watch, with_note, oldest}
@@ -30,13 +29,15 @@ keep_last-all n xs fits = let none : length xs - n ≡ 0 = omega arith in ap (λ
 keeps_one_more : (w : Watch) (owed : List Note) (note : Note) → length owed + 1 < 2 ^ 64 → Keeps w owed → Keeps (with_note w note) (owed ++ note ∷ [])
 keeps_one_more w owed note few keeps = record {
   notes = ap (λ (ns : List Note). keep_last w.capacity (ns ++ note ∷ [])) keeps.notes ∙ keep_last-more w.capacity owed note;
-  lost = lost
+  lost = lost;
 }
   where
     kept : length w.notes ≡ length owed - (length owed - w.capacity)
     kept = ap length keeps.notes ∙ length-drop (length owed - w.capacity) owed
+
     long : length (owed ++ note ∷ []) ≡ length owed + 1
     long = length-append owed (note ∷ [])
+
     lost : (with_note w note).lost ≡ length (owed ++ note ∷ []) - w.capacity
     lost = elim (cases_lt (length w.notes) w.capacity) [
       | inl less ↦ cond-true (nat_lt (length w.notes) w.capacity) w.lost (min (2 ^ 64 - 1) (w.lost + 1)) (lt-ltb (length w.notes) w.capacity less) ∙ (let lost = keeps.lost in omega (arith, lost, kept, long, less))
@@ -91,7 +92,7 @@ follows_asked deeds w owed true none few keeps rest =
     (follows_oldest deeds w owed fits few rest)
 follows_asked deeds w owed false some few keeps rest =
     let other = eqb-false w.lost 0 some in
-    follows_lost deeds w owed (elim (cases_eq w.lost 0) [ | inl zero ↦ absurd (other zero) | inr apart ↦ omega (arith, apart) ]) few keeps rest
+    follows_lost deeds w owed (elim (cases_eq w.lost 0) [ inl zero ↦ absurd (other zero) | inr apart ↦ omega (arith, apart) ]) few keeps rest
 
 follows : (deeds : List Deed) → FollowsAll deeds
 follows [] w owed few keeps = (owed, append-nil owed, keeps)
