@@ -7,7 +7,7 @@ use Rattle.sb_types.specs.Records.{Block}
 use Rattle.sb_types.specs.Runs.{Stands}
 use Rattle.sb_types.specs.Writes.{Honest}
 use Rattle.sb_holdings.specs.Nodes.{Node, IsNode, NodeHolds}
-use Rattle.sb_holdings.proofs.Lists.{either}
+use Rattle.sb_types.proofs.Standing.{either}
 use Rattle.sb_digest.specs.Digests as digests
 use Rattle.sb_codec.specs.declared.message.Message.{Message}
 use Rattle.sb_codec.specs.declared.message.Message.TheVariants as kinds

@@ -3,7 +3,7 @@ use Rattle.std.proofs.Common.{◌≡◌, Bool, false, List, [], ◌∷◌, ◌++
 use Rattle.std.specs.List.{flat_map}
 use Rattle.std.proofs.lemmas.Grind.{flat_map-append}
 use Rattle.sb_holdings.specs.Nodes.{Node, replay_node}
-use Rattle.sb_holdings.proofs.Lists.{either}
+use Rattle.sb_types.proofs.Standing.{either}
 use Rattle.sb_holdings.proofs.Nodes.{replay_node-append}
 use Rattle.sb_session.specs.Handlers.{Act, tells, gives, applies, may_enter}
 use Rattle.sb_node.specs.Calls.{Call, events_of, replay_calls, AreCalls}

@@ -1,7 +1,7 @@
 -- Watches with ascending ids: each id once, and what the calls leave of that.
-use Rattle.std.proofs.Common.{◌≡◌, ℕ, zero, suc, ◌+◌, ◌<◌, ◌≤◌, Bool, true, false, not, cond, List, [], ◌∷◌, ◌++◌, length, get_or, map, filter, position, Option, Some, None, Ok, Err, set, refl, sym, ap, ap₂, subst, ◌∙◌, arith, nat_le, true≢false}
+use Rattle.std.proofs.Common.{◌≡◌, ℕ, zero, suc, ◌+◌, ◌<◌, ◌≤◌, Bool, true, false, not, cond, List, [], ◌∷◌, ◌++◌, length, get_or, map, filter, position, Some, None, Ok, Err, set, refl, sym, ap, ap₂, subst, ◌∙◌, arith, nat_le, true≢false}
 use Rattle.std.specs.List.{list_any, remove}
-use Rattle.std.proofs.lemmas.Bool.{cases_Bool, cond-true, cond-false, and_parts, and_from, or_from, leb-true, le-leb, eqb-true, ne_eqb, false_from_ne_true, not_from_true, not_from_false}
+use Rattle.std.proofs.lemmas.Bool.{cond-true, cond-false, and_parts, and_from, or_from, leb-true, le-leb, eqb-true, ne_eqb, false_from_ne_true, not_from_true, not_from_false}
 use Rattle.std.proofs.lemmas.List.{map-append, length-append}
 use Rattle.std.proofs.lemmas.List.Quantifiers.{position-Some}
 use Rattle.sb_types.specs.declared.fault.Fault.TheVariants.{NoWatch}
@@ -71,8 +71,8 @@ other_before : (id least next : ℕ) (w : Watch) (ws : List Watch) (i : ℕ) (d 
 other_before id least next w ws i d up there passes =
     let parts = and_parts (nat_le least w.id) (are_ids (w.id + 1) next (map id_of ws)) up in
     false_from_ne_true (is_id id w) (λ same.
-        let equal = eqb-true w.id id same in
-        absurd (true≢false (sym (any_at (is_id id) ws i d there passes) ∙ none_below id (w.id + 1) next ws (omega (arith, equal)) parts.1)))
+    let equal = eqb-true w.id id same in
+    absurd (true≢false (sym (any_at (is_id id) ws i d there passes) ∙ none_below id (w.id + 1) next ws (omega (arith, equal)) parts.1)))
 
 none_behind : (id least next : ℕ) (w : Watch) (ws : List Watch) → are_ids least next (map id_of (w ∷ ws)) ≡ true → is_id id w ≡ true → list_any (is_id id) ws ≡ false
 none_behind id least next w ws up passes =
@@ -113,10 +113,10 @@ same_length f (w ∷ ws) = ap (λ (n : ℕ). suc n) (same_length f ws)
 hub_mapped : (f : Watch → Watch) (hub : Hub) → ((w : Watch) → (f w).id ≡ w.id) → IsHub hub → IsHub (record { watches = map f hub.watches; next = hub.next })
 hub_mapped f hub same is = record {
   ids = subst (λ (ids : List ℕ). are_ids 0 hub.next ids ≡ true) (sym (same_ids f same hub.watches)) is.ids;
-  few = let same = same_length f hub.watches in let few = is.few in omega (arith, same, few)
+  few = let same = same_length f hub.watches in let few = is.few in omega (arith, same, few);
 }
 
-cond_id : (b : Bool) (v w : Watch) → v.id ≡ w.id → (cond b v w).id ≡ w.id
+pub cond_id : (b : Bool) (v w : Watch) → v.id ≡ w.id → (cond b v w).id ≡ w.id
 cond_id true v w same = same
 cond_id false v w same = refl
 
@@ -129,13 +129,13 @@ hub_answered hub id is = hub_mapped (change (is_id id) answered) hub (λ w. cond
 pub hub_without : (hub : Hub) (id : ℕ) → IsHub hub → IsHub (without_watch hub id)
 hub_without hub id is = record {
   ids = ids_filtered (λ w. not (is_id id w)) 0 hub.next hub.watches is.ids;
-  few = let fewer = few_filtered (λ w. not (is_id id w)) hub.watches in let few = is.few in omega (arith, fewer, few)
+  few = let fewer = few_filtered (λ w. not (is_id id w)) hub.watches in let few = is.few in omega (arith, fewer, few);
 }
 
 pub hub_with : (hub : Hub) (w : Watch) → w.id ≡ hub.next → length hub.watches < WATCHES_MOST → IsHub hub → IsHub (record { watches = hub.watches ++ w ∷ []; next = hub.next + 1 })
 hub_with hub w next room is = record {
   ids = subst (λ (ids : List ℕ). are_ids 0 (hub.next + 1) ids ≡ true) (sym (map-append id_of hub.watches (w ∷ []) ∙ ap (λ (id : ℕ). map id_of hub.watches ++ id ∷ []) next)) (ids_more 0 hub.next (map id_of hub.watches) is.ids);
-  few = let longer = length-append hub.watches (w ∷ []) in omega (arith, longer, room)
+  few = let longer = length-append hub.watches (w ∷ []) in omega (arith, longer, room);
 }
 
 -- ---- the watch that is found, changed or taken out

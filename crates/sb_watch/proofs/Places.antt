@@ -1,7 +1,7 @@
 -- The first element that passes a test, changed or taken out where no other passes.
-use Rattle.std.proofs.Common.{◌≡◌, ◌≢◌, ℕ, zero, suc, ◌<◌, ◌≤◌, Bool, true, false, not, cond, ltb, ◌||◌, List, [], ◌∷◌, length, get_or, map, filter, find, position, Option, Some, None, is_some, set, refl, sym, ap, ap₂, ◌∙◌, arith, true≢false}
-use Rattle.std.specs.List.{list_any, position_or_len, remove}
-use Rattle.std.proofs.lemmas.Bool.{cases_Bool, cond-true, cond-false, or_parts, or_left, or_right, or_from, ltb-false, ltb-true, false_from_ne_true}
+use Rattle.std.proofs.Common.{◌≡◌, ℕ, zero, suc, ◌<◌, Bool, true, false, not, cond, List, [], ◌∷◌, length, get_or, map, filter, find, position, Option, Some, None, is_some, refl, sym, ap, ap₂, ◌∙◌, arith, true≢false}
+use Rattle.std.specs.List.{list_any, position_or_len}
+use Rattle.std.proofs.lemmas.Bool.{cond-true, cond-false, or_parts, or_left, or_right, ltb-false, false_from_ne_true}
 use Rattle.std.proofs.lemmas.Option.{none-some}
 use Rattle.std.proofs.lemmas.List.Folds.{Any-from_list_any}
 use Rattle.std.proofs.lemmas.List.Quantifiers.{position-Some}
@@ -43,9 +43,9 @@ module _ {X : Type 0} (p : X → Bool) where
   none_placed xs none =
       let far = ltb-false (position_or_len p xs) (length xs) (no_place _ _ none) in
       false_from_ne_true (list_any p xs) (λ passes.
-          let any = Any-from_list_any p xs passes in
-          let fails = fails_before_first p xs any.0 any.1 (omega (arith, any.2, far)) in
-          absurd (true≢false (sym any.4 ∙ ap p (sym any.3) ∙ fails)))
+      let any = Any-from_list_any p xs passes in
+      let fails = fails_before_first p xs any.0 any.1 (omega (arith, any.2, far)) in
+      absurd (true≢false (sym any.4 ∙ ap p (sym any.3) ∙ fails)))
 
   first_found : (xs : List X) (i : ℕ) (d : X) → i < length xs → p (get_or xs i d) ≡ true → ((k : ℕ) → k < i → p (get_or xs k d) ≡ false) → find p xs ≡ Some (get_or xs i d)
   first_found [] i d there passes before = absurd (omega arith)

@@ -1,5 +1,5 @@
 -- What the calls of a hub answer, and what they make of it.
-use Rattle.std.specs.Prelude.{◌≡◌, ℕ, ◌+◌, ◌-◌, ◌^◌, ◌≤◌, ◌<◌, Bool, true, false, not, ◌&&◌, ◌||◌, ◌==◌, nat_le, nat_lt, if◌then◌else◌, List, [], ◌∷◌, ◌++◌, map, filter, find, length, Option, Some, None, Result, Ok, Err}
+use Rattle.std.specs.Prelude.{◌≡◌, ℕ, ◌+◌, ◌-◌, ◌^◌, ◌≤◌, Bool, true, not, ◌&&◌, ◌||◌, ◌==◌, nat_le, if◌then◌else◌, List, [], ◌∷◌, ◌++◌, map, filter, find, length, Option, Some, None, Result, Ok, Err}
 use Rattle.std.specs.List.{list_any, AllByRecursion}
 use Rattle.sb_types.specs.Text.{is_between}
 use Rattle.sb_types.specs.declared.fault.Fault.{Fault}
@@ -39,13 +39,17 @@ with_watch hub filter capacity = record { watches = hub.watches ++ new_watch hub
 abbrev pub with_push : Hub → Note → Hub
 with_push hub note = record { watches = map (told note) hub.watches; next = hub.next }
 
+-- the watch with the id, where one stands
+abbrev pub watch_at : Hub → ℕ → Option Watch
+watch_at hub id = find (is_id id) hub.watches
+
 abbrev pub answer_if_found : Option Watch → Result Polled Fault
 answer_if_found None = Err NoWatch
 answer_if_found (Some w) = Ok (answer_of w)
 
 -- the answer of the watch with the id
 abbrev pub answer_at : Hub → ℕ → Result Polled Fault
-answer_at hub id = answer_if_found (find (is_id id) hub.watches)
+answer_at hub id = answer_if_found (watch_at hub id)
 
 -- the watch with the id has answered, and the others are as they were
 abbrev pub with_answer : Hub → ℕ → Hub
@@ -68,3 +72,7 @@ pub record IsHub (hub : Hub) : Type 0 where
   -- no two watches have the same id, and none the next
   pub ids : are_ids 0 hub.next (map id_of hub.watches) ≡ true
   pub few : length hub.watches ≤ WATCHES_MOST
+
+-- every note that a watch keeps passes the test
+abbrev pub AllNotes : (Note → Bool) → Hub → Type 0
+AllNotes test hub = AllByRecursion (λ w. AllByRecursion (λ note. test note ≡ true) w.notes) hub.watches

@@ -1,12 +1,12 @@
 -- A watch over a whole run of notes and questions: what it owes, and what it answers of that.
-use Rattle.std.specs.Prelude.{◌≡◌, ℕ, ◌-◌, ◌^◌, ◌<◌, ◌≤◌, min, nat_lt, if◌then◌else◌, List, [], ◌∷◌, ◌++◌, length, drop}
+use Rattle.std.specs.Prelude.{◌≡◌, ◌-◌, ◌<◌, ◌≤◌, if◌then◌else◌, List, [], ◌∷◌, length, drop}
 use Rattle.circular_buffer.specs.Buffer.{keep_last}
 use Rattle.sb_watch.specs.declared.note.Filter.{Filter}
 use Rattle.sb_watch.specs.declared.note.Note.{Note}
 use Rattle.sb_watch.specs.declared.note.Polled.{Polled}
 use Rattle.sb_watch.specs.declared.note.Polled.TheVariants as answers
 use Rattle.sb_watch.specs.Records.{Watch}
-use Rattle.sb_watch.specs.Watches.{matches, told, oldest, answer_of, answered}
+use Rattle.sb_watch.specs.Watches.{matches, told, answer_of, answered}
 
 -- what happens to a watch: a note comes, or it is asked
 pub data Deed : Type 0 where

@@ -78,7 +78,8 @@ impl Hub {
             return Err(Fault::WatchesFull);
         }
         let id = self.next;
-        self.watches.push(Watch::new(self.alloc, id, filter, capacity)?)?;
+        self.watches
+            .push(Watch::new(self.alloc, id, filter, capacity)?)?;
         self.next += 1;
         Ok(WatchId::new(id))
     }

@@ -58,15 +58,69 @@ const NOTES: [(&[u8], &[u8], u64); 5] = [
 ];
 
 const CASES: [Case; 9] = [
-    Case { owner: b"a", prefix: b"net/", capacity: 2, lost: 1, given: &[1, 3] },
-    Case { owner: b"a", prefix: b"net/", capacity: 3, lost: 0, given: &[0, 1, 3] },
-    Case { owner: b"", prefix: b"net/", capacity: 4, lost: 0, given: &[0, 1, 3, 4] },
-    Case { owner: b"", prefix: b"", capacity: 1, lost: 4, given: &[4] },
-    Case { owner: b"", prefix: b"", capacity: 1024, lost: 0, given: &[0, 1, 2, 3, 4] },
-    Case { owner: b"b", prefix: b"", capacity: 1, lost: 0, given: &[4] },
-    Case { owner: b"", prefix: b"w", capacity: 1, lost: 0, given: &[2] },
-    Case { owner: b"a", prefix: b"net/a/", capacity: 1, lost: 0, given: &[] },
-    Case { owner: b"c", prefix: b"", capacity: 1, lost: 0, given: &[] },
+    Case {
+        owner: b"a",
+        prefix: b"net/",
+        capacity: 2,
+        lost: 1,
+        given: &[1, 3],
+    },
+    Case {
+        owner: b"a",
+        prefix: b"net/",
+        capacity: 3,
+        lost: 0,
+        given: &[0, 1, 3],
+    },
+    Case {
+        owner: b"",
+        prefix: b"net/",
+        capacity: 4,
+        lost: 0,
+        given: &[0, 1, 3, 4],
+    },
+    Case {
+        owner: b"",
+        prefix: b"",
+        capacity: 1,
+        lost: 4,
+        given: &[4],
+    },
+    Case {
+        owner: b"",
+        prefix: b"",
+        capacity: 1024,
+        lost: 0,
+        given: &[0, 1, 2, 3, 4],
+    },
+    Case {
+        owner: b"b",
+        prefix: b"",
+        capacity: 1,
+        lost: 0,
+        given: &[4],
+    },
+    Case {
+        owner: b"",
+        prefix: b"w",
+        capacity: 1,
+        lost: 0,
+        given: &[2],
+    },
+    Case {
+        owner: b"a",
+        prefix: b"net/a/",
+        capacity: 1,
+        lost: 0,
+        given: &[],
+    },
+    Case {
+        owner: b"c",
+        prefix: b"",
+        capacity: 1,
+        lost: 0,
+        given: &[],
+    },
 ];
 
 fn read_notes(alloc: Global) -> Result<Vec<Note>, Fail> {
@@ -174,8 +228,18 @@ fn ids_end_with_the_numbers(rt: HostRuntime) -> Result<(), Fail> {
 fn example_of_watches(rt: HostRuntime) -> Result<(), Fail> {
     let alloc = rt.alloc();
     let mut hub = Hub::new(alloc);
-    let id = hub.add(Filter { owner: None, prefix: Prefix::read(b"net/")? }, 2)?;
-    hub.push(&Note { owner: Name::read(b"a")?, key: Key::read(b"net/b")?, version: 2 });
+    let id = hub.add(
+        Filter {
+            owner: None,
+            prefix: Prefix::read(b"net/")?,
+        },
+        2,
+    )?;
+    hub.push(&Note {
+        owner: Name::read(b"a")?,
+        key: Key::read(b"net/b")?,
+        version: 2,
+    });
     assert!(rt; matches!(hub.take(id), Ok(Polled::Note(note)) if note.version == 2));
     assert_eq!(rt; hub.take(id), Ok(Polled::Empty));
     Ok(())

@@ -28,7 +28,12 @@ impl Model for Watch {
 
 impl Watch {
     /// A watch to which no note has come. `NoMemory`.
-    pub(crate) fn new(alloc: Global, id: u64, filter: Filter, capacity: usize) -> Result<Watch, Fault>
+    pub(crate) fn new(
+        alloc: Global,
+        id: u64,
+        filter: Filter,
+        capacity: usize,
+    ) -> Result<Watch, Fault>
         ensures found { IfOk result (λ watch. watch ≡ spec.new_watch id filter capacity) }
         ensures fault { IfErr result (λ fault. fault ≡ Fault.NoMemory) }
     {

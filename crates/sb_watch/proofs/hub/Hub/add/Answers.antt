@@ -1,4 +1,4 @@
-use Rattle.std.proofs.Common.{◌≡◌, ◌≤◌, ap, ◌∙◌, sym, arith}
+use Rattle.std.proofs.Common.{ap, arith}
 use Rattle.sb_watch.specs.Records.{Watch}
 use Rattle.sb_watch.proofs.Ids.{hub_of, hub_with, none_at_next}
 use Rattle.sb_watch.proofs.hub.Hub.add.Goals as goal

@@ -1,7 +1,6 @@
-use Rattle.std.proofs.Common.{◌≡◌, ap, ◌∙◌, sym, subst, position, Ok, Err}
+use Rattle.std.proofs.Common.{ap, ◌∙◌, sym, subst, position}
 use Rattle.std.proofs.lemmas.Bool.{cond-true, cond-false}
-use Rattle.sb_types.specs.declared.fault.Fault.TheVariants.{NoWatch}
-use Rattle.sb_watch.specs.Hubs.{is_id, has_watch, IsHub}
+use Rattle.sb_watch.specs.Hubs.{is_id, IsHub}
 use Rattle.sb_watch.proofs.Places.{any_placed, none_placed}
 use Rattle.sb_watch.proofs.Ids.{hub_of, hub_without, dropped_at, none_left_out}
 use Rattle.sb_watch.proofs.hub.Hub.drop_watch.Goals as goal

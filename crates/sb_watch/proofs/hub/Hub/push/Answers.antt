@@ -1,4 +1,4 @@
-use Rattle.std.proofs.Common.{◌≡◌, ap, ◌∙◌, sym, length, drop}
+use Rattle.std.proofs.Common.{ap, ◌∙◌, sym, length, drop}
 use Rattle.std.proofs.Math.Seq.{take-append_seam}
 use Rattle.sb_watch.specs.Watches.{told}
 use Rattle.sb_watch.proofs.Ids.{hub_of, hub_pushed, same_length}

@@ -1,4 +1,4 @@
-use Rattle.std.proofs.Common.{◌≡◌, ap, ◌∙◌, sym, subst, position, Ok}
+use Rattle.std.proofs.Common.{ap, ◌∙◌, sym, subst, position, Ok}
 use Rattle.sb_watch.specs.Watches.{answer_of, answered}
 use Rattle.sb_watch.specs.Hubs.{is_id, IsHub}
 use Rattle.sb_watch.proofs.Ids.{hub_of, hub_answered, taken_at, none_taken, answer_found, answer_of_none}
