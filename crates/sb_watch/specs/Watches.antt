@@ -28,7 +28,9 @@ lost_with_one_more w = if nat_lt (length w.notes) w.capacity then w.lost else mi
 
 -- the last notes that there is room for, this one behind the others
 abbrev pub with_note : Watch → Note → Watch
-with_note w note = record { id = w.id; filter = w.filter; capacity = w.capacity; notes = keep_last w.capacity (w.notes ++ note ∷ []); lost = lost_with_one_more w }
+with_note w note =
+    let notes = keep_last w.capacity (w.notes ++ note ∷ []) in
+    record { id = w.id; filter = w.filter; capacity = w.capacity; notes = notes; lost = lost_with_one_more w }
 
 -- what a note makes of a watch
 abbrev pub told : Note → Watch → Watch
@@ -44,4 +46,5 @@ answer_of w = if w.lost == 0 then oldest w.notes else answers.Lagged w.lost
 
 -- the watch once it has answered: that number is told, or that note is handed out
 abbrev pub answered : Watch → Watch
-answered w = record { id = w.id; filter = w.filter; capacity = w.capacity; notes = if w.lost == 0 then drop 1 w.notes else w.notes; lost = 0 }
+answered w =
+    record { id = w.id; filter = w.filter; capacity = w.capacity; notes = if w.lost == 0 then drop 1 w.notes else w.notes; lost = 0 }
