@@ -1,5 +1,5 @@
 -- What the steps of a session make of a node.
-use Rattle.std.proofs.Common.{◌≡◌, ℕ, Bool, true, false, List, [], ◌∷◌, Option, Some, None, Result, Ok, Err, inl, inr, ⊎_elim, refl, sym, ap, subst, ◌∙◌}
+use Rattle.std.proofs.Common.{◌≡◌, ℕ, Bool, true, false, List, Option, Some, None, Result, Ok, Err, inl, ⊎_elim, refl, subst, ◌∙◌}
 use Rattle.sb_types.specs.declared.fault.Fault.{Fault}
 use Rattle.sb_types.specs.Records.{Block}
 use Rattle.sb_digest.specs.Digests as digests
@@ -11,7 +11,7 @@ use Rattle.sb_session.specs.declared.replies.Replies.{Replies}
 use Rattle.sb_session.specs.declared.replies.Replies.TheVariants as replies
 use Rattle.sb_session.specs.Handlers.{tells, gives, applies}
 use Rattle.sb_session.specs.Sessions.{Session, refusal_of}
-use Rattle.sb_session.specs.Taking.{Answers, RefusesEither, Exchanges, AnswersDigest, Applies, TakesUp, TakesUnless, Takes, AsksWith, AsksIn, Asks}
+use Rattle.sb_session.specs.Taking.{RefusesEither, AnswersDigest, Applies, TakesUp, TakesUnless, Takes, AsksWith, AsksIn, Asks}
 use Rattle.sb_node.specs.Acts.{enters_nothing}
 use Rattle.sb_node.specs.Calls.{replay_calls, AreBlocks, Applied}
 use Rattle.sb_node.specs.Cores.{Core, with_node}

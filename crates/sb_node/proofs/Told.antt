@@ -1,5 +1,5 @@
 -- What a whole session tells of a node, and what it leaves of it.
-use Rattle.std.proofs.Common.{◌≡◌, ℕ, ◌==◌, Bool, true, false, List, [], ◌∷◌, ◌++◌, Option, Some, None, Result, Ok, Err, inl, inr, ⊎_elim, refl, sym, ap, subst, ◌∙◌}
+use Rattle.std.proofs.Common.{◌≡◌, ℕ, ◌==◌, Bool, true, false, List, [], ◌∷◌, ◌++◌, Option, Some, None, Result, Ok, inl, inr, ⊎_elim, refl, sym, subst}
 use Rattle.sb_types.specs.declared.entry.Write.{Write}
 use Rattle.sb_types.specs.declared.fault.Fault.{Fault}
 use Rattle.sb_types.specs.declared.format.TheConstants.{REASON_ROUNDS_DONE}
@@ -16,8 +16,8 @@ use Rattle.sb_session.specs.declared.session.Phase.TheVariants as phases
 use Rattle.sb_session.specs.declared.replies.Replies.{Replies}
 use Rattle.sb_session.specs.declared.replies.Replies.TheVariants as replies
 use Rattle.sb_session.specs.Sessions.{Session, refusal_of}
-use Rattle.sb_session.specs.Taking.{messages_of, TakesUp, Takes, AsksWith, AsksIn, Asks}
-use Rattle.sb_session.specs.Talks.{Party, Move, hears, speaks, heard_in, SpeaksOn, Speaks, Moves, Run}
+use Rattle.sb_session.specs.Taking.{messages_of, Takes, AsksWith, AsksIn}
+use Rattle.sb_session.specs.Talks.{Party, Move, hears, speaks, heard_in, SpeaksOn, Speaks, Run}
 use Rattle.sb_node.specs.Answers.{IsAnswer}
 use Rattle.sb_node.specs.Calls.{Call, Applied, replay_calls, AreBlocks, AreHonest, IsCall, TrueCall, AreCalls, AreTrue}
 use Rattle.sb_node.specs.Cores.{Core, with_node}

@@ -1,12 +1,12 @@
 -- The calls of a session, one after the other.
-use Rattle.std.proofs.Common.{◌≡◌, Bool, false, List, [], ◌∷◌, ◌++◌, Ok, Err, ⊎_elim, refl, sym, ap, ◌∙◌}
+use Rattle.std.proofs.Common.{◌≡◌, false, List, [], ◌++◌, Ok, Err, ⊎_elim, refl, sym, ap, ◌∙◌}
 use Rattle.std.specs.List.{flat_map}
 use Rattle.std.proofs.lemmas.Grind.{flat_map-append}
 use Rattle.sb_holdings.specs.Nodes.{Node, replay_node}
 use Rattle.sb_types.proofs.Standing.{either}
 use Rattle.sb_holdings.proofs.Nodes.{replay_node-append}
 use Rattle.sb_session.specs.Handlers.{Act, tells, gives, applies, may_enter}
-use Rattle.sb_node.specs.Calls.{Call, events_of, replay_calls, AreCalls}
+use Rattle.sb_node.specs.Calls.{Call, events_of, replay_calls}
 use Rattle.sb_node.specs.Cores.{Core, with_node}
 use Rattle.sb_node.specs.Steps.{entered_by, Steps, IsReplay}
 

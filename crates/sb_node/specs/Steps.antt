@@ -1,5 +1,5 @@
 -- The calls that a session makes to a node: what it answers, and what they leave.
-use Rattle.std.specs.Prelude.{◌≡◌, List, [], ◌∷◌, Option, Result, Ok, Err}
+use Rattle.std.specs.Prelude.{◌≡◌, List, [], ◌∷◌, Ok, Err}
 use Rattle.sb_types.specs.declared.fault.Fault.TheVariants.{NoMemory}
 use Rattle.sb_digest.specs.Builders.{IsLongestFront}
 use Rattle.sb_digest.specs.Pairs.{pairs_from}

@@ -5,7 +5,10 @@ mod handler;
 mod laws;
 mod node;
 
-pub use laws::{answers_are_honest, calls_keep_truth, deltas_keep_truth, sessions_are_replays, sessions_keep_truth};
+pub use laws::{
+    answers_are_honest, calls_keep_truth, deltas_keep_truth, sessions_are_replays,
+    sessions_keep_truth,
+};
 pub use node::NodeCore;
 
 #[cfg(test)]

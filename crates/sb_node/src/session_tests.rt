@@ -92,7 +92,12 @@ fn two_nodes_talk(rt: HostRuntime) -> Result<(), Fail> {
     let alloc = rt.alloc();
     let [a, b] = [Name::read(b"a")?, Name::read(b"b")?];
     let mut asked = node(alloc, b, 256, Order::Breadth)?;
-    write(&mut asked, &mut log_of(alloc, b)?, b"w", &Slot::Set(Value::flag(true)))?;
+    write(
+        &mut asked,
+        &mut log_of(alloc, b)?,
+        b"w",
+        &Slot::Set(Value::flag(true)),
+    )?;
     let served = talk(&mut asked, alloc, SAID_BY_A, None, SAID_BY_B)?;
     assert_eq!(rt; served, (Ended::Bye(1), true));
     let told = talk(&mut asked, alloc, b"", Some(0), DIALED_BY_B)?;
@@ -118,7 +123,10 @@ fn writes_of(alloc: Global, owners: u64) -> Result<Delta, Fault> {
 
 /// How many digests a session asks with until one has no end, and how many owners they tell of; nothing where one
 /// does not begin where the last one ended.
-fn asked_in_turn(core: &mut NodeCore, session: &mut Session) -> Result<Option<(u64, usize)>, Fault> {
+fn asked_in_turn(
+    core: &mut NodeCore,
+    session: &mut Session,
+) -> Result<Option<(u64, usize)>, Fault> {
     let mut from = None;
     let mut told = 0usize;
     for count in 1..=1_024u64 {

@@ -33,7 +33,12 @@ fn commit(log: &mut PlainLog, key: &[u8], slot: &Slot) -> Result<Committed, Faul
 }
 
 /// A write that is committed and entered.
-pub(crate) fn write(core: &mut NodeCore, log: &mut PlainLog, key: &[u8], slot: &Slot) -> Result<(), Fault> {
+pub(crate) fn write(
+    core: &mut NodeCore,
+    log: &mut PlainLog,
+    key: &[u8],
+    slot: &Slot,
+) -> Result<(), Fault> {
     core.take_own(&commit(log, key, slot)?)
 }
 

@@ -1,7 +1,6 @@
 //! A whole session over a reader and a writer.
 
 ghost use Rattle.std.specs.Prelude.{◌≡◌, ◌+◌, ℕ, true, false, [], ◌∷◌, Some, None, IfOk};
-ghost use Rattle.sb_frames.specs.Receiving.{held_of};
 ghost use Rattle.sb_frames.specs.Sending.{OnlyWhereFailed};
 ghost use Rattle.sb_session.specs.Telling.{Says};
 ghost use Rattle.sb_session.specs.Taking.{messages_of, bye_of};
