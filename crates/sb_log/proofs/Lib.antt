@@ -1,1 +1,7 @@
-pub mod Refusals
+mod Refusals
+mod Texts
+mod Cells
+mod Reading
+mod Making
+mod Upserting
+mod Unique

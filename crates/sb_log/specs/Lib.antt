@@ -1,2 +1,4 @@
 pub mod Records
 pub mod Puts
+pub mod Form
+pub mod Rows

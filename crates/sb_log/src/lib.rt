@@ -5,6 +5,9 @@ mod check;
 mod committed;
 mod log;
 mod plain;
+mod rows;
+mod schema;
+mod statements;
 
 pub use committed::Committed;
 pub use log::WriteLog;

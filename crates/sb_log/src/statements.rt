@@ -1,0 +1,58 @@
+//! The statements of a log, each of which commits by itself.
+ghost use Rattle.std.specs.Prelude.{◌≡◌, ◌≤◌, [], map, IsPermutation, IfOk, IfErr, OnOk};
+ghost use Rattle.sqlite_trees.specs.View.{doubt};
+ghost use Rattle.sqlite.specs.Held.{state};
+ghost use Rattle.sqlite.specs.State.{HasCleanDisk, IsUnchanged};
+ghost use Rattle.sb_log.specs.Form.{no_schema, meta_schema, log_schema};
+ghost use Rattle.sb_log.specs.Rows.{cells};
+
+use sb_types::Fault;
+use sqlite::{Alter, Connection, Row};
+
+/// Makes the table of the log's owner. `StoreFailed`.
+pub(crate) fn make_meta<S: Alter>(conn: &mut Connection<S>) -> Result<(), Fault>
+    ensures schema { HasCleanDisk (state S.Store conn.new) → (state S.Store conn.old).now.schema ≡ no_schema → OnOk result ((state S.Store conn.new).now.schema ≡ meta_schema) }
+    ensures rows { HasCleanDisk (state S.Store conn.new) → (state S.Store conn.old).now.schema ≡ no_schema → OnOk result ((state S.Store conn.new).now.trees 0 ≡ []) }
+    ensures clean { doubt (state S.Store conn.old).is_clean ≤ doubt (state S.Store conn.new).is_clean }
+    ensures fault { IfErr result (λ fault. fault ≡ Fault.StoreFailed) }
+{
+    match conn.execute(
+        "CREATE TABLE meta (id INTEGER PRIMARY KEY CHECK (id = 1), form INTEGER NOT NULL, owner TEXT NOT NULL, cluster TEXT NOT NULL, last INTEGER NOT NULL, floor INTEGER NOT NULL) STRICT",
+        &[],
+    ) {
+        Ok(_) => Ok(()),
+        Err(_) => Err(Fault::StoreFailed),
+    }
+}
+
+/// Makes the table of the writes beside it. `StoreFailed`.
+pub(crate) fn make_writes<S: Alter>(conn: &mut Connection<S>) -> Result<(), Fault>
+    ensures schema { HasCleanDisk (state S.Store conn.new) → (state S.Store conn.old).now.schema ≡ meta_schema → OnOk result ((state S.Store conn.new).now.schema ≡ log_schema) }
+    ensures rows { HasCleanDisk (state S.Store conn.new) → (state S.Store conn.old).now.schema ≡ meta_schema → OnOk result ((state S.Store conn.new).now.trees 1 ≡ []) }
+    ensures meta { HasCleanDisk (state S.Store conn.new) → (state S.Store conn.old).now.schema ≡ meta_schema → OnOk result ((state S.Store conn.new).now.trees 0 ≡ (state S.Store conn.old).now.trees 0) }
+    ensures clean { doubt (state S.Store conn.old).is_clean ≤ doubt (state S.Store conn.new).is_clean }
+    ensures fault { IfErr result (λ fault. fault ≡ Fault.StoreFailed) }
+{
+    match conn.execute(
+        "CREATE TABLE writes (k TEXT PRIMARY KEY NOT NULL, version INTEGER NOT NULL UNIQUE, tag INTEGER NOT NULL, num INTEGER, txt TEXT) STRICT",
+        &[],
+    ) {
+        Ok(_) => Ok(()),
+        Err(_) => Err(Fault::StoreFailed),
+    }
+}
+
+/// The rows of the writes, by version. `StoreFailed`.
+pub(crate) fn read_rows<S: Alter>(conn: &mut Connection<S>) -> Result<Vec<Row>, Fault>
+    ensures rows { HasCleanDisk (state S.Store conn.new) → (state S.Store conn.old).now.schema ≡ log_schema → IfOk result (λ rows. IsPermutation (map cells ((state S.Store conn.old).now.trees 1)) rows.items) }
+    ensures clean { doubt (state S.Store conn.old).is_clean ≤ doubt (state S.Store conn.new).is_clean }
+    ensures fault { IfErr result (λ fault. fault ≡ Fault.StoreFailed) }
+{
+    match conn.query_all(
+        "SELECT k, version, tag, num, txt FROM writes ORDER BY version",
+        &[],
+    ) {
+        Ok(rows) => Ok(rows),
+        Err(_) => Err(Fault::StoreFailed),
+    }
+}
