@@ -5,3 +5,6 @@ mod Reading
 mod Making
 mod Upserting
 mod Unique
+mod Updating
+mod Entering
+mod Writing

@@ -2,3 +2,4 @@ pub mod Records
 pub mod Puts
 pub mod Form
 pub mod Rows
+pub mod Standing

@@ -1,12 +1,15 @@
 //! The statements of a log, each of which commits by itself.
-ghost use Rattle.std.specs.Prelude.{◌≡◌, ◌≤◌, [], map, IsPermutation, IfOk, IfErr, OnOk};
+ghost use Rattle.std.specs.Prelude.{◌≡◌, ◌<◌, ◌≤◌, ◌^◌, ◌⊎◌, true, [], map, IsPermutation, IfOk, IfErr, OnOk};
+ghost use Rattle.sqlite_trees.specs.Tree.{Trees};
 ghost use Rattle.sqlite_trees.specs.View.{doubt};
 ghost use Rattle.sqlite.specs.Held.{state};
 ghost use Rattle.sqlite.specs.State.{HasCleanDisk, IsUnchanged};
 ghost use Rattle.sb_log.specs.Form.{no_schema, meta_schema, log_schema};
-ghost use Rattle.sb_log.specs.Rows.{cells};
+ghost use Rattle.sb_log.specs.Rows.{cells, is_kept, Enters};
+ghost use Rattle.sb_log.specs.Standing.{IsReady};
 
-use sb_types::Fault;
+use crate::rows::cells_of;
+use sb_types::{Entry, Fault};
 use sqlite::{Alter, Connection, Row};
 
 /// Makes the table of the log's owner. `StoreFailed`.
@@ -53,6 +56,29 @@ pub(crate) fn read_rows<S: Alter>(conn: &mut Connection<S>) -> Result<Vec<Row>, 
         &[],
     ) {
         Ok(rows) => Ok(rows),
+        Err(_) => Err(Fault::StoreFailed),
+    }
+}
+
+/// Writes an entry in place of its key's. `StoreFailed`.
+pub(crate) fn write_entry<S: Alter>(
+    conn: &mut Connection<S>,
+    entry: &Entry,
+) -> Result<(), Fault>
+    requires kept { is_kept entry.now ≡ true }
+    requires short { entry.now.version < 2 ^ 63 }
+    ensures enters { HasCleanDisk (state S.Store conn.new) → IsReady (state S.Store conn.old) → OnOk result (Enters entry.now ((state S.Store conn.old).now.trees 1) ((state S.Store conn.new).now.trees 1)) }
+    ensures ready { HasCleanDisk (state S.Store conn.new) → IsReady (state S.Store conn.old) → OnOk result (IsReady (state S.Store conn.new)) }
+    ensures crash { HasCleanDisk (state S.Store conn.new) → IsReady (state S.Store conn.old) → (db : Trees) → (state S.Store conn.new).may_leave db
+        → (state S.Store conn.old).may_leave db ⊎ Enters entry.now ((state S.Store conn.old).now.trees 1) (db 1) }
+    ensures clean { doubt (state S.Store conn.old).is_clean ≤ doubt (state S.Store conn.new).is_clean }
+    ensures fault { IfErr result (λ fault. fault ≡ Fault.StoreFailed) }
+{
+    match conn.execute(
+        "INSERT INTO writes (k, version, tag, num, txt) VALUES (?1, ?2, ?3, ?4, ?5) ON CONFLICT (k) DO UPDATE SET version = excluded.version, tag = excluded.tag, num = excluded.num, txt = excluded.txt",
+        &cells_of(entry),
+    ) {
+        Ok(_) => Ok(()),
         Err(_) => Err(Fault::StoreFailed),
     }
 }
