@@ -8,9 +8,11 @@ use Rattle.std.proofs.lemmas.Cmp.{nat_list_eq_equiv}
 use Rattle.std.proofs.lemmas.Bool.Decides.{nat_tests}
 use Rattle.std.proofs.lemmas.List.{map-append}
 use Rattle.std.proofs.lemmas.List.Sorted.{IsPermutation-refl, IsPermutation-cons, IsPermutation-middle, IsPermutation-sym, IsPermutation-map, IsPermutation-trans, IsPermutation-to_front, IsPermutation-filter_both, length_permutation}
+use Rattle.std.proofs.lemmas.Slice.Eq.{bytes_eq-Decides}
 use Rattle.sqlite_value.specs.declared.value.Value.{Value}
 use Rattle.sqlite_value.specs.declared.value.Value.TheVariants.{Text}
 use Rattle.sqlite_value.specs.declared.keys.Collation.TheVariants.{Binary}
+use Rattle.sqlite_value.specs.Keys.{first_key}
 use Rattle.sqlite_value.specs.Order.{Row, column, bytes, value_cmp}
 use Rattle.sqlite_value.proofs.OrderLemmas.{value_cmp-Text}
 use Rattle.sqlite_trees.specs.Tree.{rowid, put_row}
@@ -58,13 +60,14 @@ or_none false = refl
 
 -- only the key tells a conflict
 conflict_is : (new r : Row) → conflicts (Some (1 ∷ [])) log_schema.indexes writes_table new r ≡ equal Binary (column r 1) (column new 1)
+unfolding first_key
 conflict_is new r = alone (equal Binary (column r 1) (column new 1))
 
 module _ (e : Entry) where
-  matches : Row → Bool
+  abbrev matches : Row → Bool
   matches c = pointwise nat_eq e.key (bytes (column c 0)) || false
 
-  keeps : Row → Bool
+  abbrev keeps : Row → Bool
   keeps c = not (matches c)
 
   kept_entries : (es : List Entry) → filter keeps (map cells_of es) ≡ map cells_of (without (e ∷ []) es)
@@ -87,7 +90,7 @@ module _ (e : Entry) where
       subst (IsPermutation (map cells (new ∷ left))) (sym (map-append cells_of (without (e ∷ []) t.entries) (e ∷ [])))
       (IsPermutation-trans _ _ _ front (IsPermutation-sym _ _ (IsPermutation-to_front (map cells_of (without (e ∷ []) t.entries)) (cells_of e))))
 
-  HasText : Row → Type 0
+  abbrev HasText : Row → Type 0
   HasText c = (k : List ℕ) × (column c 0 ≡ Text k)
 
   entries_text : (es : List Entry) → AllByRecursion HasText (map cells_of es)
@@ -130,11 +133,11 @@ module _ (e : Entry) where
 
   one_match : (es : List Entry) → are_distinct es ≡ true → length (filter matches (map cells_of es)) ≤ 1
   one_match [] apart = omega arith
-  one_match (x ∷ es) apart = go (pointwise nat_eq e.key x.key) refl
+  one_match (x ∷ es) apart = go (pointwise nat_eq e.key x.key) refl (one_match es (and_parts _ _ apart).1)
     where
-      go : (b : Bool) → pointwise nat_eq e.key x.key ≡ b → length (cond (b || false) (cells_of x ∷ filter matches (map cells_of es)) (filter matches (map cells_of es))) ≤ 1
-      go true is = omega (arith, none_match x es is (not-true _ (and_parts _ _ apart).0))
-      go false is = one_match es (and_parts _ _ apart).1
+      go : (b : Bool) → pointwise nat_eq e.key x.key ≡ b → length (filter matches (map cells_of es)) ≤ 1 → length (cond (b || false) (cells_of x ∷ filter matches (map cells_of es)) (filter matches (map cells_of es))) ≤ 1
+      go true is later = omega (arith, none_match x es is (not-true _ (and_parts _ _ apart).0))
+      go false is later = later
 
   -- where the row of the key is taken out, those of other keys are left
   others_left : (t : Table) (rows left : List Row) (r : Row) → AreRowsOf t rows → IsPermutation rows (r ∷ left) → matches (cells r) ≡ true → IsPermutation (filter keeps (map cells rows)) (map cells left)
@@ -179,10 +182,18 @@ module _ (e : Entry) where
         holds rows are.numbered (IsPermutation-same _ _ (all_keep rows apart)) free
       where
         go : (b : Bool) → (b ≡ true → ⊥) → b ≡ false
-        go true no = absurd (no refl)
-        go false no = refl
+        go true never = absurd (never refl)
+        go false never = refl
 
     pub enters_there : (r : Row) (left : List Row) → Has rows r → Meets r ≡ true → IsPermutation rows (r ∷ left) → is_taken left new ≡ false → AreRowsOf (with_entry t e) (put_row new left)
     enters_there r left here meets split free =
         let has : matches (cells r) ≡ true = sym (matches_is new r key_is (rows_text t rows are r here)) ∙ meets in
         holds left (all-permutation _ rows (r ∷ left) split are.numbered).1 (others_left t rows left r are split has) free
+
+    -- a row that is met has the key
+    pub key_there : (r : Row) → Has rows r → Meets r ≡ true → column r 1 ≡ Text e.key
+    key_there r here meets =
+        let text = rows_text t rows are r here in
+        let alike : pointwise nat_eq e.key (bytes (column r 1)) ≡ true = sym (or_none _) ∙ sym (matches_is new r key_is text) ∙ meets in
+        let key : e.key ≡ text.0 = (bytes_eq-Decides e.key text.0).0 (ap (λ (v : Value). pointwise nat_eq e.key (bytes v)) (sym text.1) ∙ alike) in
+        text.1 ∙ ap Text (sym key)

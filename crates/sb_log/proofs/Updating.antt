@@ -1,5 +1,6 @@
 -- What the upsert makes of the row that has the key, where each rowid is an integer.
-use Rattle.std.proofs.Common.{◌≡◌, ◌⊎◌, inl, inr, ℕ, ℤ, suc, ◌≤◌, Bool, true, false, cond, not, ◌&&◌, true≢false, List, [], ◌∷◌, ◌++◌, length, length-map, map, drop, filter, flat_map, None, Some, Option, Ok, refl, sym, ap, subst, subst₂, ◌∙◌, arith, nat_lt, int_cmp, is_eq, All, IsPermutation}
+use Rattle.std.proofs.Common.{◌≡◌, ◌⊎◌, inl, inr, ℕ, ℤ, suc, ◌≤◌, Bool, true, false, cond, not, ◌&&◌, true≢false, List, [], ◌∷◌, ◌++◌, length, map, drop, filter, flat_map, None, Some, Option, Ok, refl, sym, ap, subst, subst₂, ◌∙◌, arith, nat_lt, int_cmp, is_eq, All, IsPermutation}
+use Rattle.std.proofs.lemmas.List.{length-map}
 use Rattle.std.specs.List.{AllByRecursion, list_all, list_any}
 use Rattle.std.specs.Ordering.{int_eq}
 use Rattle.std.proofs.lemmas.Bool.{and_parts}
@@ -30,12 +31,10 @@ use Rattle.sqlite_rules.proofs.ListLemmas.{some_from, has_kept}
 use Rattle.sqlite_rules.proofs.TableLemmas.{has_put, int_is}
 use Rattle.sqlite_rules.proofs.PlaceLemmas.{given}
 use Rattle.sb_log.specs.Form.{writes_table}
+use Rattle.sb_log.specs.Rows.{AreNumbered}
 use Rattle.sqlite.proofs.Callers.{one_permutation}
 use Rattle.sb_log.proofs.Upserting.{cast_int}
 use Rattle.sb_log.proofs.Texts.{update_query}
-
-pub AreKeyed : List Row → Type 0
-AreKeyed rows = AllByRecursion (λ r. is_int (rowid r) ≡ true) rows
 
 shown_truth : (b : Bool) → is_true (from_truth (Some b)) ≡ b
 shown_truth true = refl
@@ -64,8 +63,7 @@ rowid_is r n int has =
 abbrev keyed_at : ℤ → List Row → List Row
 keyed_at n rows = filter (has_rowid n) rows
 
-all_at : (n : ℤ) (rows : List Row) → AreKeyed rows → AllByRecursion (λ r. rowid r ≡ Int n) (keyed_at n rows)
-unfolding AreKeyed
+all_at : (n : ℤ) (rows : List Row) → AreNumbered rows → AllByRecursion (λ r. rowid r ≡ Int n) (keyed_at n rows)
 all_at n [] all = tt
 all_at n (r ∷ rows) all = go (has_rowid n r) refl (all_at n rows all.1)
   where
@@ -90,7 +88,7 @@ one_fresh n left (x ∷ y ∷ more) all fresh =
     let later = and_parts _ _ (and_parts _ _ fresh).1 in
     let tie : is_eq (value_cmp (rowid x) (rowid y)) ≡ true = rw (all.0, all.1.0, value_cmp-Int n n) (int_same n) in
     let taken : is_taken (put_row x left) y ≡ true = some_from (λ r. is_eq (value_cmp (rowid r) (rowid y))) (put_row x left) x (has_put x left) tie in
-    absurd (true≢false (sym (ap not taken ∙ refl) ∙ later.0))
+    absurd (true≢false (sym later.0 ∙ ap not taken))
 
 module _ (a b c d e : Value) where
   -- the parameters of the update: those of the statement, the rowid that is met, and the row that would be inserted
@@ -106,8 +104,7 @@ module _ (a b c d e : Value) where
   abbrev tested : Value → Value → List Row → List (List Row)
   tested id fresh rows = flat_map (λ (r : Row). cond (list_all (holds (env id fresh r)) update_query.filter) (env id fresh r ∷ []) []) rows
 
-  matched : (n : ℤ) (fresh : Value) (rows : List Row) → AreKeyed rows → tested (Int n) fresh rows ≡ map (env (Int n) fresh) (keyed_at n rows)
-  unfolding AreKeyed
+  matched : (n : ℤ) (fresh : Value) (rows : List Row) → AreNumbered rows → tested (Int n) fresh rows ≡ map (env (Int n) fresh) (keyed_at n rows)
   matched n fresh [] all = refl
   matched n fresh (r ∷ rows) all =
       let test : list_all (holds (env (Int n) fresh r)) update_query.filter ≡ has_rowid n r = and_true _ ∙ same_int (rowid r) n all.0 in
@@ -123,7 +120,7 @@ module _ (a b c d e : Value) where
   outs n fresh (r ∷ rows) = ap (λ (l : List Row). out r ∷ l) (outs n fresh rows)
 
   -- the rows that the update finds are those of the rowid
-  pub found_are : (n : ℤ) (fresh : Value) (db : Trees) (found : List Row) → AreKeyed (db 1) → IsAnswer update_query (overlay db []) (given_row (Int n) fresh) found
+  pub found_are : (n : ℤ) (fresh : Value) (db : Trees) (found : List Row) → AreNumbered (db 1) → IsAnswer update_query (overlay db []) (given_row (Int n) fresh) found
       → IsPermutation (map out (keyed_at n (db 1))) found
   found_are n fresh db found keyed answer =
       let staged = answer.grouped ∙ matched n fresh (db 1) keyed in
@@ -143,7 +140,7 @@ module _ (a b c d e : Value) where
   news_at n (s ∷ found) all = (ap (cast Integer) all.0 ∙ cast_int n, news_at n found all.1)
 
   -- one row has the rowid, and it is the one that is found
-  pub one_found : (n : ℤ) (rows left found : List Row) (r : Row) → AreKeyed rows → Has rows r → rowid r ≡ Int n → IsPermutation (map out (keyed_at n rows)) found
+  pub one_found : (n : ℤ) (rows left found : List Row) (r : Row) → AreNumbered rows → Has rows r → rowid r ≡ Int n → IsPermutation (map out (keyed_at n rows)) found
       → are_fresh left (numbered Given left (map new_of found)) ≡ true → (keyed_at n rows ≡ r ∷ []) × (found ≡ out r ∷ [])
   one_found n rows left found r keyed here id same fresh =
       let all = recursion_from_All (λ s. column (drop 1 s) 0 ≡ Int n) found (All-permutation (λ s. column (drop 1 s) 0 ≡ Int n) (map out (keyed_at n rows)) found same

@@ -28,19 +28,19 @@ either : (b : Bool) (x : Value) → cond b x x ≡ x
 either true x = refl
 either false x = refl
 
-cast_null : cast Integer Null ≡ Null
+pub cast_null : cast Integer Null ≡ Null
 unfolding unary
 cast_null = either _ Null
 
-cast_int : (n : ℤ) → cast Integer (Int n) ≡ Int n
+pub cast_int : (n : ℤ) → cast Integer (Int n) ≡ Int n
 unfolding unary
 cast_int n = either _ (Int n)
 
 module _ (limit : Option ℕ) (mode : Mode) (a b c d e : Value) (fits : cast_all writes_columns (a ∷ b ∷ c ∷ d ∷ e ∷ []) ≡ a ∷ b ∷ c ∷ d ∷ e ∷ []) where
-  abbrev params : Row
+  abbrev pub params : Row
   params = a ∷ b ∷ c ∷ d ∷ e ∷ []
 
-  abbrev task : Task
+  abbrev pub task : Task
   task = record { limit = limit; keys = mode.keys; schema = log_schema; table = writes_table; params = params }
 
   -- the row that the statement would insert

@@ -1,25 +1,19 @@
-use Rattle.std.proofs.Common.{rules, ◌≡◌, ◌<◌, ◌≤◌, ◌^◌, ◌⊎◌, true, [], map, IsPermutation, IfOk, IfErr, OnOk, ℕ, ◌+◌, ◌-◌, ◌*◌, length, ◌/◌, ◌%◌, Bool, false, nat_eq, nat_lt, List, ◌∷◌, ◌++◌, slice_index_or, slice_set, bit_and, bit_or, Fits, w8, w32, w64, Bor, MutBor}
-use Rattle.sqlite_trees.specs.Tree.{Trees}
-use Rattle.sqlite_trees.specs.View.{doubt}
 use Rattle.sqlite.specs.Held.{state}
-use Rattle.sqlite.specs.State.{HasCleanDisk, IsUnchanged}
-use Rattle.sb_log.specs.Form.{no_schema, meta_schema, log_schema}
-use Rattle.sb_log.specs.Rows.{cells, is_kept, Enters}
-use Rattle.sb_log.specs.Standing.{IsReady}
+use Rattle.sb_log.proofs.Writing.{write_enters, write_ready, write_commits, or_commits}
 use Rattle.sb_log.proofs.statements.write_entry.Goals as goal
 
--- src/statements.rt:64:1
 pub returns-in-Ok-clause-enters : goal.returns-in-Ok-clause-enters
-returns-in-Ok-clause-enters g c = ?
+returns-in-Ok-clause-enters g c clean ready =
+    write_enters c.args.entry.now c.requires.kept (state g.S.Store c.args.conn.now) ready (state g.S.Store c.execute.new.self) c.in-Ok.field-0 (rw c.cells_of.ensures at (c.in-Ok.ensures.runs clean))
 
--- src/statements.rt:64:1
 pub returns-in-Ok-clause-ready : goal.returns-in-Ok-clause-ready
-returns-in-Ok-clause-ready g c = ?
+returns-in-Ok-clause-ready g c clean ready =
+    write_ready c.args.entry.now c.requires.kept (state g.S.Store c.args.conn.now) ready (state g.S.Store c.execute.new.self) c.in-Ok.field-0 (rw c.cells_of.ensures at (c.in-Ok.ensures.runs clean))
 
--- src/statements.rt:64:1
 pub returns-in-Ok-clause-crash : goal.returns-in-Ok-clause-crash
-returns-in-Ok-clause-crash g c = ?
+returns-in-Ok-clause-crash g c clean ready db left =
+    or_commits (λ commits. write_commits c.args.entry.now c.requires.kept (state g.S.Store c.args.conn.now) ready db (rw c.cells_of.ensures at commits)) (c.in-Ok.ensures.survives.crash clean db left)
 
--- src/statements.rt:64:1
 pub returns-in-Err-clause-crash : goal.returns-in-Err-clause-crash
-returns-in-Err-clause-crash g c = ?
+returns-in-Err-clause-crash g c clean ready db left =
+    or_commits (λ commits. write_commits c.args.entry.now c.requires.kept (state g.S.Store c.args.conn.now) ready db (rw c.cells_of.ensures at commits)) (c.in-Err.ensures.survives.crash clean db left)
