@@ -1,8 +1,9 @@
 -- Entries and the cells of their rows.
-use Rattle.std.proofs.Common.{◌≡◌, ℕ, ℤ, pos, ◌≤◌, Bool, true, false, ◌||◌, cond, List, [], ◌∷◌, ◌++◌, length, Option, Some, None, refl, ap, arith}
+use Rattle.std.proofs.Common.{◌≡◌, ℕ, ℤ, pos, ◌≤◌, Bool, true, false, ◌||◌, cond, List, [], ◌∷◌, ◌++◌, length, drop, Option, Some, None, refl, ap, arith}
 use Rattle.std.specs.Option.{option_map}
 use Rattle.std.specs.Prelude.{nat_eq}
 use Rattle.std.specs.Cmp.Lexicographic.{pointwise}
+use Rattle.sqlite_value.specs.declared.value.Value.{Value}
 use Rattle.sqlite_value.specs.declared.value.Value.TheVariants.{Int, Text}
 use Rattle.sqlite_value.specs.Order.{Row, column}
 use Rattle.sb_types.specs.Records.{Entry, Table}
@@ -37,14 +38,18 @@ not_found key es none = none_found key es (unmapped (entry_at key es) none)
 pub added : (t : Table) (e : Entry) → has_key e.key t.entries ≡ false → (with_entry t e).entries ≡ t.entries ++ e ∷ []
 added t e new = ap (λ (es : List Entry). es ++ e ∷ []) (without-none e t.entries new)
 
-pub five_cells : (row : Row) → length row ≡ 5 → row ≡ column row 0 ∷ column row 1 ∷ column row 2 ∷ column row 3 ∷ column row 4 ∷ []
-five_cells [] h = absurd (omega arith)
-five_cells (a ∷ []) h = absurd (omega arith)
-five_cells (a ∷ b ∷ []) h = absurd (omega arith)
-five_cells (a ∷ b ∷ c ∷ []) h = absurd (omega arith)
-five_cells (a ∷ b ∷ c ∷ d ∷ []) h = absurd (omega arith)
-five_cells (a ∷ b ∷ c ∷ d ∷ e ∷ []) h = refl
-five_cells (a ∷ b ∷ c ∷ d ∷ e ∷ f ∷ more) h = absurd (omega arith)
+pub six_cells : (row : Row) → length row ≡ 6 → row ≡ column row 0 ∷ column row 1 ∷ column row 2 ∷ column row 3 ∷ column row 4 ∷ column row 5 ∷ []
+six_cells [] h = absurd (omega arith)
+six_cells (a ∷ []) h = absurd (omega arith)
+six_cells (a ∷ b ∷ []) h = absurd (omega arith)
+six_cells (a ∷ b ∷ c ∷ []) h = absurd (omega arith)
+six_cells (a ∷ b ∷ c ∷ d ∷ []) h = absurd (omega arith)
+six_cells (a ∷ b ∷ c ∷ d ∷ e ∷ []) h = absurd (omega arith)
+six_cells (a ∷ b ∷ c ∷ d ∷ e ∷ f ∷ []) h = refl
+six_cells (a ∷ b ∷ c ∷ d ∷ e ∷ f ∷ g ∷ more) h = absurd (omega arith)
+
+pub behind_first : (row : Row) (a b c d e f : Value) → row ≡ a ∷ b ∷ c ∷ d ∷ e ∷ f ∷ [] → drop 1 row ≡ b ∷ c ∷ d ∷ e ∷ f ∷ []
+behind_first row a b c d e f is = ap (drop 1) is
 
 pub entry_cells : (key : List ℕ) (version : ℤ) (rest : Row) (e : Entry) → e.key ≡ key → pos e.version ≡ version → slot_cells e.slot ≡ rest → cells_of e ≡ Text key ∷ Int version ∷ rest
 entry_cells key version rest e a b c = λ i. Text (a i) ∷ Int (b i) ∷ c i

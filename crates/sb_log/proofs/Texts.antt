@@ -48,7 +48,7 @@ rows_query = record {
   from = inner 1 end;
   filter = [];
   group = None;
-  project = col 1 1 ∷ col 1 2 ∷ col 1 3 ∷ col 1 4 ∷ col 1 5 ∷ [];
+  project = col 1 0 ∷ col 1 1 ∷ col 1 2 ∷ col 1 3 ∷ col 1 4 ∷ col 1 5 ∷ [];
   distinct = false;
   collations = [];
   order = (col 1 2, ascending Binary) ∷ [];
@@ -57,7 +57,7 @@ rows_query = record {
 }
 
 abbrev pub rows_names : List (List ℕ)
-rows_names = codes "k" ∷ codes "version" ∷ codes "tag" ∷ codes "num" ∷ codes "txt" ∷ []
+rows_names = codes "rowid" ∷ codes "k" ∷ codes "version" ∷ codes "tag" ∷ codes "num" ∷ codes "txt" ∷ []
 
 pub rows_is : (command_of (understood log_schema rows_text) ≡ Select (record { lets = []; body = rows_query }) rows_names) × (reads_listing log_schema rows_text ≡ false)
 unfolding understood everything

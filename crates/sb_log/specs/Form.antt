@@ -23,7 +23,7 @@ abbrev pub writes_text : List ℕ
 writes_text = codes "CREATE TABLE writes (k TEXT PRIMARY KEY NOT NULL, version INTEGER NOT NULL UNIQUE, tag INTEGER NOT NULL, num INTEGER, txt TEXT) STRICT"
 
 abbrev pub rows_text : List ℕ
-rows_text = codes "SELECT k, version, tag, num, txt FROM writes ORDER BY version"
+rows_text = codes "SELECT rowid, k, version, tag, num, txt FROM writes ORDER BY version"
 
 abbrev pub upsert_text : List ℕ
 upsert_text = codes "INSERT INTO writes (k, version, tag, num, txt) VALUES (?1, ?2, ?3, ?4, ?5) ON CONFLICT (k) DO UPDATE SET version = excluded.version, tag = excluded.tag, num = excluded.num, txt = excluded.txt"

@@ -1,12 +1,14 @@
 //! Entries as rows of a log's table, and back.
-ghost use Rattle.std.specs.Prelude.{◌≡◌, ◌≢◌, ◌<◌, ◌⊎◌, ◌^◌, true, [], ◌∷◌, ◌++◌, pos, map, length, IfOk, IfErr, IfSome, OnOk, Ok, None};
+ghost use Rattle.std.specs.Prelude.{◌≡◌, ◌≢◌, ◌<◌, ◌⊎◌, ◌^◌, true, [], ◌∷◌, ◌++◌, pos, map, length, IfOk, IfErr, IfSome, OnOk, Ok, None, drop, IsSome};
 ghost use Rattle.std.specs.List.{list_all};
+ghost use Rattle.sqlite_trees.specs.Tree.{rowid};
+ghost use Rattle.sqlite_trees.specs.View.{is_int};
 ghost use Rattle.sqlite_value.specs.declared.value.Value.TheVariants.{Int, Text};
 ghost use Rattle.sqlite_value.specs.Value.{owned};
 ghost use Rattle.sqlite.specs.Values.{bound};
 ghost use Rattle.sb_types.specs.Limits.{is_slot, is_entry};
 ghost use Rattle.sb_table.specs.Plain.{IsPlainTable};
-ghost use Rattle.sb_log.specs.Rows.{slot_cells, cells_of, is_kept};
+ghost use Rattle.sb_log.specs.Rows.{slot_cells, cells_of, is_kept, AreNumbered};
 
 use sb_table::Table;
 use sb_types::{Entry, Fault, Key, Slot, VERSION_MOST, Value};
@@ -53,21 +55,25 @@ fn slot_cells(slot: &Slot) -> (ValueRef<'_>, ValueRef<'_>, ValueRef<'_>)
     )
 }
 
-/// The entry that a row of an answer holds, where it breaks no limit. `NoMemory`.
-#[tactic(auto, using(crate::proofs::Cells::five_cells))]
+/// The entry that a row of an answer holds behind its rowid, where it breaks no limit. `NoMemory`.
+#[tactic(auto, using(crate::proofs::Cells::six_cells, crate::proofs::Cells::behind_first))]
 fn entry_in(alloc: Global, row: &Row) -> Result<Option<Entry>, Fault>
-    ensures entry { IfOk result (λ found. IfSome found (λ e. (cells_of e ≡ row.now) × (is_kept e ≡ true))) }
+    ensures entry { IfOk result (λ found. IfSome found (λ e. (cells_of e ≡ drop 1 row.now) × (is_kept e ≡ true))) }
+    ensures numbered { IfOk result (λ found. IsSome found → is_int (rowid row.now) ≡ true) }
     ensures fault { IfErr result (λ fault. fault ≡ Fault.NoMemory) }
 {
-    if row.column_count() != 5 {
+    if row.column_count() != 6 {
         return Ok(None);
     }
+    let Ok(ValueRef::Int(_)) = row.get_ref(0) else {
+        return Ok(None);
+    };
     let (Ok(ValueRef::Text(key)), Ok(ValueRef::Int(version)), Ok(tag), Ok(number), Ok(text)) = (
-        row.get_ref(0),
         row.get_ref(1),
         row.get_ref(2),
         row.get_ref(3),
         row.get_ref(4),
+        row.get_ref(5),
     ) else {
         return Ok(None);
     };
@@ -141,7 +147,8 @@ fn slot_in(
 /// two have one key or one version, or they are too many; `NoMemory`.
 pub(crate) fn table_of(alloc: Global, rows: &[Row]) -> Result<Table, Fault>
     ensures plain { IfOk result IsPlainTable }
-    ensures rows { IfOk result (λ t. map cells_of t.entries ≡ rows.now) }
+    ensures rows { IfOk result (λ t. map cells_of t.entries ≡ map (drop 1) rows.now) }
+    ensures numbered { OnOk result (AreNumbered rows.now) }
     ensures kept { IfOk result (λ t. list_all is_kept t.entries ≡ true) }
     ensures fault { IfErr result (λ fault. (fault ≡ Fault.NoMemory) ⊎ (fault ≡ Fault.LogDamaged)) }
 {

@@ -5,7 +5,7 @@ ghost use Rattle.sqlite_trees.specs.View.{doubt};
 ghost use Rattle.sqlite.specs.Held.{state};
 ghost use Rattle.sqlite.specs.State.{HasCleanDisk, IsUnchanged};
 ghost use Rattle.sb_log.specs.Form.{no_schema, meta_schema, log_schema};
-ghost use Rattle.sb_log.specs.Rows.{cells, is_kept, Enters};
+ghost use Rattle.sb_log.specs.Rows.{numbered_cells, is_kept, Enters};
 ghost use Rattle.sb_log.specs.Standing.{IsReady};
 
 use crate::rows::cells_of;
@@ -45,14 +45,14 @@ pub(crate) fn make_writes<S: Alter>(conn: &mut Connection<S>) -> Result<(), Faul
     }
 }
 
-/// The rows of the writes, by version. `StoreFailed`.
+/// The rows of the writes with their rowids, by version. `StoreFailed`.
 pub(crate) fn read_rows<S: Alter>(conn: &mut Connection<S>) -> Result<Vec<Row>, Fault>
-    ensures rows { HasCleanDisk (state S.Store conn.new) → (state S.Store conn.old).now.schema ≡ log_schema → IfOk result (λ rows. IsPermutation (map cells ((state S.Store conn.old).now.trees 1)) rows.items) }
+    ensures rows { HasCleanDisk (state S.Store conn.new) → (state S.Store conn.old).now.schema ≡ log_schema → IfOk result (λ rows. IsPermutation (map numbered_cells ((state S.Store conn.old).now.trees 1)) rows.items) }
     ensures clean { doubt (state S.Store conn.old).is_clean ≤ doubt (state S.Store conn.new).is_clean }
     ensures fault { IfErr result (λ fault. fault ≡ Fault.StoreFailed) }
 {
     match conn.query_all(
-        "SELECT k, version, tag, num, txt FROM writes ORDER BY version",
+        "SELECT rowid, k, version, tag, num, txt FROM writes ORDER BY version",
         &[],
     ) {
         Ok(rows) => Ok(rows),
