@@ -3,3 +3,4 @@ pub mod Puts
 pub mod Form
 pub mod Rows
 pub mod Standing
+pub mod Sql

@@ -7,11 +7,13 @@ mod log;
 mod plain;
 mod rows;
 mod schema;
+mod sql;
 mod statements;
 
 pub use committed::Committed;
 pub use log::WriteLog;
 pub use plain::PlainLog;
+pub use sql::SqlLog;
 
 #[cfg(test)]
 mod tests;

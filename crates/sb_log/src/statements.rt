@@ -1,16 +1,19 @@
 //! The statements of a log, each of which commits by itself.
-ghost use Rattle.std.specs.Prelude.{◌≡◌, ◌<◌, ◌≤◌, ◌^◌, ◌⊎◌, true, [], map, IsPermutation, IfOk, IfErr, OnOk};
+ghost use Rattle.std.specs.Prelude.{◌≡◌, ◌≢◌, Err, ◌<◌, ◌≤◌, ◌^◌, ◌⊎◌, true, [], map, IsPermutation, IfOk, IfErr, OnOk};
 ghost use Rattle.sqlite_trees.specs.Tree.{Trees};
 ghost use Rattle.sqlite_trees.specs.View.{doubt};
 ghost use Rattle.sqlite.specs.Held.{state};
 ghost use Rattle.sqlite.specs.State.{HasCleanDisk, IsUnchanged};
+ghost use Rattle.sb_table.specs.Plain.{IsPlainTable};
 ghost use Rattle.sb_log.specs.Form.{no_schema, meta_schema, log_schema};
-ghost use Rattle.sb_log.specs.Rows.{numbered_cells, is_kept, Enters};
+ghost use Rattle.sb_log.specs.Rows.{numbered_cells, is_kept, Enters, AreRowsOf};
 ghost use Rattle.sb_log.specs.Standing.{IsReady};
 
-use crate::rows::cells_of;
+use crate::rows::{cells_of, table_of};
 use sb_types::{Entry, Fault};
+use sb_table::Table;
 use sqlite::{Alter, Connection, Row};
+use std::alloc::Global;
 
 /// Makes the table of the log's owner. `StoreFailed`.
 pub(crate) fn make_meta<S: Alter>(conn: &mut Connection<S>) -> Result<(), Fault>
@@ -48,6 +51,8 @@ pub(crate) fn make_writes<S: Alter>(conn: &mut Connection<S>) -> Result<(), Faul
 /// The rows of the writes with their rowids, by version. `StoreFailed`.
 pub(crate) fn read_rows<S: Alter>(conn: &mut Connection<S>) -> Result<Vec<Row>, Fault>
     ensures rows { HasCleanDisk (state S.Store conn.new) → (state S.Store conn.old).now.schema ≡ log_schema → IfOk result (λ rows. IsPermutation (map numbered_cells ((state S.Store conn.old).now.trees 1)) rows.items) }
+    ensures ready { HasCleanDisk (state S.Store conn.new) → IsReady (state S.Store conn.old) → OnOk result (IsReady (state S.Store conn.new) × ((state S.Store conn.new).now ≡ (state S.Store conn.old).now)) }
+    ensures crash { HasCleanDisk (state S.Store conn.new) → IsReady (state S.Store conn.old) → (db : Trees) → (state S.Store conn.new).may_leave db → (state S.Store conn.old).may_leave db }
     ensures clean { doubt (state S.Store conn.old).is_clean ≤ doubt (state S.Store conn.new).is_clean }
     ensures fault { IfErr result (λ fault. fault ≡ Fault.StoreFailed) }
 {
@@ -81,4 +86,21 @@ pub(crate) fn write_entry<S: Alter>(
         Ok(_) => Ok(()),
         Err(_) => Err(Fault::StoreFailed),
     }
+}
+
+/// The table of the writes. `StoreFailed`; `LogDamaged`, where the rows are not those of a table; `NoMemory`.
+pub(crate) fn read_table<S: Alter>(
+    conn: &mut Connection<S>,
+    alloc: Global,
+) -> Result<Table, Fault>
+    ensures rows { HasCleanDisk (state S.Store conn.new) → IsReady (state S.Store conn.old) → IfOk result (λ t. AreRowsOf t ((state S.Store conn.old).now.trees 1)) }
+    ensures plain { IfOk result IsPlainTable }
+    ensures ready { HasCleanDisk (state S.Store conn.new) → IsReady (state S.Store conn.old) → result ≢ Err Fault.StoreFailed
+        → IsReady (state S.Store conn.new) × ((state S.Store conn.new).now ≡ (state S.Store conn.old).now) }
+    ensures crash { HasCleanDisk (state S.Store conn.new) → IsReady (state S.Store conn.old) → (db : Trees) → (state S.Store conn.new).may_leave db → (state S.Store conn.old).may_leave db }
+    ensures clean { doubt (state S.Store conn.old).is_clean ≤ doubt (state S.Store conn.new).is_clean }
+    ensures fault { IfErr result (λ fault. (fault ≡ Fault.NoMemory) ⊎ ((fault ≡ Fault.StoreFailed) ⊎ (fault ≡ Fault.LogDamaged))) }
+{
+    let rows = read_rows(conn)?;
+    table_of(alloc, &rows)
 }
