@@ -8,3 +8,4 @@ mod Unique
 mod Updating
 mod Entering
 mod Writing
+mod Keeping

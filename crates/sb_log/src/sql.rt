@@ -1,12 +1,12 @@
 //! A log that is kept in a database.
 ghost use Rattle.std.specs.Prelude.{◌≡◌};
 
-use crate::check::refusal;
+use crate::check::accept;
 use crate::committed::Committed;
 use crate::log::WriteLog;
 use crate::statements::{read_table, write_entry};
 use sb_table::Table;
-use sb_types::{Entry, Fault, Key, Name, Slot};
+use sb_types::{Fault, Key, Name, Slot};
 use sqlite::{Alter, Connection};
 use std::alloc::Global;
 use std::marker::Model;
@@ -60,13 +60,16 @@ impl<S: Alter + Drop> WriteLog for SqlLog<S> {
         if !self.is_open {
             return Err(Fault::Closed);
         }
-        if let Some(fault) = refusal(&self.table, self.max_version, key, slot) {
-            return Err(fault);
-        }
-        let version = self.table.upto() + 1;
-        let entry = Entry::new(*key, version, slot.copy(self.alloc)?);
-        let kept = entry.copy(self.alloc)?;
-        self.table.push(kept)?;
+        let entry = match accept(
+            &mut self.table,
+            self.alloc,
+            self.max_version,
+            key,
+            slot,
+        ) {
+            Ok(entry) => entry,
+            Err(fault) => return Err(fault),
+        };
         match write_entry(&mut self.conn, &entry) {
             Ok(()) => Ok(Committed::new(self.owner, entry)),
             Err(fault) => {
