@@ -1,5 +1,5 @@
 -- From what the statements of a log in a database do to what a log promises.
-use Rattle.std.proofs.Common.{◌≡◌, ◌≢◌, ◌⊎◌, inl, inr, ℕ, ◌≤◌, Bool, true, false, true≢false, List, Option, Some, None, Result, Ok, Err, IsTrue, refl, sym, ap, subst, ◌∙◌, arith}
+use Rattle.std.proofs.Common.{◌≡◌, ◌≢◌, ◌⊎◌, inl, inr, ℕ, ◌≤◌, Bool, true, false, cond, nat_le, true≢false, List, Option, Some, None, Result, Ok, Err, IsTrue, refl, sym, ap, subst, ◌∙◌, arith}
 use Rattle.sqlite_trees.specs.declared.store.Store.{Ghosts}
 use Rattle.sqlite_trees.specs.Tree.{Trees}
 use Rattle.sqlite_trees.specs.View.{doubt}
@@ -9,22 +9,31 @@ use Rattle.sqlite.specs.State.{HasCleanDisk}
 use Rattle.sqlite.specs.Effect.{Database}
 use Rattle.sb_types.specs.declared.entry.Slot.{Slot}
 use Rattle.sb_types.specs.declared.fault.Fault.{Fault}
-use Rattle.sb_types.specs.declared.fault.Fault.TheVariants.{NoMemory, Closed, StoreFailed, LogDamaged}
+use Rattle.sb_types.specs.declared.fault.Fault.TheVariants.{NoMemory, TableFull, VersionsSpent, NothingThere, Closed, StoreFailed, LogDamaged}
 use Rattle.sb_types.specs.Records.{Entry, Table}
-use Rattle.sb_table.specs.Plain.{IsPlainTable, with_entry}
+use Rattle.sb_table.specs.Plain.{IsPlainTable, with_entry, is_full_for}
 use Rattle.sb_log.specs.Records.{Committed, Log}
-use Rattle.sb_log.specs.Puts.{Puts, Loads, refusal, next_entry, next_content, IsReason}
+use Rattle.sb_log.specs.Puts.{is_idle, Puts, Loads, refusal, next_entry, next_content, IsReason}
 use Rattle.sb_log.specs.Rows.{AreRowsOf, Enters, content_of}
 use Rattle.sb_log.specs.Standing.{IsReady, IsKept, MayLeave}
 use Rattle.sb_log.specs.Sql.{SqlView, log_in}
 use Rattle.sb_log.proofs.Unique.{content_is}
+
+pub same_fault : {A : Type 0} {a b : Fault} → ◌≡◌ {A = Result A Fault} (Err a) (Err b) → a ≡ b
+same_fault e = cc
 
 pub never_closed : {A : Type 0} (a : A) → ◌≡◌ {A = Result A Fault} (Ok a) (Err Closed) → ⊥
 never_closed a e = absurd (cc)
 
 -- a write that is refused is refused for one of these
 pub other_reasons : (most : ℕ) (t : Table) (key : List ℕ) (slot : Slot) (fault : Fault) → refusal most t key slot ≡ Some fault → (fault ≢ Closed) × (fault ≢ StoreFailed)
-other_reasons most t key slot fault is = search
+other_reasons most t key slot fault is = go (is_idle t key slot) (is_full_for key t.entries) (nat_le most t.held) is
+  where
+    go : (idle full spent : Bool) → cond idle (Some NothingThere) (cond full (Some TableFull) (cond spent (Some VersionsSpent) None)) ≡ Some fault → (fault ≢ Closed) × (fault ≢ StoreFailed)
+    go true full spent is = (λ e. cc, λ e. cc)
+    go false true spent is = (λ e. cc, λ e. cc)
+    go false false true is = (λ e. cc, λ e. cc)
+    go false false false is = absurd (cc)
 
 module _ {S : Type 0} (g : Ghosts S) (settled : (s : S) (db : Trees) → IsTrue (g.view s).is_open → g.recovers s db → db ≡ (g.view s).committed) where
   -- a crash leaves of a log that stands what it holds
@@ -122,10 +131,16 @@ module _ {S : Type 0} (g : Ghosts S) (settled : (s : S) (db : Trees) → IsTrue 
                   content = λ clean.
                       let stands = kept up (no_doubt _ (was_clean clean)) in
                       content_is _ (with_entry table e) (enters (no_doubt _ clean) stands.0 table plain stands.1)
-                      ∙ (λ i. with_entry (content_is _ table stands.1 (~ i)) (is (~ i)).entry);
+                      ∙ sym (λ i. with_entry (content_is _ table stands.1 i) (is i).entry);
                 };
                 refused = tt;
               }
+
+          pub now_kept : (table' : Table) → table' ≡ with_entry table e → (HasCleanDisk (state g conn') → IsReady (state g conn) → Enters e ((state g conn).now.trees 1) ((state g conn').now.trees 1))
+              → (HasCleanDisk (state g conn') → IsReady (state g conn) → IsReady (state g conn')) → IsKept g conn' table' is_open
+          now_kept table' is enters ready _ clean =
+              let stands = kept up (no_doubt _ (was_clean (clean_of _ clean))) in
+              (ready clean stands.0, subst (λ (t : Table). AreRowsOf t ((state g conn').now.trees 1)) (sym is) (enters clean stands.0 table plain stands.1))
 
           pub survives : (HasCleanDisk (state g conn') → IsReady (state g conn) → (db : Trees) → g.recovers conn'.store db → g.recovers conn.store db ⊎ Enters e ((state g conn).now.trees 1) (db 1))
               → (g.view conn'.store).is_clean ≡ true → (left : Table) → MayLeave g conn' left → (left ≡ before.content) ⊎ (left ≡ next_content before key slot)
