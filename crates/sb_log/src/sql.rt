@@ -6,7 +6,7 @@ use crate::committed::Committed;
 use crate::log::WriteLog;
 use crate::statements::{read_table, write_entry};
 use sb_table::Table;
-use sb_types::{Fault, Key, Name, Slot};
+use sb_types::{Entry, Fault, Key, Name, Slot};
 use sqlite::{Alter, Connection};
 use std::alloc::Global;
 use std::marker::Model;
@@ -73,6 +73,7 @@ impl<S: Alter + Drop> WriteLog for SqlLog<S> {
         match write_entry(&mut self.conn, &entry) {
             Ok(()) => Ok(Committed::new(self.owner, entry)),
             Err(fault) => {
+                let_go(entry);
                 self.is_open = false;
                 Err(fault)
             }
@@ -97,3 +98,6 @@ impl<S: Alter + Drop> WriteLog for SqlLog<S> {
         Ok(())
     }
 }
+
+/// Drops an entry.
+fn let_go(_entry: Entry) {}

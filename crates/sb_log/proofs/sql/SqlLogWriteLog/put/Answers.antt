@@ -53,7 +53,7 @@ returns-in-Err-write_entry-clause-puts g c =
     let i = c.self.inside in
     let a = c.in-Ok.ensures in
     let w = c.write_entry in
-    let is = c.in-Err.ensures.fault in
+    let is = c.in-Err-write_entry.ensures.fault in
     rw (← c.self.view_is, is)
     (fails g.S.Store g.met.S.Store.settled i.owner i.cluster i.max_version i.is_open c.if-not-self.false i.conn i.table c.self.invariant.0 c.args.key.now c.args.slot.now w.new.conn w.ensures.clean a.fits)
 
