@@ -1,5 +1,7 @@
 -- What the statements that make a log's tables do.
-use Rattle.std.proofs.Common.{◌≡◌, ◌⊎◌, inl, inr, ℕ, List, [], false, None, Ok, Err, Result, sym, ap, subst, ◌∙◌}
+use Rattle.sqlite_schema.specs.declared.command.Command.{Command}
+use Rattle.sqlite_value.specs.Order.{Row}
+use Rattle.std.proofs.Common.{Bool, cond, IsTrue, ◌≡◌, ◌⊎◌, inl, inr, ℕ, List, [], false, None, Ok, Err, Result, sym, ap, subst, ◌∙◌}
 use Rattle.sqlite_schema.specs.declared.schema.Table.{Table}
 use Rattle.sqlite_schema.specs.declared.schema.Schema.{Schema}
 use Rattle.sqlite_schema.specs.declared.command.Command.TheVariants.{CreateTable}
@@ -38,3 +40,9 @@ module _ (text : List ℕ) (before after : Schema) (table : Table) (is : (comman
         ap (λ (d : Database). d.trees (next_tree before)) now ∙ subst (λ (s : Schema). first.0.trees (next_tree s) ≡ []) has made.empty,
         subst (λ (d : Database). KeepsRows before.tables old.now.trees d.trees) (sym now) (subst (λ (s : Schema). KeepsRows s.tables old.now.trees first.0.trees) has made.others),
       )
+
+-- a write outside a transaction is committed
+pub commits : (old new : State) (command : Command) (text : List ℕ) (params : Row) (count : ℕ) → Writes old new None command text params count → old.in_transaction ≡ false
+    → (new.in_transaction ≡ false) × (new.now ≡ new.committed) × IsTrue new.is_open
+commits old new command text params count w auto =
+    (w.shown.mode ∙ auto, subst (λ (b : Bool). new.committed ≡ cond b old.committed new.now → new.now ≡ new.committed) (sym auto) (λ (is : new.committed ≡ new.now). sym is) w.shown.committed_is, w.shown.is_open)

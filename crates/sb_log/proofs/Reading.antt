@@ -17,11 +17,12 @@ use Rattle.sqlite_trees.proofs.ListLemmas.{all-permutation}
 use Rattle.std.specs.List.{list_all}
 use Rattle.sb_types.specs.Records.{Table}
 use Rattle.sb_table.specs.Plain.{IsPlainTable}
-use Rattle.sb_log.specs.Standing.{IsReady}
+use Rattle.sb_log.specs.Standing.{IsReady, IsPrepared}
+use Rattle.sb_log.specs.Opening.{meta_cells}
 use Rattle.sqlite.proofs.Callers.{reads_as, never_commits, IsPlain as IsCallPlain}
-use Rattle.sb_log.specs.Form.{rows_text, log_schema}
+use Rattle.sb_log.specs.Form.{rows_text, meta_rows_text, log_schema}
 use Rattle.sb_log.specs.Rows.{cells, cells_of, is_kept, numbered_cells, AreNumbered, AreRowsOf}
-use Rattle.sb_log.proofs.Texts.{rows_query, rows_is, rows_plain}
+use Rattle.sb_log.proofs.Texts.{rows_query, rows_is, rows_plain, meta_query, meta_rows_is, meta_rows_plain}
 
 shown_each : (rows : List Row) → map (λ (o : Output). o.1) (map (output rows_query) (flat_map (λ (r : Row). ([] ∷ r ∷ []) ∷ []) rows)) ≡ map numbered_cells rows
 shown_each [] = refl
@@ -86,3 +87,30 @@ pub table_is : (rows shown : List Row) (result : Result Table Fault) → IsPermu
     → OnOk result (AreNumbered shown) → IfOk result (λ t. map cells_of t.entries ≡ map (drop 1) shown) → IfOk result (λ t. AreRowsOf t rows)
 table_is rows shown (Ok t) same plain kept numbered is = are_rows rows shown t same plain kept numbered is
 table_is rows shown (Err fault) same plain kept numbered is = tt
+
+-- ---- the row of meta
+
+meta_shown : (rows : List Row) → map (λ (o : Output). o.1) (map (output meta_query) (flat_map (λ (r : Row). ([] ∷ r ∷ []) ∷ []) rows)) ≡ map meta_cells rows
+meta_shown [] = refl
+meta_shown (r ∷ rows) = ap (λ (l : List Row). meta_cells r ∷ l) (meta_shown rows)
+
+pub meta_read : (old new : State) (rows : List Row) → IsPrepared old → Shown meta_rows_text [] old new rows → IsPermutation (map meta_cells (old.now.trees 0)) rows
+meta_read old new rows ready h =
+    let read = reads_as meta_rows_text [] old new log_schema ready.schema _ meta_rows_is.0 meta_rows_plain meta_rows_is.1 rows h in
+    let a : IsAnswer meta_query (overlay old.now.trees []) [] rows = read.answer Null in
+    let shown : map (λ (o : Output). o.1) a.kept ≡ map meta_cells (old.now.trees 0) =
+    ap (map (λ (o : Output). o.1)) (a.distinct ∙ ap (map (output meta_query)) a.grouped) ∙ meta_shown (old.now.trees 0) in
+    subst₂ IsPermutation shown (sym a.shown) (IsPermutation-map (λ (o : Output). o.1) a.kept a.ordered a.same)
+
+meta_unchanged : (old new : State) (rows : List Row) → IsPrepared old → Shown meta_rows_text [] old new rows → IsUnchanged old new
+unfolding Shown
+meta_unchanged old new rows ready h =
+    let known = sym h.1.is ∙ ap (λ (s : Schema). understood s meta_rows_text) ready.schema in
+    let bare = subst IsCallPlain (sym known) meta_rows_plain in
+    let it = rw bare.0 at h.2 in
+    it.3
+
+pub meta_ready : (old new : State) (rows : List Row) → IsPrepared old → Shown meta_rows_text [] old new rows → IsReady new × (new.now ≡ old.now)
+meta_ready old new rows ready h =
+    let same = meta_unchanged old new rows ready h in
+    still_ready old new (record { is_open = same.0.was_open; autocommit = ready.autocommit; settled = ready.settled same.0.was_open; schema = ready.schema }) same

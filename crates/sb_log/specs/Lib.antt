@@ -4,3 +4,4 @@ pub mod Form
 pub mod Rows
 pub mod Standing
 pub mod Sql
+pub mod Opening

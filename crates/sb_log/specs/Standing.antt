@@ -15,6 +15,12 @@ pub record IsReady (s : State) : Type 0 where
   pub settled : s.now ≡ s.committed
   pub schema : s.now.schema ≡ log_schema
 
+-- the same, as far as it is known before anything was read
+pub record IsPrepared (s : State) : Type 0 where
+  pub autocommit : s.in_transaction ≡ false
+  pub settled : IsTrue s.is_open → s.now ≡ s.committed
+  pub schema : s.now.schema ≡ log_schema
+
 -- while the log stands, its rows are those of the table
 abbrev pub IsKept : {S : Type 0} → Ghosts S → Held S → Table → Bool → Type 0
 IsKept g conn table is_open = is_open ≡ true → HasCleanDisk (state g conn) → IsReady (state g conn) × AreRowsOf table ((state g conn).now.trees 1)
