@@ -9,3 +9,4 @@ mod Updating
 mod Entering
 mod Writing
 mod Keeping
+mod Naming

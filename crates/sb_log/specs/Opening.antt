@@ -4,6 +4,8 @@ use Rattle.sqlite_value.specs.declared.value.Value.TheVariants.{Int, Text}
 use Rattle.sqlite_value.specs.Order.{Row, column}
 use Rattle.sqlite_trees.specs.Tree.{Trees}
 use Rattle.sqlite.specs.Effect.{Database}
+use Rattle.sb_types.specs.declared.fault.Fault.{Fault}
+use Rattle.sb_types.specs.declared.fault.Fault.TheVariants.{NoMemory, StoreFailed, LogDamaged, WrongOwner}
 use Rattle.sb_types.specs.Records.{Table}
 use Rattle.sb_table.specs.Plain.{plain_table}
 use Rattle.sb_log.specs.declared.schema.Made.{Made}
@@ -48,3 +50,6 @@ pub record Completes (found now : Database) : Type 0 where
   pub schema : found.schema ≡ schema_with made
   pub meta : now.trees 0 ≡ meta_found made found.trees
   pub rows : now.trees 1 ≡ writes_found made found.trees
+
+abbrev pub IsOpeningFault : Fault → Type 0
+IsOpeningFault fault = (fault ≡ NoMemory) ⊎ ((fault ≡ StoreFailed) ⊎ ((fault ≡ LogDamaged) ⊎ (fault ≡ WrongOwner)))

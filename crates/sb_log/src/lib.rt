@@ -4,6 +4,7 @@
 mod check;
 mod committed;
 mod log;
+mod opening;
 mod plain;
 mod rows;
 mod schema;

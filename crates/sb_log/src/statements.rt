@@ -1,5 +1,5 @@
 //! The statements of a log, each of which commits by itself.
-ghost use Rattle.std.specs.Prelude.{◌≡◌, ◌≢◌, Err, ◌<◌, ◌≤◌, ◌^◌, ◌⊎◌, true, false, [], map, IsPermutation, IfOk, IfErr, OnOk};
+ghost use Rattle.std.specs.Prelude.{◌≡◌, ◌≢◌, Err, ◌<◌, ◌≤◌, ◌^◌, ◌⊎◌, true, false, [], ◌∷◌, map, IsPermutation, IfOk, IfErr, OnOk};
 ghost use Rattle.sqlite_trees.specs.Tree.{Trees};
 ghost use Rattle.sqlite_trees.specs.View.{doubt};
 ghost use Rattle.sqlite.specs.Held.{state};
@@ -7,7 +7,7 @@ ghost use Rattle.sqlite.specs.State.{HasCleanDisk, IsUnchanged};
 ghost use Rattle.sb_table.specs.Plain.{IsPlainTable};
 ghost use Rattle.sb_log.specs.Form.{no_schema, meta_schema, log_schema};
 ghost use Rattle.sb_log.specs.Rows.{numbered_cells, is_kept, Enters, AreRowsOf};
-ghost use Rattle.sb_log.specs.Opening.{meta_cells};
+ghost use Rattle.sb_log.specs.Opening.{meta_cells, meta_row};
 ghost use Rattle.sb_log.specs.Standing.{IsReady, IsPrepared};
 
 use crate::rows::{cells_of, table_of};
@@ -73,6 +73,7 @@ pub(crate) fn write_meta<S: Alter>(
 ) -> Result<(), Fault>
     ensures ready { HasCleanDisk (state S.Store conn.new) → IsReady (state S.Store conn.old) → OnOk result (IsReady (state S.Store conn.new)) }
     ensures rows { HasCleanDisk (state S.Store conn.new) → IsReady (state S.Store conn.old) → OnOk result ((state S.Store conn.new).now.trees 1 ≡ (state S.Store conn.old).now.trees 1) }
+    ensures meta { HasCleanDisk (state S.Store conn.new) → IsReady (state S.Store conn.old) → (state S.Store conn.old).now.trees 0 ≡ [] → OnOk result (map meta_cells ((state S.Store conn.new).now.trees 0) ≡ meta_row owner.now cluster.now ∷ []) }
     ensures clean { doubt (state S.Store conn.old).is_clean ≤ doubt (state S.Store conn.new).is_clean }
     ensures fault { IfErr result (λ fault. fault ≡ Fault.StoreFailed) }
 {

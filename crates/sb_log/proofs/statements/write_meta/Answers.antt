@@ -1,19 +1,15 @@
-use Rattle.std.proofs.Common.{rules, ◌≡◌, ◌≢◌, Err, ◌<◌, ◌≤◌, ◌^◌, ◌⊎◌, true, false, [], map, IsPermutation, IfOk, IfErr, OnOk, ℕ, ◌+◌, ◌-◌, ◌*◌, length, ◌/◌, ◌%◌, Bool, nat_eq, nat_lt, List, ◌∷◌, ◌++◌, slice_index_or, slice_set, bit_and, bit_or, Fits, w8, w32, w64, Bor, MutBor}
-use Rattle.sqlite_trees.specs.Tree.{Trees}
-use Rattle.sqlite_trees.specs.View.{doubt}
 use Rattle.sqlite.specs.Held.{state}
-use Rattle.sqlite.specs.State.{HasCleanDisk, IsUnchanged}
-use Rattle.sb_table.specs.Plain.{IsPlainTable}
-use Rattle.sb_log.specs.Form.{no_schema, meta_schema, log_schema}
-use Rattle.sb_log.specs.Rows.{numbered_cells, is_kept, Enters, AreRowsOf}
-use Rattle.sb_log.specs.Opening.{meta_cells}
-use Rattle.sb_log.specs.Standing.{IsReady, IsPrepared}
+use Rattle.sb_log.proofs.Naming.{name_ready, name_rows, name_meta}
 use Rattle.sb_log.proofs.statements.write_meta.Goals as goal
 
--- src/statements.rt:69:1
 pub returns-in-Ok-clause-ready : goal.returns-in-Ok-clause-ready
-returns-in-Ok-clause-ready g c = ?
+returns-in-Ok-clause-ready g c clean ready =
+    name_ready c.args.owner.now c.args.cluster.now (state g.S.Store c.args.conn.now) (state g.S.Store c.execute.new.self) c.in-Ok.field-0 ready (rw (c.bytes.ensures.text, c.bytes-2.ensures.text) at (c.in-Ok.ensures.runs clean))
 
--- src/statements.rt:69:1
 pub returns-in-Ok-clause-rows : goal.returns-in-Ok-clause-rows
-returns-in-Ok-clause-rows g c = ?
+returns-in-Ok-clause-rows g c clean ready =
+    name_rows c.args.owner.now c.args.cluster.now (state g.S.Store c.args.conn.now) (state g.S.Store c.execute.new.self) c.in-Ok.field-0 ready (rw (c.bytes.ensures.text, c.bytes-2.ensures.text) at (c.in-Ok.ensures.runs clean))
+
+pub returns-in-Ok-clause-meta : goal.returns-in-Ok-clause-meta
+returns-in-Ok-clause-meta g c clean ready =
+    name_meta c.args.owner.now c.args.cluster.now (state g.S.Store c.args.conn.now) (state g.S.Store c.execute.new.self) c.in-Ok.field-0 ready (rw (c.bytes.ensures.text, c.bytes-2.ensures.text) at (c.in-Ok.ensures.runs clean))
