@@ -10,3 +10,4 @@ mod Entering
 mod Writing
 mod Keeping
 mod Naming
+mod Founding

@@ -1,12 +1,14 @@
 -- What a log's tables may hold where it is opened.
-use Rattle.std.specs.Prelude.{◌≡◌, ◌⊎◌, ℕ, pos, List, [], ◌∷◌, map}
+use Rattle.std.specs.Prelude.{◌≡◌, ◌⊎◌, ℕ, pos, min, true, List, [], ◌∷◌, map}
 use Rattle.sqlite_value.specs.declared.value.Value.TheVariants.{Int, Text}
 use Rattle.sqlite_value.specs.Order.{Row, column}
 use Rattle.sqlite_trees.specs.Tree.{Trees}
 use Rattle.sqlite.specs.Effect.{Database}
 use Rattle.sb_types.specs.declared.fault.Fault.{Fault}
 use Rattle.sb_types.specs.declared.fault.Fault.TheVariants.{NoMemory, StoreFailed, LogDamaged, WrongOwner}
+use Rattle.sb_types.specs.declared.limits.TheConstants.{VERSION_MOST}
 use Rattle.sb_types.specs.Records.{Table}
+use Rattle.sb_log.specs.Records.{Log}
 use Rattle.sb_table.specs.Plain.{plain_table}
 use Rattle.sb_log.specs.declared.schema.Made.{Made}
 use Rattle.sb_log.specs.declared.schema.Made.TheVariants.{Neither, Meta, Both}
@@ -53,3 +55,10 @@ pub record Completes (found now : Database) : Type 0 where
 
 abbrev pub IsOpeningFault : Fault → Type 0
 IsOpeningFault fault = (fault ≡ NoMemory) ⊎ ((fault ≡ StoreFailed) ⊎ ((fault ≡ LogDamaged) ⊎ (fault ≡ WrongOwner)))
+
+-- whose log it is, and the greatest version that it gives
+pub record IsOpenedAs (owner cluster : List ℕ) (max_version : ℕ) (log : Log) : Type 0 where
+  pub owner_is : log.owner ≡ owner
+  pub cluster_is : log.cluster ≡ cluster
+  pub most : log.most ≡ min max_version VERSION_MOST
+  pub is_open : log.is_open ≡ true

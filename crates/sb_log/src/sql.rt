@@ -1,12 +1,20 @@
 //! A log that is kept in a database.
-ghost use Rattle.std.specs.Prelude.{◌≡◌};
+ghost use Rattle.std.specs.Prelude.{◌≡◌, ◌≤◌, [], ◌∷◌, map, IfOk, IfErr};
+ghost use Rattle.sqlite_trees.specs.View.{doubt};
+ghost use Rattle.sqlite.specs.Held.{state};
+ghost use Rattle.sqlite.specs.State.{HasCleanDisk};
+ghost use Rattle.sb_log.specs.Opening.{meta_cells, meta_row, Opens, IsOpeningFault, IsOpenedAs};
+ghost use Rattle.sb_log.specs.Puts.{IsSettled};
+ghost use Rattle.sb_log.specs.Sql.{log_in};
+ghost use Rattle.sb_log.specs.Standing.{MayLeave};
 
 use crate::check::accept;
 use crate::committed::Committed;
 use crate::log::WriteLog;
+use crate::opening::open_tables;
 use crate::statements::{read_table, write_entry};
 use sb_table::Table;
-use sb_types::{Entry, Fault, Key, Name, Slot};
+use sb_types::{Entry, Fault, Key, Name, Slot, VERSION_MOST};
 use sqlite::{Alter, Connection};
 use std::alloc::Global;
 use std::marker::Model;
@@ -40,10 +48,43 @@ impl<S: Alter> Model for SqlLog<S> {
     ghost invariant = { λ l. IsKept S.Store l.conn l.table l.is_open × (l.max_version ≤ VERSION_MOST) };
 }
 
-impl<S: Alter + Drop> WriteLog for SqlLog<S> {
-    ghost use Rattle.sb_log.specs.Sql.{log_in};
-    ghost use Rattle.sb_log.specs.Standing.{MayLeave};
+impl<S: Alter + Drop> SqlLog<S> {
+    /// Opens a log of an owner of a cluster, and makes one where the database has no tables. It gives versions up to
+    /// `max_version`, and none above 2^40 - 1. In this order: `LogDamaged` where rows stand without the row that says whose
+    /// they are, where its form is unknown, or where there are other tables than a log's; `WrongOwner` where the log is
+    /// another owner's or of another cluster; `LogDamaged` where a row breaks a limit or two have one key or version,
+    /// where there are more than 4,096, or where versions were forgotten. `NoMemory` and `StoreFailed` wherever they
+    /// come, the latter also inside a transaction. The connection is dropped on a refusal.
+    pub fn open(
+        alloc: Global,
+        conn: Connection<S>,
+        owner: Name,
+        cluster: Name,
+        max_version: u64,
+    ) -> Result<SqlLog<S>, Fault>
+        ensures log { IfOk result (λ l. IsOpenedAs owner cluster max_version (log_in S.Store l)) }
+        ensures clean { IfOk result (λ l. doubt (state S.Store conn).is_clean ≤ doubt (state S.Store l.conn).is_clean) }
+        ensures found { IfOk result (λ l. HasCleanDisk (state S.Store l.conn) → Opens owner cluster (state S.Store conn).now (log_in S.Store l).content) }
+        ensures meta { IfOk result (λ l. HasCleanDisk (state S.Store l.conn) → map meta_cells ((state S.Store l.conn).now.trees 0) ≡ meta_row owner cluster ∷ []) }
+        ensures settled { IfOk result (λ l. IsSettled (log_in S.Store l) (MayLeave S.Store l.conn)) }
+        ensures fault { IfErr result IsOpeningFault }
+    {
+        let mut conn = conn;
+        let table = open_tables(&mut conn, alloc, &owner, &cluster)?;
+        let max_version = max_version.min(VERSION_MOST);
+        Ok(SqlLog {
+            owner,
+            cluster,
+            max_version,
+            conn,
+            table,
+            is_open: true,
+            alloc,
+        })
+    }
+}
 
+impl<S: Alter + Drop> WriteLog for SqlLog<S> {
     ghost seen = { λ l. log_in S.Store l };
 
     ghost leaves = { λ l left. MayLeave S.Store l.conn left };
