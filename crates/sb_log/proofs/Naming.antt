@@ -56,7 +56,7 @@ module _ (owner cluster : List ℕ) where
           ap (λ (d : Database). d.schema) now,
           at 1 ∙ put.tables.1.0 apart,
           λ empty. at 0 ∙ put.rows ∙ (λ i. put_all (empty i) (numbered Chosen (empty i) (map (λ (s : Row). cast_row meta_table (drop 0 s)) (given.1.1 i))))
-          ∙ (λ i. put_all [] (numbered Chosen [] (cast_source i ∷ []))),
+              ∙ (λ i. put_all [] (numbered Chosen [] (cast_source i ∷ []))),
         )
 
   module _ (old new : State) (count : ℕ) (ready : IsReady old) (h : Executes meta_row_text params old new (Ok count)) where

@@ -61,13 +61,7 @@ impl WriteLog for PlainLog {
     }
 
     fn put(&mut self, key: &Key, slot: &Slot) -> Result<Committed, Fault> {
-        let entry = accept(
-            &mut self.table,
-            self.alloc,
-            self.max_version,
-            key,
-            slot,
-        )?;
+        let entry = accept(&mut self.table, self.alloc, self.max_version, key, slot)?;
         Ok(Committed::new(self.owner, entry))
     }
 

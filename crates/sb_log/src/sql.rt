@@ -84,6 +84,13 @@ impl<S: Alter + Drop> SqlLog<S> {
     }
 }
 
+#[cfg(test)]
+impl<S: Alter + Drop> SqlLog<S> {
+    pub(crate) fn into_connection(self) -> Connection<S> {
+        self.conn
+    }
+}
+
 impl<S: Alter + Drop> WriteLog for SqlLog<S> {
     ghost seen = { λ l. log_in S.Store l };
 
@@ -101,13 +108,7 @@ impl<S: Alter + Drop> WriteLog for SqlLog<S> {
         if !self.is_open {
             return Err(Fault::Closed);
         }
-        let entry = match accept(
-            &mut self.table,
-            self.alloc,
-            self.max_version,
-            key,
-            slot,
-        ) {
+        let entry = match accept(&mut self.table, self.alloc, self.max_version, key, slot) {
             Ok(entry) => entry,
             Err(fault) => return Err(fault),
         };

@@ -11,8 +11,8 @@ ghost use Rattle.sb_log.specs.Opening.{meta_cells, meta_row};
 ghost use Rattle.sb_log.specs.Standing.{IsReady, IsPrepared};
 
 use crate::rows::{cells_of, table_of};
-use sb_types::{Entry, Fault, Name};
 use sb_table::Table;
+use sb_types::{Entry, Fault, Name};
 use sqlite::{Alter, Connection, Row};
 use sqlite_value::value::ValueRef;
 use std::alloc::Global;
@@ -107,10 +107,7 @@ pub(crate) fn read_rows<S: Alter>(conn: &mut Connection<S>) -> Result<Vec<Row>, 
 }
 
 /// Writes an entry in place of its key's. `StoreFailed`.
-pub(crate) fn write_entry<S: Alter>(
-    conn: &mut Connection<S>,
-    entry: &Entry,
-) -> Result<(), Fault>
+pub(crate) fn write_entry<S: Alter>(conn: &mut Connection<S>, entry: &Entry) -> Result<(), Fault>
     requires kept { is_kept entry.now ≡ true }
     requires short { entry.now.version < 2 ^ 63 }
     ensures enters { HasCleanDisk (state S.Store conn.new) → IsReady (state S.Store conn.old) → OnOk result (Enters entry.now ((state S.Store conn.old).now.trees 1) ((state S.Store conn.new).now.trees 1)) }
@@ -130,10 +127,7 @@ pub(crate) fn write_entry<S: Alter>(
 }
 
 /// The table of the writes. `StoreFailed`; `LogDamaged`, where the rows are not those of a table; `NoMemory`.
-pub(crate) fn read_table<S: Alter>(
-    conn: &mut Connection<S>,
-    alloc: Global,
-) -> Result<Table, Fault>
+pub(crate) fn read_table<S: Alter>(conn: &mut Connection<S>, alloc: Global) -> Result<Table, Fault>
     ensures rows { HasCleanDisk (state S.Store conn.new) → IsReady (state S.Store conn.old) → IfOk result (λ t. AreRowsOf t ((state S.Store conn.old).now.trees 1)) }
     ensures plain { IfOk result IsPlainTable }
     ensures ready { HasCleanDisk (state S.Store conn.new) → IsReady (state S.Store conn.old) → result ≢ Err Fault.StoreFailed

@@ -54,6 +54,6 @@ returns-in-Err g c =
       loads = rw (← c.self.view_is) (gives_nothing g.S.Store g.met.S.Store.settled i.owner i.cluster i.max_version i.is_open c.if-not-self.false i.conn i.table c.self.invariant.0 r.new.conn r.ensures.clean);
       closed = λ shut. absurd (true≢false (sym was_open ∙ shut));
       crash = λ clean _. rw (← c.self.view_is)
-      (same_left g.S.Store g.met.S.Store.settled i.owner i.cluster i.max_version i.is_open c.if-not-self.false i.conn i.table c.self.invariant.0 r.new.conn r.ensures.clean r.ensures.crash clean);
+          (same_left g.S.Store g.met.S.Store.settled i.owner i.cluster i.max_version i.is_open c.if-not-self.false i.conn i.table c.self.invariant.0 r.new.conn r.ensures.clean r.ensures.crash clean);
       settled = λ clean shut. absurd (true≢false (sym shut));
     }
