@@ -35,6 +35,30 @@ other_reasons most t key slot fault is = go (is_idle t key slot) (is_full_for ke
     go false false true is = (λ e. cc, λ e. cc)
     go false false false is = absurd (cc)
 
+-- of any log that stands
+module _ (old : Log) (up : old.is_open ≡ true) (key : List ℕ) (slot : Slot) where
+  refuses_reason : (fault : Fault) → fault ≢ Closed → fault ≢ StoreFailed → IsReason (refusal old.most old.content key slot) fault → Puts old key slot (Err fault) old
+  refuses_reason fault open_fault kept_fault reason =
+      record {
+        stays = record { owner = refl; cluster = refl; most = refl; clean = λ c. c };
+        closed = (λ e. absurd (open_fault (same_fault e)), λ shut. absurd (true≢false (sym up ∙ shut)));
+        kept = tt;
+        refused = record { reason = λ _ _. reason; unchanged = λ _. refl; closes = λ e. absurd (kept_fault e) };
+      }
+
+  pub log_refuses : (fault : Fault) → ((f : Fault) → refusal old.most old.content key slot ≡ Some f → fault ≡ f) → (refusal old.most old.content key slot ≡ None → fault ≡ NoMemory) → Puts old key slot (Err fault) old
+  log_refuses fault known memory = go (refusal old.most old.content key slot) refl
+    where
+      go : (o : Option Fault) → refusal old.most old.content key slot ≡ o → Puts old key slot (Err fault) old
+      go (Some f) is =
+          let others = other_reasons old.most old.content key slot f is in
+          let same = known f is in
+          refuses_reason fault (λ e. others.0 (sym same ∙ e)) (λ e. others.1 (sym same ∙ e)) (subst (λ (o : Option Fault). IsReason o fault) (sym is) same)
+      go None is =
+          let same = memory is in
+          refuses_reason fault (λ e. let c : NoMemory ≡ Closed = sym same ∙ e in cc) (λ e. let c : NoMemory ≡ StoreFailed = sym same ∙ e in cc)
+          (subst (λ (o : Option Fault). IsReason o fault) (sym is) (inl same))
+
 module _ {S : Type 0} (g : Ghosts S) (settled : (s : S) (db : Trees) → IsTrue (g.view s).is_open → g.recovers s db → db ≡ (g.view s).committed) where
   -- a crash leaves of a log that stands what it holds
   left_is : (conn : Held S) (table : Table) → IsReady (state g conn) → AreRowsOf table ((state g conn).now.trees 1) → (left : Table) → MayLeave g conn left → left ≡ table

@@ -61,7 +61,10 @@ impl WriteLog for PlainLog {
     }
 
     fn put(&mut self, key: &Key, slot: &Slot) -> Result<Committed, Fault> {
-        let entry = accept(&mut self.table, self.alloc, self.max_version, key, slot)?;
+        let entry = match accept(&mut self.table, self.alloc, self.max_version, key, slot) {
+            Ok(entry) => entry,
+            Err(fault) => return Err(fault),
+        };
         Ok(Committed::new(self.owner, entry))
     }
 
