@@ -83,14 +83,25 @@ fn telling_of(matches: &ArgMatches<'_>) -> Telling {
 }
 
 /// How a node takes blocks, and tells how far it holds them.
-fn measure_node(rt: &HostRuntime, sizes: Sizes, telling: Telling, blocks: &[Block], node: &Holdings) -> Result<(), Problem> {
+fn measure_node(
+    rt: &HostRuntime,
+    sizes: Sizes,
+    telling: Telling,
+    blocks: &[Block],
+    node: &Holdings,
+) -> Result<(), Problem> {
     layers::apply(rt, sizes, blocks)?.print(rt, telling, "apply", "entry")?;
     layers::digest(rt, sizes, node)?.print(rt, telling, "digest", "owner")?;
     Ok(())
 }
 
 /// How a delta is made, step by step.
-fn measure_delta(rt: &HostRuntime, sizes: Sizes, telling: Telling, node: &Holdings) -> Result<(), Problem> {
+fn measure_delta(
+    rt: &HostRuntime,
+    sizes: Sizes,
+    telling: Telling,
+    node: &Holdings,
+) -> Result<(), Problem> {
     layers::offer(rt, sizes, node)?.print(rt, telling, "available", "entry")?;
     layers::arrange(rt, sizes, node, &Breadth)?.print(rt, telling, "breadth", "entry")?;
     layers::arrange(rt, sizes, node, &Depth)?.print(rt, telling, "depth", "entry")?;
@@ -99,7 +110,12 @@ fn measure_delta(rt: &HostRuntime, sizes: Sizes, telling: Telling, node: &Holdin
 }
 
 /// How a delta becomes bytes, and is read of them.
-fn measure_bytes(rt: &HostRuntime, sizes: Sizes, telling: Telling, delta: &WholeDelta) -> Result<(), Problem> {
+fn measure_bytes(
+    rt: &HostRuntime,
+    sizes: Sizes,
+    telling: Telling,
+    delta: &WholeDelta,
+) -> Result<(), Problem> {
     layers::encode(rt, sizes, delta)?.print(rt, telling, "encode", "entry")?;
     layers::decode(rt, sizes, delta)?.print(rt, telling, "decode", "entry")?;
     layers::frames(rt, sizes, delta)?.print(rt, telling, "frames", "entry")?;

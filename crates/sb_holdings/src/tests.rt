@@ -359,7 +359,12 @@ fn owners_come_in_the_order_of_their_names(rt: HostRuntime) -> Result<(), Fail> 
         assert_cases(&rt, rt.alloc(), &mut holdings, &Name::read(name)?, &two)?;
     }
     assert_owners(&rt, &holdings, &[b"a", b"m", b"ma", b"z"]);
-    assert_tables_from(&rt, &holdings, &Name::read(b"ma")?, &[(b"ma", 2), (b"z", 2)]);
+    assert_tables_from(
+        &rt,
+        &holdings,
+        &Name::read(b"ma")?,
+        &[(b"ma", 2), (b"z", 2)],
+    );
     assert_eq!(rt; count_from(&holdings, None), 4);
     Ok(())
 }
