@@ -1,0 +1,6 @@
+pub mod Places
+pub mod Turns
+pub mod Steps
+pub mod States
+pub mod Truth
+pub mod Claims

@@ -1,0 +1,10 @@
+//! A world of nodes that take their steps in any order, and the promise to readers over every such order.
+#![tactic(auto)]
+
+mod event;
+mod offer;
+mod place;
+mod world;
+
+pub use event::{Answer, Event};
+pub use world::World;

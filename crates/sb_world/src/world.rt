@@ -1,0 +1,142 @@
+//! A world of nodes, each with its log, and every frame that they sent.
+
+ghost use Rattle.std.specs.Prelude.{◌≡◌, ◌<◌, ℕ, true, List, [], ◌++◌, length, slice_set, slice_get, Some, None, IfOk, IfSome, IfNone, OnErr};
+ghost use Rattle.std.specs.Option.{option_copied};
+ghost use Rattle.sb_world.specs.Places as places;
+ghost use Rattle.sb_world.specs.Places.{place_at, with_place, frame_at};
+ghost use Rattle.sb_world.specs.Turns.{Effect, Does};
+ghost use Rattle.sb_world.specs.Steps.{Step, Passes};
+
+use crate::event::{Answer, Event};
+use crate::place::Place;
+use sb_log::WriteLog;
+use sb_types::{Fault, Name, Settings};
+use std::alloc::Global;
+use std::marker::Model;
+
+/// A frame that was sent.
+#[derive(Drop)]
+pub(crate) struct Sent {
+    bytes: Vec<u8>,
+}
+
+impl Model for Sent {
+    ghost use Rattle.std.specs.Prelude.{ℕ, List};
+
+    ghost Value = { List ℕ };
+
+    ghost view = { λ s. s.bytes.items };
+}
+
+/// Nodes that take their steps in any order, each with its log, and every frame that they sent.
+#[derive(Drop)]
+pub struct World<L: WriteLog> {
+    settings: Settings,
+    places: Vec<Place<L>>,
+    sent: Vec<Sent>,
+    alloc: Global,
+}
+
+impl<L: WriteLog> Model for World<L> {
+    ghost use Rattle.std.specs.Coded.{codes};
+    ghost use Rattle.std.specs.FinMap.{code};
+    ghost use Rattle.sb_world.specs.Places.{Seen};
+
+    ghost Value = { Seen };
+
+    ghost coded = { Prim.hlevel (codes, code) };
+
+    ghost view = { λ w. record { settings = w.settings; places = w.places.items; sent = w.sent.items } };
+}
+
+/// Where the node of a name stands, the first where several have it.
+fn place_of<L: WriteLog>(places: &[Place<L>], name: &Name) -> Option<usize>
+    ensures none { IfNone result (place_at places.now name.now ≡ None) }
+    ensures within { IfSome result (λ i. i < length places.now) }
+    ensures found { IfSome result (λ i. place_at places.now name.now ≡ slice_get places.now i) }
+    ensures set { IfSome result (λ i. (p : places.Place) → with_place places.now name.now p ≡ slice_set places.now i p) }
+{
+    let mut index = 0;
+    while index < places.len() {
+        if places[index].me == *name {
+            return Some(index);
+        }
+        index += 1;
+    }
+    None
+}
+
+/// What an event does at its node.
+fn act<L: WriteLog>(
+    alloc: Global,
+    place: &mut Place<L>,
+    sent: &mut Vec<Sent>,
+    event: &Event,
+) -> Result<Answer, Fault>
+    ensures { (effect : Effect) × (frames : List (List ℕ)) × Does event.now place.old sent.old.items (record { answer = result; effect = effect; place = place.new; frames = frames })
+        × (sent.new.items ≡ sent.old.items ++ frames) }
+{
+    if !place.is_up() && !event.is_restart() {
+        return Err(Fault::Closed);
+    }
+    match event {
+        Event::Commit(_, key, slot) => place.commit(key, slot),
+        Event::Take(_) => place.take(),
+        Event::CrashInCommit(_, key, slot, is_kept) => Ok(place.crash(key, slot, *is_kept)),
+        Event::Restart(_) => place.restart(alloc),
+        Event::Offer(_, owner, after) => {
+            let bytes = place.offer(alloc, owner, *after)?;
+            sent.push(Sent { bytes })?;
+            Ok(Answer::Sent(sent.len() as u64))
+        }
+        Event::Deliver(_, number) => match frame_in(sent, *number) {
+            Some(bytes) => place.deliver(alloc, bytes),
+            None => Ok(Answer::Nothing),
+        },
+        Event::Read(_, owner, key) => place.read(alloc, owner, key),
+        Event::Upto(_, owner) => Ok(Answer::Number(place.upto(owner))),
+    }
+}
+
+/// The frame of a number, counted from 1.
+fn frame_in(sent: &[Sent], number: u64) -> Option<&[u8]>
+    ensures { option_copied result ≡ frame_at sent.now number }
+{
+    let index = number.checked_sub(1)?;
+    let sent = sent.get(usize::try_from(index).ok()?)?;
+    Some(&sent.bytes)
+}
+
+impl<L: WriteLog> World<L> {
+    /// What an event does, in this order: `Nothing` where its node is not there; `Closed` where that is down, unless it
+    /// restarts.
+    pub fn step(&mut self, event: &Event) -> Result<Answer, Fault>
+        ensures step { (effect : Effect) × Step self.old event.now result effect self.new }
+    {
+        let Some(index) = place_of(&self.places, event.node()) else {
+            return Ok(Answer::Nothing);
+        };
+        act(self.alloc, &mut self.places[index], &mut self.sent, event)
+    }
+
+    /// Each event in turn, with its answers. `NoMemory` where there is no room for the answers, with nothing done.
+    pub fn run(&mut self, events: &[Event]) -> Result<Vec<Result<Answer, Fault>>, Fault>
+        ensures passes { IfOk result (λ answers. Passes self.old events.now answers.items self.new) }
+        ensures err { OnErr result (self.new ≡ self.old) }
+        ensures memory { IfErr result (λ fault. fault ≡ Fault.NoMemory) }
+    {
+        let mut answers = Vec::with_capacity(self.alloc, events.len())?;
+        for event in events {
+            let answer = self.step(event);
+            answers.push_reserved(answer);
+        }
+        Ok(answers)
+    }
+
+    /// The frame of a number, counted from 1.
+    pub fn frame(&self, number: u64) -> Option<&[u8]>
+        ensures { option_copied result ≡ frame_at self.now.sent number }
+    {
+        frame_in(&self.sent, number)
+    }
+}
