@@ -24,18 +24,18 @@ pub record IsTrueFrame (writes : List ℕ → List Write) (budget : ℕ) (bytes 
   pub fits : length bytes ≤ budget
 
 -- a node that opened with the content that its owner's writes had then
-pub record IsOpening (writes : List Write) (me : List ℕ) (node : Node) : Type 0 where
+pub record IsOpening (writes : List Write) (me : List ℕ) (opened : Node) : Type 0 where
   pub front : List Write
   pub rest : List Write
   pub all : writes ≡ front ++ rest
-  pub node : node ≡ opened_node me (content_table 0 front)
-  pub is : IsNode node
+  pub node : opened ≡ opened_node me (content_table 0 front)
+  pub is : IsNode opened
 
-pub record IsTruePlace (writes : List ℕ → List Write) (past : Past) (settings : Settings) (p : Place) : Type 0 where
+pub record IsTruePlace (writes : List ℕ → List Write) (past : Past) (of_world : Settings) (p : Place) : Type 0 where
   pub owner : p.log.owner ≡ p.me
   -- of a log that a fault of its store closed nothing is said
   pub content : p.log.is_open ≡ true → p.log.content ≡ content_table 0 (writes p.me)
-  pub settings : p.core.settings ≡ settings
+  pub settings : p.core.settings ≡ of_world
   pub me : p.core.node.held.me ≡ p.me
   pub opening : IsOpening (writes p.me) p.me past.opening
   -- what it holds is what its committed writes and honest blocks have left since then, and nothing else

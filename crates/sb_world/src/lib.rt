@@ -2,9 +2,11 @@
 #![tactic(auto)]
 
 mod event;
+mod laws;
 mod offer;
 mod place;
 mod world;
 
 pub use event::{Answer, Event};
+pub use laws::worlds_keep_their_promise;
 pub use world::World;

@@ -1,13 +1,18 @@
 //! A node of a world, with its log.
 
-ghost use Rattle.std.specs.Prelude.{◌≡◌, ℕ, true, List, [], ◌++◌, IfOk, IfErr, OnOk};
+ghost use Rattle.std.specs.Cmp.Lexicographic.{pointwise};
+ghost use Rattle.std.specs.Prelude.{◌≡◌, true, nat_eq, [], Some, Ok, IfOk, IfErr};
 ghost use Rattle.sb_types.specs.Limits.{is_delta};
 ghost use Rattle.sb_types.specs.Records as records;
 ghost use Rattle.sb_codec.specs.declared.message.Message.TheVariants as messages;
 ghost use Rattle.sb_frames.specs.Frames.{frame, front_of};
 ghost use Rattle.sb_node.specs.Answers.{IsDelta};
-ghost use Rattle.sb_world.specs.Turns.{Effect, Commits, Crashes, TakesFirst, Restarts, Delivers, asked};
-ghost use Rattle.sb_world.specs.Places.{frame_at};
+ghost use Rattle.sb_types.specs.Faults.{Gives};
+ghost use Rattle.sb_types.specs.Runs.{shown_at};
+ghost use Rattle.sb_holdings.specs.Held.{shown_of};
+ghost use Rattle.sb_world.specs.Turns.{Effect, Commits, Crashes, TakesFirst, Restarts, Delivers};
+ghost use Rattle.sb_world.specs.Turns as spec;
+ghost use Rattle.sb_world.specs.declared.event.Answer.TheVariants as answers;
 
 use crate::event::Answer;
 use crate::offer::asked;
@@ -45,6 +50,13 @@ impl<L: WriteLog> Model for Place<L> {
 fn lose(_committed: Committed) {}
 
 impl<L: WriteLog> Place<L> {
+    /// Whether this is its name.
+    pub(crate) fn is_named(&self, name: &Name) -> bool
+        ensures { result ≡ pointwise nat_eq self.now.me name.now }
+    {
+        self.me == *name
+    }
+
     /// Whether it answers to other events than a restart.
     pub(crate) fn is_up(&self) -> bool
         ensures { result ≡ self.now.is_up }
@@ -147,6 +159,13 @@ impl<L: WriteLog> Place<L> {
             Ok(_) => Ok(Answer::Nothing),
             Err(fault) => Err(fault),
         }
+    }
+
+    /// How far it holds an owner.
+    pub(crate) fn upto(&self, owner: &Name) -> u64
+        ensures { result ≡ (shown_of self.now.core.node.held owner.now).held }
+    {
+        self.core.upto(owner)
     }
 
     /// What is shown of an owner's key. `NoMemory`.

@@ -1,6 +1,6 @@
 //! A world of nodes, each with its log, and every frame that they sent.
 
-ghost use Rattle.std.specs.Prelude.{◌≡◌, ◌<◌, ℕ, true, List, [], ◌++◌, length, slice_set, slice_get, Some, None, IfOk, IfSome, IfNone, OnErr};
+ghost use Rattle.std.specs.Prelude.{◌≡◌, ◌<◌, ℕ, true, List, [], ◌++◌, length, slice_set, slice_get, Some, None, IfOk, IfSome, IfNone, IfErr, OnErr};
 ghost use Rattle.std.specs.Option.{option_copied};
 ghost use Rattle.sb_world.specs.Places as places;
 ghost use Rattle.sb_world.specs.Places.{place_at, with_place, frame_at};
@@ -58,7 +58,7 @@ fn place_of<L: WriteLog>(places: &[Place<L>], name: &Name) -> Option<usize>
 {
     let mut index = 0;
     while index < places.len() {
-        if places[index].me == *name {
+        if places[index].is_named(name) {
             return Some(index);
         }
         index += 1;

@@ -1,0 +1,25 @@
+//! What holds of every run of a world.
+
+ghost use Rattle.std.specs.Prelude.{◌≡◌, true, List, Result};
+ghost use Rattle.sb_types.specs.declared.fault.Fault.{Fault};
+ghost use Rattle.sb_world.specs.declared.event.Event.{Event};
+ghost use Rattle.sb_world.specs.declared.event.Answer.{Answer};
+ghost use Rattle.sb_world.specs.Places.{Seen};
+ghost use Rattle.sb_world.specs.States.{State};
+ghost use Rattle.sb_world.specs.Truth.{IsTrueState};
+ghost use Rattle.sb_world.specs.Claims.{EachState, EachStep, GivenIsWritten, IsExact, JoinedIsTaken, NothingFalls, IsWithinBudget, OnEachRun};
+
+use sb_node::answers_are_honest;
+
+/// On every run of the machine of worlds from a state that fits a world, for every list of events, as long as each
+/// log's store keeps its promise:
+pub fn worlds_keep_their_promise()
+    ensures sound { (world : Seen) (events : List Event) (answers : List (Result Answer Fault)) → OnEachRun world events answers (λ old states. EachState IsTrueState old states) }
+    ensures given { (world : Seen) (events : List Event) (answers : List (Result Answer Fault)) → OnEachRun world events answers (λ old states. EachStep GivenIsWritten old events answers states) }
+    ensures exact { (world : Seen) (events : List Event) (answers : List (Result Answer Fault)) → OnEachRun world events answers (λ old states. EachState IsExact old states) }
+    ensures taken { (world : Seen) (events : List Event) (answers : List (Result Answer Fault)) → OnEachRun world events answers (λ old states. EachStep JoinedIsTaken old events answers states) }
+    ensures later { (world : Seen) (events : List Event) (answers : List (Result Answer Fault)) → OnEachRun world events answers (λ old states. NothingFalls old states) }
+    ensures budget { (world : Seen) (events : List Event) (answers : List (Result Answer Fault)) → OnEachRun world events answers (λ old states. EachState IsWithinBudget old states) }
+{
+    answers_are_honest();
+}
