@@ -38,7 +38,7 @@ waiting_more writes me waiting c each owner written other stands = ⊎_elim (eac
     new (inr s) = absurd s
 
 -- what holds of all that stands in two lists holds of both laid end to end
-joined : {X : Type 0} (P : X → Type 0) (xs ys : List X) → ((x : X) → Stands xs x → P x) → ((x : X) → Stands ys x → P x) → (x : X) → Stands (xs ++ ys) x → P x
+pub joined : {X : Type 0} (P : X → Type 0) (xs ys : List X) → ((x : X) → Stands xs x → P x) → ((x : X) → Stands ys x → P x) → (x : X) → Stands (xs ++ ys) x → P x
 joined P xs ys one two x stands = ⊎_elim (one x) (two x) (either xs ys x stands)
 
 module _ (old new : List ℕ → List Write) (grows : Grows old new) (past : Past) (settings : Settings) (p : Place) (t : IsTruePlace old past settings p) where
@@ -84,22 +84,23 @@ module _ (old new : List ℕ → List Write) (grows : Grows old new) (past : Pas
       }
 
   -- it opened anew with the content of its log, which is all that its owner wrote
-  pub reopened : (log : Log) (table : Table) (openings : ℕ) → log.owner ≡ p.me → (log.is_open ≡ true → log.content ≡ content_table 0 (new p.me)) → IsPlainTable table → table ≡ content_table 0 (new p.me) →
-      IsTruePlace new (record { opening = opened_node p.me (content_table 0 (new p.me)); since = []; openings = openings }) settings
+  pub reopened : (ws : List Write) → new p.me ≡ ws → (log : Log) (table : Table) (openings : ℕ) → log.owner ≡ p.me → (log.is_open ≡ true → log.content ≡ content_table 0 (new p.me)) → IsPlainTable table → table ≡ content_table 0 ws →
+      IsTruePlace new (record { opening = opened_node p.me (content_table 0 ws); since = []; openings = openings }) settings
       (record { me = p.me; log = log; core = record { settings = p.core.settings; node = opened_node p.me table }; waiting = []; is_up = true })
-  reopened log table openings owner content plain same =
-      let node : opened_node p.me table ≡ opened_node p.me (content_table 0 (new p.me)) = ap (opened_node p.me) same in
+  reopened ws is_ws log table openings owner content plain same =
+      let node : opened_node p.me table ≡ opened_node p.me (content_table 0 ws) = ap (opened_node p.me) same in
       let is : IsNode (opened_node p.me table) = IsHolder-held (opened_node p.me table).held (IsHoldings-alone p.me table plain) in
+      let holds : NodeHolds new (opened_node p.me (content_table 0 (new p.me))) = opened-holds new p.me (content_table 0 (new p.me)) (content_tells (new p.me) 0 (omega arith)) in
       record {
         owner = owner;
         content = content;
         settings = t.settings;
         me = refl;
-        opening = record { front = new p.me; rest = []; all = sym (append-nil (new p.me)); node = refl; is = subst IsNode node is };
+        opening = record { front = ws; rest = []; all = is_ws ∙ sym (append-nil ws); node = refl; is = subst IsNode node is };
         replay = node;
         events = λ event stands. absurd stands;
         honest = λ event stands. absurd stands;
         is = is;
-        holds = subst (NodeHolds new) (sym node) (opened-holds new p.me (content_table 0 (new p.me)) (content_tells (new p.me) 0 (omega arith)));
+        holds = subst (NodeHolds new) (ap (λ us. opened_node p.me (content_table 0 us)) is_ws ∙ sym node) holds;
         waiting = λ c stands. absurd stands;
       }

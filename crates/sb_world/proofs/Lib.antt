@@ -1,3 +1,5 @@
 pub mod Names
 pub mod Going
 pub mod Keeping
+pub mod Acting
+pub mod Stepping

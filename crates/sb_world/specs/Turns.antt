@@ -19,7 +19,7 @@ use Rattle.sb_codec.specs.declared.message.Message.TheVariants as messages
 use Rattle.sb_frames.specs.Frames.{frame, Front, short, whole, bad, front_of}
 use Rattle.sb_log.specs.Records.{Committed, Log}
 use Rattle.sb_log.specs.Puts.{Puts, Loads}
-use Rattle.sb_node.specs.Answers.{IsDelta}
+use Rattle.sb_node.specs.Answers.{IsDelta, IsAnswer}
 use Rattle.sb_node.specs.Cores.{with_node, committed_answer}
 use Rattle.sb_node.specs.Ends.{Treats, took_each}
 use Rattle.sb_world.specs.declared.event.Event.{Event}
@@ -164,7 +164,8 @@ sent_turn p sent blocks = record {
 abbrev pub Offers : Place → List (List ℕ) → List ℕ → ℕ → Turn → Type 0
 Offers p sent owner after turn =
     (turn ≡ still p (Err NoMemory))
-    ⊎ ((blocks : List Block) × (is_delta blocks ≡ true) × IsDelta p.core.settings p.core.node.held (asked p.core.node.held owner after) blocks × (turn ≡ sent_turn p sent blocks))
+    ⊎ ((blocks : List Block) × (is_delta blocks ≡ true) × IsDelta p.core.settings p.core.node.held (asked p.core.node.held owner after) blocks
+    × IsAnswer p.core.settings.budget p.core.node.held (asked p.core.node.held owner after) blocks × (turn ≡ sent_turn p sent blocks))
 
 -- ---- a frame comes
 

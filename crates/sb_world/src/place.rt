@@ -6,7 +6,7 @@ ghost use Rattle.sb_types.specs.Limits.{is_delta};
 ghost use Rattle.sb_types.specs.Records as records;
 ghost use Rattle.sb_codec.specs.declared.message.Message.TheVariants as messages;
 ghost use Rattle.sb_frames.specs.Frames.{frame, front_of};
-ghost use Rattle.sb_node.specs.Answers.{IsDelta};
+ghost use Rattle.sb_node.specs.Answers.{IsDelta, IsAnswer};
 ghost use Rattle.sb_types.specs.Faults.{Gives};
 ghost use Rattle.sb_types.specs.Runs.{shown_at};
 ghost use Rattle.sb_holdings.specs.Held.{shown_of};
@@ -132,6 +132,7 @@ impl<L: WriteLog> Place<L> {
     pub(crate) fn offer(&self, alloc: Global, owner: &Name, after: u64) -> Result<Vec<u8>, Fault>
         ensures delta { IfOk result (λ bytes. (blocks : List records.Block) × (is_delta blocks ≡ true)
             × IsDelta self.now.core.settings self.now.core.node.held (spec.asked self.now.core.node.held owner.now after) blocks
+            × IsAnswer self.now.core.settings.budget self.now.core.node.held (spec.asked self.now.core.node.held owner.now after) blocks
             × (bytes.items ≡ frame (messages.Delta blocks))) }
         ensures memory { IfErr result (λ fault. fault ≡ Fault.NoMemory) }
     {
