@@ -3,3 +3,6 @@ pub mod Going
 pub mod Keeping
 pub mod Acting
 pub mod Stepping
+pub mod Running
+pub mod Later
+pub mod Claiming
