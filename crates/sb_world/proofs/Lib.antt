@@ -6,3 +6,4 @@ pub mod Stepping
 pub mod Running
 pub mod Later
 pub mod Claiming
+pub mod Choosing

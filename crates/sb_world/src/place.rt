@@ -46,8 +46,8 @@ impl<L: WriteLog> Model for Place<L> {
     ghost view = { λ p. record { me = p.me; log = L.seen p.log; core = p.core; waiting = p.waiting.items; is_up = p.is_up } };
 }
 
-/// Lets go of a write.
-fn lose(_committed: Committed) {}
+/// Lets go of what a log answered.
+fn lose(_result: Result<Committed, Fault>) {}
 
 impl<L: WriteLog> Place<L> {
     /// Whether this is its name.
@@ -83,12 +83,11 @@ impl<L: WriteLog> Place<L> {
     pub(crate) fn crash(&mut self, key: &Key, slot: &Slot, is_kept: bool) -> Answer
         ensures { (effect : Effect) × Crashes self.old key.now slot.now is_kept (record { answer = Ok result; effect = effect; place = self.new; frames = [] }) }
     {
-        if is_kept {
-            if let Ok(committed) = self.log.put(key, slot) {
-                lose(committed);
-            }
-        }
         self.is_up = false;
+        if !is_kept {
+            return Answer::Crashed;
+        }
+        lose(self.log.put(key, slot));
         Answer::Crashed
     }
 
@@ -102,7 +101,7 @@ impl<L: WriteLog> Place<L> {
         let version = oldest.entry().version();
         match self.core.take_own(oldest) {
             Ok(()) => {
-                lose(self.waiting.remove(0));
+                lose(Ok(self.waiting.remove(0)));
                 Ok(Answer::Took(version))
             }
             Err(fault) => Err(fault),

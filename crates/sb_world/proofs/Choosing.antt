@@ -1,0 +1,25 @@
+-- How an event goes, by what a log or a node answered.
+use Rattle.std.proofs.Common.{◌≡◌, ℕ, ◌<◌, Bool, true, false, not, List, [], ◌∷◌, drop, slice_get, IfErr, Result, Ok, Err, Option, Some, None, inl, refl, sym, ap, subst, ◌∙◌}
+use Rattle.std.proofs.lemmas.Bool.{true≢false}
+use Rattle.std.specs.Prelude.{unwrap_or}
+use Rattle.std.specs.Option.{option_copied}
+use Rattle.sb_types.specs.declared.entry.Slot.{Slot}
+use Rattle.sb_types.specs.declared.fault.Fault.{Fault}
+use Rattle.sb_types.specs.Faults.{Gives}
+use Rattle.sb_log.specs.Records.{Committed}
+use Rattle.sb_node.specs.Cores.{committed_answer}
+use Rattle.sb_world.specs.Places.{Place}
+use Rattle.sb_world.specs.Turns.{Effect, rests, logs, write_of, IsLogged, Turn, TakesFirst, take_turn}
+
+pub logged : (key : List ℕ) (slot : Slot) (put : Result Committed Fault) → (effect : Effect) × IsLogged key slot put effect
+logged key slot (Ok c) = (logs (write_of key slot), refl)
+logged key slot (Err fault) = (rests, inl refl)
+
+-- the first that waits, answered so
+pub takes_oldest : (p : Place) (waiting others : List Committed) (c : Committed) (turn : Turn) → waiting ≡ c ∷ others → (result : Result (Unit {0}) Fault) →
+    Gives result (committed_answer p.core.node c) → IfErr (committed_answer p.core.node c) (λ fault. result ≡ Err fault) → turn ≡ take_turn p c others result → TakesFirst p waiting turn
+takes_oldest p waiting others c turn is result gives refused same = subst (λ (ws : List Committed). TakesFirst p ws turn) (sym is) (result, gives, refused, same)
+
+pub oldest_first : (xs : List Committed) (c : Committed) → Some c ≡ slice_get xs 0 → xs ≡ c ∷ drop 1 xs
+oldest_first [] c e = absurd (cc)
+oldest_first (x ∷ xs) c e = ap (λ (o : Option Committed). unwrap_or o x ∷ xs) (sym e)
