@@ -6,6 +6,9 @@ use Rattle.std.specs.Option.{option_copied}
 use Rattle.sb_types.specs.declared.entry.Slot.{Slot}
 use Rattle.sb_types.specs.declared.fault.Fault.{Fault}
 use Rattle.sb_types.specs.Faults.{Gives}
+use Rattle.sb_codec.specs.declared.message.Message.{Message}
+use Rattle.sb_frames.specs.Frames.{whole, front_of}
+use Rattle.sb_frames.specs.Streams.{Stream, open_with, Feeds, Takes, TakesNext}
 use Rattle.sb_log.specs.Records.{Committed}
 use Rattle.sb_node.specs.Cores.{committed_answer}
 use Rattle.sb_world.specs.Places.{Place}
@@ -23,3 +26,14 @@ takes_oldest p waiting others c turn is result gives refused same = subst (λ (w
 pub oldest_first : (xs : List Committed) (c : Committed) → Some c ≡ slice_get xs 0 → xs ≡ c ∷ drop 1 xs
 oldest_first [] c e = absurd (cc)
 oldest_first (x ∷ xs) c e = ap (λ (o : Option Committed). unwrap_or o x ∷ xs) (sym e)
+
+abbrev done_with : {X : Type 0} → X → Result X Fault
+done_with x = Ok x
+
+-- what is read first of a stream that was fed these bytes and nothing else stands at their front
+pub fed_front : {X : Type 0} (old mid new : Stream) (bytes : List ℕ) (done : X) (message : Message) → old ≡ open_with [] → Feeds old bytes (Ok done) mid → TakesNext mid (Ok (Some message)) new →
+    (rest : List ℕ) × (front_of bytes ≡ whole message rest)
+fed_front {X} old mid new bytes done message empty feeds takes =
+    let fed : mid ≡ open_with bytes = subst (λ (s : Stream). Feeds s bytes (done_with done) mid) empty feeds in
+    let hands = subst (λ (s : Stream). TakesNext s (Ok (Some message)) new) fed takes in
+    (hands.rest, hands.front)

@@ -7,3 +7,5 @@ pub mod Running
 pub mod Later
 pub mod Claiming
 pub mod Choosing
+pub mod Asking
+pub mod Looking

@@ -146,7 +146,7 @@ Restarts p turn = (result : Result Table Fault) × (log : Log) × Loads p.log re
 -- ---- a delta is sent
 
 abbrev pub numbered_pair : List ℕ → ℕ → Pair → Pair
-numbered_pair owner after pair = if pointwise nat_eq pair.owner owner then plain_pair owner after else pair
+numbered_pair owner after pair = plain_pair pair.owner (if pointwise nat_eq pair.owner owner then after else pair.held)
 
 -- a digest of the whole range that has this number for the owner, and of each other what the node itself holds
 abbrev pub asked : Held → List ℕ → ℕ → Digest

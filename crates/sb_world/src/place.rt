@@ -1,7 +1,7 @@
 //! A node of a world, with its log.
 
 ghost use Rattle.std.specs.Cmp.Lexicographic.{pointwise};
-ghost use Rattle.std.specs.Prelude.{◌≡◌, true, nat_eq, [], Some, Ok, IfOk, IfErr};
+ghost use Rattle.std.specs.Prelude.{◌≡◌, true, nat_eq, List, [], Some, Ok, IfOk, IfErr};
 ghost use Rattle.sb_types.specs.Limits.{is_delta};
 ghost use Rattle.sb_types.specs.Records as records;
 ghost use Rattle.sb_codec.specs.declared.message.Message.TheVariants as messages;

@@ -2,7 +2,7 @@
 
 ghost use Rattle.std.specs.Prelude.{◌≡◌, ◌<◌, ℕ, true, List, [], ◌++◌, length, slice_set, slice_get, Some, None, IfOk, IfSome, IfNone, IfErr, OnErr};
 ghost use Rattle.std.specs.Option.{option_copied};
-ghost use Rattle.sb_world.specs.Places as places;
+ghost use Rattle.sb_world.specs.Places as spec;
 ghost use Rattle.sb_world.specs.Places.{place_at, with_place, frame_at};
 ghost use Rattle.sb_world.specs.Turns.{Effect, Does};
 ghost use Rattle.sb_world.specs.Steps.{Step, Passes};
@@ -54,7 +54,7 @@ fn place_of<L: WriteLog>(places: &[Place<L>], name: &Name) -> Option<usize>
     ensures none { IfNone result (place_at places.now name.now ≡ None) }
     ensures within { IfSome result (λ i. i < length places.now) }
     ensures found { IfSome result (λ i. place_at places.now name.now ≡ slice_get places.now i) }
-    ensures set { IfSome result (λ i. (p : places.Place) → with_place places.now name.now p ≡ slice_set places.now i p) }
+    ensures set { IfSome result (λ i. (p : spec.Place) → with_place places.now name.now p ≡ slice_set places.now i p) }
 {
     let mut index = 0;
     while index < places.len() {
