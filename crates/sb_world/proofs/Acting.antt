@@ -103,7 +103,7 @@ acts_same (Read me owner key) p sent turn acts = ⊎_elim (λ is. turned_same p 
 acts_same (Upto me owner) p sent turn acts = turned_same p turn _ acts (still_same p _)
 
 pub does_same : (event : Event) (p : Place) (sent : List (List ℕ)) (turn : Turn) → Does event p sent turn → Same p turn
-does_same event p sent turn does = where_same (answers_to event p) does
+does_same event p sent turn does = where_same (answers_to event p.is_up) does
   where
     where_same : (b : Bool) → ActsWhere b event p sent turn → Same p turn
     where_same true acts = acts_same event p sent turn acts
@@ -380,7 +380,7 @@ module _ (writes : List ℕ → List Write) (past : Past) (settings : Settings) 
   acts_kept (Upto me owner) turn acts = turned_kept turn _ acts (still_kept _)
 
   pub does_kept : (event : Event) (turn : Turn) → Does event p sent turn → Kept turn
-  does_kept event turn does = where_kept (answers_to event p) does
+  does_kept event turn does = where_kept (answers_to event p.is_up) does
     where
       where_kept : (b : Bool) → ActsWhere b event p sent turn → Kept turn
       where_kept true acts = acts_kept event turn acts

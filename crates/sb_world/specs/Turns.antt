@@ -226,19 +226,19 @@ Acts (Read me owner key) p sent turn =
 Acts (Upto me owner) p sent turn = turn ≡ still p (Ok (answers.Number (shown_of p.core.node.held owner).held))
 
 -- a node that is down restarts, and does nothing else
-abbrev pub answers_to : Event → Place → Bool
-answers_to (Commit me key slot) p = p.is_up
-answers_to (Take me) p = p.is_up
-answers_to (CrashInCommit me key slot is_kept) p = p.is_up
-answers_to (Restart me) p = true
-answers_to (Offer me owner after) p = p.is_up
-answers_to (Deliver me number) p = p.is_up
-answers_to (Read me owner key) p = p.is_up
-answers_to (Upto me owner) p = p.is_up
+abbrev pub answers_to : Event → Bool → Bool
+answers_to (Commit me key slot) is_up = is_up
+answers_to (Take me) is_up = is_up
+answers_to (CrashInCommit me key slot is_kept) is_up = is_up
+answers_to (Restart me) is_up = true
+answers_to (Offer me owner after) is_up = is_up
+answers_to (Deliver me number) is_up = is_up
+answers_to (Read me owner key) is_up = is_up
+answers_to (Upto me owner) is_up = is_up
 
 abbrev pub ActsWhere : Bool → Event → Place → List (List ℕ) → Turn → Type 0
 ActsWhere true event p sent turn = Acts event p sent turn
 ActsWhere false event p sent turn = turn ≡ still p (Err Closed)
 
 abbrev pub Does : Event → Place → List (List ℕ) → Turn → Type 0
-Does event p sent turn = ActsWhere (answers_to event p) event p sent turn
+Does event p sent turn = ActsWhere (answers_to event p.is_up) event p sent turn

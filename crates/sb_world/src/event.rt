@@ -1,7 +1,7 @@
 //! What may happen in a world, and what is answered.
 
 ghost use Rattle.std.specs.Prelude.{◌≡◌};
-ghost use Rattle.sb_world.specs.Turns.{node_of};
+ghost use Rattle.sb_world.specs.Turns.{node_of, answers_to};
 
 use sb_holdings::Report;
 use sb_types::{Key, Name, Slot, Value};
@@ -67,7 +67,10 @@ impl Event {
         }
     }
 
-    pub(crate) fn is_restart(&self) -> bool {
-        matches!(self, Event::Restart(_))
+    /// Whether a node answers to it that runs, or that is down.
+    pub(crate) fn is_answered(&self, is_up: bool) -> bool
+        ensures { result ≡ answers_to self.now is_up }
+    {
+        matches!(self, Event::Restart(_)) || is_up
     }
 }

@@ -4,7 +4,7 @@ ghost use Rattle.std.specs.Prelude.{◌≡◌, ◌<◌, ℕ, true, List, [], ◌
 ghost use Rattle.std.specs.Option.{option_copied};
 ghost use Rattle.sb_world.specs.Places as spec;
 ghost use Rattle.sb_world.specs.Places.{place_at, with_place, frame_at};
-ghost use Rattle.sb_world.specs.Turns.{Effect, Does};
+ghost use Rattle.sb_world.specs.Turns.{Effect, rests, Offers, Delivers, Acts, Does};
 ghost use Rattle.sb_world.specs.Steps.{Step, Passes};
 
 use crate::event::{Answer, Event};
@@ -66,7 +66,74 @@ fn place_of<L: WriteLog>(places: &[Place<L>], name: &Name) -> Option<usize>
     None
 }
 
-/// What an event does at its node.
+/// The frame of a number, counted from 1.
+fn frame_in(sent: &[Sent], number: u64) -> Option<&[u8]>
+    ensures { option_copied result ≡ frame_at sent.now number }
+{
+    let index = number.checked_sub(1)?;
+    let sent = sent.get(usize::try_from(index).ok()?)?;
+    Some(&sent.bytes)
+}
+
+/// Sends what a node holds of an owner above a version, as far as its budget has room. `NoMemory`.
+fn send<L: WriteLog>(
+    alloc: Global,
+    place: &Place<L>,
+    sent: &mut Vec<Sent>,
+    owner: &Name,
+    after: u64,
+) -> Result<Answer, Fault>
+    ensures { (frames : List (List ℕ)) × Offers place.now sent.old.items owner.now after (record { answer = result; effect = rests; place = place.now; frames = frames })
+        × (sent.new.items ≡ sent.old.items ++ frames) }
+{
+    let bytes = match place.offer(alloc, owner, after) {
+        Ok(bytes) => bytes,
+        Err(fault) => return Err(fault),
+    };
+    match sent.push(Sent { bytes }) {
+        Ok(()) => Ok(Answer::Sent(sent.len() as u64)),
+        Err(_) => Err(Fault::NoMemory),
+    }
+}
+
+/// Hands a frame that was sent to a node.
+fn hand_over<L: WriteLog>(
+    alloc: Global,
+    place: &mut Place<L>,
+    sent: &[Sent],
+    number: u64,
+) -> Result<Answer, Fault>
+    ensures { (effect : Effect) × Delivers place.old (frame_at sent.now number) (record { answer = result; effect = effect; place = place.new; frames = [] }) }
+{
+    match frame_in(sent, number) {
+        Some(bytes) => place.deliver(alloc, bytes),
+        None => Ok(Answer::Nothing),
+    }
+}
+
+/// What an event does at its node, where that answers to it.
+fn perform<L: WriteLog>(
+    alloc: Global,
+    place: &mut Place<L>,
+    sent: &mut Vec<Sent>,
+    event: &Event,
+) -> Result<Answer, Fault>
+    ensures { (effect : Effect) × (frames : List (List ℕ)) × Acts event.now place.old sent.old.items (record { answer = result; effect = effect; place = place.new; frames = frames })
+        × (sent.new.items ≡ sent.old.items ++ frames) }
+{
+    match event {
+        Event::Commit(_, key, slot) => place.commit(key, slot),
+        Event::Take(_) => place.take(),
+        Event::CrashInCommit(_, key, slot, is_kept) => Ok(place.crash(key, slot, *is_kept)),
+        Event::Restart(_) => place.restart(alloc),
+        Event::Offer(_, owner, after) => send(alloc, place, sent, owner, *after),
+        Event::Deliver(_, number) => hand_over(alloc, place, sent, *number),
+        Event::Read(_, owner, key) => place.read(alloc, owner, key),
+        Event::Upto(_, owner) => Ok(Answer::Number(place.upto(owner))),
+    }
+}
+
+/// What an event does at its node: `Closed` where that is down, unless it restarts.
 fn act<L: WriteLog>(
     alloc: Global,
     place: &mut Place<L>,
@@ -76,35 +143,10 @@ fn act<L: WriteLog>(
     ensures { (effect : Effect) × (frames : List (List ℕ)) × Does event.now place.old sent.old.items (record { answer = result; effect = effect; place = place.new; frames = frames })
         × (sent.new.items ≡ sent.old.items ++ frames) }
 {
-    if !place.is_up() && !event.is_restart() {
+    if !event.is_answered(place.is_up()) {
         return Err(Fault::Closed);
     }
-    match event {
-        Event::Commit(_, key, slot) => place.commit(key, slot),
-        Event::Take(_) => place.take(),
-        Event::CrashInCommit(_, key, slot, is_kept) => Ok(place.crash(key, slot, *is_kept)),
-        Event::Restart(_) => place.restart(alloc),
-        Event::Offer(_, owner, after) => {
-            let bytes = place.offer(alloc, owner, *after)?;
-            sent.push(Sent { bytes })?;
-            Ok(Answer::Sent(sent.len() as u64))
-        }
-        Event::Deliver(_, number) => match frame_in(sent, *number) {
-            Some(bytes) => place.deliver(alloc, bytes),
-            None => Ok(Answer::Nothing),
-        },
-        Event::Read(_, owner, key) => place.read(alloc, owner, key),
-        Event::Upto(_, owner) => Ok(Answer::Number(place.upto(owner))),
-    }
-}
-
-/// The frame of a number, counted from 1.
-fn frame_in(sent: &[Sent], number: u64) -> Option<&[u8]>
-    ensures { option_copied result ≡ frame_at sent.now number }
-{
-    let index = number.checked_sub(1)?;
-    let sent = sent.get(usize::try_from(index).ok()?)?;
-    Some(&sent.bytes)
+    perform(alloc, place, sent, event)
 }
 
 impl<L: WriteLog> World<L> {
