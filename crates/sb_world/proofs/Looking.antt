@@ -1,10 +1,15 @@
 -- Where the node of a name is found.
-use Rattle.std.proofs.Common.{◌≡◌, ℕ, zero, suc, ◌+◌, ◌<◌, ◌≤◌, Bool, true, false, not, cond, nat_eq, List, [], ◌∷◌, take, length, slice_get, Option, Some, None, refl, sym, ap, ◌∙◌, arith}
+use Rattle.std.proofs.Common.{◌≡◌, ℕ, zero, suc, ◌+◌, ◌<◌, ◌≤◌, Bool, true, false, not, cond, nat_eq, List, [], ◌∷◌, ◌++◌, take, slice_get, Option, Some, None, Result, refl, sym, ap, subst, ◌∙◌}
 use Rattle.std.specs.Prelude.{unwrap_or, slice_set}
 use Rattle.std.specs.List.{list_all}
 use Rattle.std.specs.Cmp.Lexicographic.{pointwise}
 use Rattle.std.proofs.lemmas.Bool.{and_parts, and_from, true≢false}
-use Rattle.sb_world.specs.Places.{Place, place_at, with_place}
+use Rattle.sb_types.specs.declared.fault.Fault.{Fault}
+use Rattle.sb_world.specs.declared.event.Event.{Event}
+use Rattle.sb_world.specs.declared.event.Answer.{Answer}
+use Rattle.sb_world.specs.Places.{Place, Seen, place_at, with_place}
+use Rattle.sb_world.specs.Turns.{Effect, Does, node_of}
+use Rattle.sb_world.specs.Steps.{StepAt, Step}
 
 abbrev pub is_other : List ℕ → Place → Bool
 is_other name p = not (pointwise nat_eq p.me name)
@@ -39,3 +44,14 @@ module _ (name : List ℕ) (x : Place) (named : pointwise nat_eq x.me name ≡ t
   put_there (p ∷ ps) (suc i) others at_i q =
       let parts = and_parts (is_other name p) (list_all (is_other name) (take i ps)) others in
       rw (not_true (pointwise nat_eq p.me name) parts.0) (ap (λ rest. p ∷ rest) (put_there ps i parts.1 at_i q))
+
+-- a step at the node that was found, and changed where it stands
+pub stepped : (old : Seen) (event : Event) (answer : Result Answer Fault) (effect : Effect) (name : List ℕ) (p q : Place) (i : ℕ) (frames sent : List (List ℕ)) →
+    name ≡ node_of event → place_at old.places name ≡ slice_get old.places i → slice_get old.places i ≡ Some p → with_place old.places name q ≡ slice_set old.places i q →
+    Does event p old.sent (record { answer = answer; effect = effect; place = q; frames = frames }) → sent ≡ old.sent ++ frames →
+    Step old event answer effect (record { settings = old.settings; places = slice_set old.places i q; sent = sent })
+stepped old event answer effect name p q i frames sent is found there put does more =
+    let at_name : place_at old.places (node_of event) ≡ Some p = ap (place_at old.places) (sym is) ∙ found ∙ there in
+    let places : slice_set old.places i q ≡ with_place old.places (node_of event) q = sym put ∙ ap (λ n. with_place old.places n q) is in
+    subst (λ (o : Option Place). StepAt o old event answer effect (record { settings = old.settings; places = slice_set old.places i q; sent = sent })) (sym at_name)
+    (q, frames, does, λ k. record { settings = old.settings; places = places k; sent = more k })
