@@ -9,3 +9,5 @@ pub mod Claiming
 pub mod Choosing
 pub mod Asking
 pub mod Looking
+pub mod Reaching
+pub mod Fitting

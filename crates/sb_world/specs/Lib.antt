@@ -4,3 +4,4 @@ pub mod Steps
 pub mod States
 pub mod Truth
 pub mod Claims
+pub mod Making

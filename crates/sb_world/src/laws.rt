@@ -5,7 +5,9 @@ ghost use Rattle.sb_types.specs.declared.fault.Fault.{Fault};
 ghost use Rattle.sb_world.specs.declared.event.Event.{Event};
 ghost use Rattle.sb_world.specs.declared.event.Answer.{Answer};
 ghost use Rattle.sb_world.specs.Places.{Seen};
-ghost use Rattle.sb_world.specs.States.{State};
+ghost use Rattle.sb_world.specs.States.{State, Moves, Run, last_of, FitsWorld};
+ghost use Rattle.sb_world.specs.Steps.{Step, Passes};
+ghost use Rattle.sb_world.specs.Turns.{Effect};
 ghost use Rattle.sb_world.specs.Truth.{IsTrueState};
 ghost use Rattle.sb_world.specs.Claims.{EachState, EachStep, GivenIsWritten, IsExact, JoinedIsTaken, NothingFalls, IsWithinBudget, OnEachRun};
 
@@ -23,3 +25,11 @@ pub fn worlds_keep_their_promise()
 {
     answers_are_honest();
 }
+
+/// Whatever a world does is a run of the machine of worlds, from each state that fits it to one that fits it afterwards.
+pub fn worlds_are_reached()
+    ensures step { (world new : Seen) (event : Event) (answer : Result Answer Fault) (effect : Effect) → Step world event answer effect new →
+        (old : State) → FitsWorld old world → (state : State) × Moves old event answer state × FitsWorld state new }
+    ensures run { (world new : Seen) (events : List Event) (answers : List (Result Answer Fault)) → Passes world events answers new →
+        (old : State) → FitsWorld old world → (states : List State) × Run old events answers states × FitsWorld (last_of old states) new }
+{}

@@ -3,10 +3,11 @@
 
 mod event;
 mod laws;
+mod making;
 mod offer;
 mod place;
 mod world;
 
 pub use event::{Answer, Event};
-pub use laws::worlds_keep_their_promise;
+pub use laws::{worlds_are_reached, worlds_keep_their_promise};
 pub use world::World;

@@ -1,13 +1,22 @@
 //! A world of nodes, each with its log, and every frame that they sent.
 
-ghost use Rattle.std.specs.Prelude.{◌≡◌, ◌<◌, ℕ, true, List, [], ◌++◌, length, slice_set, slice_get, Some, None, IfOk, IfSome, IfNone, IfErr, OnErr};
+ghost use Rattle.std.specs.Prelude.{◌≡◌, ◌<◌, ℕ, true, List, [], ◌++◌, length, slice_set, slice_get, map, Some, None, Err, IfOk, IfSome, IfNone, IfErr, OnErr};
 ghost use Rattle.std.specs.Option.{option_copied};
 ghost use Rattle.sb_world.specs.Places as spec;
-ghost use Rattle.sb_world.specs.Places.{place_at, with_place, frame_at};
+ghost use Rattle.sb_world.specs.Places.{place_at, with_place, frame_at, IsClean};
 ghost use Rattle.sb_world.specs.Turns.{Effect, rests, Offers, Delivers, Acts, Does};
 ghost use Rattle.sb_world.specs.Steps.{Step, Passes};
+ghost use Rattle.sb_world.specs.States.{State, Moves, Run, last_of, FitsWorld};
+ghost use Rattle.sb_world.specs.States.{start_of, AreContents};
+ghost use Rattle.sb_world.specs.Making.{refusal, IsMade};
+ghost use Rattle.sb_types.specs.declared.entry.Write.{Write};
+ghost use Rattle.sb_log.specs.Records as records;
+ghost use Rattle.sb_world.specs.Truth.{IsTrueState};
+ghost use Rattle.sb_world.specs.Claims.{EachState, EachStep, GivenIsWritten, IsExact, JoinedIsTaken, NothingFalls, IsWithinBudget, OnEachRun};
 
 use crate::event::{Answer, Event};
+use crate::laws::{worlds_are_reached, worlds_keep_their_promise};
+use crate::making::places_of;
 use crate::place::Place;
 use sb_log::WriteLog;
 use sb_types::{Fault, Name, Settings};
@@ -149,10 +158,42 @@ fn act<L: WriteLog>(
     perform(alloc, place, sent, event)
 }
 
+impl<L: WriteLog + Drop> World<L> {
+    /// A world of a node for each log, named as its owner and opened with what the log has. `BadSetting` where there are
+    /// no logs, or more than 1,024; `SameName` where two have one owner; `WrongCluster` where one is of another cluster
+    /// than the settings'; then the faults of `load`, and `NoMemory`.
+    pub fn new(alloc: Global, settings: Settings, logs: Vec<L>) -> Result<World<L>, Fault>
+        ensures refused { IfSome (refusal settings (map L.seen logs.items)) (λ fault. result ≡ Err fault) }
+        ensures settings { IfOk result (λ w. w.settings ≡ settings) }
+        ensures names { IfOk result (λ w. map (λ (p : spec.Place). p.me) w.places ≡ map (λ (log : records.Log). log.owner) (map L.seen logs.items)) }
+        ensures made { IfOk result IsMade }
+
+        // It fits whatever was written that the logs' contents come of; and something was.
+        ensures fits { IfOk result (λ w. IsClean w.places → (writes : List ℕ → List Write) → AreContents writes w.places → FitsWorld (start_of writes w) w) }
+        ensures some { IfOk result (λ w. IsClean w.places → (writes : List ℕ → List Write) × AreContents writes w.places) }
+    {
+        Ok(World {
+            settings,
+            places: places_of(alloc, settings, logs)?,
+            sent: Vec::new(alloc),
+            alloc,
+        })
+    }
+}
+
 impl<L: WriteLog> World<L> {
     /// What an event does, in this order: `Nothing` where its node is not there; `Closed` where that is down, unless it
     /// restarts.
     pub fn step(&mut self, event: &Event) -> Result<Answer, Fault>
+        ensures step { (effect : Effect) × Step self.old event.now result effect self.new }
+        ensures fits { (old : State) → FitsWorld old self.old → (new : State) × Moves old event.now result new × FitsWorld new self.new }
+    {
+        worlds_are_reached();
+        self.step_once(event)
+    }
+
+    /// A step.
+    fn step_once(&mut self, event: &Event) -> Result<Answer, Fault>
         ensures step { (effect : Effect) × Step self.old event.now result effect self.new }
     {
         let Some(index) = place_of(&self.places, event.node()) else {
@@ -162,14 +203,42 @@ impl<L: WriteLog> World<L> {
     }
 
     /// Each event in turn, with its answers. `NoMemory` where there is no room for the answers, with nothing done.
+    ///
+    /// For all that the owners wrote before, and for every list of events: what a reader is given was written by its
+    /// owner under that version (`given`); a reader that holds an owner up to a version gets of each key that was last
+    /// written at or below it exactly that write (`exact`); whatever joins on is taken up (`taken`); within a node's
+    /// run no version falls (`later`); no frame exceeds its budget (`budget`).
     pub fn run(&mut self, events: &[Event]) -> Result<Vec<Result<Answer, Fault>>, Fault>
+        ensures passes { IfOk result (λ answers. Passes self.old events.now answers.items self.new) }
+        ensures err { OnErr result (self.new ≡ self.old) }
+        ensures memory { IfErr result (λ fault. fault ≡ Fault.NoMemory) }
+
+        // From each state that fits before there is a run with these events and these answers to one that fits.
+        ensures fits { IfOk result (λ answers. (old : State) → FitsWorld old self.old →
+            (states : List State) × Run old events.now answers.items states × FitsWorld (last_of old states) self.new) }
+
+        // And this holds of each such run, as long as each log's store keeps its promise.
+        ensures sound { IfOk result (λ answers. OnEachRun self.old events.now answers.items (λ old states. EachState IsTrueState old states)) }
+        ensures given { IfOk result (λ answers. OnEachRun self.old events.now answers.items (λ old states. EachStep GivenIsWritten old events.now answers.items states)) }
+        ensures exact { IfOk result (λ answers. OnEachRun self.old events.now answers.items (λ old states. EachState IsExact old states)) }
+        ensures taken { IfOk result (λ answers. OnEachRun self.old events.now answers.items (λ old states. EachStep JoinedIsTaken old events.now answers.items states)) }
+        ensures later { IfOk result (λ answers. OnEachRun self.old events.now answers.items (λ old states. NothingFalls old states)) }
+        ensures budget { IfOk result (λ answers. OnEachRun self.old events.now answers.items (λ old states. EachState IsWithinBudget old states)) }
+    {
+        worlds_are_reached();
+        worlds_keep_their_promise();
+        self.run_each(events)
+    }
+
+    /// Each event in turn.
+    fn run_each(&mut self, events: &[Event]) -> Result<Vec<Result<Answer, Fault>>, Fault>
         ensures passes { IfOk result (λ answers. Passes self.old events.now answers.items self.new) }
         ensures err { OnErr result (self.new ≡ self.old) }
         ensures memory { IfErr result (λ fault. fault ≡ Fault.NoMemory) }
     {
         let mut answers = Vec::with_capacity(self.alloc, events.len())?;
         for event in events {
-            let answer = self.step(event);
+            let answer = self.step_once(event);
             answers.push_reserved(answer);
         }
         Ok(answers)
