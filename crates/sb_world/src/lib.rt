@@ -11,3 +11,6 @@ mod world;
 pub use event::{Answer, Event};
 pub use laws::{worlds_are_reached, worlds_keep_their_promise};
 pub use world::World;
+
+#[cfg(test)]
+mod tests;
