@@ -68,7 +68,11 @@ fn refusal<L: WriteLog>(settings: &Settings, logs: &[L]) -> Option<Fault>
 }
 
 /// The node of a log, opened with what that has.
-fn opened<L: WriteLog + Drop>(alloc: Global, settings: Settings, mut log: L) -> Result<Place<L>, Fault>
+fn opened<L: WriteLog + Drop>(
+    alloc: Global,
+    settings: Settings,
+    mut log: L,
+) -> Result<Place<L>, Fault>
     ensures new { IfOk result (IsNew settings) }
     ensures name { IfOk result (λ p. p.me ≡ (L.seen log).owner) }
 {

@@ -32,10 +32,24 @@ fn event(alloc: Global, line: Line) -> Result<Event, Fault> {
     let node = Name::read(node)?;
     Ok(match kind {
         b'c' => Event::Commit(node, Key::read(word)?, Slot::Set(Value::weight(number)?)),
-        b'l' => Event::Commit(node, Key::read(word)?, Slot::Set(Value::addr(alloc, &[b'p'; 128])?)),
+        b'l' => Event::Commit(
+            node,
+            Key::read(word)?,
+            Slot::Set(Value::addr(alloc, &[b'p'; 128])?),
+        ),
         b't' => Event::Take(node),
-        b'k' => Event::CrashInCommit(node, Key::read(word)?, Slot::Set(Value::weight(number)?), true),
-        b'x' => Event::CrashInCommit(node, Key::read(word)?, Slot::Set(Value::weight(number)?), false),
+        b'k' => Event::CrashInCommit(
+            node,
+            Key::read(word)?,
+            Slot::Set(Value::weight(number)?),
+            true,
+        ),
+        b'x' => Event::CrashInCommit(
+            node,
+            Key::read(word)?,
+            Slot::Set(Value::weight(number)?),
+            false,
+        ),
         b'r' => Event::Restart(node),
         b'o' => Event::Offer(node, Name::read(word)?, number),
         b'd' => Event::Deliver(node, number),
@@ -124,7 +138,8 @@ fn what_waited_goes_with_a_restart(rt: HostRuntime) -> Result<(), Fail> {
 }
 
 /// The frame of a delta of one weight.
-const FRAME: &[u8] = b"\xa7\x01\x00\x00\x00\x22\x03\x00\x01\x01a\x00\x00\x00\x00\x00\x00\x00\x00\x00\x01\x01w\x00\x00\x00\x00\x00\x00\x00\x01\x02\x00\x00\x00\x00\x00\x00\x00\x05";
+const FRAME: &[u8] =
+    b"\xa7\x01\x00\x00\x00\x22\x03\x00\x01\x01a\x00\x00\x00\x00\x00\x00\x00\x00\x00\x01\x01w\x00\x00\x00\x00\x00\x00\x00\x01\x02\x00\x00\x00\x00\x00\x00\x00\x05";
 
 #[test]
 fn a_frame_is_lost_and_another_comes_twice(rt: HostRuntime) -> Result<(), Fail> {
@@ -194,7 +209,10 @@ fn a_run_answers_each_event(rt: HostRuntime) -> Result<(), Fail> {
     }
     let answers = world.run(&events)?;
     assert_eq!(rt; answers.len(), 4);
-    for (answer, wanted) in answers.iter().zip([(b'x', 0), (b'u', 0), (b'r', 1), (b'u', 1)]) {
+    for (answer, wanted) in answers
+        .iter()
+        .zip([(b'x', 0), (b'u', 0), (b'r', 1), (b'u', 1)])
+    {
         assert_eq!(rt; told(answer), wanted);
     }
     Ok(())

@@ -16,16 +16,25 @@ returns g c =
     let slot = c.args.slot.now in
     let kept : c.args.is_kept ≡ true = c.if-not-is_kept.false in
     let chosen = logged key slot c.put.result in
-    rw kept (chosen.0, (c.put.result, chosen.0, log, subst (λ (p : Place). Puts p.log key slot c.put.result log) c.self.view_is c.put.ensures.puts, chosen.1,
-    λ i. record {
-      answer = Ok answers.Crashed;
-      effect = chosen.0;
-      place = record {
-        me = (c.self.view_is i).me;
-        log = log;
-        core = (c.self.view_is i).core;
-        waiting = (c.self.view_is i).waiting;
-        is_up = false;
-      };
-      frames = [];
-    }))
+    rw kept (
+      chosen.0,
+      (
+        c.put.result,
+        chosen.0,
+        log,
+        subst (λ (p : Place). Puts p.log key slot c.put.result log) c.self.view_is c.put.ensures.puts,
+        chosen.1,
+        λ i. record {
+          answer = Ok answers.Crashed;
+          effect = chosen.0;
+          place = record {
+            me = (c.self.view_is i).me;
+            log = log;
+            core = (c.self.view_is i).core;
+            waiting = (c.self.view_is i).waiting;
+            is_up = false;
+          };
+          frames = [];
+        },
+      ),
+    )

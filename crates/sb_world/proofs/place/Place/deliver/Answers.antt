@@ -28,16 +28,22 @@ returns-in-Ok-apply g c =
       effect = effect;
       place = record { me = c.self.inside.me; log = g.L.WriteLog.seen c.self.inside.log; core = c.apply.new.self; waiting = c.self.inside.waiting.items; is_up = c.self.inside.is_up };
       frames = [];
-    } in
-    (effect, inr (subst (λ (x : Front). TakesFront p x turn) (sym front.1) (ends, treats, λ i. record {
-      answer = Ok (answers.Delivered ends);
-      effect = effect;
-      place = record {
-        me = (c.self.view_is i).me;
-        log = (c.self.view_is i).log;
-        core = (applied.ok ∙ ap (λ (q : Place). with_node q.core (replay_node q.core.node (took_each blocks ends))) c.self.view_is) i;
-        waiting = (c.self.view_is i).waiting;
-        is_up = (c.self.view_is i).is_up;
-      };
-      frames = [];
-    })))
+    } in (
+      effect,
+      inr (subst (λ (x : Front). TakesFront p x turn) (sym front.1) (
+        ends,
+        treats,
+        λ i. record {
+          answer = Ok (answers.Delivered ends);
+          effect = effect;
+          place = record {
+            me = (c.self.view_is i).me;
+            log = (c.self.view_is i).log;
+            core = (applied.ok ∙ ap (λ (q : Place). with_node q.core (replay_node q.core.node (took_each blocks ends))) c.self.view_is) i;
+            waiting = (c.self.view_is i).waiting;
+            is_up = (c.self.view_is i).is_up;
+          };
+          frames = [];
+        },
+      )),
+    )

@@ -17,5 +17,10 @@ returns-clause-delta g c =
     let digest = c.in_ok-digest.ensures.digest ∙ ap (λ (h : Held). asked h owner after) held in
     let told = subst (λ (q : Place). IsDelta q.core.settings q.core.node.held c.in_ok-digest.digest blocks) c.self.view_is c.in_ok-delta.ensures.delta in
     let answer = subst (λ (q : Place). IsAnswer q.core.settings.budget q.core.node.held c.in_ok-digest.digest blocks) c.self.view_is c.in_ok-delta.ensures.answer in
-    IfOk-weaker c.frame_of.result _ _ (λ bytes laid. (blocks, c.encoded_length.ensures.delta, subst (λ (d : Digest). IsDelta p.core.settings p.core.node.held d blocks) digest told,
-    subst (λ (d : Digest). IsAnswer p.core.settings.budget p.core.node.held d blocks) digest answer, laid)) c.frame_of.ensures.frame
+    IfOk-weaker c.frame_of.result _ _ (λ bytes laid. (
+      blocks,
+      c.encoded_length.ensures.delta,
+      subst (λ (d : Digest). IsDelta p.core.settings p.core.node.held d blocks) digest told,
+      subst (λ (d : Digest). IsAnswer p.core.settings.budget p.core.node.held d blocks) digest answer,
+      laid,
+    )) c.frame_of.ensures.frame

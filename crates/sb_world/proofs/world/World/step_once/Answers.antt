@@ -18,5 +18,10 @@ returns g c =
     let within = subst (λ (ps : List Place). index < length ps) c.deref.ensures.value c.in-Some.ensures.within in
     let there = slice_get-get_or old.places index p within ∙ ap (λ (r : Place). Some r) (sym c.index_mut.ensures.value) in
     let put = subst (λ (ps : List Place). with_place ps name q ≡ slice_set ps index q) c.deref.ensures.value (c.in-Some.ensures.set q) in
-    record { step = (acted.0, subst (λ (s : Seen). Step s c.args.event.now c.act.result acted.0 (record { settings = old.settings; places = slice_set old.places index q; sent = c.act.new.sent.items })) c.self.view_is
-    (stepped old c.args.event.now c.act.result acted.0 name p q index acted.1 c.act.new.sent.items c.node.ensures found there put acted.2 acted.3)) }
+    record {
+      step = (
+        acted.0,
+        subst (λ (s : Seen). Step s c.args.event.now c.act.result acted.0 (record { settings = old.settings; places = slice_set old.places index q; sent = c.act.new.sent.items })) c.self.view_is
+            (stepped old c.args.event.now c.act.result acted.0 name p q index acted.1 c.act.new.sent.items c.node.ensures found there put acted.2 acted.3),
+      );
+    }
