@@ -1,9 +1,9 @@
 -- A world that has just been made.
-use Rattle.std.specs.Prelude.{◌≡◌, ℕ, Bool, true, false, ◌&&◌, ◌||◌, not, nat_eq, nat_lt, if◌then◌else◌, List, [], ◌∷◌, map, length, IfSome, Option, Some, None}
+use Rattle.std.specs.Prelude.{◌≡◌, ◌⊎◌, ℕ, Bool, true, false, ◌&&◌, ◌||◌, not, nat_eq, nat_lt, if◌then◌else◌, List, [], ◌∷◌, map, length, IfSome, Option, Some, None}
 use Rattle.std.specs.List.{list_any, list_all}
 use Rattle.std.specs.Cmp.Lexicographic.{pointwise}
 use Rattle.sb_types.specs.declared.fault.Fault.{Fault}
-use Rattle.sb_types.specs.declared.fault.Fault.TheVariants.{BadSetting, SameName, WrongCluster}
+use Rattle.sb_types.specs.declared.fault.Fault.TheVariants.{NoMemory, BadSetting, Closed, StoreFailed, LogDamaged, SameName, WrongCluster}
 use Rattle.sb_types.specs.declared.limits.TheConstants.{OWNERS_MOST}
 use Rattle.sb_types.specs.Records.{Settings}
 use Rattle.sb_table.specs.Plain.{IsPlainTable}
@@ -30,6 +30,15 @@ refusal settings logs =
     if nat_eq (length logs) 0 || nat_lt OWNERS_MOST (length logs) then Some BadSetting
     else (if has_twins logs then Some SameName
     else (if are_of settings.cluster logs then None else Some WrongCluster))
+
+-- why a log could not be read, or no node opened with what it has
+abbrev pub IsOpeningFault : Fault → Type 0
+IsOpeningFault fault = (fault ≡ NoMemory) ⊎ ((fault ≡ Closed) ⊎ ((fault ≡ StoreFailed) ⊎ (fault ≡ LogDamaged)))
+
+-- the fault of logs of which no world is made; else one of those
+abbrev pub IsMakingFault : Option Fault → Fault → Type 0
+IsMakingFault (Some refused) fault = fault ≡ refused
+IsMakingFault None fault = IsOpeningFault fault
 
 -- a node that has just opened with what its log has
 pub record IsNew (of_world : Settings) (p : Place) : Type 0 where

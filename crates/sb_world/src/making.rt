@@ -1,11 +1,11 @@
 //! A world made of logs.
 
-ghost use Rattle.std.specs.Prelude.{◌≡◌, Err, map, IfOk, IfSome};
+ghost use Rattle.std.specs.Prelude.{◌≡◌, Err, map, IfOk, IfErr, IfSome};
 ghost use Rattle.sb_types.specs.Runs.{Stands};
 ghost use Rattle.sb_log.specs.Records as records;
 ghost use Rattle.sb_world.specs.Places as world;
 ghost use Rattle.sb_world.specs.Making as spec;
-ghost use Rattle.sb_world.specs.Making.{IsNew};
+ghost use Rattle.sb_world.specs.Making.{IsNew, IsOpeningFault, IsMakingFault};
 
 use crate::place::Place;
 use sb_log::WriteLog;
@@ -75,9 +75,13 @@ fn opened<L: WriteLog + Drop>(
 ) -> Result<Place<L>, Fault>
     ensures new { IfOk result (IsNew settings) }
     ensures name { IfOk result (λ p. p.me ≡ (L.seen log).owner) }
+    ensures why { IfErr result IsOpeningFault }
 {
     let me = *log.owner();
-    let table = log.load(alloc)?;
+    let table = match log.load(alloc) {
+        Ok(table) => table,
+        Err(fault) => return Err(fault),
+    };
     let core = NodeCore::open(alloc, settings, me, table)?;
     Ok(Place {
         me,
@@ -96,6 +100,7 @@ pub(crate) fn places_of<L: WriteLog + Drop>(
     mut logs: Vec<L>,
 ) -> Result<Vec<Place<L>>, Fault>
     ensures refused { IfSome (spec.refusal settings (map L.seen logs.items)) (λ fault. result ≡ Err fault) }
+    ensures why { IfErr result (λ fault. IsMakingFault (spec.refusal settings (map L.seen logs.items)) fault) }
     ensures names { IfOk result (λ places. map (λ (p : world.Place). p.me) places.items ≡ map (λ (log : records.Log). log.owner) (map L.seen logs.items)) }
     ensures new { IfOk result (λ places. (p : world.Place) → Stands places.items p → IsNew settings p) }
 {

@@ -8,7 +8,7 @@ ghost use Rattle.sb_world.specs.Turns.{Effect, rests, Offers, Delivers, Acts, Do
 ghost use Rattle.sb_world.specs.Steps.{Step, Passes};
 ghost use Rattle.sb_world.specs.States.{State, Moves, Run, last_of, FitsWorld};
 ghost use Rattle.sb_world.specs.States.{start_of, AreContents};
-ghost use Rattle.sb_world.specs.Making.{refusal, IsMade};
+ghost use Rattle.sb_world.specs.Making.{refusal, IsMakingFault, IsMade};
 ghost use Rattle.sb_types.specs.declared.entry.Write.{Write};
 ghost use Rattle.sb_log.specs.Records as records;
 ghost use Rattle.sb_world.specs.Truth.{IsTrueState};
@@ -164,6 +164,7 @@ impl<L: WriteLog + Drop> World<L> {
     /// than the settings'; then the faults of `load`, and `NoMemory`.
     pub fn new(alloc: Global, settings: Settings, logs: Vec<L>) -> Result<World<L>, Fault>
         ensures refused { IfSome (refusal settings (map L.seen logs.items)) (λ fault. result ≡ Err fault) }
+        ensures why { IfErr result (λ fault. IsMakingFault (refusal settings (map L.seen logs.items)) fault) }
         ensures settings { IfOk result (λ w. w.settings ≡ settings) }
         ensures names { IfOk result (λ w. map (λ (p : spec.Place). p.me) w.places ≡ map (λ (log : records.Log). log.owner) (map L.seen logs.items)) }
         ensures made { IfOk result IsMade }
