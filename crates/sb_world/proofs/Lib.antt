@@ -11,3 +11,4 @@ pub mod Asking
 pub mod Looking
 pub mod Reaching
 pub mod Fitting
+pub mod Lines

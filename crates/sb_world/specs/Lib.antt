@@ -3,5 +3,6 @@ pub mod Turns
 pub mod Steps
 pub mod States
 pub mod Truth
+pub mod Lines
 pub mod Claims
 pub mod Making

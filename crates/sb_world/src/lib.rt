@@ -9,7 +9,7 @@ mod place;
 mod world;
 
 pub use event::{Answer, Event};
-pub use laws::{worlds_are_reached, worlds_keep_their_promise};
+pub use laws::{lines_carry_truth, worlds_are_reached, worlds_keep_their_promise};
 pub use world::World;
 
 #[cfg(test)]
