@@ -1,28 +1,27 @@
 -- What each event leaves of its node.
-use Rattle.std.proofs.Common.{◌≡◌, ◌≢◌, ℕ, zero, suc, ◌+◌, ◌≤◌, Bool, true, false, List, [], ◌∷◌, ◌++◌, length, ◌⊎◌, inl, inr, ⊎_elim, Option, Some, None, IfSome, Result, Ok, Err, slice_get, refl, sym, ap, subst, ◌∙◌, arith}
+use Rattle.std.proofs.Common.{◌≡◌, ℕ, zero, suc, ◌+◌, Bool, true, false, List, [], ◌∷◌, ◌++◌, length, inl, inr, ⊎_elim, Option, Some, None, IfSome, Result, Ok, Err, slice_get, refl, sym, ap, subst, ◌∙◌, arith}
 use Rattle.std.proofs.lemmas.Bool.{cases_Bool, true≢false}
 use Rattle.std.proofs.lemmas.List.{append-nil}
 use Rattle.std.specs.Prelude.{unwrap_or}
 use Rattle.sb_types.specs.declared.entry.Slot.{Slot}
 use Rattle.sb_types.specs.declared.entry.Write.{Write}
 use Rattle.sb_types.specs.declared.fault.Fault.{Fault}
-use Rattle.sb_types.specs.declared.fault.Fault.TheVariants.{NoMemory, Closed, StoreFailed, LogDamaged}
+use Rattle.sb_types.specs.declared.fault.Fault.TheVariants.{NoMemory, Closed}
 use Rattle.sb_types.specs.Limits.{is_delta}
 use Rattle.sb_types.specs.Records.{Entry, Table, Block, Settings}
 use Rattle.sb_types.specs.Runs.{Stands}
 use Rattle.sb_types.specs.Writes.{Written, Honest}
 use Rattle.sb_table.specs.Plain.{with_entry}
-use Rattle.sb_holdings.specs.declared.ends.BlockEnd.{BlockEnd}
 use Rattle.sb_holdings.specs.Contents.{entry_of_write, content_table}
 use Rattle.sb_holdings.specs.Growth.{Grows}
-use Rattle.sb_holdings.specs.Nodes.{Node, NodeEvent, Wrote, IsNode, NodeHolds, IsNodeEvent, TrueAt, AreNodeEvents, AllTrueAt}
+use Rattle.sb_holdings.specs.Nodes.{Node, Wrote, IsNode, NodeHolds, IsNodeEvent, TrueAt, AreNodeEvents, AllTrueAt}
 use Rattle.sb_holdings.proofs.Growing.{content-grown, written-grown}
 use Rattle.sb_holdings.proofs.Lasting.{tells_later}
 use Rattle.sb_holdings.proofs.Ended.{IsBlock-delta, block-of_delta}
 use Rattle.sb_digest.specs.Digests.{Digest}
 use Rattle.sb_codec.specs.declared.message.Message.{Message}
 use Rattle.sb_codec.specs.declared.message.Message.TheVariants as messages
-use Rattle.sb_codec.specs.Messages.{is_message, spelling}
+use Rattle.sb_codec.specs.Messages.{is_message}
 use Rattle.sb_codec.proofs.Sizes.{delta-spelled}
 use Rattle.sb_frames.specs.Frames.{frame, Front, short, whole, bad, front_of}
 use Rattle.sb_frames.proofs.Fronts.{front_frame}
@@ -30,19 +29,18 @@ use Rattle.sb_frames.proofs.Splitting.{length-frame}
 use Rattle.sb_log.specs.Records.{Committed, Log}
 use Rattle.sb_log.specs.Puts.{Puts, Loads, next_entry}
 use Rattle.sb_node.specs.Answers.{IsAnswer}
-use Rattle.sb_node.specs.Calls.{AreHonest, AreBlocks}
+use Rattle.sb_node.specs.Calls.{AreHonest}
 use Rattle.sb_node.specs.Ends.{took_each}
 use Rattle.sb_node.proofs.Truth.{are_events, all_true}
 use Rattle.sb_world.specs.declared.event.Event.{Event}
 use Rattle.sb_world.specs.declared.event.Event.TheVariants.{Commit, Take, CrashInCommit, Restart, Offer, Deliver, Read, Upto}
 use Rattle.sb_world.specs.declared.event.Answer.{Answer}
-use Rattle.sb_world.specs.declared.event.Answer.TheVariants as answers
 use Rattle.sb_world.specs.Places.{Place, frame_at}
-use Rattle.sb_world.specs.Turns.{Effect, rests, logs, goes, opens, Turn, still, write_of, IsLogged, commit_turn, crash_turn, waiting_after, Commits, Crashes, TakesFirst, take_turn, entered_turn, Restarts, RestartEnds, reopened_turn, refused_turn, Offers, sent_turn, Delivers, TakesFront, TakesDelta, delivered_turn, delta_in, Acts, ActsWhere, Does, answers_to}
+use Rattle.sb_world.specs.Turns.{Effect, rests, logs, goes, opens, Turn, still, write_of, IsLogged, commit_turn, crash_turn, waiting_after, Crashes, TakesFirst, take_turn, RestartEnds, reopened_turn, refused_turn, sent_turn, Delivers, TakesFront, TakesDelta, delivered_turn, delta_in, Acts, ActsWhere, Does, answers_to}
 use Rattle.sb_world.specs.States.{Past, put_at, writes_after, past_after}
 use Rattle.sb_world.specs.Truth.{IsTrueFrame, IsTruePlace}
 use Rattle.sb_world.proofs.Names.{put_same}
-use Rattle.sb_world.proofs.Going.{grown, frame_on}
+use Rattle.sb_world.proofs.Going.{grown}
 use Rattle.sb_world.proofs.Keeping.{AreWaiting, waiting_more, waiting_on, relogged, went, reopened}
 
 -- ---- the node stays the same, and so does what is trusted

@@ -1,19 +1,18 @@
 -- The digest that an offer is made for is within its limits.
-use Rattle.std.proofs.Common.{◌≡◌, ℕ, ◌+◌, ◌*◌, ◌≤◌, Bool, true, false, ◌&&◌, List, [], ◌∷◌, map, length, Option, None, Result, Ok, Err, cond, refl, sym, ap, subst, ◌∙◌, arith, nat_cmp, Less, is_lt}
-use Rattle.std.specs.Prelude.{filter, sum_by, nat_le}
+use Rattle.std.proofs.Common.{◌≡◌, ℕ, ◌*◌, ◌≤◌, Bool, true, false, List, [], ◌∷◌, map, length, None, Result, Ok, Err, cond, refl, sym, ap, subst, ◌∙◌, arith, nat_cmp, Less, is_lt}
+use Rattle.std.specs.Prelude.{filter, sum_by}
 use Rattle.std.specs.List.{list_all, AllByRecursion}
 use Rattle.std.specs.List.Sorted.{IsStrictlySortedBy}
 use Rattle.std.specs.Cmp.Lexicographic.{slice_cmp}
-use Rattle.std.specs.FinMap.{entries, len, len-entries}
+use Rattle.std.specs.FinMap.{entries, len-entries}
 use Rattle.std.specs.Map.{keys_of}
-use Rattle.std.proofs.lemmas.Bool.{and_parts, and_from, le-leb, leb-true, true≢false}
+use Rattle.std.proofs.lemmas.Bool.{and_parts, and_from, le-leb, true≢false}
 use Rattle.std.proofs.lemmas.List.{length-map}
 use Rattle.std.proofs.lemmas.List.Sums.{sum_by-cons}
 use Rattle.std.proofs.lemmas.Map.Keys.{sorted_head, sorted_tail}
 use Rattle.sb_types.specs.declared.limits.TheConstants.{NAME_MOST, PAYLOAD_MOST, OWNERS_MOST}
 use Rattle.sb_types.specs.Records.{Table, Holder}
 use Rattle.sb_types.specs.Text.{is_name, is_name_byte}
-use Rattle.sb_types.specs.Limits.{text_lt}
 use Rattle.sb_holdings.specs.Held.{Held}
 use Rattle.sb_holdings.specs.Plain.{IsHoldings, is_from, tables_from}
 use Rattle.sb_digest.specs.Digests.{Pair, Digest, digest_of, covers}

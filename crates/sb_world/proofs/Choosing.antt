@@ -1,14 +1,13 @@
 -- How an event goes, by what a log or a node answered.
-use Rattle.std.proofs.Common.{◌≡◌, ℕ, ◌<◌, Bool, true, false, not, List, [], ◌∷◌, drop, slice_get, IfErr, Result, Ok, Err, Option, Some, None, inl, inr, ⊎_elim, refl, sym, ap, subst, ◌∙◌}
+use Rattle.std.proofs.Common.{◌≡◌, ℕ, true, false, List, [], ◌∷◌, drop, slice_get, IfErr, Result, Ok, Err, Option, Some, inl, inr, ⊎_elim, refl, sym, ap, subst}
 use Rattle.std.proofs.lemmas.Bool.{cases_Bool}
 use Rattle.std.specs.Prelude.{unwrap_or}
-use Rattle.std.specs.Option.{option_copied}
 use Rattle.sb_types.specs.declared.entry.Slot.{Slot}
 use Rattle.sb_types.specs.declared.fault.Fault.{Fault}
 use Rattle.sb_types.specs.Faults.{Gives}
 use Rattle.sb_codec.specs.declared.message.Message.{Message}
 use Rattle.sb_frames.specs.Frames.{whole, front_of}
-use Rattle.sb_frames.specs.Streams.{Stream, open_with, Feeds, Takes, TakesNext}
+use Rattle.sb_frames.specs.Streams.{Stream, open_with, Feeds, TakesNext}
 use Rattle.sb_types.specs.Records.{Table}
 use Rattle.sb_log.specs.Records.{Committed, Log}
 use Rattle.sb_log.specs.Puts.{Loads}

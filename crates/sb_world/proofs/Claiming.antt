@@ -1,12 +1,11 @@
 -- What is given, how exact it is, and what is taken up.
-use Rattle.std.proofs.Common.{◌≡◌, ℕ, ◌≤◌, Bool, true, false, List, [], ◌∷◌, inl, inr, ⊎_elim, Option, Some, None, IfSome, Result, Ok, Err, refl, sym, ap, subst, ◌∙◌}
-use Rattle.std.specs.Prelude.{unwrap_or}
+use Rattle.std.proofs.Common.{◌≡◌, ℕ, Bool, true, false, List, [], ◌∷◌, inl, inr, ⊎_elim, Option, Some, None, IfSome, Result, Ok, Err, refl, sym, ap, subst, ◌∙◌}
 use Rattle.sb_types.specs.declared.entry.Slot.TheVariants.{Set}
 use Rattle.sb_types.specs.declared.fault.Fault.{Fault}
 use Rattle.sb_types.specs.declared.fault.Fault.TheVariants.{NoMemory, Closed}
 use Rattle.sb_types.specs.Limits.{is_delta, is_delta_block}
 use Rattle.sb_types.specs.Value.{Value}
-use Rattle.sb_types.specs.Records.{Entry, Block}
+use Rattle.sb_types.specs.Records.{Block}
 use Rattle.sb_types.specs.Runs.{Stands, shown_at}
 use Rattle.sb_types.specs.Writes.{Written}
 use Rattle.sb_holdings.specs.declared.ends.BlockEnd.{BlockEnd}
@@ -22,12 +21,12 @@ use Rattle.sb_world.specs.declared.event.Event.{Event}
 use Rattle.sb_world.specs.declared.event.Event.TheVariants.{Deliver, Read}
 use Rattle.sb_world.specs.declared.event.Answer.{Answer}
 use Rattle.sb_world.specs.declared.event.Answer.TheVariants as answers
-use Rattle.sb_world.specs.Places.{Place, Seen, place_at, with_place, frame_at}
-use Rattle.sb_world.specs.Turns.{Effect, Turn, still, Delivers, TakesFront, ActsWhere, node_of}
-use Rattle.sb_world.specs.Steps.{StepAt, seen_after}
+use Rattle.sb_world.specs.Places.{Place, Seen, place_at, frame_at}
+use Rattle.sb_world.specs.Turns.{Effect, Turn, Delivers, TakesFront, ActsWhere, node_of}
+use Rattle.sb_world.specs.Steps.{StepAt}
 use Rattle.sb_world.specs.States.{State, Moves}
 use Rattle.sb_world.specs.Truth.{IsTruePlace, IsTrueState}
-use Rattle.sb_world.specs.Claims.{GivenIsWritten, IsExactAt, IsExact, AreTakenUp, JoinedIsTaken, IsWithinBudget}
+use Rattle.sb_world.specs.Claims.{GivenIsWritten, IsExact, AreTakenUp, JoinedIsTaken, IsWithinBudget}
 use Rattle.sb_world.proofs.Names.{found_me, placed_there}
 use Rattle.sb_world.proofs.Going.{grown, written_on}
 use Rattle.sb_world.proofs.Acting.{front_of_frame, does_same}

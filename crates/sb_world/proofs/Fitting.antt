@@ -4,14 +4,14 @@ use Rattle.std.specs.Prelude.{unwrap_or}
 use Rattle.std.specs.Cmp.Lexicographic.{pointwise}
 use Rattle.sb_types.specs.declared.entry.Write.{Write}
 use Rattle.std.proofs.Math.ListN.{get_or}
-use Rattle.sb_types.specs.Records.{Table, Settings}
+use Rattle.sb_types.specs.Records.{Settings}
 use Rattle.sb_types.specs.Runs.{Stands}
 use Rattle.sb_table.specs.Plain.{IsPlainTable}
 use Rattle.sb_holdings.specs.Contents.{content_table}
-use Rattle.sb_holdings.specs.Nodes.{Node, opened_node}
+use Rattle.sb_holdings.specs.Nodes.{opened_node}
 use Rattle.sb_holdings.proofs.Filling.{some_writes}
 use Rattle.sb_world.specs.Places.{Place, Seen, place_at, IsClean}
-use Rattle.sb_world.specs.States.{Past, State, start_of, AreContents, IsFresh, IsStart, FitsWorld}
+use Rattle.sb_world.specs.States.{start_of, AreContents, IsFresh, FitsWorld}
 use Rattle.sb_world.specs.Making.{IsNew, IsMade}
 use Rattle.sb_world.proofs.Names.{found_me}
 use Rattle.sb_world.proofs.Keeping.{joined}

@@ -1,10 +1,9 @@
 -- The history goes on: the writes of a node's owner grow, and what was true of them stays.
-use Rattle.std.proofs.Common.{◌≡◌, ℕ, ◌+◌, Bool, true, false, cond, nat_eq, List, [], ◌∷◌, ◌++◌, Option, Some, None, IfSome, refl, sym, ap, subst, ◌∙◌}
+use Rattle.std.proofs.Common.{◌≡◌, ℕ, Bool, true, false, cond, nat_eq, List, [], ◌∷◌, ◌++◌, Option, Some, None, IfSome, refl, sym, ap, subst, ◌∙◌}
 use Rattle.std.proofs.lemmas.List.{append-nil, append_assoc}
 use Rattle.std.specs.Cmp.Lexicographic.{pointwise}
 use Rattle.sb_types.specs.declared.entry.Write.{Write}
 use Rattle.sb_types.specs.Records.{Entry, Block}
-use Rattle.sb_types.specs.Runs.{Stands}
 use Rattle.sb_types.specs.Writes.{Written, Honest, HolderHolds}
 use Rattle.sb_holdings.specs.Growth.{Grows}
 use Rattle.sb_holdings.specs.Nodes.{Node, NodeEvent, Wrote, Took, TrueAt, AllTrueAt, NodeHolds, held_by}
@@ -14,7 +13,6 @@ use Rattle.sb_node.specs.Calls.{AreHonest}
 use Rattle.sb_world.specs.Turns.{Effect, rests, logs, goes, opens, delta_in}
 use Rattle.sb_world.specs.States.{put_at, writes_after}
 use Rattle.sb_world.specs.Truth.{IsOpening, IsTrueFrame}
-use Rattle.sb_world.proofs.Names.{put_other}
 
 -- what an effect adds to the writes
 abbrev pub more_by : Effect → List Write

@@ -16,10 +16,10 @@ use Rattle.sb_holdings.proofs.ByOwner.{IsHoldings-alone}
 use Rattle.sb_holdings.proofs.Changed.{IsHolder-held}
 use Rattle.sb_holdings.proofs.Content.{content_tells}
 use Rattle.sb_log.specs.Records.{Committed, Log}
-use Rattle.sb_node.specs.Cores.{Core, with_node}
+use Rattle.sb_node.specs.Cores.{with_node}
 use Rattle.sb_world.specs.Places.{Place}
 use Rattle.sb_world.specs.States.{Past}
-use Rattle.sb_world.specs.Truth.{IsOpening, IsTruePlace}
+use Rattle.sb_world.specs.Truth.{IsTruePlace}
 use Rattle.sb_world.proofs.Going.{written_on, node_on, events_on, opening_on}
 
 same_me_all : (node : Node) (events : List NodeEvent) → (replay_node node events).held.me ≡ node.held.me

@@ -1,5 +1,5 @@
 -- Within a node's run no version falls.
-use Rattle.std.proofs.Common.{◌≡◌, ℕ, ◌+◌, ◌≤◌, ◌<◌, Bool, true, false, cond, nat_eq, List, [], ◌∷◌, ◌++◌, ◌⊎◌, inl, inr, ⊎_elim, Option, Some, None, IfSome, Result, Ok, Err, refl, sym, ap, subst, ◌∙◌, arith}
+use Rattle.std.proofs.Common.{◌≡◌, ℕ, ◌<◌, Bool, true, false, cond, nat_eq, List, [], ◌∷◌, ◌++◌, ◌⊎◌, inl, inr, Option, Some, None, IfSome, Result, refl, sym, ap, subst, ◌∙◌, arith}
 use Rattle.std.proofs.lemmas.List.{append-nil, append_assoc}
 use Rattle.std.specs.Cmp.Lexicographic.{pointwise}
 use Rattle.sb_types.specs.declared.entry.Write.{Write}
@@ -14,7 +14,7 @@ use Rattle.sb_world.specs.declared.event.Event.{Event}
 use Rattle.sb_world.specs.declared.event.Answer.{Answer}
 use Rattle.sb_world.specs.Places.{Place, place_at}
 use Rattle.sb_world.specs.Turns.{Effect, rests, logs, goes, opens, node_of}
-use Rattle.sb_world.specs.States.{Past, State, put_at, past_after, Moves, Run}
+use Rattle.sb_world.specs.States.{Past, State, past_after, Moves, Run}
 use Rattle.sb_world.specs.Truth.{IsTruePlace, IsTrueState}
 use Rattle.sb_world.specs.Claims.{EachState, FallsNowhere, NothingFalls, NothingFallsIn}
 use Rattle.sb_world.proofs.Names.{found_me}

@@ -4,8 +4,7 @@ use Rattle.std.proofs.lemmas.List.{append-nil, append_assoc}
 use Rattle.sb_types.specs.declared.entry.Write.{Write}
 use Rattle.sb_types.specs.Runs.{Stands}
 use Rattle.sb_codec.specs.declared.message.Message.{Message}
-use Rattle.sb_codec.specs.declared.message.Message.TheVariants as messages
-use Rattle.sb_frames.specs.Frames.{frame, Front, short, whole, bad, front_of, Extends}
+use Rattle.sb_frames.specs.Frames.{Front, short, whole, bad, front_of, Extends}
 use Rattle.sb_frames.proofs.Fronts.{front_frame, front_extends, before_mark}
 use Rattle.sb_node.specs.Calls.{AreHonest}
 use Rattle.sb_world.specs.Turns.{delta_in}

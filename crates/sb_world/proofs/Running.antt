@@ -1,5 +1,5 @@
 -- Runs of the machine: each state of one is true, and so is what follows from that.
-use Rattle.std.proofs.Common.{◌≡◌, ℕ, Bool, true, List, [], ◌∷◌, ◌++◌, Option, Some, None, IfSome, Result, Ok, Err, refl, sym, ap, subst, ◌∙◌, arith}
+use Rattle.std.proofs.Common.{◌≡◌, ℕ, List, [], ◌∷◌, Result, sym, ap, subst, ◌∙◌, arith}
 use Rattle.std.proofs.lemmas.List.{append-nil}
 use Rattle.sb_types.specs.declared.fault.Fault.{Fault}
 use Rattle.sb_types.specs.Writes.{Written}
@@ -10,7 +10,6 @@ use Rattle.sb_holdings.proofs.ByOwner.{IsHoldings-alone}
 use Rattle.sb_holdings.proofs.Changed.{IsHolder-held}
 use Rattle.sb_holdings.proofs.Content.{content_tells}
 use Rattle.sb_types.specs.Runs.{Stands}
-use Rattle.sb_types.specs.declared.entry.Write.{Write}
 use Rattle.sb_log.specs.Records.{Committed}
 use Rattle.sb_world.specs.declared.event.Event.{Event}
 use Rattle.sb_world.specs.declared.event.Answer.{Answer}

@@ -1,13 +1,11 @@
 -- One step of the machine keeps what is true.
-use Rattle.std.proofs.Common.{◌≡◌, ℕ, Bool, true, false, cond, nat_eq, List, [], ◌∷◌, ◌++◌, ⊎_elim, Option, Some, None, IfSome, Result, Ok, Err, refl, sym, ap, subst, ◌∙◌}
-use Rattle.std.proofs.lemmas.Bool.{cases_Bool}
+use Rattle.std.proofs.Common.{◌≡◌, ℕ, Bool, true, false, nat_eq, List, Option, Some, None, IfSome, Result, refl, sym, ap, subst, ◌∙◌}
 use Rattle.std.specs.Cmp.Lexicographic.{pointwise}
 use Rattle.sb_types.specs.declared.entry.Write.{Write}
 use Rattle.sb_types.specs.declared.fault.Fault.{Fault}
-use Rattle.sb_types.specs.Runs.{Stands}
 use Rattle.sb_holdings.specs.Contents.{content_table}
 use Rattle.sb_holdings.specs.Growth.{Grows}
-use Rattle.sb_holdings.proofs.Lists.{same_text, text_same}
+use Rattle.sb_holdings.proofs.Lists.{same_text}
 use Rattle.sb_world.specs.declared.event.Event.{Event}
 use Rattle.sb_world.specs.declared.event.Answer.{Answer}
 use Rattle.sb_world.specs.Places.{Place, Seen, place_at, with_place, IsClean}

@@ -1,5 +1,5 @@
 -- What a run of the machine keeps, claim by claim.
-use Rattle.std.specs.Prelude.{◌≡◌, ℕ, ◌≤◌, Bool, true, List, [], ◌∷◌, length, Some, IfSome, Result, Ok, Err}
+use Rattle.std.specs.Prelude.{◌≡◌, ℕ, ◌≤◌, true, List, [], ◌∷◌, length, Some, IfSome, Result, Ok}
 use Rattle.sb_types.specs.declared.entry.Slot.TheVariants.{Set}
 use Rattle.sb_types.specs.declared.entry.Write.{Write}
 use Rattle.sb_types.specs.declared.fault.Fault.{Fault}
@@ -16,7 +16,7 @@ use Rattle.sb_holdings.specs.TakenUp.{IsTakenUp}
 use Rattle.sb_codec.specs.declared.message.Message.TheVariants as messages
 use Rattle.sb_frames.specs.Frames.{frame}
 use Rattle.sb_world.specs.declared.event.Event.{Event}
-use Rattle.sb_world.specs.declared.event.Event.TheVariants.{Commit, Take, CrashInCommit, Restart, Offer, Deliver, Read, Upto}
+use Rattle.sb_world.specs.declared.event.Event.TheVariants.{Deliver, Read}
 use Rattle.sb_world.specs.declared.event.Answer.{Answer}
 use Rattle.sb_world.specs.declared.event.Answer.TheVariants as answers
 use Rattle.sb_world.specs.Places.{Place, Seen, place_at, frame_at, IsClean}

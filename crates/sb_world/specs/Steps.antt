@@ -1,11 +1,11 @@
 -- One step of a world, and a run of them.
-use Rattle.std.specs.Prelude.{◌≡◌, ℕ, List, [], ◌∷◌, ◌++◌, Option, Some, None, Result, Ok, Err}
+use Rattle.std.specs.Prelude.{◌≡◌, ℕ, List, [], ◌∷◌, ◌++◌, Option, Some, None, Result, Ok}
 use Rattle.sb_types.specs.declared.fault.Fault.{Fault}
 use Rattle.sb_world.specs.declared.event.Event.{Event}
 use Rattle.sb_world.specs.declared.event.Answer.{Answer}
 use Rattle.sb_world.specs.declared.event.Answer.TheVariants as answers
 use Rattle.sb_world.specs.Places.{Place, Seen, place_at, with_place}
-use Rattle.sb_world.specs.Turns.{Effect, rests, Turn, node_of, Does}
+use Rattle.sb_world.specs.Turns.{Effect, rests, node_of, Does}
 
 -- one node changed, and frames were sent
 abbrev pub seen_after : Seen → List ℕ → Place → List (List ℕ) → Seen

@@ -1,4 +1,3 @@
-use Rattle.std.proofs.Common.{◌≡◌}
 use Rattle.sb_world.specs.Truth.{IsTrueState}
 use Rattle.sb_world.specs.Claims.{GivenIsWritten, IsExact, JoinedIsTaken, IsWithinBudget}
 use Rattle.sb_world.proofs.Running.{each_state, each_step, all_true_states}

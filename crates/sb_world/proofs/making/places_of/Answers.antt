@@ -1,4 +1,4 @@
-use Rattle.std.proofs.Common.{◌≡◌, ◌<◌, rules, List, [], ◌∷◌, ◌++◌, drop, map, length, refl, sym, ap, subst, ◌∙◌, arith}
+use Rattle.std.proofs.Common.{◌≡◌, ◌<◌, rules, List, ◌∷◌, ◌++◌, map, length, refl, sym, ap, subst, ◌∙◌}
 use Rattle.sb_types.specs.Runs.{Stands}
 use Rattle.sb_log.specs.Records as records
 use Rattle.sb_world.specs.Places as world

@@ -1,11 +1,7 @@
-use Rattle.std.proofs.Common.{◌≡◌, true, false, [], Result, Ok, Err, inl, refl, ap, subst}
-use Rattle.sb_types.specs.declared.entry.Slot.{Slot}
-use Rattle.sb_types.specs.declared.fault.Fault.{Fault}
-use Rattle.sb_log.specs.Records.{Committed}
+use Rattle.std.proofs.Common.{◌≡◌, true, false, [], Ok, subst}
 use Rattle.sb_log.specs.Puts.{Puts}
 use Rattle.sb_world.specs.declared.event.Answer.TheVariants as answers
 use Rattle.sb_world.specs.Places.{Place}
-use Rattle.sb_world.specs.Turns.{Effect, rests, logs, write_of, IsLogged}
 use Rattle.sb_world.proofs.Choosing.{logged}
 use Rattle.sb_world.proofs.place.Place.crash.Goals as goal
 

@@ -1,5 +1,4 @@
-use Rattle.std.proofs.Common.{◌≡◌, false, [], Result, Ok, Err, inl, refl, ap, subst, ◌∙◌}
-use Rattle.sb_types.specs.Records as records
+use Rattle.std.proofs.Common.{false, [], Err, subst}
 use Rattle.sb_log.specs.Puts.{Loads}
 use Rattle.sb_world.specs.Places.{Place}
 use Rattle.sb_world.specs.Turns.{rests}

@@ -1,6 +1,5 @@
-use Rattle.std.proofs.Common.{◌≡◌, List, [], ◌∷◌, drop, slice_get, IfErr, Ok, Err, refl, sym, ap, subst, ◌∙◌}
+use Rattle.std.proofs.Common.{◌≡◌, List, [], ◌∷◌, drop, slice_get, IfErr, Ok, Err, sym, ap, subst, ◌∙◌}
 use Rattle.sb_types.specs.Records.{Entry}
-use Rattle.sb_types.specs.declared.fault.Fault.{Fault}
 use Rattle.sb_types.specs.Faults.{Gives}
 use Rattle.sb_holdings.specs.Nodes.{Wrote, node_after_event}
 use Rattle.sb_log.specs.Records.{Committed}

@@ -1,4 +1,4 @@
-use Rattle.std.proofs.Common.{◌≡◌, ◌+◌, rules, List, [], ◌∷◌, ◌++◌, take, length, Result, sym, ap, subst, ◌∙◌, arith, length-append}
+use Rattle.std.proofs.Common.{◌≡◌, ◌+◌, rules, List, [], ◌∷◌, ◌++◌, take, Result, sym, ap, subst, ◌∙◌}
 use Rattle.std.proofs.lemmas.List.{take_more}
 use Rattle.sb_types.specs.declared.fault.Fault.{Fault}
 use Rattle.sb_world.specs.declared.event.Event.{Event}
