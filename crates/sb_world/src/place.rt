@@ -5,7 +5,7 @@ ghost use Rattle.std.specs.Prelude.{◌≡◌, true, nat_eq, List, [], Some, Ok,
 ghost use Rattle.sb_types.specs.Limits.{is_delta};
 ghost use Rattle.sb_types.specs.Records as records;
 ghost use Rattle.sb_codec.specs.declared.message.Message.TheVariants as messages;
-ghost use Rattle.sb_frames.specs.Frames.{frame, front_of};
+ghost use Rattle.sb_frames.specs.Frames.{frame};
 ghost use Rattle.sb_node.specs.Answers.{IsDelta, IsAnswer};
 ghost use Rattle.sb_types.specs.Faults.{Gives};
 ghost use Rattle.sb_types.specs.Runs.{shown_at};

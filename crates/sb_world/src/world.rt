@@ -1,6 +1,6 @@
 //! A world of nodes, each with its log, and every frame that they sent.
 
-ghost use Rattle.std.specs.Prelude.{◌≡◌, ◌<◌, ℕ, true, List, [], ◌++◌, length, slice_set, slice_get, map, Some, None, Err, IfOk, IfSome, IfNone, IfErr, OnErr};
+ghost use Rattle.std.specs.Prelude.{◌≡◌, ◌<◌, ℕ, List, [], ◌++◌, length, slice_set, slice_get, map, Some, None, Err, IfOk, IfSome, IfNone, IfErr, OnErr};
 ghost use Rattle.std.specs.Option.{option_copied};
 ghost use Rattle.sb_world.specs.Places as spec;
 ghost use Rattle.sb_world.specs.Places.{place_at, with_place, frame_at, IsClean};
