@@ -95,7 +95,7 @@ module _ (writes : List ℕ → List Write) (node : Node) (is : IsNode node) whe
 same_me_taken : (held : Held) (b : Block) (end : BlockEnd) → (held_after_taking held b end).me ≡ held.me
 same_me_taken held b end = cond_both (pointwise nat_eq b.owner held.me) held _ (λ (h : Held). h.me ≡ held.me) (λ _. refl) (λ _. refl)
 
-same_me : (node : Node) (event : NodeEvent) → (node_after_event node event).held.me ≡ node.held.me
+pub same_me : (node : Node) (event : NodeEvent) → (node_after_event node event).held.me ≡ node.held.me
 same_me node (Wrote e) = refl
 same_me node (Took b Own) = refl
 same_me node (Took b (OwnAhead upto)) = refl
