@@ -4,6 +4,8 @@
 mod command_line;
 mod counted;
 mod lines;
+mod log_file;
+mod log_lines;
 mod node;
 mod output;
 mod parse;

@@ -1,6 +1,8 @@
 //! What no clause says: what scripts print, and the ends of a run.
+use crate::log_lines::log_run;
 use crate::sim::{Ending, sim_run_uncounted};
-use sb_types::Fault;
+use sb_log::{PlainLog, WriteLog};
+use sb_types::{Fault, Key, Name, Slot, Value};
 use std::alloc::Global;
 use std::io;
 use std::io::{ErrorKind, Read, Write};
@@ -244,5 +246,37 @@ fn any_memory_may_be_refused(rt: HostRuntime) -> Result<(), Fail> {
         _ => false,
     };
     assert!(rt; allowed, "{ended:?}");
+    Ok(())
+}
+
+/// A log of the owner a: x has the weight 5, then x is removed, and y is set.
+fn log_of_three(alloc: Global) -> Result<PlainLog, Fault> {
+    let mut log = PlainLog::new(alloc, Name::read(b"a")?, Name::read(b"c")?, 100);
+    let [x, y] = [Key::read(b"x")?, Key::read(b"y")?];
+    log.put(&x, &Slot::Set(Value::weight(5)?))?;
+    log.put(&x, &Slot::Removed)?;
+    log.put(&y, &Slot::Set(Value::flag(true)))?;
+    Ok(log)
+}
+
+#[test]
+fn a_log_is_printed_in_ascending_key(rt: HostRuntime) -> Result<(), Fail> {
+    let alloc = rt.alloc();
+    let mut empty = PlainLog::new(alloc, Name::read(b"a")?, Name::read(b"c")?, 100);
+    let mut page = Page::new();
+    log_run(alloc, &mut empty, &mut page)?;
+    assert_eq!(rt; page.printed(), b"last 0\n".as_slice());
+    let mut page = Page::new();
+    log_run(alloc, &mut log_of_three(alloc)?, &mut page)?;
+    assert_eq!(rt;
+        page.printed(),
+        b"a x 2 removed -\na y 3 flag true\nlast 3\n".as_slice()
+    );
+    let mut closing = ClosingWriter {
+        left: 17,
+        is_flushed: true,
+    };
+    let ended = log_run(alloc, &mut log_of_three(alloc)?, &mut closing);
+    assert!(rt; matches!(ended, Err(Fault::WriteFailed(17) | Fault::NoMemory)));
     Ok(())
 }
