@@ -1,4 +1,3 @@
 pub mod Fronts
 pub mod Taking
 pub mod Splitting
-pub mod OutOfReaders

@@ -2,4 +2,3 @@ pub mod Frames
 pub mod Streams
 pub mod Runs
 pub mod Sending
-pub mod Receiving

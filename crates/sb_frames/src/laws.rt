@@ -6,7 +6,6 @@ ghost use Rattle.sb_codec.specs.declared.message.Message.{Message};
 ghost use Rattle.sb_codec.specs.Messages.{spelling, is_message};
 ghost use Rattle.sb_frames.specs.Frames.{frame, short, whole, bad, front_of, Leads, Extends};
 ghost use Rattle.sb_frames.specs.Streams.{Stream, open_with, Splits};
-ghost use Rattle.sb_frames.specs.Receiving.{is_frame_fault};
 ghost use Rattle.sb_frames.specs.Runs.{Call, Run, bytes_fed, messages_taken, IsLeft, IsSpent, Accounts};
 
 use sb_types::{BUDGET_MOST, HEADER_LENGTH};
@@ -40,10 +39,9 @@ pub fn parts_of_frames_are_short()
         front_of (take count (frame message)) ≡ short }
 {}
 
-/// No frame is faulty for want of memory, or for any fault but the five of frames.
+/// No frame is faulty for want of memory.
 pub fn faults_are_of_the_bytes()
-    ensures memory { (bytes : List ℕ) (fault : Fault) → front_of bytes ≡ bad fault → fault ≢ Fault.NoMemory }
-    ensures kind { (bytes : List ℕ) (fault : Fault) → front_of bytes ≡ bad fault → is_frame_fault fault ≡ true }
+    ensures { (bytes : List ℕ) (fault : Fault) → front_of bytes ≡ bad fault → fault ≢ Fault.NoMemory }
 {}
 
 /// A stream has one reading: up to a rest that begins with no frame it is these messages and no others.

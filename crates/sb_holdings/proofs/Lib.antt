@@ -1,3 +1,4 @@
+pub mod Lists
 pub mod Order
 pub mod Telling
 pub mod Swapping

@@ -2,6 +2,3 @@ pub mod Cores
 pub mod Ends
 pub mod Answers
 pub mod Calls
-pub mod Steps
-pub mod Acts
-pub mod Talks

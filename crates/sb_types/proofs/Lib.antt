@@ -4,4 +4,3 @@ pub mod Rising
 pub mod Words
 pub mod Live
 pub mod Texts
-pub mod Standing
