@@ -53,30 +53,42 @@ fn command<'a>(alloc: Global) -> Result<Command<'a>, AllocError> {
         .subcommand(sim)
 }
 
-/// Does what the command line says, and answers the exit status.
-pub(crate) fn run(rt: &HostRuntime) -> Result<u8, Fault> {
-    let alloc = rt.alloc();
-    let args = match env::args(rt) {
-        Ok(args) => args,
-        Err(error) if error.kind() == io::ErrorKind::OutOfMemory => return Err(Fault::NoMemory),
+/// The words of the command line; none where one is not UTF-8, which is told.
+fn words(rt: &HostRuntime) -> Result<Option<Vec<String>>, Fault> {
+    match env::args(rt) {
+        Ok(args) => Ok(Some(args.collect(rt.alloc())?)),
+        Err(error) if error.kind() == io::ErrorKind::OutOfMemory => Err(Fault::NoMemory),
         Err(_) => {
             let _ = eprintln!(rt; "error: an argument is not UTF-8");
-            return Ok(USAGE_STATUS);
+            Ok(None)
         }
-    };
-    let words: Vec<String> = args.collect(alloc)?;
-    let error = match command(alloc)?.try_get_matches_from(words.as_slice()) {
-        Ok(_) => {
-            let ending = sim_run_uncounted(alloc, rt.stdin(), rt.stdout(), MAX_READS)?;
-            return Ok(ending.status());
-        }
-        Err(error) => error,
-    };
+    }
+}
+
+/// Plays the script on standard input, and answers the exit status.
+fn play(rt: &HostRuntime) -> Result<u8, Fault> {
+    let ending = sim_run_uncounted(rt.alloc(), rt.stdin(), rt.stdout(), MAX_READS)?;
+    Ok(ending.status())
+}
+
+/// Prints the help that was asked for, or why the words are no command line, and answers the exit status.
+fn tell(rt: &HostRuntime, error: &clap::Error) -> Result<u8, Fault> {
     if error.kind() == ErrorKind::OutOfMemory {
         return Err(Fault::NoMemory);
     }
     match error.print(rt) {
         Ok(()) => Ok(error.exit_code() as u8),
         Err(_) => Err(Fault::WriteFailed(0)),
+    }
+}
+
+/// Does what the command line says, and answers the exit status.
+pub(crate) fn run(rt: &HostRuntime) -> Result<u8, Fault> {
+    match words(rt)? {
+        Some(words) => match command(rt.alloc())?.try_get_matches_from(words.as_slice()) {
+            Ok(_) => play(rt),
+            Err(error) => tell(rt, &error),
+        },
+        None => Ok(USAGE_STATUS),
     }
 }

@@ -1,5 +1,5 @@
 //! The command line of the program, and the layers in turn.
-use crate::layers;
+use crate::layers::{self, WholeDelta};
 use crate::problem::Problem;
 use crate::report::Telling;
 use crate::sample::{Sizes, blocks, full_node};
@@ -7,6 +7,8 @@ use clap::error::ErrorKind;
 use clap::{Arg, ArgAction, ArgMatches, Command, value_parser};
 use sb_breadth::Breadth;
 use sb_depth::Depth;
+use sb_holdings::Holdings;
+use sb_types::Block;
 use std::alloc::{AllocError, Global};
 use std::env;
 
@@ -23,30 +25,42 @@ Example:
   $ attrdir_bench 1 4096 5        one owner of 4,096 keys, each layer five times
   $ attrdir_bench 1023 1 100      1,023 owners of one key each";
 
-fn command<'a>(alloc: Global) -> Result<Command<'a>, AllocError> {
-    let owners = Arg::new(alloc, "OWNERS")
+fn owners<'a>(alloc: Global) -> Arg<'a> {
+    Arg::new(alloc, "OWNERS")
         .default_value("1")
         .value_parser(value_parser!(u64).range(1..=1023))
-        .help("How many owners are held, 1 to 1023");
-    let keys = Arg::new(alloc, "KEYS")
+        .help("How many owners are held, 1 to 1023")
+}
+
+fn keys<'a>(alloc: Global) -> Arg<'a> {
+    Arg::new(alloc, "KEYS")
         .default_value("4096")
         .value_parser(value_parser!(u64).range(1..=4096))
-        .help("How many keys each has, 1 to 4096");
-    let rounds = Arg::new(alloc, "ROUNDS")
+        .help("How many keys each has, 1 to 4096")
+}
+
+fn rounds<'a>(alloc: Global) -> Arg<'a> {
+    Arg::new(alloc, "ROUNDS")
         .default_value("5")
         .value_parser(value_parser!(u64).range(1..))
-        .help("How often each layer is run");
-    let smoke = Arg::new(alloc, "smoke")
+        .help("How often each layer is run")
+}
+
+fn smoke<'a>(alloc: Global) -> Arg<'a> {
+    Arg::new(alloc, "smoke")
         .long("smoke")
         .action(ArgAction::SetTrue)
-        .help("Runs each layer at a small size and prints counts in place of times");
+        .help("Runs each layer at a small size and prints counts in place of times")
+}
+
+fn command<'a>(alloc: Global) -> Result<Command<'a>, AllocError> {
     Command::new(alloc, "attrdir_bench")
         .about("Measures each layer of the directory of the attributes of nodes")
         .after_help(EXAMPLE)
-        .arg(owners)?
-        .arg(keys)?
-        .arg(rounds)?
-        .arg(smoke)
+        .arg(owners(alloc))?
+        .arg(keys(alloc))?
+        .arg(rounds(alloc))?
+        .arg(smoke(alloc))
 }
 
 fn sizes_of(matches: &ArgMatches<'_>) -> Sizes {
@@ -68,28 +82,64 @@ fn telling_of(matches: &ArgMatches<'_>) -> Telling {
     }
 }
 
+/// How a node takes blocks, and tells how far it holds them.
+fn measure_node(
+    rt: &HostRuntime,
+    sizes: Sizes,
+    telling: Telling,
+    blocks: &[Block],
+    node: &Holdings,
+) -> Result<(), Problem> {
+    layers::apply(rt, sizes, blocks)?.print(rt, telling, "apply", "entry")?;
+    layers::digest(rt, sizes, node)?.print(rt, telling, "digest", "owner")?;
+    Ok(())
+}
+
+/// How a delta is made, step by step.
+fn measure_delta(
+    rt: &HostRuntime,
+    sizes: Sizes,
+    telling: Telling,
+    node: &Holdings,
+) -> Result<(), Problem> {
+    layers::offer(rt, sizes, node)?.print(rt, telling, "available", "entry")?;
+    layers::arrange(rt, sizes, node, &Breadth)?.print(rt, telling, "breadth", "entry")?;
+    layers::arrange(rt, sizes, node, &Depth)?.print(rt, telling, "depth", "entry")?;
+    layers::cut_front(rt, sizes, node)?.print(rt, telling, "cut", "entry")?;
+    Ok(())
+}
+
+/// How a delta becomes bytes, and is read of them.
+fn measure_bytes(
+    rt: &HostRuntime,
+    sizes: Sizes,
+    telling: Telling,
+    delta: &WholeDelta,
+) -> Result<(), Problem> {
+    layers::encode(rt, sizes, delta)?.print(rt, telling, "encode", "entry")?;
+    layers::decode(rt, sizes, delta)?.print(rt, telling, "decode", "entry")?;
+    layers::frames(rt, sizes, delta)?.print(rt, telling, "frames", "entry")?;
+    Ok(())
+}
+
 /// Measures each layer and prints a line for it.
 fn measure(rt: &HostRuntime, sizes: Sizes, telling: Telling) -> Result<(), Problem> {
     let blocks = blocks(rt.alloc(), sizes)?;
     let node = full_node(rt.alloc(), &blocks)?;
+    measure_node(rt, sizes, telling, &blocks, &node)?;
+    measure_delta(rt, sizes, telling, &node)?;
     let delta = layers::greatest_delta(rt.alloc(), &node)?;
-    layers::apply(rt, sizes, &blocks)?.print(rt, telling, "apply", "entry")?;
-    layers::digest(rt, sizes, &node)?.print(rt, telling, "digest", "owner")?;
-    layers::offer(rt, sizes, &node)?.print(rt, telling, "available", "entry")?;
-    layers::arrange(rt, sizes, &node, &Breadth)?.print(rt, telling, "breadth", "entry")?;
-    layers::arrange(rt, sizes, &node, &Depth)?.print(rt, telling, "depth", "entry")?;
-    layers::cut_front(rt, sizes, &node)?.print(rt, telling, "cut", "entry")?;
-    layers::encode(rt, sizes, &delta)?.print(rt, telling, "encode", "entry")?;
-    layers::decode(rt, sizes, &delta)?.print(rt, telling, "decode", "entry")?;
-    layers::frames(rt, sizes, &delta)?.print(rt, telling, "frames", "entry")?;
-    Ok(())
+    measure_bytes(rt, sizes, telling, &delta)
+}
+
+fn words(rt: &HostRuntime) -> Result<Vec<String>, Problem> {
+    Ok(env::args(rt)?.collect(rt.alloc())?)
 }
 
 /// Does what the command line says, and answers the exit status.
 pub(crate) fn run(rt: &HostRuntime) -> Result<u8, Problem> {
-    let alloc = rt.alloc();
-    let words: Vec<String> = env::args(rt)?.collect(alloc)?;
-    match command(alloc)?.try_get_matches_from(words.as_slice()) {
+    let words = words(rt)?;
+    match command(rt.alloc())?.try_get_matches_from(words.as_slice()) {
         Ok(matches) => {
             measure(rt, sizes_of(&matches), telling_of(&matches))?;
             Ok(0)

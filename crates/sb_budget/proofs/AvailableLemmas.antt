@@ -18,7 +18,7 @@ use Rattle.sb_table.specs.Plain.{IsPlainTable, plain_table}
 use Rattle.sb_holdings.specs.Held.{Held}
 use Rattle.sb_holdings.specs.Plain.{IsPlainHolder, IsHoldings, is_from, tables_from}
 use Rattle.sb_digest.specs.Digests.{Digest, covers, held_in}
-use Rattle.sb_holdings.proofs.Lists.{same_text, text_same}
+use Rattle.sb_types.proofs.Texts.{same_text, text_same}
 use Rattle.sb_budget.specs.declared.offered.Offered.{Offered}
 use Rattle.sb_budget.specs.Offers.{Item, items_from, items_of}
 use Rattle.sb_budget.specs.Offers as offers

@@ -12,7 +12,7 @@ use Rattle.sb_types.specs.Runs.{Stands}
 use Rattle.sb_types.specs.Lengths.{block_length, delta_length}
 use Rattle.sb_types.specs.Text.{is_name}
 use Rattle.sb_types.specs.Limits.{are_owners_above, are_block_entries, are_delta_blocks, text_lt}
-use Rattle.sb_holdings.proofs.Lists.{right, taken}
+use Rattle.sb_types.proofs.Standing.{right, taken}
 use Rattle.sb_budget.specs.declared.offered.Offered.{Offered}
 use Rattle.sb_budget.specs.Cut.{item_of, items_of_all, delta_at, IsCut, CanCut}
 use Rattle.sb_budget.specs.BlocksByOwner.{placed, cost_of}

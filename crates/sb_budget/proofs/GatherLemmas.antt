@@ -15,7 +15,7 @@ use Rattle.sb_types.specs.Records.{Entry, Block}
 use Rattle.sb_types.specs.Runs.{Stands, IsRun, last_version}
 use Rattle.sb_types.specs.Lengths.{entry_length, entries_length, block_length}
 use Rattle.sb_types.specs.Limits.{are_owners_above, are_block_entries, block_of_entries, text_lt}
-use Rattle.sb_holdings.proofs.Lists.{same_text, text_same}
+use Rattle.sb_types.proofs.Texts.{Less-from_text_lt, same_text, text_same}
 use Rattle.sb_holdings.proofs.Order.{run_front}
 use Rattle.sb_budget.specs.declared.offered.Offered.{Offered}
 use Rattle.sb_budget.specs.Offers.{Item, of_owner, entries_of, block_from, block_of}
@@ -23,7 +23,7 @@ use Rattle.sb_budget.specs.Orders.{offered_by}
 use Rattle.sb_budget.specs.Cut.{item_of, items_of_all, with_name, blocks_of, delta_at, IsPart, CanCut}
 use Rattle.sb_budget.specs.BlocksByOwner.{grown, begun}
 use Rattle.sb_budget.proofs.NameLemmas.{some_of, unnamed_none, named_some}
-use Rattle.sb_budget.proofs.PlaceLemmas.{text_cmp, joined, are_ordered, same_from_Equal, Equal_from_same, Less_from_lt, lt_from_Less, ordered_above, joined_ordered, joined_no_less}
+use Rattle.sb_budget.proofs.PlaceLemmas.{text_cmp, joined, are_ordered, same_from_Equal, Equal_from_same, lt_from_Less, ordered_above, joined_ordered, joined_no_less}
 
 abbrev is_of : List ℕ → Offered → Bool
 is_of owner o = pointwise nat_eq o.owner owner
@@ -57,7 +57,7 @@ above_apart f names last [] m up s = absurd s
 above_apart f names last (n ∷ ns) m up (inl p) = subst (λ z. text_lt last z ≡ true) (names n ∙ p) (and_parts _ _ up).0
 above_apart f names last (n ∷ ns) m up (inr s) =
     let first : text_lt last (f n).owner ≡ true = (and_parts _ _ up).0 in
-    lt_from_Less last m (nat_list_cmp_total.trans last (f n).owner m (Less_from_lt last (f n).owner first) (Less_from_lt (f n).owner m (above_apart f names (f n).owner ns m (and_parts _ _ up).1 s)))
+    lt_from_Less last m (nat_list_cmp_total.trans last (f n).owner m (Less-from_text_lt last (f n).owner first) (Less-from_text_lt (f n).owner m (above_apart f names (f n).owner ns m (and_parts _ _ up).1 s)))
 
 module _ (after : List ℕ → ℕ) where
   -- what a front has of an owner, as the block that it would make
@@ -98,9 +98,9 @@ module _ (after : List ℕ → ℕ) where
               let same = same_from_Equal n x.owner e in
               ap₂ (λ a b. a ∷ b)
               (subst (λ m. part_of (front ++ x ∷ []) m ≡ grown (part_of front m) x.entry) (sym same) part_own)
-              (map_same (part_of (front ++ x ∷ [])) (part_of front) ns (λ m s. part_other m (λ back. less_apart n m (Less_from_lt n m (above_apart (part_of front) (λ _. refl) n ns m up s)) (same ∙ sym back))))
+              (map_same (part_of (front ++ x ∷ [])) (part_of front) ns (λ m s. part_other m (λ back. less_apart n m (Less-from_text_lt n m (above_apart (part_of front) (λ _. refl) n ns m up s)) (same ∙ sym back))))
           go Greater e rest =
-              let missing : Stands (n ∷ ns) x.owner → ⊥ = λ s. ⊎_elim (greater_apart n x.owner e) (λ t. greater_not_less n x.owner e (Less_from_lt n x.owner (above_apart (part_of front) (λ _. refl) n ns x.owner up t))) s in
+              let missing : Stands (n ∷ ns) x.owner → ⊥ = λ s. ⊎_elim (greater_apart n x.owner e) (λ t. greater_not_less n x.owner e (Less-from_text_lt n x.owner (above_apart (part_of front) (λ _. refl) n ns x.owner up t))) s in
               ap₂ (λ a b. a ∷ b) (part_new (fresh missing))
               (map_same (part_of (front ++ x ∷ [])) (part_of front) (n ∷ ns) (λ m s. part_other m (λ back. missing (subst (Stands (n ∷ ns)) back s))))
 

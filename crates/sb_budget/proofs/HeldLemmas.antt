@@ -8,7 +8,7 @@ use Rattle.std.proofs.lemmas.Bool.{cases_Bool, cond-true, cond-false, false_from
 use Rattle.sb_types.specs.Records.{Holder}
 use Rattle.sb_types.specs.Runs.{Stands}
 use Rattle.sb_holdings.specs.Held.{nothing, holder_of}
-use Rattle.sb_holdings.proofs.Lists.{same_text, text_same}
+use Rattle.sb_types.proofs.Texts.{same_text, text_same}
 use Rattle.sb_budget.specs.Offers.{of_owner, items_of, is_named, are_named_once, available}
 use Rattle.sb_budget.proofs.OfferLemmas.{available_of, unnamed}
 use Rattle.sb_budget.proofs.PlaceLemmas.{text_cmp, Equal_from_same}

@@ -5,7 +5,8 @@ use Rattle.std.specs.Ordering.{match_ordering}
 use Rattle.std.specs.Cmp.Lexicographic.{pointwise}
 use Rattle.std.proofs.lemmas.Bool.{cond-false, false_from_ne_true}
 use Rattle.sb_types.specs.Runs.{Stands}
-use Rattle.sb_holdings.proofs.Lists.{same_text, text_same, kept}
+use Rattle.sb_types.proofs.Standing.{kept}
+use Rattle.sb_types.proofs.Texts.{same_text, text_same}
 use Rattle.sb_budget.specs.Cut.{with_name}
 use Rattle.sb_budget.proofs.PlaceLemmas.{text_cmp, same_from_Equal}
 

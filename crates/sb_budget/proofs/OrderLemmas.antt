@@ -13,7 +13,8 @@ use Rattle.std.proofs.lemmas.List.Sorted.{All-permutation, IsPermutation-sym, ra
 use Rattle.std.proofs.lemmas.Map.Keys.{IsDistinct-IsPermutation, IsDistinct-from_apart, apart_from_distinct}
 use Rattle.sb_types.specs.Runs.{Stands}
 use Rattle.sb_types.proofs.Rising.{all_stand, rises_from_neighbours, same_from_rising}
-use Rattle.sb_holdings.proofs.Lists.{same_text, text_same, kept}
+use Rattle.sb_types.proofs.Standing.{kept}
+use Rattle.sb_types.proofs.Texts.{same_text, text_same}
 use Rattle.sb_budget.specs.declared.offered.Offered.{Offered}
 use Rattle.sb_budget.specs.Orders.{offered_by, Precedes, IsOffer, AscendsByOwner}
 

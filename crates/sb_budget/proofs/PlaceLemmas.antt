@@ -1,5 +1,5 @@
 -- An item put to its owner's block among blocks in order of their owners.
-use Rattle.std.proofs.Common.{◌≡◌, ℕ, zero, suc, ◌+◌, ◌<◌, ◌≤◌, Bool, true, List, [], ◌∷◌, ◌++◌, length, get_or, set, refl, sym, ap, ◌∙◌, arith, add-one, Result, Ok, Err, Ordering, Less, Equal, Greater, is_lt, true≢false}
+use Rattle.std.proofs.Common.{◌≡◌, ℕ, zero, suc, ◌+◌, ◌<◌, ◌≤◌, Bool, true, List, [], ◌∷◌, ◌++◌, length, get_or, set, refl, sym, ap, ◌∙◌, arith, add-one, Result, Ok, Err, Ordering, Less, Equal, Greater, is_lt}
 use Rattle.std.specs.Prelude.{sum_by, insert}
 use Rattle.std.specs.Ordering.{nat_cmp, is_eq, ordering_reverse, match_ordering}
 use Rattle.std.specs.Cmp.Lexicographic.{slice_cmp, texts_ties}
@@ -13,8 +13,7 @@ use Rattle.std.proofs.lemmas.List.Sums.{sum_by-cons, sum_by-set, sum_by-insert, 
 use Rattle.sb_types.specs.Records.{Entry, Block}
 use Rattle.sb_types.specs.Lengths.{entry_length, entries_length, block_length}
 use Rattle.sb_types.specs.Limits.{text_lt, are_owners_above}
-use Rattle.sb_types.proofs.Texts.{text_lt-back}
-use Rattle.sb_holdings.proofs.Lists.{same_text}
+use Rattle.sb_types.proofs.Texts.{Less-from_text_lt, text_lt-back, same_text}
 use Rattle.sb_budget.specs.declared.offered.Offered.{Offered}
 use Rattle.sb_budget.specs.BlocksByOwner.{grown, begun, placed, cost_of}
 
@@ -32,14 +31,6 @@ same_from_Equal a b tied = same_text a b (texts_ties a b ∙ ap is_eq tied)
 pub Equal_from_same : (a b : List ℕ) → a ≡ b → text_cmp a b ≡ Equal
 Equal_from_same a b same = ap (text_cmp a) (sym same) ∙ tied_itself nat_list_cmp_total a
 
-less_from : (o : Ordering) → is_lt o ≡ true → o ≡ Less
-less_from Less t = refl
-less_from Equal t = absurd (true≢false (sym t))
-less_from Greater t = absurd (true≢false (sym t))
-
-pub Less_from_lt : (a b : List ℕ) → text_lt a b ≡ true → text_cmp a b ≡ Less
-Less_from_lt a b t = less_from (text_cmp a b) t
-
 pub lt_from_Less : (a b : List ℕ) → text_cmp a b ≡ Less → text_lt a b ≡ true
 lt_from_Less a b e = ap is_lt e
 
@@ -53,7 +44,7 @@ first_below last [] i d up l = absurd (omega arith)
 first_below last (b ∷ bs) zero d up l = (and_parts _ _ up).0
 first_below last (b ∷ bs) (suc i) d up l =
     let p = and_parts (text_lt last b.owner) (are_owners_above b.owner bs) up in
-    lt_from_Less last (get_or bs i d).owner (nat_list_cmp_total.trans last b.owner (get_or bs i d).owner (Less_from_lt last b.owner p.0) (Less_from_lt b.owner (get_or bs i d).owner (first_below b.owner bs i d p.1 (omega arith))))
+    lt_from_Less last (get_or bs i d).owner (nat_list_cmp_total.trans last b.owner (get_or bs i d).owner (Less-from_text_lt last b.owner p.0) (Less-from_text_lt b.owner (get_or bs i d).owner (first_below b.owner bs i d p.1 (omega arith))))
 
 next_below : (last : List ℕ) (bs : List Block) (k : ℕ) (d : Block) → are_owners_above last bs ≡ true → suc k < length bs → text_lt (get_or bs k d).owner (get_or bs (suc k) d).owner ≡ true
 next_below last [] k d up l = absurd (omega arith)
@@ -80,7 +71,7 @@ grown_at o last [] i d up l tied = absurd (omega arith)
 grown_at o last (b ∷ bs) zero d up l tied = ap (λ r. match_ordering r (b ∷ joined o bs) (grown b o.entry ∷ bs) (begun o ∷ b ∷ bs)) (sym tied)
 grown_at o last (b ∷ bs) (suc i) d up l tied =
     let p = and_parts (text_lt last b.owner) (are_owners_above b.owner bs) up in
-    let less : text_cmp b.owner o.owner ≡ Less = Less_from_lt b.owner o.owner (ap (text_lt b.owner) (sym (same_from_Equal (get_or bs i d).owner o.owner tied)) ∙ first_below b.owner bs i d p.1 (omega arith)) in
+    let less : text_cmp b.owner o.owner ≡ Less = Less-from_text_lt b.owner o.owner (ap (text_lt b.owner) (sym (same_from_Equal (get_or bs i d).owner o.owner tied)) ∙ first_below b.owner bs i d p.1 (omega arith)) in
     ap (λ r. b ∷ r) (grown_at o b.owner bs i d p.1 (omega arith) tied)
     ∙ ap (λ r. match_ordering r (b ∷ joined o bs) (grown b o.entry ∷ bs) (begun o ∷ b ∷ bs)) (sym less)
 

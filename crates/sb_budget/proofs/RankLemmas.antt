@@ -7,7 +7,7 @@ use Rattle.std.proofs.lemmas.List.Sums.{sum_by-cons}
 use Rattle.sb_types.specs.Records.{Entry, Table}
 use Rattle.sb_types.specs.Runs.{Stands, are_ascending, last_version, above, IsRun}
 use Rattle.sb_table.specs.Plain.{IsPlainTable}
-use Rattle.sb_holdings.proofs.Lists.{in_above, of_above}
+use Rattle.sb_types.proofs.Standing.{in_above, of_above}
 use Rattle.sb_holdings.proofs.Order.{ascending_kept, greatest, run_above, run_upto}
 use Rattle.sb_budget.specs.declared.offered.Offered.{Offered}
 use Rattle.sb_budget.specs.Cut.{items_of_all, IsPart}

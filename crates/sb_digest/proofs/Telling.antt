@@ -20,7 +20,7 @@ use Rattle.sb_digest.specs.Digests.{Pair, Digest, is_below, covers, pair_at, hel
 use Rattle.sb_digest.specs.Lengths.{digest_frame_length}
 use Rattle.sb_digest.specs.Builders.{digest_of_first, IsLongestFront}
 use Rattle.sb_digest.specs.Pairs.{pair_of, pairs_from}
-use Rattle.sb_types.proofs.Texts.{Less-from_text_lt, apart-from_Less, same-from_pointwise}
+use Rattle.sb_types.proofs.Texts.{Less-from_text_lt, apart-from_Less, same_text}
 use Rattle.sb_digest.proofs.Ascending.{by_owner}
 use Rattle.sb_digest.proofs.Searching.{missing}
 
@@ -49,7 +49,7 @@ found_passed test owner passes (e ∷ es) = go (pointwise nat_eq e.0 owner) (tes
     go : (same passed : Bool) → pointwise nat_eq e.0 owner ≡ same → test e.0 ≡ passed → version_of (pair_at owner (told (filter (λ e. test e.0) es))) ≡ (unwrap_or (find (slice_cmp nat_cmp) owner es) nothing).shown.held →
         version_of (pair_at owner (told (cond passed (e ∷ filter (λ e. test e.0) es) (filter (λ e. test e.0) es)))) ≡ (unwrap_or (cond (eq_by_cmp (slice_cmp nat_cmp) owner e.0) (Some e.1) (find (slice_cmp nat_cmp) owner es)) nothing).shown.held
     go true true same passed rest = rw (ties, same) refl
-    go true false same passed rest = absurd (true≢false (sym passes ∙ ap test (sym (same-from_pointwise e.0 owner same)) ∙ passed))
+    go true false same passed rest = absurd (true≢false (sym passes ∙ ap test (sym (same_text e.0 owner same)) ∙ passed))
     go false true same passed rest = rw (ties, same) rest
     go false false same passed rest = rw (ties, same) rest
 

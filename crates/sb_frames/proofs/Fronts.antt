@@ -20,6 +20,7 @@ use Rattle.sb_codec.proofs.Taken.{AreBytes, IsWide, byte_takes, bytes_takes, num
 use Rattle.sb_codec.proofs.Again.{bytes_again, number_again}
 use Rattle.sb_codec.proofs.Laws.{is_spelled, is_found, is_read}
 use Rattle.sb_frames.specs.Frames.{framed, frame, is_payload_length, IsFramed, HasKind, HasPayload, Leads, Extends, Front, short, whole, bad, once, front_by, front_of_payload, front_after_length, front_after_version, front_after_mark, front_of}
+use Rattle.sb_frames.specs.Receiving.{is_frame_fault}
 
 wide32 : IsWide w32 (2 ^ 32)
 wide32 = record {
@@ -241,46 +242,51 @@ refused bytes payload rest fault is read unknown =
       | inr other ↦ inl (ap front_of is.laid ∙ front_framed payload rest is.limits ∙ ap (λ r. front_by r rest) (read other))
     ]
 
--- ---- no front is bad for want of memory
+-- ---- a front is bad for a fault of a frame alone
 
-abbrev NotMemory : Front → Type 0
-NotMemory (bad fault) = fault ≢ NoMemory
-NotMemory short = Unit {0}
-NotMemory (whole m rest) = Unit {0}
+abbrev IsFault : Front → Type 0
+IsFault (bad fault) = is_frame_fault fault ≡ true
+IsFault short = Unit {0}
+IsFault (whole m rest) = Unit {0}
 
-once_known : {A : Type 0} (read : Option (A × List ℕ)) (next : A → List ℕ → Front) → ((x : A) (more : List ℕ) → NotMemory (next x more)) → NotMemory (once read next)
+once_known : {A : Type 0} (read : Option (A × List ℕ)) (next : A → List ℕ → Front) → ((x : A) (more : List ℕ) → IsFault (next x more)) → IsFault (once read next)
 once_known None next each = tt
 once_known (Some x) next each = each x.0 x.1
 
-chosen_known : (b : Bool) (front : Front) (fault : Fault) → NotMemory front → fault ≢ NoMemory → NotMemory (if b then front else bad fault)
-chosen_known true front fault known ne = known
-chosen_known false front fault known ne = ne
+chosen_known : (b : Bool) (front : Front) (fault : Fault) → IsFault front → is_frame_fault fault ≡ true → IsFault (if b then front else bad fault)
+chosen_known true front fault known is = known
+chosen_known false front fault known is = is
 
-fault_known : (payload : List ℕ) → fault_of payload ≢ NoMemory
-fault_known [] e = absurd cc
-fault_known (kind ∷ body) e = kind_known (is_kind kind) kind e where
-  kind_known : (b : Bool) (kind : ℕ) → (if b then Malformed kind else UnknownKind kind) ≢ NoMemory
-  kind_known true kind e = absurd cc
-  kind_known false kind e = absurd cc
+fault_known : (payload : List ℕ) → is_frame_fault (fault_of payload) ≡ true
+fault_known [] = refl
+fault_known (kind ∷ body) = kind_known (is_kind kind) kind where
+  kind_known : (b : Bool) (kind : ℕ) → is_frame_fault (if b then Malformed kind else UnknownKind kind) ≡ true
+  kind_known true kind = refl
+  kind_known false kind = refl
 
-reading_known : (found : Option Message) (payload rest : List ℕ) → NotMemory (front_by (ok_or found (fault_of payload)) rest)
+reading_known : (found : Option Message) (payload rest : List ℕ) → IsFault (front_by (ok_or found (fault_of payload)) rest)
 reading_known None payload rest = fault_known payload
 reading_known (Some m) payload rest = tt
 
-payload_known : (payload rest : List ℕ) → NotMemory (front_of_payload payload rest)
+payload_known : (payload rest : List ℕ) → IsFault (front_of_payload payload rest)
 unfolding reading
 payload_known payload rest = reading_known (whole_field message_field payload) payload rest
 
-front_known : (bytes : List ℕ) → NotMemory (front_of bytes)
+front_known : (bytes : List ℕ) → IsFault (front_of bytes)
 unfolding front_of
 front_known bytes =
     once_known (byte_field bytes) front_after_mark (λ mark bytes. chosen_known (mark == FRAME_MARK) _ BadMark
     (once_known (byte_field bytes) front_after_version (λ version bytes. chosen_known (version == FRAME_VERSION) _ BadVersion
     (once_known (number_field w32 bytes) front_after_length (λ count bytes. chosen_known (is_payload_length count) _ BadLength
-    (once_known (bytes_field count bytes) front_of_payload payload_known) (λ e. absurd cc))) (λ e. absurd cc))) (λ e. absurd cc))
+    (once_known (bytes_field count bytes) front_of_payload payload_known) refl)) refl)) refl)
+
+pub of_a_frame : (bytes : List ℕ) (fault : Fault) → front_of bytes ≡ bad fault → is_frame_fault fault ≡ true
+of_a_frame bytes fault e = subst IsFault e (front_known bytes)
 
 pub not_for_memory : (bytes : List ℕ) (fault : Fault) → front_of bytes ≡ bad fault → fault ≢ NoMemory
-not_for_memory bytes fault e = subst NotMemory e (front_known bytes)
+not_for_memory bytes fault e same =
+    let is : is_frame_fault NoMemory ≡ true = subst (λ f. is_frame_fault f ≡ true) same (of_a_frame bytes fault e) in
+    absurd cc
 
 -- ---- more bytes change no verdict
 

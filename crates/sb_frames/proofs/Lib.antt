@@ -1,3 +1,4 @@
 pub mod Fronts
 pub mod Taking
 pub mod Splitting
+pub mod OutOfReaders

@@ -2,3 +2,4 @@ pub mod Frames
 pub mod Streams
 pub mod Runs
 pub mod Sending
+pub mod Receiving

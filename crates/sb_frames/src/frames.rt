@@ -1,13 +1,20 @@
 //! The messages of a stream.
 
-ghost use Rattle.std.specs.Prelude.{◌≡◌, ◌+◌, ◌≤◌, [], drop, length};
+ghost use Rattle.std.specs.Prelude.{◌≡◌, ◌+◌, ◌≤◌, false, [], drop, length};
 ghost use Rattle.sb_frames.specs.Streams.{open_with, Feeds, TakesNext};
+ghost use Rattle.sb_frames.specs.Receiving.{is_shut, held_of, end_of, Fills};
 
 use crate::front::message_in;
+use crate::steps::{Steps, read_within};
 use sb_codec::Message;
 use sb_types::Fault;
 use std::alloc::Global;
+use std::io::Read;
 use std::marker::Model;
+use std::sync::ledger::Ledger;
+
+/// How many bytes a read asks for.
+pub const READ_LENGTH: usize = 4_096;
 
 /// Lets go of the bytes that were taken out, where they are more than those behind them, and answers how
 /// many are still kept.
@@ -101,5 +108,43 @@ impl Frames {
                 Err(fault)
             }
         }
+    }
+
+    /// At the end of the stream: `Truncated` where a byte that was fed was not handed out in a message.
+    /// After a faulty frame none is left. It takes no memory.
+    pub fn end(&self) -> Result<(), Fault>
+        ensures { result ≡ end_of self.now }
+    {
+        if self.is_closed || self.taken == self.bytes.len() {
+            return Ok(());
+        }
+        Err(Fault::Truncated)
+    }
+
+    /// Whether nothing more is read, after a faulty frame.
+    pub(crate) fn is_shut(&self) -> bool
+        ensures { result ≡ is_shut self.now }
+    {
+        self.is_closed
+    }
+
+    /// Makes one read, and says how many bytes it gave; none at the end. `NoMemory` before the read, with
+    /// nothing changed; then `TurnsSpent` and `ReadFailed`, where no byte has come.
+    pub(crate) fn fill<R: Read, L: Ledger>(
+        &mut self,
+        reader: &mut R,
+        left: &mut u64,
+        steps: &mut Steps<L>,
+    ) -> Result<usize, Fault>
+        requires { is_shut self.old ≡ false }
+        ensures filled { Fills (held_of self.old) (R.remaining reader.old) (R.remaining reader.new) left.old left.new result self.new }
+        ensures counted { steps.new + left.new ≡ steps.old + left.old }
+    {
+        let start = self.bytes.len();
+        self.bytes.resize(start + READ_LENGTH, 0)?;
+        let answer = read_within(reader, &mut self.bytes[start..], left, steps);
+        let count = answer.unwrap_or(0);
+        self.bytes.truncate(start + count);
+        answer
     }
 }

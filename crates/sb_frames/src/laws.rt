@@ -6,6 +6,7 @@ ghost use Rattle.sb_codec.specs.declared.message.Message.{Message};
 ghost use Rattle.sb_codec.specs.Messages.{spelling, is_message};
 ghost use Rattle.sb_frames.specs.Frames.{frame, short, whole, bad, front_of, Leads, Extends};
 ghost use Rattle.sb_frames.specs.Streams.{Stream, open_with, Splits};
+ghost use Rattle.sb_frames.specs.Receiving.{is_frame_fault};
 ghost use Rattle.sb_frames.specs.Runs.{Call, Run, bytes_fed, messages_taken, IsLeft, IsSpent, Accounts};
 
 use sb_types::{BUDGET_MOST, HEADER_LENGTH};
@@ -39,9 +40,10 @@ pub fn parts_of_frames_are_short()
         front_of (take count (frame message)) ≡ short }
 {}
 
-/// No frame is faulty for want of memory.
+/// No frame is faulty for want of memory, or for any fault but the five of frames.
 pub fn faults_are_of_the_bytes()
-    ensures { (bytes : List ℕ) (fault : Fault) → front_of bytes ≡ bad fault → fault ≢ Fault.NoMemory }
+    ensures memory { (bytes : List ℕ) (fault : Fault) → front_of bytes ≡ bad fault → fault ≢ Fault.NoMemory }
+    ensures kind { (bytes : List ℕ) (fault : Fault) → front_of bytes ≡ bad fault → is_frame_fault fault ≡ true }
 {}
 
 /// A stream has one reading: up to a rest that begins with no frame it is these messages and no others.

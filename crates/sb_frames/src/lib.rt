@@ -5,15 +5,21 @@ mod frames;
 mod front;
 mod last_write;
 mod laws;
+mod receiving;
 mod sending;
+mod steps;
 
-pub use frames::Frames;
+pub use frames::{Frames, READ_LENGTH};
 pub use last_write::LastWrite;
 pub use laws::{
     faults_are_of_the_bytes, frames_are_read, frames_have_a_length, only_frames_are_read,
     parts_of_frames_are_short, pieces_do_not_matter, streams_have_one_reading, verdicts_stand,
 };
-pub use sending::{frame_of, send, send_telling};
+pub use receiving::{receive, receive_within};
+pub use sending::{frame_of, send, send_from, send_telling, write_counted};
+pub use steps::Steps;
 
+#[cfg(test)]
+mod receiving_tests;
 #[cfg(test)]
 mod tests;

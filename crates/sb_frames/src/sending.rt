@@ -1,6 +1,6 @@
 //! A message onto a writer.
 
-ghost use Rattle.std.specs.Prelude.{◌≡◌, IfOk, IfErr};
+ghost use Rattle.std.specs.Prelude.{◌≡◌, IfOk, IfErr, OnOk};
 ghost use Rattle.sb_frames.specs.Frames.{frame};
 ghost use Rattle.sb_frames.specs.Sending.{Sends, OnlyWhereFailed};
 
@@ -10,22 +10,38 @@ use sb_types::{FRAME_MARK, FRAME_VERSION, Fault, HEADER_LENGTH};
 use std::alloc::Global;
 use std::io::Write;
 
+/// Puts the message's frame into a buffer, in place of what was in it. It takes memory only where the buffer
+/// has no room for it. `NoMemory` is its only fault.
+fn write_frame(buffer: &mut Vec<u8>, message: &Message) -> Result<(), Fault>
+    ensures frame { OnOk result (buffer.new.items ≡ frame message.now) }
+    ensures fault { IfErr result (λ fault. fault ≡ Fault.NoMemory) }
+{
+    let frame_length = length(message);
+    let payload_length = frame_length - HEADER_LENGTH as u32;
+    buffer.clear();
+    buffer.reserve(frame_length as usize)?;
+    buffer.extend_from_slice(&[FRAME_MARK, FRAME_VERSION])?;
+    buffer.extend_from_slice(&payload_length.to_be_bytes())?;
+    append_payload(buffer, message)
+}
+
 /// The frame of the message, in one buffer. `NoMemory` is its only fault.
 pub fn frame_of(alloc: Global, message: &Message) -> Result<Vec<u8>, Fault>
     ensures frame { IfOk result (λ v. v.items ≡ frame message.now) }
     ensures fault { IfErr result (λ fault. fault ≡ Fault.NoMemory) }
 {
-    let frame_length = length(message);
-    let payload_length = frame_length - HEADER_LENGTH as u32;
-    let mut frame = Vec::with_capacity(alloc, frame_length as usize)?;
-    frame.extend_from_slice(&[FRAME_MARK, FRAME_VERSION])?;
-    frame.extend_from_slice(&payload_length.to_be_bytes())?;
-    append_payload(&mut frame, message)?;
+    let mut frame = Vec::new(alloc);
+    write_frame(&mut frame, message)?;
     Ok(frame)
 }
 
-/// Writes all of the bytes, or says how many were written.
-fn write_counted<W: Write>(writer: &mut W, bytes: &[u8], last: &mut LastWrite) -> Result<(), Fault>
+/// Writes all of the bytes, and tells in `last` what the last write answered. `WriteFailed` with how many were
+/// written, always fewer than all. A write that takes no byte has failed.
+pub fn write_counted<W: Write>(
+    writer: &mut W,
+    bytes: &[u8],
+    last: &mut LastWrite,
+) -> Result<(), Fault>
     ensures sends { Sends (W.contents writer.old) (W.contents writer.new) bytes.now result }
     ensures failed { OnlyWhereFailed result last.new }
 {
@@ -39,9 +55,10 @@ fn write_counted<W: Write>(writer: &mut W, bytes: &[u8], last: &mut LastWrite) -
     Ok(())
 }
 
-/// Writes the message's frame, and tells in `last` what the last write answered. The faults of `send`.
-pub fn send_telling<W: Write>(
-    alloc: Global,
+/// Writes the message's frame out of a buffer that is kept from one message to the next, and tells in `last` what
+/// the last write answered. It takes memory only where the buffer has no room for the frame. The faults of `send`.
+pub fn send_from<W: Write>(
+    buffer: &mut Vec<u8>,
     writer: &mut W,
     message: &Message,
     last: &mut LastWrite,
@@ -50,8 +67,21 @@ pub fn send_telling<W: Write>(
     // A write that did not fail is no reason to stop.
     ensures failed { OnlyWhereFailed result last.new }
 {
-    let frame = frame_of(alloc, message)?;
-    write_counted(writer, &frame, last)
+    write_frame(buffer, message)?;
+    write_counted(writer, buffer, last)
+}
+
+/// Writes the message's frame, and tells in `last` what the last write answered. The faults of `send`.
+pub fn send_telling<W: Write>(
+    alloc: Global,
+    writer: &mut W,
+    message: &Message,
+    last: &mut LastWrite,
+) -> Result<(), Fault>
+    ensures sends { Sends (W.contents writer.old) (W.contents writer.new) (frame message.now) result }
+    ensures failed { OnlyWhereFailed result last.new }
+{
+    send_from(&mut Vec::new(alloc), writer, message, last)
 }
 
 /// Writes the message's frame. `NoMemory`, with nothing written; `WriteFailed` with how many bytes of

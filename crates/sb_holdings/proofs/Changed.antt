@@ -17,7 +17,7 @@ use Rattle.sb_table.specs.Plain.{IsPlainTable}
 use Rattle.sb_holdings.specs.Held.{Held, nothing, is_nothing, holder_of, shown_of, with_owner, written}
 use Rattle.sb_holdings.specs.Plain.{alone, held_of, IsPlainHolder, IsHoldings}
 use Rattle.sb_holdings.specs.Ends.{has_place}
-use Rattle.sb_holdings.proofs.Lists.{same_text}
+use Rattle.sb_types.proofs.Texts.{same_text}
 use Rattle.sb_holdings.proofs.ByOwner.{by_text, Ascend, found, get-held_of}
 
 -- ---- what is held of an owner

@@ -7,7 +7,7 @@ use Rattle.sb_types.specs.Records.{Entry, Table}
 use Rattle.sb_types.specs.Runs.{are_ascending, are_distinct, has_key, last_version, live}
 use Rattle.sb_table.specs.Plain.{IsPlainTable}
 use Rattle.sb_holdings.specs.Contents.{entry_of_write, numbered, last_each, content_table}
-use Rattle.sb_holdings.proofs.Lists.{text_same}
+use Rattle.sb_types.proofs.Texts.{text_same}
 use Rattle.sb_holdings.proofs.Numbered.{write_in}
 use Rattle.sb_types.proofs.Live.{live-above}
 

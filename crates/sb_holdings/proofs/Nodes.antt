@@ -14,7 +14,7 @@ use Rattle.sb_holdings.specs.declared.ends.BlockEnd.{BlockEnd}
 use Rattle.sb_holdings.specs.declared.ends.BlockEnd.TheVariants.{Own, OwnAhead, Gap, Stale, OwnersFull, Taken, TooManyKeys, NoMemory}
 use Rattle.sb_holdings.specs.Held.{Held, nothing, is_nothing, holder_of, with_holder, held_after_taking}
 use Rattle.sb_holdings.specs.Nodes.{Node, held_by, NodeEvent, Wrote, Took, node_after_event, replay_node, IsNodeEvent, TrueAt, AreNodeEvents, AllTrueAt, IsNode}
-use Rattle.sb_holdings.proofs.Lists.{same_text}
+use Rattle.sb_types.proofs.Texts.{same_text}
 use Rattle.sb_holdings.proofs.Steps.{Step, unchanged, two_steps}
 use Rattle.sb_holdings.proofs.Joining.{own_step}
 use Rattle.sb_holdings.proofs.Treating.{treat_step}
@@ -95,7 +95,7 @@ module _ (writes : List ℕ → List Write) (node : Node) (is : IsNode node) whe
 same_me_taken : (held : Held) (b : Block) (end : BlockEnd) → (held_after_taking held b end).me ≡ held.me
 same_me_taken held b end = cond_both (pointwise nat_eq b.owner held.me) held _ (λ (h : Held). h.me ≡ held.me) (λ _. refl) (λ _. refl)
 
-same_me : (node : Node) (event : NodeEvent) → (node_after_event node event).held.me ≡ node.held.me
+pub same_me : (node : Node) (event : NodeEvent) → (node_after_event node event).held.me ≡ node.held.me
 same_me node (Wrote e) = refl
 same_me node (Took b Own) = refl
 same_me node (Took b (OwnAhead upto)) = refl

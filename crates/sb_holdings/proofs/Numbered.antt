@@ -7,7 +7,7 @@ use Rattle.sb_types.specs.Runs.{Stands, are_ascending, has_key, above}
 use Rattle.sb_types.specs.Writes.{Written, Superseded}
 use Rattle.sb_holdings.specs.Contents.{numbered}
 use Rattle.sb_holdings.proofs.Telling.{same_parts}
-use Rattle.sb_holdings.proofs.Lists.{keyed, has, in_above, of_above}
+use Rattle.sb_types.proofs.Standing.{keyed, has, in_above, of_above}
 
 abbrev pub write_in : Entry → Write
 write_in e = record { key = e.key; slot = e.slot }

@@ -10,7 +10,7 @@ use Rattle.sb_types.specs.Writes.{Holds, HolderHolds}
 use Rattle.sb_holdings.specs.Held.{nothing, holder_of}
 use Rattle.sb_holdings.specs.Plain.{alone, held_of}
 use Rattle.sb_holdings.specs.Nodes.{opened_node, NodeHolds}
-use Rattle.sb_holdings.proofs.Lists.{same_text}
+use Rattle.sb_types.proofs.Texts.{same_text}
 use Rattle.sb_holdings.proofs.ByOwner.{Ascend, get-held_of}
 
 -- the table, or nothing

@@ -3,7 +3,7 @@ use Rattle.std.proofs.Common.{◌≡◌, ℕ, suc, zero, ◌<◌, ◌≤◌, Boo
 use Rattle.std.proofs.lemmas.Bool.{and_parts, and_from, not_from_false}
 use Rattle.sb_types.specs.Records.{Entry}
 use Rattle.sb_types.specs.Runs.{Stands, are_ascending, has_key, are_distinct, last_version, above, entered, IsRun}
-use Rattle.sb_holdings.proofs.Lists.{either, taken, of_kept, lacks, not_there, of_above}
+use Rattle.sb_types.proofs.Standing.{either, taken, of_kept, lacks, not_there, of_above}
 
 -- ---- ascending
 

@@ -9,7 +9,8 @@ use Rattle.sb_types.specs.Value.{Value}
 use Rattle.sb_types.specs.Records.{Entry, Table}
 use Rattle.sb_types.specs.Runs.{Stands, IsTable, are_distinct, entry_at, shown_slot, shown_by_entry, shown_at}
 use Rattle.sb_types.specs.Writes.{Written, Superseded, Gone, Holds}
-use Rattle.sb_holdings.proofs.Lists.{same_text, text_same, not_there}
+use Rattle.sb_types.proofs.Standing.{not_there}
+use Rattle.sb_types.proofs.Texts.{same_text, text_same}
 use Rattle.sb_holdings.proofs.Telling.{one_write, same_parts}
 
 first_found : (b : Bool) (x : Entry) (o : Option Entry) (e : Entry) → cond b (Some x) o ≡ Some e → ((b ≡ true) × (x ≡ e)) ⊎ (o ≡ Some e)

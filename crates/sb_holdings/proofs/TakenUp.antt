@@ -15,7 +15,8 @@ use Rattle.sb_holdings.specs.Held.{Held, holder_of, shown_of, held_after_taking}
 use Rattle.sb_holdings.specs.Ends.{is_own, JoinsOn, Fits}
 use Rattle.sb_holdings.specs.Nodes.{Node, node_after_block}
 use Rattle.sb_holdings.specs.TakenUp.{HasFront, IsTakenUp}
-use Rattle.sb_holdings.proofs.Lists.{text_same, right}
+use Rattle.sb_types.proofs.Standing.{right}
+use Rattle.sb_types.proofs.Texts.{text_same}
 use Rattle.sb_holdings.proofs.Nodes.{put_with}
 use Rattle.sb_holdings.proofs.Ended.{block-plain}
 

@@ -335,26 +335,36 @@ fn count_from(holdings: &Holdings, first: Option<&Name>) -> u64 {
     count
 }
 
+fn assert_owners(rt: &impl Abort, holdings: &Holdings, wanted: &[&[u8]]) {
+    let mut wanted = wanted.iter().copied();
+    for owner in holdings.owners() {
+        assert_eq!(rt; Some(owner.bytes()), wanted.next());
+    }
+    assert_eq!(rt; wanted.next(), None);
+}
+
+fn assert_tables_from(rt: &impl Abort, holdings: &Holdings, from: &Name, wanted: &[(&[u8], u64)]) {
+    let mut wanted = wanted.iter().copied();
+    for (owner, table) in holdings.tables_from(Some(from)) {
+        assert_eq!(rt; Some((owner.bytes(), table.upto())), wanted.next());
+    }
+    assert_eq!(rt; wanted.next(), None);
+}
+
 #[test]
 fn owners_come_in_the_order_of_their_names(rt: HostRuntime) -> Result<(), Fail> {
-    let alloc = rt.alloc();
-    let mut holdings = holdings_of(alloc, b"m")?;
-    let [a, m, ma, z] = [
-        Name::read(b"a")?,
-        Name::read(b"m")?,
-        Name::read(b"ma")?,
-        Name::read(b"z")?,
-    ];
+    let mut holdings = holdings_of(rt.alloc(), b"m")?;
     let two = [block_case(0, 1, 2, BlockEnd::Taken(2), 2, Some(2))];
-    for owner in [z, a, ma] {
-        assert_cases(&rt, alloc, &mut holdings, &owner, &two)?;
+    for name in [b"z".as_slice(), b"a", b"ma"] {
+        assert_cases(&rt, rt.alloc(), &mut holdings, &Name::read(name)?, &two)?;
     }
-    let names: Vec<Name> = holdings.owners().copied().collect(alloc)?;
-    assert_eq!(rt; names.as_slice(), [a, m, ma, z].as_slice());
-    assert_eq!(rt; count_from(&holdings, Some(&ma)), 2);
-    for ((name, table), want) in holdings.tables_from(Some(&ma)).zip([ma, z]) {
-        assert_eq!(rt; (*name, table.upto()), (want, 2));
-    }
+    assert_owners(&rt, &holdings, &[b"a", b"m", b"ma", b"z"]);
+    assert_tables_from(
+        &rt,
+        &holdings,
+        &Name::read(b"ma")?,
+        &[(b"ma", 2), (b"z", 2)],
+    );
     assert_eq!(rt; count_from(&holdings, None), 4);
     Ok(())
 }

@@ -1,1 +1,13 @@
-pub mod Refusals
+mod Refusals
+mod Texts
+mod Cells
+mod Reading
+mod Making
+mod Upserting
+mod Unique
+mod Updating
+mod Entering
+mod Writing
+mod Keeping
+mod Naming
+mod Founding

@@ -4,11 +4,19 @@
 mod check;
 mod committed;
 mod log;
+mod opening;
 mod plain;
+mod rows;
+mod schema;
+mod sql;
+mod statements;
 
 pub use committed::Committed;
 pub use log::WriteLog;
 pub use plain::PlainLog;
+pub use sql::SqlLog;
 
+#[cfg(test)]
+mod sql_tests;
 #[cfg(test)]
 mod tests;

@@ -3,11 +3,11 @@ ghost use Rattle.std.specs.Prelude.{◌≡◌, ◌≤◌, Ok, true};
 ghost use Rattle.sb_types.specs.Records as records;
 ghost use Rattle.sb_log.specs.Puts as spec;
 
-use crate::check::refusal;
+use crate::check::accept;
 use crate::committed::Committed;
 use crate::log::WriteLog;
 use sb_table::Table;
-use sb_types::{Entry, Fault, Key, Name, Slot};
+use sb_types::{Fault, Key, Name, Slot};
 use std::alloc::Global;
 use std::marker::Model;
 
@@ -61,13 +61,10 @@ impl WriteLog for PlainLog {
     }
 
     fn put(&mut self, key: &Key, slot: &Slot) -> Result<Committed, Fault> {
-        if let Some(fault) = refusal(&self.table, self.max_version, key, slot) {
-            return Err(fault);
-        }
-        let version = self.table.upto() + 1;
-        let entry = Entry::new(*key, version, slot.copy(self.alloc)?);
-        let kept = entry.copy(self.alloc)?;
-        self.table.push(kept)?;
+        let entry = match accept(&mut self.table, self.alloc, self.max_version, key, slot) {
+            Ok(entry) => entry,
+            Err(fault) => return Err(fault),
+        };
         Ok(Committed::new(self.owner, entry))
     }
 

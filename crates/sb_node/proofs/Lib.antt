@@ -2,3 +2,5 @@ pub mod Turns
 pub mod Honesty
 pub mod Truth
 pub mod Own
+pub mod Sessions
+pub mod Told

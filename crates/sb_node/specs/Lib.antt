@@ -2,3 +2,6 @@ pub mod Cores
 pub mod Ends
 pub mod Answers
 pub mod Calls
+pub mod Steps
+pub mod Acts
+pub mod Talks

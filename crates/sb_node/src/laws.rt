@@ -1,6 +1,7 @@
 //! What stays true of what a node holds and tells, over any calls.
 
-ghost use Rattle.std.specs.Prelude.{◌≡◌, ℕ, true, List};
+ghost use Rattle.std.specs.Prelude.{◌≡◌, ℕ, true, List, Result, Ok, Err};
+ghost use Rattle.sb_types.specs.declared.fault.Fault.{Fault};
 ghost use Rattle.sb_types.specs.declared.entry.Write.{Write};
 ghost use Rattle.sb_types.specs.Limits.{is_delta};
 ghost use Rattle.sb_types.specs.Records.{Block};
@@ -9,9 +10,18 @@ ghost use Rattle.sb_types.specs.Writes.{Honest};
 ghost use Rattle.sb_holdings.specs.declared.ends.BlockEnd.{BlockEnd};
 ghost use Rattle.sb_holdings.specs.Nodes.{Node, replay_node, IsNode, NodeHolds, NodeLater};
 ghost use Rattle.sb_digest.specs.Digests.{Digest};
+ghost use Rattle.sb_codec.specs.declared.message.Message.{Message};
+ghost use Rattle.sb_codec.specs.declared.message.Message.TheVariants as kinds;
+ghost use Rattle.sb_session.specs.declared.replies.Replies.{Replies};
+ghost use Rattle.sb_session.specs.Sessions.{Session};
+ghost use Rattle.sb_session.specs.Taking.{Takes, Asks};
+ghost use Rattle.sb_session.specs.Talks.{Party, Move, Run, heard_in};
 ghost use Rattle.sb_node.specs.Answers.{IsAnswer};
 ghost use Rattle.sb_node.specs.Calls.{Call, replay_calls, AreBlocks, AreHonest, AreCalls, AreTrue};
+ghost use Rattle.sb_node.specs.Cores.{Core, with_node};
 ghost use Rattle.sb_node.specs.Ends.{took_each};
+ghost use Rattle.sb_node.specs.Steps.{Steps};
+ghost use Rattle.sb_node.specs.Talks.{taken_of, IsReply, AreEnds, AreTrueMessages};
 
 use sb_budget::{available_by_number, cuts_are_honest};
 use sb_holdings::{holdings_make_nodes, nodes_hold};
@@ -49,4 +59,32 @@ pub fn calls_keep_truth()
     ensures is { (node : Node) (calls : List Call) → IsNode node → AreCalls calls → IsNode (replay_calls node calls) }
 {
     nodes_hold();
+}
+
+/// What a session makes of a node is a replay: of a message that is taken, the delta with its ends; of one that is
+/// refused, and of a digest that is asked with, nothing. To a digest it replies as the node answers.
+pub fn sessions_are_replays()
+    ensures taken { (s : Session) (core : Core) (message : Message) (replies : Replies) (t : Session) (new : Core) →
+        Takes Steps s core message (Ok replies) t new → new ≡ with_node core (replay_calls core.node (taken_of message replies)) }
+    ensures refused { (s : Session) (core : Core) (message : Message) (fault : Fault) (t : Session) (new : Core) →
+        Takes Steps s core message (Err fault) t new → new ≡ core }
+    ensures asked { (s : Session) (core : Core) (answer : Result Message Fault) (t : Session) (new : Core) →
+        Asks Steps s core answer t new → new ≡ core }
+    ensures replies { (s : Session) (core : Core) (told : Digest) (replies : Replies) (t : Session) (new : Core) →
+        Takes Steps s core (kinds.Digest told) (Ok replies) t new → IsReply core s told replies }
+    ensures ends { (s : Session) (core : Core) (blocks : List Block) (replies : Replies) (t : Session) (new : Core) →
+        Takes Steps s core (kinds.Delta blocks) (Ok replies) t new → AreBlocks blocks × AreEnds core blocks replies }
+{}
+
+/// Over a whole session that hears only true messages, what a node holds stays true, and all that it says is true.
+pub fn sessions_keep_truth()
+    ensures holds { (writes : List ℕ → List Write) (a : Party Core) (moves : List Move) (said : List Message) (b : Party Core) →
+        IsNode a.handler.node → NodeHolds writes a.handler.node → Run Steps a moves said b → AreTrueMessages writes (heard_in moves) →
+        NodeHolds writes b.handler.node × IsNode b.handler.node }
+    ensures said { (writes : List ℕ → List Write) (a : Party Core) (moves : List Move) (said : List Message) (b : Party Core) →
+        IsNode a.handler.node → NodeHolds writes a.handler.node → Run Steps a moves said b → AreTrueMessages writes (heard_in moves) →
+        AreTrueMessages writes said }
+{
+    calls_keep_truth();
+    answers_are_honest();
 }

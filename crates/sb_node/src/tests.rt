@@ -12,7 +12,7 @@ use std::alloc::Global;
 use std::test::Fail;
 
 /// A new node of a name.
-fn node(alloc: Global, me: Name, budget: u64, order: Order) -> Result<NodeCore, Fault> {
+pub(crate) fn node(alloc: Global, me: Name, budget: u64, order: Order) -> Result<NodeCore, Fault> {
     let settings = Settings::check(RawSettings {
         cluster: b"c1",
         budget,
@@ -24,7 +24,7 @@ fn node(alloc: Global, me: Name, budget: u64, order: Order) -> Result<NodeCore, 
     NodeCore::open(alloc, settings, me, Table::new(alloc))
 }
 
-fn log_of(alloc: Global, owner: Name) -> Result<PlainLog, Fault> {
+pub(crate) fn log_of(alloc: Global, owner: Name) -> Result<PlainLog, Fault> {
     Ok(PlainLog::new(alloc, owner, Name::read(b"c1")?, 100))
 }
 
@@ -33,7 +33,12 @@ fn commit(log: &mut PlainLog, key: &[u8], slot: &Slot) -> Result<Committed, Faul
 }
 
 /// A write that is committed and entered.
-fn write(core: &mut NodeCore, log: &mut PlainLog, key: &[u8], slot: &Slot) -> Result<(), Fault> {
+pub(crate) fn write(
+    core: &mut NodeCore,
+    log: &mut PlainLog,
+    key: &[u8],
+    slot: &Slot,
+) -> Result<(), Fault> {
     core.take_own(&commit(log, key, slot)?)
 }
 
@@ -71,7 +76,7 @@ fn block(alloc: Global, owner: Name, after: u64, letters: &[u8]) -> Result<Block
 }
 
 /// How the blocks end, unless one finds no memory.
-fn applied(core: &mut NodeCore, delta: &Delta) -> Result<Report, Fault> {
+pub(crate) fn applied(core: &mut NodeCore, delta: &Delta) -> Result<Report, Fault> {
     let report = core.apply(delta)?;
     for end in report.ends() {
         if matches!(end, BlockEnd::NoMemory(_)) {

@@ -10,6 +10,7 @@ use Rattle.sb_table.specs.Order.{put_by_key, by_key}
 use Rattle.sb_table.proofs.Enter.{are_distinct-filter}
 use Rattle.sb_table.proofs.Lookup.{apart_from}
 use Rattle.sb_types.proofs.Texts.{text_lt-same, text_lt-trans, text_lt-other}
+use Rattle.sb_types.proofs.Standing.{kept, of_kept}
 
 -- whether a key begins so and comes behind the last, where one was
 abbrev pub is_left : List ℕ → Option (List ℕ) → List ℕ → Bool
@@ -22,10 +23,6 @@ left_of prefix last entries = filter (λ entry. is_left prefix last entry.key) e
 -- the entries that are left, in ascending order of their keys
 abbrev pub entries_left : List ℕ → Option (List ℕ) → List Entry → List Entry
 entries_left prefix last entries = by_key (left_of prefix last entries)
-
-pub Stands-filter : (p : Entry → Bool) (es : List Entry) (x : Entry) → Stands (filter p es) x → p x ≡ true
-Stands-filter p [] x stands = absurd stands
-Stands-filter p (y ∷ es) x stands = grind (arith, Stands-filter p es x)
 
 Stands-put_by_key : (e : Entry) (zs : List Entry) (x : Entry) → Stands (put_by_key e zs) x → (e ≡ x) ⊎ Stands zs x
 Stands-put_by_key e [] x stands = grind arith
@@ -74,22 +71,14 @@ left_of-behind prefix (Some last) m es left =
     filter-filter (λ x. is_left prefix (Some last) x.key) (λ x. text_lt m.key x.key) (λ x. is_left prefix (Some m.key) x.key)
     (λ x. grind (arith, text_lt-trans last m.key x.key)) es
 
-pub filter-Stands : (p : Entry → Bool) (es : List Entry) (x : Entry) → Stands (filter p es) x → Stands es x
-filter-Stands p [] x stands = absurd stands
-filter-Stands p (y ∷ es) x stands = grind (arith, filter-Stands p es x)
-
-Stands-kept : (p : Entry → Bool) (es : List Entry) (x : Entry) → Stands es x → p x ≡ true → Stands (filter p es) x
-Stands-kept p [] x stands passes = absurd stands
-Stands-kept p (y ∷ es) x stands passes = grind (arith, Stands-kept p es x)
-
 -- the least of what is left is the first of it, and behind it is left what is left behind its key
 pub entries_left-first : (prefix : List ℕ) (last : Option (List ℕ)) (m : Entry) (es : List Entry) → are_distinct es ≡ true → Stands es m → is_left prefix last m.key ≡ true
     → ((x : Entry) → Stands es x → is_left prefix last x.key ≡ true → text_lt x.key m.key ≡ false)
     → entries_left prefix last es ≡ m ∷ entries_left prefix (Some m.key) es
 entries_left-first prefix last m es apart stands left least =
     let p = λ (x : Entry). is_left prefix last x.key in
-    by_key-first m (left_of prefix last es) (are_distinct-filter p es apart) (Stands-kept p es m stands left)
-    (λ x there. least x (filter-Stands p es x there) (Stands-filter p es x there))
+    by_key-first m (left_of prefix last es) (are_distinct-filter p es apart) (kept p es m stands left)
+    (λ x there. let of_both = of_kept p es x there in least x of_both.0 of_both.1)
     ∙ ap (λ (others : List Entry). m ∷ by_key others) (left_of-behind prefix last m es left)
 
 pub none_left : (p : Entry → Bool) (es : List Entry) → ((x : Entry) → Stands es x → p x ≡ false) → filter p es ≡ []

@@ -30,6 +30,24 @@ fn push(rt: &impl Abort, table: &mut Table, entry: Entry) -> Result<(), Fault> {
     table.push(entry)
 }
 
+fn push_weight(
+    rt: &impl Abort,
+    table: &mut Table,
+    key: &[u8],
+    version: u64,
+    weight: u64,
+) -> Result<(), Fault>
+    requires { 1 ≤ version }
+{
+    push(rt, table, weight_of(key, version, weight)?)
+}
+
+fn push_marker(rt: &impl Abort, table: &mut Table, key: &[u8], version: u64) -> Result<(), Fault>
+    requires { 1 ≤ version }
+{
+    push(rt, table, entry_of(key, version, Slot::Removed)?)
+}
+
 // The version and the weight under a key.
 fn weight_at(table: &Table, key: &[u8]) -> Option<(u64, Option<u64>)> {
     match Key::read(key) {
@@ -61,15 +79,40 @@ fn versions_under(alloc: Global, table: &Table, prefix: &Prefix) -> Result<Vec<u
         .collect(alloc)
 }
 
+fn assert_above(
+    rt: &impl Abort,
+    alloc: Global,
+    table: &Table,
+    version: u64,
+    wanted: &[u64],
+) -> Result<(), Fault> {
+    let versions = versions_after(alloc, table, version)?;
+    assert_eq!(rt; versions.as_slice(), wanted, "above {version}");
+    Ok(())
+}
+
+fn assert_under(
+    rt: &impl Abort,
+    alloc: Global,
+    table: &Table,
+    text: &[u8],
+    wanted: &[u64],
+) -> Result<(), Fault> {
+    let prefix = Prefix::read(text)?;
+    let versions = versions_under(alloc, table, &prefix)?;
+    assert_eq!(rt; versions.as_slice(), wanted);
+    Ok(())
+}
+
 #[test]
 fn later_writes_take_the_place_of_earlier(rt: HostRuntime) -> Result<(), Fail> {
     let alloc = rt.alloc();
     let mut table = Table::new(alloc);
     assert!(rt; table.is_empty());
     assert_eq!(rt; table.upto(), 0);
-    push(&rt, &mut table, weight_of(b"a", 1, 7)?)?;
-    push(&rt, &mut table, entry_of(b"b", 2, Slot::Removed)?)?;
-    push(&rt, &mut table, weight_of(b"a", 4, 9)?)?;
+    push_weight(&rt, &mut table, b"a", 1, 7)?;
+    push_marker(&rt, &mut table, b"b", 2)?;
+    push_weight(&rt, &mut table, b"a", 4, 9)?;
     assert_eq!(rt; table.len(), 2);
     assert_eq!(rt; table.upto(), 4);
     assert_eq!(rt; weight_at(&table, b"a"), Some((4, Some(9))));
@@ -82,8 +125,7 @@ fn later_writes_take_the_place_of_earlier(rt: HostRuntime) -> Result<(), Fail> {
         (3, &[4]),
         (4, &[]),
     ] {
-        let versions = versions_after(alloc, &table, version)?;
-        assert_eq!(rt; versions.as_slice(), above, "above {version}");
+        assert_above(&rt, alloc, &table, version, above)?;
     }
     Ok(())
 }
@@ -92,11 +134,11 @@ fn later_writes_take_the_place_of_earlier(rt: HostRuntime) -> Result<(), Fail> {
 fn a_prefix_gives_its_keys_in_order(rt: HostRuntime) -> Result<(), Fail> {
     let alloc = rt.alloc();
     let mut table = Table::new(alloc);
-    push(&rt, &mut table, weight_of(b"net/b", 1, 1)?)?;
-    push(&rt, &mut table, weight_of(b"net/a", 2, 2)?)?;
-    push(&rt, &mut table, weight_of(b"w", 3, 3)?)?;
-    push(&rt, &mut table, entry_of(b"net", 4, Slot::Removed)?)?;
-    push(&rt, &mut table, entry_of(b"net/a/1", 5, Slot::Removed)?)?;
+    push_weight(&rt, &mut table, b"net/b", 1, 1)?;
+    push_weight(&rt, &mut table, b"net/a", 2, 2)?;
+    push_weight(&rt, &mut table, b"w", 3, 3)?;
+    push_marker(&rt, &mut table, b"net", 4)?;
+    push_marker(&rt, &mut table, b"net/a/1", 5)?;
     for (text, wanted) in [
         (b"".as_slice(), [4, 2, 5, 1, 3].as_slice()),
         (b"net", &[4, 2, 5, 1]),
@@ -104,13 +146,7 @@ fn a_prefix_gives_its_keys_in_order(rt: HostRuntime) -> Result<(), Fail> {
         (b"net/b", &[1]),
         (b"x", &[]),
     ] {
-        match Prefix::read(text) {
-            Ok(prefix) => {
-                let versions = versions_under(alloc, &table, &prefix)?;
-                assert_eq!(rt; versions.as_slice(), wanted);
-            }
-            Err(fault) => return Err(fault.into()),
-        }
+        assert_under(&rt, alloc, &table, text, wanted)?;
     }
     Ok(())
 }
@@ -139,7 +175,7 @@ fn full_table(rt: &impl Abort, alloc: Global) -> Result<Table, Fault> {
     for place in 0..3 * KEYS_MOST as u64 {
         let key = format!(in alloc; "k{:04}", 4096 - place % 4096)?;
         let version = place + 1;
-        push(rt, &mut table, weight_of(key.as_bytes(), version, version)?)?;
+        push_weight(rt, &mut table, key.as_bytes(), version, version)?;
     }
     Ok(table)
 }
@@ -159,21 +195,18 @@ fn a_full_table_takes_no_new_key(rt: HostRuntime) -> Result<(), Fail> {
     let mut table = full_table(&rt, alloc)?;
     for version in [12_289, 12_290] {
         assert_eq!(rt;
-            push(&rt, &mut table, weight_of(b"new", version, 1)?),
+            push_weight(&rt, &mut table, b"new", version, 1),
             Err(Fault::TableFull)
         );
         assert_eq!(rt; (table.len(), table.upto()), (4096, 12_288));
         assert_eq!(rt; weight_at(&table, b"new"), None);
         assert_eq!(rt; weight_at(&table, b"k4096"), Some((8193, Some(8193))));
     }
-    assert_eq!(rt;
-        push(&rt, &mut table, weight_of(b"k0007", 12_290, 1)?),
-        Ok(())
-    );
+    assert_eq!(rt; push_weight(&rt, &mut table, b"k0007", 12_290, 1), Ok(()));
     assert_eq!(rt; (table.len(), table.upto()), (4096, 12_290));
     assert_eq!(rt; weight_at(&table, b"k0007"), Some((12_290, Some(1))));
     assert_eq!(rt;
-        push(&rt, &mut table, weight_of(b"new", 12_291, 1)?),
+        push_weight(&rt, &mut table, b"new", 12_291, 1),
         Err(Fault::TableFull)
     );
     Ok(())
@@ -208,8 +241,8 @@ fn a_full_table_gives_all_that_it_has(rt: HostRuntime) -> Result<(), Fail> {
 #[test]
 fn the_greatest_version_is_entered(rt: HostRuntime) -> Result<(), Fail> {
     let mut table = Table::new(rt.alloc());
-    push(&rt, &mut table, weight_of(b"a", u64::MAX - 1, 1)?)?;
-    push(&rt, &mut table, weight_of(b"a", u64::MAX, 2)?)?;
+    push_weight(&rt, &mut table, b"a", u64::MAX - 1, 1)?;
+    push_weight(&rt, &mut table, b"a", u64::MAX, 2)?;
     assert_eq!(rt; table.upto(), u64::MAX);
     assert_eq!(rt; weight_at(&table, b"a"), Some((u64::MAX, Some(2))));
     assert_eq!(rt; table.after(u64::MAX - 1).count(), 1);
@@ -225,16 +258,12 @@ fn many_keys(rt: &impl Abort, alloc: Global) -> Result<Table, Fault> {
     let mut table = Table::new(alloc);
     for place in 0..LETTERS.len() {
         let version = place as u64 + 1;
-        push(
-            rt,
-            &mut table,
-            weight_of(&[b'k', LETTERS[place]], version, 1)?,
-        )?;
+        push_weight(rt, &mut table, &[b'k', LETTERS[place]], version, 1)?;
     }
-    push(rt, &mut table, weight_of(b"j", 27, 1)?)?;
-    push(rt, &mut table, weight_of(b"l", 28, 1)?)?;
-    push(rt, &mut table, weight_of(b"kh", 29, 1)?)?;
-    push(rt, &mut table, entry_of(b"kq", 30, Slot::Removed)?)?;
+    push_weight(rt, &mut table, b"j", 27, 1)?;
+    push_weight(rt, &mut table, b"l", 28, 1)?;
+    push_weight(rt, &mut table, b"kh", 29, 1)?;
+    push_marker(rt, &mut table, b"kq", 30)?;
     Ok(table)
 }
 
@@ -254,8 +283,7 @@ fn many_keys_come_in_the_order_of_versions(rt: HostRuntime) -> Result<(), Fail> 
         ),
         (25, &[26, 27, 28, 29, 30]),
     ] {
-        let versions = versions_after(alloc, &table, version)?;
-        assert_eq!(rt; versions.as_slice(), wanted, "above {version}");
+        assert_above(&rt, alloc, &table, version, wanted)?;
     }
     Ok(())
 }
@@ -278,13 +306,7 @@ fn many_keys_come_in_the_order_of_keys(rt: HostRuntime) -> Result<(), Fail> {
         (b"j", &[27]),
         (b"m", &[]),
     ] {
-        match Prefix::read(text) {
-            Ok(prefix) => {
-                let versions = versions_under(alloc, &table, &prefix)?;
-                assert_eq!(rt; versions.as_slice(), wanted);
-            }
-            Err(fault) => return Err(fault.into()),
-        }
+        assert_under(&rt, alloc, &table, text, wanted)?;
     }
     Ok(())
 }

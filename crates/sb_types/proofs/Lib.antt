@@ -4,3 +4,4 @@ pub mod Rising
 pub mod Words
 pub mod Live
 pub mod Texts
+pub mod Standing

@@ -61,8 +61,11 @@ apart-from_Greater a b h = texts_ties a b ∙ ap is_eq h
 pub same-from_Equal : (a b : List ℕ) → slice_cmp nat_cmp a b ≡ Equal → pointwise nat_eq a b ≡ true
 same-from_Equal a b h = texts_ties a b ∙ ap is_eq h
 
-pub same-from_pointwise : (a b : List ℕ) → pointwise nat_eq a b ≡ true → a ≡ b
-same-from_pointwise a b = (pointwise_decides unsigned_Decides a b).0
+pub same_text : (a b : List ℕ) → pointwise nat_eq a b ≡ true → a ≡ b
+same_text a b = (pointwise_decides unsigned_Decides a b).0
+
+pub text_same : (a b : List ℕ) → a ≡ b → pointwise nat_eq a b ≡ true
+text_same a b = (pointwise_decides unsigned_Decides a b).1
 
 -- a text does not come before what it begins with
 pub starts-behind : (text start : List ℕ) → starts_with nat_eq text start ≡ true → is_le (slice_cmp nat_cmp start text) ≡ true

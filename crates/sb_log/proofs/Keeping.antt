@@ -1,0 +1,247 @@
+-- From what the statements of a log in a database do to what a log promises.
+use Rattle.std.proofs.Common.{◌≡◌, ◌≢◌, ◌⊎◌, inl, inr, ℕ, ◌≤◌, Bool, true, false, cond, nat_le, true≢false, List, Option, Some, None, Result, Ok, Err, IsTrue, refl, sym, ap, subst, ◌∙◌, arith}
+use Rattle.sqlite_trees.specs.declared.store.Store.{Ghosts}
+use Rattle.sqlite_trees.specs.Tree.{Trees}
+use Rattle.sqlite_trees.specs.View.{doubt}
+use Rattle.sqlite_trees.proofs.Doubt.{clean_of, no_doubt}
+use Rattle.sqlite.specs.Held.{Held, state}
+use Rattle.sqlite.specs.State.{HasCleanDisk}
+use Rattle.sqlite.specs.Effect.{Database}
+use Rattle.sb_types.specs.declared.entry.Slot.{Slot}
+use Rattle.sb_types.specs.declared.fault.Fault.{Fault}
+use Rattle.sb_types.specs.declared.fault.Fault.TheVariants.{NoMemory, TableFull, VersionsSpent, NothingThere, Closed, StoreFailed, LogDamaged}
+use Rattle.sb_types.specs.Records.{Entry, Table}
+use Rattle.sb_table.specs.Plain.{IsPlainTable, with_entry, is_full_for}
+use Rattle.sb_log.specs.Records.{Committed, Log}
+use Rattle.sb_log.specs.Puts.{is_idle, Puts, Loads, refusal, next_entry, next_content, IsReason}
+use Rattle.sb_log.specs.Rows.{AreRowsOf, Enters, content_of}
+use Rattle.sb_log.specs.Standing.{IsReady, IsKept, MayLeave}
+use Rattle.sb_log.specs.Sql.{SqlView, log_in}
+use Rattle.sb_log.proofs.Unique.{content_is}
+
+pub same_fault : {A : Type 0} {a b : Fault} → ◌≡◌ {A = Result A Fault} (Err a) (Err b) → a ≡ b
+same_fault e = cc
+
+pub never_closed : {A : Type 0} (a : A) → ◌≡◌ {A = Result A Fault} (Ok a) (Err Closed) → ⊥
+never_closed a e = absurd (cc)
+
+-- a write that is refused is refused for one of these
+pub other_reasons : (most : ℕ) (t : Table) (key : List ℕ) (slot : Slot) (fault : Fault) → refusal most t key slot ≡ Some fault → (fault ≢ Closed) × (fault ≢ StoreFailed)
+other_reasons most t key slot fault is = go (is_idle t key slot) (is_full_for key t.entries) (nat_le most t.held) is
+  where
+    go : (idle full spent : Bool) → cond idle (Some NothingThere) (cond full (Some TableFull) (cond spent (Some VersionsSpent) None)) ≡ Some fault → (fault ≢ Closed) × (fault ≢ StoreFailed)
+    go true full spent is = (λ e. cc, λ e. cc)
+    go false true spent is = (λ e. cc, λ e. cc)
+    go false false true is = (λ e. cc, λ e. cc)
+    go false false false is = absurd (cc)
+
+-- of any log that stands
+module _ (old : Log) (up : old.is_open ≡ true) (key : List ℕ) (slot : Slot) where
+  refuses_reason : (fault : Fault) → fault ≢ Closed → fault ≢ StoreFailed → IsReason (refusal old.most old.content key slot) fault → Puts old key slot (Err fault) old
+  refuses_reason fault open_fault kept_fault reason =
+      record {
+        stays = record { owner = refl; cluster = refl; most = refl; clean = λ c. c };
+        closed = (λ e. absurd (open_fault (same_fault e)), λ shut. absurd (true≢false (sym up ∙ shut)));
+        kept = tt;
+        refused = record { reason = λ _ _. reason; unchanged = λ _. refl; closes = λ e. absurd (kept_fault e) };
+      }
+
+  pub log_refuses : (fault : Fault) → ((f : Fault) → refusal old.most old.content key slot ≡ Some f → fault ≡ f) → (refusal old.most old.content key slot ≡ None → fault ≡ NoMemory) → Puts old key slot (Err fault) old
+  log_refuses fault known memory = go (refusal old.most old.content key slot) refl
+    where
+      go : (o : Option Fault) → refusal old.most old.content key slot ≡ o → Puts old key slot (Err fault) old
+      go (Some f) is =
+          let others = other_reasons old.most old.content key slot f is in
+          let same = known f is in
+          refuses_reason fault (λ e. others.0 (sym same ∙ e)) (λ e. others.1 (sym same ∙ e)) (subst (λ (o : Option Fault). IsReason o fault) (sym is) same)
+      go None is =
+          let same = memory is in
+          refuses_reason fault (λ e. let c : NoMemory ≡ Closed = sym same ∙ e in cc) (λ e. let c : NoMemory ≡ StoreFailed = sym same ∙ e in cc)
+          (subst (λ (o : Option Fault). IsReason o fault) (sym is) (inl same))
+
+module _ {S : Type 0} (g : Ghosts S) (settled : (s : S) (db : Trees) → IsTrue (g.view s).is_open → g.recovers s db → db ≡ (g.view s).committed) where
+  -- a crash leaves of a log that stands what it holds
+  left_is : (conn : Held S) (table : Table) → IsReady (state g conn) → AreRowsOf table ((state g conn).now.trees 1) → (left : Table) → MayLeave g conn left → left ≡ table
+  left_is conn table ready are left may =
+      may.2 ∙ ap (λ (trees : Trees). content_of (trees 1)) (settled conn.store may.0 ready.is_open may.1 ∙ sym (ap (λ (d : Database). d.trees) ready.settled)) ∙ content_is _ table are
+
+  pub settles : (conn : Held S) (table : Table) (is_open : Bool) → IsKept g conn table is_open → (g.view conn.store).is_clean ≡ true → is_open ≡ true
+      → (left : Table) → MayLeave g conn left → left ≡ content_of ((g.view conn.store).trees 1)
+  settles conn table is_open kept clean up left may =
+      let stands = kept up (no_doubt _ clean) in left_is conn table stands.0 stands.1 left may ∙ sym (content_is _ table stands.1)
+
+  module _ (owner cluster : List ℕ) (most : ℕ) (is_open : Bool) (up : is_open ≡ true) (conn : Held S) (table : Table) (kept : IsKept g conn table is_open) where
+    abbrev pub view_with : Bool → Held S → SqlView S
+    view_with b h = record { owner = owner; cluster = cluster; most = most; is_open = b; conn = h }
+
+    abbrev before : Log
+    before = log_in g (view_with is_open conn)
+
+    module _ (key : List ℕ) (slot : Slot) where
+      -- it is tested on what the log holds
+      tested : (g.view conn.store).is_clean ≡ true → refusal most before.content key slot ≡ refusal most table key slot
+      tested clean = ap (λ (t : Table). refusal most t key slot) (content_is _ table (kept up (no_doubt _ clean)).1)
+
+      pub refuses_known : (fault : Fault) → refusal most table key slot ≡ Some fault → Puts before key slot (Err fault) before
+      refuses_known fault is =
+          let others = other_reasons most table key slot fault is in
+          record {
+            stays = record { owner = refl; cluster = refl; most = refl; clean = λ c. c };
+            closed = (λ e. absurd (others.0 (let f : fault ≡ Closed = cc in f)), λ shut. absurd (true≢false (sym up ∙ shut)));
+            kept = tt;
+            refused = record {
+              reason = λ clean _. subst (λ (o : Option Fault). IsReason o fault) (sym (tested clean ∙ is)) refl;
+              unchanged = λ _. refl;
+              closes = λ e. absurd (others.1 e);
+            };
+          }
+
+      pub refuses_memory : refusal most table key slot ≡ None → Puts before key slot (Err NoMemory) before
+      refuses_memory is =
+          record {
+            stays = record { owner = refl; cluster = refl; most = refl; clean = λ c. c };
+            closed = (λ e. absurd (cc), λ shut. absurd (true≢false (sym up ∙ shut)));
+            kept = tt;
+            refused = record {
+              reason = λ clean _. subst (λ (o : Option Fault). IsReason o NoMemory) (sym (tested clean ∙ is)) (inl refl);
+              unchanged = λ _. refl;
+              closes = λ e. absurd (cc);
+            };
+          }
+
+      pub refuses : (fault : Fault) → ((f : Fault) → refusal most table key slot ≡ Some f → fault ≡ f) → (refusal most table key slot ≡ None → fault ≡ NoMemory) → Puts before key slot (Err fault) before
+      refuses fault known memory = go (refusal most table key slot) refl
+        where
+          go : (o : Option Fault) → refusal most table key slot ≡ o → Puts before key slot (Err fault) before
+          go (Some f) is = subst (λ (x : Fault). Puts before key slot (Err x) before) (sym (known f is)) (refuses_known f is)
+          go None is = subst (λ (x : Fault). Puts before key slot (Err x) before) (sym (memory is)) (refuses_memory is)
+
+      module _ (conn' : Held S) (clean_stays : doubt (g.view conn.store).is_clean ≤ doubt (g.view conn'.store).is_clean) where
+        was_clean : (g.view conn'.store).is_clean ≡ true → (g.view conn.store).is_clean ≡ true
+        was_clean now = let none = no_doubt _ now in clean_of _ (omega (arith, clean_stays, none))
+
+        pub fails : refusal most table key slot ≡ None → Puts before key slot (Err StoreFailed) (log_in g (view_with false conn'))
+        fails is =
+            record {
+              stays = record { owner = refl; cluster = refl; most = refl; clean = was_clean };
+              closed = (λ e. absurd (cc), λ shut. absurd (true≢false (sym up ∙ shut)));
+              kept = tt;
+              refused = record {
+                reason = λ clean _. subst (λ (o : Option Fault). IsReason o StoreFailed) (sym (tested (was_clean clean) ∙ is)) (inr refl);
+                unchanged = λ other. absurd (other refl);
+                closes = λ _. refl;
+              };
+            }
+
+        module _ (e : Entry) (entry : e ≡ next_entry table key slot) (plain : IsPlainTable (with_entry table e)) where
+          -- with the content before it
+          entered_is : (g.view conn.store).is_clean ≡ true → with_entry table e ≡ next_content before key slot
+          entered_is clean =
+              let same = sym (content_is _ table (kept up (no_doubt _ clean)).1) in
+              ap (with_entry table) entry ∙ ap (λ (t : Table). with_entry t (next_entry t key slot)) same
+
+          pub keeps : (c : Committed) → c ≡ record { owner = owner; entry = e } → refusal most table key slot ≡ None
+              → (HasCleanDisk (state g conn') → IsReady (state g conn) → Enters e ((state g conn).now.trees 1) ((state g conn').now.trees 1))
+              → Puts before key slot (Ok c) (log_in g (view_with is_open conn'))
+          keeps c is free enters =
+              record {
+                stays = record { owner = refl; cluster = refl; most = refl; clean = was_clean };
+                closed = (λ e. absurd (never_closed c e), λ shut. absurd (true≢false (sym up ∙ shut)));
+                kept = record {
+                  is_open = up;
+                  owner = ap (λ (x : Committed). x.owner) is;
+                  fits = λ clean. tested (was_clean clean) ∙ free;
+                  entry = λ clean. ap (λ (x : Committed). x.entry) is ∙ entry ∙ ap (λ (t : Table). next_entry t key slot) (sym (content_is _ table (kept up (no_doubt _ (was_clean clean))).1));
+                  content = λ clean.
+                      let stands = kept up (no_doubt _ (was_clean clean)) in
+                      content_is _ (with_entry table e) (enters (no_doubt _ clean) stands.0 table plain stands.1)
+                      ∙ sym (λ i. with_entry (content_is _ table stands.1 i) (is i).entry);
+                };
+                refused = tt;
+              }
+
+          pub now_kept : (table' : Table) → table' ≡ with_entry table e → (HasCleanDisk (state g conn') → IsReady (state g conn) → Enters e ((state g conn).now.trees 1) ((state g conn').now.trees 1))
+              → (HasCleanDisk (state g conn') → IsReady (state g conn) → IsReady (state g conn')) → IsKept g conn' table' is_open
+          now_kept table' is enters ready _ clean =
+              let stands = kept up (no_doubt _ (was_clean (clean_of _ clean))) in
+              (ready clean stands.0, subst (λ (t : Table). AreRowsOf t ((state g conn').now.trees 1)) (sym is) (enters clean stands.0 table plain stands.1))
+
+          pub survives : (HasCleanDisk (state g conn') → IsReady (state g conn) → (db : Trees) → g.recovers conn'.store db → g.recovers conn.store db ⊎ Enters e ((state g conn).now.trees 1) (db 1))
+              → (g.view conn'.store).is_clean ≡ true → (left : Table) → MayLeave g conn' left → (left ≡ before.content) ⊎ (left ≡ next_content before key slot)
+          survives crash clean left may =
+              let stands = kept up (no_doubt _ (was_clean clean)) in
+              elim (crash (no_doubt _ clean) stands.0 may.0 may.1) [
+                | inl was ↦ inl (settles conn table is_open kept (was_clean clean) up left (may.0, was, may.2))
+                | inr enters ↦ inr (may.2 ∙ content_is _ (with_entry table e) (enters table plain stands.1) ∙ entered_is (was_clean clean))
+              ]
+
+    -- ---- reading it again
+
+    module _ (conn' : Held S) (clean_stays : doubt (g.view conn.store).is_clean ≤ doubt (g.view conn'.store).is_clean) where
+      still_clean : (g.view conn'.store).is_clean ≡ true → (g.view conn.store).is_clean ≡ true
+      still_clean now = let none = no_doubt _ now in clean_of _ (omega (arith, clean_stays, none))
+
+      abbrev Read : Type 0
+      Read = HasCleanDisk (state g conn') → IsReady (state g conn) → IsReady (state g conn') × ((state g conn').now ≡ (state g conn).now)
+
+      same_content : Read → (g.view conn'.store).is_clean ≡ true → content_of ((g.view conn'.store).trees 1) ≡ before.content
+      same_content read clean = ap (λ (d : Database). content_of (d.trees 1)) (read (no_doubt _ clean) (kept up (no_doubt _ (still_clean clean))).0).1
+
+      pub still_kept : Read → IsKept g conn' table is_open
+      still_kept read _ clean =
+          let was = still_clean (clean_of _ clean) in
+          let stands = kept up (no_doubt _ was) in
+          let now = read clean stands.0 in
+          (now.0, subst (λ (d : Database). AreRowsOf table (d.trees 1)) (sym now.1) stands.1)
+
+      pub gives : (t : Table) → IsPlainTable t → Read → (HasCleanDisk (state g conn') → IsReady (state g conn) → AreRowsOf t ((state g conn).now.trees 1))
+          → Loads before (Ok t) (log_in g (view_with is_open conn'))
+      gives t plain read rows =
+          record {
+            stays = record { owner = refl; cluster = refl; most = refl; clean = still_clean };
+            closed = (λ e. absurd (never_closed t e), λ shut. absurd (true≢false (sym up ∙ shut)));
+            given = record {
+              is_open = up;
+              plain = plain;
+              same = λ clean. sym (content_is _ t (rows (no_doubt _ clean) (kept up (no_doubt _ (still_clean clean))).0));
+              content = same_content read;
+            };
+            failed = tt;
+          }
+
+      pub gives_no_memory : Read → Loads before (Err NoMemory) (log_in g (view_with is_open conn'))
+      gives_no_memory read =
+          record {
+            stays = record { owner = refl; cluster = refl; most = refl; clean = still_clean };
+            closed = (λ e. absurd (cc), λ shut. absurd (true≢false (sym up ∙ shut)));
+            given = tt;
+            failed = record {
+              reason = λ _. inl refl;
+              is_open = λ _. refl;
+              content = λ _. same_content read;
+              closes = λ e. absurd (elim e [ inl f ↦ cc | inr f ↦ cc ]);
+              unchanged = λ e. absurd (cc);
+            };
+          }
+
+      pub gives_nothing : Loads before (Err StoreFailed) (log_in g (view_with false conn'))
+      gives_nothing =
+          record {
+            stays = record { owner = refl; cluster = refl; most = refl; clean = still_clean };
+            closed = (λ e. absurd (cc), λ shut. absurd (true≢false (sym up ∙ shut)));
+            given = tt;
+            failed = record {
+              reason = λ _. inr (inl refl);
+              is_open = λ e. absurd (cc);
+              content = λ e. absurd (cc);
+              closes = λ _. refl;
+              unchanged = λ e. absurd (cc);
+            };
+          }
+
+      -- what a crash leaves now, it left before
+      pub same_left : (HasCleanDisk (state g conn') → IsReady (state g conn) → (db : Trees) → g.recovers conn'.store db → g.recovers conn.store db)
+          → (g.view conn'.store).is_clean ≡ true → (left : Table) → MayLeave g conn' left → left ≡ before.content
+      same_left crash clean left may =
+          let was = still_clean clean in
+          settles conn table is_open kept was up left (may.0, crash (no_doubt _ clean) (kept up (no_doubt _ was)).0 may.0 may.1, may.2)

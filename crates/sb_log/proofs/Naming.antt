@@ -1,0 +1,81 @@
+-- What the statement that says whose log it is does.
+use Rattle.std.proofs.Common.{◌≡◌, ℕ, ℤ, pos, Bool, cond, List, [], ◌∷◌, map, drop, Option, None, Some, Ok, refl, sym, ap, subst, ◌∙◌, IsTrue, arith}
+use Rattle.sqlite_value.specs.declared.value.Value.TheVariants.{Null, Int, Text}
+use Rattle.sqlite_value.specs.Order.{Row}
+use Rattle.sqlite_trees.specs.Tree.{Trees}
+use Rattle.sqlite_schema.specs.declared.command.Command.{Command}
+use Rattle.sqlite_schema.specs.declared.command.Command.TheVariants.{Insert}
+use Rattle.sqlite_schema.specs.declared.command.Source.TheVariants.{Values}
+use Rattle.sqlite_schema.specs.declared.schema.Schema.{Schema}
+use Rattle.sqlite_rules.specs.declared.error.Rowids.TheVariants.{Chosen}
+use Rattle.sqlite_rules.specs.Cast.{cast_row}
+use Rattle.sqlite_rules.specs.Edit.{edit_of, numbered, put_all, Applies}
+use Rattle.sqlite.specs.declared.run.Mode.{Mode}
+use Rattle.sqlite.specs.Does.{Tally, Does}
+use Rattle.sqlite.specs.Effect.{Database}
+use Rattle.sqlite.specs.Rows.{Written}
+use Rattle.sqlite.specs.Listing.{understood}
+use Rattle.sqlite.specs.State.{State, Writes, Executes, mode_of}
+use Rattle.sqlite.proofs.Callers.{statement_of, runs_as, one_step}
+use Rattle.sb_log.specs.Form.{log_schema, meta_table, meta_row_text}
+use Rattle.sb_log.specs.Opening.{meta_cells, meta_row}
+use Rattle.sb_log.specs.Standing.{IsReady}
+use Rattle.sb_log.proofs.Making.{went, same_value, commits}
+use Rattle.sb_log.proofs.Texts.{meta_terms, meta_row_is, meta_row_plain}
+use Rattle.sb_log.proofs.Upserting.{cast_null, cast_int}
+
+apart : ◌≡◌ {A = ℕ} 1 0 → ⊥
+apart e = absurd (omega (arith, e))
+
+module _ (owner cluster : List ℕ) where
+  abbrev source : Row
+  source = Int (pos 1) ∷ Null ∷ Int (pos 1) ∷ Text owner ∷ Text cluster ∷ Int (pos 0) ∷ Int (pos 0) ∷ []
+
+  cast_source : cast_row meta_table source ≡ source
+  cast_source = λ i. cast_int (pos 1) i ∷ cast_null i ∷ cast_int (pos 1) i ∷ Text owner ∷ Text cluster ∷ cast_int (pos 0) i ∷ cast_int (pos 0) i ∷ []
+
+  abbrev params : Row
+  params = Text owner ∷ Text cluster ∷ []
+
+  abbrev insert : Command
+  insert = Insert 0 (Values meta_terms 7)
+
+  module _ (limit : Option ℕ) (mode : Mode) where
+    named : (text : List ℕ) (db : Database) (tally : Tally) (after : Database) → db.schema ≡ log_schema → Does limit mode params db text None insert (Ok (tally, after))
+        → (after.schema ≡ log_schema) × (after.trees 1 ≡ db.trees 1) × (db.trees 0 ≡ [] → after.trees 0 ≡ source ∷ [])
+    named text db tally after has h =
+        let done = went (subst (λ (s : Schema). Does limit mode params (record db { schema = s }) text None insert (Ok (tally, after))) has h) in
+        let now = ap (λ (p : Tally × Database). p.1) (same_value (went (went done.2).2).2) in
+        let given = went done.1 in
+        let counted = went given.2 in
+        let edits = went counted.2 in
+        let last = went edits.2 in
+        let trees : done.0.trees ≡ edits.0 = ap (λ (it : Written). it.trees) (same_value last.2) ∙ same_value last.1 in
+        let put = one_step log_schema mode.keys db.trees edits.0 (edit_of db.trees meta_table [] Chosen 0 given.0) refl edits.1 in
+        let at : (t : ℕ) → after.trees t ≡ edits.0 t = λ t. ap (λ (d : Database). d.trees t) now ∙ ap (λ (all : Trees). all t) trees in (
+          ap (λ (d : Database). d.schema) now,
+          at 1 ∙ put.tables.1.0 apart,
+          λ empty. at 0 ∙ put.rows ∙ (λ i. put_all (empty i) (numbered Chosen (empty i) (map (λ (s : Row). cast_row meta_table (drop 0 s)) (given.1.1 i))))
+              ∙ (λ i. put_all [] (numbered Chosen [] (cast_source i ∷ []))),
+        )
+
+  module _ (old new : State) (count : ℕ) (ready : IsReady old) (h : Executes meta_row_text params old new (Ok count)) where
+    abbrev text_run : List ℕ
+    text_run = statement_of meta_row_text (understood log_schema meta_row_text)
+
+    ran : Writes old new None insert text_run params count
+    ran = runs_as meta_row_text params old new log_schema ready.schema insert meta_row_is meta_row_plain count h
+
+    did : (new.now.schema ≡ log_schema) × (new.now.trees 1 ≡ old.now.trees 1) × (old.now.trees 0 ≡ [] → new.now.trees 0 ≡ source ∷ [])
+    did = named old.step_limit (mode_of old) text_run old.now ran.tally new.now ready.schema ran.changed
+
+    pub name_ready : IsReady new
+    name_ready =
+        let done = commits old new insert text_run params count ran ready.autocommit in
+        record { is_open = done.2; autocommit = done.0; settled = done.1; schema = did.0 }
+
+    pub name_rows : new.now.trees 1 ≡ old.now.trees 1
+    name_rows = did.1
+
+    pub name_meta : old.now.trees 0 ≡ [] → map meta_cells (new.now.trees 0) ≡ meta_row owner cluster ∷ []
+    name_meta empty = ap (map meta_cells) (did.2 empty)

@@ -1,0 +1,116 @@
+-- What the query of a log's rows answers.
+use Rattle.std.specs.Prelude.{IfOk, OnOk}
+use Rattle.sb_types.specs.declared.fault.Fault.{Fault}
+use Rattle.std.proofs.Common.{◌≡◌, ◌⊎◌, inl, inr, true, Result, Ok, Err, drop, subst, List, [], ◌∷◌, map, flat_map, refl, sym, ap, subst₂, ◌∙◌}
+use Rattle.std.specs.List.Sorted.{IsPermutation}
+use Rattle.std.proofs.lemmas.List.Sorted.{IsPermutation-map, IsPermutation-sym}
+use Rattle.sqlite_value.specs.declared.value.Value.TheVariants.{Null}
+use Rattle.sqlite_value.specs.Order.{Row}
+use Rattle.sqlite_sql.specs.Query.{IsAnswer, Output, output}
+use Rattle.sqlite_sql.specs.Program.{overlay}
+use Rattle.sqlite.specs.State.{State, Shown, IsUnchanged, CommitsShowing}
+use Rattle.sqlite.specs.Effect.{Database}
+use Rattle.sqlite.specs.Listing.{understood}
+use Rattle.sqlite_schema.specs.declared.schema.Schema.{Schema}
+use Rattle.sqlite_trees.specs.Tree.{Trees}
+use Rattle.sqlite_trees.proofs.ListLemmas.{all-permutation}
+use Rattle.std.specs.List.{list_all}
+use Rattle.sb_types.specs.Records.{Table}
+use Rattle.sb_table.specs.Plain.{IsPlainTable}
+use Rattle.sb_log.specs.Standing.{IsReady, IsPrepared}
+use Rattle.sb_log.specs.Opening.{meta_cells}
+use Rattle.sqlite.proofs.Callers.{reads_as, never_commits, IsPlain as IsCallPlain}
+use Rattle.sb_log.specs.Form.{rows_text, meta_rows_text, log_schema}
+use Rattle.sb_log.specs.Rows.{cells, cells_of, is_kept, numbered_cells, AreNumbered, AreRowsOf}
+use Rattle.sb_log.proofs.Texts.{rows_query, rows_is, rows_plain, meta_query, meta_rows_is, meta_rows_plain}
+
+shown_each : (rows : List Row) → map (λ (o : Output). o.1) (map (output rows_query) (flat_map (λ (r : Row). ([] ∷ r ∷ []) ∷ []) rows)) ≡ map numbered_cells rows
+shown_each [] = refl
+shown_each (r ∷ rows) = ap (λ (l : List Row). numbered_cells r ∷ l) (shown_each rows)
+
+-- it is a row for each row of the table, in some order
+pub rows_read : (old new : State) (rows : List Row) → old.now.schema ≡ log_schema → Shown rows_text [] old new rows → IsPermutation (map numbered_cells (old.now.trees 1)) rows
+rows_read old new rows has h =
+    let read = reads_as rows_text [] old new log_schema has _ rows_is.0 rows_plain rows_is.1 rows h in
+    let a : IsAnswer rows_query (overlay old.now.trees []) [] rows = read.answer Null in
+    let shown : map (λ (o : Output). o.1) a.kept ≡ map numbered_cells (old.now.trees 1) =
+    ap (map (λ (o : Output). o.1)) (a.distinct ∙ ap (map (output rows_query)) a.grouped) ∙ shown_each (old.now.trees 1) in
+    subst₂ IsPermutation shown (sym a.shown) (IsPermutation-map (λ (o : Output). o.1) a.kept a.ordered a.same)
+
+unmapped_numbers : (rows : List Row) → AreNumbered (map numbered_cells rows) → AreNumbered rows
+unmapped_numbers [] all = tt
+unmapped_numbers (r ∷ rows) all = (all.0, unmapped_numbers rows all.1)
+
+without_numbers : (rows : List Row) → map (drop 1) (map numbered_cells rows) ≡ map cells rows
+without_numbers [] = refl
+without_numbers (r ∷ rows) = ap (λ (l : List Row). cells r ∷ l) (without_numbers rows)
+
+-- what is read as a table's rows are the table's rows
+pub are_rows : (rows shown : List Row) (t : Table) → IsPermutation (map numbered_cells rows) shown → IsPlainTable t → list_all is_kept t.entries ≡ true → AreNumbered shown
+    → map cells_of t.entries ≡ map (drop 1) shown → AreRowsOf t rows
+are_rows rows shown t same plain kept numbered is =
+    record {
+      plain = plain;
+      kept = kept;
+      same = subst₂ IsPermutation (without_numbers rows) (sym is) (IsPermutation-map (drop 1) (map numbered_cells rows) shown same);
+      numbered = unmapped_numbers rows (all-permutation _ shown (map numbered_cells rows) (IsPermutation-sym _ _ same) numbered);
+    }
+
+pub read_unchanged : (old new : State) (rows : List Row) → IsReady old → Shown rows_text [] old new rows → IsUnchanged old new
+unfolding Shown
+read_unchanged old new rows ready h =
+    let known = sym h.1.is ∙ ap (λ (s : Schema). understood s rows_text) ready.schema in
+    let bare = subst IsCallPlain (sym known) rows_plain in
+    let it = rw bare.0 at h.2 in
+    it.3
+
+pub still_ready : (old new : State) → IsReady old → IsUnchanged old new → IsReady new × (new.now ≡ old.now)
+still_ready old new ready same =
+    let shown = same.0 in (
+      record {
+        is_open = shown.is_open;
+        autocommit = shown.mode ∙ ready.autocommit;
+        settled = shown.now_is ∙ ready.settled ∙ sym shown.committed_is;
+        schema = ap (λ (d : Database). d.schema) shown.now_is ∙ ready.schema;
+      },
+      shown.now_is,
+    )
+
+pub read_ready : (old new : State) (rows : List Row) → IsReady old → Shown rows_text [] old new rows → IsReady new × (new.now ≡ old.now)
+read_ready old new rows ready h = still_ready old new ready (read_unchanged old new rows ready h)
+
+pub read_commits : {A : Type 0} (old : State) (db : Trees) → IsReady old → A ⊎ CommitsShowing rows_text [] old db → A
+read_commits old db ready (inl left) = left
+read_commits old db ready (inr commits) = absurd (never_commits rows_text [] old db (subst (λ (s : Schema). IsCallPlain (understood s rows_text)) (sym ready.schema) rows_plain) commits)
+
+pub table_is : (rows shown : List Row) (result : Result Table Fault) → IsPermutation (map numbered_cells rows) shown → IfOk result IsPlainTable → IfOk result (λ t. list_all is_kept t.entries ≡ true)
+    → OnOk result (AreNumbered shown) → IfOk result (λ t. map cells_of t.entries ≡ map (drop 1) shown) → IfOk result (λ t. AreRowsOf t rows)
+table_is rows shown (Ok t) same plain kept numbered is = are_rows rows shown t same plain kept numbered is
+table_is rows shown (Err fault) same plain kept numbered is = tt
+
+-- ---- the row of meta
+
+meta_shown : (rows : List Row) → map (λ (o : Output). o.1) (map (output meta_query) (flat_map (λ (r : Row). ([] ∷ r ∷ []) ∷ []) rows)) ≡ map meta_cells rows
+meta_shown [] = refl
+meta_shown (r ∷ rows) = ap (λ (l : List Row). meta_cells r ∷ l) (meta_shown rows)
+
+pub meta_read : (old new : State) (rows : List Row) → IsPrepared old → Shown meta_rows_text [] old new rows → IsPermutation (map meta_cells (old.now.trees 0)) rows
+meta_read old new rows ready h =
+    let read = reads_as meta_rows_text [] old new log_schema ready.schema _ meta_rows_is.0 meta_rows_plain meta_rows_is.1 rows h in
+    let a : IsAnswer meta_query (overlay old.now.trees []) [] rows = read.answer Null in
+    let shown : map (λ (o : Output). o.1) a.kept ≡ map meta_cells (old.now.trees 0) =
+    ap (map (λ (o : Output). o.1)) (a.distinct ∙ ap (map (output meta_query)) a.grouped) ∙ meta_shown (old.now.trees 0) in
+    subst₂ IsPermutation shown (sym a.shown) (IsPermutation-map (λ (o : Output). o.1) a.kept a.ordered a.same)
+
+meta_unchanged : (old new : State) (rows : List Row) → IsPrepared old → Shown meta_rows_text [] old new rows → IsUnchanged old new
+unfolding Shown
+meta_unchanged old new rows ready h =
+    let known = sym h.1.is ∙ ap (λ (s : Schema). understood s meta_rows_text) ready.schema in
+    let bare = subst IsCallPlain (sym known) meta_rows_plain in
+    let it = rw bare.0 at h.2 in
+    it.3
+
+pub meta_ready : (old new : State) (rows : List Row) → IsPrepared old → Shown meta_rows_text [] old new rows → IsReady new × (new.now ≡ old.now)
+meta_ready old new rows ready h =
+    let same = meta_unchanged old new rows ready h in
+    still_ready old new (record { is_open = same.0.was_open; autocommit = ready.autocommit; settled = ready.settled same.0.was_open; schema = ready.schema }) same

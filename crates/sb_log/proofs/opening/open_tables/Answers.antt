@@ -1,0 +1,60 @@
+use Rattle.std.proofs.Common.{◌≡◌, List, [], ◌∷◌, map, sym, ap, ◌∙◌}
+use Rattle.sqlite_value.specs.Order.{Row}
+use Rattle.sqlite_trees.specs.View.{doubt}
+use Rattle.sqlite.specs.Effect.{Database}
+use Rattle.sqlite.specs.Held.{state}
+use Rattle.sqlite.specs.State.{HasCleanDisk}
+use Rattle.sb_log.specs.Opening.{meta_cells}
+use Rattle.sb_log.proofs.Founding.{was_clean, no_item, one_item, none_mapped, one_mapped, opens_new, opens_old, then_meta, both}
+use Rattle.sb_log.proofs.opening.open_tables.Goals as goal
+
+pub returns-in-empty-clause-opens : goal.returns-in-empty-clause-opens
+returns-in-empty-clause-opens g c clean =
+    let old = state g.S.Store c.args.conn.now in
+    let mid = state g.S.Store c.make_tables.new.conn in
+    let read = state g.S.Store c.read_meta.new.conn in
+    let clean2 : HasCleanDisk read = was_clean _ _ clean c.open_new.ensures.clean in
+    let clean1 : HasCleanDisk mid = was_clean _ _ clean2 c.read_meta.ensures.clean in
+    let prepared = c.in_ok-make_tables.ensures.prepared clean1 in
+    let ready = c.in_ok-found.ensures.ready clean2 prepared in
+    let none = no_item c.in_ok-found.found.items (rw c.as_slice.ensures.value at c.in-empty.len_below) in
+    opens_new c.args.owner.now c.args.cluster.now old.now mid.now c.in_ok-found.found.items (c.in_ok-make_tables.ensures.completes clean1) (c.in_ok-found.ensures.rows clean2 prepared) read.now ready.1 c.open_new.result none
+    (c.open_new.ensures.rows clean ready.0) c.open_new.ensures.empty
+
+pub returns-in-empty-clause-meta : goal.returns-in-empty-clause-meta
+returns-in-empty-clause-meta g c clean =
+    let mid = state g.S.Store c.make_tables.new.conn in
+    let read = state g.S.Store c.read_meta.new.conn in
+    let clean2 : HasCleanDisk read = was_clean _ _ clean c.open_new.ensures.clean in
+    let clean1 : HasCleanDisk mid = was_clean _ _ clean2 c.read_meta.ensures.clean in
+    let prepared = c.in_ok-make_tables.ensures.prepared clean1 in
+    let ready = c.in_ok-found.ensures.ready clean2 prepared in
+    let none = no_item c.in_ok-found.found.items (rw c.as_slice.ensures.value at c.in-empty.len_below) in
+    let empty = none_mapped (mid.now.trees 0) c.in_ok-found.found.items (c.in_ok-found.ensures.rows clean2 prepared) none in
+    c.open_new.ensures.meta clean ready.0 (ap (λ (d : Database). d.trees 0) ready.1 ∙ empty)
+
+pub returns-in-len1-clause-opens : goal.returns-in-len1-clause-opens
+returns-in-len1-clause-opens g c clean =
+    let old = state g.S.Store c.args.conn.now in
+    let mid = state g.S.Store c.make_tables.new.conn in
+    let read = state g.S.Store c.read_meta.new.conn in
+    let clean2 : HasCleanDisk read = was_clean _ _ clean c.open_old.ensures.clean in
+    let clean1 : HasCleanDisk mid = was_clean _ _ clean2 c.read_meta.ensures.clean in
+    let prepared = c.in_ok-make_tables.ensures.prepared clean1 in
+    let ready = c.in_ok-found.ensures.ready clean2 prepared in
+    let one = sym c.as_slice.ensures.value ∙ one_item c.as_slice.result.now c.row-item.result c.in-len1.len_at_least c.in-len1.len_below c.row-item.is in
+    opens_old c.args.owner.now c.args.cluster.now old.now mid.now c.in_ok-found.found.items (c.in_ok-make_tables.ensures.completes clean1) (c.in_ok-found.ensures.rows clean2 prepared) read.now ready.1 c.open_old.result
+    c.row-item.result one c.open_old.ensures.meta (c.open_old.ensures.rows clean ready.0)
+
+pub returns-in-len1-clause-meta : goal.returns-in-len1-clause-meta
+returns-in-len1-clause-meta g c clean =
+    let mid = state g.S.Store c.make_tables.new.conn in
+    let read = state g.S.Store c.read_meta.new.conn in
+    let clean2 : HasCleanDisk read = was_clean _ _ clean c.open_old.ensures.clean in
+    let clean1 : HasCleanDisk mid = was_clean _ _ clean2 c.read_meta.ensures.clean in
+    let prepared = c.in_ok-make_tables.ensures.prepared clean1 in
+    let ready = c.in_ok-found.ensures.ready clean2 prepared in
+    let one = sym c.as_slice.ensures.value ∙ one_item c.as_slice.result.now c.row-item.result c.in-len1.len_at_least c.in-len1.len_below c.row-item.is in
+    let has = one_mapped (mid.now.trees 0) c.in_ok-found.found.items c.row-item.result (c.in_ok-found.ensures.rows clean2 prepared) one in
+    then_meta c.open_old.result (both _ _ c.open_old.result (c.open_old.ensures.same clean ready.0) c.open_old.ensures.meta)
+    (λ p. ap (λ (d : Database). map meta_cells (d.trees 0)) (p.0 ∙ ready.1) ∙ has ∙ ap (λ (r : Row). r ∷ []) p.1)

@@ -1,0 +1,16 @@
+use Rattle.std.proofs.Common.{sym, subst}
+use Rattle.sqlite.specs.Held.{state}
+use Rattle.sb_log.specs.Opening.{Opens}
+use Rattle.sb_log.proofs.Unique.{content_is}
+use Rattle.sb_log.proofs.Keeping.{settles}
+use Rattle.sb_log.proofs.sql.SqlLog.open.Goals as goal
+
+pub returns-clause-found : goal.returns-clause-found
+returns-clause-found g c clean =
+    let o = c.in_ok-table.ensures in
+    subst (Opens c.args.owner c.args.cluster (state g.S.Store c.args.conn).now) (sym (content_is _ c.in_ok-table.table (o.rows clean))) (o.opens clean)
+
+pub returns-clause-settled : goal.returns-clause-settled
+returns-clause-settled g c =
+    let o = c.in_ok-table.ensures in
+    settles g.S.Store g.met.S.Store.settled c.open_tables.new.conn c.in_ok-table.table _ (λ _ clean. (o.ready clean, o.rows clean))

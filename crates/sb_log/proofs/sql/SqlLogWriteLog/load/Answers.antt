@@ -1,0 +1,59 @@
+use Rattle.std.proofs.Common.{◌≡◌, true, true≢false, sym, ◌∙◌}
+use Rattle.sqlite.specs.Held.{state}
+use Rattle.sb_log.proofs.Keeping.{gives, gives_no_memory, gives_nothing, same_left, settles, still_kept}
+use Rattle.sb_log.proofs.sql.SqlLogWriteLog.load.Goals as goal
+
+pub returns-in-Ok-clause-loads : goal.returns-in-Ok-clause-loads
+returns-in-Ok-clause-loads g c =
+    let i = c.self.inside in
+    let r = c.read_table in
+    rw (← c.self.view_is)
+    (gives g.S.Store g.met.S.Store.settled i.owner i.cluster i.max_version i.is_open c.if-not-self.false i.conn i.table c.self.invariant.0 r.new.conn r.ensures.clean c.in-Ok.table c.in-Ok.ensures.plain
+    (λ clean ready. c.in-Ok.ensures.ready clean ready (λ e. cc)) c.in-Ok.ensures.rows)
+
+pub returns-in-Ok-clause-crash : goal.returns-in-Ok-clause-crash
+returns-in-Ok-clause-crash g c clean _ =
+    let i = c.self.inside in
+    let r = c.read_table in
+    rw (← c.self.view_is) (same_left g.S.Store g.met.S.Store.settled i.owner i.cluster i.max_version i.is_open c.if-not-self.false i.conn i.table c.self.invariant.0 r.new.conn r.ensures.clean r.ensures.crash clean)
+
+pub returns-in-Ok-clause-settled : goal.returns-in-Ok-clause-settled
+returns-in-Ok-clause-settled g c =
+    let i = c.self.inside in
+    let r = c.read_table in
+    settles g.S.Store g.met.S.Store.settled r.new.conn i.table i.is_open
+    (still_kept g.S.Store g.met.S.Store.settled i.owner i.cluster i.max_version i.is_open c.if-not-self.false i.conn i.table c.self.invariant.0 r.new.conn r.ensures.clean (λ clean ready. c.in-Ok.ensures.ready clean ready (λ e. cc)))
+
+pub returns-in-Err-NoMemory-clause-loads : goal.returns-in-Err-NoMemory-clause-loads
+returns-in-Err-NoMemory-clause-loads g c =
+    let i = c.self.inside in
+    let r = c.read_table in
+    rw (← c.self.view_is)
+    (gives_no_memory g.S.Store g.met.S.Store.settled i.owner i.cluster i.max_version i.is_open c.if-not-self.false i.conn i.table c.self.invariant.0 r.new.conn r.ensures.clean
+    (λ clean ready. c.in-Err-NoMemory.ensures.ready clean ready (λ e. cc)))
+
+pub returns-in-Err-NoMemory-clause-crash : goal.returns-in-Err-NoMemory-clause-crash
+returns-in-Err-NoMemory-clause-crash g c clean _ =
+    let i = c.self.inside in
+    let r = c.read_table in
+    rw (← c.self.view_is) (same_left g.S.Store g.met.S.Store.settled i.owner i.cluster i.max_version i.is_open c.if-not-self.false i.conn i.table c.self.invariant.0 r.new.conn r.ensures.clean r.ensures.crash clean)
+
+pub returns-in-Err-NoMemory-clause-settled : goal.returns-in-Err-NoMemory-clause-settled
+returns-in-Err-NoMemory-clause-settled g c =
+    let i = c.self.inside in
+    let r = c.read_table in
+    settles g.S.Store g.met.S.Store.settled r.new.conn i.table i.is_open
+    (still_kept g.S.Store g.met.S.Store.settled i.owner i.cluster i.max_version i.is_open c.if-not-self.false i.conn i.table c.self.invariant.0 r.new.conn r.ensures.clean (λ clean ready. c.in-Err-NoMemory.ensures.ready clean ready (λ e. cc)))
+
+pub returns-in-Err : goal.returns-in-Err
+returns-in-Err g c =
+    let i = c.self.inside in
+    let r = c.read_table in
+    let was_open : c.args.self.now.is_open ≡ true = rw (← c.self.view_is) c.if-not-self.false in
+    record {
+      loads = rw (← c.self.view_is) (gives_nothing g.S.Store g.met.S.Store.settled i.owner i.cluster i.max_version i.is_open c.if-not-self.false i.conn i.table c.self.invariant.0 r.new.conn r.ensures.clean);
+      closed = λ shut. absurd (true≢false (sym was_open ∙ shut));
+      crash = λ clean _. rw (← c.self.view_is)
+          (same_left g.S.Store g.met.S.Store.settled i.owner i.cluster i.max_version i.is_open c.if-not-self.false i.conn i.table c.self.invariant.0 r.new.conn r.ensures.clean r.ensures.crash clean);
+      settled = λ clean shut. absurd (true≢false (sym shut));
+    }

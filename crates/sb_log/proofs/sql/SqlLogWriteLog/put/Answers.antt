@@ -1,0 +1,67 @@
+use Rattle.std.proofs.Common.{◌≡◌, inl, Some, None, Ok, Err, sym, ap, subst, ◌∙◌, rules}
+use Rattle.sqlite.specs.Held.{state}
+use Rattle.sb_log.proofs.Keeping.{refuses, fails, keeps, survives, settles, now_kept, same_fault}
+use Rattle.sb_log.proofs.sql.SqlLogWriteLog.put.Goals as goal
+
+pub returns-in-Err-clause-puts : goal.returns-in-Err-clause-puts
+returns-in-Err-clause-puts g c =
+    let i = c.self.inside in
+    let a = c.accept.ensures in
+    rw (← c.self.view_is)
+    (refuses g.S.Store g.met.S.Store.settled i.owner i.cluster i.max_version i.is_open c.if-not-self.false i.conn i.table c.self.invariant.0 c.args.key.now c.args.slot.now c.in-Err.fault
+    (λ f is. same_fault (sym c.in-Err.is ∙ a.refused f is)) (λ is. c.in-Err.ensures.memory is))
+
+pub returns-in-Err-clause-crash : goal.returns-in-Err-clause-crash
+returns-in-Err-clause-crash g c clean up left may =
+    let i = c.self.inside in
+    rw (← c.self.view_is) (inl (settles g.S.Store g.met.S.Store.settled i.conn i.table i.is_open c.self.invariant.0 clean c.if-not-self.false left may))
+
+pub returns-in-Err-clause-settled : goal.returns-in-Err-clause-settled
+returns-in-Err-clause-settled g c =
+    let i = c.self.inside in
+    settles g.S.Store g.met.S.Store.settled i.conn i.table i.is_open c.self.invariant.0
+
+pub returns-in-Ok-write_entry-clause-puts : goal.returns-in-Ok-write_entry-clause-puts
+returns-in-Ok-write_entry-clause-puts g c =
+    let i = c.self.inside in
+    let a = c.in-Ok.ensures in
+    let w = c.write_entry in
+    rw (← c.self.view_is)
+    (keeps g.S.Store g.met.S.Store.settled i.owner i.cluster i.max_version i.is_open c.if-not-self.false i.conn i.table c.self.invariant.0 c.args.key.now c.args.slot.now w.new.conn w.ensures.clean c.in-Ok.entry
+    a.entry (rw (← a.entered) a.plain) c.new.result c.new.ensures a.fits c.in-Ok-write_entry.ensures.enters)
+
+pub returns-in-Ok-write_entry-clause-crash : goal.returns-in-Ok-write_entry-clause-crash
+returns-in-Ok-write_entry-clause-crash g c clean up =
+    let i = c.self.inside in
+    let a = c.in-Ok.ensures in
+    let w = c.write_entry in
+    rw (← c.self.view_is)
+    (survives g.S.Store g.met.S.Store.settled i.owner i.cluster i.max_version i.is_open c.if-not-self.false i.conn i.table c.self.invariant.0 c.args.key.now c.args.slot.now w.new.conn w.ensures.clean c.in-Ok.entry
+    a.entry (rw (← a.entered) a.plain) w.ensures.crash clean)
+
+pub returns-in-Ok-write_entry-clause-settled : goal.returns-in-Ok-write_entry-clause-settled
+returns-in-Ok-write_entry-clause-settled g c =
+    let i = c.self.inside in
+    let a = c.in-Ok.ensures in
+    let w = c.write_entry in
+    settles g.S.Store g.met.S.Store.settled w.new.conn c.accept.new.table i.is_open
+    (now_kept g.S.Store g.met.S.Store.settled i.owner i.cluster i.max_version i.is_open c.if-not-self.false i.conn i.table c.self.invariant.0 c.args.key.now c.args.slot.now w.new.conn w.ensures.clean c.in-Ok.entry
+    a.entry (rw (← a.entered) a.plain) c.accept.new.table a.entered c.in-Ok-write_entry.ensures.enters c.in-Ok-write_entry.ensures.ready)
+
+pub returns-in-Err-write_entry-clause-puts : goal.returns-in-Err-write_entry-clause-puts
+returns-in-Err-write_entry-clause-puts g c =
+    let i = c.self.inside in
+    let a = c.in-Ok.ensures in
+    let w = c.write_entry in
+    let is = c.in-Err-write_entry.ensures.fault in
+    rw (← c.self.view_is, is)
+    (fails g.S.Store g.met.S.Store.settled i.owner i.cluster i.max_version i.is_open c.if-not-self.false i.conn i.table c.self.invariant.0 c.args.key.now c.args.slot.now w.new.conn w.ensures.clean a.fits)
+
+pub returns-in-Err-write_entry-clause-crash : goal.returns-in-Err-write_entry-clause-crash
+returns-in-Err-write_entry-clause-crash g c clean up =
+    let i = c.self.inside in
+    let a = c.in-Ok.ensures in
+    let w = c.write_entry in
+    rw (← c.self.view_is)
+    (survives g.S.Store g.met.S.Store.settled i.owner i.cluster i.max_version i.is_open c.if-not-self.false i.conn i.table c.self.invariant.0 c.args.key.now c.args.slot.now w.new.conn w.ensures.clean c.in-Ok.entry
+    a.entry (rw (← a.entered) a.plain) w.ensures.crash clean)

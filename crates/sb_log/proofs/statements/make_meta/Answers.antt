@@ -1,0 +1,22 @@
+use Rattle.std.proofs.Common.{refl}
+use Rattle.sqlite.specs.Held.{state}
+use Rattle.sb_log.specs.Form.{meta_text, no_schema, meta_schema, meta_table}
+use Rattle.sb_log.proofs.Texts.{make_meta_is, make_meta_plain, schema_is}
+use Rattle.sb_log.proofs.Making.{creates, commits}
+use Rattle.sb_log.proofs.statements.make_meta.Goals as goal
+
+pub returns-in-Ok-clause-schema : goal.returns-in-Ok-clause-schema
+returns-in-Ok-clause-schema g c clean has =
+    (creates meta_text no_schema meta_schema meta_table make_meta_is make_meta_plain schema_is.0 refl (state g.S.Store c.args.conn.now) (state g.S.Store c.execute.new.self) c.in-Ok.field-0 has (c.in-Ok.ensures.runs clean)).1
+
+pub returns-in-Ok-clause-rows : goal.returns-in-Ok-clause-rows
+returns-in-Ok-clause-rows g c clean has =
+    (creates meta_text no_schema meta_schema meta_table make_meta_is make_meta_plain schema_is.0 refl (state g.S.Store c.args.conn.now) (state g.S.Store c.execute.new.self) c.in-Ok.field-0 has (c.in-Ok.ensures.runs clean)).2
+
+pub returns-in-Ok-clause-settled : goal.returns-in-Ok-clause-settled
+returns-in-Ok-clause-settled g c clean has auto =
+    let old = state g.S.Store c.args.conn.now in
+    let new = state g.S.Store c.execute.new.self in
+    let w = (creates meta_text no_schema meta_schema meta_table make_meta_is make_meta_plain schema_is.0 refl old new c.in-Ok.field-0 has (c.in-Ok.ensures.runs clean)).0 in
+    let did = commits old new _ _ _ _ w auto in
+    (did.0, did.1)

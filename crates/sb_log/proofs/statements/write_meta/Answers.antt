@@ -1,0 +1,15 @@
+use Rattle.sqlite.specs.Held.{state}
+use Rattle.sb_log.proofs.Naming.{name_ready, name_rows, name_meta}
+use Rattle.sb_log.proofs.statements.write_meta.Goals as goal
+
+pub returns-in-Ok-clause-ready : goal.returns-in-Ok-clause-ready
+returns-in-Ok-clause-ready g c clean ready =
+    name_ready c.args.owner.now c.args.cluster.now (state g.S.Store c.args.conn.now) (state g.S.Store c.execute.new.self) c.in-Ok.field-0 ready (rw (c.bytes.ensures.text, c.bytes-2.ensures.text) at (c.in-Ok.ensures.runs clean))
+
+pub returns-in-Ok-clause-rows : goal.returns-in-Ok-clause-rows
+returns-in-Ok-clause-rows g c clean ready =
+    name_rows c.args.owner.now c.args.cluster.now (state g.S.Store c.args.conn.now) (state g.S.Store c.execute.new.self) c.in-Ok.field-0 ready (rw (c.bytes.ensures.text, c.bytes-2.ensures.text) at (c.in-Ok.ensures.runs clean))
+
+pub returns-in-Ok-clause-meta : goal.returns-in-Ok-clause-meta
+returns-in-Ok-clause-meta g c clean ready =
+    name_meta c.args.owner.now c.args.cluster.now (state g.S.Store c.args.conn.now) (state g.S.Store c.execute.new.self) c.in-Ok.field-0 ready (rw (c.bytes.ensures.text, c.bytes-2.ensures.text) at (c.in-Ok.ensures.runs clean))

@@ -1,0 +1,64 @@
+-- What a log's tables may hold where it is opened.
+use Rattle.std.specs.Prelude.{◌≡◌, ◌⊎◌, ℕ, pos, min, true, List, [], ◌∷◌, map}
+use Rattle.sqlite_value.specs.declared.value.Value.TheVariants.{Int, Text}
+use Rattle.sqlite_value.specs.Order.{Row, column}
+use Rattle.sqlite_trees.specs.Tree.{Trees}
+use Rattle.sqlite.specs.Effect.{Database}
+use Rattle.sb_types.specs.declared.fault.Fault.{Fault}
+use Rattle.sb_types.specs.declared.fault.Fault.TheVariants.{NoMemory, StoreFailed, LogDamaged, WrongOwner}
+use Rattle.sb_types.specs.declared.limits.TheConstants.{VERSION_MOST}
+use Rattle.sb_types.specs.Records.{Table}
+use Rattle.sb_log.specs.Records.{Log}
+use Rattle.sb_table.specs.Plain.{plain_table}
+use Rattle.sb_log.specs.declared.schema.Made.{Made}
+use Rattle.sb_log.specs.declared.schema.Made.TheVariants.{Neither, Meta, Both}
+use Rattle.sb_log.specs.Form.{schema_with}
+use Rattle.sb_log.specs.Rows.{AreRowsOf}
+
+-- form, owner, cluster, last and floor of a row of meta
+abbrev pub meta_cells : Row → Row
+meta_cells row = column row 2 ∷ column row 3 ∷ column row 4 ∷ column row 5 ∷ column row 6 ∷ []
+
+-- of form 1, with no version that was forgotten
+abbrev pub meta_row : List ℕ → List ℕ → Row
+meta_row owner cluster = Int (pos 1) ∷ Text owner ∷ Text cluster ∷ Int (pos 0) ∷ Int (pos 0) ∷ []
+
+-- the one row that says whose log it is, or none yet
+abbrev pub IsMetaOf : List ℕ → List ℕ → List Row → Type 0
+IsMetaOf owner cluster rows = (rows ≡ []) ⊎ (map meta_cells rows ≡ meta_row owner cluster ∷ [])
+
+-- the rows of each table, and none of a table that is not there
+abbrev pub meta_found : Made → Trees → List Row
+meta_found Neither db = []
+meta_found Meta db = db 0
+meta_found Both db = db 0
+
+abbrev pub writes_found : Made → Trees → List Row
+writes_found Neither db = []
+writes_found Meta db = []
+writes_found Both db = db 1
+
+-- nothing but a log's tables was found, of this owner and cluster, with the rows of this content
+pub record Opens (owner cluster : List ℕ) (found : Database) (content : Table) : Type 0 where
+  pub made : Made
+  pub schema : found.schema ≡ schema_with made
+  pub meta : IsMetaOf owner cluster (meta_found made found.trees)
+  pub rows : AreRowsOf content (writes_found made found.trees)
+  pub empty : meta_found made found.trees ≡ [] → content ≡ plain_table []
+
+-- the tables that are missing are made, empty
+pub record Completes (found now : Database) : Type 0 where
+  pub made : Made
+  pub schema : found.schema ≡ schema_with made
+  pub meta : now.trees 0 ≡ meta_found made found.trees
+  pub rows : now.trees 1 ≡ writes_found made found.trees
+
+abbrev pub IsOpeningFault : Fault → Type 0
+IsOpeningFault fault = (fault ≡ NoMemory) ⊎ ((fault ≡ StoreFailed) ⊎ ((fault ≡ LogDamaged) ⊎ (fault ≡ WrongOwner)))
+
+-- whose log it is, and the greatest version that it gives
+pub record IsOpenedAs (owner cluster : List ℕ) (max_version : ℕ) (log : Log) : Type 0 where
+  pub owner_is : log.owner ≡ owner
+  pub cluster_is : log.cluster ≡ cluster
+  pub most : log.most ≡ min max_version VERSION_MOST
+  pub is_open : log.is_open ≡ true

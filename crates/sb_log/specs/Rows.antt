@@ -1,0 +1,82 @@
+-- What the rows of a log's tables hold.
+use Rattle.std.specs.Prelude.{◌≡◌, ℕ, pos, Bool, true, false, ◌&&◌, ◌==◌, if◌then◌else◌, nat_le, nat_lt, List, [], ◌∷◌, map, IsPermutation}
+use Rattle.std.specs.List.{list_all, AllByRecursion}
+use Rattle.sqlite_value.specs.declared.value.Value as cell
+use Rattle.sqlite_value.specs.declared.value.Value.TheVariants.{Null, Int, Text}
+use Rattle.sqlite_value.specs.Order.{Row, column, bytes}
+use Rattle.sqlite_trees.specs.Tree.{rowid}
+use Rattle.sqlite_trees.specs.View.{is_int}
+use Rattle.sb_types.specs.declared.entry.Slot.{Slot}
+use Rattle.sb_types.specs.declared.entry.Slot.TheVariants.{Set, Removed}
+use Rattle.sb_types.specs.declared.limits.TheConstants.{VERSION_MOST}
+use Rattle.sb_types.specs.Value.{Addr, Weight, Flag}
+use Rattle.sb_types.specs.Limits.{is_entry}
+use Rattle.sb_types.specs.Records.{Entry, Table}
+use Rattle.sb_table.specs.Plain.{IsPlainTable, plain_table, with_entry}
+
+abbrev pub flag_number : Bool → ℕ
+flag_number true = 1
+flag_number false = 0
+
+-- the tag, the number and the text of a slot
+abbrev pub slot_cells : Slot → Row
+slot_cells Removed = Int (pos 0) ∷ Null ∷ Null ∷ []
+slot_cells (Set (Addr text)) = Int (pos 1) ∷ Null ∷ Text text ∷ []
+slot_cells (Set (Weight weight)) = Int (pos 2) ∷ Int (pos weight) ∷ Null ∷ []
+slot_cells (Set (Flag flag)) = Int (pos 3) ∷ Int (pos (flag_number flag)) ∷ Null ∷ []
+
+-- the columns of the row that holds an entry
+abbrev pub cells_of : Entry → Row
+cells_of e = Text e.key ∷ Int (pos e.version) ∷ slot_cells e.slot
+
+-- a log holds no later version
+abbrev pub is_kept : Entry → Bool
+is_kept e = is_entry e && nat_le e.version VERSION_MOST
+
+-- the columns of a row of writes, behind its rowid
+abbrev pub cells : Row → Row
+cells row = column row 1 ∷ column row 2 ∷ column row 3 ∷ column row 4 ∷ column row 5 ∷ []
+
+-- the same columns, with the rowid
+abbrev pub numbered_cells : Row → Row
+numbered_cells row = rowid row ∷ cells row
+
+abbrev pub AreNumbered : List Row → Type 0
+AreNumbered rows = AllByRecursion (λ r. is_int (rowid r) ≡ true) rows
+
+-- the rows are those of the table's entries, one for each, in whatever order
+pub record AreRowsOf (table : Table) (rows : List Row) : Type 0 where
+  pub plain : IsPlainTable table
+  pub kept : list_all is_kept table.entries ≡ true
+  pub same : IsPermutation (map cells rows) (map cells_of table.entries)
+  pub numbered : AreNumbered rows
+
+-- where the rows were a table's, they are now that table's with the entry
+abbrev pub Enters : Entry → List Row → List Row → Type 0
+Enters e old new = (t : Table) → IsPlainTable (with_entry t e) → AreRowsOf t old → AreRowsOf (with_entry t e) new
+
+-- ---- the table that rows hold
+
+abbrev pub number_of : cell.Value → ℕ
+number_of (Int (pos n)) = n
+number_of _ = 0
+
+abbrev pub slot_by : ℕ → cell.Value → cell.Value → Slot
+slot_by tag number text =
+    if tag == 1 then Set (Addr (bytes text)) else (if tag == 2 then Set (Weight (number_of number)) else (if tag == 3 then Set (Flag (number_of number == 1)) else Removed))
+
+abbrev pub entry_by : Row → Entry
+entry_by row = record { key = bytes (column row 0); version = number_of (column row 1); slot = slot_by (number_of (column row 2)) (column row 3) (column row 4) }
+
+-- the entry laid behind those of lesser versions
+abbrev pub put_by_version : Entry → List Entry → List Entry
+put_by_version e [] = e ∷ []
+put_by_version e (x ∷ xs) = if nat_lt x.version e.version then x ∷ put_by_version e xs else e ∷ x ∷ xs
+
+abbrev pub in_order : List Entry → List Entry
+in_order [] = []
+in_order (e ∷ es) = put_by_version e (in_order es)
+
+-- their entries in the order of their versions
+abbrev pub content_of : List Row → Table
+content_of rows = plain_table (in_order (map (λ row. entry_by (cells row)) rows))

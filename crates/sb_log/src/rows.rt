@@ -1,0 +1,183 @@
+//! Entries as rows of a log's table, and back.
+ghost use Rattle.std.specs.Prelude.{◌≡◌, ◌≢◌, ◌<◌, ◌⊎◌, ◌^◌, true, [], ◌∷◌, ◌++◌, pos, map, length, IfOk, IfErr, IfSome, OnOk, Ok, None, drop, IsSome};
+ghost use Rattle.std.specs.List.{list_all};
+ghost use Rattle.sqlite_trees.specs.Tree.{rowid};
+ghost use Rattle.sqlite_trees.specs.View.{is_int};
+ghost use Rattle.sqlite_value.specs.declared.value.Value.TheVariants.{Int, Text};
+ghost use Rattle.sqlite_value.specs.Value.{owned};
+ghost use Rattle.sqlite.specs.Values.{bound};
+ghost use Rattle.sb_types.specs.Limits.{is_slot, is_entry};
+ghost use Rattle.sb_table.specs.Plain.{IsPlainTable};
+ghost use Rattle.sb_log.specs.Rows.{slot_cells, cells_of, is_kept, AreNumbered};
+
+use sb_table::Table;
+use sb_types::{Entry, Fault, Key, Slot, VERSION_MOST, Value};
+use sqlite::Row;
+use sqlite_value::value::ValueRef;
+use std::alloc::Global;
+
+/// The parameters that write an entry.
+pub(crate) fn cells_of(entry: &Entry) -> [ValueRef<'_>; 5]
+    requires { entry.now.version < 2 ^ 63 }
+    ensures { bound result ≡ cells_of entry.now }
+{
+    let (tag, number, text) = slot_cells(entry.slot());
+    [
+        ValueRef::Text(entry.key().bytes()),
+        ValueRef::Int(entry.version() as i64),
+        tag,
+        number,
+        text,
+    ]
+}
+
+fn slot_cells(slot: &Slot) -> (ValueRef<'_>, ValueRef<'_>, ValueRef<'_>)
+    ensures { bound (result.0 ∷ result.1 ∷ result.2 ∷ []) ≡ slot_cells slot.now }
+{
+    let Slot::Set(value) = slot else {
+        return (ValueRef::Int(0), ValueRef::Null, ValueRef::Null);
+    };
+    if let Some(text) = value.as_addr() {
+        return (ValueRef::Int(1), ValueRef::Null, ValueRef::Text(text));
+    }
+    if let Some(weight) = value.as_weight() {
+        return (
+            ValueRef::Int(2),
+            ValueRef::Int(weight as i64),
+            ValueRef::Null,
+        );
+    }
+    let flag = value.as_flag() == Some(true);
+    (
+        ValueRef::Int(3),
+        ValueRef::Int(i64::from(flag)),
+        ValueRef::Null,
+    )
+}
+
+/// The entry that a row of an answer holds behind its rowid, where it breaks no limit. `NoMemory`.
+#[tactic(auto, using(crate::proofs::Cells::six_cells, crate::proofs::Cells::behind_first))]
+fn entry_in(alloc: Global, row: &Row) -> Result<Option<Entry>, Fault>
+    ensures entry { IfOk result (λ found. IfSome found (λ e. (cells_of e ≡ drop 1 row.now) × (is_kept e ≡ true))) }
+    ensures numbered { IfOk result (λ found. IsSome found → is_int (rowid row.now) ≡ true) }
+    ensures fault { IfErr result (λ fault. fault ≡ Fault.NoMemory) }
+{
+    if row.column_count() != 6 {
+        return Ok(None);
+    }
+    let Ok(ValueRef::Int(_)) = row.get_ref(0) else {
+        return Ok(None);
+    };
+    let (Ok(ValueRef::Text(key)), Ok(ValueRef::Int(version)), Ok(tag), Ok(number), Ok(text)) = (
+        row.get_ref(1),
+        row.get_ref(2),
+        row.get_ref(3),
+        row.get_ref(4),
+        row.get_ref(5),
+    ) else {
+        return Ok(None);
+    };
+    entry_of(alloc, key, version, (tag, number, text))
+}
+
+/// The entry of these cells, where they break no limit. `NoMemory`.
+#[tactic(auto, using(crate::proofs::Cells::entry_cells, crate::proofs::Cells::entry_kept))]
+fn entry_of(
+    alloc: Global,
+    key: &[u8],
+    version: i64,
+    slot: (ValueRef<'_>, ValueRef<'_>, ValueRef<'_>),
+) -> Result<Option<Entry>, Fault>
+    ensures cells { IfOk result (λ found. IfSome found (λ e. cells_of e ≡ Text key.now ∷ Int version ∷ owned slot.entry.0 ∷ owned slot.entry.1 ∷ owned slot.entry.2 ∷ [])) }
+    ensures kept { IfOk result (λ found. IfSome found (λ e. is_kept e ≡ true)) }
+    ensures fault { IfErr result (λ fault. fault ≡ Fault.NoMemory) }
+{
+    let Ok(key) = Key::read(key) else {
+        return Ok(None);
+    };
+    let Ok(version) = u64::try_from(version) else {
+        return Ok(None);
+    };
+    if version < 1 {
+        return Ok(None);
+    }
+    if version > VERSION_MOST {
+        return Ok(None);
+    }
+    let (tag, number, text) = slot;
+    match slot_in(alloc, tag, number, text)? {
+        Some(slot) => Ok(Some(Entry::new(key, version, slot))),
+        None => Ok(None),
+    }
+}
+
+/// The slot of these cells, where they keep the rule of their tag. `NoMemory`.
+fn slot_in(
+    alloc: Global,
+    tag: ValueRef<'_>,
+    number: ValueRef<'_>,
+    text: ValueRef<'_>,
+) -> Result<Option<Slot>, Fault>
+    ensures slot { IfOk result (λ found. IfSome found (λ s. (slot_cells s ≡ owned tag.entry ∷ owned number.entry ∷ owned text.entry ∷ []) × (is_slot s ≡ true))) }
+    ensures fault { IfErr result (λ fault. fault ≡ Fault.NoMemory) }
+{
+    match (tag, number, text) {
+        (ValueRef::Int(0), ValueRef::Null, ValueRef::Null) => Ok(Some(Slot::Removed)),
+        (ValueRef::Int(1), ValueRef::Null, ValueRef::Text(text)) => match Value::addr(alloc, text) {
+            Ok(value) => Ok(Some(Slot::Set(value))),
+            Err(Fault::NoMemory) => Err(Fault::NoMemory),
+            Err(_) => Ok(None),
+        },
+        (ValueRef::Int(2), ValueRef::Int(weight), ValueRef::Null) if weight >= 0 =>
+            match Value::weight(weight as u64) {
+                Ok(value) => Ok(Some(Slot::Set(value))),
+                Err(_) => Ok(None),
+            },
+        (ValueRef::Int(3), ValueRef::Int(0), ValueRef::Null) => Ok(Some(Slot::Set(Value::flag(
+            false,
+        )))),
+        (ValueRef::Int(3), ValueRef::Int(1), ValueRef::Null) => Ok(Some(Slot::Set(Value::flag(
+            true,
+        )))),
+        _ => Ok(None),
+    }
+}
+
+/// The table of the entries that these rows hold, which come by version. `LogDamaged` where a row breaks a limit,
+/// two have one key or one version, or they are too many; `NoMemory`.
+pub(crate) fn table_of(alloc: Global, rows: &[Row]) -> Result<Table, Fault>
+    ensures plain { IfOk result IsPlainTable }
+    ensures rows { IfOk result (λ t. map cells_of t.entries ≡ map (drop 1) rows.now) }
+    ensures numbered { OnOk result (AreNumbered rows.now) }
+    ensures kept { IfOk result (λ t. list_all is_kept t.entries ≡ true) }
+    ensures fault { IfErr result (λ fault. (fault ≡ Fault.NoMemory) ⊎ (fault ≡ Fault.LogDamaged)) }
+{
+    let mut table = Table::new(alloc);
+    for row in rows {
+        match entry_in(alloc, row)? {
+            Some(entry) => add(&mut table, entry)?,
+            None => return Err(Fault::LogDamaged),
+        }
+    }
+    Ok(table)
+}
+
+/// Enters an entry of a new key and a later version. `LogDamaged` where it is none, or there is no room; `NoMemory`.
+#[tactic(auto, using(crate::proofs::Cells::not_found, crate::proofs::Cells::added))]
+fn add(table: &mut Table, entry: Entry) -> Result<(), Fault>
+    ensures added { OnOk result (table.new.entries ≡ table.old.entries ++ entry ∷ []) }
+    ensures plain { IsPlainTable table.new }
+    ensures fault { IfErr result (λ fault. (fault ≡ Fault.NoMemory) ⊎ (fault ≡ Fault.LogDamaged)) }
+{
+    if entry.version() <= table.upto() {
+        return Err(Fault::LogDamaged);
+    }
+    let None = table.get(entry.key()) else {
+        return Err(Fault::LogDamaged);
+    };
+    match table.push(entry) {
+        Ok(()) => Ok(()),
+        Err(Fault::NoMemory) => Err(Fault::NoMemory),
+        Err(_) => Err(Fault::LogDamaged),
+    }
+}

@@ -1,0 +1,145 @@
+//! A log that is kept in a database.
+ghost use Rattle.std.specs.Prelude.{◌≡◌, ◌≤◌, [], ◌∷◌, map, IfOk, IfErr};
+ghost use Rattle.sqlite_trees.specs.View.{doubt};
+ghost use Rattle.sqlite.specs.Held.{state};
+ghost use Rattle.sqlite.specs.State.{HasCleanDisk};
+ghost use Rattle.sb_log.specs.Opening.{meta_cells, meta_row, Opens, IsOpeningFault, IsOpenedAs};
+ghost use Rattle.sb_log.specs.Puts.{IsSettled};
+ghost use Rattle.sb_log.specs.Sql.{log_in};
+ghost use Rattle.sb_log.specs.Standing.{MayLeave};
+
+use crate::check::accept;
+use crate::committed::Committed;
+use crate::log::WriteLog;
+use crate::opening::open_tables;
+use crate::statements::{read_table, write_entry};
+use sb_table::Table;
+use sb_types::{Entry, Fault, Key, Name, Slot, VERSION_MOST};
+use sqlite::{Alter, Connection};
+use std::alloc::Global;
+use std::marker::Model;
+
+/// A log in a database: each key's last write is a row of it, and a write is one statement that commits by itself.
+/// Beside the database it keeps the same writes in memory, so that a write is tested without reading.
+#[derive(Drop)]
+pub struct SqlLog<S: Alter> {
+    owner: Name,
+    cluster: Name,
+    max_version: u64,
+    conn: Connection<S>,
+    // What the rows hold, while the log is open.
+    table: Table,
+    is_open: bool,
+    alloc: Global,
+}
+
+impl<S: Alter> Model for SqlLog<S> {
+    ghost use Rattle.std.specs.Prelude.{◌≤◌};
+    ghost use Rattle.sb_types.specs.declared.limits.TheConstants.{VERSION_MOST};
+    ghost use Rattle.sb_log.specs.Sql.{SqlView, sql_code};
+    ghost use Rattle.sb_log.specs.Standing.{IsKept};
+
+    ghost Value = { SqlView S };
+
+    ghost coded = { sql_code S.code };
+
+    ghost view = { λ l. record { owner = l.owner; cluster = l.cluster; most = l.max_version; is_open = l.is_open; conn = l.conn } };
+
+    ghost invariant = { λ l. IsKept S.Store l.conn l.table l.is_open × (l.max_version ≤ VERSION_MOST) };
+}
+
+impl<S: Alter + Drop> SqlLog<S> {
+    /// Opens a log of an owner of a cluster, and makes one where the database has no tables. It gives versions up to
+    /// `max_version`, and none above 2^40 - 1. In this order: `LogDamaged` where rows stand without the row that says whose
+    /// they are, where its form is unknown, or where there are other tables than a log's; `WrongOwner` where the log is
+    /// another owner's or of another cluster; `LogDamaged` where a row breaks a limit or two have one key or version,
+    /// where there are more than 4,096, or where versions were forgotten. `NoMemory` and `StoreFailed` wherever they
+    /// come, the latter also inside a transaction. The connection is dropped on a refusal.
+    pub fn open(
+        alloc: Global,
+        conn: Connection<S>,
+        owner: Name,
+        cluster: Name,
+        max_version: u64,
+    ) -> Result<SqlLog<S>, Fault>
+        ensures log { IfOk result (λ l. IsOpenedAs owner cluster max_version (log_in S.Store l)) }
+        ensures clean { IfOk result (λ l. doubt (state S.Store conn).is_clean ≤ doubt (state S.Store l.conn).is_clean) }
+        ensures found { IfOk result (λ l. HasCleanDisk (state S.Store l.conn) → Opens owner cluster (state S.Store conn).now (log_in S.Store l).content) }
+        ensures meta { IfOk result (λ l. HasCleanDisk (state S.Store l.conn) → map meta_cells ((state S.Store l.conn).now.trees 0) ≡ meta_row owner cluster ∷ []) }
+        ensures settled { IfOk result (λ l. IsSettled (log_in S.Store l) (MayLeave S.Store l.conn)) }
+        ensures fault { IfErr result IsOpeningFault }
+    {
+        let mut conn = conn;
+        let table = open_tables(&mut conn, alloc, &owner, &cluster)?;
+        let max_version = max_version.min(VERSION_MOST);
+        Ok(SqlLog {
+            owner,
+            cluster,
+            max_version,
+            conn,
+            table,
+            is_open: true,
+            alloc,
+        })
+    }
+}
+
+#[cfg(test)]
+impl<S: Alter + Drop> SqlLog<S> {
+    pub(crate) fn into_connection(self) -> Connection<S> {
+        self.conn
+    }
+}
+
+impl<S: Alter + Drop> WriteLog for SqlLog<S> {
+    ghost seen = { λ l. log_in S.Store l };
+
+    ghost leaves = { λ l left. MayLeave S.Store l.conn left };
+
+    fn owner(&self) -> &Name {
+        &self.owner
+    }
+
+    fn cluster(&self) -> &Name {
+        &self.cluster
+    }
+
+    fn put(&mut self, key: &Key, slot: &Slot) -> Result<Committed, Fault> {
+        if !self.is_open {
+            return Err(Fault::Closed);
+        }
+        let entry = match accept(&mut self.table, self.alloc, self.max_version, key, slot) {
+            Ok(entry) => entry,
+            Err(fault) => return Err(fault),
+        };
+        match write_entry(&mut self.conn, &entry) {
+            Ok(()) => Ok(Committed::new(self.owner, entry)),
+            Err(fault) => {
+                let_go(entry);
+                self.is_open = false;
+                Err(fault)
+            }
+        }
+    }
+
+    fn load(&mut self, alloc: Global) -> Result<Table, Fault> {
+        if !self.is_open {
+            return Err(Fault::Closed);
+        }
+        match read_table(&mut self.conn, alloc) {
+            Ok(table) => Ok(table),
+            Err(Fault::NoMemory) => Err(Fault::NoMemory),
+            Err(_) => {
+                self.is_open = false;
+                Err(Fault::StoreFailed)
+            }
+        }
+    }
+
+    fn close(self) -> Result<(), Fault> {
+        Ok(())
+    }
+}
+
+/// Drops an entry.
+fn let_go(_entry: Entry) {}

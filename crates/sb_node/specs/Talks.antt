@@ -1,0 +1,71 @@
+-- What a session makes of a node, and what it says of it.
+use Rattle.std.specs.Prelude.{◌≡◌, ℕ, true, false, List, [], ◌∷◌}
+use Rattle.sb_types.specs.declared.entry.Write.{Write}
+use Rattle.sb_types.specs.Records.{Block}
+use Rattle.sb_types.specs.Runs.{Stands}
+use Rattle.sb_digest.specs.Builders.{IsLongestFront}
+use Rattle.sb_digest.specs.Digests as digests
+use Rattle.sb_digest.specs.Pairs.{pairs_from}
+use Rattle.sb_codec.specs.declared.message.Message.{Message}
+use Rattle.sb_codec.specs.declared.message.Message.TheVariants.{Hello, Digest, Delta, Bye, Ask, Rows, Put, Done, Refused}
+use Rattle.sb_session.specs.declared.replies.Replies.{Replies}
+use Rattle.sb_session.specs.declared.replies.Replies.TheVariants.{Greeted, Answered, Exchanged, Applied, Ended}
+use Rattle.sb_session.specs.Sessions.{Session}
+use Rattle.sb_node.specs.Answers.{IsDelta, IsAnswer}
+use Rattle.sb_node.specs.Calls as calls
+use Rattle.sb_node.specs.Cores.{Core}
+use Rattle.sb_node.specs.Ends.{Treats}
+
+-- the delta, with the ends that are told of its blocks
+abbrev pub applied_with : List Block → Replies → List calls.Call
+applied_with blocks (Applied ends) = calls.Applied blocks ends ∷ []
+applied_with blocks Greeted = []
+applied_with blocks (Answered delta) = []
+applied_with blocks (Exchanged delta digest) = []
+applied_with blocks (Ended reason) = []
+
+-- what a node enters of a message that is taken
+abbrev pub taken_of : Message → Replies → List calls.Call
+taken_of (Delta blocks) replies = applied_with blocks replies
+taken_of (Hello hello) replies = []
+taken_of (Digest told) replies = []
+taken_of (Bye reason) replies = []
+taken_of (Ask asked) replies = []
+taken_of (Rows rows) replies = []
+taken_of (Put wanted) replies = []
+taken_of (Done version) replies = []
+taken_of (Refused fault) replies = []
+
+-- the answer to a digest, and the own digest from where the session stands if one is wanted
+abbrev pub IsReply : Core → Session → digests.Digest → Replies → Type 0
+IsReply core s told (Answered blocks) =
+    (told.want ≡ false) × IsDelta core.settings core.node.held told blocks × IsAnswer core.settings.budget core.node.held told blocks
+IsReply core s told (Exchanged blocks digest) =
+    (told.want ≡ true) × IsDelta core.settings core.node.held told blocks × IsAnswer core.settings.budget core.node.held told blocks
+    × IsLongestFront core.settings.budget false s.cursor (pairs_from s.cursor core.node.held) digest
+IsReply core s told Greeted = ⊥
+IsReply core s told (Applied ends) = ⊥
+IsReply core s told (Ended reason) = ⊥
+
+-- the ends that fit
+abbrev pub AreEnds : Core → List Block → Replies → Type 0
+AreEnds core blocks (Applied ends) = Treats core.node blocks ends
+AreEnds core blocks Greeted = ⊥
+AreEnds core blocks (Answered delta) = ⊥
+AreEnds core blocks (Exchanged delta digest) = ⊥
+AreEnds core blocks (Ended reason) = ⊥
+
+-- the blocks of a delta are honest; no other message tells of writes that nodes take over
+abbrev pub TrueMessage : (List ℕ → List Write) → Message → Type 0
+TrueMessage writes (Delta blocks) = calls.AreHonest writes blocks
+TrueMessage writes (Hello hello) = Unit {0}
+TrueMessage writes (Digest told) = Unit {0}
+TrueMessage writes (Bye reason) = Unit {0}
+TrueMessage writes (Ask asked) = Unit {0}
+TrueMessage writes (Rows rows) = Unit {0}
+TrueMessage writes (Put wanted) = Unit {0}
+TrueMessage writes (Done version) = Unit {0}
+TrueMessage writes (Refused fault) = Unit {0}
+
+abbrev pub AreTrueMessages : (List ℕ → List Write) → List Message → Type 0
+AreTrueMessages writes messages = (message : Message) → Stands messages message → TrueMessage writes message

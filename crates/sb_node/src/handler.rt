@@ -1,0 +1,48 @@
+//! A node at one end of a session.
+
+use crate::laws::deltas_keep_truth;
+use crate::node::NodeCore;
+use sb_digest::Digest;
+use sb_holdings::Report;
+use sb_session::Handler;
+use sb_types::{Delta, Fault, Name};
+
+impl Handler for NodeCore {
+    ghost use Rattle.std.specs.Prelude.{◌≡◌};
+    ghost use Rattle.std.proofs.Common.{refl, ◌∙◌};
+    ghost use Rattle.sb_node.specs.Steps.{Steps, IsReplay};
+    ghost use Rattle.sb_node.specs.Acts.{enters_nothing, no_replay, step_replays, replays_on};
+
+    ghost step = { Steps };
+
+    // Nothing is changed.
+    ghost stays = { λ old new. new ≡ old };
+
+    // The node is what deltas that were applied leave of it.
+    ghost grows = { IsReplay };
+
+    fn digest(&mut self, from: Option<Name>, want: bool) -> Result<Digest, Fault> {
+        NodeCore::digest(self, from, want)
+    }
+
+    fn deltas(&mut self, told: &Digest) -> Result<Delta, Fault> {
+        NodeCore::deltas(self, told)
+    }
+
+    fn apply(&mut self, delta: &Delta) -> Result<Report, Fault> {
+        deltas_keep_truth();
+        NodeCore::apply(self, delta)
+    }
+
+    ghost enters_nothing = { enters_nothing };
+
+    ghost stays_still = { λ state. refl };
+
+    ghost stays_on = { λ old mid new a b. b ∙ a };
+
+    ghost step_grows = { step_replays };
+
+    ghost grows_still = { no_replay };
+
+    ghost grows_on = { replays_on };
+}

@@ -1,0 +1,5 @@
+pub mod Handlers
+pub mod Sessions
+pub mod Taking
+pub mod Telling
+pub mod Talks

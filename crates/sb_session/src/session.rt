@@ -1,0 +1,153 @@
+ghost use Rattle.std.specs.Prelude.{◌≡◌, true, Err, OnErr, IfErr};
+ghost use Rattle.sb_session.specs.declared.session.Phase.TheVariants as phases;
+ghost use Rattle.sb_session.specs.Sessions.{new_session, hello_of, in_phase, greeting_refusal};
+ghost use Rattle.sb_session.specs.Taking.{is_session_fault, Takes, Asks, Greets, AnswersDigest};
+
+use crate::handler::Handler;
+use crate::replies::Replies;
+use sb_codec::{Hello, Message};
+use sb_digest::Digest;
+use sb_types::{Fault, KIND_ASK, KIND_DONE, KIND_PUT, KIND_REFUSED, KIND_ROWS, Name};
+use std::marker::Model;
+
+/// How far a session has come.
+#[derive(Clone, Copy, Debug)]
+pub enum Phase {
+    /// The peer's Hello has not come.
+    Waiting,
+    /// The peer's Hello has come.
+    Greeted,
+    /// It has ended.
+    Closed,
+}
+
+/// One end of a talk between two nodes: which messages it takes in which order, and what it answers.
+#[derive(Clone, Copy, Debug)]
+pub struct Session {
+    cluster: Name,
+    me: Name,
+    phase: Phase,
+    /// Where the next digest begins; with the least name where there is none.
+    cursor: Option<Name>,
+}
+
+impl Model for Session {
+    ghost use Rattle.sb_session.specs.Sessions as sessions;
+
+    ghost Value = { sessions.Session };
+
+    ghost view = { λ s. sessions.session_of s.cluster s.me s.phase s.cursor };
+
+    ghost inverse = { λ s. record { cluster = s.cluster; me = s.me; phase = s.phase; cursor = s.cursor } };
+}
+
+impl Session {
+    /// The session of a node of a cluster. Nothing has come yet.
+    pub fn new(cluster: Name, me: Name) -> Session
+        ensures { result ≡ new_session cluster me }
+    {
+        Session {
+            cluster,
+            me,
+            phase: Phase::Waiting,
+            cursor: None,
+        }
+    }
+
+    /// The Hello that is to be sent first.
+    pub fn hello(&self) -> Message
+        ensures { result ≡ hello_of self.now }
+    {
+        Message::Hello(Hello {
+            cluster: self.cluster,
+            node: self.me,
+        })
+    }
+
+    /// The next digest, which wants one in answer. It begins where the last one that was sent ended, so
+    /// that the owners that do not fit one digest come in the next. `Closed`; the handler's `TurnsSpent`
+    /// and `NoMemory`, with the session unchanged.
+    pub fn ask<H: Handler>(&mut self, handler: &mut H) -> Result<Message, Fault>
+        ensures asks { Asks H.step self.old handler.old result self.new handler.new }
+        ensures fault { IfErr result (λ fault. is_session_fault fault ≡ true) }
+        ensures stays { H.stays handler.old handler.new }
+        ensures grows { H.grows handler.old handler.new }
+    {
+        if matches!(self.phase, Phase::Closed) {
+            return Err(Fault::Closed);
+        }
+        let digest = handler.digest(self.cursor, true)?;
+        self.cursor = digest.next_from();
+        Ok(Message::Digest(digest))
+    }
+
+    /// Takes a message. `Closed`; `UnknownKind` of the kinds 10 to 14 hex, which have no place here; then
+    /// `NoHello` of what comes before the peer's Hello; `SecondHello`; `WrongCluster` and `SameName` of
+    /// the peer's Hello. After these it is closed. Then the handler's `TurnsSpent` and `NoMemory`, with
+    /// the session unchanged and nothing entered; the message is lost.
+    pub fn take<H: Handler>(&mut self, message: Message, handler: &mut H) -> Result<Replies, Fault>
+        ensures takes { Takes H.step self.old handler.old message result self.new handler.new }
+        ensures fault { IfErr result (λ fault. is_session_fault fault ≡ true) }
+        ensures stays { OnErr result (H.stays handler.old handler.new) }
+        ensures grows { H.grows handler.old handler.new }
+    {
+        match (self.phase, message) {
+            (Phase::Closed, _) => Err(Fault::Closed),
+            (_, Message::Ask(_)) => self.refuse(Fault::UnknownKind(KIND_ASK)),
+            (_, Message::Rows(_)) => self.refuse(Fault::UnknownKind(KIND_ROWS)),
+            (_, Message::Put(_)) => self.refuse(Fault::UnknownKind(KIND_PUT)),
+            (_, Message::Done(_)) => self.refuse(Fault::UnknownKind(KIND_DONE)),
+            (_, Message::Refused(_)) => self.refuse(Fault::UnknownKind(KIND_REFUSED)),
+            (Phase::Waiting, Message::Hello(hello)) => self.greet(&hello),
+            (Phase::Waiting, _) => self.refuse(Fault::NoHello),
+            (Phase::Greeted, Message::Hello(_)) => self.refuse(Fault::SecondHello),
+            (Phase::Greeted, Message::Digest(told)) => self.answer(&told, handler),
+            (Phase::Greeted, Message::Delta(delta)) => Ok(Replies::Applied(handler.apply(&delta)?)),
+            (Phase::Greeted, Message::Bye(bye)) => {
+                self.phase = Phase::Closed;
+                Ok(Replies::Ended(bye))
+            }
+        }
+    }
+
+    /// Ends the session with a fault.
+    fn refuse(&mut self, fault: Fault) -> Result<Replies, Fault>
+        ensures result { result ≡ Err fault }
+        ensures closed { self.new ≡ in_phase phases.Closed self.old }
+    {
+        self.phase = Phase::Closed;
+        Err(fault)
+    }
+
+    /// Takes the first Hello.
+    fn greet(&mut self, hello: &Hello) -> Result<Replies, Fault>
+        ensures greets { Greets (greeting_refusal self.old hello.now) self.old result self.new }
+        ensures fault { IfErr result (λ fault. is_session_fault fault ≡ true) }
+    {
+        if hello.cluster != self.cluster {
+            return self.refuse(Fault::WrongCluster);
+        }
+        if hello.node == self.me {
+            return self.refuse(Fault::SameName);
+        }
+        self.phase = Phase::Greeted;
+        Ok(Replies::Greeted)
+    }
+
+    /// The delta for a digest and, where it wants one, the own next digest. Both are made before either
+    /// is sent.
+    fn answer<H: Handler>(&mut self, told: &Digest, handler: &mut H) -> Result<Replies, Fault>
+        ensures answers { AnswersDigest H.step self.old handler.old told.now told.now.want result self.new handler.new }
+        ensures fault { IfErr result (λ fault. is_session_fault fault ≡ true) }
+        ensures stays { H.stays handler.old handler.new }
+        ensures grows { H.grows handler.old handler.new }
+    {
+        let delta = handler.deltas(told)?;
+        if !told.want() {
+            return Ok(Replies::Answered(delta));
+        }
+        let digest = handler.digest(self.cursor, false)?;
+        self.cursor = digest.next_from();
+        Ok(Replies::Exchanged(delta, digest))
+    }
+}

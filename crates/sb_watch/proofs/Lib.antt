@@ -1,0 +1,5 @@
+pub mod Places
+pub mod Ids
+pub mod Owing
+pub mod KeptNotes
+pub mod Alone

@@ -1,0 +1,5 @@
+pub mod Records
+pub mod Watches
+pub mod Hubs
+pub mod Owed
+pub mod Calls

@@ -1,0 +1,66 @@
+//! What follows from the definitions alone. The functions do nothing: each clause is a law.
+
+ghost use Rattle.std.specs.Prelude.{◌≡◌, ◌≢◌, ℕ, ◌<◌, ◌^◌, Bool, true, false, List, length, Some, None, Ok};
+ghost use Rattle.std.specs.Option.{option_map};
+ghost use Rattle.sb_watch.specs.declared.note.Filter.{Filter};
+ghost use Rattle.sb_watch.specs.declared.note.Note.{Note};
+ghost use Rattle.sb_watch.specs.declared.note.Polled.TheVariants as answers;
+ghost use Rattle.sb_watch.specs.Records.{Hub};
+ghost use Rattle.sb_watch.specs.Watches.{new_watch, told, answered};
+ghost use Rattle.sb_watch.specs.Hubs.{AllNotes, IsHub, new_hub, has_watch, watch_at, answer_at};
+ghost use Rattle.sb_watch.specs.Hubs.{with_watch, with_push, with_answer, without_watch};
+ghost use Rattle.sb_watch.specs.Calls.{Call, hub_after};
+ghost use Rattle.sb_watch.specs.Owed.{Deed, came, answers_after, watch_after, Account, Keeps};
+
+use crate::limits::{RING_MOST, WATCHES_MOST};
+
+/// Each limit of watches, as a number.
+pub fn limits_are_these_numbers()
+    ensures watches_most { WATCHES_MOST ≡ 64 }
+    ensures ring_most { RING_MOST ≡ 1024 }
+{}
+
+/// Whatever notes come to a watch, and however often it is asked in between: its answers account for the notes
+/// that it is for, each in its turn handed out or among those that are told as lost, up to those that it still
+/// owes; of these it keeps the last, as many as there is room for, and counts the others. So no note is handed out
+/// twice, or out of turn, or lost in silence. Said of fewer than 2^64 notes.
+pub fn answers_account_for_notes()
+    ensures { (id capacity : ℕ) (filter : Filter) (deeds : List Deed) → length (came filter deeds) < 2 ^ 64 →
+        let watch = new_watch id filter capacity in
+        (owed : List Note) × Account (answers_after deeds watch) (came filter deeds) owed × Keeps (watch_after deeds watch) owed }
+{}
+
+/// A test that every note passes that is pushed is passed by every one that is kept, whatever is called, and by every
+/// one that is handed out; and so is one that passes wherever this one does.
+pub fn notes_keep_what_holds()
+    ensures none { (test : Note → Bool) → AllNotes test new_hub }
+    ensures pushed { (test : Note → Bool) (hub : Hub) (note : Note) →
+        AllNotes test hub → test note ≡ true → AllNotes test (with_push hub note) }
+    ensures taken { (test : Note → Bool) (hub : Hub) (id : ℕ) → AllNotes test hub → AllNotes test (with_answer hub id) }
+    ensures added { (test : Note → Bool) (hub : Hub) (filter : Filter) (capacity : ℕ) →
+        AllNotes test hub → AllNotes test (with_watch hub filter capacity) }
+    ensures dropped { (test : Note → Bool) (hub : Hub) (id : ℕ) → AllNotes test hub → AllNotes test (without_watch hub id) }
+    ensures given { (test : Note → Bool) (hub : Hub) (id : ℕ) (note : Note) →
+        AllNotes test hub → answer_at hub id ≡ Ok (answers.Note note) → test note ≡ true }
+    ensures weaker { (test other : Note → Bool) (hub : Hub) →
+        ((note : Note) → test note ≡ true → other note ≡ true) → AllNotes test hub → AllNotes other hub }
+{}
+
+/// A call changes the watches that it is about, and leaves the others as they were.
+pub fn watches_stand_alone()
+    ensures pushed { (hub : Hub) (note : Note) (id : ℕ) → watch_at (with_push hub note) id ≡ option_map (told note) (watch_at hub id) }
+    ensures taken { (hub : Hub) (id : ℕ) → watch_at (with_answer hub id) id ≡ option_map answered (watch_at hub id) }
+    ensures unasked { (hub : Hub) (id other : ℕ) → other ≢ id → watch_at (with_answer hub id) other ≡ watch_at hub other }
+    ensures added { (hub : Hub) (filter : Filter) (capacity : ℕ) →
+        IsHub hub → watch_at (with_watch hub filter capacity) hub.next ≡ Some (new_watch hub.next filter capacity) }
+    ensures beside { (hub : Hub) (filter : Filter) (capacity other : ℕ) →
+        other ≢ hub.next → watch_at (with_watch hub filter capacity) other ≡ watch_at hub other }
+    ensures dropped { (hub : Hub) (id : ℕ) → watch_at (without_watch hub id) id ≡ None }
+    ensures left { (hub : Hub) (id other : ℕ) → other ≢ id → watch_at (without_watch hub id) other ≡ watch_at hub other }
+{}
+
+/// An id that was given, and whose watch was dropped, is never again that of a watch, whatever is called.
+pub fn ids_are_not_used_again()
+    ensures { (calls : List Call) (hub : Hub) (id : ℕ) → id < hub.next →
+        has_watch hub id ≡ false → has_watch (hub_after calls hub) id ≡ false }
+{}

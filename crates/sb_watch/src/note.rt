@@ -1,0 +1,79 @@
+//! What watches are told, what they are for, and what they answer.
+
+ghost use Rattle.std.specs.Prelude.{◌≡◌};
+ghost use Rattle.sb_watch.specs.Watches as spec;
+
+use sb_types::{Key, Name, Prefix};
+use std::marker::Model;
+
+/// What a watch is told of a write: whose it is, under which key, and its version. The value is read
+/// where values are read.
+#[derive(Clone, Copy, Debug, PartialEq, Eq)]
+pub struct Note {
+    pub owner: Name,
+    pub key: Key,
+    pub version: u64,
+}
+
+/// Which notes a watch is for: those of this owner, or of all where none is named, whose keys begin with
+/// the prefix.
+#[derive(Clone, Copy, Debug)]
+pub struct Filter {
+    pub owner: Option<Name>,
+    pub prefix: Prefix,
+}
+
+impl Filter {
+    /// Whether a watch with this filter is for the note.
+    pub(crate) fn matches(&self, note: &Note) -> bool
+        ensures { result ≡ spec.matches self.now note.now }
+    {
+        if let Some(owner) = &self.owner {
+            if owner != &note.owner {
+                return false;
+            }
+        }
+        note.key.bytes().starts_with(self.prefix.bytes())
+    }
+}
+
+/// What a watch answers.
+#[derive(Clone, Copy, Debug, PartialEq, Eq)]
+pub enum Polled {
+    /// How many notes were pushed out since this was last told, or 2^64 - 1 for more.
+    Lagged(u64),
+    /// The oldest note that was neither handed out nor pushed out.
+    Note(Note),
+    /// No note is left.
+    Empty,
+}
+
+/// Which watch it is. A hub gives each id once.
+#[derive(Clone, Copy, Debug, PartialEq, Eq)]
+pub struct WatchId {
+    number: u64,
+}
+
+impl Model for WatchId {
+    ghost use Rattle.std.specs.Prelude.{ℕ};
+
+    ghost Value = { ℕ };
+
+    ghost view = { λ id. id.number };
+
+    ghost inverse = { λ number. record { number = number } };
+}
+
+impl WatchId {
+    pub(crate) fn new(number: u64) -> WatchId
+        ensures { result ≡ number }
+    {
+        WatchId { number }
+    }
+
+    pub(crate) fn number(self) -> u64
+        ensures { result ≡ self }
+    {
+        self.number
+    }
+}

@@ -1,0 +1,82 @@
+//! One watch: its filter, and its ring of notes.
+
+ghost use Rattle.std.specs.Prelude.{◌≡◌, IfOk, IfErr};
+ghost use Rattle.sb_watch.specs.Watches as spec;
+
+use crate::note::{Filter, Note, Polled};
+use circular_buffer::HeapCircularBuffer;
+use sb_types::Fault;
+use std::alloc::Global;
+use std::marker::Model;
+
+/// A watch, whose ring has all its room from the start.
+#[derive(Debug, Drop)]
+pub(crate) struct Watch {
+    id: u64,
+    filter: Filter,
+    ring: HeapCircularBuffer<Note>,
+    lost: u64,
+}
+
+impl Model for Watch {
+    ghost use Rattle.sb_watch.specs.Records as records;
+
+    ghost Value = { records.Watch };
+
+    ghost view = { λ w. record { id = w.id; filter = w.filter; capacity = w.ring.capacity; notes = w.ring.items; lost = w.lost } };
+}
+
+impl Watch {
+    /// A watch to which no note has come. `NoMemory`.
+    pub(crate) fn new(
+        alloc: Global,
+        id: u64,
+        filter: Filter,
+        capacity: usize,
+    ) -> Result<Watch, Fault>
+        ensures found { IfOk result (λ watch. watch ≡ spec.new_watch id filter capacity) }
+        ensures fault { IfErr result (λ fault. fault ≡ Fault.NoMemory) }
+    {
+        let ring = HeapCircularBuffer::with_capacity(alloc, capacity)?;
+        Ok(Watch {
+            id,
+            filter,
+            ring,
+            lost: 0,
+        })
+    }
+
+    pub(crate) fn id(&self) -> u64
+        ensures { result ≡ self.now.id }
+    {
+        self.id
+    }
+
+    /// Takes a note that the filter matches; where the ring is full the oldest one is lost.
+    pub(crate) fn tell(&mut self, note: &Note)
+        ensures { self.new ≡ spec.told note.now self.old }
+    {
+        if !self.filter.matches(note) {
+            return;
+        }
+        if self.ring.push_back(*note).is_some() {
+            self.lost = self.lost.saturating_add(1);
+        }
+    }
+
+    /// How many notes were lost, where that was not told yet, and else the oldest one.
+    pub(crate) fn take(&mut self) -> Polled
+        ensures answer { result ≡ spec.answer_of self.old }
+        ensures left { self.new ≡ spec.answered self.old }
+    {
+        if self.lost > 0 {
+            let lost = self.lost;
+            self.lost = 0;
+            return Polled::Lagged(lost);
+        }
+        match self.ring.pop_front() {
+            Some(note) => Polled::Note(note),
+            None => Polled::Empty,
+        }
+    }
+}

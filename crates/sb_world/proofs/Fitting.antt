@@ -1,0 +1,102 @@
+-- A world that has just been made fits each list of writes that its logs' contents come of, and there is one.
+use Rattle.std.proofs.Common.{◌≡◌, ℕ, Bool, true, false, cond, nat_eq, List, [], ◌∷◌, ◌++◌, ◌<◌, length, drop, map, arith, ◌⊎◌, inl, inr, ⊎_elim, Option, Some, None, IfSome, refl, sym, ap, subst, ◌∙◌}
+use Rattle.std.specs.Prelude.{unwrap_or}
+use Rattle.std.specs.Cmp.Lexicographic.{pointwise}
+use Rattle.sb_types.specs.declared.entry.Write.{Write}
+use Rattle.std.proofs.Math.ListN.{get_or}
+use Rattle.sb_types.specs.Records.{Settings}
+use Rattle.sb_types.specs.Runs.{Stands}
+use Rattle.sb_table.specs.Plain.{IsPlainTable}
+use Rattle.sb_holdings.specs.Contents.{content_table}
+use Rattle.sb_holdings.specs.Nodes.{opened_node}
+use Rattle.sb_holdings.proofs.Filling.{some_writes}
+use Rattle.sb_world.specs.Places.{Place, Seen, place_at, IsClean}
+use Rattle.sb_world.specs.States.{start_of, AreContents, IsFresh, FitsWorld}
+use Rattle.sb_world.specs.Making.{IsNew, IsMade}
+use Rattle.sb_world.proofs.Names.{found_me}
+use Rattle.sb_world.proofs.Keeping.{joined}
+use Rattle.sb_world.proofs.Stepping.{some_map}
+
+-- a node that is found stands among the nodes
+found_stands : (ps : List Place) (name : List ℕ) (p : Place) → place_at ps name ≡ Some p → Stands ps p
+found_stands [] name p found = absurd (cc)
+found_stands (x ∷ ps) name p found = go (pointwise nat_eq x.me name) found (found_stands ps name p)
+  where
+    go : (b : Bool) → cond b (Some x) (place_at ps name) ≡ Some p → (place_at ps name ≡ Some p → Stands ps p) → (x ≡ p) ⊎ Stands ps p
+    go true found rest = inl (ap (λ o. unwrap_or o x) found)
+    go false found rest = inr (rest found)
+
+-- what holds of each node that stands there holds of each that is found
+pub each_found : (P : Place → Type 0) (ps : List Place) → ((p : Place) → Stands ps p → P p) → (name : List ℕ) → IfSome (place_at ps name) P
+each_found P ps each name = go (place_at ps name) refl
+  where
+    go : (o : Option Place) → place_at ps name ≡ o → IfSome o P
+    go None is = tt
+    go (Some p) is = each p (found_stands ps name p is)
+
+module _ (world : Seen) (made : IsMade world) (clean : IsClean world.places) where
+  new_clean : (name : List ℕ) (p : Place) → place_at world.places name ≡ Some p → p.log.is_clean ≡ true
+  new_clean name p is = subst (λ (o : Option Place). IfSome o (λ r. r.log.is_clean ≡ true)) is (clean name)
+
+  -- the writes of each name that make its log's content
+  chosen : (o : Option Place) → IfSome o (λ p. IsPlainTable p.log.content) → List Write
+  chosen None plain = []
+  chosen (Some p) plain = (some_writes p.log.content plain).0
+
+  chosen_are : (o : Option Place) (plain : IfSome o (λ p. IsPlainTable p.log.content)) → IfSome o (λ p. p.log.content ≡ content_table 0 (chosen o plain))
+  unfolding chosen
+  chosen_are None plain = tt
+  chosen_are (Some p) plain = sym (some_writes p.log.content plain).1
+
+  plain_at : (name : List ℕ) → IfSome (place_at world.places name) (λ p. IsPlainTable p.log.content)
+  plain_at name = some_map _ _ (place_at world.places name) (λ p is new. new.plain (new_clean name p is)) (made.places name)
+
+  pub some_contents : (writes : List ℕ → List Write) × AreContents writes world.places
+  some_contents =
+      let writes : List ℕ → List Write = λ name. chosen (place_at world.places name) (plain_at name) in
+      (writes, λ name. some_map _ _ (place_at world.places name) (λ p is content. content ∙ ap (λ n. content_table 0 (writes n)) (sym (found_me world.places name p is))) (chosen_are (place_at world.places name) (plain_at name)))
+
+  pub made_fits : (writes : List ℕ → List Write) → AreContents writes world.places → FitsWorld (start_of writes world) world
+  made_fits writes contents = record {
+    reached = record {
+      start = start_of writes world;
+      is_start = record {
+        places = λ name. some_map _ _ (place_at world.places name) (λ p is new. fresh name p is new (subst (λ (o : Option Place). IfSome o (λ r. r.log.content ≡ content_table 0 (writes r.me))) is (contents name))) (made.places name);
+        sent = made.sent;
+      };
+      events = [];
+      answers = [];
+      states = [];
+      run = tt;
+      last = refl;
+    };
+    now = refl;
+  }
+    where
+      fresh : (name : List ℕ) (p : Place) → place_at world.places name ≡ Some p → IsNew world.settings p → p.log.content ≡ content_table 0 (writes p.me) → IsFresh (start_of writes world) p
+      fresh name p is new content =
+          let node : p.core.node ≡ opened_node p.me p.log.content = new.node (new_clean name p is) in
+          record {
+            owner = new.owner;
+            content = content;
+            plain = new.plain (new_clean name p is);
+            settings = new.settings;
+            node = node;
+            waiting = new.waiting;
+            up = new.up;
+            past = λ i. record { opening = sym (node ∙ ap (opened_node p.me) content) i; since = []; openings = 0 };
+          }
+
+pub made_is : (settings : Settings) (ps : List Place) (sent : List (List ℕ)) → ((p : Place) → Stands ps p → IsNew settings p) → sent ≡ [] → IsMade (record { settings = settings; places = ps; sent = sent })
+made_is settings ps sent each none = record { places = each_found (IsNew settings) ps each; sent = none }
+
+pub names_more : (ps : List Place) (p : Place) (names : List (List ℕ)) → map (λ (q : Place). q.me) (ps ++ p ∷ []) ++ names ≡ map (λ (q : Place). q.me) ps ++ p.me ∷ names
+names_more [] p names = refl
+names_more (q ∷ ps) p names = ap (λ xs. q.me ∷ xs) (names_more ps p names)
+
+pub new_more : (settings : Settings) (ps : List Place) (p : Place) → ((q : Place) → Stands ps q → IsNew settings q) → IsNew settings p → (q : Place) → Stands (ps ++ p ∷ []) q → IsNew settings q
+new_more settings ps p each new = joined (IsNew settings) ps (p ∷ []) each (λ q stands. ⊎_elim (λ same. subst (IsNew settings) same new) (λ s. absurd s) stands)
+
+pub first_is : {X : Type 0} (xs : List X) (x : X) → 0 < length xs → x ≡ get_or xs 0 x → xs ≡ x ∷ drop 1 xs
+first_is [] x some is = absurd (omega (arith, some))
+first_is (y ∷ ys) x some is = ap (λ z. z ∷ ys) (sym is)

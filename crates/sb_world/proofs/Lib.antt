@@ -1,0 +1,14 @@
+pub mod Names
+pub mod Going
+pub mod Keeping
+pub mod Acting
+pub mod Stepping
+pub mod Running
+pub mod Later
+pub mod Claiming
+pub mod Choosing
+pub mod Asking
+pub mod Looking
+pub mod Reaching
+pub mod Fitting
+pub mod Lines

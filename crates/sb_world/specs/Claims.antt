@@ -1,0 +1,95 @@
+-- What a run of the machine keeps, claim by claim.
+use Rattle.std.specs.Prelude.{◌≡◌, ℕ, ◌≤◌, true, List, [], ◌∷◌, length, Some, IfSome, Result, Ok}
+use Rattle.sb_types.specs.declared.entry.Slot.TheVariants.{Set}
+use Rattle.sb_types.specs.declared.entry.Write.{Write}
+use Rattle.sb_types.specs.declared.fault.Fault.{Fault}
+use Rattle.sb_types.specs.Limits.{is_delta}
+use Rattle.sb_types.specs.Value.{Value}
+use Rattle.sb_types.specs.Records.{Entry, Block}
+use Rattle.sb_types.specs.Runs.{Stands, shown_slot, shown_at}
+use Rattle.sb_types.specs.Writes.{Written, Superseded}
+use Rattle.sb_holdings.specs.declared.ends.BlockEnd.{BlockEnd}
+use Rattle.sb_holdings.specs.Held.{shown_of}
+use Rattle.sb_holdings.specs.Ends.{JoinsOn}
+use Rattle.sb_holdings.specs.Nodes.{Node, node_after_block, NodeLater}
+use Rattle.sb_holdings.specs.TakenUp.{IsTakenUp}
+use Rattle.sb_codec.specs.declared.message.Message.TheVariants as messages
+use Rattle.sb_frames.specs.Frames.{frame}
+use Rattle.sb_world.specs.declared.event.Event.{Event}
+use Rattle.sb_world.specs.declared.event.Event.TheVariants.{Deliver, Read}
+use Rattle.sb_world.specs.declared.event.Answer.{Answer}
+use Rattle.sb_world.specs.declared.event.Answer.TheVariants as answers
+use Rattle.sb_world.specs.Places.{Place, Seen, place_at, frame_at, IsClean}
+use Rattle.sb_world.specs.States.{State, Run, FitsWorld, last_of}
+
+-- ---- of each state, and of each step
+
+abbrev pub EachState : (State → Type 0) → State → List State → Type 0
+EachState P first [] = P first
+EachState P first (state ∷ states) = P first × EachState P state states
+
+abbrev pub EachStep : (State → Event → Result Answer Fault → State → Type 0) → State → List Event → List (Result Answer Fault) → List State → Type 0
+EachStep P old (event ∷ events) (answer ∷ answers) (state ∷ states) = P old event answer state × EachStep P state events answers states
+EachStep P old [] answers states = Unit {0}
+EachStep P old (event ∷ events) [] states = Unit {0}
+EachStep P old (event ∷ events) (answer ∷ answers) [] = Unit {0}
+
+-- ---- what is given was written under that version
+
+abbrev pub GivenIsWritten : State → Event → Result Answer Fault → State → Type 0
+GivenIsWritten old event answer new =
+    (me owner key : List ℕ) (value : Value) (version : ℕ) → event ≡ Read me owner key → answer ≡ Ok (answers.Shown (Some (value, version))) →
+    Written (new.writes owner) (record { key = key; version = version; slot = Set value })
+
+-- ---- a reader that holds an owner up to a version gets of each key that was last written at or below it exactly that write
+
+abbrev pub IsExactAt : (List ℕ → List Write) → Place → Type 0
+IsExactAt writes p =
+    (owner : List ℕ) (e : Entry) → Written (writes owner) e → (Superseded (writes owner) e → ⊥) → e.version ≤ (shown_of p.core.node.held owner).held →
+    shown_at e.key (shown_of p.core.node.held owner).entries ≡ shown_slot e.version e.slot
+
+abbrev pub IsExact : State → Type 0
+IsExact s = (name : List ℕ) → IfSome (place_at s.now.places name) (IsExactAt s.writes)
+
+-- ---- whatever joins on is taken up
+
+-- each block in its turn, at the node that the blocks before it left
+abbrev pub AreTakenUp : Node → List Block → List BlockEnd → Node → Type 0
+AreTakenUp node [] [] new = new ≡ node
+AreTakenUp node [] (end ∷ ends) new = ⊥
+AreTakenUp node (b ∷ bs) [] new = ⊥
+AreTakenUp node (b ∷ bs) (end ∷ ends) new =
+    (JoinsOn node.held b → IsTakenUp node b end (node_after_block node b end)) × AreTakenUp (node_after_block node b end) bs ends new
+
+abbrev pub JoinedIsTaken : State → Event → Result Answer Fault → State → Type 0
+JoinedIsTaken old event answer new =
+    (me : List ℕ) (number : ℕ) (blocks : List Block) (ends : List BlockEnd) → event ≡ Deliver me number → answer ≡ Ok (answers.Delivered ends) →
+    is_delta blocks ≡ true → frame_at old.now.sent number ≡ Some (frame (messages.Delta blocks)) →
+    IfSome (place_at old.now.places me) (λ p. IfSome (place_at new.now.places me) (λ q. AreTakenUp p.core.node blocks ends q.core.node))
+
+-- ---- within a node's run no version falls
+
+-- a node's run lies between two openings of it
+abbrev pub FallsNowhere : State → State → Type 0
+FallsNowhere old new =
+    (name : List ℕ) → IfSome (place_at old.now.places name) (λ p. IfSome (place_at new.now.places name) (λ q.
+    (old.past name).openings ≡ (new.past name).openings → NodeLater p.core.node q.core.node))
+
+-- of each state and each later one
+abbrev pub NothingFallsIn : List State → Type 0
+NothingFallsIn [] = Unit {0}
+NothingFallsIn (state ∷ states) = ((later : State) → Stands states later → FallsNowhere state later) × NothingFallsIn states
+
+abbrev pub NothingFalls : State → List State → Type 0
+NothingFalls first states = ((later : State) → Stands states later → FallsNowhere first later) × NothingFallsIn states
+
+-- ---- no frame exceeds its budget
+
+abbrev pub IsWithinBudget : State → Type 0
+IsWithinBudget s = (bytes : List ℕ) → Stands s.now.sent bytes → length bytes ≤ s.now.settings.budget
+
+-- ---- a claim on every run from a state that fits the world, as long as each store keeps its promise
+
+abbrev pub OnEachRun : Seen → List Event → List (Result Answer Fault) → (State → List State → Type 0) → Type 0
+OnEachRun world events answers claim =
+    (old : State) (states : List State) → FitsWorld old world → Run old events answers states → IsClean (last_of old states).now.places → claim old states

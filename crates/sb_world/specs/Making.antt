@@ -1,0 +1,56 @@
+-- A world that has just been made.
+use Rattle.std.specs.Prelude.{◌≡◌, ◌⊎◌, ℕ, Bool, true, false, ◌||◌, nat_eq, nat_lt, if◌then◌else◌, List, [], ◌∷◌, length, IfSome, Option, Some, None}
+use Rattle.std.specs.List.{list_any, list_all}
+use Rattle.std.specs.Cmp.Lexicographic.{pointwise}
+use Rattle.sb_types.specs.declared.fault.Fault.{Fault}
+use Rattle.sb_types.specs.declared.fault.Fault.TheVariants.{NoMemory, BadSetting, Closed, StoreFailed, LogDamaged, SameName, WrongCluster}
+use Rattle.sb_types.specs.declared.limits.TheConstants.{OWNERS_MOST}
+use Rattle.sb_types.specs.Records.{Settings}
+use Rattle.sb_table.specs.Plain.{IsPlainTable}
+use Rattle.sb_holdings.specs.Nodes.{opened_node}
+use Rattle.sb_log.specs.Records.{Log}
+use Rattle.sb_world.specs.Places.{Place, Seen, place_at}
+
+-- a log has the name
+abbrev pub is_owned : List ℕ → List Log → Bool
+is_owned name logs = list_any (λ log. pointwise nat_eq log.owner name) logs
+
+-- two logs have one name
+abbrev pub has_twins : List Log → Bool
+has_twins [] = false
+has_twins (log ∷ logs) = is_owned log.owner logs || has_twins logs
+
+-- each log is of this cluster
+abbrev pub are_of : List ℕ → List Log → Bool
+are_of cluster logs = list_all (λ log. pointwise nat_eq log.cluster cluster) logs
+
+-- why no world is made of these logs, the first reason that holds
+abbrev pub refusal : Settings → List Log → Option Fault
+refusal settings logs =
+    if nat_eq (length logs) 0 || nat_lt OWNERS_MOST (length logs) then Some BadSetting
+    else (if has_twins logs then Some SameName
+    else (if are_of settings.cluster logs then None else Some WrongCluster))
+
+-- why a log could not be read, or no node opened with what it has
+abbrev pub IsOpeningFault : Fault → Type 0
+IsOpeningFault fault = (fault ≡ NoMemory) ⊎ ((fault ≡ Closed) ⊎ ((fault ≡ StoreFailed) ⊎ (fault ≡ LogDamaged)))
+
+-- the fault of logs of which no world is made; else one of those
+abbrev pub IsMakingFault : Option Fault → Fault → Type 0
+IsMakingFault (Some refused) fault = fault ≡ refused
+IsMakingFault None fault = IsOpeningFault fault
+
+-- a node that has just opened with what its log has
+pub record IsNew (of_world : Settings) (p : Place) : Type 0 where
+  pub owner : p.log.owner ≡ p.me
+  pub is_open : p.log.is_open ≡ true
+  pub plain : p.log.is_clean ≡ true → IsPlainTable p.log.content
+  pub settings : p.core.settings ≡ of_world
+  pub node : p.log.is_clean ≡ true → p.core.node ≡ opened_node p.me p.log.content
+  pub waiting : p.waiting ≡ []
+  pub up : p.is_up ≡ true
+
+-- each node has just opened, and nothing was sent
+pub record IsMade (world : Seen) : Type 0 where
+  pub places : (name : List ℕ) → IfSome (place_at world.places name) (IsNew world.settings)
+  pub sent : world.sent ≡ []

@@ -1,0 +1,109 @@
+-- The machine of worlds: a world with the history that it does not store.
+use Rattle.std.specs.Prelude.{◌≡◌, ℕ, ◌+◌, true, if◌then◌else◌, nat_eq, List, [], ◌∷◌, ◌++◌, Result, IfSome}
+use Rattle.std.specs.Cmp.Lexicographic.{pointwise}
+use Rattle.sb_types.specs.declared.entry.Write.{Write}
+use Rattle.sb_types.specs.declared.fault.Fault.{Fault}
+use Rattle.sb_table.specs.Plain.{IsPlainTable}
+use Rattle.sb_holdings.specs.Contents.{content_table}
+use Rattle.sb_holdings.specs.Nodes.{Node, NodeEvent, opened_node}
+use Rattle.sb_world.specs.declared.event.Event.{Event}
+use Rattle.sb_world.specs.declared.event.Answer.{Answer}
+use Rattle.sb_world.specs.Places.{Place, Seen, place_at}
+use Rattle.sb_world.specs.Turns.{Effect, rests, logs, goes, opens, node_of}
+use Rattle.sb_world.specs.Steps.{Step}
+
+-- of a node: what it held when it last opened, what happened to it since, and how often it opened anew
+pub record Past : Type 0 where
+  pub opening : Node
+  pub since : List NodeEvent
+  pub openings : ℕ
+
+-- what a world is, all that each owner wrote, and each node's past
+pub record State : Type 0 where
+  pub now : Seen
+  pub writes : List ℕ → List Write
+  pub past : List ℕ → Past
+
+-- with another value of one name
+abbrev pub put_at : {X : Type 0} → (List ℕ → X) → List ℕ → X → List ℕ → X
+put_at f name x other = if pointwise nat_eq other name then x else f other
+
+abbrev pub writes_after : List Write → Effect → List Write
+writes_after writes rests = writes
+writes_after writes (logs w) = writes ++ w ∷ []
+writes_after writes (goes events) = writes
+writes_after writes opens = writes
+
+abbrev pub past_after : List ℕ → List Write → Past → Effect → Past
+past_after me writes past rests = past
+past_after me writes past (logs w) = past
+past_after me writes past (goes events) = record { opening = past.opening; since = past.since ++ events; openings = past.openings }
+past_after me writes past opens = record { opening = opened_node me (content_table 0 writes); since = []; openings = past.openings + 1 }
+
+-- the history goes on by an effect at a node
+abbrev pub remembered : State → List ℕ → Effect → Seen → State
+remembered old me effect now = record {
+  now = now;
+  writes = put_at old.writes me (writes_after (old.writes me) effect);
+  past = put_at old.past me (past_after me (old.writes me) (old.past me) effect);
+}
+
+-- one step of the machine
+abbrev pub Moves : State → Event → Result Answer Fault → State → Type 0
+Moves old event answer new = (effect : Effect) × Step old.now event answer effect new.now × (new ≡ remembered old (node_of event) effect new.now)
+
+-- each event in turn, with its answer and the state after it
+abbrev pub Run : State → List Event → List (Result Answer Fault) → List State → Type 0
+Run old [] [] [] = Unit {0}
+Run old (event ∷ events) (answer ∷ answers) (state ∷ states) = Moves old event answer state × Run state events answers states
+Run old [] [] (state ∷ states) = ⊥
+Run old [] (answer ∷ answers) states = ⊥
+Run old (event ∷ events) [] states = ⊥
+Run old (event ∷ events) (answer ∷ answers) [] = ⊥
+
+abbrev pub last_of : State → List State → State
+last_of first [] = first
+last_of first (state ∷ states) = last_of state states
+
+-- a node that has just opened with the content of its log, which is that of its owner's writes
+pub record IsFresh (s : State) (p : Place) : Type 0 where
+  pub owner : p.log.owner ≡ p.me
+  pub content : p.log.content ≡ content_table 0 (s.writes p.me)
+  pub plain : IsPlainTable p.log.content
+  pub settings : p.core.settings ≡ s.now.settings
+  pub node : p.core.node ≡ opened_node p.me p.log.content
+  pub waiting : p.waiting ≡ []
+  pub up : p.is_up ≡ true
+  pub past : s.past p.me ≡ record { opening = p.core.node; since = []; openings = 0 }
+
+-- each node has just opened, and nothing was sent
+pub record IsStart (s : State) : Type 0 where
+  pub places : (name : List ℕ) → IfSome (place_at s.now.places name) (IsFresh s)
+  pub sent : s.now.sent ≡ []
+
+-- a run leads from a start to the state
+pub record IsReached (s : State) : Type 0 where
+  pub start : State
+  pub is_start : IsStart start
+  pub events : List Event
+  pub answers : List (Result Answer Fault)
+  pub states : List State
+  pub run : Run start events answers states
+  pub last : last_of start states ≡ s
+
+-- the state is reached, and is the world's but for the history
+pub record FitsWorld (s : State) (world : Seen) : Type 0 where
+  pub reached : IsReached s
+  pub now : s.now ≡ world
+
+-- the logs' contents are those of these writes
+abbrev pub AreContents : (List ℕ → List Write) → List Place → Type 0
+AreContents writes places = (name : List ℕ) → IfSome (place_at places name) (λ p. p.log.content ≡ content_table 0 (writes p.me))
+
+-- a world that has just been made, of owners that wrote so
+abbrev pub start_of : (List ℕ → List Write) → Seen → State
+start_of writes world = record {
+  now = world;
+  writes = writes;
+  past = λ name. record { opening = opened_node name (content_table 0 (writes name)); since = []; openings = 0 };
+}

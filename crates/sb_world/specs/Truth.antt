@@ -1,0 +1,51 @@
+-- What is true of each state of a run.
+use Rattle.std.specs.Prelude.{◌≡◌, ℕ, ◌≤◌, true, List, ◌++◌, length, IfSome}
+use Rattle.sb_types.specs.declared.entry.Write.{Write}
+use Rattle.sb_types.specs.Records.{Settings}
+use Rattle.sb_types.specs.Runs.{Stands}
+use Rattle.sb_types.specs.Writes.{Written}
+use Rattle.sb_holdings.specs.Contents.{content_table}
+use Rattle.sb_holdings.specs.Nodes.{Node, opened_node, replay_node, AreNodeEvents, AllTrueAt, IsNode, NodeHolds}
+use Rattle.sb_codec.specs.declared.message.Message.{Message}
+use Rattle.sb_codec.specs.Messages.{is_message}
+use Rattle.sb_frames.specs.Frames.{frame}
+use Rattle.sb_log.specs.Records.{Committed}
+use Rattle.sb_node.specs.Calls.{AreHonest}
+use Rattle.sb_world.specs.Places.{Place, place_at}
+use Rattle.sb_world.specs.Turns.{delta_in}
+use Rattle.sb_world.specs.States.{Past, State}
+
+-- the frame of a message within the budget, and if that is a delta each of its blocks is honest
+pub record IsTrueFrame (writes : List ℕ → List Write) (budget : ℕ) (bytes : List ℕ) : Type 0 where
+  pub message : Message
+  pub limits : is_message message ≡ true
+  pub laid : bytes ≡ frame message
+  pub honest : IfSome (delta_in message) (AreHonest writes)
+  pub fits : length bytes ≤ budget
+
+-- a node that opened with the content that its owner's writes had then
+pub record IsOpening (writes : List Write) (me : List ℕ) (opened : Node) : Type 0 where
+  pub front : List Write
+  pub rest : List Write
+  pub all : writes ≡ front ++ rest
+  pub node : opened ≡ opened_node me (content_table 0 front)
+  pub is : IsNode opened
+
+pub record IsTruePlace (writes : List ℕ → List Write) (past : Past) (of_world : Settings) (p : Place) : Type 0 where
+  pub owner : p.log.owner ≡ p.me
+  -- of a log that a fault of its store closed nothing is said
+  pub content : p.log.is_open ≡ true → p.log.content ≡ content_table 0 (writes p.me)
+  pub settings : p.core.settings ≡ of_world
+  pub me : p.core.node.held.me ≡ p.me
+  pub opening : IsOpening (writes p.me) p.me past.opening
+  -- what it holds is what its committed writes and honest blocks have left since then, and nothing else
+  pub replay : p.core.node ≡ replay_node past.opening past.since
+  pub events : AreNodeEvents past.since
+  pub honest : AllTrueAt writes p.me past.since
+  pub is : IsNode p.core.node
+  pub holds : NodeHolds writes p.core.node
+  pub waiting : (c : Committed) → Stands p.waiting c → (c.owner ≡ p.me) × Written (writes p.me) c.entry
+
+pub record IsTrueState (s : State) : Type 0 where
+  pub places : (name : List ℕ) → IfSome (place_at s.now.places name) (λ p. IsTruePlace s.writes (s.past p.me) s.now.settings p)
+  pub frames : (bytes : List ℕ) → Stands s.now.sent bytes → IsTrueFrame s.writes s.now.settings.budget bytes

@@ -1,0 +1,244 @@
+-- What each event does at its node.
+use Rattle.std.specs.Prelude.{◌≡◌, ◌⊎◌, ℕ, ◌+◌, Bool, true, false, if◌then◌else◌, nat_eq, List, [], ◌∷◌, ◌++◌, length, map, Option, Some, None, IfErr, Result, Ok, Err}
+use Rattle.std.specs.Cmp.Lexicographic.{pointwise}
+use Rattle.sb_types.specs.declared.entry.Slot.{Slot}
+use Rattle.sb_types.specs.declared.entry.Write.{Write}
+use Rattle.sb_types.specs.declared.fault.Fault.{Fault}
+use Rattle.sb_types.specs.declared.fault.Fault.TheVariants.{NoMemory, Closed, StoreFailed}
+use Rattle.sb_types.specs.Faults.{Gives}
+use Rattle.sb_types.specs.Limits.{is_delta}
+use Rattle.sb_types.specs.Records.{Table, Block}
+use Rattle.sb_types.specs.Runs.{shown_at}
+use Rattle.sb_holdings.specs.declared.ends.BlockEnd.{BlockEnd}
+use Rattle.sb_holdings.specs.Held.{Held, shown_of}
+use Rattle.sb_holdings.specs.Nodes.{NodeEvent, Wrote, opened_node, node_after_event, replay_node}
+use Rattle.sb_digest.specs.Digests.{Pair, Digest, digest_of, plain_pair}
+use Rattle.sb_digest.specs.Pairs.{pairs_from}
+use Rattle.sb_codec.specs.declared.message.Message.{Message}
+use Rattle.sb_codec.specs.declared.message.Message.TheVariants as messages
+use Rattle.sb_frames.specs.Frames.{frame, Front, short, whole, bad, front_of}
+use Rattle.sb_log.specs.Records.{Committed, Log}
+use Rattle.sb_log.specs.Puts.{Puts, Loads}
+use Rattle.sb_node.specs.Answers.{IsDelta, IsAnswer}
+use Rattle.sb_node.specs.Cores.{with_node, committed_answer}
+use Rattle.sb_node.specs.Ends.{Treats, took_each}
+use Rattle.sb_world.specs.declared.event.Event.{Event}
+use Rattle.sb_world.specs.declared.event.Event.TheVariants.{Commit, Take, CrashInCommit, Restart, Offer, Deliver, Read, Upto}
+use Rattle.sb_world.specs.declared.event.Answer.{Answer}
+use Rattle.sb_world.specs.declared.event.Answer.TheVariants as answers
+use Rattle.sb_world.specs.Places.{Place, frame_at}
+
+-- what an event adds to the history: nothing, a write of the node's owner, events of the node, or that the node opened anew
+pub data Effect : Type 0 where
+  rests : Effect
+  logs : Write → Effect
+  goes : List NodeEvent → Effect
+  opens : Effect
+
+-- what comes of an event at its node
+pub record Turn : Type 0 where
+  pub answer : Result Answer Fault
+  pub effect : Effect
+  pub place : Place
+  pub frames : List (List ℕ)
+
+-- nothing changes
+abbrev pub still : Place → Result Answer Fault → Turn
+still p answer = record { answer = answer; effect = rests; place = p; frames = [] }
+
+-- ---- a write
+
+abbrev pub write_of : List ℕ → Slot → Write
+write_of key slot = record { key = key; slot = slot }
+
+-- a write that the log took is one of its owner's; of one at which the store failed nobody knows
+abbrev pub IsLogged : List ℕ → Slot → Result Committed Fault → Effect → Type 0
+IsLogged key slot (Ok c) effect = effect ≡ logs (write_of key slot)
+IsLogged key slot (Err fault) effect = (effect ≡ rests) ⊎ ((fault ≡ StoreFailed) × (effect ≡ logs (write_of key slot)))
+
+abbrev pub waiting_after : List Committed → Result Committed Fault → List Committed
+waiting_after waiting (Ok c) = waiting ++ c ∷ []
+waiting_after waiting (Err fault) = waiting
+
+abbrev pub commit_answer : Result Committed Fault → Result Answer Fault
+commit_answer (Ok c) = Ok (answers.Committed c.entry.version)
+commit_answer (Err fault) = Err fault
+
+-- the log answered so, and a write that it took waits
+abbrev pub commit_turn : Place → Result Committed Fault → Effect → Log → Turn
+commit_turn p put effect log = record {
+  answer = commit_answer put;
+  effect = effect;
+  place = record { me = p.me; log = log; core = p.core; waiting = waiting_after p.waiting put; is_up = p.is_up };
+  frames = [];
+}
+
+-- the log is asked to take the write, where there is room for it to wait
+abbrev pub Commits : Place → List ℕ → Slot → Turn → Type 0
+Commits p key slot turn =
+    (turn ≡ still p (Err NoMemory))
+    ⊎ ((put : Result Committed Fault) × (effect : Effect) × (log : Log) × Puts p.log key slot put log × IsLogged key slot put effect × (turn ≡ commit_turn p put effect log))
+
+-- the node is down
+abbrev pub crash_turn : Place → Effect → Log → Turn
+crash_turn p effect log = record {
+  answer = Ok answers.Crashed;
+  effect = effect;
+  place = record { me = p.me; log = log; core = p.core; waiting = p.waiting; is_up = false };
+  frames = [];
+}
+
+-- the node goes down before its log is asked, or behind that, and nothing of what the log answered is left to it
+abbrev pub Crashes : Place → List ℕ → Slot → Bool → Turn → Type 0
+Crashes p key slot false turn = turn ≡ crash_turn p rests p.log
+Crashes p key slot true turn = (put : Result Committed Fault) × (effect : Effect) × (log : Log) × Puts p.log key slot put log × IsLogged key slot put effect × (turn ≡ crash_turn p effect log)
+
+-- ---- an own write enters
+
+-- the oldest that waited is entered
+abbrev pub entered_turn : Place → Committed → List Committed → Turn
+entered_turn p c others = record {
+  answer = Ok (answers.Took c.entry.version);
+  effect = goes (Wrote c.entry ∷ []);
+  place = record { me = p.me; log = p.log; core = with_node p.core (node_after_event p.core.node (Wrote c.entry)); waiting = others; is_up = p.is_up };
+  frames = [];
+}
+
+abbrev pub take_turn : Place → Committed → List Committed → Result (Unit {0}) Fault → Turn
+take_turn p c others (Ok done) = entered_turn p c others
+take_turn p c others (Err fault) = still p (Err fault)
+
+-- the node answers for the write as it must, and want of memory hides no other fault
+abbrev pub TakesFirst : Place → List Committed → Turn → Type 0
+TakesFirst p [] turn = turn ≡ still p (Ok answers.Nothing)
+TakesFirst p (c ∷ others) turn =
+    let want = committed_answer p.core.node c in
+    (result : Result (Unit {0}) Fault) × Gives result want × IfErr want (λ fault. result ≡ Err fault) × (turn ≡ take_turn p c others result)
+
+-- ---- a restart
+
+-- the node holds its log's content and nothing else
+abbrev pub reopened_turn : Place → Log → Table → Turn
+reopened_turn p log table = record {
+  answer = Ok (answers.Restarted table.held);
+  effect = opens;
+  place = record { me = p.me; log = log; core = record { settings = p.core.settings; node = opened_node p.me table }; waiting = []; is_up = true };
+  frames = [];
+}
+
+-- it is down until a restart that is not refused
+abbrev pub refused_turn : Place → Log → Fault → Turn
+refused_turn p log fault = record {
+  answer = Err fault;
+  effect = rests;
+  place = record { me = p.me; log = log; core = p.core; waiting = []; is_up = false };
+  frames = [];
+}
+
+abbrev pub RestartEnds : Place → Log → Result Table Fault → Turn → Type 0
+RestartEnds p log (Ok table) turn = (turn ≡ reopened_turn p log table) ⊎ (turn ≡ refused_turn p log NoMemory)
+RestartEnds p log (Err fault) turn = turn ≡ refused_turn p log fault
+
+-- what waited is dropped, and the log is read again
+abbrev pub Restarts : Place → Turn → Type 0
+Restarts p turn = (result : Result Table Fault) × (log : Log) × Loads p.log result log × RestartEnds p log result turn
+
+-- ---- a delta is sent
+
+abbrev pub numbered_pair : List ℕ → ℕ → Pair → Pair
+numbered_pair owner after pair = plain_pair pair.owner (if pointwise nat_eq pair.owner owner then after else pair.held)
+
+-- a digest of the whole range that has this number for the owner, and of each other what the node itself holds
+abbrev pub asked : Held → List ℕ → ℕ → Digest
+asked held owner after = digest_of false None None (map (numbered_pair owner after) (pairs_from None held))
+
+abbrev pub sent_turn : Place → List (List ℕ) → List Block → Turn
+sent_turn p sent blocks = record {
+  answer = Ok (answers.Sent (length sent + 1));
+  effect = rests;
+  place = p;
+  frames = frame (messages.Delta blocks) ∷ [];
+}
+
+-- the node's delta in answer to such a digest is sent, as one frame
+abbrev pub Offers : Place → List (List ℕ) → List ℕ → ℕ → Turn → Type 0
+Offers p sent owner after turn =
+    (turn ≡ still p (Err NoMemory))
+    ⊎ ((blocks : List Block) × (is_delta blocks ≡ true) × IsDelta p.core.settings p.core.node.held (asked p.core.node.held owner after) blocks
+    × IsAnswer p.core.settings.budget p.core.node.held (asked p.core.node.held owner after) blocks × (turn ≡ sent_turn p sent blocks))
+
+-- ---- a frame comes
+
+abbrev pub delta_in : Message → Option (List Block)
+delta_in (messages.Delta blocks) = Some blocks
+delta_in (messages.Hello greeting) = None
+delta_in (messages.Digest told) = None
+delta_in (messages.Bye reason) = None
+delta_in (messages.Ask asked) = None
+delta_in (messages.Rows rows) = None
+delta_in (messages.Put wanted) = None
+delta_in (messages.Done version) = None
+delta_in (messages.Refused fault) = None
+
+abbrev pub delivered_turn : Place → List Block → List BlockEnd → Turn
+delivered_turn p blocks ends = record {
+  answer = Ok (answers.Delivered ends);
+  effect = goes (took_each blocks ends);
+  place = record { me = p.me; log = p.log; core = with_node p.core (replay_node p.core.node (took_each blocks ends)); waiting = p.waiting; is_up = p.is_up };
+  frames = [];
+}
+
+-- each block of a delta is taken in its turn; no other message is
+abbrev pub TakesDelta : Place → Option (List Block) → Turn → Type 0
+TakesDelta p None turn = turn ≡ still p (Ok answers.Nothing)
+TakesDelta p (Some blocks) turn = (ends : List BlockEnd) × Treats p.core.node blocks ends × (turn ≡ delivered_turn p blocks ends)
+
+abbrev pub TakesFront : Place → Front → Turn → Type 0
+TakesFront p short turn = turn ≡ still p (Ok answers.Nothing)
+TakesFront p (whole message rest) turn = TakesDelta p (delta_in message) turn
+TakesFront p (bad fault) turn = turn ≡ still p (Err fault)
+
+abbrev pub Delivers : Place → Option (List ℕ) → Turn → Type 0
+Delivers p None turn = turn ≡ still p (Ok answers.Nothing)
+Delivers p (Some bytes) turn = (turn ≡ still p (Err NoMemory)) ⊎ TakesFront p (front_of bytes) turn
+
+-- ---- all events
+
+abbrev pub node_of : Event → List ℕ
+node_of (Commit me key slot) = me
+node_of (Take me) = me
+node_of (CrashInCommit me key slot is_kept) = me
+node_of (Restart me) = me
+node_of (Offer me owner after) = me
+node_of (Deliver me number) = me
+node_of (Read me owner key) = me
+node_of (Upto me owner) = me
+
+abbrev pub Acts : Event → Place → List (List ℕ) → Turn → Type 0
+Acts (Commit me key slot) p sent turn = Commits p key slot turn
+Acts (Take me) p sent turn = TakesFirst p p.waiting turn
+Acts (CrashInCommit me key slot is_kept) p sent turn = Crashes p key slot is_kept turn
+Acts (Restart me) p sent turn = Restarts p turn
+Acts (Offer me owner after) p sent turn = Offers p sent owner after turn
+Acts (Deliver me number) p sent turn = Delivers p (frame_at sent number) turn
+Acts (Read me owner key) p sent turn =
+    (turn ≡ still p (Err NoMemory)) ⊎ (turn ≡ still p (Ok (answers.Shown (shown_at key (shown_of p.core.node.held owner).entries))))
+Acts (Upto me owner) p sent turn = turn ≡ still p (Ok (answers.Number (shown_of p.core.node.held owner).held))
+
+-- a node that is down restarts, and does nothing else
+abbrev pub answers_to : Event → Bool → Bool
+answers_to (Commit me key slot) is_up = is_up
+answers_to (Take me) is_up = is_up
+answers_to (CrashInCommit me key slot is_kept) is_up = is_up
+answers_to (Restart me) is_up = true
+answers_to (Offer me owner after) is_up = is_up
+answers_to (Deliver me number) is_up = is_up
+answers_to (Read me owner key) is_up = is_up
+answers_to (Upto me owner) is_up = is_up
+
+abbrev pub ActsWhere : Bool → Event → Place → List (List ℕ) → Turn → Type 0
+ActsWhere true event p sent turn = Acts event p sent turn
+ActsWhere false event p sent turn = turn ≡ still p (Err Closed)
+
+abbrev pub Does : Event → Place → List (List ℕ) → Turn → Type 0
+Does event p sent turn = ActsWhere (answers_to event p.is_up) event p sent turn

@@ -1,0 +1,180 @@
+//! A node of a world, with its log.
+
+ghost use Rattle.std.specs.Cmp.Lexicographic.{pointwise};
+ghost use Rattle.std.specs.Prelude.{◌≡◌, true, nat_eq, List, [], Some, Ok, IfOk, IfErr};
+ghost use Rattle.sb_types.specs.Limits.{is_delta};
+ghost use Rattle.sb_types.specs.Records as records;
+ghost use Rattle.sb_codec.specs.declared.message.Message.TheVariants as messages;
+ghost use Rattle.sb_frames.specs.Frames.{frame};
+ghost use Rattle.sb_node.specs.Answers.{IsDelta, IsAnswer};
+ghost use Rattle.sb_types.specs.Faults.{Gives};
+ghost use Rattle.sb_types.specs.Runs.{shown_at};
+ghost use Rattle.sb_holdings.specs.Held.{shown_of};
+ghost use Rattle.sb_world.specs.Turns.{Effect, Commits, Crashes, TakesFirst, Restarts, Delivers};
+ghost use Rattle.sb_world.specs.Turns as spec;
+ghost use Rattle.sb_world.specs.declared.event.Answer.TheVariants as answers;
+
+use crate::event::Answer;
+use crate::offer::asked;
+use sb_codec::Message;
+use sb_frames::{Frames, frame_of};
+use sb_log::{Committed, WriteLog};
+use sb_node::NodeCore;
+use sb_types::{Fault, Key, Name, Slot};
+use std::alloc::Global;
+use std::marker::Model;
+
+/// A node, its log, its writes that wait to be entered, and whether it runs.
+#[derive(Drop)]
+pub(crate) struct Place<L: WriteLog> {
+    pub(crate) me: Name,
+    pub(crate) log: L,
+    pub(crate) core: NodeCore,
+    pub(crate) waiting: Vec<Committed>,
+    pub(crate) is_up: bool,
+}
+
+impl<L: WriteLog> Model for Place<L> {
+    ghost use Rattle.std.specs.Coded.{codes};
+    ghost use Rattle.std.specs.FinMap.{code};
+    ghost use Rattle.sb_world.specs.Places as places;
+
+    ghost Value = { places.Place };
+
+    ghost coded = { Prim.hlevel (codes, code) };
+
+    ghost view = { λ p. record { me = p.me; log = L.seen p.log; core = p.core; waiting = p.waiting.items; is_up = p.is_up } };
+}
+
+/// Lets go of what a log answered.
+fn lose(_result: Result<Committed, Fault>) {}
+
+impl<L: WriteLog> Place<L> {
+    /// Whether this is its name.
+    pub(crate) fn is_named(&self, name: &Name) -> bool
+        ensures { result ≡ pointwise nat_eq self.now.me name.now }
+    {
+        self.me == *name
+    }
+
+    /// Whether it answers to other events than a restart.
+    pub(crate) fn is_up(&self) -> bool
+        ensures { result ≡ self.now.is_up }
+    {
+        self.is_up
+    }
+
+    /// The log takes a write, which then waits.
+    pub(crate) fn commit(&mut self, key: &Key, slot: &Slot) -> Result<Answer, Fault>
+        ensures { (effect : Effect) × Commits self.old key.now slot.now (record { answer = result; effect = effect; place = self.new; frames = [] }) }
+    {
+        self.waiting.reserve(1)?;
+        match self.log.put(key, slot) {
+            Ok(committed) => {
+                let version = committed.entry().version();
+                self.waiting.push_reserved(committed);
+                Ok(Answer::Committed(version))
+            }
+            Err(fault) => Err(fault),
+        }
+    }
+
+    /// The node goes down, behind a write or before it.
+    pub(crate) fn crash(&mut self, key: &Key, slot: &Slot, is_kept: bool) -> Answer
+        ensures { (effect : Effect) × Crashes self.old key.now slot.now is_kept (record { answer = Ok result; effect = effect; place = self.new; frames = [] }) }
+    {
+        self.is_up = false;
+        if !is_kept {
+            return Answer::Crashed;
+        }
+        lose(self.log.put(key, slot));
+        Answer::Crashed
+    }
+
+    /// The oldest write that waits is entered.
+    pub(crate) fn take(&mut self) -> Result<Answer, Fault>
+        ensures { (effect : Effect) × TakesFirst self.old self.old.waiting (record { answer = result; effect = effect; place = self.new; frames = [] }) }
+    {
+        let Some(oldest) = self.waiting.first() else {
+            return Ok(Answer::Nothing);
+        };
+        let version = oldest.entry().version();
+        match self.core.take_own(oldest) {
+            Ok(()) => {
+                lose(Ok(self.waiting.remove(0)));
+                Ok(Answer::Took(version))
+            }
+            Err(fault) => Err(fault),
+        }
+    }
+
+    /// The node opens anew with what its log has.
+    pub(crate) fn restart(&mut self, alloc: Global) -> Result<Answer, Fault>
+        ensures { (effect : Effect) × Restarts self.old (record { answer = result; effect = effect; place = self.new; frames = [] }) }
+    {
+        self.is_up = false;
+        self.waiting.clear();
+        let table = match self.log.load(alloc) {
+            Ok(table) => table,
+            Err(fault) => return Err(fault),
+        };
+        let held = table.upto();
+        match NodeCore::open(alloc, self.core.settings(), self.me, table) {
+            Ok(core) => self.core = core,
+            Err(fault) => return Err(fault),
+        }
+        self.is_up = true;
+        Ok(Answer::Restarted(held))
+    }
+
+    /// The frame of what it holds of an owner above a version, as far as its budget has room. `NoMemory`.
+    pub(crate) fn offer(&self, alloc: Global, owner: &Name, after: u64) -> Result<Vec<u8>, Fault>
+        ensures delta { IfOk result (λ bytes. (blocks : List records.Block) × (is_delta blocks ≡ true)
+            × IsDelta self.now.core.settings self.now.core.node.held (spec.asked self.now.core.node.held owner.now after) blocks
+            × IsAnswer self.now.core.settings.budget self.now.core.node.held (spec.asked self.now.core.node.held owner.now after) blocks
+            × (bytes.items ≡ frame (messages.Delta blocks))) }
+        ensures memory { IfErr result (λ fault. fault ≡ Fault.NoMemory) }
+    {
+        let digest = asked(alloc, self.core.holdings(), owner, after)?;
+        let delta = self.core.deltas(&digest)?;
+        // Does nothing: the call tells the prover that the delta keeps its limits.
+        let _ = delta.encoded_length();
+        frame_of(alloc, &Message::Delta(delta))
+    }
+
+    /// The bytes of a frame come.
+    pub(crate) fn deliver(&mut self, alloc: Global, bytes: &[u8]) -> Result<Answer, Fault>
+        ensures { (effect : Effect) × Delivers self.old (Some bytes.now) (record { answer = result; effect = effect; place = self.new; frames = [] }) }
+    {
+        let mut frames = Frames::new(alloc);
+        match frames.feed(bytes) {
+            Ok(()) => {}
+            Err(fault) => return Err(fault),
+        }
+        match frames.next() {
+            Ok(Some(Message::Delta(delta))) => match self.core.apply(&delta) {
+                Ok(report) => Ok(Answer::Delivered(report)),
+                Err(fault) => Err(fault),
+            },
+            Ok(_) => Ok(Answer::Nothing),
+            Err(fault) => Err(fault),
+        }
+    }
+
+    /// How far it holds an owner.
+    pub(crate) fn upto(&self, owner: &Name) -> u64
+        ensures { result ≡ (shown_of self.now.core.node.held owner.now).held }
+    {
+        self.core.upto(owner)
+    }
+
+    /// What is shown of an owner's key. `NoMemory`.
+    pub(crate) fn read(&self, alloc: Global, owner: &Name, key: &Key) -> Result<Answer, Fault>
+        ensures { Gives result (Ok (answers.Shown (shown_at key.now (shown_of self.now.core.node.held owner.now).entries))) }
+    {
+        match self.core.get(owner, key) {
+            Some((value, version)) => Ok(Answer::Shown(Some((value.copy(alloc)?, version)))),
+            None => Ok(Answer::Shown(None)),
+        }
+    }
+}

@@ -1,0 +1,254 @@
+//! A world of nodes, each with its log, and every frame that they sent.
+
+ghost use Rattle.std.specs.Prelude.{◌≡◌, ◌<◌, ℕ, List, [], ◌++◌, length, slice_set, slice_get, map, Some, None, Err, IfOk, IfSome, IfNone, IfErr, OnErr};
+ghost use Rattle.std.specs.Option.{option_copied};
+ghost use Rattle.sb_world.specs.Places as spec;
+ghost use Rattle.sb_world.specs.Places.{place_at, with_place, frame_at, IsClean};
+ghost use Rattle.sb_world.specs.Turns.{Effect, rests, Offers, Delivers, Acts, Does};
+ghost use Rattle.sb_world.specs.Steps.{Step, Passes};
+ghost use Rattle.sb_world.specs.States.{State, Moves, Run, last_of, FitsWorld};
+ghost use Rattle.sb_world.specs.States.{start_of, AreContents};
+ghost use Rattle.sb_world.specs.Making.{refusal, IsMakingFault, IsMade};
+ghost use Rattle.sb_types.specs.declared.entry.Write.{Write};
+ghost use Rattle.sb_log.specs.Records as records;
+ghost use Rattle.sb_world.specs.Truth.{IsTrueState};
+ghost use Rattle.sb_world.specs.Claims.{EachState, EachStep, GivenIsWritten, IsExact, JoinedIsTaken, NothingFalls, IsWithinBudget, OnEachRun};
+
+use crate::event::{Answer, Event};
+use crate::laws::{worlds_are_reached, worlds_keep_their_promise};
+use crate::making::places_of;
+use crate::place::Place;
+use sb_log::WriteLog;
+use sb_types::{Fault, Name, Settings};
+use std::alloc::Global;
+use std::marker::Model;
+
+/// A frame that was sent.
+#[derive(Drop)]
+pub(crate) struct Sent {
+    bytes: Vec<u8>,
+}
+
+impl Model for Sent {
+    ghost use Rattle.std.specs.Prelude.{ℕ, List};
+
+    ghost Value = { List ℕ };
+
+    ghost view = { λ s. s.bytes.items };
+}
+
+/// Nodes that take their steps in any order, each with its log, and every frame that they sent.
+#[derive(Drop)]
+pub struct World<L: WriteLog> {
+    settings: Settings,
+    places: Vec<Place<L>>,
+    sent: Vec<Sent>,
+    alloc: Global,
+}
+
+impl<L: WriteLog> Model for World<L> {
+    ghost use Rattle.std.specs.Coded.{codes};
+    ghost use Rattle.std.specs.FinMap.{code};
+    ghost use Rattle.sb_world.specs.Places.{Seen};
+
+    ghost Value = { Seen };
+
+    ghost coded = { Prim.hlevel (codes, code) };
+
+    ghost view = { λ w. record { settings = w.settings; places = w.places.items; sent = w.sent.items } };
+}
+
+/// Where the node of a name stands, the first where several have it.
+fn place_of<L: WriteLog>(places: &[Place<L>], name: &Name) -> Option<usize>
+    ensures none { IfNone result (place_at places.now name.now ≡ None) }
+    ensures within { IfSome result (λ i. i < length places.now) }
+    ensures found { IfSome result (λ i. place_at places.now name.now ≡ slice_get places.now i) }
+    ensures set { IfSome result (λ i. (p : spec.Place) → with_place places.now name.now p ≡ slice_set places.now i p) }
+{
+    let mut index = 0;
+    while index < places.len() {
+        if places[index].is_named(name) {
+            return Some(index);
+        }
+        index += 1;
+    }
+    None
+}
+
+/// The frame of a number, counted from 1.
+fn frame_in(sent: &[Sent], number: u64) -> Option<&[u8]>
+    ensures { option_copied result ≡ frame_at sent.now number }
+{
+    let index = number.checked_sub(1)?;
+    let sent = sent.get(usize::try_from(index).ok()?)?;
+    Some(&sent.bytes)
+}
+
+/// Sends what a node holds of an owner above a version, as far as its budget has room. `NoMemory`.
+fn send<L: WriteLog>(
+    alloc: Global,
+    place: &Place<L>,
+    sent: &mut Vec<Sent>,
+    owner: &Name,
+    after: u64,
+) -> Result<Answer, Fault>
+    ensures { (frames : List (List ℕ)) × Offers place.now sent.old.items owner.now after (record { answer = result; effect = rests; place = place.now; frames = frames })
+        × (sent.new.items ≡ sent.old.items ++ frames) }
+{
+    let bytes = match place.offer(alloc, owner, after) {
+        Ok(bytes) => bytes,
+        Err(fault) => return Err(fault),
+    };
+    match sent.push(Sent { bytes }) {
+        Ok(()) => Ok(Answer::Sent(sent.len() as u64)),
+        Err(_) => Err(Fault::NoMemory),
+    }
+}
+
+/// Hands a frame that was sent to a node.
+fn hand_over<L: WriteLog>(
+    alloc: Global,
+    place: &mut Place<L>,
+    sent: &[Sent],
+    number: u64,
+) -> Result<Answer, Fault>
+    ensures { (effect : Effect) × Delivers place.old (frame_at sent.now number) (record { answer = result; effect = effect; place = place.new; frames = [] }) }
+{
+    match frame_in(sent, number) {
+        Some(bytes) => place.deliver(alloc, bytes),
+        None => Ok(Answer::Nothing),
+    }
+}
+
+/// What an event does at its node, where that answers to it.
+fn perform<L: WriteLog>(
+    alloc: Global,
+    place: &mut Place<L>,
+    sent: &mut Vec<Sent>,
+    event: &Event,
+) -> Result<Answer, Fault>
+    ensures { (effect : Effect) × (frames : List (List ℕ)) × Acts event.now place.old sent.old.items (record { answer = result; effect = effect; place = place.new; frames = frames })
+        × (sent.new.items ≡ sent.old.items ++ frames) }
+{
+    match event {
+        Event::Commit(_, key, slot) => place.commit(key, slot),
+        Event::Take(_) => place.take(),
+        Event::CrashInCommit(_, key, slot, is_kept) => Ok(place.crash(key, slot, *is_kept)),
+        Event::Restart(_) => place.restart(alloc),
+        Event::Offer(_, owner, after) => send(alloc, place, sent, owner, *after),
+        Event::Deliver(_, number) => hand_over(alloc, place, sent, *number),
+        Event::Read(_, owner, key) => place.read(alloc, owner, key),
+        Event::Upto(_, owner) => Ok(Answer::Number(place.upto(owner))),
+    }
+}
+
+/// What an event does at its node: `Closed` where that is down, unless it restarts.
+fn act<L: WriteLog>(
+    alloc: Global,
+    place: &mut Place<L>,
+    sent: &mut Vec<Sent>,
+    event: &Event,
+) -> Result<Answer, Fault>
+    ensures { (effect : Effect) × (frames : List (List ℕ)) × Does event.now place.old sent.old.items (record { answer = result; effect = effect; place = place.new; frames = frames })
+        × (sent.new.items ≡ sent.old.items ++ frames) }
+{
+    if !event.is_answered(place.is_up()) {
+        return Err(Fault::Closed);
+    }
+    perform(alloc, place, sent, event)
+}
+
+impl<L: WriteLog + Drop> World<L> {
+    /// A world of a node for each log, named as its owner and opened with what the log has. `BadSetting` where there are
+    /// no logs, or more than 1,024; `SameName` where two have one owner; `WrongCluster` where one is of another cluster
+    /// than the settings'; then the faults of `load`, and `NoMemory`.
+    pub fn new(alloc: Global, settings: Settings, logs: Vec<L>) -> Result<World<L>, Fault>
+        ensures refused { IfSome (refusal settings (map L.seen logs.items)) (λ fault. result ≡ Err fault) }
+        ensures why { IfErr result (λ fault. IsMakingFault (refusal settings (map L.seen logs.items)) fault) }
+        ensures settings { IfOk result (λ w. w.settings ≡ settings) }
+        ensures names { IfOk result (λ w. map (λ (p : spec.Place). p.me) w.places ≡ map (λ (log : records.Log). log.owner) (map L.seen logs.items)) }
+        ensures made { IfOk result IsMade }
+
+        // It fits whatever was written that the logs' contents come of; and something was.
+        ensures fits { IfOk result (λ w. IsClean w.places → (writes : List ℕ → List Write) → AreContents writes w.places → FitsWorld (start_of writes w) w) }
+        ensures some { IfOk result (λ w. IsClean w.places → (writes : List ℕ → List Write) × AreContents writes w.places) }
+    {
+        Ok(World {
+            settings,
+            places: places_of(alloc, settings, logs)?,
+            sent: Vec::new(alloc),
+            alloc,
+        })
+    }
+}
+
+impl<L: WriteLog> World<L> {
+    /// What an event does, in this order: `Nothing` where its node is not there; `Closed` where that is down, unless it
+    /// restarts.
+    pub fn step(&mut self, event: &Event) -> Result<Answer, Fault>
+        ensures step { (effect : Effect) × Step self.old event.now result effect self.new }
+        ensures fits { (old : State) → FitsWorld old self.old → (new : State) × Moves old event.now result new × FitsWorld new self.new }
+    {
+        worlds_are_reached();
+        self.step_once(event)
+    }
+
+    /// A step.
+    fn step_once(&mut self, event: &Event) -> Result<Answer, Fault>
+        ensures step { (effect : Effect) × Step self.old event.now result effect self.new }
+    {
+        let Some(index) = place_of(&self.places, event.node()) else {
+            return Ok(Answer::Nothing);
+        };
+        act(self.alloc, &mut self.places[index], &mut self.sent, event)
+    }
+
+    /// Each event in turn, with its answers. `NoMemory` where there is no room for the answers, with nothing done.
+    ///
+    /// For all that the owners wrote before, and for every list of events: what a reader is given was written by its
+    /// owner under that version (`given`); a reader that holds an owner up to a version gets of each key that was last
+    /// written at or below it exactly that write (`exact`); whatever joins on is taken up (`taken`); within a node's
+    /// run no version falls (`later`); no frame exceeds its budget (`budget`).
+    pub fn run(&mut self, events: &[Event]) -> Result<Vec<Result<Answer, Fault>>, Fault>
+        ensures passes { IfOk result (λ answers. Passes self.old events.now answers.items self.new) }
+        ensures err { OnErr result (self.new ≡ self.old) }
+        ensures memory { IfErr result (λ fault. fault ≡ Fault.NoMemory) }
+
+        // From each state that fits before there is a run with these events and these answers to one that fits.
+        ensures fits { IfOk result (λ answers. (old : State) → FitsWorld old self.old →
+            (states : List State) × Run old events.now answers.items states × FitsWorld (last_of old states) self.new) }
+
+        // And this holds of each such run, as long as each log's store keeps its promise.
+        ensures sound { IfOk result (λ answers. OnEachRun self.old events.now answers.items (λ old states. EachState IsTrueState old states)) }
+        ensures given { IfOk result (λ answers. OnEachRun self.old events.now answers.items (λ old states. EachStep GivenIsWritten old events.now answers.items states)) }
+        ensures exact { IfOk result (λ answers. OnEachRun self.old events.now answers.items (λ old states. EachState IsExact old states)) }
+        ensures taken { IfOk result (λ answers. OnEachRun self.old events.now answers.items (λ old states. EachStep JoinedIsTaken old events.now answers.items states)) }
+        ensures later { IfOk result (λ answers. OnEachRun self.old events.now answers.items (λ old states. NothingFalls old states)) }
+        ensures budget { IfOk result (λ answers. OnEachRun self.old events.now answers.items (λ old states. EachState IsWithinBudget old states)) }
+    {
+        worlds_are_reached();
+        worlds_keep_their_promise();
+        self.run_each(events)
+    }
+
+    /// Each event in turn.
+    fn run_each(&mut self, events: &[Event]) -> Result<Vec<Result<Answer, Fault>>, Fault>
+        ensures passes { IfOk result (λ answers. Passes self.old events.now answers.items self.new) }
+        ensures err { OnErr result (self.new ≡ self.old) }
+        ensures memory { IfErr result (λ fault. fault ≡ Fault.NoMemory) }
+    {
+        let mut answers = Vec::with_capacity(self.alloc, events.len())?;
+        for event in events {
+            let answer = self.step_once(event);
+            answers.push_reserved(answer);
+        }
+        Ok(answers)
+    }
+
+    /// The frame of a number, counted from 1.
+    pub fn frame(&self, number: u64) -> Option<&[u8]>
+        ensures { option_copied result ≡ frame_at self.now.sent number }
+    {
+        frame_in(&self.sent, number)
+    }
+}
