@@ -1,6 +1,8 @@
 pub mod Names
 pub mod Going
 pub mod Keeping
+pub mod Lines
+pub mod Listening
 pub mod Acting
 pub mod Stepping
 pub mod Running
@@ -11,4 +13,3 @@ pub mod Asking
 pub mod Looking
 pub mod Reaching
 pub mod Fitting
-pub mod Lines
