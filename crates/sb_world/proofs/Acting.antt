@@ -381,22 +381,22 @@ module _ (writes : List ℕ → List Write) (past : Past) (settings : Settings) 
     -- what stands where another took a connection's place, or one went
     of_with : (cs : List Connection) (number : ℕ) (d c : Connection) → Stands (with_connection cs number d) c → (d ≡ c) ⊎ Stands cs c
     of_with [] number d c stands = inr stands
-    of_with (x ∷ xs) number d c stands = go (nat_eq x.number number) stands
+    of_with (x ∷ xs) number d c stands = go (nat_eq x.number number) stands (of_with xs number d c)
       where
-        go : (b : Bool) → Stands (cond b (d ∷ xs) (x ∷ with_connection xs number d)) c → (d ≡ c) ⊎ Stands (x ∷ xs) c
-        go true (inl same) = inl same
-        go true (inr s) = inr (inr s)
-        go false (inl same) = inr (inl same)
-        go false (inr s) = ⊎_elim (λ same. inl same) (λ other. inr (inr other)) (of_with xs number d c s)
+        go : (b : Bool) → Stands (cond b (d ∷ xs) (x ∷ with_connection xs number d)) c → (Stands (with_connection xs number d) c → (d ≡ c) ⊎ Stands xs c) → (d ≡ c) ⊎ Stands (x ∷ xs) c
+        go true (inl same) rest = inl same
+        go true (inr s) rest = inr (inr s)
+        go false (inl same) rest = inr (inl same)
+        go false (inr s) rest = ⊎_elim (λ same. inl same) (λ other. inr (inr other)) (rest s)
 
     of_without : (cs : List Connection) (number : ℕ) (c : Connection) → Stands (without_connection cs number) c → Stands cs c
     of_without [] number c stands = stands
-    of_without (x ∷ xs) number c stands = go (nat_eq x.number number) stands
+    of_without (x ∷ xs) number c stands = go (nat_eq x.number number) stands (of_without xs number c)
       where
-        go : (b : Bool) → Stands (cond b xs (x ∷ without_connection xs number)) c → Stands (x ∷ xs) c
-        go true s = inr s
-        go false (inl same) = inl same
-        go false (inr s) = inr (of_without xs number c s)
+        go : (b : Bool) → Stands (cond b xs (x ∷ without_connection xs number)) c → (Stands (without_connection xs number) c → Stands xs c) → Stands (x ∷ xs) c
+        go true s rest = inr s
+        go false (inl same) rest = inl same
+        go false (inr s) rest = inr (rest s)
 
     with_one : (frames : List (List ℕ)) (number : ℕ) (d : Connection) → IsTrueConnection (sent ++ frames) d → (c : Connection) → Stands (with_connection conns number d) c → IsTrueConnection (sent ++ frames) c
     with_one frames number d is c stands = ⊎_elim (λ same. subst (IsTrueConnection (sent ++ frames)) same is) (grown_conns frames c) (of_with conns number d c stands)
@@ -406,11 +406,11 @@ module _ (writes : List ℕ → List Write) (past : Past) (settings : Settings) 
 
     found_connection : (cs : List Connection) (number : ℕ) (c : Connection) → connection_at cs number ≡ Some c → Stands cs c
     found_connection [] number c found = absurd (cc)
-    found_connection (x ∷ xs) number c found = go (nat_eq x.number number) found
+    found_connection (x ∷ xs) number c found = go (nat_eq x.number number) found (found_connection xs number c)
       where
-        go : (b : Bool) → cond b (Some x) (connection_at xs number) ≡ Some c → (x ≡ c) ⊎ Stands xs c
-        go true is = inl (ap (λ o. unwrap_or o x) is)
-        go false is = inr (found_connection xs number c is)
+        go : (b : Bool) → cond b (Some x) (connection_at xs number) ≡ Some c → (connection_at xs number ≡ Some c → Stands xs c) → (x ≡ c) ⊎ Stands xs c
+        go true is rest = inl (ap (λ o. unwrap_or o x) is)
+        go false is rest = inr (rest is)
 
     connects_kept : (found : Option Connection) (number : ℕ) (turn : Turn) (new : List Connection) → Connects found p number conns sent turn new → AllKept turn new
     connects_kept (Some c) number turn new stays = stays_kept _ turn new stays
@@ -502,7 +502,7 @@ module _ (writes : List ℕ → List Write) (past : Past) (settings : Settings) 
       all_heard : Listened laws writes settings sent told_sent left_over p.me (listener p.core c count) d.heard d.mid
       all_heard = listened laws writes settings sent told_sent left_over p.me (listener p.core c count) d.heard d.mid begins d.hears
 
-      effect : Effect
+      abbrev effect : Effect
       effect = goes (events_in d.heard)
 
       core_is : d.last.core ≡ with_node p.core (replay_node p.core.node (events_in d.heard))

@@ -158,12 +158,12 @@ of_mapped [] bytes stands = absurd stands
 of_mapped (x ∷ xs) bytes (inl same) = (x, inl refl, sym same)
 of_mapped (x ∷ xs) bytes (inr stands) = let rest = of_mapped xs bytes stands in (rest.0, inr rest.1, rest.2)
 
-module _ (laws : Laws) (writes : List ℕ → List Write) (settings : Settings) (sent : List (List ℕ)) (true_sent : (bytes : List ℕ) → Stands sent bytes → IsTrueFrame writes settings.budget bytes)
-    (left : List ℕ) (me : List ℕ) where
+module _ (laws : Laws) (writes : List ℕ → List Write) (of_world : Settings) (sent : List (List ℕ)) (true_sent : (bytes : List ℕ) → Stands sent bytes → IsTrueFrame writes of_world.budget bytes)
+    (left : List ℕ) (own : List ℕ) where
   -- what a node holds is true, and what came for it is of the line
   pub record IsTrueListener (a : Listener) : Type 0 where
-    pub settings : a.core.settings ≡ settings
-    pub me : a.core.node.held.me ≡ me
+    pub settings : a.core.settings ≡ of_world
+    pub me : a.core.node.held.me ≡ own
     pub is : IsNode a.core.node
     pub holds : NodeHolds writes a.core.node
     pub held : List ℕ
@@ -175,15 +175,15 @@ module _ (laws : Laws) (writes : List ℕ → List Write) (settings : Settings) 
     pub last : IsTrueListener b
     pub replay : b.core ≡ with_node a.core (replay_calls a.core.node (calls_in heard))
     pub are : AreCalls (calls_in heard)
-    pub true_calls : AreTrue writes me (calls_in heard)
-    pub frames : (bytes : List ℕ) → Stands (frames_of heard) bytes → IsTrueFrame writes settings.budget bytes
+    pub true_calls : AreTrue writes own (calls_in heard)
+    pub frames : (bytes : List ℕ) → Stands (frames_of heard) bytes → IsTrueFrame writes of_world.budget bytes
 
   module _ (a : Listener) (h : Heard) (b : Listener) (t : IsTrueListener a) (next : HearsNext a h b) where
     hands : Hands t.held h.message b.stream
     hands = subst (λ (s : Stream). TakesNext s (Ok (Some h.message)) b.stream) t.stands next.0
 
     come : TrueMessage writes h.message × IsLine sent hands.rest left
-    come = line_taken writes settings.budget sent true_sent t.held left hands.rest h.message t.line hands.front
+    come = line_taken writes of_world.budget sent true_sent t.held left hands.rest h.message t.line hands.front
 
     after : b.core ≡ with_node a.core (replay_calls a.core.node (taken_of h.message h.replies))
     after = taken a.session a.core h.message h.replies b.session b.core next.1
@@ -201,7 +201,7 @@ module _ (laws : Laws) (writes : List ℕ → List Write) (settings : Settings) 
           line = come.1;
         }
 
-    next_frames : (bytes : List ℕ) → Stands (map frame (messages_of h.replies)) bytes → IsTrueFrame writes settings.budget bytes
+    next_frames : (bytes : List ℕ) → Stands (map frame (messages_of h.replies)) bytes → IsTrueFrame writes of_world.budget bytes
     next_frames bytes stands =
         let found = of_mapped (messages_of h.replies) bytes stands in
         let within : length (frame found.0) ≤ a.core.settings.budget = replies_within a.session a.core h.message h.replies b.session b.core next.1 found.0 found.1 in
@@ -210,13 +210,13 @@ module _ (laws : Laws) (writes : List ℕ → List Write) (settings : Settings) 
           limits = stands_all (messages_of h.replies) next.2 found.0 found.1;
           laid = found.2;
           honest = heard_said laws writes a.session a.core h.message h.replies b.session b.core t.is t.holds next.1 found.0 found.1;
-          fits = subst (λ (xs : List ℕ). length xs ≤ settings.budget) (sym found.2) (subst (λ (x : Settings). length (frame found.0) ≤ x.budget) t.settings within);
+          fits = subst (λ (xs : List ℕ). length xs ≤ of_world.budget) (sym found.2) (subst (λ (x : Settings). length (frame found.0) ≤ x.budget) t.settings within);
         }
 
   pub listened : (a : Listener) (heard : List Heard) (b : Listener) → IsTrueListener a → Hears a heard b → Listened a heard b
   listened a [] b t is = record {
     last = subst IsTrueListener (sym is) t;
-    replay = is;
+    replay = ap (λ (l : Listener). l.core) is;
     are = λ call stands. absurd stands;
     true_calls = λ call stands. absurd stands;
     frames = λ bytes stands. absurd stands;
@@ -232,6 +232,6 @@ module _ (laws : Laws) (writes : List ℕ → List Write) (settings : Settings) 
         last = rest.last;
         replay = rest.replay ∙ ap (λ (c : Core). with_node c (replay_calls c.node (calls_in hs))) (after a h mid t next) ∙ ap (with_node a.core) joined;
         are = λ call stands. ⊎_elim (calls_are a.session a.core h.message h.replies mid.session mid.core next.1 call) (rest.are call) (either first (calls_in hs) call stands);
-        true_calls = λ call stands. ⊎_elim (calls_true writes me h.message h.replies (come a h mid t next).0 call) (rest.true_calls call) (either first (calls_in hs) call stands);
+        true_calls = λ call stands. ⊎_elim (calls_true writes own h.message h.replies (come a h mid t next).0 call) (rest.true_calls call) (either first (calls_in hs) call stands);
         frames = λ bytes stands. ⊎_elim (next_frames a h mid t next bytes) (rest.frames bytes) (either (map frame (messages_of h.replies)) (frames_of hs) bytes stands);
       }

@@ -41,14 +41,17 @@ past_after me writes past (logs w) = past
 past_after me writes past (goes events) = record { opening = past.opening; since = past.since ++ events; openings = past.openings }
 past_after me writes past opens = record { opening = opened_node me (content_table 0 writes); since = []; openings = past.openings + 1 }
 
--- the history goes on by an effect at a node
+-- the history goes on by an effect at a node, where there is one
+abbrev pub writes_then : State → Option Place → Effect → List ℕ → List Write
+writes_then old None effect = old.writes
+writes_then old (Some p) effect = put_at old.writes p.me (writes_after (old.writes p.me) effect)
+
+abbrev pub past_then : State → Option Place → Effect → List ℕ → Past
+past_then old None effect = old.past
+past_then old (Some p) effect = put_at old.past p.me (past_after p.me (old.writes p.me) (old.past p.me) effect)
+
 abbrev pub remembered : State → Option Place → Effect → Seen → State
-remembered old None effect now = record { now = now; writes = old.writes; past = old.past }
-remembered old (Some p) effect now = record {
-  now = now;
-  writes = put_at old.writes p.me (writes_after (old.writes p.me) effect);
-  past = put_at old.past p.me (past_after p.me (old.writes p.me) (old.past p.me) effect);
-}
+remembered old found effect now = record { now = now; writes = writes_then old found effect; past = past_then old found effect }
 
 -- one step of the machine
 abbrev pub Moves : State → Event → Result Answer Fault → State → Type 0

@@ -8,9 +8,9 @@ ghost use Rattle.sb_world.specs.Turns.{Effect, rests};
 
 use crate::connection::{Connection, index_of};
 use crate::event::{Answer, Items};
+use crate::hearing::lose;
 use crate::place::Place;
-use crate::sent::{Sent, frame_in};
-use sb_frames::frame_of;
+use crate::sent::{Sent, frame_for, frame_in};
 use sb_log::WriteLog;
 use sb_session::Session;
 use sb_types::Fault;
@@ -29,17 +29,18 @@ impl<L: WriteLog> Place<L> {
         ensures { (frames : List (List ℕ)) × Connects (connection_at connections.old.items number) self.now number connections.old.items sent.old.items
             (record { answer = result; effect = rests; place = self.now; frames = frames }) connections.new.items × (sent.new.items ≡ sent.old.items ++ frames) }
     {
-        if index_of(connections, number).is_some() {
-            return Ok(Answer::Nothing);
+        match index_of(connections, number) {
+            Some(_) => return Ok(Answer::Nothing),
+            None => {}
         }
         let settings = self.core.settings();
         let session = Session::new(settings.cluster(), self.me);
         connections.reserve(1)?;
         sent.reserve(1)?;
-        let bytes = frame_of(alloc, &session.hello())?;
+        let hello = frame_for(alloc, session.hello())?;
         // Does nothing: the call tells the prover that a Hello is within each budget.
         let _ = settings.budget();
-        sent.push_reserved(Sent { bytes });
+        sent.push_reserved(hello);
         connections.push_reserved(Connection::new(alloc, number, self.me, session));
         Ok(Answer::Sent(sent.len() as u64))
     }
@@ -77,8 +78,10 @@ impl<L: WriteLog> Place<L> {
         let Some(bytes) = frame_in(sent, frame) else {
             return Ok(Answer::Nothing);
         };
-        connections[index].line(bytes)?;
-        Ok(Answer::Lined)
+        match connections[index].line(bytes) {
+            Ok(()) => Ok(Answer::Lined),
+            Err(fault) => Err(fault),
+        }
     }
 
     /// A connection's session sends its next digest; `Nothing` where none has the number. `Closed` after a Bye; `NoMemory`,
@@ -97,10 +100,18 @@ impl<L: WriteLog> Place<L> {
             return Ok(Answer::Nothing);
         };
         let mut session = connections[index].session();
-        let message = session.ask(&mut self.core)?;
-        sent.reserve(1)?;
-        let bytes = frame_of(alloc, &message)?;
-        sent.push_reserved(Sent { bytes });
+        let message = match session.ask(&mut self.core) {
+            Ok(message) => message,
+            Err(fault) => return Err(fault),
+        };
+        if sent.reserve(1).is_err() {
+            lose(message);
+            return Err(Fault::NoMemory);
+        }
+        match frame_for(alloc, message) {
+            Ok(digest) => sent.push_reserved(digest),
+            Err(fault) => return Err(fault),
+        }
         connections[index].go_on(session);
         Ok(Answer::Sent(sent.len() as u64))
     }

@@ -10,9 +10,9 @@ ghost use Rattle.sb_world.specs.declared.event.Item.TheVariants.{Ended, Replied}
 ghost use Rattle.sb_world.specs.Hearing.{Listener, Heard, listener_of, HearsOnce, Hears, Tells, IsFront, items_for};
 
 use crate::event::Item;
-use crate::sent::Sent;
+use crate::sent::{Sent, frame_for};
 use sb_codec::Message;
-use sb_frames::{Frames, frame_of};
+use sb_frames::Frames;
 use sb_holdings::Report;
 use sb_node::NodeCore;
 use sb_session::{Replies, Session};
@@ -22,11 +22,11 @@ use std::alloc::Global;
 /// Sends a message, and tells the number of its frame. `NoMemory`, with nothing sent and told.
 fn say(
     alloc: Global,
-    message: &Message,
+    message: Message,
     sent: &mut Vec<Sent>,
     items: &mut Vec<Item>,
 ) -> Result<(), Fault>
-    ensures sent { OnOk result (sent.new.items ≡ sent.old.items ++ frame message.now ∷ []) }
+    ensures sent { OnOk result (sent.new.items ≡ sent.old.items ++ frame message ∷ []) }
     ensures told { OnOk result (items.new.items ≡ items.old.items ++ Replied (length sent.old.items + 1) ∷ []) }
     ensures unsent { OnErr result (sent.new.items ≡ sent.old.items) }
     ensures untold { OnErr result (items.new.items ≡ items.old.items) }
@@ -34,8 +34,8 @@ fn say(
 {
     items.reserve(1)?;
     sent.reserve(1)?;
-    let bytes = frame_of(alloc, message)?;
-    sent.push_reserved(Sent { bytes });
+    let reply = frame_for(alloc, message)?;
+    sent.push_reserved(reply);
     items.push_reserved(Item::Replied(sent.len() as u64));
     Ok(())
 }
@@ -71,13 +71,15 @@ fn reply(
         Replies::Answered(delta) => {
             // Does nothing, here and below: the call tells the prover that what is replied keeps its limits.
             let _ = delta.encoded_length();
-            say(alloc, &Message::Delta(delta), sent, items)
+            say(alloc, Message::Delta(delta), sent, items)
         }
         Replies::Exchanged(delta, digest) => {
             let _ = delta.encoded_length();
             let _ = digest.encoded_length();
-            say(alloc, &Message::Delta(delta), sent, items)?;
-            say(alloc, &Message::Digest(digest), sent, items)
+            match say(alloc, Message::Delta(delta), sent, items) {
+                Ok(()) => say(alloc, Message::Digest(digest), sent, items),
+                Err(fault) => Err(fault),
+            }
         }
         Replies::Applied(report) => tell(&report, items),
     }
@@ -95,6 +97,9 @@ fn make_room(message: &Message, items: &mut Vec<Item>) -> Result<(), Fault>
     Ok(())
 }
 
+/// Lets go of a message.
+pub(crate) fn lose(_message: Message) {}
+
 /// Takes the next message that has come whole, and replies to it; whether there was one. The faults of what came, and
 /// those of the session; `NoMemory`.
 fn hear_next(
@@ -108,13 +113,26 @@ fn hear_next(
     ensures { (more : List (List ℕ)) × (told : List spec.Item) × (sent.new.items ≡ sent.old.items ++ more) × (items.new.items ≡ items.old.items ++ told)
         × HearsOnce (listener_of core.old session.old frames.old) (listener_of core.new session.new frames.new) (length sent.old.items) result more told }
 {
-    let Some(message) = frames.next()? else {
-        return Ok(false);
+    let message = match frames.next() {
+        Ok(Some(message)) => message,
+        Ok(None) => return Ok(false),
+        Err(fault) => return Err(fault),
     };
-    make_room(&message, items)?;
-    let replies = session.take(message, core)?;
-    reply(alloc, replies, sent, items)?;
-    Ok(true)
+    match make_room(&message, items) {
+        Ok(()) => {}
+        Err(fault) => {
+            lose(message);
+            return Err(fault);
+        }
+    }
+    let replies = match session.take(message, core) {
+        Ok(replies) => replies,
+        Err(fault) => return Err(fault),
+    };
+    match reply(alloc, replies, sent, items) {
+        Ok(()) => Ok(true),
+        Err(fault) => Err(fault),
+    }
 }
 
 /// Takes each message that has come whole, and replies to it, up to the first fault.
