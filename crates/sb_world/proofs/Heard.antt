@@ -150,3 +150,15 @@ not_fed {X} core session (open_with held) piece result fault new n is feeds =
 not_fed core session shut piece result fault new n is feeds =
     let closed : fault ≡ Closed = ap (fault_or fault) (sym is ∙ feeds.0) in
     inl (inl ((ap next_fails closed, refl), refl), refl, refl)
+
+-- ---- as a loop goes on
+
+abbrev pub heard_so : Bool → Result Bool Fault
+heard_so more = Ok more
+
+pub fewer_once : (a b : Listener) (n : ℕ) (frames : List (List ℕ)) (items : List Item) → HearsOnce a b n (Ok true) frames items → length (held_of b.stream) < length (held_of a.stream)
+fewer_once a b n frames items once = let next = once.1 in fewer_held a.stream b.stream once.0.message (Ok (Some once.0.message)) refl next.0
+
+pub laid_on : {X : Type 0} (old mid new before more all : List X) → mid ≡ old ++ before → new ≡ mid ++ more → before ++ more ≡ all → new ≡ old ++ all
+laid_on {X} old mid new before more all one two is =
+    two ∙ ap (λ (xs : List X). xs ++ more) one ∙ append_assoc old before more ∙ ap (λ (xs : List X). old ++ xs) is
