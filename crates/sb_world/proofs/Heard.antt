@@ -1,5 +1,5 @@
 -- How what was heard goes on, and how it ends.
-use Rattle.std.proofs.Common.{◌≡◌, ℕ, ◌+◌, ◌<◌, Bool, true, false, List, [], ◌∷◌, ◌++◌, length, map, inl, inr, ⊎_elim, Option, Some, None, Result, Ok, Err, OnErr, refl, sym, ap, subst, ◌∙◌, arith}
+use Rattle.std.proofs.Common.{◌≡◌, ℕ, ◌+◌, ◌<◌, Bool, true, false, List, [], ◌∷◌, ◌++◌, length, map, inl, inr, ⊎_elim, Option, Some, None, Result, Ok, Err, OnErr, IfNone, refl, sym, ap, subst, ◌∙◌, arith}
 use Rattle.std.specs.List.{flat_map}
 use Rattle.std.proofs.lemmas.List.{append-nil, append_assoc, length-append, length-map}
 use Rattle.std.proofs.lemmas.Grind.{flat_map-append}
@@ -162,3 +162,7 @@ fewer_once a b n frames items once = let next = once.1 in fewer_held a.stream b.
 pub laid_on : {X : Type 0} (old mid new before more all : List X) → mid ≡ old ++ before → new ≡ mid ++ more → before ++ more ≡ all → new ≡ old ++ all
 laid_on {X} old mid new before more all one two is =
     two ∙ ap (λ (xs : List X). xs ++ more) one ∙ append_assoc old before more ∙ ap (λ (xs : List X). old ++ xs) is
+
+pub if_none : {X : Type 0} {P : Type 0} (o : Option X) → P → IfNone o P
+if_none None p = p
+if_none (Some x) p = tt

@@ -1,6 +1,6 @@
 //! A connection: a session at a node, and a line of bytes towards it.
 
-ghost use Rattle.std.specs.Prelude.{◌≡◌, ◌<◌, ℕ, nat_eq, List, [], ◌++◌, length, remove, slice_set, slice_get, Some, None, IfSome, IfNone, IfErr, OnOk, OnErr};
+ghost use Rattle.std.specs.Prelude.{◌≡◌, ◌<◌, ◌≤◌, ℕ, nat_eq, List, [], ◌++◌, length, drop, remove, slice_set, slice_get, Some, None, IfSome, IfNone, IfErr, OnOk, OnErr};
 ghost use Rattle.sb_frames.specs.Streams.{open_with};
 ghost use Rattle.sb_world.specs.declared.event.Item as event;
 ghost use Rattle.sb_world.specs.Connections as spec;
@@ -91,6 +91,14 @@ pub(crate) fn drop_those_of(connections: &mut Vec<Connection>, me: &Name)
     connections.retain(|connection| connection.node() != me);
 }
 
+/// Drops the first bytes.
+fn drop_front(bytes: &mut Vec<u8>, count: usize)
+    requires { count ≤ length bytes.now.items }
+    ensures { bytes.new.items ≡ drop count bytes.old.items }
+{
+    bytes.drain(..count);
+}
+
 impl Connection {
     /// A connection of a node, as it begins.
     pub(crate) fn new(alloc: Global, number: u64, me: Name, session: Session) -> Connection
@@ -159,10 +167,11 @@ impl Connection {
             × (core.new ≡ last.core) × IfNone result (self.new ≡ heard_by self.old count last) }
     {
         let count = count.min(self.left.len() as u64) as usize;
-        if let Err(fault) = self.frames.feed(&self.left[..count]) {
-            return Some(fault);
+        match self.frames.feed(&self.left[..count]) {
+            Ok(()) => {}
+            Err(fault) => return Some(fault),
         }
-        self.left.drain(..count);
+        drop_front(&mut self.left, count);
         hear(
             alloc,
             core,
