@@ -1,6 +1,6 @@
 -- What is done with a connection that was found.
 use Rattle.std.proofs.Common.{◌≡◌, ℕ, zero, suc, ◌+◌, ◌≤◌, true, List, [], ◌∷◌, ◌++◌, length, inl, inr, Option, Some, None, Result, Ok, Err, slice_get, refl, sym, ap, subst, ◌∙◌, arith}
-use Rattle.std.specs.Prelude.{unwrap_or, slice_set}
+use Rattle.std.specs.Prelude.{unwrap_or, slice_set, remove}
 use Rattle.std.proofs.lemmas.Bool.{and_parts}
 use Rattle.std.proofs.lemmas.List.{append-nil}
 use Rattle.sb_types.specs.declared.fault.Fault.{Fault}
@@ -22,9 +22,11 @@ use Rattle.sb_node.specs.Steps.{Steps}
 use Rattle.sb_world.specs.declared.event.Answer.{Answer}
 use Rattle.sb_world.specs.declared.event.Answer.TheVariants as answers
 use Rattle.sb_world.specs.Connections.{Connection, connection_at, with_connection}
-use Rattle.sb_world.specs.Connecting.{begun, new_connection, Connects, LinesUp, in_session, AsksOn}
+use Rattle.sb_world.specs.Connecting.{begun, new_connection, Connects, LinesUp, in_session, AsksOn, listener, heard_by, connections_after, Pieces}
 use Rattle.sb_world.specs.Places.{Place, frame_at}
-use Rattle.sb_world.specs.Turns.{Turn, rests, with_core}
+use Rattle.sb_world.specs.declared.event.Item.{Item}
+use Rattle.sb_world.specs.Hearing.{Listener, Heard, Hears, Tells, events_in}
+use Rattle.sb_world.specs.Turns.{Turn, rests, goes, with_core}
 
 -- the least budget that settings have
 pub least_budget : (s : Settings) → are_settings s ≡ true → 256 ≤ s.budget
@@ -41,6 +43,12 @@ pub set_same : {X : Type 0} (xs : List X) (i : ℕ) (x : X) → slice_get xs i �
 set_same [] i x found = absurd (cc)
 set_same (y ∷ ys) zero x found = ap (λ z. z ∷ ys) (sym (ap (λ o. unwrap_or o x) found))
 set_same (y ∷ ys) (suc i) x found = ap (λ zs. y ∷ zs) (set_same ys i x found)
+
+-- what is cut out may have been another before
+pub remove_set : {X : Type 0} (xs : List X) (i : ℕ) (x : X) → remove (slice_set xs i x) i ≡ remove xs i
+remove_set [] i x = refl
+remove_set (y ∷ ys) zero x = refl
+remove_set (y ∷ ys) (suc i) x = ap (λ zs. y ∷ zs) (remove_set ys i x)
 
 -- the frames of a turn that rests at a place
 abbrev pub resting : Place → Result Answer Fault → List (List ℕ) → Turn
@@ -72,6 +80,26 @@ module _ (p : Place) (number : ℕ) (conns : List Connection) (sent : List (List
   lined_not c found index bytes there fault short new same =
       subst (λ o. LinesUp o (frame_at sent index) p number conns (resting p (Err fault) []) new) (sym found)
       (subst (λ o. LinesUp (Some c) o p number conns (resting p (Err fault) []) new) (sym there) (inl ((λ k. resting p (Err (short k)) []), same)))
+
+  -- a piece came
+  pub delivered : (c : Connection) → connection_at conns number ≡ Some c → (count : ℕ) (heard : List Heard) (mid last : Listener) (fault : Option Fault) (items told : List Item) (frames : List (List ℕ)) (core : Core) (new : List Connection) →
+      Hears (listener p.core c count) heard mid → Tells (length sent) heard mid last fault told frames → items ≡ told → core ≡ last.core → new ≡ connections_after fault conns number (heard_by c count last) →
+      Pieces (connection_at conns number) p number count conns sent
+      (record { answer = Ok (answers.Delivered items fault); effect = goes (events_in heard); place = with_core p core; frames = frames }) new
+  delivered c found count heard mid last fault items told frames core new hears tells is same left =
+      subst (λ o. Pieces o p number count conns sent (record { answer = Ok (answers.Delivered items fault); effect = goes (events_in heard); place = with_core p core; frames = frames }) new) (sym found)
+      (record {
+        heard = heard;
+        mid = mid;
+        last = last;
+        fault = fault;
+        items = told;
+        frames = frames;
+        hears = hears;
+        tells = tells;
+        turn_is = λ k. record { answer = Ok (answers.Delivered (is k) fault); effect = goes (events_in heard); place = with_core p (same k); frames = frames };
+        left = left;
+      })
 
   module _ (c : Connection) (found : connection_at conns number ≡ Some c) (session : Session) (core : Core) where
     pub asked_not : (fault : Fault) → Asks Steps c.session p.core (Err fault) session core →

@@ -134,9 +134,13 @@ impl<L: WriteLog> Place<L> {
         };
         let mut items = Vec::new(alloc);
         let fault = connections[index].piece(alloc, &mut self.core, count, sent, &mut items);
-        if fault.is_some() {
-            drop(connections.remove(index));
+        match fault {
+            Some(fault) => {
+                drop(connections.remove(index));
+                return Ok(Answer::Delivered(Items::new(items), Some(fault)));
+            }
+            None => {}
         }
-        Ok(Answer::Delivered(Items::new(items), fault))
+        Ok(Answer::Delivered(Items::new(items), None))
     }
 }
