@@ -41,7 +41,11 @@ fn put(log: &mut PlainLog, key: &[u8], slot: Slot) -> Result<u64, Fault> {
 fn log_of_five(alloc: Global) -> Result<PlainLog, Fault> {
     let mut log = log_of_nothing(alloc)?;
     put(&mut log, b"x", Slot::Set(Value::weight(5)?))?;
-    put(&mut log, b"y/b", Slot::Set(Value::addr(alloc, b"10.0.0.1:80")?))?;
+    put(
+        &mut log,
+        b"y/b",
+        Slot::Set(Value::addr(alloc, b"10.0.0.1:80")?),
+    )?;
     put(&mut log, b"y/a", Slot::Set(Value::flag(true)))?;
     put(&mut log, b"w", Slot::Set(Value::weight(0)?))?;
     put(&mut log, b"x", Slot::Removed)?;
