@@ -1,7 +1,8 @@
 //! The command line of the program.
+use crate::log_file::print_log;
 use crate::sim::sim_run_uncounted;
-use clap::Command;
 use clap::error::ErrorKind;
+use clap::{Arg, ArgAction, ArgMatches, Command};
 use sb_types::Fault;
 use std::alloc::{AllocError, Global};
 use std::{env, io};
@@ -41,16 +42,55 @@ Example:
   taken 1
   a w 1 weight 5";
 
-fn command<'a>(alloc: Global) -> Result<Command<'a>, AllocError> {
-    let sim = Command::new(alloc, "sim")
+const LOG: &str =
+    "Each write that still stands is a line of the owner, the key, the version, the kind and the value, in ascending key, or
+`removed -` where the key was removed. The last line is the last version.
+
+The file has to be there; an empty one becomes a new log. A fault ends the run, with `fault N` and its text on standard error:
+1 no memory, 2 a name, 17 the lines cannot be written, 18 the file is not there, cannot be read or written, or is open elsewhere, 19
+the log is damaged, 20 it belongs to another owner or cluster.
+
+The exit status is 0, 2 after a command line that is wrong, and 3 after a fault.
+
+Example:
+  $ attrdir log --log a.log --name a --cluster c
+  a x 2 removed -
+  a y 3 flag true
+  last 3";
+
+fn sim<'a>(alloc: Global) -> Command<'a> {
+    Command::new(alloc, "sim")
         .about("Runs a script of nodes, from standard input to standard output")
-        .after_help(SCRIPT);
+        .after_help(SCRIPT)
+}
+
+/// An option that has to be given, with one value.
+fn option<'a>(alloc: Global, name: &'a str, value: &'a str, help: &'a str) -> Arg<'a> {
+    Arg::new(alloc, name)
+        .long(name)
+        .value_name(value)
+        .required(true)
+        .action(ArgAction::Set)
+        .help(help)
+}
+
+fn log<'a>(alloc: Global) -> Result<Command<'a>, AllocError> {
+    Command::new(alloc, "log")
+        .about("Prints what the log of an owner holds")
+        .after_help(LOG)
+        .arg(option(alloc, "log", "FILE", "The file of the log"))?
+        .arg(option(alloc, "name", "N", "The owner, as a node's name"))?
+        .arg(option(alloc, "cluster", "C", "The name of its cluster"))
+}
+
+fn command<'a>(alloc: Global) -> Result<Command<'a>, AllocError> {
     Command::new(alloc, "attrdir")
         .version("0.1.0")
         .about("A directory of the attributes of nodes")
         .after_help(EXAMPLE)
         .subcommand_required(true)
-        .subcommand(sim)
+        .subcommand(sim(alloc))?
+        .subcommand(log(alloc)?)
 }
 
 /// The words of the command line; none where one is not UTF-8, which is told.
@@ -71,6 +111,27 @@ fn play(rt: &HostRuntime) -> Result<u8, Fault> {
     Ok(ending.status())
 }
 
+/// The value of an option, which `clap` saw to be given.
+fn value<'a>(matches: &ArgMatches<'a>, name: &str) -> &'a str {
+    matches.get_str(name).unwrap_or("")
+}
+
+/// Does what a command line says that is one, and answers the exit status.
+fn carry_out(rt: &HostRuntime, matches: &ArgMatches<'_>) -> Result<u8, Fault> {
+    match matches.subcommand_matches("log") {
+        Some(given) => {
+            print_log(
+                rt,
+                value(given, "log"),
+                value(given, "name"),
+                value(given, "cluster"),
+            )?;
+            Ok(0)
+        }
+        None => play(rt),
+    }
+}
+
 /// Prints the help that was asked for, or why the words are no command line, and answers the exit status.
 fn tell(rt: &HostRuntime, error: &clap::Error) -> Result<u8, Fault> {
     if error.kind() == ErrorKind::OutOfMemory {
@@ -86,7 +147,7 @@ fn tell(rt: &HostRuntime, error: &clap::Error) -> Result<u8, Fault> {
 pub(crate) fn run(rt: &HostRuntime) -> Result<u8, Fault> {
     match words(rt)? {
         Some(words) => match command(rt.alloc())?.try_get_matches_from(words.as_slice()) {
-            Ok(_) => play(rt),
+            Ok(matches) => carry_out(rt, &matches),
             Err(error) => tell(rt, &error),
         },
         None => Ok(USAGE_STATUS),

@@ -4,6 +4,7 @@
 mod command_line;
 mod counted;
 mod lines;
+mod log_file;
 mod node;
 mod output;
 mod parse;

@@ -1,0 +1,9 @@
+//! What nodes hold, in lines for a reader.
+#![tactic(auto)]
+
+mod log_lines;
+
+pub use log_lines::{log_run, log_run_telling};
+
+#[cfg(test)]
+mod tests;

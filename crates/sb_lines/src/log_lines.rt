@@ -1,0 +1,107 @@
+//! What a log holds, in lines.
+ghost use Rattle.std.specs.Prelude.{◌≡◌, ◌∷◌, ◌++◌, [], decimal, true, OnOk, IfOk, IfErr};
+ghost use Rattle.std.specs.Io.KnownBytes.{Appends};
+ghost use Rattle.sb_frames.specs.Sending.{OnlyWhereFailed};
+ghost use Rattle.sb_lines.specs.Printed.{slot_text, entry_line, printed, PrintsLog};
+
+use itoa::Buffer;
+use sb_frames::{LastWrite, write_counted};
+use sb_log::WriteLog;
+use sb_table::Table;
+use sb_types::{Entry, Fault, Name, Prefix, Slot};
+use std::alloc::Global;
+use std::io::Write;
+
+/// Adds a word and the byte behind it.
+fn add_word(out: &mut Vec<u8>, word: &[u8], end: u8) -> Result<(), Fault>
+    ensures added { OnOk result (out.new.items ≡ out.old.items ++ (word.now ++ end ∷ [])) }
+    ensures fault { IfErr result (λ fault. fault ≡ Fault.NoMemory) }
+{
+    out.extend_from_slice(word)?;
+    out.push(end)?;
+    Ok(())
+}
+
+/// Adds a number in decimal digits and the byte behind it.
+fn add_number(out: &mut Vec<u8>, number: u64, end: u8) -> Result<(), Fault>
+    ensures added { OnOk result (out.new.items ≡ out.old.items ++ (decimal number ++ end ∷ [])) }
+    ensures fault { IfErr result (λ fault. fault ≡ Fault.NoMemory) }
+{
+    add_word(out, Buffer::new().format(number).as_bytes(), end)
+}
+
+/// Adds the words of what stands under a key.
+fn add_slot(out: &mut Vec<u8>, slot: &Slot) -> Result<(), Fault>
+    ensures added { OnOk result (out.new.items ≡ out.old.items ++ slot_text slot.now) }
+    ensures fault { IfErr result (λ fault. fault ≡ Fault.NoMemory) }
+{
+    let added = match slot {
+        Slot::Set(value) => write!(out, "{value}"),
+        Slot::Removed => out.write_all(b"removed -"),
+    };
+    match added {
+        Ok(()) => Ok(()),
+        Err(_) => Err(Fault::NoMemory),
+    }
+}
+
+fn add_entry(out: &mut Vec<u8>, owner: &Name, entry: &Entry) -> Result<(), Fault>
+    ensures added { OnOk result (out.new.items ≡ out.old.items ++ entry_line owner.now entry.now) }
+    ensures fault { IfErr result (λ fault. fault ≡ Fault.NoMemory) }
+{
+    add_word(out, owner.bytes(), b' ')?;
+    add_word(out, entry.key().bytes(), b' ')?;
+    add_number(out, entry.version(), b' ')?;
+    add_slot(out, entry.slot())?;
+    out.push(b'\n')?;
+    Ok(())
+}
+
+/// The lines of a table.
+fn lines_of(alloc: Global, owner: &Name, table: &Table) -> Result<Vec<u8>, Fault>
+    ensures lines { IfOk result (λ lines. lines.items ≡ printed owner.now table.now) }
+    ensures fault { IfErr result (λ fault. fault ≡ Fault.NoMemory) }
+{
+    let mut out = Vec::new(alloc);
+    for entry in table.prefix(&Prefix::read(b"")?) {
+        add_entry(&mut out, owner, entry)?;
+    }
+    add_word(&mut out, b"last", b' ')?;
+    add_number(&mut out, table.upto(), b'\n')?;
+    Ok(out)
+}
+
+/// Prints what a log holds: a line `owner key version kind value` for each entry, in ascending key, `owner key version
+/// removed -` where the key was removed, and then `last V`, the version of the last write. The faults of `load`, with
+/// nothing written; `NoMemory` likewise; `WriteFailed` with how many bytes were written, always fewer than all.
+pub fn log_run<L: WriteLog, W: Write>(
+    alloc: Global,
+    log: &mut L,
+    writer: &mut W,
+) -> Result<(), Fault>
+    ensures prints { PrintsLog (L.seen log.old) (L.seen log.new) (W.contents writer.old) (W.contents writer.new) result }
+    // As long as its store does what it promises, the lines are those of the log's content.
+    ensures content { (L.seen log.new).is_clean ≡ true → OnOk result (
+        Appends (W.contents writer.old) (W.contents writer.new) (printed (L.seen log.old).owner (L.seen log.old).content)) }
+{
+    log_run_telling(alloc, log, writer, &mut LastWrite::new())
+}
+
+/// As `log_run`, and tells in `last` what the last write answered.
+pub fn log_run_telling<L: WriteLog, W: Write>(
+    alloc: Global,
+    log: &mut L,
+    writer: &mut W,
+    last: &mut LastWrite,
+) -> Result<(), Fault>
+    ensures prints { PrintsLog (L.seen log.old) (L.seen log.new) (W.contents writer.old) (W.contents writer.new) result }
+    ensures content { (L.seen log.new).is_clean ≡ true → OnOk result (
+        Appends (W.contents writer.old) (W.contents writer.new) (printed (L.seen log.old).owner (L.seen log.old).content)) }
+    // A write that did not fail is no reason to stop.
+    ensures failed { OnlyWhereFailed result last.new }
+{
+    let owner = *log.owner();
+    let table = log.load(alloc)?;
+    let lines = lines_of(alloc, &owner, &table)?;
+    write_counted(writer, &lines, last)
+}
