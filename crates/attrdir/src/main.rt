@@ -2,14 +2,12 @@
 #![tactic(auto)]
 
 mod command_line;
-mod counted;
 mod lines;
 mod node;
 mod output;
 mod parse;
 mod print;
 mod sim;
-mod steps;
 #[cfg(test)]
 mod story;
 #[cfg(test)]
