@@ -6,4 +6,3 @@ pub mod Bodies
 pub mod Values
 pub mod Sizes
 pub mod Laws
-pub mod Standings

@@ -6,4 +6,3 @@ pub mod Fields
 pub mod Reading
 pub mod Refusal
 pub mod Messages
-pub mod Standing

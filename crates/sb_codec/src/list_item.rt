@@ -13,7 +13,6 @@ pub(crate) trait ListItem: Drop {
     ghost use Rattle.std.specs.Prelude.{◌≡◌, ℕ, ◌<◌, List, ◌++◌, OnOk};
     ghost use Rattle.sb_codec.specs.Refusal.{Reads};
     ghost use Rattle.sb_codec.specs.Fields.{Field};
-    ghost use Rattle.sb_codec.specs.Standing.{Stands};
 
     ghost spelling: { Self → List ℕ };
 
@@ -30,8 +29,7 @@ pub(crate) trait ListItem: Drop {
 
     /// Writes it behind what was written.
     fn write(&self, out: &mut Vec<u8>) -> Result<(), AllocError>
-        ensures written { OnOk result (out.new.items ≡ out.old.items ++ spelling self.now) }
-        ensures stands { Stands out.old.items out.new.items };
+        ensures { OnOk result (out.new.items ≡ out.old.items ++ spelling self.now) };
 
     ghost least: { 0 < LEAST };
 }

@@ -1,12 +1,11 @@
 //! The parts of a message, written.
 
-ghost use Rattle.std.specs.Prelude.{◌≡◌, ◌<◌, ◌++◌, [], ◌∷◌, length, true, OnOk};
+ghost use Rattle.std.specs.Prelude.{◌≡◌, ◌<◌, ◌++◌, length, true, OnOk};
 ghost use Rattle.std.specs.Int.{w16, w64};
 ghost use Rattle.sb_types.specs.Text.{is_name};
 ghost use Rattle.sb_types.specs.Value.{is_value};
 ghost use Rattle.sb_types.specs.Limits.{is_slot};
 ghost use Rattle.sb_codec.specs.Limits.{is_optional, is_place};
-ghost use Rattle.sb_codec.specs.Standing.{Stands};
 ghost use Rattle.sb_codec.specs.Spelling.{number, text, list, flag, value, slot, entry, block, optional, pair, place, row};
 
 use crate::list_item::ListItem;
@@ -17,73 +16,49 @@ use sb_types::{
 };
 use std::alloc::AllocError;
 
-/// Writes a byte behind what was written. Whatever comes of it, what was written stands; so it is with all that write.
-#[tactic(auto, using(crate::proofs::Standings::stands_behind, crate::proofs::Standings::stands_still))]
-pub(crate) fn write_byte(out: &mut Vec<u8>, byte: u8) -> Result<(), AllocError>
-    ensures written { OnOk result (out.new.items ≡ out.old.items ++ byte ∷ []) }
-    ensures stands { Stands out.old.items out.new.items }
-{
-    Ok(out.push(byte)?)
-}
-
-#[tactic(auto, using(crate::proofs::Standings::stands_behind, crate::proofs::Standings::stands_still))]
-pub(crate) fn write_bytes(out: &mut Vec<u8>, bytes: &[u8]) -> Result<(), AllocError>
-    ensures written { OnOk result (out.new.items ≡ out.old.items ++ bytes.now) }
-    ensures stands { Stands out.old.items out.new.items }
-{
-    out.extend_from_slice(bytes)
-}
-
 #[tactic(auto, unfolding(crate::specs::Spelling::number))]
 fn write_u16(out: &mut Vec<u8>, count: u16) -> Result<(), AllocError>
-    ensures written { OnOk result (out.new.items ≡ out.old.items ++ number w16 count) }
-    ensures stands { Stands out.old.items out.new.items }
+    ensures { OnOk result (out.new.items ≡ out.old.items ++ number w16 count) }
 {
-    write_bytes(out, &count.to_be_bytes())
+    out.extend_from_slice(&count.to_be_bytes())
 }
 
 #[tactic(auto, unfolding(crate::specs::Spelling::number))]
 pub(crate) fn write_u64(out: &mut Vec<u8>, n: u64) -> Result<(), AllocError>
-    ensures written { OnOk result (out.new.items ≡ out.old.items ++ number w64 n) }
-    ensures stands { Stands out.old.items out.new.items }
+    ensures { OnOk result (out.new.items ≡ out.old.items ++ number w64 n) }
 {
-    write_bytes(out, &n.to_be_bytes())
+    out.extend_from_slice(&n.to_be_bytes())
 }
 
-#[tactic(auto, using(crate::proofs::Standings::stands_on))]
 pub(crate) fn write_text(out: &mut Vec<u8>, bytes: &[u8]) -> Result<(), AllocError>
     requires { length bytes.now < 256 }
-    ensures written { OnOk result (out.new.items ≡ out.old.items ++ text bytes.now) }
-    ensures stands { Stands out.old.items out.new.items }
+    ensures { OnOk result (out.new.items ≡ out.old.items ++ text bytes.now) }
 {
-    write_byte(out, bytes.len() as u8)?;
-    write_bytes(out, bytes)
+    out.push(bytes.len() as u8)?;
+    out.extend_from_slice(bytes)
 }
 
 pub(crate) fn write_flag(out: &mut Vec<u8>, set: bool) -> Result<(), AllocError>
-    ensures written { OnOk result (out.new.items ≡ out.old.items ++ flag set) }
-    ensures stands { Stands out.old.items out.new.items }
+    ensures { OnOk result (out.new.items ≡ out.old.items ++ flag set) }
 {
-    write_byte(out, u8::from(set))
+    Ok(out.push(u8::from(set))?)
 }
 
-#[tactic(auto, using(crate::proofs::Standings::stands_on))]
 fn write_value(out: &mut Vec<u8>, written: &Value) -> Result<(), AllocError>
     ensures written { OnOk result (out.new.items ≡ out.old.items ++ value written.now) }
-    ensures stands { Stands out.old.items out.new.items }
     ensures value { is_value written.now ≡ true }
 {
     match written.view() {
         ValueRef::Addr(bytes) => {
-            write_byte(out, TAG_ADDR)?;
+            out.push(TAG_ADDR)?;
             write_text(out, bytes)
         }
         ValueRef::Weight(weight) => {
-            write_byte(out, TAG_WEIGHT)?;
+            out.push(TAG_WEIGHT)?;
             write_u64(out, weight)
         }
         ValueRef::Flag(set) => {
-            write_byte(out, TAG_FLAG)?;
+            out.push(TAG_FLAG)?;
             write_flag(out, set)
         }
     }
@@ -92,41 +67,36 @@ fn write_value(out: &mut Vec<u8>, written: &Value) -> Result<(), AllocError>
 #[tactic(auto, unfolding(crate::specs::Spelling::slot))]
 pub(crate) fn write_slot(out: &mut Vec<u8>, value: &Slot) -> Result<(), AllocError>
     ensures written { OnOk result (out.new.items ≡ out.old.items ++ slot value.now) }
-    ensures stands { Stands out.old.items out.new.items }
     ensures slot { is_slot value.now ≡ true }
 {
     match value {
-        Slot::Removed => write_byte(out, TAG_REMOVED)?,
+        Slot::Removed => out.push(TAG_REMOVED)?,
         Slot::Set(value) => write_value(out, value)?,
     }
     Ok(())
 }
 
-#[tactic(auto, using(crate::proofs::Standings::stands_on), unfolding(crate::specs::Spelling::entry))]
+#[tactic(auto, unfolding(crate::specs::Spelling::entry))]
 pub(crate) fn write_entry(out: &mut Vec<u8>, written: &Entry) -> Result<(), AllocError>
-    ensures written { OnOk result (out.new.items ≡ out.old.items ++ entry written.now) }
-    ensures stands { Stands out.old.items out.new.items }
+    ensures { OnOk result (out.new.items ≡ out.old.items ++ entry written.now) }
 {
     write_text(out, written.key().bytes())?;
     write_u64(out, written.version())?;
     write_slot(out, written.slot())
 }
 
-#[tactic(auto, using(crate::proofs::Standings::stands_on), unfolding(crate::specs::Spelling::block))]
+#[tactic(auto, unfolding(crate::specs::Spelling::block))]
 pub(crate) fn write_block(out: &mut Vec<u8>, written: &Block) -> Result<(), AllocError>
-    ensures written { OnOk result (out.new.items ≡ out.old.items ++ block written.now) }
-    ensures stands { Stands out.old.items out.new.items }
+    ensures { OnOk result (out.new.items ≡ out.old.items ++ block written.now) }
 {
     write_text(out, written.owner().bytes())?;
     write_u64(out, written.after())?;
     write_list(out, written.entries())
 }
 
-#[tactic(auto, using(crate::proofs::Standings::stands_on, crate::proofs::Standings::stands_behind))]
 pub(crate) fn write_list<T: ListItem>(out: &mut Vec<u8>, items: &[T]) -> Result<(), AllocError>
     requires { length items.now < 65536 }
-    ensures written { OnOk result (out.new.items ≡ out.old.items ++ list T.spelling items.now) }
-    ensures stands { Stands out.old.items out.new.items }
+    ensures { OnOk result (out.new.items ≡ out.old.items ++ list T.spelling items.now) }
 {
     write_u16(out, items.len() as u16)?;
     for item in items {
@@ -137,7 +107,6 @@ pub(crate) fn write_list<T: ListItem>(out: &mut Vec<u8>, items: &[T]) -> Result<
 
 pub(crate) fn write_optional_name(out: &mut Vec<u8>, name: Option<Name>) -> Result<(), AllocError>
     ensures written { OnOk result (out.new.items ≡ out.old.items ++ optional name) }
-    ensures stands { Stands out.old.items out.new.items }
     ensures name { is_optional is_name name ≡ true }
 {
     match name {
@@ -146,32 +115,28 @@ pub(crate) fn write_optional_name(out: &mut Vec<u8>, name: Option<Name>) -> Resu
     }
 }
 
-#[tactic(auto, using(crate::proofs::Standings::stands_on))]
 pub(crate) fn write_place(out: &mut Vec<u8>, after: Option<(Name, Key)>) -> Result<(), AllocError>
     ensures written { OnOk result (out.new.items ≡ out.old.items ++ place after) }
-    ensures stands { Stands out.old.items out.new.items }
     ensures place { is_optional is_place after ≡ true }
 {
     let Some((owner, key)) = after else {
-        return write_bytes(out, &[0, 0]);
+        return out.extend_from_slice(&[0, 0]);
     };
     write_text(out, owner.bytes())?;
     write_text(out, key.bytes())
 }
 
-#[tactic(auto, using(crate::proofs::Standings::stands_on), unfolding(crate::specs::Spelling::pair))]
+#[tactic(auto, unfolding(crate::specs::Spelling::pair))]
 pub(crate) fn write_pair(out: &mut Vec<u8>, written: &Pair) -> Result<(), AllocError>
-    ensures written { OnOk result (out.new.items ≡ out.old.items ++ pair written.now) }
-    ensures stands { Stands out.old.items out.new.items }
+    ensures { OnOk result (out.new.items ≡ out.old.items ++ pair written.now) }
 {
     write_text(out, written.owner.bytes())?;
     write_u64(out, written.upto)
 }
 
-#[tactic(auto, using(crate::proofs::Standings::stands_on), unfolding(crate::specs::Spelling::row))]
+#[tactic(auto, unfolding(crate::specs::Spelling::row))]
 pub(crate) fn write_row(out: &mut Vec<u8>, written: &Row) -> Result<(), AllocError>
-    ensures written { OnOk result (out.new.items ≡ out.old.items ++ row written.now) }
-    ensures stands { Stands out.old.items out.new.items }
+    ensures { OnOk result (out.new.items ≡ out.old.items ++ row written.now) }
 {
     write_text(out, written.owner().bytes())?;
     write_text(out, written.key().bytes())?;

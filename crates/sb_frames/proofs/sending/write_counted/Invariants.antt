@@ -1,14 +1,13 @@
 use Rattle.std.proofs.Common.{◌+◌, ◌-◌, ◌*◌, ◌≤◌, length, take}
 use Rattle.std.specs.Io.KnownBytes.{Appends}
-use Rattle.sb_frames.specs.declared.sending.TheConstants.{INTERRUPTED_MOST}
 use Rattle.sb_frames.proofs.sending.write_counted.Given as goal
 
 abbrev pub invariant-loop-count : goal.invariant-loop-count
 invariant-loop-count g l = record {
   within : l.count ≤ length l.bytes;
-  few : l.left ≤ INTERRUPTED_MOST;
+  few : l.left ≤ 1000;
   written : Appends (g.W.Write.contents l.initial.writer) (g.W.Write.contents l.writer) (take l.count l.bytes);
 }
 
 abbrev pub decreases-loop-count : goal.decreases-loop-count
-decreases-loop-count g l = (length l.bytes - l.count) * (INTERRUPTED_MOST + 1) + l.left
+decreases-loop-count g l = (length l.bytes - l.count) * 1001 + l.left
