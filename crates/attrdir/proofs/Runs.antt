@@ -1,4 +1,4 @@
-use Rattle.std.proofs.Common.{◌≡◌, ℕ, ◌+◌, ◌<◌, ◌≤◌, Bool, false, List, length, Option, Result, Ok, Err, tt, refl, ap, inl, inr, arith}
+use Rattle.std.proofs.Common.{◌≡◌, ℕ, ◌+◌, ◌<◌, ◌≤◌, Bool, false, List, length, Option, Result, Ok, Err, refl, ap, inl, inr, arith}
 use Rattle.std.specs.Prelude.{IfOk, OnOk, IfErr}
 use Rattle.sb_types.specs.declared.fault.Fault.{Fault}
 use Rattle.sb_types.specs.declared.fault.Fault.TheVariants.{NoMemory, ReadFailed, WriteFailed, TurnsSpent}
@@ -60,15 +60,15 @@ module _ (from to : Option (List ℕ)) (bytes : List ℕ) (steps before steps' l
   reads_fault (Err fault) g sum =
       elim g.1 [
         | inl failed ↦ (let made = failed.1 in record {
-            kind = rw failed.0 refl;
-            read = λ r. omega (arith, sum, made);
-            spent = λ r. let same : ReadFailed ≡ TurnsSpent = rw (← failed.0) r in let bad : 16 ≡ 29 = ap number_of same in absurd (omega (arith, bad));
-          })
+          kind = rw failed.0 refl;
+          read = λ r. omega (arith, sum, made);
+          spent = λ r. let same : ReadFailed ≡ TurnsSpent = rw (← failed.0) r in let bad : 16 ≡ 29 = ap number_of same in absurd (omega (arith, bad));
+        })
         | inr spent ↦ (let none = spent.1 in record {
-            kind = rw spent.0 refl;
-            read = λ r. let same : TurnsSpent ≡ ReadFailed = rw (← spent.0) r in let bad : 29 ≡ 16 = ap number_of same in absurd (omega (arith, bad));
-            spent = λ r. omega (arith, sum, none);
-          })
+          kind = rw spent.0 refl;
+          read = λ r. let same : TurnsSpent ≡ ReadFailed = rw (← spent.0) r in let bad : 29 ≡ 16 = ap number_of same in absurd (omega (arith, bad));
+          spent = λ r. omega (arith, sum, none);
+        })
       ]
 
   pub reads_early : (result : Result ℕ Fault) → GivesBytes from to bytes before left result → steps' + left ≡ steps + before

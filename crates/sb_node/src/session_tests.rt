@@ -257,8 +257,14 @@ fn a_delta_in_any_pieces(rt: HostRuntime) -> Result<(), Fail> {
     assert_eq!(rt; heard(alloc, &[FRAME], 1, 99)?, whole);
     assert_eq!(rt; heard(alloc, &[FRAME], 51, 99)?, whole);
     assert_eq!(rt; heard(alloc, &[FRAME, FRAME], 4_096, 99)?, whole);
-    assert_eq!(rt; heard(alloc, &[front], 4_096, 99)?, (Err(Fault::Truncated), 0));
-    assert_eq!(rt; heard(alloc, &[FRAME], 4_096, 0)?, (Err(Fault::TurnsSpent), 0));
+    assert_eq!(rt;
+        heard(alloc, &[front], 4_096, 99)?,
+        (Err(Fault::Truncated), 0)
+    );
+    assert_eq!(rt;
+        heard(alloc, &[FRAME], 4_096, 0)?,
+        (Err(Fault::TurnsSpent), 0)
+    );
     Ok(())
 }
 
