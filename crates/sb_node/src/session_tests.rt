@@ -103,7 +103,7 @@ struct Terms<'a> {
     rounds: Option<u64>,
 }
 
-fn terms(said: &[u8], rounds: Option<u64>) -> Terms<'_> {
+fn peer_terms(said: &[u8], rounds: Option<u64>) -> Terms<'_> {
     Terms {
         said,
         piece: 4_096,
@@ -188,17 +188,17 @@ fn two_nodes_talk(rt: HostRuntime) -> Result<(), Fail> {
         let mut asked = node_b(alloc)?;
         let terms = Terms {
             piece,
-            ..terms(SAID_BY_A, None)
+            ..peer_terms(SAID_BY_A, None)
         };
         let served = talk(&mut asked, alloc, terms, SAID_BY_B)?;
         assert_eq!(rt; served, (Ok(Ended::Bye(1)), true));
     }
     let mut asked = node_b(alloc)?;
-    let told = talk(&mut asked, alloc, terms(b"", Some(0)), DIALED_BY_B)?;
+    let told = talk(&mut asked, alloc, peer_terms(b"", Some(0)), DIALED_BY_B)?;
     assert_eq!(rt; told, (Ok(Ended::RoundsDone), true));
 
     let mut asks = node(alloc, a, 256, Order::Breadth)?;
-    let dialed = talk(&mut asks, alloc, terms(SAID_BY_B, Some(1)), DIALED_BY_A)?;
+    let dialed = talk(&mut asks, alloc, peer_terms(SAID_BY_B, Some(1)), DIALED_BY_A)?;
     assert_eq!(rt; dialed, (Ok(Ended::RoundsDone), true));
     assert_eq!(rt; asks.upto(&b), 1);
     Ok(())
@@ -211,7 +211,7 @@ fn peers_that_give_out(rt: HostRuntime) -> Result<(), Fail> {
         let mut asked = node_b(alloc)?;
         let terms = Terms {
             room,
-            ..terms(SAID_BY_A, None)
+            ..peer_terms(SAID_BY_A, None)
         };
         let written = SAID_BY_B.get(..room).unwrap_or(&[]);
         let served = talk(&mut asked, alloc, terms, written)?;
@@ -220,7 +220,7 @@ fn peers_that_give_out(rt: HostRuntime) -> Result<(), Fail> {
     let mut asked = node_b(alloc)?;
     let terms = Terms {
         breaks: true,
-        ..terms(HELLO_A, None)
+        ..peer_terms(HELLO_A, None)
     };
     let written = SAID_BY_B.get(..12).unwrap_or(&[]);
     let served = talk(&mut asked, alloc, terms, written)?;
@@ -243,7 +243,7 @@ fn heard(
     let terms = Terms {
         piece,
         reads,
-        ..terms(&said, None)
+        ..peer_terms(&said, None)
     };
     let (ended, _) = talk(&mut core, alloc, terms, b"")?;
     Ok((ended, core.upto(&Name::read(b"a")?)))
