@@ -1,5 +1,6 @@
 //! The command line of the program, and the layers in turn.
 use crate::layers::{self, WholeDelta};
+use crate::logs;
 use crate::problem::Problem;
 use crate::report::Telling;
 use crate::sample::{Sizes, blocks, full_node};
@@ -19,11 +20,12 @@ const SMOKE_SIZES: Sizes = Sizes {
     rounds: 2,
 };
 
-const EXAMPLE: &str = "Each line has a name, a value and a unit. The times are of the processor.
+const EXAMPLE: &str = "Each line has a name, a value and a unit. The times are of the processor, but for those of files, which are of the clock.
 
 Example:
   $ attrdir_bench 1 4096 5        one owner of 4,096 keys, each layer five times
-  $ attrdir_bench 1023 1 100      1,023 owners of one key each";
+  $ attrdir_bench 1023 1 100      1,023 owners of one key each
+  $ attrdir_bench 1 4096 2 --log /var/tmp/new.log        the same, and a new log of 4,096 keys in that file";
 
 fn owners<'a>(alloc: Global) -> Arg<'a> {
     Arg::new(alloc, "OWNERS")
@@ -53,6 +55,14 @@ fn smoke<'a>(alloc: Global) -> Arg<'a> {
         .help("Runs each layer at a small size and prints counts in place of times")
 }
 
+fn log<'a>(alloc: Global) -> Arg<'a> {
+    Arg::new(alloc, "log")
+        .long("log")
+        .value_name("FILE")
+        .action(ArgAction::Set)
+        .help("Makes a log in FILE, measures it too, and bare writes to FILE.bare")
+}
+
 fn command<'a>(alloc: Global) -> Result<Command<'a>, AllocError> {
     Command::new(alloc, "attrdir_bench")
         .about("Measures each layer of the directory of the attributes of nodes")
@@ -60,7 +70,8 @@ fn command<'a>(alloc: Global) -> Result<Command<'a>, AllocError> {
         .arg(owners(alloc))?
         .arg(keys(alloc))?
         .arg(rounds(alloc))?
-        .arg(smoke(alloc))
+        .arg(smoke(alloc))?
+        .arg(log(alloc))
 }
 
 fn sizes_of(matches: &ArgMatches<'_>) -> Sizes {
@@ -122,6 +133,20 @@ fn measure_bytes(
     Ok(())
 }
 
+/// How an owner's log takes writes, and opens, in a file.
+fn measure_file(
+    rt: &HostRuntime,
+    sizes: Sizes,
+    telling: Telling,
+    path: &str,
+) -> Result<(), Problem> {
+    logs::put_file(rt, sizes, path)?.print(rt, telling, "put-file", "write")?;
+    let beside = format!(in rt.alloc(); "{path}.bare")?;
+    logs::bare(rt, sizes, beside.as_str())?.print(rt, telling, "bare", "write")?;
+    logs::open_file(rt, sizes, path)?.print(rt, telling, "open", "log")?;
+    Ok(())
+}
+
 /// Measures each layer and prints a line for it.
 fn measure(rt: &HostRuntime, sizes: Sizes, telling: Telling) -> Result<(), Problem> {
     let blocks = blocks(rt.alloc(), sizes)?;
@@ -129,7 +154,9 @@ fn measure(rt: &HostRuntime, sizes: Sizes, telling: Telling) -> Result<(), Probl
     measure_node(rt, sizes, telling, &blocks, &node)?;
     measure_delta(rt, sizes, telling, &node)?;
     let delta = layers::greatest_delta(rt.alloc(), &node)?;
-    measure_bytes(rt, sizes, telling, &delta)
+    measure_bytes(rt, sizes, telling, &delta)?;
+    logs::put_plain(rt, sizes)?.print(rt, telling, "put", "write")?;
+    Ok(())
 }
 
 fn words(rt: &HostRuntime) -> Result<Vec<String>, Problem> {
@@ -141,7 +168,11 @@ pub(crate) fn run(rt: &HostRuntime) -> Result<u8, Problem> {
     let words = words(rt)?;
     match command(rt.alloc())?.try_get_matches_from(words.as_slice()) {
         Ok(matches) => {
-            measure(rt, sizes_of(&matches), telling_of(&matches))?;
+            let (sizes, telling) = (sizes_of(&matches), telling_of(&matches));
+            measure(rt, sizes, telling)?;
+            if let Some(path) = matches.get_str("log") {
+                measure_file(rt, sizes, telling, path)?;
+            }
             Ok(0)
         }
         Err(error) if error.kind() == ErrorKind::OutOfMemory => Err(AllocError.into()),

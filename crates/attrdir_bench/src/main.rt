@@ -3,6 +3,7 @@
 
 mod command_line;
 mod layers;
+mod logs;
 mod problem;
 mod report;
 mod sample;
