@@ -22,7 +22,11 @@ const CONTENTS: [(usize, u64, Option<u64>); 4] = [
     (2, 3, Some(7)),
 ];
 
-fn put<D: Disk + Drop>(log: &mut SqlLog<FileStore<D>>, key: &[u8], weight: u64) -> Result<u64, Fault> {
+fn put<D: Disk + Drop>(
+    log: &mut SqlLog<FileStore<D>>,
+    key: &[u8],
+    weight: u64,
+) -> Result<u64, Fault> {
     let committed = log.put(&Key::read(key)?, &Slot::Set(Value::weight(weight)?))?;
     Ok(committed.entry().version())
 }
@@ -68,7 +72,10 @@ fn run(alloc: Global, log_calls: u64, db_calls: u64) -> Option<(u64, Files<Stopp
     }
 }
 
-fn run_over(alloc: Global, conn: Connection<FileStore<Stopping>>) -> Option<(u64, Files<Stopping>)> {
+fn run_over(
+    alloc: Global,
+    conn: Connection<FileStore<Stopping>>,
+) -> Option<(u64, Files<Stopping>)> {
     let mut conn = conn;
     if makes_tables(alloc, &mut conn).is_err() {
         return Some((0, files_of(conn)));
@@ -88,7 +95,10 @@ fn left_whole(alloc: Global, disk: &Stopping) -> io::Result<Stopping>
     Ok(Fuse::new(whole, u64::MAX))
 }
 
-fn held(alloc: Global, log: &mut SqlLog<FileStore<Stopping>>) -> Result<(usize, u64, Option<u64>), Fault> {
+fn held(
+    alloc: Global,
+    log: &mut SqlLog<FileStore<Stopping>>,
+) -> Result<(usize, u64, Option<u64>), Fault> {
     let table = log.load(alloc)?;
     let weight = match table.get(&Key::read(b"x")?) {
         Some((_, Slot::Set(value))) => value.as_weight(),
@@ -107,12 +117,17 @@ fn recovers(
     requires log { IsTrue (fuse_is_usable files.log) }
     requires db { IsTrue (fuse_is_usable files.db) }
 {
-    let conn = Connection::open_files(alloc, files, Options::new(8)).ok().ok_or("it opens")?;
+    let conn = Connection::open_files(alloc, files, Options::new(8))
+        .ok()
+        .ok_or("it opens")?;
     let mut log = open(alloc, conn)?;
     let found = held(alloc, &mut log)?;
     let before = CONTENTS[acknowledged.min(3) as usize];
     let with = CONTENTS[(acknowledged + 1).min(3) as usize];
-    assert!(rt; found == before || found == with, "{found:?} after {acknowledged}");
+    assert!(rt;
+        found == before || found == with,
+        "{found:?} after {acknowledged}"
+    );
     assert_eq!(rt; put(&mut log, b"z", 1), Ok(found.1 + 1));
     Ok(())
 }
