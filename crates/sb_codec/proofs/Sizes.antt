@@ -116,7 +116,7 @@ put-spelled w = omega (arith, length-append (text w.key) (slot w.slot), slot-len
 
 -- ---- the longest of each
 
-name-most : (t : List ℕ) → is_name t ≡ true → length t ≤ 32
+pub name-most : (t : List ℕ) → is_name t ≡ true → length t ≤ 32
 name-most t fits = (between_parts 1 NAME_MOST (length t) (and_parts (is_between 1 NAME_MOST (length t)) (list_all is_name_byte t) fits).0).1
 
 key-most : (t : List ℕ) → is_key t ≡ true → length t ≤ 64

@@ -1,6 +1,7 @@
 //! A message onto a writer.
 
-ghost use Rattle.std.specs.Prelude.{◌≡◌, IfOk, IfErr, OnOk};
+ghost use Rattle.std.specs.Prelude.{◌≡◌, true, IfOk, IfErr, OnOk};
+ghost use Rattle.sb_codec.specs.Messages.{is_message};
 ghost use Rattle.sb_frames.specs.Frames.{frame};
 ghost use Rattle.sb_frames.specs.Sending.{Sends, OnlyWhereFailed};
 
@@ -14,6 +15,7 @@ use std::io::Write;
 /// has no room for it. `NoMemory` is its only fault.
 fn write_frame(buffer: &mut Vec<u8>, message: &Message) -> Result<(), Fault>
     ensures frame { OnOk result (buffer.new.items ≡ frame message.now) }
+    ensures limits { OnOk result (is_message message.now ≡ true) }
     ensures fault { IfErr result (λ fault. fault ≡ Fault.NoMemory) }
 {
     let frame_length = length(message);
@@ -28,6 +30,7 @@ fn write_frame(buffer: &mut Vec<u8>, message: &Message) -> Result<(), Fault>
 /// The frame of the message, in one buffer. `NoMemory` is its only fault.
 pub fn frame_of(alloc: Global, message: &Message) -> Result<Vec<u8>, Fault>
     ensures frame { IfOk result (λ v. v.items ≡ frame message.now) }
+    ensures limits { OnOk result (is_message message.now ≡ true) }
     ensures fault { IfErr result (λ fault. fault ≡ Fault.NoMemory) }
 {
     let mut frame = Vec::new(alloc);

@@ -49,7 +49,7 @@ asked_true writes s core (kinds.Put wanted) t new a = absurd a
 asked_true writes s core (kinds.Done version) t new a = absurd a
 asked_true writes s core (kinds.Refused fault) t new a = absurd a
 
-asked_in_true : (writes : List ℕ → List Write) (phase : Phase) (s : Session) (core : Core) (m : Message) (t : Session) (new : Core)
+pub asked_in_true : (writes : List ℕ → List Write) (phase : Phase) (s : Session) (core : Core) (m : Message) (t : Session) (new : Core)
     → AsksIn phase Steps s core (Ok m) t new → TrueMessage writes m
 asked_in_true writes phases.Waiting s core m t new a = asked_true writes s core m t new a
 asked_in_true writes phases.Greeted s core m t new a = asked_true writes s core m t new a
@@ -91,7 +91,7 @@ applied_is blocks (replies.Answered delta) are = no_calls
 applied_is blocks (replies.Exchanged delta digest) are = no_calls
 applied_is blocks (replies.Ended reason) are = no_calls
 
-calls_are : (s : Session) (core : Core) (m : Message) (answer : Replies) (t : Session) (new : Core) → Takes Steps s core m (Ok answer) t new → AreCalls (taken_of m answer)
+pub calls_are : (s : Session) (core : Core) (m : Message) (answer : Replies) (t : Session) (new : Core) → Takes Steps s core m (Ok answer) t new → AreCalls (taken_of m answer)
 calls_are s core (kinds.Delta blocks) answer t new a = applied_is blocks answer (ended s core blocks answer t new a).0
 calls_are s core (kinds.Hello hello) answer t new a = no_calls
 calls_are s core (kinds.Digest told) answer t new a = no_calls
@@ -109,7 +109,7 @@ applied_true writes me blocks (replies.Answered delta) are = none_true writes me
 applied_true writes me blocks (replies.Exchanged delta digest) are = none_true writes me
 applied_true writes me blocks (replies.Ended reason) are = none_true writes me
 
-calls_true : (writes : List ℕ → List Write) (me : List ℕ) (m : Message) (answer : Replies) → TrueMessage writes m → AreTrue writes me (taken_of m answer)
+pub calls_true : (writes : List ℕ → List Write) (me : List ℕ) (m : Message) (answer : Replies) → TrueMessage writes m → AreTrue writes me (taken_of m answer)
 calls_true writes me (kinds.Delta blocks) answer are = applied_true writes me blocks answer are
 calls_true writes me (kinds.Hello hello) answer are = none_true writes me
 calls_true writes me (kinds.Digest told) answer are = none_true writes me
@@ -162,7 +162,7 @@ module _ (laws : Laws) (writes : List ℕ → List Write) where
       let same : answer ≡ replies.Ended reason = cc in
       rw same (none_said writes)
 
-  heard_said : (s : Session) (core : Core) (m : Message) (answer : Replies) (t : Session) (new : Core) → IsNode core.node → NodeHolds writes core.node
+  pub heard_said : (s : Session) (core : Core) (m : Message) (answer : Replies) (t : Session) (new : Core) → IsNode core.node → NodeHolds writes core.node
       → Takes Steps s core m (Ok answer) t new → AreTrueMessages writes (messages_of answer)
   heard_said s core (kinds.Hello hello) answer t new is holds a = greeted_said answer (Ok answer) refl (up_unless (refusal_of s (kinds.Hello hello)) s core (kinds.Hello hello) answer t new a).0
   heard_said s core (kinds.Digest told) answer t new is holds a = reply_true s core told answer is holds (replied s core told answer t new a)
@@ -174,7 +174,7 @@ module _ (laws : Laws) (writes : List ℕ → List Write) where
   heard_said s core (kinds.Done version) answer t new is holds a = absurd (up_unless (refusal_of s (kinds.Done version)) s core (kinds.Done version) answer t new a)
   heard_said s core (kinds.Refused fault) answer t new is holds a = absurd (up_unless (refusal_of s (kinds.Refused fault)) s core (kinds.Refused fault) answer t new a)
 
-  heard_kept : (s : Session) (core : Core) (m : Message) (answer : Replies) (said : List Message) (t : Session) (new : Core) → IsNode core.node → NodeHolds writes core.node
+  pub heard_kept : (s : Session) (core : Core) (m : Message) (answer : Replies) (said : List Message) (t : Session) (new : Core) → IsNode core.node → NodeHolds writes core.node
       → TrueMessage writes m → Takes Steps s core m (Ok answer) t new → said ≡ messages_of answer → Kept writes new said
   heard_kept s core m answer said t new is holds true_m a e =
       let after : new ≡ with_node core (replay_calls core.node (taken_of m answer)) = taken s core m answer t new a in

@@ -1,8 +1,9 @@
 -- What each event leaves of its node.
-use Rattle.std.proofs.Common.{◌≡◌, ℕ, zero, suc, ◌+◌, Bool, true, false, List, [], ◌∷◌, ◌++◌, length, inl, inr, ⊎_elim, Option, Some, None, IfSome, Result, Ok, Err, slice_get, refl, sym, ap, subst, ◌∙◌, arith}
+use Rattle.std.proofs.Common.{◌≡◌, ℕ, zero, suc, ◌+◌, ◌≤◌, ◌⊎◌, Bool, true, false, cond, not, nat_eq, List, [], ◌∷◌, ◌++◌, length, take, drop, inl, inr, ⊎_elim, Option, Some, None, IfSome, Result, Ok, Err, slice_get, refl, sym, ap, subst, ◌∙◌, arith}
 use Rattle.std.proofs.lemmas.Bool.{cases_Bool, true≢false}
-use Rattle.std.proofs.lemmas.List.{append-nil}
 use Rattle.std.specs.Prelude.{unwrap_or}
+use Rattle.std.specs.Cmp.Lexicographic.{pointwise}
+use Rattle.std.proofs.lemmas.List.{take-append-drop}
 use Rattle.sb_types.specs.declared.entry.Slot.{Slot}
 use Rattle.sb_types.specs.declared.entry.Write.{Write}
 use Rattle.sb_types.specs.declared.fault.Fault.{Fault}
@@ -10,37 +11,48 @@ use Rattle.sb_types.specs.declared.fault.Fault.TheVariants.{NoMemory, Closed}
 use Rattle.sb_types.specs.Limits.{is_delta}
 use Rattle.sb_types.specs.Records.{Entry, Table, Block, Settings}
 use Rattle.sb_types.specs.Runs.{Stands}
-use Rattle.sb_types.specs.Writes.{Written, Honest}
+use Rattle.sb_types.specs.Writes.{Written}
 use Rattle.sb_table.specs.Plain.{with_entry}
 use Rattle.sb_holdings.specs.Contents.{entry_of_write, content_table}
 use Rattle.sb_holdings.specs.Growth.{Grows}
-use Rattle.sb_holdings.specs.Nodes.{Node, Wrote, IsNode, NodeHolds, IsNodeEvent, TrueAt, AreNodeEvents, AllTrueAt}
+use Rattle.sb_holdings.specs.Nodes.{Wrote, replay_node, IsNodeEvent, TrueAt, AreNodeEvents, AllTrueAt}
+use Rattle.sb_types.proofs.Standing.{either, of_kept}
 use Rattle.sb_holdings.proofs.Growing.{content-grown, written-grown}
-use Rattle.sb_holdings.proofs.Lasting.{tells_later}
-use Rattle.sb_holdings.proofs.Ended.{IsBlock-delta, block-of_delta}
 use Rattle.sb_digest.specs.Digests.{Digest}
 use Rattle.sb_codec.specs.declared.message.Message.{Message}
 use Rattle.sb_codec.specs.declared.message.Message.TheVariants as messages
 use Rattle.sb_codec.specs.Messages.{is_message}
 use Rattle.sb_codec.proofs.Sizes.{delta-spelled}
-use Rattle.sb_frames.specs.Frames.{frame, Front, short, whole, bad, front_of}
-use Rattle.sb_frames.proofs.Fronts.{front_frame}
+use Rattle.sb_frames.specs.Frames.{frame}
+use Rattle.sb_frames.specs.Streams.{Stream, TakesNext}
 use Rattle.sb_frames.proofs.Splitting.{length-frame}
 use Rattle.sb_log.specs.Records.{Committed, Log}
 use Rattle.sb_log.specs.Puts.{Puts, Loads, next_entry}
 use Rattle.sb_node.specs.Answers.{IsAnswer}
-use Rattle.sb_node.specs.Calls.{AreHonest}
-use Rattle.sb_node.specs.Ends.{took_each}
-use Rattle.sb_node.proofs.Truth.{are_events, all_true}
+use Rattle.sb_node.specs.Cores.{Core, with_node}
+use Rattle.sb_node.specs.Steps.{Steps}
+use Rattle.sb_node.specs.Talks.{TrueMessage}
+use Rattle.sb_node.proofs.Sessions.{asked}
+use Rattle.sb_node.proofs.Told.{Laws}
+use Rattle.sb_node.proofs.Truth.{calls_are, calls_true}
+use Rattle.sb_session.specs.Sessions.{Session, hello_of}
+use Rattle.sb_session.specs.Taking.{Asks}
 use Rattle.sb_world.specs.declared.event.Event.{Event}
-use Rattle.sb_world.specs.declared.event.Event.TheVariants.{Commit, Take, CrashInCommit, Restart, Offer, Deliver, Read, Upto}
+use Rattle.sb_world.specs.declared.event.Event.TheVariants.{Commit, Take, CrashInCommit, Restart, Connect, Close, Line, Piece, Ask, Offer, Read, Upto}
 use Rattle.sb_world.specs.declared.event.Answer.{Answer}
 use Rattle.sb_world.specs.Places.{Place, frame_at}
-use Rattle.sb_world.specs.Turns.{Effect, rests, logs, goes, opens, Turn, still, write_of, IsLogged, commit_turn, crash_turn, waiting_after, Crashes, TakesFirst, take_turn, RestartEnds, reopened_turn, refused_turn, sent_turn, Delivers, TakesFront, TakesDelta, delivered_turn, delta_in, Acts, ActsWhere, Does, answers_to}
+use Rattle.sb_world.specs.Turns.{Effect, rests, logs, goes, opens, Turn, still, with_core, write_of, IsLogged, commit_turn, crash_turn, waiting_after, Crashes, TakesFirst, take_turn, RestartEnds, reopened_turn, refused_turn, sent_turn}
+use Rattle.sb_world.specs.Connections.{Connection, connection_at, with_connection, without_connection, of_others}
+use Rattle.sb_world.specs.Hearing.{Tells, calls_in, events_in}
+use Rattle.sb_world.specs.Connecting.{Stays, begun, new_connection, Connects, Closes, lined, LinesUp, in_session, Asked, AsksOn, fed, listener, heard_by, connections_after, piece_turn, Delivers, Pieces}
+use Rattle.sb_world.specs.Events.{Acts, ActsWhere, Does, answers_to}
+use Rattle.sb_world.specs.Lines.{IsLine, IsTrueConnection}
 use Rattle.sb_world.specs.States.{Past, put_at, writes_after, past_after}
 use Rattle.sb_world.specs.Truth.{IsTrueFrame, IsTruePlace}
 use Rattle.sb_world.proofs.Names.{put_same}
-use Rattle.sb_world.proofs.Going.{grown}
+use Rattle.sb_world.proofs.Going.{grown, events_on}
+use Rattle.sb_world.proofs.Lines.{line_empty, line_joined, line_fed, line_later, connection_later}
+use Rattle.sb_world.proofs.Listening.{IsTrueListener, Listened, listened, asked_true, asked_within, nothing_next, tells_core, tells_end, tells_frames}
 use Rattle.sb_world.proofs.Keeping.{AreWaiting, waiting_more, waiting_on, relogged, went, reopened}
 
 -- ---- the node stays the same, and so does what is trusted
@@ -71,41 +83,66 @@ restarts_same p (Ok table) log turn loads ends =
     ends
 restarts_same p (Err fault) log turn loads ends = turned_same p turn (refused_turn p log fault) ends (record { me = refl; clean = loads.stays.clean })
 
-delta_same : (p : Place) (blocks : Option (List Block)) (turn : Turn) → TakesDelta p blocks turn → Same p turn
-delta_same p None turn is = turned_same p turn _ is (still_same p _)
-delta_same p (Some blocks) turn takes = turned_same p turn (delivered_turn p blocks takes.0) takes.2 (record { me = refl; clean = λ e. e })
-
-front_same : (p : Place) (front : Front) (turn : Turn) → TakesFront p front turn → Same p turn
-front_same p short turn is = turned_same p turn _ is (still_same p _)
-front_same p (whole message rest) turn takes = delta_same p (delta_in message) turn takes
-front_same p (bad fault) turn is = turned_same p turn _ is (still_same p _)
-
-delivers_same : (p : Place) (bytes : Option (List ℕ)) (turn : Turn) → Delivers p bytes turn → Same p turn
-delivers_same p None turn is = turned_same p turn _ is (still_same p _)
-delivers_same p (Some bytes) turn takes = ⊎_elim (λ is. turned_same p turn _ is (still_same p _)) (front_same p (front_of bytes) turn) takes
-
 crashes_same : (p : Place) (key : List ℕ) (slot : Slot) (is_kept : Bool) (turn : Turn) → Crashes p key slot is_kept turn → Same p turn
 crashes_same p key slot false turn is = turned_same p turn (crash_turn p rests p.log) is (record { me = refl; clean = λ e. e })
 crashes_same p key slot true turn c = turned_same p turn (crash_turn p c.1 c.2) c.5 (record { me = refl; clean = c.3.stays.clean })
 
-acts_same : (event : Event) (p : Place) (sent : List (List ℕ)) (turn : Turn) → Acts event p sent turn → Same p turn
-acts_same (Commit me key slot) p sent turn acts =
-    ⊎_elim (λ is. turned_same p turn _ is (still_same p _)) (λ c. turned_same p turn (commit_turn p c.0 c.1 c.2) c.5 (record { me = refl; clean = c.3.stays.clean })) acts
-acts_same (Take me) p sent turn acts = takes_same p p.waiting turn acts
-acts_same (CrashInCommit me key slot is_kept) p sent turn acts = crashes_same p key slot is_kept turn acts
-acts_same (Restart me) p sent turn acts = restarts_same p acts.0 acts.1 turn acts.2 acts.3
-acts_same (Offer me owner after) p sent turn acts =
-    ⊎_elim (λ is. turned_same p turn _ is (still_same p _)) (λ o. turned_same p turn (sent_turn p sent o.0) o.4 (record { me = refl; clean = λ e. e })) acts
-acts_same (Deliver me number) p sent turn acts = delivers_same p (frame_at sent number) turn acts
-acts_same (Read me owner key) p sent turn acts = ⊎_elim (λ is. turned_same p turn _ is (still_same p _)) (λ is. turned_same p turn _ is (still_same p _)) acts
-acts_same (Upto me owner) p sent turn acts = turned_same p turn _ acts (still_same p _)
+stays_same : (p : Place) (conns : List Connection) (answer : Result Answer Fault) (turn : Turn) (new : List Connection) → Stays p conns answer turn new → Same p turn
+stays_same p conns answer turn new stays = turned_same p turn _ stays.0 (still_same p answer)
 
-pub does_same : (event : Event) (p : Place) (sent : List (List ℕ)) (turn : Turn) → Does event p sent turn → Same p turn
-does_same event p sent turn does = where_same (answers_to event p.is_up) does
+-- only what the node holds changed, whatever was sent and answered
+core_same : (p : Place) (core : Core) (answer : Result Answer Fault) (effect : Effect) (frames : List (List ℕ)) → Same p (record { answer = answer; effect = effect; place = with_core p core; frames = frames })
+core_same p core answer effect frames = record { me = refl; clean = λ e. e }
+
+connects_same : (found : Option Connection) (p : Place) (number : ℕ) (conns : List Connection) (sent : List (List ℕ)) (turn : Turn) (new : List Connection) → Connects found p number conns sent turn new → Same p turn
+connects_same (Some c) p number conns sent turn new stays = stays_same p conns _ turn new stays
+connects_same None p number conns sent turn new acts = ⊎_elim (stays_same p conns _ turn new) (λ is. turned_same p turn (sent_turn p sent (hello_of (begun p))) is.2 (record { me = refl; clean = λ e. e })) acts
+
+closes_same : (found : Option Connection) (p : Place) (number : ℕ) (conns : List Connection) (turn : Turn) (new : List Connection) → Closes found p number conns turn new → Same p turn
+closes_same None p number conns turn new stays = stays_same p conns _ turn new stays
+closes_same (Some c) p number conns turn new is = turned_same p turn _ is.0 (still_same p _)
+
+lines_same : (found : Option Connection) (bytes : Option (List ℕ)) (p : Place) (number : ℕ) (conns : List Connection) (turn : Turn) (new : List Connection) → LinesUp found bytes p number conns turn new → Same p turn
+lines_same None bytes p number conns turn new stays = stays_same p conns _ turn new stays
+lines_same (Some c) None p number conns turn new stays = stays_same p conns _ turn new stays
+lines_same (Some c) (Some bytes) p number conns turn new acts = ⊎_elim (stays_same p conns _ turn new) (λ is. turned_same p turn _ is.0 (still_same p _)) acts
+
+asked_same : (result : Result Message Fault) (p : Place) (core : Core) (c : Connection) (session : Session) (number : ℕ) (conns : List Connection) (sent : List (List ℕ)) (turn : Turn) (new : List Connection) →
+    Asked result (with_core p core) c session number conns sent turn new → Same p turn
+asked_same (Err fault) p core c session number conns sent turn new stays = turned_same p turn _ stays.0 (core_same p core _ _ _)
+asked_same (Ok message) p core c session number conns sent turn new asked =
+    ⊎_elim (λ stays. turned_same p turn _ stays.0 (core_same p core _ _ _)) (λ is. turned_same p turn _ is.1 (core_same p core _ _ _)) asked
+
+asks_same : (found : Option Connection) (p : Place) (number : ℕ) (conns : List Connection) (sent : List (List ℕ)) (turn : Turn) (new : List Connection) → AsksOn found p number conns sent turn new → Same p turn
+asks_same None p number conns sent turn new stays = stays_same p conns _ turn new stays
+asks_same (Some c) p number conns sent turn new asks = asked_same asks.0 p asks.2 c asks.1 number conns sent turn new asks.4
+
+pieces_same : (found : Option Connection) (p : Place) (number count : ℕ) (conns : List Connection) (sent : List (List ℕ)) (turn : Turn) (new : List Connection) → Pieces found p number count conns sent turn new → Same p turn
+pieces_same None p number count conns sent turn new stays = stays_same p conns _ turn new stays
+pieces_same (Some c) p number count conns sent turn new d = turned_same p turn _ d.turn_is (core_same p d.last.core _ _ _)
+
+acts_same : (event : Event) (p : Place) (conns : List Connection) (sent : List (List ℕ)) (turn : Turn) (new : List Connection) → Acts event p conns sent turn new → Same p turn
+acts_same (Commit me key slot) p conns sent turn new acts =
+    ⊎_elim (λ is. turned_same p turn _ is (still_same p _)) (λ c. turned_same p turn (commit_turn p c.0 c.1 c.2) c.5 (record { me = refl; clean = c.3.stays.clean })) acts.0
+acts_same (Take me) p conns sent turn new acts = takes_same p p.waiting turn acts.0
+acts_same (CrashInCommit me key slot is_kept) p conns sent turn new acts = crashes_same p key slot is_kept turn acts.0
+acts_same (Restart me) p conns sent turn new acts = let r = acts.0 in restarts_same p r.0 r.1 turn r.2 r.3
+acts_same (Connect me number) p conns sent turn new acts = connects_same (connection_at conns number) p number conns sent turn new acts
+acts_same (Close number) p conns sent turn new acts = closes_same (connection_at conns number) p number conns turn new acts
+acts_same (Line number index) p conns sent turn new acts = lines_same (connection_at conns number) (frame_at sent index) p number conns turn new acts
+acts_same (Piece number count) p conns sent turn new acts = pieces_same (connection_at conns number) p number count conns sent turn new acts
+acts_same (Ask number) p conns sent turn new acts = asks_same (connection_at conns number) p number conns sent turn new acts
+acts_same (Offer me owner after) p conns sent turn new acts =
+    ⊎_elim (λ is. turned_same p turn _ is (still_same p _)) (λ o. turned_same p turn (sent_turn p sent (messages.Delta o.0)) o.4 (record { me = refl; clean = λ e. e })) acts.0
+acts_same (Read me owner key) p conns sent turn new acts = ⊎_elim (λ is. turned_same p turn _ is (still_same p _)) (λ is. turned_same p turn _ is (still_same p _)) acts.0
+acts_same (Upto me owner) p conns sent turn new acts = turned_same p turn _ acts.0 (still_same p _)
+
+pub does_same : (event : Event) (p : Place) (conns : List Connection) (sent : List (List ℕ)) (turn : Turn) (new : List Connection) → Does event p conns sent turn new → Same p turn
+does_same event p conns sent turn new does = where_same (answers_to event p.is_up) does
   where
-    where_same : (b : Bool) → ActsWhere b event p sent turn → Same p turn
-    where_same true acts = acts_same event p sent turn acts
-    where_same false is = turned_same p turn _ is (still_same p _)
+    where_same : (b : Bool) → ActsWhere b event p conns sent turn new → Same p turn
+    where_same true acts = acts_same event p conns sent turn new acts
+    where_same false is = turned_same p turn _ is.0 (still_same p _)
 
 -- ---- what was true of the node is true of it afterwards
 
@@ -120,22 +157,6 @@ err_is : (a b : Fault) → failure a ≡ failure b → a ≡ b
 unfolding fault_in
 err_is a b e = ap (λ (r : Result Table Fault). fault_in r a) e
 
-abbrev pub HonestAnswers : Type 0
-HonestAnswers = (writes : List ℕ → List Write) (node : Node) (budget : ℕ) (digest : Digest) (blocks : List Block) (b : Block) →
-    IsNode node → NodeHolds writes node → IsAnswer budget node.held digest blocks → Stands blocks b → Honest (writes b.owner) b
-
--- of a message within its limits that is a delta, each block is one
-delta_limits : (m : Message) → is_message m ≡ true → IfSome (delta_in m) (λ blocks. is_delta blocks ≡ true)
-delta_limits (messages.Delta blocks) is = is
-delta_limits (messages.Hello greeting) is = tt
-delta_limits (messages.Digest told) is = tt
-delta_limits (messages.Bye reason) is = tt
-delta_limits (messages.Ask asked) is = tt
-delta_limits (messages.Rows rows) is = tt
-delta_limits (messages.Put wanted) is = tt
-delta_limits (messages.Done version) is = tt
-delta_limits (messages.Refused fault) is = tt
-
 -- what is found in a list stands in it
 found_stands : {X : Type 0} (xs : List X) (k : ℕ) (x : X) → slice_get xs k ≡ Some x → Stands xs x
 found_stands [] k x found = absurd (cc)
@@ -146,11 +167,8 @@ pub frame_stands : (sent : List (List ℕ)) (number : ℕ) (bytes : List ℕ) �
 frame_stands sent zero bytes found = absurd (cc)
 frame_stands sent (suc k) bytes found = found_stands sent k bytes found
 
-pub front_of_frame : (m : Message) (bytes : List ℕ) → is_message m ≡ true → bytes ≡ frame m → front_of bytes ≡ whole m []
-front_of_frame m bytes is laid = ap front_of (laid ∙ sym (append-nil (frame m))) ∙ front_frame m [] is
-
 module _ (writes : List ℕ → List Write) (past : Past) (settings : Settings) (sent : List (List ℕ)) (p : Place)
-    (t : IsTruePlace writes past settings p) (told_sent : (bytes : List ℕ) → Stands sent bytes → IsTrueFrame writes settings.budget bytes) (honest : HonestAnswers) where
+    (t : IsTruePlace writes past settings p) (told_sent : (bytes : List ℕ) → Stands sent bytes → IsTrueFrame writes settings.budget bytes) (laws : Laws) where
   abbrev after : Effect → List ℕ → List Write
   after effect = put_at writes p.me (writes_after (writes p.me) effect)
 
@@ -319,67 +337,234 @@ module _ (writes : List ℕ → List Write) (past : Past) (settings : Settings) 
       ends
   restarts_kept (Err fault) log turn loads ends = turned_kept turn (refused_turn p log fault) ends (refused_kept log fault loads.stays.owner (failed_content fault log loads))
 
-  -- ---- a delta is sent
+  -- ---- a message is sent
 
-  sent_kept : (digest : Digest) (blocks : List Block) → is_delta blocks ≡ true → IsAnswer p.core.settings.budget p.core.node.held digest blocks → Kept (sent_turn p sent blocks)
-  sent_kept digest blocks limits answer = record {
+  sent_kept : (m : Message) → is_message m ≡ true → TrueMessage writes m → length (frame m) ≤ settings.budget → Kept (sent_turn p sent m)
+  sent_kept m limits is fits = record {
     place = λ clean. still_place;
-    frames = λ bytes stands. ⊎_elim (λ same. subst (IsTrueFrame writes settings.budget) same true_frame) (λ s. absurd s) stands;
+    frames = λ bytes stands. ⊎_elim (λ same. subst (IsTrueFrame writes settings.budget) same (record { message = m; limits = limits; laid = refl; honest = is; fits = fits })) (λ s. absurd s) stands;
   }
-    where
-      budget : p.core.settings.budget ≡ settings.budget
-      budget = ap (λ (s : Settings). s.budget) t.settings
 
-      true_frame : IsTrueFrame writes settings.budget (frame (messages.Delta blocks))
-      true_frame = record {
-        message = messages.Delta blocks;
-        limits = limits;
-        laid = refl;
-        honest = λ b s. honest writes p.core.node p.core.settings.budget digest blocks b t.is t.holds answer s;
-        fits = let fits = answer.cut.fits in omega (arith, length-frame (messages.Delta blocks), delta-spelled blocks, fits, budget);
+  budget : p.core.settings.budget ≡ settings.budget
+  budget = ap (λ (s : Settings). s.budget) t.settings
+
+  offered_kept : (digest : Digest) (blocks : List Block) → is_delta blocks ≡ true → IsAnswer p.core.settings.budget p.core.node.held digest blocks → Kept (sent_turn p sent (messages.Delta blocks))
+  offered_kept digest blocks limits answer =
+      let fits = answer.cut.fits in
+      let same = budget in
+      sent_kept (messages.Delta blocks) limits (λ b s. laws.honest writes p.core.node p.core.settings.budget digest blocks b t.is t.holds answer s)
+      (omega (arith, length-frame (messages.Delta blocks), delta-spelled blocks, fits, same))
+
+  -- ---- connections
+
+  module _ (conns : List Connection) (true_conns : (c : Connection) → Stands conns c → IsTrueConnection sent c) where
+    -- the node is true, and so are the connections that are left
+    pub record AllKept (turn : Turn) (new : List Connection) : Type 0 where
+      pub kept : Kept turn
+      pub each : (c : Connection) → Stands new c → IsTrueConnection (sent ++ turn.frames) c
+
+    grown_conns : (frames : List (List ℕ)) (c : Connection) → Stands conns c → IsTrueConnection (sent ++ frames) c
+    grown_conns frames c stands = connection_later sent frames c (true_conns c stands)
+
+    same_conns : (turn : Turn) (new : List Connection) → new ≡ conns → (c : Connection) → Stands new c → IsTrueConnection (sent ++ turn.frames) c
+    same_conns turn new is c stands = grown_conns turn.frames c (subst (λ (cs : List Connection). Stands cs c) is stands)
+
+    fewer_conns : (turn : Turn) (new : List Connection) → new ≡ of_others p.me conns → (c : Connection) → Stands new c → IsTrueConnection (sent ++ turn.frames) c
+    fewer_conns turn new is c stands = grown_conns turn.frames c (of_kept (λ (x : Connection). not (pointwise nat_eq x.me p.me)) conns c (subst (λ (cs : List Connection). Stands cs c) is stands)).0
+
+    turned_all : (turn other : Turn) (new : List Connection) → turn ≡ other → AllKept other new → AllKept turn new
+    turned_all turn other new is all = subst (λ (x : Turn). AllKept x new) (sym is) all
+
+    stays_kept : (answer : Result Answer Fault) (turn : Turn) (new : List Connection) → Stays p conns answer turn new → AllKept turn new
+    stays_kept answer turn new stays = turned_all turn (still p answer) new stays.0 (record { kept = still_kept answer; each = same_conns (still p answer) new stays.1 })
+
+    -- what stands where another took a connection's place, or one went
+    of_with : (cs : List Connection) (number : ℕ) (d c : Connection) → Stands (with_connection cs number d) c → (d ≡ c) ⊎ Stands cs c
+    of_with [] number d c stands = inr stands
+    of_with (x ∷ xs) number d c stands = go (nat_eq x.number number) stands (of_with xs number d c)
+      where
+        go : (b : Bool) → Stands (cond b (d ∷ xs) (x ∷ with_connection xs number d)) c → (Stands (with_connection xs number d) c → (d ≡ c) ⊎ Stands xs c) → (d ≡ c) ⊎ Stands (x ∷ xs) c
+        go true (inl same) rest = inl same
+        go true (inr s) rest = inr (inr s)
+        go false (inl same) rest = inr (inl same)
+        go false (inr s) rest = ⊎_elim (λ same. inl same) (λ other. inr (inr other)) (rest s)
+
+    of_without : (cs : List Connection) (number : ℕ) (c : Connection) → Stands (without_connection cs number) c → Stands cs c
+    of_without [] number c stands = stands
+    of_without (x ∷ xs) number c stands = go (nat_eq x.number number) stands (of_without xs number c)
+      where
+        go : (b : Bool) → Stands (cond b xs (x ∷ without_connection xs number)) c → (Stands (without_connection xs number) c → Stands xs c) → Stands (x ∷ xs) c
+        go true s rest = inr s
+        go false (inl same) rest = inl same
+        go false (inr s) rest = inr (rest s)
+
+    with_one : (frames : List (List ℕ)) (number : ℕ) (d : Connection) → IsTrueConnection (sent ++ frames) d → (c : Connection) → Stands (with_connection conns number d) c → IsTrueConnection (sent ++ frames) c
+    with_one frames number d is c stands = ⊎_elim (λ same. subst (IsTrueConnection (sent ++ frames)) same is) (grown_conns frames c) (of_with conns number d c stands)
+
+    without_one : (frames : List (List ℕ)) (number : ℕ) (c : Connection) → Stands (without_connection conns number) c → IsTrueConnection (sent ++ frames) c
+    without_one frames number c stands = grown_conns frames c (of_without conns number c stands)
+
+    found_connection : (cs : List Connection) (number : ℕ) (c : Connection) → connection_at cs number ≡ Some c → Stands cs c
+    found_connection [] number c found = absurd (cc)
+    found_connection (x ∷ xs) number c found = go (nat_eq x.number number) found (found_connection xs number c)
+      where
+        go : (b : Bool) → cond b (Some x) (connection_at xs number) ≡ Some c → (connection_at xs number ≡ Some c → Stands xs c) → (x ≡ c) ⊎ Stands xs c
+        go true is rest = inl (ap (λ o. unwrap_or o x) is)
+        go false is rest = inr (rest is)
+
+    connects_kept : (found : Option Connection) (number : ℕ) (turn : Turn) (new : List Connection) → Connects found p number conns sent turn new → AllKept turn new
+    connects_kept (Some c) number turn new stays = stays_kept _ turn new stays
+    connects_kept None number turn new acts =
+        ⊎_elim (stays_kept _ turn new)
+        (λ is. turned_all turn (sent_turn p sent (hello_of (begun p))) new is.2 (record {
+          kept = sent_kept (hello_of (begun p)) is.0 tt (let fits = is.1 in let same = budget in omega (arith, fits, same));
+          each = λ c stands. ⊎_elim (grown_conns (frame (hello_of (begun p)) ∷ []) c) (one c)
+              (either conns (new_connection p number ∷ []) c (subst (λ (cs : List Connection). Stands cs c) is.3 stands));
+        }))
+        acts
+      where
+        fresh : IsTrueConnection (sent ++ frame (hello_of (begun p)) ∷ []) (new_connection p number)
+        fresh = record { held = []; stands = refl; line = line_empty (sent ++ frame (hello_of (begun p)) ∷ []) }
+
+        one : (c : Connection) → Stands (new_connection p number ∷ []) c → IsTrueConnection (sent ++ frame (hello_of (begun p)) ∷ []) c
+        one c (inl same) = subst (IsTrueConnection (sent ++ frame (hello_of (begun p)) ∷ [])) same fresh
+        one c (inr stands) = absurd stands
+
+    closes_kept : (found : Option Connection) (number : ℕ) (turn : Turn) (new : List Connection) → Closes found p number conns turn new → AllKept turn new
+    closes_kept None number turn new stays = stays_kept _ turn new stays
+    closes_kept (Some c) number turn new is =
+        turned_all turn _ new is.0 (record { kept = still_kept _; each = λ d stands. without_one [] number d (subst (λ (cs : List Connection). Stands cs d) is.1 stands) })
+
+    lines_kept : (found : Option Connection) (bytes : Option (List ℕ)) (number index : ℕ) → connection_at conns number ≡ found → frame_at sent index ≡ bytes → (turn : Turn) (new : List Connection) →
+        LinesUp found bytes p number conns turn new → AllKept turn new
+    lines_kept None bytes number index at_number at_index turn new stays = stays_kept _ turn new stays
+    lines_kept (Some c) None number index at_number at_index turn new stays = stays_kept _ turn new stays
+    lines_kept (Some c) (Some bytes) number index at_number at_index turn new acts =
+        ⊎_elim (stays_kept _ turn new)
+        (λ is. turned_all turn _ new is.0 (record {
+          kept = still_kept _;
+          each = λ d stands. with_one [] number (lined c bytes) longer d (subst (λ (cs : List Connection). Stands cs d) is.1 stands);
+        }))
+        acts
+      where
+        old : IsTrueConnection sent c
+        old = true_conns c (found_connection conns number c at_number)
+
+        longer : IsTrueConnection (sent ++ []) (lined c bytes)
+        longer = connection_later sent [] (lined c bytes)
+            (record { held = old.held; stands = old.stands; line = line_joined sent old.held c.left bytes old.line (frame_stands sent index bytes at_index) })
+
+    asked_kept : (result : Result Message Fault) (c : Connection) (session : Session) (number : ℕ) → connection_at conns number ≡ Some c → Asks Steps c.session p.core result session p.core → (turn : Turn) (new : List Connection) →
+        Asked result p c session number conns sent turn new → AllKept turn new
+    asked_kept (Err fault) c session number at_number asks turn new stays = stays_kept _ turn new stays
+    asked_kept (Ok m) c session number at_number asks turn new asked =
+        ⊎_elim (stays_kept _ turn new)
+        (λ is. turned_all turn (sent_turn p sent m) new is.1 (record {
+          kept = sent_kept m is.0 (asked_true writes c.session p.core m session p.core asks) (let fits = asked_within c.session p.core m session p.core asks in let same = budget in omega (arith, fits, same));
+          each = λ d stands. with_one (frame m ∷ []) number (in_session c session) on d (subst (λ (cs : List Connection). Stands cs d) is.2 stands);
+        }))
+        asked
+      where
+        on : IsTrueConnection (sent ++ frame m ∷ []) (in_session c session)
+        on =
+            let old = true_conns c (found_connection conns number c at_number) in
+            connection_later sent (frame m ∷ []) (in_session c session) (record { held = old.held; stands = old.stands; line = old.line })
+
+    asks_kept : (found : Option Connection) (number : ℕ) → connection_at conns number ≡ found → (turn : Turn) (new : List Connection) → AsksOn found p number conns sent turn new → AllKept turn new
+    asks_kept None number at_number turn new stays = stays_kept _ turn new stays
+    asks_kept (Some c) number at_number turn new asks =
+        let same : asks.2 ≡ p.core = asked c.session p.core asks.0 asks.1 asks.2 asks.3 in
+        asked_kept asks.0 c asks.1 number at_number
+        (subst (Asks Steps c.session p.core asks.0 asks.1) same asks.3) turn new
+        (subst (λ (core : Core). Asked asks.0 (with_core p core) c asks.1 number conns sent turn new) same asks.4)
+
+    module _ (c : Connection) (number count : ℕ) (at_number : connection_at conns number ≡ Some c) (turn : Turn) (new : List Connection) (d : Delivers p c number count conns sent turn new) where
+      old : IsTrueConnection sent c
+      old = true_conns c (found_connection conns number c at_number)
+
+      abbrev piece : List ℕ
+      piece = take count c.left
+
+      abbrev left_over : List ℕ
+      left_over = drop count c.left
+
+      begins : IsTrueListener laws writes settings sent told_sent left_over p.me (listener p.core c count)
+      begins = record {
+        settings = t.settings;
+        me = t.me;
+        is = t.is;
+        holds = t.holds;
+        held = old.held ++ piece;
+        stands = ap (λ (s : Stream). fed s piece) old.stands;
+        line = line_fed sent old.held piece left_over (subst (IsLine sent old.held) (sym (take-append-drop count c.left)) old.line);
       }
 
-  -- ---- a frame comes
+      all_heard : Listened laws writes settings sent told_sent left_over p.me (listener p.core c count) d.heard d.mid
+      all_heard = listened laws writes settings sent told_sent left_over p.me (listener p.core c count) d.heard d.mid begins d.hears
 
-  delta_kept : (blocks : Option (List Block)) (turn : Turn) → IfSome blocks (λ bs. is_delta bs ≡ true) → IfSome blocks (AreHonest writes) → TakesDelta p blocks turn → Kept turn
-  delta_kept None turn limits told is = turned_kept turn _ is (still_kept _)
-  delta_kept (Some blocks) turn limits told takes = turned_kept turn (delivered_turn p blocks takes.0) takes.2 (record {
-    place = λ clean. went writes (after effect) (grows effect) past settings p t (took_each blocks takes.0) p.waiting (are_events blocks takes.0 (λ b s. IsBlock-delta b (block-of_delta blocks b limits s)))
-        (all_true (after effect) p.me blocks takes.0 told_after) (same_content p.log effect refl t.content) (waiting_on writes (after effect) (grows effect) past settings p t);
-    frames = λ bytes stands. absurd stands;
-  })
-    where
-      effect : Effect
-      effect = goes (took_each blocks takes.0)
+      abbrev effect : Effect
+      effect = goes (events_in d.heard)
 
-      told_after : AreHonest (after effect) blocks
-      told_after b s = subst (λ (ws : List Write). Honest ws b) (sym (grows effect b.owner).1) (tells_later (writes b.owner) (grows effect b.owner).0 (told b s))
+      core_is : d.last.core ≡ with_node p.core (replay_node p.core.node (events_in d.heard))
+      core_is = tells_core (length sent) d.heard d.mid d.last d.fault d.items d.frames d.tells ∙ all_heard.replay
 
-  delivers_kept : (bytes : Option (List ℕ)) → IfSome bytes (IsTrueFrame writes settings.budget) → (turn : Turn) → Delivers p bytes turn → Kept turn
-  delivers_kept None f turn is = turned_kept turn _ is (still_kept _)
-  delivers_kept (Some bytes) f turn takes =
-      ⊎_elim
-      (λ is. turned_kept turn _ is (still_kept _))
-      (λ front. delta_kept (delta_in f.message) turn (delta_limits f.message f.limits) f.honest (subst (λ (x : Front). TakesFront p x turn) (front_of_frame f.message bytes f.limits f.laid) front))
-      takes
+      went_on : IsTruePlace (after effect) (past_after p.me (writes p.me) past effect) settings (with_core p d.last.core)
+      went_on =
+          subst (λ (core : Core). IsTruePlace (after effect) (past_after p.me (writes p.me) past effect) settings (with_core p core)) (sym core_is)
+          (went writes (after effect) (grows effect) past settings p t (events_in d.heard) p.waiting (calls_are (calls_in d.heard) all_heard.are)
+          (events_on writes (after effect) (grows effect) p.me (events_in d.heard) (calls_true writes p.me (calls_in d.heard) all_heard.true_calls))
+          (same_content p.log effect refl t.content) (waiting_on writes (after effect) (grows effect) past settings p t))
 
-  sent_true : (found : Option (List ℕ)) (number : ℕ) → frame_at sent number ≡ found → IfSome found (IsTrueFrame writes settings.budget)
-  sent_true None number is = tt
-  sent_true (Some bytes) number is = told_sent bytes (frame_stands sent number bytes is)
+      heard_on : d.fault ≡ None → IsTrueConnection (sent ++ d.frames) (heard_by c count d.last)
+      heard_on none =
+          let ends = tells_end (length sent) d.heard d.mid d.last d.items d.frames (subst (λ (f : Option Fault). Tells (length sent) d.heard d.mid d.last f d.items d.frames) none d.tells) in
+          let rests = subst (λ (s : Stream). TakesNext s nothing_next d.last.stream) all_heard.last.stands ends.0 in
+          record { held = all_heard.last.held; stands = rests.1; line = line_later sent d.frames all_heard.last.held left_over all_heard.last.line }
 
-  acts_kept : (event : Event) (turn : Turn) → Acts event p sent turn → Kept turn
-  acts_kept (Commit me key slot) turn acts = ⊎_elim (λ is. turned_kept turn _ is (still_kept _)) (λ c. turned_kept turn (commit_turn p c.0 c.1 c.2) c.5 (commit_kept key slot c.0 c.1 c.2 c.3 c.4)) acts
-  acts_kept (Take me) turn acts = takes_kept p.waiting refl turn acts
-  acts_kept (CrashInCommit me key slot is_kept) turn acts = crashes_kept key slot is_kept turn acts
-  acts_kept (Restart me) turn acts = restarts_kept acts.0 acts.1 turn acts.2 acts.3
-  acts_kept (Offer me owner after) turn acts = ⊎_elim (λ is. turned_kept turn _ is (still_kept _)) (λ o. turned_kept turn (sent_turn p sent o.0) o.4 (sent_kept _ o.0 o.1 o.3)) acts
-  acts_kept (Deliver me number) turn acts = delivers_kept (frame_at sent number) (sent_true (frame_at sent number) number refl) turn acts
-  acts_kept (Read me owner key) turn acts = ⊎_elim (λ is. turned_kept turn _ is (still_kept _)) (λ is. turned_kept turn _ is (still_kept _)) acts
-  acts_kept (Upto me owner) turn acts = turned_kept turn _ acts (still_kept _)
+      left_conns : (fault : Option Fault) → d.fault ≡ fault → (x : Connection) → Stands (connections_after fault conns number (heard_by c count d.last)) x → IsTrueConnection (sent ++ d.frames) x
+      left_conns None is x stands = with_one d.frames number (heard_by c count d.last) (heard_on is) x stands
+      left_conns (Some fault) is x stands = without_one d.frames number x stands
 
-  pub does_kept : (event : Event) (turn : Turn) → Does event p sent turn → Kept turn
-  does_kept event turn does = where_kept (answers_to event p.is_up) does
-    where
-      where_kept : (b : Bool) → ActsWhere b event p sent turn → Kept turn
-      where_kept true acts = acts_kept event turn acts
-      where_kept false is = turned_kept turn _ is (still_kept _)
+      delivers_kept : AllKept turn new
+      delivers_kept = turned_all turn (piece_turn p d.heard d.items d.fault d.last.core d.frames) new d.turn_is (record {
+        kept = record {
+          place = λ clean. went_on;
+          frames = λ bytes stands. all_heard.frames bytes (tells_frames (length sent) d.heard d.mid d.last d.fault d.items d.frames d.tells bytes stands);
+        };
+        each = λ x stands. left_conns d.fault refl x (subst (λ (cs : List Connection). Stands cs x) d.left stands);
+      })
+
+    pieces_kept : (found : Option Connection) (number count : ℕ) → connection_at conns number ≡ found → (turn : Turn) (new : List Connection) → Pieces found p number count conns sent turn new → AllKept turn new
+    pieces_kept None number count at_number turn new stays = stays_kept _ turn new stays
+    pieces_kept (Some c) number count at_number turn new d = delivers_kept c number count at_number turn new d
+
+    -- ---- all events
+
+    alone : (turn : Turn) (new : List Connection) → Kept turn → new ≡ conns → AllKept turn new
+    alone turn new kept is = record { kept = kept; each = same_conns turn new is }
+
+    fewer : (turn : Turn) (new : List Connection) → Kept turn → new ≡ of_others p.me conns → AllKept turn new
+    fewer turn new kept is = record { kept = kept; each = fewer_conns turn new is }
+
+    acts_kept : (event : Event) (turn : Turn) (new : List Connection) → Acts event p conns sent turn new → AllKept turn new
+    acts_kept (Commit me key slot) turn new acts =
+        alone turn new (⊎_elim (λ is. turned_kept turn _ is (still_kept _)) (λ c. turned_kept turn (commit_turn p c.0 c.1 c.2) c.5 (commit_kept key slot c.0 c.1 c.2 c.3 c.4)) acts.0) acts.1
+    acts_kept (Take me) turn new acts = alone turn new (takes_kept p.waiting refl turn acts.0) acts.1
+    acts_kept (CrashInCommit me key slot is_kept) turn new acts = fewer turn new (crashes_kept key slot is_kept turn acts.0) acts.1
+    acts_kept (Restart me) turn new acts = let r = acts.0 in fewer turn new (restarts_kept r.0 r.1 turn r.2 r.3) acts.1
+    acts_kept (Connect me number) turn new acts = connects_kept (connection_at conns number) number turn new acts
+    acts_kept (Close number) turn new acts = closes_kept (connection_at conns number) number turn new acts
+    acts_kept (Line number index) turn new acts = lines_kept (connection_at conns number) (frame_at sent index) number index refl refl turn new acts
+    acts_kept (Piece number count) turn new acts = pieces_kept (connection_at conns number) number count refl turn new acts
+    acts_kept (Ask number) turn new acts = asks_kept (connection_at conns number) number refl turn new acts
+    acts_kept (Offer me owner after) turn new acts =
+        alone turn new (⊎_elim (λ is. turned_kept turn _ is (still_kept _)) (λ o. turned_kept turn (sent_turn p sent (messages.Delta o.0)) o.4 (offered_kept _ o.0 o.1 o.3)) acts.0) acts.1
+    acts_kept (Read me owner key) turn new acts = alone turn new (⊎_elim (λ is. turned_kept turn _ is (still_kept _)) (λ is. turned_kept turn _ is (still_kept _)) acts.0) acts.1
+    acts_kept (Upto me owner) turn new acts = alone turn new (turned_kept turn _ acts.0 (still_kept _)) acts.1
+
+    pub does_kept : (event : Event) (turn : Turn) (new : List Connection) → Does event p conns sent turn new → AllKept turn new
+    does_kept event turn new does = where_kept (answers_to event p.is_up) does
+      where
+        where_kept : (b : Bool) → ActsWhere b event p conns sent turn new → AllKept turn new
+        where_kept true acts = acts_kept event turn new acts
+        where_kept false is = stays_kept _ turn new is

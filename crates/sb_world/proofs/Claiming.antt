@@ -1,11 +1,13 @@
 -- What is given, how exact it is, and what is taken up.
-use Rattle.std.proofs.Common.{◌≡◌, ℕ, Bool, true, false, List, [], ◌∷◌, inl, inr, ⊎_elim, Option, Some, None, IfSome, Result, Ok, Err, refl, sym, ap, subst, ◌∙◌}
+use Rattle.std.specs.Prelude.{option_map, option_and_then}
+use Rattle.std.proofs.lemmas.List.{append-nil}
+use Rattle.std.proofs.Common.{◌≡◌, ℕ, Bool, true, false, List, [], ◌∷◌, ◌++◌, length, inl, inr, ⊎_elim, Option, Some, None, IfSome, Result, Ok, Err, refl, sym, ap, subst, ◌∙◌}
 use Rattle.sb_types.specs.declared.entry.Slot.TheVariants.{Set}
 use Rattle.sb_types.specs.declared.fault.Fault.{Fault}
 use Rattle.sb_types.specs.declared.fault.Fault.TheVariants.{NoMemory, Closed}
-use Rattle.sb_types.specs.Limits.{is_delta, is_delta_block}
+use Rattle.sb_types.specs.Limits.{is_delta_block}
 use Rattle.sb_types.specs.Value.{Value}
-use Rattle.sb_types.specs.Records.{Block}
+use Rattle.sb_types.specs.Records.{Entry, Block}
 use Rattle.sb_types.specs.Runs.{Stands, shown_at}
 use Rattle.sb_types.specs.Writes.{Written}
 use Rattle.sb_holdings.specs.declared.ends.BlockEnd.{BlockEnd}
@@ -14,22 +16,39 @@ use Rattle.sb_holdings.specs.Nodes.{Node, node_after_block, replay_node}
 use Rattle.sb_holdings.proofs.Shown.{read_written, read_exact}
 use Rattle.sb_holdings.proofs.TakenUp.{taken_up}
 use Rattle.sb_codec.specs.declared.message.Message.TheVariants as messages
-use Rattle.sb_frames.specs.Frames.{frame, Front, front_of}
+use Rattle.sb_codec.specs.declared.message.Message.{Message}
+use Rattle.sb_codec.specs.Messages.{is_message}
+use Rattle.sb_frames.specs.Streams.{Stream, open_with, shut, TakesNext}
+use Rattle.sb_session.specs.declared.replies.Replies.{Replies}
+use Rattle.sb_session.specs.declared.replies.Replies.TheVariants as replies
+use Rattle.sb_session.specs.Sessions.{Session}
+use Rattle.sb_session.specs.Taking.{Takes}
+use Rattle.sb_node.specs.Calls.{Call, replay_calls}
+use Rattle.sb_node.specs.Cores.{Core}
+use Rattle.sb_node.specs.Steps.{Steps}
+use Rattle.sb_node.specs.Talks.{taken_of}
+use Rattle.sb_node.proofs.Sessions.{taken, ended}
 use Rattle.sb_node.specs.Ends.{Treats, took_each}
 use Rattle.sb_node.proofs.Truth.{delta_blocks}
 use Rattle.sb_world.specs.declared.event.Event.{Event}
-use Rattle.sb_world.specs.declared.event.Event.TheVariants.{Deliver, Read}
+use Rattle.sb_world.specs.declared.event.Event.TheVariants.{Piece, Read}
+use Rattle.sb_world.specs.declared.event.Item.{Item}
 use Rattle.sb_world.specs.declared.event.Answer.{Answer}
 use Rattle.sb_world.specs.declared.event.Answer.TheVariants as answers
-use Rattle.sb_world.specs.Places.{Place, Seen, place_at, frame_at}
-use Rattle.sb_world.specs.Turns.{Effect, Turn, Delivers, TakesFront, ActsWhere, node_of}
+use Rattle.sb_world.specs.Connections.{Connection, connection_at}
+use Rattle.sb_world.specs.Places.{Place, Seen, place_at, with_place}
+use Rattle.sb_world.specs.Hearing.{Listener, Heard, Hears, IsFront, calls_in, items_of}
+use Rattle.sb_world.specs.Connecting.{listener, Pieces}
+use Rattle.sb_world.specs.Events.{place_for, ActsWhere}
+use Rattle.sb_world.specs.Turns.{Effect, Turn}
 use Rattle.sb_world.specs.Steps.{StepAt}
-use Rattle.sb_world.specs.States.{State, Moves}
+use Rattle.sb_world.specs.States.{State, Moves, remembered}
 use Rattle.sb_world.specs.Truth.{IsTruePlace, IsTrueState}
-use Rattle.sb_world.specs.Claims.{GivenIsWritten, IsExact, AreTakenUp, JoinedIsTaken, IsWithinBudget}
+use Rattle.sb_world.specs.Claims.{GivenIsWritten, IsExact, AreTakenUp, AllTakenUp, JoinedIsTaken, IsWithinBudget}
 use Rattle.sb_world.proofs.Names.{found_me, placed_there}
 use Rattle.sb_world.proofs.Going.{grown, written_on}
-use Rattle.sb_world.proofs.Acting.{front_of_frame, does_same}
+use Rattle.sb_world.proofs.Acting.{does_same}
+use Rattle.sb_world.proofs.Listening.{tells_core, tells_items}
 use Rattle.sb_world.proofs.Stepping.{some_map}
 
 -- ---- what is given
@@ -46,19 +65,23 @@ given_or other (answers.Took version) = other
 given_or other answers.Crashed = other
 given_or other (answers.Restarted version) = other
 given_or other (answers.Sent number) = other
-given_or other (answers.Delivered ends) = other
+given_or other (answers.Delivered items fault) = other
+given_or other answers.Shut = other
+given_or other answers.Lined = other
 given_or other (answers.Number version) = other
 
-abbrev ends_or : List BlockEnd → Answer → List BlockEnd
-ends_or other (answers.Delivered ends) = ends
-ends_or other (answers.Shown found) = other
-ends_or other answers.Nothing = other
-ends_or other (answers.Committed version) = other
-ends_or other (answers.Took version) = other
-ends_or other answers.Crashed = other
-ends_or other (answers.Restarted version) = other
-ends_or other (answers.Sent number) = other
-ends_or other (answers.Number version) = other
+abbrev items_or : List Item → Answer → List Item
+items_or other (answers.Delivered items fault) = items
+items_or other (answers.Shown found) = other
+items_or other answers.Nothing = other
+items_or other (answers.Committed version) = other
+items_or other (answers.Took version) = other
+items_or other answers.Crashed = other
+items_or other (answers.Restarted version) = other
+items_or other (answers.Sent number) = other
+items_or other answers.Shut = other
+items_or other answers.Lined = other
+items_or other (answers.Number version) = other
 
 abbrev ok_answer : Answer → Result Answer Fault
 ok_answer answer = Ok answer
@@ -66,36 +89,42 @@ ok_answer answer = Ok answer
 shown_is : (a b : Option (Value × ℕ)) → ok_answer (answers.Shown a) ≡ ok_answer (answers.Shown b) → a ≡ b
 shown_is a b e = ap (λ (r : Result Answer Fault). given_or a (answer_or (answers.Shown a) r)) e
 
-ends_is : (a b : List BlockEnd) → ok_answer (answers.Delivered a) ≡ ok_answer (answers.Delivered b) → a ≡ b
-ends_is a b e = ap (λ (r : Result Answer Fault). ends_or a (answer_or (answers.Delivered a) r)) e
+items_are : (a b : List Item) (f g : Option Fault) → ok_answer (answers.Delivered a f) ≡ ok_answer (answers.Delivered b g) → a ≡ b
+items_are a b f g e = ap (λ (r : Result Answer Fault). items_or a (answer_or (answers.Delivered a f) r)) e
 
 module _ (old : State) (me owner key : List ℕ) (value : Value) (version : ℕ) (effect : Effect) (t : IsTrueState old) where
   abbrev given : Result Answer Fault
   given = ok_answer (answers.Shown (Some (value, version)))
 
   -- what was shown is what the node holds
-  read_acts : (p : Place) (q : Place) (frames : List (List ℕ)) (b : Bool) → ActsWhere b (Read me owner key) p old.now.sent (record { answer = given; effect = effect; place = q; frames = frames }) →
+  read_acts : (p : Place) (q : Place) (conns : List Connection) (frames : List (List ℕ)) (b : Bool) →
+      ActsWhere b (Read me owner key) p old.now.connections old.now.sent (record { answer = given; effect = effect; place = q; frames = frames }) conns →
       shown_at key (shown_of p.core.node.held owner).entries ≡ Some (value, version)
-  read_acts p q frames false is = let no : given ≡ Err Closed = ap (λ (turn : Turn). turn.answer) is in absurd (cc)
-  read_acts p q frames true acts =
+  read_acts p q conns frames false is = let no : given ≡ Err Closed = ap (λ (turn : Turn). turn.answer) is.0 in absurd (cc)
+  read_acts p q conns frames true acts =
       ⊎_elim
       (λ is. let no : given ≡ Err NoMemory = ap (λ (turn : Turn). turn.answer) is in absurd (cc))
       (λ is. sym (shown_is (Some (value, version)) (shown_at key (shown_of p.core.node.held owner).entries) (ap (λ (turn : Turn). turn.answer) is)))
-      acts
+      acts.0
 
   read_given : (found : Option Place) → place_at old.now.places me ≡ found → (seen : Seen) → StepAt found old.now (Read me owner key) given effect seen → Written (old.writes owner) (record { key = key; version = version; slot = Set value })
   read_given None is seen step = let no : given ≡ Ok answers.Nothing = step.0 in absurd (cc)
   read_given (Some p) is seen step =
       let place : IsTruePlace old.writes (old.past p.me) old.now.settings p = subst (λ (o : Option Place). IfSome o (λ r. IsTruePlace old.writes (old.past r.me) old.now.settings r)) is (t.places me) in
-      read_written (old.writes owner) (shown_of p.core.node.held owner) key value version (place.holds owner).shown (read_acts p step.0 step.1 _ step.2)
+      read_written (old.writes owner) (shown_of p.core.node.held owner) key value version (place.holds owner).shown (read_acts p step.0 step.1 step.2 _ step.3)
+
+-- what was written is written afterwards
+later_written : (old : State) (found : Option Place) (effect : Effect) (seen : Seen) (owner : List ℕ) (e : Entry) → Written (old.writes owner) e → Written ((remembered old found effect seen).writes owner) e
+later_written old None effect seen owner e written = written
+later_written old (Some p) effect seen owner e written = written_on old.writes _ (grown old.writes p.me effect) owner e written
 
 pub given_written : (old : State) (event : Event) (answer : Result Answer Fault) (new : State) → Moves old event answer new → IsTrueState old → IsTrueState new → GivenIsWritten old event answer new
 given_written old event answer new moves t u me owner key value version is_event is_answer =
-    let step = subst (λ (e : Event). StepAt (place_at old.now.places (node_of e)) old.now e answer moves.0 new.now) is_event moves.1 in
+    let step = subst (λ (e : Event). StepAt (place_for old.now e) old.now e answer moves.0 new.now) is_event moves.1 in
     let given_step = subst (λ (a : Result Answer Fault). StepAt (place_at old.now.places me) old.now (Read me owner key) a moves.0 new.now) is_answer step in
     let written = read_given old me owner key value version moves.0 t (place_at old.now.places me) refl new.now given_step in
     subst (λ (s : State). Written (s.writes owner) (record { key = key; version = version; slot = Set value })) (sym moves.2)
-    (written_on old.writes _ (grown old.writes (node_of event) moves.0) owner (record { key = key; version = version; slot = Set value }) written)
+    (later_written old (place_for old.now event) moves.0 new.now owner (record { key = key; version = version; slot = Set value }) written)
 
 -- ---- how exact it is
 
@@ -115,41 +144,95 @@ taken_each node (b ∷ bs) [] are treats = absurd treats
 taken_each node (b ∷ bs) (end ∷ ends) are treats =
     (λ joins. taken_up node b end (are b (inl refl)) joins treats.0, taken_each (node_after_block node b end) bs ends (λ c stands. are c (inr stands)) treats.1)
 
-module _ (old : State) (me : List ℕ) (number : ℕ) (blocks : List Block) (ends : List BlockEnd) (effect : Effect) (limits : is_delta blocks ≡ true) (sent : frame_at old.now.sent number ≡ Some (frame (messages.Delta blocks))) where
-  abbrev delivered : Result Answer Fault
-  delivered = ok_answer (answers.Delivered ends)
+-- a message of each kind, as it was taken
+message_taken : (s : Session) (core : Core) (m : Message) (answer : Replies) (t : Session) (new : Core) → is_message m ≡ true → Takes Steps s core m (Ok answer) t new →
+    (more : List Call) (last : Node) → AllTakenUp new.node more last → AllTakenUp core.node (taken_of m answer ++ more) last
+message_taken s core m answer t new limits takes more last rest = go m answer limits takes (ap (λ (c : Core). c.node) (taken s core m answer t new takes))
+  where
+    same : (calls : List Call) → calls ≡ [] → new.node ≡ replay_calls core.node calls → AllTakenUp core.node (calls ++ more) last
+    same calls none is =
+        let node : new.node ≡ core.node = is ∙ ap (replay_calls core.node) none in
+        subst (λ (cs : List Call). AllTakenUp core.node (cs ++ more) last) (sym none) (subst (λ (n : Node). AllTakenUp n more last) node rest)
 
-  module _ (p q : Place) (frames : List (List ℕ)) where
+    go : (x : Message) (r : Replies) → is_message x ≡ true → Takes Steps s core x (Ok r) t new → new.node ≡ replay_calls core.node (taken_of x r) → AllTakenUp core.node (taken_of x r ++ more) last
+    go (messages.Delta blocks) (replies.Applied ends) is a node =
+        let treats = (ended s core blocks (replies.Applied ends) t new a).1 in
+        let up = taken_each core.node blocks ends (delta_blocks blocks is) treats in
+        let mid : replay_node core.node (took_each blocks ends) ≡ new.node = sym (node ∙ ap (replay_node core.node) (append-nil (took_each blocks ends))) in
+        (new.node, subst (AreTakenUp core.node blocks ends) mid up, rest)
+    go (messages.Delta blocks) replies.Greeted is a node = same [] refl node
+    go (messages.Delta blocks) (replies.Answered delta) is a node = same [] refl node
+    go (messages.Delta blocks) (replies.Exchanged delta digest) is a node = same [] refl node
+    go (messages.Delta blocks) (replies.Ended reason) is a node = same [] refl node
+    go (messages.Hello greeting) r is a node = same [] refl node
+    go (messages.Digest told) r is a node = same [] refl node
+    go (messages.Bye reason) r is a node = same [] refl node
+    go (messages.Ask asked) r is a node = same [] refl node
+    go (messages.Rows rows) r is a node = same [] refl node
+    go (messages.Put wanted) r is a node = same [] refl node
+    go (messages.Done version) r is a node = same [] refl node
+    go (messages.Refused fault) r is a node = same [] refl node
+
+abbrev some_next : Message → Result (Option Message) Fault
+some_next m = Ok (Some m)
+
+-- what is taken out of a stream is a message
+limits_of : (old new : Stream) (m : Message) → TakesNext old (some_next m) new → is_message m ≡ true
+limits_of (open_with held) new m hands = hands.leads.limits
+limits_of shut new m takes = absurd cc (takes.0)
+
+all_taken : (a : Listener) (heard : List Heard) (b : Listener) → Hears a heard b → AllTakenUp a.core.node (calls_in heard) b.core.node
+all_taken a [] b is = ap (λ (l : Listener). l.core.node) is
+all_taken a (h ∷ hs) b hears =
+    let mid = hears.0 in
+    let next = hears.1 in
+    message_taken a.session a.core h.message h.replies mid.session mid.core (limits_of a.stream mid.stream h.message next.0) next.1 (calls_in hs) b.core.node (all_taken mid hs b hears.2)
+
+module _ (old : State) (number count : ℕ) (items : List Item) (fault : Option Fault) (effect : Effect) where
+  abbrev told : Result Answer Fault
+  told = ok_answer (answers.Delivered items fault)
+
+  abbrev Claim : Connection → Place → Place → Type 0
+  Claim c p q = (heard : List Heard) × (last : Listener) × Hears (listener p.core c count) heard last × IsFront items (items_of (length old.now.sent) heard) × AllTakenUp p.core.node (calls_in heard) q.core.node
+
+  module _ (c : Connection) (p q : Place) (conns : List Connection) (frames : List (List ℕ)) where
     abbrev turn : Turn
-    turn = record { answer = delivered; effect = effect; place = q; frames = frames }
+    turn = record { answer = told; effect = effect; place = q; frames = frames }
 
-    -- the delta's blocks were taken in turn
-    front_taken : TakesFront p (front_of (frame (messages.Delta blocks))) turn → AreTakenUp p.core.node blocks ends q.core.node
-    front_taken front =
-        let takes = subst (λ (x : Front). TakesFront p x turn) (front_of_frame (messages.Delta blocks) (frame (messages.Delta blocks)) limits refl) front in
-        let same : ends ≡ takes.0 = ends_is ends takes.0 (ap (λ (x : Turn). x.answer) takes.2) in
-        let node : q.core.node ≡ replay_node p.core.node (took_each blocks takes.0) = ap (λ (x : Turn). x.place.core.node) takes.2 in
-        let up = taken_each p.core.node blocks takes.0 (delta_blocks blocks limits) takes.1 in
-        subst (λ (es : List BlockEnd). AreTakenUp p.core.node blocks es q.core.node) (sym same) (subst (AreTakenUp p.core.node blocks takes.0) (sym node) up)
+    pieces_taken : Pieces (Some c) p number count old.now.connections old.now.sent turn conns → Claim c p q
+    pieces_taken d =
+        let same : items ≡ d.items = items_are items d.items fault d.fault (ap (λ (x : Turn). x.answer) d.turn_is) in
+        let core : q.core ≡ d.last.core = ap (λ (x : Turn). x.place.core) d.turn_is in
+        let last : d.last.core ≡ d.mid.core = tells_core (length old.now.sent) d.heard d.mid d.last d.fault d.items d.frames d.tells in
+        let node : d.mid.core.node ≡ q.core.node = sym (ap (λ (x : Core). x.node) (core ∙ last)) in (
+          d.heard,
+          d.mid,
+          d.hears,
+          subst (λ (is : List Item). IsFront is (items_of (length old.now.sent) d.heard)) (sym same) (tells_items (length old.now.sent) d.heard d.mid d.last d.fault d.items d.frames d.tells),
+          subst (AllTakenUp p.core.node (calls_in d.heard)) node (all_taken (listener p.core c count) d.heard d.mid d.hears),
+        )
 
-    acts_taken : (b : Bool) → ActsWhere b (Deliver me number) p old.now.sent turn → AreTakenUp p.core.node blocks ends q.core.node
-    acts_taken false is = let no : delivered ≡ Err Closed = ap (λ (x : Turn). x.answer) is in absurd (cc)
-    acts_taken true acts =
-        ⊎_elim
-        (λ is. let no : delivered ≡ Err NoMemory = ap (λ (x : Turn). x.answer) is in absurd (cc))
-        front_taken
-        (subst (λ (found : Option (List ℕ)). Delivers p found turn) sent acts)
+    acts_taken : connection_at old.now.connections number ≡ Some c → (b : Bool) → ActsWhere b (Piece number count) p old.now.connections old.now.sent turn conns → Claim c p q
+    acts_taken found false is = let no : told ≡ Err Closed = ap (λ (x : Turn). x.answer) is.0 in absurd (cc)
+    acts_taken found true acts = pieces_taken (subst (λ (o : Option Connection). Pieces o p number count old.now.connections old.now.sent turn conns) found acts)
 
-  step_taken : (found : Option Place) → place_at old.now.places me ≡ found → (seen : Seen) → StepAt found old.now (Deliver me number) delivered effect seen →
-      IfSome found (λ p. IfSome (place_at seen.places me) (λ q. AreTakenUp p.core.node blocks ends q.core.node))
-  step_taken None is seen step = tt
-  step_taken (Some p) is seen step =
-      let same = does_same (Deliver me number) p old.now.sent _ step.2 in
-      let there : place_at seen.places me ≡ Some step.0 = ap (λ (s : Seen). place_at s.places me) step.3 ∙ placed_there me p step.0 (same.me ∙ found_me old.now.places me p is) old.now.places is in
-      subst (λ (o : Option Place). IfSome o (λ q. AreTakenUp p.core.node blocks ends q.core.node)) (sym there) (acts_taken p step.0 step.1 _ step.2)
+  at_place : (c : Connection) → connection_at old.now.connections number ≡ Some c → (found : Option Place) → place_at old.now.places c.me ≡ found → (seen : Seen) → StepAt found old.now (Piece number count) told effect seen →
+      IfSome found (λ p. IfSome (place_at seen.places c.me) (Claim c p))
+  at_place c at_number None is seen step = tt
+  at_place c at_number (Some p) is seen step =
+      let same = does_same (Piece number count) p old.now.connections old.now.sent _ step.1 step.3 in
+      let me : p.me ≡ c.me = found_me old.now.places c.me p is in
+      let after : place_at seen.places c.me ≡ Some step.0 = ap (λ (s : Seen). place_at s.places c.me) step.4 ∙ ap (λ n. place_at (with_place old.now.places n step.0) c.me) me ∙ placed_there c.me p step.0 (same.me ∙ me) old.now.places is in
+      subst (λ (o : Option Place). IfSome o (Claim c p)) (sym after) (acts_taken c p step.0 step.1 step.2 at_number _ step.3)
+
+  at_connection : (found : Option Connection) → connection_at old.now.connections number ≡ found → (seen : Seen) →
+      StepAt (option_and_then (place_at old.now.places) (option_map (λ (c : Connection). c.me) found)) old.now (Piece number count) told effect seen →
+      IfSome found (λ c. IfSome (place_at old.now.places c.me) (λ p. IfSome (place_at seen.places c.me) (Claim c p)))
+  at_connection None is seen step = tt
+  at_connection (Some c) is seen step = at_place c is (place_at old.now.places c.me) refl seen step
 
 pub joined_taken : (old : State) (event : Event) (answer : Result Answer Fault) (new : State) → Moves old event answer new → IsTrueState old → IsTrueState new → JoinedIsTaken old event answer new
-joined_taken old event answer new moves t u me number blocks ends is_event is_answer limits sent =
-    let step = subst (λ (e : Event). StepAt (place_at old.now.places (node_of e)) old.now e answer moves.0 new.now) is_event moves.1 in
-    let delivered_step = subst (λ (a : Result Answer Fault). StepAt (place_at old.now.places me) old.now (Deliver me number) a moves.0 new.now) is_answer step in
-    step_taken old me number blocks ends moves.0 limits sent (place_at old.now.places me) refl new.now delivered_step
+joined_taken old event answer new moves t u number count items fault is_event is_answer =
+    let step = subst (λ (e : Event). StepAt (place_for old.now e) old.now e answer moves.0 new.now) is_event moves.1 in
+    let told_step = subst (λ (a : Result Answer Fault). StepAt (place_for old.now (Piece number count)) old.now (Piece number count) a moves.0 new.now) is_answer step in
+    at_connection old number count items fault moves.0 (connection_at old.now.connections number) refl new.now told_step

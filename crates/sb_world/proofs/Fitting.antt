@@ -10,6 +10,7 @@ use Rattle.sb_table.specs.Plain.{IsPlainTable}
 use Rattle.sb_holdings.specs.Contents.{content_table}
 use Rattle.sb_holdings.specs.Nodes.{opened_node}
 use Rattle.sb_holdings.proofs.Filling.{some_writes}
+use Rattle.sb_world.specs.Connections.{Connection}
 use Rattle.sb_world.specs.Places.{Place, Seen, place_at, IsClean}
 use Rattle.sb_world.specs.States.{start_of, AreContents, IsFresh, FitsWorld}
 use Rattle.sb_world.specs.Making.{IsNew, IsMade}
@@ -62,6 +63,7 @@ module _ (world : Seen) (made : IsMade world) (clean : IsClean world.places) whe
       start = start_of writes world;
       is_start = record {
         places = λ name. some_map _ _ (place_at world.places name) (λ p is new. fresh name p is new (subst (λ (o : Option Place). IfSome o (λ r. r.log.content ≡ content_table 0 (writes r.me))) is (contents name))) (made.places name);
+        connections = made.connections;
         sent = made.sent;
       };
       events = [];
@@ -87,8 +89,9 @@ module _ (world : Seen) (made : IsMade world) (clean : IsClean world.places) whe
             past = λ i. record { opening = sym (node ∙ ap (opened_node p.me) content) i; since = []; openings = 0 };
           }
 
-pub made_is : (settings : Settings) (ps : List Place) (sent : List (List ℕ)) → ((p : Place) → Stands ps p → IsNew settings p) → sent ≡ [] → IsMade (record { settings = settings; places = ps; sent = sent })
-made_is settings ps sent each none = record { places = each_found (IsNew settings) ps each; sent = none }
+pub made_is : (settings : Settings) (ps : List Place) (conns : List Connection) (sent : List (List ℕ)) → ((p : Place) → Stands ps p → IsNew settings p) → conns ≡ [] → sent ≡ [] →
+    IsMade (record { settings = settings; places = ps; connections = conns; sent = sent })
+made_is settings ps conns sent each alone none = record { places = each_found (IsNew settings) ps each; connections = alone; sent = none }
 
 pub names_more : (ps : List Place) (p : Place) (names : List (List ℕ)) → map (λ (q : Place). q.me) (ps ++ p ∷ []) ++ names ≡ map (λ (q : Place). q.me) ps ++ p.me ∷ names
 names_more [] p names = refl

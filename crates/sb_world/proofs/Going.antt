@@ -1,16 +1,18 @@
 -- The history goes on: the writes of a node's owner grow, and what was true of them stays.
-use Rattle.std.proofs.Common.{◌≡◌, ℕ, Bool, true, false, cond, nat_eq, List, [], ◌∷◌, ◌++◌, Option, Some, None, IfSome, refl, sym, ap, subst, ◌∙◌}
+use Rattle.std.proofs.Common.{◌≡◌, ℕ, Bool, true, false, cond, nat_eq, List, [], ◌∷◌, ◌++◌, refl, sym, ap, subst, ◌∙◌}
 use Rattle.std.proofs.lemmas.List.{append-nil, append_assoc}
 use Rattle.std.specs.Cmp.Lexicographic.{pointwise}
 use Rattle.sb_types.specs.declared.entry.Write.{Write}
-use Rattle.sb_types.specs.Records.{Entry, Block}
+use Rattle.sb_types.specs.Records.{Entry}
 use Rattle.sb_types.specs.Writes.{Written, Honest, HolderHolds}
 use Rattle.sb_holdings.specs.Growth.{Grows}
 use Rattle.sb_holdings.specs.Nodes.{Node, NodeEvent, Wrote, Took, TrueAt, AllTrueAt, NodeHolds, held_by}
 use Rattle.sb_holdings.proofs.Lasting.{written_later, tells_later, holder_later}
 use Rattle.sb_types.proofs.Texts.{same_text}
-use Rattle.sb_node.specs.Calls.{AreHonest}
-use Rattle.sb_world.specs.Turns.{Effect, rests, logs, goes, opens, delta_in}
+use Rattle.sb_codec.specs.declared.message.Message.{Message}
+use Rattle.sb_codec.specs.declared.message.Message.TheVariants as messages
+use Rattle.sb_node.specs.Talks.{TrueMessage}
+use Rattle.sb_world.specs.Turns.{Effect, rests, logs, goes, opens}
 use Rattle.sb_world.specs.States.{put_at, writes_after}
 use Rattle.sb_world.specs.Truth.{IsOpening, IsTrueFrame}
 
@@ -58,9 +60,16 @@ module _ (old new : List ℕ → List Write) (grows : Grows old new) where
     is = o.is;
   }
 
+  pub message_on : (m : Message) → TrueMessage old m → TrueMessage new m
+  message_on (messages.Delta blocks) honest = λ b stands. subst (λ (writes : List Write). Honest writes b) (sym (grows b.owner).1) (tells_later (old b.owner) (grows b.owner).0 (honest b stands))
+  message_on (messages.Hello greeting) t = tt
+  message_on (messages.Digest told) t = tt
+  message_on (messages.Bye reason) t = tt
+  message_on (messages.Ask asked) t = tt
+  message_on (messages.Rows rows) t = tt
+  message_on (messages.Put wanted) t = tt
+  message_on (messages.Done version) t = tt
+  message_on (messages.Refused fault) t = tt
+
   pub frame_on : (budget : ℕ) (bytes : List ℕ) → IsTrueFrame old budget bytes → IsTrueFrame new budget bytes
-  frame_on budget bytes f = record { message = f.message; limits = f.limits; laid = f.laid; honest = told (delta_in f.message) f.honest; fits = f.fits }
-    where
-      told : (blocks : Option (List Block)) → IfSome blocks (AreHonest old) → IfSome blocks (AreHonest new)
-      told None t = tt
-      told (Some blocks) honest = λ b stands. subst (λ (writes : List Write). Honest writes b) (sym (grows b.owner).1) (tells_later (old b.owner) (grows b.owner).0 (honest b stands))
+  frame_on budget bytes f = record { message = f.message; limits = f.limits; laid = f.laid; honest = message_on f.message f.honest; fits = f.fits }

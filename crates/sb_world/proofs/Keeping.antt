@@ -22,7 +22,7 @@ use Rattle.sb_world.specs.States.{Past}
 use Rattle.sb_world.specs.Truth.{IsTruePlace}
 use Rattle.sb_world.proofs.Going.{written_on, node_on, events_on, opening_on}
 
-same_me_all : (node : Node) (events : List NodeEvent) → (replay_node node events).held.me ≡ node.held.me
+pub same_me_all : (node : Node) (events : List NodeEvent) → (replay_node node events).held.me ≡ node.held.me
 same_me_all node [] = refl
 same_me_all node (event ∷ events) = same_me_all (node_after_event node event) events ∙ same_me node event
 

@@ -14,8 +14,9 @@ use Rattle.sb_holdings.proofs.Steps.{later}
 use Rattle.sb_world.specs.declared.event.Event.{Event}
 use Rattle.sb_world.specs.declared.event.Answer.{Answer}
 use Rattle.sb_world.specs.Places.{Place, place_at}
-use Rattle.sb_world.specs.Turns.{Effect, rests, logs, goes, opens, node_of}
-use Rattle.sb_world.specs.States.{Past, State, past_after, Moves, Run}
+use Rattle.sb_world.specs.Turns.{Effect, rests, logs, goes, opens}
+use Rattle.sb_world.specs.Events.{place_for}
+use Rattle.sb_world.specs.States.{Past, State, past_after, remembered, Moves, Run}
 use Rattle.sb_world.specs.Truth.{IsTruePlace, IsTrueState}
 use Rattle.sb_world.specs.Claims.{EachState, FallsNowhere, NothingFalls, NothingFallsIn}
 use Rattle.sb_world.proofs.Names.{found_me}
@@ -43,13 +44,17 @@ chained a b c (inr one) (inr two) =
 
 moved_past : (old : State) (event : Event) (answer : Result Answer Fault) (new : State) → Moves old event answer new → (name : List ℕ) → Follows (old.past name) (new.past name)
 moved_past old event answer new moves name =
-    subst (λ (s : State). Follows (old.past name) (s.past name)) (sym moves.2) (go (pointwise nat_eq name (node_of event)) refl)
+    subst (λ (s : State). Follows (old.past name) (s.past name)) (sym moves.2) (at (place_for old.now event))
   where
-    go : (b : Bool) → pointwise nat_eq name (node_of event) ≡ b → Follows (old.past name) (cond b (past_after (node_of event) (old.writes (node_of event)) (old.past (node_of event)) moves.0) (old.past name))
-    go true is =
-        subst (λ (n : List ℕ). Follows (old.past n) (past_after (node_of event) (old.writes (node_of event)) (old.past (node_of event)) moves.0)) (sym (same_text name (node_of event) is))
-        (by_effect (node_of event) (old.writes (node_of event)) (old.past (node_of event)) moves.0)
-    go false is = stays (old.past name)
+    go : (me : List ℕ) (b : Bool) → pointwise nat_eq name me ≡ b → Follows (old.past name) (cond b (past_after me (old.writes me) (old.past me) moves.0) (old.past name))
+    go me true is =
+        subst (λ (n : List ℕ). Follows (old.past n) (past_after me (old.writes me) (old.past me) moves.0)) (sym (same_text name me is))
+        (by_effect me (old.writes me) (old.past me) moves.0)
+    go me false is = stays (old.past name)
+
+    at : (found : Option Place) → Follows (old.past name) ((remembered old found moves.0 new.now).past name)
+    at None = stays (old.past name)
+    at (Some p) = go p.me (pointwise nat_eq name p.me) refl
 
 each_past : (old : State) (events : List Event) (answers : List (Result Answer Fault)) (states : List State) → Run old events answers states → (name : List ℕ) (s : State) → Stands states s → Follows (old.past name) (s.past name)
 each_past old [] [] [] run name s stands = absurd stands

@@ -1,6 +1,9 @@
 pub mod Names
 pub mod Going
 pub mod Keeping
+pub mod Lines
+pub mod Listening
+pub mod Heard
 pub mod Acting
 pub mod Stepping
 pub mod Running
@@ -9,6 +12,6 @@ pub mod Claiming
 pub mod Choosing
 pub mod Asking
 pub mod Looking
+pub mod Connected
 pub mod Reaching
 pub mod Fitting
-pub mod Lines

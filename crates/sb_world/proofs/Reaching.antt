@@ -4,7 +4,8 @@ use Rattle.sb_types.specs.declared.fault.Fault.{Fault}
 use Rattle.sb_world.specs.declared.event.Event.{Event}
 use Rattle.sb_world.specs.declared.event.Answer.{Answer}
 use Rattle.sb_world.specs.Places.{Seen}
-use Rattle.sb_world.specs.Turns.{Effect, node_of}
+use Rattle.sb_world.specs.Turns.{Effect}
+use Rattle.sb_world.specs.Events.{place_for}
 use Rattle.sb_world.specs.Steps.{Step, Passes}
 use Rattle.sb_world.specs.States.{State, remembered, Moves, Run, last_of, IsReached, FitsWorld}
 
@@ -44,7 +45,7 @@ reached_more old event answer new r moves = record {
 pub reach_step : (world new : Seen) (event : Event) (answer : Result Answer Fault) (effect : Effect) → Step world event answer effect new → (old : State) → FitsWorld old world →
     (state : State) × Moves old event answer state × FitsWorld state new
 reach_step world new event answer effect step old fits =
-    let state = remembered old (node_of event) effect new in
+    let state = remembered old (place_for old.now event) effect new in
     let moves : Moves old event answer state = (effect, subst (λ (w : Seen). Step w event answer effect new) (sym fits.now) step, refl) in
     (state, moves, record { reached = reached_more old event answer state fits.reached moves; now = refl })
 

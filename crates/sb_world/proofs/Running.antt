@@ -13,11 +13,13 @@ use Rattle.sb_types.specs.Runs.{Stands}
 use Rattle.sb_log.specs.Records.{Committed}
 use Rattle.sb_world.specs.declared.event.Event.{Event}
 use Rattle.sb_world.specs.declared.event.Answer.{Answer}
+use Rattle.sb_world.specs.Connections.{Connection}
+use Rattle.sb_world.specs.Lines.{IsTrueConnection}
 use Rattle.sb_world.specs.Places.{Place, Seen, place_at, IsClean}
 use Rattle.sb_world.specs.States.{Past, State, Moves, Run, last_of, IsFresh, IsStart, IsReached, FitsWorld}
 use Rattle.sb_world.specs.Truth.{IsTrueFrame, IsTruePlace, IsTrueState}
 use Rattle.sb_world.specs.Claims.{EachState, EachStep}
-use Rattle.sb_world.proofs.Acting.{HonestAnswers}
+use Rattle.sb_node.proofs.Told.{Laws}
 use Rattle.sb_world.proofs.Stepping.{some_map, clean_moved, true_moved}
 
 -- a store that keeps its promise to the end of a run kept it before
@@ -29,13 +31,13 @@ clean_run old (e ∷ es) [] states run clean = absurd run
 clean_run old (e ∷ es) (a ∷ rs) [] run clean = absurd run
 clean_run old (e ∷ es) (a ∷ rs) (s ∷ ss) run clean = clean_moved old e a s run.0 (clean_run s es rs ss run.1 clean)
 
-pub true_run : HonestAnswers → (old : State) (events : List Event) (answers : List (Result Answer Fault)) (states : List State) → Run old events answers states → IsClean (last_of old states).now.places → IsTrueState old → EachState IsTrueState old states
-true_run honest old [] [] [] run clean t = t
-true_run honest old [] [] (s ∷ ss) run clean t = absurd run
-true_run honest old [] (a ∷ rs) states run clean t = absurd run
-true_run honest old (e ∷ es) [] states run clean t = absurd run
-true_run honest old (e ∷ es) (a ∷ rs) [] run clean t = absurd run
-true_run honest old (e ∷ es) (a ∷ rs) (s ∷ ss) run clean t = (t, true_run honest s es rs ss run.1 clean (true_moved old e a s run.0 honest (clean_run s es rs ss run.1 clean) t))
+pub true_run : Laws → (old : State) (events : List Event) (answers : List (Result Answer Fault)) (states : List State) → Run old events answers states → IsClean (last_of old states).now.places → IsTrueState old → EachState IsTrueState old states
+true_run laws old [] [] [] run clean t = t
+true_run laws old [] [] (s ∷ ss) run clean t = absurd run
+true_run laws old [] (a ∷ rs) states run clean t = absurd run
+true_run laws old (e ∷ es) [] states run clean t = absurd run
+true_run laws old (e ∷ es) (a ∷ rs) [] run clean t = absurd run
+true_run laws old (e ∷ es) (a ∷ rs) (s ∷ ss) run clean t = (t, true_run laws s es rs ss run.1 clean (true_moved old e a s run.0 laws (clean_run s es rs ss run.1 clean) t))
 
 pub last_state : (P : State → Type 0) (first : State) (states : List State) → EachState P first states → P (last_of first states)
 last_state P first [] each = each
@@ -85,17 +87,18 @@ start_true : (s : State) → IsStart s → IsTrueState s
 start_true s start = record {
   places = λ name. some_map _ _ (place_at s.now.places name) (λ p is fresh. fresh_true s p fresh) (start.places name);
   frames = subst (λ (sent : List (List ℕ)). (bytes : List ℕ) → Stands sent bytes → IsTrueFrame s.writes s.now.settings.budget bytes) (sym start.sent) (λ bytes stands. absurd stands);
+  connections = subst (λ (cs : List Connection). (c : Connection) → Stands cs c → IsTrueConnection s.now.sent c) (sym start.connections) (λ c stands. absurd stands);
 }
 
 -- whatever is reached is true
-pub reached_true : HonestAnswers → (s : State) → IsReached s → IsClean s.now.places → IsTrueState s
-reached_true honest s r clean =
+pub reached_true : Laws → (s : State) → IsReached s → IsClean s.now.places → IsTrueState s
+reached_true laws s r clean =
     let clean_last : IsClean (last_of r.start r.states).now.places = subst (λ (x : State). IsClean x.now.places) (sym r.last) clean in
     let first = start_true r.start r.is_start in
-    subst IsTrueState r.last (last_state IsTrueState r.start r.states (true_run honest r.start r.events r.answers r.states r.run clean_last first))
+    subst IsTrueState r.last (last_state IsTrueState r.start r.states (true_run laws r.start r.events r.answers r.states r.run clean_last first))
 
 -- each state of a run from a state that fits a world is true
-pub all_true_states : HonestAnswers → (world : Seen) (events : List Event) (answers : List (Result Answer Fault)) (old : State) (states : List State) → FitsWorld old world → Run old events answers states →
+pub all_true_states : Laws → (world : Seen) (events : List Event) (answers : List (Result Answer Fault)) (old : State) (states : List State) → FitsWorld old world → Run old events answers states →
     IsClean (last_of old states).now.places → EachState IsTrueState old states
-all_true_states honest world events answers old states fits run clean =
-    true_run honest old events answers states run clean (reached_true honest old fits.reached (clean_run old events answers states run clean))
+all_true_states laws world events answers old states fits run clean =
+    true_run laws old events answers states run clean (reached_true laws old fits.reached (clean_run old events answers states run clean))

@@ -1,9 +1,8 @@
 -- What a run of the machine keeps, claim by claim.
-use Rattle.std.specs.Prelude.{◌≡◌, ℕ, ◌≤◌, true, List, [], ◌∷◌, length, Some, IfSome, Result, Ok}
+use Rattle.std.specs.Prelude.{◌≡◌, ℕ, ◌≤◌, true, List, [], ◌∷◌, length, Option, Some, IfSome, Result, Ok}
 use Rattle.sb_types.specs.declared.entry.Slot.TheVariants.{Set}
 use Rattle.sb_types.specs.declared.entry.Write.{Write}
 use Rattle.sb_types.specs.declared.fault.Fault.{Fault}
-use Rattle.sb_types.specs.Limits.{is_delta}
 use Rattle.sb_types.specs.Value.{Value}
 use Rattle.sb_types.specs.Records.{Entry, Block}
 use Rattle.sb_types.specs.Runs.{Stands, shown_slot, shown_at}
@@ -13,13 +12,16 @@ use Rattle.sb_holdings.specs.Held.{shown_of}
 use Rattle.sb_holdings.specs.Ends.{JoinsOn}
 use Rattle.sb_holdings.specs.Nodes.{Node, node_after_block, NodeLater}
 use Rattle.sb_holdings.specs.TakenUp.{IsTakenUp}
-use Rattle.sb_codec.specs.declared.message.Message.TheVariants as messages
-use Rattle.sb_frames.specs.Frames.{frame}
+use Rattle.sb_node.specs.Calls.{Call, TookOwn, Applied}
 use Rattle.sb_world.specs.declared.event.Event.{Event}
-use Rattle.sb_world.specs.declared.event.Event.TheVariants.{Deliver, Read}
+use Rattle.sb_world.specs.declared.event.Event.TheVariants.{Piece, Read}
 use Rattle.sb_world.specs.declared.event.Answer.{Answer}
 use Rattle.sb_world.specs.declared.event.Answer.TheVariants as answers
-use Rattle.sb_world.specs.Places.{Place, Seen, place_at, frame_at, IsClean}
+use Rattle.sb_world.specs.declared.event.Item.{Item}
+use Rattle.sb_world.specs.Connections.{connection_at}
+use Rattle.sb_world.specs.Places.{Place, Seen, place_at, IsClean}
+use Rattle.sb_world.specs.Hearing.{Heard, Listener, Hears, IsFront, items_of, calls_in}
+use Rattle.sb_world.specs.Connecting.{listener}
 use Rattle.sb_world.specs.States.{State, Run, FitsWorld, last_of}
 
 -- ---- of each state, and of each step
@@ -61,11 +63,19 @@ AreTakenUp node (b ∷ bs) [] new = ⊥
 AreTakenUp node (b ∷ bs) (end ∷ ends) new =
     (JoinsOn node.held b → IsTakenUp node b end (node_after_block node b end)) × AreTakenUp (node_after_block node b end) bs ends new
 
+-- and each delta in its turn
+abbrev pub AllTakenUp : Node → List Call → Node → Type 0
+AllTakenUp node [] new = new ≡ node
+AllTakenUp node (TookOwn e ∷ calls) new = ⊥
+AllTakenUp node (Applied blocks ends ∷ calls) new = (mid : Node) × AreTakenUp node blocks ends mid × AllTakenUp mid calls new
+
+-- where a piece comes, its node takes the messages that have come whole, tells of them, and takes up the deltas among them
 abbrev pub JoinedIsTaken : State → Event → Result Answer Fault → State → Type 0
 JoinedIsTaken old event answer new =
-    (me : List ℕ) (number : ℕ) (blocks : List Block) (ends : List BlockEnd) → event ≡ Deliver me number → answer ≡ Ok (answers.Delivered ends) →
-    is_delta blocks ≡ true → frame_at old.now.sent number ≡ Some (frame (messages.Delta blocks)) →
-    IfSome (place_at old.now.places me) (λ p. IfSome (place_at new.now.places me) (λ q. AreTakenUp p.core.node blocks ends q.core.node))
+    (number count : ℕ) (items : List Item) (fault : Option Fault) → event ≡ Piece number count → answer ≡ Ok (answers.Delivered items fault) →
+    IfSome (connection_at old.now.connections number) (λ c. IfSome (place_at old.now.places c.me) (λ p. IfSome (place_at new.now.places c.me) (λ q.
+    (heard : List Heard) × (last : Listener) × Hears (listener p.core c count) heard last × IsFront items (items_of (length old.now.sent) heard)
+    × AllTakenUp p.core.node (calls_in heard) q.core.node)))
 
 -- ---- within a node's run no version falls
 

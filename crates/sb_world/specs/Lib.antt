@@ -1,8 +1,12 @@
+pub mod Connections
 pub mod Places
 pub mod Turns
+pub mod Hearing
+pub mod Connecting
+pub mod Events
 pub mod Steps
 pub mod States
-pub mod Truth
 pub mod Lines
+pub mod Truth
 pub mod Claims
 pub mod Making

@@ -1,16 +1,22 @@
 -- The bytes of a connection: what came of them and was not taken out yet, and what is to come.
 use Rattle.std.specs.Prelude.{◌≡◌, ℕ, List, [], ◌∷◌, ◌++◌}
-use Rattle.sb_types.specs.declared.entry.Write.{Write}
 use Rattle.sb_types.specs.Runs.{Stands}
-use Rattle.sb_world.specs.Truth.{IsTrueFrame}
+use Rattle.sb_frames.specs.Streams.{open_with}
+use Rattle.sb_world.specs.Connections.{Connection}
 
 -- laid end to end
 abbrev pub laid_out : List (List ℕ) → List ℕ
 laid_out [] = []
 laid_out (frame ∷ frames) = frame ++ laid_out frames
 
--- what is held, and then what is left, is true frames laid end to end
-pub record IsLine (writes : List ℕ → List Write) (budget : ℕ) (held left : List ℕ) : Type 0 where
+-- what is held, and then what is left, is frames that were sent, laid end to end
+pub record IsLine (sent : List (List ℕ)) (held left : List ℕ) : Type 0 where
   pub frames : List (List ℕ)
-  pub each : (bytes : List ℕ) → Stands frames bytes → IsTrueFrame writes budget bytes
+  pub each : (bytes : List ℕ) → Stands frames bytes → Stands sent bytes
   pub laid : held ++ left ≡ laid_out frames
+
+-- no fault has shut the stream of a connection that stands
+pub record IsTrueConnection (sent : List (List ℕ)) (c : Connection) : Type 0 where
+  pub held : List ℕ
+  pub stands : c.stream ≡ open_with held
+  pub line : IsLine sent held c.left

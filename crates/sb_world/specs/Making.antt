@@ -50,7 +50,8 @@ pub record IsNew (of_world : Settings) (p : Place) : Type 0 where
   pub waiting : p.waiting ≡ []
   pub up : p.is_up ≡ true
 
--- each node has just opened, and nothing was sent
+-- each node has just opened, nothing is connected, and nothing was sent
 pub record IsMade (world : Seen) : Type 0 where
   pub places : (name : List ℕ) → IfSome (place_at world.places name) (IsNew world.settings)
+  pub connections : world.connections ≡ []
   pub sent : world.sent ≡ []

@@ -1,9 +1,10 @@
--- A world as plain data: its nodes, and the frames that were sent.
+-- A world as plain data: its nodes, its connections, and the frames that were sent.
 use Rattle.std.specs.Prelude.{◌≡◌, ℕ, zero, suc, Bool, true, if◌then◌else◌, nat_eq, List, [], ◌∷◌, Option, Some, None, IfSome, slice_get}
 use Rattle.std.specs.Cmp.Lexicographic.{pointwise}
 use Rattle.sb_types.specs.Records.{Settings}
 use Rattle.sb_log.specs.Records.{Committed, Log}
 use Rattle.sb_node.specs.Cores.{Core}
+use Rattle.sb_world.specs.Connections.{Connection}
 
 -- a node of a world: its name, its log, what it holds, its own writes that it did not enter yet, oldest first, and whether it runs
 pub record Place : Type 0 where
@@ -13,10 +14,11 @@ pub record Place : Type 0 where
   pub waiting : List Committed
   pub is_up : Bool
 
--- the nodes, and all frames that were ever sent, in their order
+-- the nodes, the connections, and all frames that were ever sent, in their order
 pub record Seen : Type 0 where
   pub settings : Settings
   pub places : List Place
+  pub connections : List Connection
   pub sent : List (List ℕ)
 
 -- the node of a name

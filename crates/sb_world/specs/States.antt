@@ -1,5 +1,5 @@
 -- The machine of worlds: a world with the history that it does not store.
-use Rattle.std.specs.Prelude.{◌≡◌, ℕ, ◌+◌, true, if◌then◌else◌, nat_eq, List, [], ◌∷◌, ◌++◌, Result, IfSome}
+use Rattle.std.specs.Prelude.{◌≡◌, ℕ, ◌+◌, true, if◌then◌else◌, nat_eq, List, [], ◌∷◌, ◌++◌, Option, Some, None, Result, IfSome}
 use Rattle.std.specs.Cmp.Lexicographic.{pointwise}
 use Rattle.sb_types.specs.declared.entry.Write.{Write}
 use Rattle.sb_types.specs.declared.fault.Fault.{Fault}
@@ -9,7 +9,8 @@ use Rattle.sb_holdings.specs.Nodes.{Node, NodeEvent, opened_node}
 use Rattle.sb_world.specs.declared.event.Event.{Event}
 use Rattle.sb_world.specs.declared.event.Answer.{Answer}
 use Rattle.sb_world.specs.Places.{Place, Seen, place_at}
-use Rattle.sb_world.specs.Turns.{Effect, rests, logs, goes, opens, node_of}
+use Rattle.sb_world.specs.Turns.{Effect, rests, logs, goes, opens}
+use Rattle.sb_world.specs.Events.{place_for}
 use Rattle.sb_world.specs.Steps.{Step}
 
 -- of a node: what it held when it last opened, what happened to it since, and how often it opened anew
@@ -40,17 +41,21 @@ past_after me writes past (logs w) = past
 past_after me writes past (goes events) = record { opening = past.opening; since = past.since ++ events; openings = past.openings }
 past_after me writes past opens = record { opening = opened_node me (content_table 0 writes); since = []; openings = past.openings + 1 }
 
--- the history goes on by an effect at a node
-abbrev pub remembered : State → List ℕ → Effect → Seen → State
-remembered old me effect now = record {
-  now = now;
-  writes = put_at old.writes me (writes_after (old.writes me) effect);
-  past = put_at old.past me (past_after me (old.writes me) (old.past me) effect);
-}
+-- the history goes on by an effect at a node, where there is one
+abbrev pub writes_then : State → Option Place → Effect → List ℕ → List Write
+writes_then old None effect = old.writes
+writes_then old (Some p) effect = put_at old.writes p.me (writes_after (old.writes p.me) effect)
+
+abbrev pub past_then : State → Option Place → Effect → List ℕ → Past
+past_then old None effect = old.past
+past_then old (Some p) effect = put_at old.past p.me (past_after p.me (old.writes p.me) (old.past p.me) effect)
+
+abbrev pub remembered : State → Option Place → Effect → Seen → State
+remembered old found effect now = record { now = now; writes = writes_then old found effect; past = past_then old found effect }
 
 -- one step of the machine
 abbrev pub Moves : State → Event → Result Answer Fault → State → Type 0
-Moves old event answer new = (effect : Effect) × Step old.now event answer effect new.now × (new ≡ remembered old (node_of event) effect new.now)
+Moves old event answer new = (effect : Effect) × Step old.now event answer effect new.now × (new ≡ remembered old (place_for old.now event) effect new.now)
 
 -- each event in turn, with its answer and the state after it
 abbrev pub Run : State → List Event → List (Result Answer Fault) → List State → Type 0
@@ -76,9 +81,10 @@ pub record IsFresh (s : State) (p : Place) : Type 0 where
   pub up : p.is_up ≡ true
   pub past : s.past p.me ≡ record { opening = p.core.node; since = []; openings = 0 }
 
--- each node has just opened, and nothing was sent
+-- each node has just opened, nothing is connected, and nothing was sent
 pub record IsStart (s : State) : Type 0 where
   pub places : (name : List ℕ) → IfSome (place_at s.now.places name) (IsFresh s)
+  pub connections : s.now.connections ≡ []
   pub sent : s.now.sent ≡ []
 
 -- a run leads from a start to the state

@@ -4,21 +4,24 @@ use Rattle.sb_types.specs.declared.fault.Fault.{Fault}
 use Rattle.sb_world.specs.declared.event.Event.{Event}
 use Rattle.sb_world.specs.declared.event.Answer.{Answer}
 use Rattle.sb_world.specs.declared.event.Answer.TheVariants as answers
-use Rattle.sb_world.specs.Places.{Place, Seen, place_at, with_place}
-use Rattle.sb_world.specs.Turns.{Effect, rests, node_of, Does}
+use Rattle.sb_world.specs.Connections.{Connection}
+use Rattle.sb_world.specs.Places.{Place, Seen, with_place}
+use Rattle.sb_world.specs.Turns.{Effect, rests}
+use Rattle.sb_world.specs.Events.{place_for, Does}
 
--- one node changed, and frames were sent
-abbrev pub seen_after : Seen → List ℕ → Place → List (List ℕ) → Seen
-seen_after old me p frames = record { settings = old.settings; places = with_place old.places me p; sent = old.sent ++ frames }
+-- one node changed, these connections are left, and frames were sent
+abbrev pub seen_after : Seen → List ℕ → Place → List Connection → List (List ℕ) → Seen
+seen_after old me p conns frames = record { settings = old.settings; places = with_place old.places me p; connections = conns; sent = old.sent ++ frames }
 
 -- an event of a node that is not there changes nothing
 abbrev pub StepAt : Option Place → Seen → Event → Result Answer Fault → Effect → Seen → Type 0
 StepAt None old event answer effect new = (answer ≡ Ok answers.Nothing) × (effect ≡ rests) × (new ≡ old)
 StepAt (Some p) old event answer effect new =
-    (q : Place) × (frames : List (List ℕ)) × Does event p old.sent (record { answer = answer; effect = effect; place = q; frames = frames }) × (new ≡ seen_after old (node_of event) q frames)
+    (q : Place) × (conns : List Connection) × (frames : List (List ℕ))
+    × Does event p old.connections old.sent (record { answer = answer; effect = effect; place = q; frames = frames }) conns × (new ≡ seen_after old p.me q conns frames)
 
 abbrev pub Step : Seen → Event → Result Answer Fault → Effect → Seen → Type 0
-Step old event answer effect new = StepAt (place_at old.places (node_of event)) old event answer effect new
+Step old event answer effect new = StepAt (place_for old event) old event answer effect new
 
 -- each event in turn, with its answer
 abbrev pub Passes : Seen → List Event → List (Result Answer Fault) → Seen → Type 0

@@ -10,17 +10,18 @@ use Rattle.sb_codec.specs.declared.message.Message.{Message}
 use Rattle.sb_codec.specs.Messages.{is_message}
 use Rattle.sb_frames.specs.Frames.{frame}
 use Rattle.sb_log.specs.Records.{Committed}
-use Rattle.sb_node.specs.Calls.{AreHonest}
+use Rattle.sb_node.specs.Talks.{TrueMessage}
+use Rattle.sb_world.specs.Connections.{Connection}
+use Rattle.sb_world.specs.Lines.{IsTrueConnection}
 use Rattle.sb_world.specs.Places.{Place, place_at}
-use Rattle.sb_world.specs.Turns.{delta_in}
 use Rattle.sb_world.specs.States.{Past, State}
 
--- the frame of a message within the budget, and if that is a delta each of its blocks is honest
+-- the frame of a message within the budget, and where that is a delta each of its blocks is honest
 pub record IsTrueFrame (writes : List ℕ → List Write) (budget : ℕ) (bytes : List ℕ) : Type 0 where
   pub message : Message
   pub limits : is_message message ≡ true
   pub laid : bytes ≡ frame message
-  pub honest : IfSome (delta_in message) (AreHonest writes)
+  pub honest : TrueMessage writes message
   pub fits : length bytes ≤ budget
 
 -- a node that opened with the content that its owner's writes had then
@@ -49,3 +50,4 @@ pub record IsTruePlace (writes : List ℕ → List Write) (past : Past) (of_worl
 pub record IsTrueState (s : State) : Type 0 where
   pub places : (name : List ℕ) → IfSome (place_at s.now.places name) (λ p. IsTruePlace s.writes (s.past p.me) s.now.settings p)
   pub frames : (bytes : List ℕ) → Stands s.now.sent bytes → IsTrueFrame s.writes s.now.settings.budget bytes
+  pub connections : (c : Connection) → Stands s.now.connections c → IsTrueConnection s.now.sent c

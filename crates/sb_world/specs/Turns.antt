@@ -20,10 +20,8 @@ use Rattle.sb_frames.specs.Frames.{frame, Front, short, whole, bad, front_of}
 use Rattle.sb_log.specs.Records.{Committed, Log}
 use Rattle.sb_log.specs.Puts.{Puts, Loads}
 use Rattle.sb_node.specs.Answers.{IsDelta, IsAnswer}
-use Rattle.sb_node.specs.Cores.{with_node, committed_answer}
+use Rattle.sb_node.specs.Cores.{Core, with_node, committed_answer}
 use Rattle.sb_node.specs.Ends.{Treats, took_each}
-use Rattle.sb_world.specs.declared.event.Event.{Event}
-use Rattle.sb_world.specs.declared.event.Event.TheVariants.{Commit, Take, CrashInCommit, Restart, Offer, Deliver, Read, Upto}
 use Rattle.sb_world.specs.declared.event.Answer.{Answer}
 use Rattle.sb_world.specs.declared.event.Answer.TheVariants as answers
 use Rattle.sb_world.specs.Places.{Place, frame_at}
@@ -45,6 +43,19 @@ pub record Turn : Type 0 where
 -- nothing changes
 abbrev pub still : Place → Result Answer Fault → Turn
 still p answer = record { answer = answer; effect = rests; place = p; frames = [] }
+
+-- a message is sent, as one frame
+abbrev pub sent_turn : Place → List (List ℕ) → Message → Turn
+sent_turn p sent message = record {
+  answer = Ok (answers.Sent (length sent + 1));
+  effect = rests;
+  place = p;
+  frames = frame message ∷ [];
+}
+
+-- the node, with what it holds changed
+abbrev pub with_core : Place → Core → Place
+with_core p core = record { me = p.me; log = p.log; core = core; waiting = p.waiting; is_up = p.is_up }
 
 -- ---- a write
 
@@ -152,93 +163,9 @@ numbered_pair owner after pair = plain_pair pair.owner (if pointwise nat_eq pair
 abbrev pub asked : Held → List ℕ → ℕ → Digest
 asked held owner after = digest_of false None None (map (numbered_pair owner after) (pairs_from None held))
 
-abbrev pub sent_turn : Place → List (List ℕ) → List Block → Turn
-sent_turn p sent blocks = record {
-  answer = Ok (answers.Sent (length sent + 1));
-  effect = rests;
-  place = p;
-  frames = frame (messages.Delta blocks) ∷ [];
-}
-
 -- the node's delta in answer to such a digest is sent, as one frame
 abbrev pub Offers : Place → List (List ℕ) → List ℕ → ℕ → Turn → Type 0
 Offers p sent owner after turn =
     (turn ≡ still p (Err NoMemory))
     ⊎ ((blocks : List Block) × (is_delta blocks ≡ true) × IsDelta p.core.settings p.core.node.held (asked p.core.node.held owner after) blocks
-    × IsAnswer p.core.settings.budget p.core.node.held (asked p.core.node.held owner after) blocks × (turn ≡ sent_turn p sent blocks))
-
--- ---- a frame comes
-
-abbrev pub delta_in : Message → Option (List Block)
-delta_in (messages.Delta blocks) = Some blocks
-delta_in (messages.Hello greeting) = None
-delta_in (messages.Digest told) = None
-delta_in (messages.Bye reason) = None
-delta_in (messages.Ask asked) = None
-delta_in (messages.Rows rows) = None
-delta_in (messages.Put wanted) = None
-delta_in (messages.Done version) = None
-delta_in (messages.Refused fault) = None
-
-abbrev pub delivered_turn : Place → List Block → List BlockEnd → Turn
-delivered_turn p blocks ends = record {
-  answer = Ok (answers.Delivered ends);
-  effect = goes (took_each blocks ends);
-  place = record { me = p.me; log = p.log; core = with_node p.core (replay_node p.core.node (took_each blocks ends)); waiting = p.waiting; is_up = p.is_up };
-  frames = [];
-}
-
--- each block of a delta is taken in its turn; no other message is
-abbrev pub TakesDelta : Place → Option (List Block) → Turn → Type 0
-TakesDelta p None turn = turn ≡ still p (Ok answers.Nothing)
-TakesDelta p (Some blocks) turn = (ends : List BlockEnd) × Treats p.core.node blocks ends × (turn ≡ delivered_turn p blocks ends)
-
-abbrev pub TakesFront : Place → Front → Turn → Type 0
-TakesFront p short turn = turn ≡ still p (Ok answers.Nothing)
-TakesFront p (whole message rest) turn = TakesDelta p (delta_in message) turn
-TakesFront p (bad fault) turn = turn ≡ still p (Err fault)
-
-abbrev pub Delivers : Place → Option (List ℕ) → Turn → Type 0
-Delivers p None turn = turn ≡ still p (Ok answers.Nothing)
-Delivers p (Some bytes) turn = (turn ≡ still p (Err NoMemory)) ⊎ TakesFront p (front_of bytes) turn
-
--- ---- all events
-
-abbrev pub node_of : Event → List ℕ
-node_of (Commit me key slot) = me
-node_of (Take me) = me
-node_of (CrashInCommit me key slot is_kept) = me
-node_of (Restart me) = me
-node_of (Offer me owner after) = me
-node_of (Deliver me number) = me
-node_of (Read me owner key) = me
-node_of (Upto me owner) = me
-
-abbrev pub Acts : Event → Place → List (List ℕ) → Turn → Type 0
-Acts (Commit me key slot) p sent turn = Commits p key slot turn
-Acts (Take me) p sent turn = TakesFirst p p.waiting turn
-Acts (CrashInCommit me key slot is_kept) p sent turn = Crashes p key slot is_kept turn
-Acts (Restart me) p sent turn = Restarts p turn
-Acts (Offer me owner after) p sent turn = Offers p sent owner after turn
-Acts (Deliver me number) p sent turn = Delivers p (frame_at sent number) turn
-Acts (Read me owner key) p sent turn =
-    (turn ≡ still p (Err NoMemory)) ⊎ (turn ≡ still p (Ok (answers.Shown (shown_at key (shown_of p.core.node.held owner).entries))))
-Acts (Upto me owner) p sent turn = turn ≡ still p (Ok (answers.Number (shown_of p.core.node.held owner).held))
-
--- a node that is down restarts, and does nothing else
-abbrev pub answers_to : Event → Bool → Bool
-answers_to (Commit me key slot) is_up = is_up
-answers_to (Take me) is_up = is_up
-answers_to (CrashInCommit me key slot is_kept) is_up = is_up
-answers_to (Restart me) is_up = true
-answers_to (Offer me owner after) is_up = is_up
-answers_to (Deliver me number) is_up = is_up
-answers_to (Read me owner key) is_up = is_up
-answers_to (Upto me owner) is_up = is_up
-
-abbrev pub ActsWhere : Bool → Event → Place → List (List ℕ) → Turn → Type 0
-ActsWhere true event p sent turn = Acts event p sent turn
-ActsWhere false event p sent turn = turn ≡ still p (Err Closed)
-
-abbrev pub Does : Event → Place → List (List ℕ) → Turn → Type 0
-Does event p sent turn = ActsWhere (answers_to event p.is_up) event p sent turn
+    × IsAnswer p.core.settings.budget p.core.node.held (asked p.core.node.held owner after) blocks × (turn ≡ sent_turn p sent (messages.Delta blocks)))

@@ -7,16 +7,11 @@ ghost use Rattle.sb_world.specs.declared.event.Answer.{Answer};
 ghost use Rattle.sb_world.specs.Places.{Seen};
 ghost use Rattle.sb_world.specs.States.{State, Moves, Run, last_of, FitsWorld};
 ghost use Rattle.sb_world.specs.Steps.{Step, Passes};
-ghost use Rattle.sb_world.specs.Turns.{Effect, delta_in};
-ghost use Rattle.sb_world.specs.Truth.{IsTrueFrame, IsTrueState};
-ghost use Rattle.sb_types.specs.declared.entry.Write.{Write};
-ghost use Rattle.sb_codec.specs.declared.message.Message.{Message};
-ghost use Rattle.sb_frames.specs.Frames.{whole, front_of};
-ghost use Rattle.sb_node.specs.Calls.{AreHonest};
-ghost use Rattle.sb_world.specs.Lines.{IsLine};
+ghost use Rattle.sb_world.specs.Turns.{Effect};
+ghost use Rattle.sb_world.specs.Truth.{IsTrueState};
 ghost use Rattle.sb_world.specs.Claims.{EachState, EachStep, GivenIsWritten, IsExact, JoinedIsTaken, NothingFalls, IsWithinBudget, OnEachRun};
 
-use sb_node::answers_are_honest;
+use sb_node::{answers_are_honest, calls_keep_truth};
 
 /// On every run of the machine of worlds from a state that fits a world, for every list of events, as long as each
 /// log's store keeps its promise:
@@ -29,6 +24,7 @@ pub fn worlds_keep_their_promise()
     ensures budget { (world : Seen) (events : List Event) (answers : List (Result Answer Fault)) → OnEachRun world events answers (λ old states. EachState IsWithinBudget old states) }
 {
     answers_are_honest();
+    calls_keep_truth();
 }
 
 /// Whatever a world does is a run of the machine of worlds, from each state that fits it to one that fits it afterwards.
@@ -37,16 +33,4 @@ pub fn worlds_are_reached()
         (old : State) → FitsWorld old world → (state : State) × Moves old event answer state × FitsWorld state new }
     ensures run { (world new : Seen) (events : List Event) (answers : List (Result Answer Fault)) → Passes world events answers new →
         (old : State) → FitsWorld old world → (states : List State) × Run old events answers states × FitsWorld (last_of old states) new }
-{}
-
-/// What connections will rest on: where true frames are laid end to end, what comes of them in any pieces is taken out as the
-/// messages of these frames, and no block of a delta among them is dishonest.
-pub fn lines_carry_truth()
-    ensures empty { (writes : List ℕ → List Write) (budget : ℕ) → IsLine writes budget [] [] }
-    ensures joined { (writes : List ℕ → List Write) (budget : ℕ) (held left frame : List ℕ) →
-        IsLine writes budget held left → IsTrueFrame writes budget frame → IsLine writes budget held (left ++ frame) }
-    ensures fed { (writes : List ℕ → List Write) (budget : ℕ) (held piece left : List ℕ) →
-        IsLine writes budget held (piece ++ left) → IsLine writes budget (held ++ piece) left }
-    ensures taken { (writes : List ℕ → List Write) (budget : ℕ) (held left rest : List ℕ) (message : Message) →
-        IsLine writes budget held left → front_of held ≡ whole message rest → IfSome (delta_in message) (AreHonest writes) × IsLine writes budget rest left }
 {}

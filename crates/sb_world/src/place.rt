@@ -10,14 +10,14 @@ ghost use Rattle.sb_node.specs.Answers.{IsDelta, IsAnswer};
 ghost use Rattle.sb_types.specs.Faults.{Gives};
 ghost use Rattle.sb_types.specs.Runs.{shown_at};
 ghost use Rattle.sb_holdings.specs.Held.{shown_of};
-ghost use Rattle.sb_world.specs.Turns.{Effect, Commits, Crashes, TakesFirst, Restarts, Delivers};
+ghost use Rattle.sb_world.specs.Turns.{Effect, Commits, Crashes, TakesFirst, Restarts};
 ghost use Rattle.sb_world.specs.Turns as spec;
 ghost use Rattle.sb_world.specs.declared.event.Answer.TheVariants as answers;
 
 use crate::event::Answer;
 use crate::offer::asked;
 use sb_codec::Message;
-use sb_frames::{Frames, frame_of};
+use sb_frames::frame_of;
 use sb_log::{Committed, WriteLog};
 use sb_node::NodeCore;
 use sb_types::{Fault, Key, Name, Slot};
@@ -55,6 +55,13 @@ impl<L: WriteLog> Place<L> {
         ensures { result ≡ pointwise nat_eq self.now.me name.now }
     {
         self.me == *name
+    }
+
+    /// Its name.
+    pub(crate) fn name(&self) -> Name
+        ensures { result ≡ self.now.me }
+    {
+        self.me
     }
 
     /// Whether it answers to other events than a restart.
@@ -140,25 +147,6 @@ impl<L: WriteLog> Place<L> {
         // Does nothing: the call tells the prover that the delta keeps its limits.
         let _ = delta.encoded_length();
         frame_of(alloc, &Message::Delta(delta))
-    }
-
-    /// The bytes of a frame come.
-    pub(crate) fn deliver(&mut self, alloc: Global, bytes: &[u8]) -> Result<Answer, Fault>
-        ensures { (effect : Effect) × Delivers self.old (Some bytes.now) (record { answer = result; effect = effect; place = self.new; frames = [] }) }
-    {
-        let mut frames = Frames::new(alloc);
-        match frames.feed(bytes) {
-            Ok(()) => {}
-            Err(fault) => return Err(fault),
-        }
-        match frames.next() {
-            Ok(Some(Message::Delta(delta))) => match self.core.apply(&delta) {
-                Ok(report) => Ok(Answer::Delivered(report)),
-                Err(fault) => Err(fault),
-            },
-            Ok(_) => Ok(Answer::Nothing),
-            Err(fault) => Err(fault),
-        }
     }
 
     /// How far it holds an owner.

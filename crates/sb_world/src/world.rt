@@ -1,10 +1,11 @@
-//! A world of nodes, each with its log, and every frame that they sent.
+//! A world of nodes, each with its log, their connections, and every frame that they sent.
 
 ghost use Rattle.std.specs.Prelude.{◌≡◌, ◌<◌, ℕ, List, [], ◌++◌, length, slice_set, slice_get, map, Some, None, Err, IfOk, IfSome, IfNone, IfErr, OnErr};
 ghost use Rattle.std.specs.Option.{option_copied};
 ghost use Rattle.sb_world.specs.Places as spec;
 ghost use Rattle.sb_world.specs.Places.{place_at, with_place, frame_at, IsClean};
-ghost use Rattle.sb_world.specs.Turns.{Effect, rests, Offers, Delivers, Acts, Does};
+ghost use Rattle.sb_world.specs.Turns.{Effect, rests, Offers};
+ghost use Rattle.sb_world.specs.Events.{Acts, Does};
 ghost use Rattle.sb_world.specs.Steps.{Step, Passes};
 ghost use Rattle.sb_world.specs.States.{State, Moves, Run, last_of, FitsWorld};
 ghost use Rattle.sb_world.specs.States.{start_of, AreContents};
@@ -14,34 +15,23 @@ ghost use Rattle.sb_log.specs.Records as records;
 ghost use Rattle.sb_world.specs.Truth.{IsTrueState};
 ghost use Rattle.sb_world.specs.Claims.{EachState, EachStep, GivenIsWritten, IsExact, JoinedIsTaken, NothingFalls, IsWithinBudget, OnEachRun};
 
+use crate::connection::{Connection, drop_those_of, node_of};
 use crate::event::{Answer, Event};
 use crate::laws::{worlds_are_reached, worlds_keep_their_promise};
 use crate::making::places_of;
 use crate::place::Place;
+use crate::sent::{Sent, frame_in};
 use sb_log::WriteLog;
 use sb_types::{Fault, Name, Settings};
 use std::alloc::Global;
 use std::marker::Model;
 
-/// A frame that was sent.
-#[derive(Drop)]
-pub(crate) struct Sent {
-    bytes: Vec<u8>,
-}
-
-impl Model for Sent {
-    ghost use Rattle.std.specs.Prelude.{ℕ, List};
-
-    ghost Value = { List ℕ };
-
-    ghost view = { λ s. s.bytes.items };
-}
-
-/// Nodes that take their steps in any order, each with its log, and every frame that they sent.
+/// Nodes that take their steps in any order, each with its log, their connections, and every frame that they sent.
 #[derive(Drop)]
 pub struct World<L: WriteLog> {
     settings: Settings,
     places: Vec<Place<L>>,
+    connections: Vec<Connection>,
     sent: Vec<Sent>,
     alloc: Global,
 }
@@ -55,7 +45,7 @@ impl<L: WriteLog> Model for World<L> {
 
     ghost coded = { Prim.hlevel (codes, code) };
 
-    ghost view = { λ w. record { settings = w.settings; places = w.places.items; sent = w.sent.items } };
+    ghost view = { λ w. record { settings = w.settings; places = w.places.items; connections = w.connections.items; sent = w.sent.items } };
 }
 
 /// Where the node of a name stands, the first where several have it.
@@ -73,15 +63,6 @@ fn place_of<L: WriteLog>(places: &[Place<L>], name: &Name) -> Option<usize>
         index += 1;
     }
     None
-}
-
-/// The frame of a number, counted from 1.
-fn frame_in(sent: &[Sent], number: u64) -> Option<&[u8]>
-    ensures { option_copied result ≡ frame_at sent.now number }
-{
-    let index = number.checked_sub(1)?;
-    let sent = sent.get(usize::try_from(index).ok()?)?;
-    Some(&sent.bytes)
 }
 
 /// Sends what a node holds of an owner above a version, as far as its budget has room. `NoMemory`.
@@ -105,38 +86,34 @@ fn send<L: WriteLog>(
     }
 }
 
-/// Hands a frame that was sent to a node.
-fn hand_over<L: WriteLog>(
-    alloc: Global,
-    place: &mut Place<L>,
-    sent: &[Sent],
-    number: u64,
-) -> Result<Answer, Fault>
-    ensures { (effect : Effect) × Delivers place.old (frame_at sent.now number) (record { answer = result; effect = effect; place = place.new; frames = [] }) }
-{
-    match frame_in(sent, number) {
-        Some(bytes) => place.deliver(alloc, bytes),
-        None => Ok(Answer::Nothing),
-    }
-}
-
 /// What an event does at its node, where that answers to it.
 fn perform<L: WriteLog>(
     alloc: Global,
     place: &mut Place<L>,
+    connections: &mut Vec<Connection>,
     sent: &mut Vec<Sent>,
     event: &Event,
 ) -> Result<Answer, Fault>
-    ensures { (effect : Effect) × (frames : List (List ℕ)) × Acts event.now place.old sent.old.items (record { answer = result; effect = effect; place = place.new; frames = frames })
-        × (sent.new.items ≡ sent.old.items ++ frames) }
+    ensures { (effect : Effect) × (frames : List (List ℕ)) × Acts event.now place.old connections.old.items sent.old.items
+        (record { answer = result; effect = effect; place = place.new; frames = frames }) connections.new.items × (sent.new.items ≡ sent.old.items ++ frames) }
 {
     match event {
         Event::Commit(_, key, slot) => place.commit(key, slot),
         Event::Take(_) => place.take(),
-        Event::CrashInCommit(_, key, slot, is_kept) => Ok(place.crash(key, slot, *is_kept)),
-        Event::Restart(_) => place.restart(alloc),
+        Event::CrashInCommit(_, key, slot, is_kept) => {
+            drop_those_of(connections, &place.name());
+            Ok(place.crash(key, slot, *is_kept))
+        }
+        Event::Restart(_) => {
+            drop_those_of(connections, &place.name());
+            place.restart(alloc)
+        }
+        Event::Connect(_, number) => place.connect(alloc, connections, sent, *number),
+        Event::Close(number) => place.close(connections, *number),
+        Event::Line(number, frame) => place.line(connections, sent, *number, *frame),
+        Event::Piece(number, count) => place.piece(alloc, connections, sent, *number, *count),
+        Event::Ask(number) => place.ask(alloc, connections, sent, *number),
         Event::Offer(_, owner, after) => send(alloc, place, sent, owner, *after),
-        Event::Deliver(_, number) => hand_over(alloc, place, sent, *number),
         Event::Read(_, owner, key) => place.read(alloc, owner, key),
         Event::Upto(_, owner) => Ok(Answer::Number(place.upto(owner))),
     }
@@ -146,16 +123,17 @@ fn perform<L: WriteLog>(
 fn act<L: WriteLog>(
     alloc: Global,
     place: &mut Place<L>,
+    connections: &mut Vec<Connection>,
     sent: &mut Vec<Sent>,
     event: &Event,
 ) -> Result<Answer, Fault>
-    ensures { (effect : Effect) × (frames : List (List ℕ)) × Does event.now place.old sent.old.items (record { answer = result; effect = effect; place = place.new; frames = frames })
-        × (sent.new.items ≡ sent.old.items ++ frames) }
+    ensures { (effect : Effect) × (frames : List (List ℕ)) × Does event.now place.old connections.old.items sent.old.items
+        (record { answer = result; effect = effect; place = place.new; frames = frames }) connections.new.items × (sent.new.items ≡ sent.old.items ++ frames) }
 {
     if !event.is_answered(place.is_up()) {
         return Err(Fault::Closed);
     }
-    perform(alloc, place, sent, event)
+    perform(alloc, place, connections, sent, event)
 }
 
 impl<L: WriteLog + Drop> World<L> {
@@ -176,6 +154,7 @@ impl<L: WriteLog + Drop> World<L> {
         Ok(World {
             settings,
             places: places_of(alloc, settings, logs)?,
+            connections: Vec::new(alloc),
             sent: Vec::new(alloc),
             alloc,
         })
@@ -183,8 +162,9 @@ impl<L: WriteLog + Drop> World<L> {
 }
 
 impl<L: WriteLog> World<L> {
-    /// What an event does, in this order: `Nothing` where its node is not there; `Closed` where that is down, unless it
-    /// restarts.
+    /// What an event does, in this order: `Nothing` where its node is not there, or its connection; `Closed` where the
+    /// node is down, unless it restarts; `Nothing` where the number of a new connection is in use, a frame is not there, or
+    /// no write waits; then what it asks for, with its faults.
     pub fn step(&mut self, event: &Event) -> Result<Answer, Fault>
         ensures step { (effect : Effect) × Step self.old event.now result effect self.new }
         ensures fits { (old : State) → FitsWorld old self.old → (new : State) × Moves old event.now result new × FitsWorld new self.new }
@@ -197,10 +177,19 @@ impl<L: WriteLog> World<L> {
     fn step_once(&mut self, event: &Event) -> Result<Answer, Fault>
         ensures step { (effect : Effect) × Step self.old event.now result effect self.new }
     {
-        let Some(index) = place_of(&self.places, event.node()) else {
+        let Some(name) = node_of(&self.connections, event) else {
             return Ok(Answer::Nothing);
         };
-        act(self.alloc, &mut self.places[index], &mut self.sent, event)
+        let Some(index) = place_of(&self.places, &name) else {
+            return Ok(Answer::Nothing);
+        };
+        act(
+            self.alloc,
+            &mut self.places[index],
+            &mut self.connections,
+            &mut self.sent,
+            event,
+        )
     }
 
     /// Each event in turn, with its answers. `NoMemory` where there is no room for the answers, with nothing done.

@@ -1,0 +1,184 @@
+//! A connection: a session at a node, and a line of bytes towards it.
+
+ghost use Rattle.std.specs.Prelude.{◌≡◌, ◌<◌, ◌≤◌, ℕ, nat_eq, List, [], ◌++◌, length, drop, remove, slice_set, slice_get, Some, None, IfSome, IfNone, IfErr, OnOk, OnErr};
+ghost use Rattle.sb_frames.specs.Streams.{open_with};
+ghost use Rattle.sb_world.specs.declared.event.Item as event;
+ghost use Rattle.sb_world.specs.Connections as spec;
+ghost use Rattle.sb_world.specs.Connections.{connection_at, with_connection, without_connection, of_others};
+ghost use Rattle.sb_world.specs.Connecting.{lined, in_session, listener, heard_by};
+ghost use Rattle.sb_world.specs.Events.{node_at, node_of};
+ghost use Rattle.sb_world.specs.Hearing.{Listener, Heard, Hears, Tells};
+
+use crate::event::{Event, Item};
+use crate::hearing::hear;
+use crate::sent::Sent;
+use sb_frames::Frames;
+use sb_node::NodeCore;
+use sb_session::Session;
+use sb_types::{Fault, Name};
+use std::alloc::Global;
+use std::marker::Model;
+
+/// A connection of a node: its session, what came of its line and was not taken yet, and what is still to come.
+#[derive(Drop)]
+pub(crate) struct Connection {
+    number: u64,
+    me: Name,
+    session: Session,
+    frames: Frames,
+    left: Vec<u8>,
+}
+
+impl Model for Connection {
+    ghost use Rattle.sb_world.specs.Connections as connections;
+
+    ghost Value = { connections.Connection };
+
+    ghost view = { λ c. record { number = c.number; me = c.me; session = c.session; stream = c.frames; left = c.left.items } };
+}
+
+/// Where the connection of a number stands.
+pub(crate) fn index_of(connections: &[Connection], number: u64) -> Option<usize>
+    ensures none { IfNone result (connection_at connections.now number ≡ None) }
+    ensures within { IfSome result (λ i. i < length connections.now) }
+    ensures found { IfSome result (λ i. connection_at connections.now number ≡ slice_get connections.now i) }
+    ensures set { IfSome result (λ i. (c : spec.Connection) → with_connection connections.now number c ≡ slice_set connections.now i c) }
+    ensures cut { IfSome result (λ i. without_connection connections.now number ≡ remove connections.now i) }
+{
+    let mut index = 0;
+    while index < connections.len() {
+        if connections[index].is_numbered(number) {
+            return Some(index);
+        }
+        index += 1;
+    }
+    None
+}
+
+/// The node of the connection of a number.
+fn node_at(connections: &[Connection], number: u64) -> Option<Name>
+    ensures { result ≡ node_at connections.now number }
+{
+    let index = index_of(connections, number)?;
+    Some(connections[index].node())
+}
+
+/// The node at which an event happens.
+pub(crate) fn node_of(connections: &[Connection], event: &Event) -> Option<Name>
+    ensures { result ≡ node_of connections.now event.now }
+{
+    match event {
+        Event::Commit(me, _, _)
+        | Event::Take(me)
+        | Event::CrashInCommit(me, _, _, _)
+        | Event::Restart(me)
+        | Event::Connect(me, _)
+        | Event::Offer(me, _, _)
+        | Event::Read(me, _, _)
+        | Event::Upto(me, _) => Some(*me),
+        Event::Close(number)
+        | Event::Line(number, _)
+        | Event::Piece(number, _)
+        | Event::Ask(number) => node_at(connections, *number),
+    }
+}
+
+/// Drops the connections of a node.
+pub(crate) fn drop_those_of(connections: &mut Vec<Connection>, me: &Name)
+    ensures { connections.new.items ≡ of_others me.now connections.old.items }
+{
+    let me = *me;
+    connections.retain(|connection| connection.node() != me);
+}
+
+/// Drops the first bytes.
+fn drop_front(bytes: &mut Vec<u8>, count: usize)
+    requires { count ≤ length bytes.now.items }
+    ensures { bytes.new.items ≡ drop count bytes.old.items }
+{
+    bytes.drain(..count);
+}
+
+impl Connection {
+    /// A connection of a node, as it begins.
+    pub(crate) fn new(alloc: Global, number: u64, me: Name, session: Session) -> Connection
+        ensures { result ≡ record { number = number; me = me; session = session; stream = open_with []; left = [] } }
+    {
+        Connection {
+            number,
+            me,
+            session,
+            frames: Frames::new(alloc),
+            left: Vec::new(alloc),
+        }
+    }
+
+    /// Whether this is its number.
+    pub(crate) fn is_numbered(&self, number: u64) -> bool
+        ensures { result ≡ nat_eq self.now.number number }
+    {
+        self.number == number
+    }
+
+    /// Its node.
+    pub(crate) fn node(&self) -> Name
+        ensures { result ≡ self.now.me }
+    {
+        self.me
+    }
+
+    /// Its session.
+    pub(crate) fn session(&self) -> Session
+        ensures { result ≡ self.now.session }
+    {
+        self.session
+    }
+
+    /// Its session goes on as this one.
+    pub(crate) fn go_on(&mut self, session: Session)
+        ensures { self.new ≡ in_session self.old session }
+    {
+        self.session = session;
+    }
+
+    /// Lines bytes up behind those that are still to come. `NoMemory`.
+    pub(crate) fn line(&mut self, bytes: &[u8]) -> Result<(), Fault>
+        ensures lined { OnOk result (self.new ≡ lined self.old bytes.now) }
+        ensures unchanged { OnErr result (self.new ≡ self.old) }
+        ensures memory { IfErr result (λ fault. fault ≡ Fault.NoMemory) }
+    {
+        self.left.extend_from_slice(bytes)?;
+        Ok(())
+    }
+
+    /// The next so many bytes of the line come, or all that are left, and each message that has come whole is taken, up
+    /// to the first fault.
+    pub(crate) fn piece(
+        &mut self,
+        alloc: Global,
+        core: &mut NodeCore,
+        count: u64,
+        sent: &mut Vec<Sent>,
+        items: &mut Vec<Item>,
+    ) -> Option<Fault>
+        ensures { (heard : List Heard) × (mid : Listener) × (last : Listener) × (more : List (List ℕ)) × (told : List event.Item)
+            × (sent.new.items ≡ sent.old.items ++ more) × (items.new.items ≡ items.old.items ++ told)
+            × Hears (listener core.old self.old count) heard mid × Tells (length sent.old.items) heard mid last result told more
+            × (core.new ≡ last.core) × IfNone result (self.new ≡ heard_by self.old count last) }
+    {
+        let count = count.min(self.left.len() as u64) as usize;
+        match self.frames.feed(&self.left[..count]) {
+            Ok(()) => {}
+            Err(fault) => return Some(fault),
+        }
+        drop_front(&mut self.left, count);
+        hear(
+            alloc,
+            core,
+            &mut self.session,
+            &mut self.frames,
+            sent,
+            items,
+        )
+    }
+}
