@@ -17,6 +17,8 @@ pub use plain::PlainLog;
 pub use sql::SqlLog;
 
 #[cfg(test)]
+mod crash_tests;
+#[cfg(test)]
 mod sql_tests;
 #[cfg(test)]
 mod tests;

@@ -1,0 +1,39 @@
+//! The promise of a world at the logs that stand.
+
+ghost use Rattle.std.specs.Prelude.{List, IfOk};
+ghost use Rattle.sb_world.specs.Places.{AreSure};
+ghost use Rattle.sb_world.specs.States.{State, Run, FitsWorld};
+ghost use Rattle.sb_world.specs.Claims.{Promise, OnEachRun};
+
+use crate::event::{Answer, Event};
+use crate::laws::{sure_stores_are_trusted, worlds_keep_their_promise};
+use crate::world::World;
+use sb_log::{PlainLog, SqlLog};
+use sb_types::Fault;
+use sqlite::Alter;
+
+/// A run of a world whose logs are in memory: `World::run`, whose claims hold here of each run with no premise on a
+/// store, since memory can't break its promise.
+pub fn run_in_memory(
+    world: &mut World<PlainLog>,
+    events: &[Event],
+) -> Result<Vec<Result<Answer, Fault>>, Fault>
+    ensures { AreSure world.old.places → IfOk result (λ answers. (old : State) (states : List State) → FitsWorld old world.old →
+        Run old events.now answers.items states → Promise old events.now answers.items states) }
+{
+    sure_stores_are_trusted();
+    worlds_keep_their_promise();
+    world.run(events)
+}
+
+/// A run of a world whose logs are databases: `World::run`, whose claims hold here of each run in which each database
+/// kept its promise.
+pub fn run_in_databases<S: Alter + Drop>(
+    world: &mut World<SqlLog<S>>,
+    events: &[Event],
+) -> Result<Vec<Result<Answer, Fault>>, Fault>
+    ensures { IfOk result (λ answers. OnEachRun world.old events.now answers.items (λ old states. Promise old events.now answers.items states)) }
+{
+    worlds_keep_their_promise();
+    world.run(events)
+}
