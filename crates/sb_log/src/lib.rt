@@ -17,8 +17,6 @@ pub use plain::PlainLog;
 pub use sql::SqlLog;
 
 #[cfg(test)]
-mod crash_tests;
-#[cfg(test)]
 mod sql_tests;
 #[cfg(test)]
 mod tests;
