@@ -26,8 +26,7 @@ loop-alloc-preserved g c =
       new = subst (λ (ps : List world.Place). (q : world.Place) → Stands ps q → IsNew c.args.settings q) (sym more) (each_more (IsNew c.args.settings) places p c.loop-alloc.invariant.new c.in_ok-opened.ensures.new);
       sure = λ all.
           let was = c.loop-alloc.invariant.sure all in
-          let rest = subst (λ (ls : List g.L). AreSureLogs (map g.L.WriteLog.seen ls)) first was.0 in
-          (
+          let rest = subst (λ ls. AreSureLogs (map g.L.WriteLog.seen ls)) first was.0 in (
             λ l stands. rest l (inr stands),
             subst (λ (ps : List world.Place). (q : world.Place) → Stands ps q → IsSure q.log) (sym more)
                 (each_more (λ (q : world.Place). IsSure q.log) places p was.1 (c.in_ok-opened.ensures.sure (rest (g.L.WriteLog.seen log) (inl refl)))),
