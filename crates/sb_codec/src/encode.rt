@@ -1,6 +1,9 @@
 //! The payload of a message, behind what was written.
 
-ghost use Rattle.std.specs.Prelude.{◌≡◌, ◌++◌, true, IfOk, IfErr, OnOk, OnErr};
+ghost use Rattle.std.specs.Prelude.{◌≡◌, ◌∷◌, ◌++◌, true, IfOk, IfErr, OnOk, OnErr};
+ghost use Rattle.sb_types.specs.Text.{is_name};
+ghost use Rattle.sb_codec.specs.Limits.{is_optional};
+ghost use Rattle.sb_codec.specs.Spelling.{flag, list, optional, pair};
 ghost use Rattle.sb_codec.specs.Messages.{Spells, IsSole, spelling, is_message};
 ghost use Rattle.sb_codec.specs.Standing.{Stands};
 
@@ -13,7 +16,7 @@ use crate::writing::{
 use sb_digest::Digest;
 use sb_types::{
     Delta, Fault, KIND_ASK, KIND_BYE, KIND_DELTA, KIND_DIGEST, KIND_DONE, KIND_HELLO, KIND_PUT,
-    KIND_REFUSED, KIND_ROWS, Write,
+    KIND_REFUSED, KIND_ROWS, Name, Write,
 };
 use std::alloc::{AllocError, Global};
 
@@ -28,17 +31,44 @@ fn write_hello(out: &mut Vec<u8>, hello: &Hello) -> Result<(), AllocError>
     write_text(out, hello.node.bytes())
 }
 
+/// The kind of a message and the flag that follows it.
+#[tactic(auto, using(crate::proofs::Standings::stands_on))]
+fn write_flagged(out: &mut Vec<u8>, kind: u8, set: bool) -> Result<(), AllocError>
+    ensures written { OnOk result (out.new.items ≡ out.old.items ++ kind ∷ flag set) }
+    ensures stands { Stands out.old.items out.new.items }
+{
+    write_byte(out, kind)?;
+    write_flag(out, set)
+}
+
+/// The names between which a digest speaks.
+#[tactic(auto, using(crate::proofs::Standings::stands_on))]
+fn write_range(out: &mut Vec<u8>, from: Option<Name>, until: Option<Name>) -> Result<(), AllocError>
+    ensures written { OnOk result (out.new.items ≡ out.old.items ++ (optional from ++ optional until)) }
+    ensures stands { Stands out.old.items out.new.items }
+    ensures names { OnOk result ((is_optional is_name from ≡ true) × (is_optional is_name until ≡ true)) }
+{
+    write_optional_name(out, from)?;
+    write_optional_name(out, until)
+}
+
+/// The pairs of a digest.
+fn write_pairs(out: &mut Vec<u8>, digest: &Digest) -> Result<(), AllocError>
+    ensures written { OnOk result (out.new.items ≡ out.old.items ++ list pair digest.now.pairs) }
+    ensures stands { Stands out.old.items out.new.items }
+{
+    write_list(out, digest.pairs())
+}
+
 #[tactic(auto, using(crate::proofs::Standings::stands_on), unfolding(crate::specs::Messages::spelling, crate::specs::Spelling::digest))]
 fn write_digest(out: &mut Vec<u8>, digest: &Digest) -> Result<(), AllocError>
     ensures written { OnOk result (out.new.items ≡ out.old.items ++ spelling (Message.Digest digest.now)) }
     ensures stands { Stands out.old.items out.new.items }
     ensures limits { OnOk result (is_message (Message.Digest digest.now) ≡ true) }
 {
-    write_byte(out, KIND_DIGEST)?;
-    write_flag(out, digest.want())?;
-    write_optional_name(out, digest.from())?;
-    write_optional_name(out, digest.until())?;
-    write_list(out, digest.pairs())
+    write_flagged(out, KIND_DIGEST, digest.want())?;
+    write_range(out, digest.from(), digest.until())?;
+    write_pairs(out, digest)
 }
 
 #[tactic(auto, using(crate::proofs::Standings::stands_on), unfolding(crate::specs::Messages::spelling))]
@@ -60,14 +90,24 @@ fn write_bye(out: &mut Vec<u8>, bye: &Bye) -> Result<(), AllocError>
     write_bytes(out, &[KIND_BYE, bye.reason()])
 }
 
+/// The kind of a message and the name that follows it, where there is one.
+#[tactic(auto, using(crate::proofs::Standings::stands_on))]
+fn write_named(out: &mut Vec<u8>, kind: u8, name: Option<Name>) -> Result<(), AllocError>
+    ensures written { OnOk result (out.new.items ≡ out.old.items ++ kind ∷ optional name) }
+    ensures stands { Stands out.old.items out.new.items }
+    ensures name { OnOk result (is_optional is_name name ≡ true) }
+{
+    write_byte(out, kind)?;
+    write_optional_name(out, name)
+}
+
 #[tactic(auto, using(crate::proofs::Standings::stands_on), unfolding(crate::specs::Messages::spelling, crate::specs::Spelling::ask))]
 fn write_ask(out: &mut Vec<u8>, ask: &Ask) -> Result<(), AllocError>
     ensures written { OnOk result (out.new.items ≡ out.old.items ++ spelling (Message.Ask ask.now)) }
     ensures stands { Stands out.old.items out.new.items }
     ensures limits { OnOk result (is_message (Message.Ask ask.now) ≡ true) }
 {
-    write_byte(out, KIND_ASK)?;
-    write_optional_name(out, ask.owner)?;
+    write_named(out, KIND_ASK, ask.owner)?;
     write_text(out, ask.prefix.bytes())?;
     write_place(out, ask.after)
 }

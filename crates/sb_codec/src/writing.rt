@@ -168,13 +168,22 @@ pub(crate) fn write_pair(out: &mut Vec<u8>, written: &Pair) -> Result<(), AllocE
     write_u64(out, written.upto)
 }
 
+/// What a row has behind its owner.
+#[tactic(auto, using(crate::proofs::Standings::stands_on))]
+fn write_under_key(out: &mut Vec<u8>, written: &Row) -> Result<(), AllocError>
+    ensures written { OnOk result (out.new.items ≡ out.old.items ++ (text written.now.key ++ (number w64 written.now.version ++ value written.now.value))) }
+    ensures stands { Stands out.old.items out.new.items }
+{
+    write_text(out, written.key().bytes())?;
+    write_u64(out, written.version())?;
+    write_value(out, written.value())
+}
+
 #[tactic(auto, using(crate::proofs::Standings::stands_on), unfolding(crate::specs::Spelling::row))]
 pub(crate) fn write_row(out: &mut Vec<u8>, written: &Row) -> Result<(), AllocError>
     ensures written { OnOk result (out.new.items ≡ out.old.items ++ row written.now) }
     ensures stands { Stands out.old.items out.new.items }
 {
     write_text(out, written.owner().bytes())?;
-    write_text(out, written.key().bytes())?;
-    write_u64(out, written.version())?;
-    write_value(out, written.value())
+    write_under_key(out, written)
 }
