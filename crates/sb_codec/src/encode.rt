@@ -118,8 +118,7 @@ fn write_rows(out: &mut Vec<u8>, rows: &Rows) -> Result<(), AllocError>
     ensures stands { Stands out.old.items out.new.items }
     ensures limits { OnOk result (is_message (Message.Rows rows.now) ≡ true) }
 {
-    write_byte(out, KIND_ROWS)?;
-    write_flag(out, rows.more())?;
+    write_flagged(out, KIND_ROWS, rows.more())?;
     write_list(out, rows.rows())
 }
 
