@@ -1,0 +1,72 @@
+//! What a line asks of the world, with its names, keys and values read.
+use crate::line::Line;
+use crate::words::words_of;
+use sb_types::{Fault, Key, Name};
+use sb_world::Event;
+use std::alloc::Global;
+
+/// A command of a script.
+#[derive(Debug, Drop)]
+pub(crate) enum Command {
+    /// One event, whose answer is printed.
+    Step(Event),
+    /// A write, and its entry unless the write has a fault.
+    Write { commit: Event, take: Event },
+    /// A node sends another what it wrote above a version.
+    Give {
+        giver: Name,
+        taker: Name,
+        after: u64,
+    },
+    /// The frame of this number is printed.
+    Show { frame: u64 },
+}
+
+impl Command {
+    /// What the line asks for. `BadName`, `BadKey` and `BadValue`, from left to right; `NoMemory`.
+    fn of_line(alloc: Global, line: Line<'_>) -> Result<Command, Fault> {
+        Ok(match line {
+            Line::Commit { write } => Command::Step(write.commit(alloc)?),
+            Line::Crash { write, is_kept } => Command::Step(write.crash(alloc, is_kept)?),
+            Line::Write { write } => Command::Write {
+                take: Event::Take(Name::read(write.node)?),
+                commit: write.commit(alloc)?,
+            },
+            Line::Take { node } => Command::Step(Event::Take(Name::read(node)?)),
+            Line::Restart { node } => Command::Step(Event::Restart(Name::read(node)?)),
+            Line::Connect { node, connection } => {
+                Command::Step(Event::Connect(Name::read(node)?, connection))
+            }
+            Line::Close { connection } => Command::Step(Event::Close(connection)),
+            Line::LineUp { connection, frame } => Command::Step(Event::Line(connection, frame)),
+            Line::Piece { connection, count } => Command::Step(Event::Piece(connection, count)),
+            Line::Ask { connection } => Command::Step(Event::Ask(connection)),
+            Line::Offer { node, owner, after } => {
+                Command::Step(Event::Offer(Name::read(node)?, Name::read(owner)?, after))
+            }
+            Line::Read { node, owner, key } => {
+                let [node, owner] = [Name::read(node)?, Name::read(owner)?];
+                Command::Step(Event::Read(node, owner, Key::read(key)?))
+            }
+            Line::Upto { node, owner } => {
+                Command::Step(Event::Upto(Name::read(node)?, Name::read(owner)?))
+            }
+            Line::Show { frame } => Command::Show { frame },
+            Line::Give { giver, taker, after } => Command::Give {
+                giver: Name::read(giver)?,
+                taker: Name::read(taker)?,
+                after,
+            },
+        })
+    }
+
+    /// Reads a line, first its shape, then its names, keys and values from left to right. None where it is no command.
+    /// `BadName`, `BadKey` and `BadValue`; `NoMemory`.
+    pub(crate) fn read(alloc: Global, line: &[u8]) -> Result<Option<Command>, Fault> {
+        let words = words_of(alloc, line)?;
+        match Line::parse(&words) {
+            Some(line) => Ok(Some(Command::of_line(alloc, line)?)),
+            None => Ok(None),
+        }
+    }
+}

@@ -1,0 +1,22 @@
+//! Scripts: their lines as events of a world of nodes in memory, and the lines that its answers print.
+#![tactic(auto)]
+
+mod command;
+mod counted;
+mod line;
+mod lines;
+mod making;
+mod output;
+mod playing;
+mod print;
+mod sim;
+mod steps;
+mod words;
+
+pub use sim::{Ending, sim_run, sim_run_uncounted};
+pub use steps::Steps;
+
+#[cfg(test)]
+mod story;
+#[cfg(test)]
+mod tests;
