@@ -100,7 +100,8 @@ impl fmt::Display for FrameLine<'_> {
     ghost output = { λ l. Some (spec.frame_line l.0.now) };
 
     fn fmt<W: fmt::Write>(&self, f: &mut fmt::Formatter<W>) -> fmt::Result {
-        for byte in self.0 {
+        let frame = self.0;
+        for byte in frame {
             f.write(Hex(*byte))?;
         }
         f.write_str("\n")
@@ -133,12 +134,13 @@ impl fmt::Display for PieceLines<'_> {
     ghost output = { λ l. Some (spec.piece_lines l.items.now l.fault) };
 
     fn fmt<W: fmt::Write>(&self, f: &mut fmt::Formatter<W>) -> fmt::Result {
-        for item in self.items {
+        let items = self.items;
+        for item in items {
             f.write(ItemLine(*item))?;
         }
         match self.fault {
             Some(fault) => f.write(FaultLine(fault)),
-            None if self.items.is_empty() => f.write_str("nothing\n"),
+            None if items.is_empty() => f.write_str("nothing\n"),
             None => Ok(()),
         }
     }
