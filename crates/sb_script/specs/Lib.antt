@@ -1,3 +1,4 @@
 pub mod Reads
 pub mod Script
 pub mod Printed
+pub mod Commands

@@ -1,4 +1,7 @@
 //! What a line asks of the world, with its names, keys and values read.
+ghost use Rattle.std.specs.Prelude.{IfOk};
+ghost use Rattle.sb_script.specs.Commands.{IsCommand};
+
 use crate::line::Line;
 use crate::words::words_of;
 use sb_types::{Fault, Key, Name};
@@ -6,7 +9,7 @@ use sb_world::Event;
 use std::alloc::Global;
 
 /// A command of a script.
-#[derive(Debug, Drop)]
+#[derive(Drop)]
 pub(crate) enum Command {
     /// One event, whose answer is printed.
     Step(Event),
@@ -24,13 +27,15 @@ pub(crate) enum Command {
 
 impl Command {
     /// What the line asks for. `BadName`, `BadKey` and `BadValue`, from left to right; `NoMemory`.
-    fn of_line(alloc: Global, line: Line<'_>) -> Result<Command, Fault> {
+    fn of_line(alloc: Global, line: Line<'_>) -> Result<Command, Fault>
+        ensures { IfOk result (IsCommand line.old) }
+    {
         Ok(match line {
             Line::Commit { write } => Command::Step(write.commit(alloc)?),
             Line::Crash { write, is_kept } => Command::Step(write.crash(alloc, is_kept)?),
             Line::Write { write } => Command::Write {
-                take: Event::Take(Name::read(write.node)?),
                 commit: write.commit(alloc)?,
+                take: Event::Take(Name::read(write.node)?),
             },
             Line::Take { node } => Command::Step(Event::Take(Name::read(node)?)),
             Line::Restart { node } => Command::Step(Event::Restart(Name::read(node)?)),

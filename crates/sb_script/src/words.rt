@@ -1,4 +1,9 @@
 //! The words of a line, and the numbers among them.
+ghost use Rattle.std.specs.Prelude.{◌≡◌, IfOk};
+ghost use Rattle.sb_world.specs.declared.event.Event.TheVariants as events;
+ghost use Rattle.sb_types.specs.declared.entry.Slot as entries;
+ghost use Rattle.sb_script.specs.Commands.{IsSlot};
+
 use sb_types::{Fault, Key, Name, Slot, Value};
 use sb_world::Event;
 use std::alloc::Global;
@@ -50,7 +55,9 @@ pub(crate) struct WriteWords<'a> {
 
 impl WriteWords<'_> {
     /// What is to stand under the key. `BadValue`; `NoMemory`.
-    fn slot(&self, alloc: Global) -> Result<Slot, Fault> {
+    fn slot(&self, alloc: Global) -> Result<Slot, Fault>
+        ensures { IfOk result (IsSlot self.now.value) }
+    {
         match self.value {
             Some(words) => Ok(Slot::Set(Value::from_words(
                 alloc,
@@ -62,14 +69,18 @@ impl WriteWords<'_> {
     }
 
     /// The node commits the write. `BadName`; `BadKey`; `BadValue`; `NoMemory`.
-    pub(crate) fn commit(&self, alloc: Global) -> Result<Event, Fault> {
+    pub(crate) fn commit(&self, alloc: Global) -> Result<Event, Fault>
+        ensures { IfOk result (λ event. (slot : entries.Slot) × IsSlot self.now.value slot × (event ≡ events.Commit self.now.node.now self.now.key.now slot)) }
+    {
         let node = Name::read(self.node)?;
         let key = Key::read(self.key)?;
         Ok(Event::Commit(node, key, self.slot(alloc)?))
     }
 
     /// The node crashes in that commit, behind it or before it. The faults of `commit`.
-    pub(crate) fn crash(&self, alloc: Global, is_kept: bool) -> Result<Event, Fault> {
+    pub(crate) fn crash(&self, alloc: Global, is_kept: bool) -> Result<Event, Fault>
+        ensures { IfOk result (λ event. (slot : entries.Slot) × IsSlot self.now.value slot × (event ≡ events.CrashInCommit self.now.node.now self.now.key.now slot is_kept)) }
+    {
         let node = Name::read(self.node)?;
         let key = Key::read(self.key)?;
         Ok(Event::CrashInCommit(node, key, self.slot(alloc)?, is_kept))

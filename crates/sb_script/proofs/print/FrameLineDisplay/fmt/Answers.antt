@@ -5,5 +5,3 @@ use Rattle.sb_script.proofs.print.FrameLineDisplay.fmt.Goals as goal
 pub loop-byte-preserved : goal.loop-byte-preserved
 loop-byte-preserved g c = grind (arith, common_steps)
 
-pub returns-after-loop-byte-clause-writes : goal.returns-after-loop-byte-clause-writes
-returns-after-loop-byte-clause-writes g c = grind (arith, common_steps)
