@@ -1,7 +1,4 @@
 //! What a line asks of the world, with its names, keys and values read.
-ghost use Rattle.std.specs.Prelude.{IfOk};
-ghost use Rattle.sb_script.specs.Commands.{IsCommand};
-
 use crate::line::Line;
 use crate::words::words_of;
 use sb_types::{Fault, Key, Name};
@@ -14,7 +11,10 @@ pub(crate) enum Command {
     /// One event, whose answer is printed.
     Step(Event),
     /// A write, and its entry unless the write has a fault.
-    Write { commit: Event, take: Event },
+    Write {
+        commit: Event,
+        take: Event,
+    },
     /// A node sends another what it wrote above a version.
     Give {
         giver: Name,
@@ -22,15 +22,15 @@ pub(crate) enum Command {
         after: u64,
     },
     /// The frame of this number is printed.
-    Show { frame: u64 },
+    Show {
+        frame: u64,
+    },
 }
 
 impl Command {
     /// What the line asks for. `BadName`, `BadKey` and `BadValue`, from left to right; `NoMemory`.
-    fn of_line(alloc: Global, line: Line<'_>) -> Result<Command, Fault>
-        ensures { IfOk result (IsCommand line.old) }
-    {
-        Ok(match line {
+    fn of_line(alloc: Global, line: &Line<'_>) -> Result<Command, Fault> {
+        Ok(match *line {
             Line::Commit { write } => Command::Step(write.commit(alloc)?),
             Line::Crash { write, is_kept } => Command::Step(write.crash(alloc, is_kept)?),
             Line::Write { write } => Command::Write {
@@ -57,7 +57,11 @@ impl Command {
                 Command::Step(Event::Upto(Name::read(node)?, Name::read(owner)?))
             }
             Line::Show { frame } => Command::Show { frame },
-            Line::Give { giver, taker, after } => Command::Give {
+            Line::Give {
+                giver,
+                taker,
+                after,
+            } => Command::Give {
                 giver: Name::read(giver)?,
                 taker: Name::read(taker)?,
                 after,
@@ -70,7 +74,7 @@ impl Command {
     pub(crate) fn read(alloc: Global, line: &[u8]) -> Result<Option<Command>, Fault> {
         let words = words_of(alloc, line)?;
         match Line::parse(&words) {
-            Some(line) => Ok(Some(Command::of_line(alloc, line)?)),
+            Some(line) => Ok(Some(Command::of_line(alloc, &line)?)),
             None => Ok(None),
         }
     }

@@ -5,25 +5,49 @@ use crate::words::{ValueWords, WriteWords, are_words, connection_of, number_of};
 #[derive(Clone, Copy)]
 pub(crate) enum Line<'a> {
     /// `commit N K KIND VALUE`, `commit N K removed`: the log of node N takes a write.
-    Commit { write: WriteWords<'a> },
+    Commit {
+        write: WriteWords<'a>,
+    },
     /// `put N K KIND VALUE`, `del N K`: it takes a write, and the oldest that waits is entered.
-    Write { write: WriteWords<'a> },
+    Write {
+        write: WriteWords<'a>,
+    },
     /// `crash N K KIND VALUE kept`, `.. lost`: node N crashes in that commit.
-    Crash { write: WriteWords<'a>, is_kept: bool },
+    Crash {
+        write: WriteWords<'a>,
+        is_kept: bool,
+    },
     /// `take N`: the oldest write of node N that waits is entered.
-    Take { node: &'a [u8] },
+    Take {
+        node: &'a [u8],
+    },
     /// `restart N`
-    Restart { node: &'a [u8] },
+    Restart {
+        node: &'a [u8],
+    },
     /// `connect N C`: a connection of this number begins at node N.
-    Connect { node: &'a [u8], connection: u64 },
+    Connect {
+        node: &'a [u8],
+        connection: u64,
+    },
     /// `close C`
-    Close { connection: u64 },
+    Close {
+        connection: u64,
+    },
     /// `line C I`: frame I is lined up.
-    LineUp { connection: u64, frame: u64 },
+    LineUp {
+        connection: u64,
+        frame: u64,
+    },
     /// `piece C n`: the next n bytes come.
-    Piece { connection: u64, count: u64 },
+    Piece {
+        connection: u64,
+        count: u64,
+    },
     /// `ask C`: the session sends its next digest.
-    Ask { connection: u64 },
+    Ask {
+        connection: u64,
+    },
     /// `offer N O V`: node N sends what it holds of owner O above the version V.
     Offer {
         node: &'a [u8],
@@ -37,9 +61,14 @@ pub(crate) enum Line<'a> {
         key: &'a [u8],
     },
     /// `upto N O`: how far node N holds owner O.
-    Upto { node: &'a [u8], owner: &'a [u8] },
+    Upto {
+        node: &'a [u8],
+        owner: &'a [u8],
+    },
     /// `show I`: the frame of this number.
-    Show { frame: u64 },
+    Show {
+        frame: u64,
+    },
     /// `give A B V`: node A sends node B what it wrote above the version V, on connections of their own.
     Give {
         giver: &'a [u8],

@@ -13,6 +13,7 @@ use std::io::Write;
 
 /// The connections of a give: numbers that no line of a script can name.
 const GIVER: u64 = CONNECTION_MOST + 1;
+
 const TAKER: u64 = CONNECTION_MOST + 2;
 
 /// The frames that a give sends, by their numbers, where it sends them.
@@ -58,11 +59,7 @@ fn step<W: Write>(
 }
 
 /// Prints a frame that was sent, or that none has this number. `WriteFailed`.
-fn show<W: Write>(
-    world: &World<PlainLog>,
-    number: u64,
-    output: &mut Output<W>,
-) -> Result<(), Fault>
+fn show<W: Write>(world: &World<PlainLog>, number: u64, output: &mut Output<W>) -> Result<(), Fault>
     ensures { IfErr result (λ fault. fault ≡ Fault.WriteFailed output.new.writer.taken) }
 {
     match world.frame(number) {

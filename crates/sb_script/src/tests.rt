@@ -167,6 +167,7 @@ fn prints(alloc: Global, lines: &[(&str, &str)]) -> Result<bool, Fault> {
 /// The frame of a delta of one weight, and that of an empty delta.
 const FRAME: &str =
     "a7010000002203000101610000000000000000000101770000000000000001020000000000000005";
+
 const EMPTY_FRAME: &str = "a70100000003030000";
 
 #[test]
@@ -224,7 +225,10 @@ fn a_removal_is_a_write(rt: HostRuntime) -> Result<(), Fail> {
         ("take a", "took 2"),
         ("del a x", "fault 9"),
         ("offer a a 0", "frame 1"),
-        ("show 1", "a7010000001a0300010161000000000000000000010178000000000000000200"),
+        (
+            "show 1",
+            "a7010000001a0300010161000000000000000000010178000000000000000200",
+        ),
         ("put a x weight 2", "version 3"),
         ("connect a 1", "frame 2"),
         ("connect b 2", "frame 3"),

@@ -59,11 +59,7 @@ impl WriteWords<'_> {
         ensures { IfOk result (IsSlot self.now.value) }
     {
         match self.value {
-            Some(words) => Ok(Slot::Set(Value::from_words(
-                alloc,
-                words.kind,
-                words.content,
-            )?)),
+            Some(words) => Ok(Slot::Set(Value::from_words(alloc, words.kind, words.content)?)),
             None => Ok(Slot::Removed),
         }
     }

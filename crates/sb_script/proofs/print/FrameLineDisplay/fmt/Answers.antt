@@ -4,4 +4,3 @@ use Rattle.sb_script.proofs.print.FrameLineDisplay.fmt.Goals as goal
 
 pub loop-byte-preserved : goal.loop-byte-preserved
 loop-byte-preserved g c = grind (arith, common_steps)
-
