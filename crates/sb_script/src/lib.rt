@@ -2,7 +2,6 @@
 #![tactic(auto)]
 
 mod command;
-mod counted;
 mod line;
 mod lines;
 mod making;
@@ -10,11 +9,10 @@ mod output;
 mod playing;
 mod print;
 mod sim;
-mod steps;
 mod words;
 
+pub use sb_frames::Steps;
 pub use sim::{Ending, sim_run, sim_run_uncounted};
-pub use steps::Steps;
 
 #[cfg(test)]
 mod story;
