@@ -198,7 +198,12 @@ fn two_nodes_talk(rt: HostRuntime) -> Result<(), Fail> {
     assert_eq!(rt; told, (Ok(Ended::RoundsDone), true));
 
     let mut asks = node(alloc, a, 256, Order::Breadth)?;
-    let dialed = talk(&mut asks, alloc, peer_terms(SAID_BY_B, Some(1)), DIALED_BY_A)?;
+    let dialed = talk(
+        &mut asks,
+        alloc,
+        peer_terms(SAID_BY_B, Some(1)),
+        DIALED_BY_A,
+    )?;
     assert_eq!(rt; dialed, (Ok(Ended::RoundsDone), true));
     assert_eq!(rt; asks.upto(&b), 1);
     Ok(())
