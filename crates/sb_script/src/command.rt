@@ -1,6 +1,6 @@
 //! What a line asks of the world, with its names, keys and values read.
 use crate::line::Line;
-use crate::words::words_of;
+use crate::words::{WriteWords, words_of};
 use sb_types::{Fault, Key, Name};
 use sb_world::Event;
 use std::alloc::Global;
@@ -28,15 +28,29 @@ pub(crate) enum Command {
 }
 
 impl Command {
+    /// A write and its entry. `BadName`; `BadKey`; `BadValue`; `NoMemory`.
+    fn of_write(alloc: Global, write: &WriteWords<'_>) -> Result<Command, Fault> {
+        Ok(Command::Write {
+            commit: write.commit(alloc)?,
+            take: Event::Take(Name::read(write.node)?),
+        })
+    }
+
+    /// `BadName`.
+    fn of_give(giver: &[u8], taker: &[u8], after: u64) -> Result<Command, Fault> {
+        Ok(Command::Give {
+            giver: Name::read(giver)?,
+            taker: Name::read(taker)?,
+            after,
+        })
+    }
+
     /// What the line asks for. `BadName`, `BadKey` and `BadValue`, from left to right; `NoMemory`.
     fn of_line(alloc: Global, line: &Line<'_>) -> Result<Command, Fault> {
         Ok(match *line {
             Line::Commit { write } => Command::Step(write.commit(alloc)?),
             Line::Crash { write, is_kept } => Command::Step(write.crash(alloc, is_kept)?),
-            Line::Write { write } => Command::Write {
-                commit: write.commit(alloc)?,
-                take: Event::Take(Name::read(write.node)?),
-            },
+            Line::Write { write } => Command::of_write(alloc, &write)?,
             Line::Take { node } => Command::Step(Event::Take(Name::read(node)?)),
             Line::Restart { node } => Command::Step(Event::Restart(Name::read(node)?)),
             Line::Connect { node, connection } => {
@@ -61,11 +75,7 @@ impl Command {
                 giver,
                 taker,
                 after,
-            } => Command::Give {
-                giver: Name::read(giver)?,
-                taker: Name::read(taker)?,
-                after,
-            },
+            } => Command::of_give(giver, taker, after)?,
         })
     }
 
