@@ -77,3 +77,13 @@ answer_lines event (Number version) = counted [] version
 abbrev pub lines_of : Event → Result Answer Fault → List ℕ
 lines_of event (Ok answer) = answer_lines event answer
 lines_of event (Err fault) = fault_line fault
+
+-- a write that was entered is told by its version
+abbrev pub write_lines : Event → Result Answer Fault → List ℕ
+write_lines take (Ok (Took version)) = counted (codes "version ") version
+write_lines take answer = lines_of take answer
+
+-- the frame of a number, where one was sent
+abbrev pub shown_frame : Option (List ℕ) → List ℕ
+shown_frame None = line (codes "nothing")
+shown_frame (Some frame) = frame_line frame

@@ -1,28 +1,38 @@
 //! The answers of a script, on their way out.
-ghost use Rattle.std.specs.Prelude.{◌≡◌, ◌≤◌, vec_len, IfErr};
-ghost use Rattle.sb_script.specs.declared.output.TheConstants.{ROOM};
+ghost use Rattle.std.specs.Prelude.{◌≡◌, OnOk, IfErr, IfSome};
+ghost use Rattle.std.specs.Io.KnownBytes.{Appends, Keeps};
+ghost use Rattle.sb_script.specs.Written.{printed, taken, written};
 
 use sb_types::Fault;
 use std::alloc::Global;
 use std::fmt::Display;
-use std::io;
-use std::io::Write;
+use std::io::{self, BufWriter, ErrorKind, Write};
 
 /// How many bytes are written at once.
 const ROOM: usize = 65_536;
 
-/// A writer that counts the bytes that it took.
+/// A writer that counts the bytes that it took. Nothing more is written behind a write that failed.
 #[derive(Drop)]
 struct Counting<W> {
     writer: W,
     taken: u64,
+    has_failed: bool,
 }
 
 impl<W: Write> Write for Counting<W> {
+    ghost contents = { λ c. W.contents c.writer };
+
     fn write(&mut self, bytes: &[u8]) -> io::Result<usize> {
-        let count = self.writer.write(bytes)?;
-        self.taken = self.taken.saturating_add(count as u64);
-        Ok(count)
+        if self.has_failed {
+            return Err(io::Error::from(ErrorKind::BrokenPipe));
+        }
+        let answer = self.writer.write(bytes);
+        match &answer {
+            Ok(0) => self.has_failed = true,
+            Ok(count) => self.taken = self.taken.saturating_add(*count as u64),
+            Err(error) => self.has_failed = error.kind() != ErrorKind::Interrupted,
+        }
+        answer
     }
 
     fn flush(&mut self) -> io::Result<()> {
@@ -32,30 +42,32 @@ impl<W: Write> Write for Counting<W> {
 
 /// Lines that are written many at once. It takes its memory when it is made and none later.
 #[derive(Drop)]
-pub(crate) struct Output<W> {
-    writer: Counting<W>,
-    waiting: Vec<u8>,
-    ghost within: { vec_len waiting ≤ ROOM },
+pub(crate) struct Output<W: Write + Drop> {
+    writer: BufWriter<Counting<W>>,
 }
 
-impl<W: Write> Output<W> {
+impl<W: Write + Drop> Output<W> {
     /// `NoMemory`.
     pub(crate) fn new(alloc: Global, writer: W) -> Result<Output<W>, Fault>
-    where
-        W: Drop,
         ensures { IfErr result (λ fault. fault ≡ Fault.NoMemory) }
     {
-        Ok(Output {
-            writer: Counting { writer, taken: 0 },
-            waiting: Vec::with_capacity(alloc, ROOM)?,
-        })
+        let counting = Counting {
+            writer,
+            taken: 0,
+            has_failed: false,
+        };
+        match BufWriter::with_capacity(alloc, ROOM, counting) {
+            Ok(writer) => Ok(Output { writer }),
+            Err(_) => Err(Fault::NoMemory),
+        }
     }
 
     /// Prints lines. `WriteFailed`, with how many bytes were written in all.
     pub(crate) fn print<D: Display + Drop>(&mut self, lines: D) -> Result<(), Fault>
-        ensures { IfErr result (λ fault. fault ≡ Fault.WriteFailed self.new.writer.taken) }
+        ensures printed { OnOk result (IfSome (D.output lines) (Appends (printed W.contents self.old) (printed W.contents self.new))) }
+        ensures fault { IfErr result (λ fault. fault ≡ Fault.WriteFailed (taken self.new)) }
     {
-        match self.write_fmt(lines) {
+        match self.writer.write_fmt(lines) {
             Ok(()) => Ok(()),
             Err(_) => Err(self.fault()),
         }
@@ -63,40 +75,19 @@ impl<W: Write> Output<W> {
 
     /// Writes what waits. `WriteFailed`, with how many bytes were written in all.
     pub(crate) fn finish(&mut self) -> Result<(), Fault>
-        ensures { IfErr result (λ fault. fault ≡ Fault.WriteFailed self.new.writer.taken) }
+        ensures kept { Keeps (printed W.contents self.old) (printed W.contents self.new) }
+        ensures written { OnOk result (Keeps (printed W.contents self.old) (written W.contents self.new)) }
+        ensures fault { IfErr result (λ fault. fault ≡ Fault.WriteFailed (taken self.new)) }
     {
-        match self.flush() {
+        match self.writer.flush() {
             Ok(()) => Ok(()),
             Err(_) => Err(self.fault()),
         }
     }
 
     fn fault(&self) -> Fault
-        ensures { result ≡ Fault.WriteFailed self.now.writer.taken }
+        ensures { result ≡ Fault.WriteFailed (taken self.now) }
     {
-        Fault::WriteFailed(self.writer.taken)
-    }
-
-    /// Writes what waits. Where that fails the rest is dropped.
-    fn write_waiting(&mut self) -> io::Result<()> {
-        let written = self.writer.write_all(&self.waiting);
-        self.waiting.clear();
-        written
-    }
-}
-
-impl<W: Write> Write for Output<W> {
-    fn write(&mut self, bytes: &[u8]) -> io::Result<usize> {
-        if self.waiting.len() == ROOM {
-            self.write_waiting()?;
-        }
-        let count = bytes.len().min(ROOM - self.waiting.len());
-        self.waiting.extend_from_slice(&bytes[..count])?;
-        Ok(count)
-    }
-
-    fn flush(&mut self) -> io::Result<()> {
-        self.write_waiting()?;
-        self.writer.flush()
+        Fault::WriteFailed(self.writer.get_ref().taken)
     }
 }

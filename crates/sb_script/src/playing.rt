@@ -1,5 +1,10 @@
 //! What the commands of a script do to its world, and what is printed of it.
-ghost use Rattle.std.specs.Prelude.{◌≡◌, IfErr};
+ghost use Rattle.std.specs.Prelude.{◌≡◌, OnOk, IfOk, IfErr};
+ghost use Rattle.std.specs.Io.KnownBytes.{Appends};
+ghost use Rattle.sb_world.specs.Places.{frame_at};
+ghost use Rattle.sb_script.specs.Printed.{lines_of, shown_frame};
+ghost use Rattle.sb_script.specs.Played.{PlaysStep, PlaysWrite, Plays, PlaysLine};
+ghost use Rattle.sb_script.specs.Written.{printed, taken};
 
 use crate::command::Command;
 use crate::output::Output;
@@ -30,12 +35,13 @@ fn lose(_answer: Result<Answer, Fault>) {}
 fn lose_event(_event: Event) {}
 
 /// Prints what an event answered. `WriteFailed`.
-fn tell<W: Write>(
+fn tell<W: Write + Drop>(
     event: Event,
     answer: Result<Answer, Fault>,
     output: &mut Output<W>,
 ) -> Result<(), Fault>
-    ensures { IfErr result (λ fault. fault ≡ Fault.WriteFailed output.new.writer.taken) }
+    ensures printed { OnOk result (Appends (printed W.contents output.old) (printed W.contents output.new) (lines_of event answer)) }
+    ensures fault { IfErr result (λ fault. fault ≡ Fault.WriteFailed (taken output.new)) }
 {
     let printed = output.print(AnswerLines {
         event: &event,
@@ -47,20 +53,26 @@ fn tell<W: Write>(
 }
 
 /// Lets an event happen, and prints what it answers. `WriteFailed`.
-fn step<W: Write>(
+fn step<W: Write + Drop>(
     world: &mut World<PlainLog>,
     event: Event,
     output: &mut Output<W>,
 ) -> Result<(), Fault>
-    ensures { IfErr result (λ fault. fault ≡ Fault.WriteFailed output.new.writer.taken) }
+    ensures played { OnOk result (PlaysStep world.old event (printed W.contents output.old) (printed W.contents output.new) world.new) }
+    ensures fault { IfErr result (λ fault. fault ≡ Fault.WriteFailed (taken output.new)) }
 {
     let answer = world.step(&event);
     tell(event, answer, output)
 }
 
 /// Prints a frame that was sent, or that none has this number. `WriteFailed`.
-fn show<W: Write>(world: &World<PlainLog>, number: u64, output: &mut Output<W>) -> Result<(), Fault>
-    ensures { IfErr result (λ fault. fault ≡ Fault.WriteFailed output.new.writer.taken) }
+fn show<W: Write + Drop>(
+    world: &World<PlainLog>,
+    number: u64,
+    output: &mut Output<W>,
+) -> Result<(), Fault>
+    ensures printed { OnOk result (Appends (printed W.contents output.old) (printed W.contents output.new) (shown_frame (frame_at world.now.sent number))) }
+    ensures fault { IfErr result (λ fault. fault ≡ Fault.WriteFailed (taken output.new)) }
 {
     match world.frame(number) {
         Some(frame) => output.print(FrameLine(frame)),
@@ -69,13 +81,14 @@ fn show<W: Write>(world: &World<PlainLog>, number: u64, output: &mut Output<W>) 
 }
 
 /// A node's log takes a write, and the oldest of its writes that wait is entered, whose version is printed. `WriteFailed`.
-fn write<W: Write>(
+fn write<W: Write + Drop>(
     world: &mut World<PlainLog>,
     commit: Event,
     take: Event,
     output: &mut Output<W>,
 ) -> Result<(), Fault>
-    ensures { IfErr result (λ fault. fault ≡ Fault.WriteFailed output.new.writer.taken) }
+    ensures played { OnOk result (PlaysWrite world.old commit take (printed W.contents output.old) (printed W.contents output.new) world.new) }
+    ensures fault { IfErr result (λ fault. fault ≡ Fault.WriteFailed (taken output.new)) }
 {
     let committed = world.step(&commit);
     lose_event(commit);
@@ -135,14 +148,14 @@ fn close(world: &mut World<PlainLog>) {
 
 /// A node sends another what it wrote above a version, on connections of their own. The delta's frame is printed, and
 /// what came of it. `WriteFailed`.
-fn give<W: Write>(
+fn give<W: Write + Drop>(
     world: &mut World<PlainLog>,
     giver: Name,
     taker: Name,
     after: u64,
     output: &mut Output<W>,
 ) -> Result<(), Fault>
-    ensures { IfErr result (λ fault. fault ≡ Fault.WriteFailed output.new.writer.taken) }
+    ensures { IfErr result (λ fault. fault ≡ Fault.WriteFailed (taken output.new)) }
 {
     let given = match offer(world, giver, after) {
         Ok(given) => given,
@@ -164,12 +177,13 @@ fn give<W: Write>(
 }
 
 /// Does what a command says, and prints what it answers. `WriteFailed`.
-fn play_command<W: Write>(
+fn play_command<W: Write + Drop>(
     world: &mut World<PlainLog>,
     command: Command,
     output: &mut Output<W>,
 ) -> Result<(), Fault>
-    ensures { IfErr result (λ fault. fault ≡ Fault.WriteFailed output.new.writer.taken) }
+    ensures played { OnOk result (Plays world.old command (printed W.contents output.old) (printed W.contents output.new) world.new) }
+    ensures fault { IfErr result (λ fault. fault ≡ Fault.WriteFailed (taken output.new)) }
 {
     match command {
         Command::Step(event) => step(world, event, output),
@@ -184,13 +198,14 @@ fn play_command<W: Write>(
 }
 
 /// Does what a line says and prints what it answers, or its fault. False where it is no command. `WriteFailed`.
-pub(crate) fn play_line<W: Write>(
+pub(crate) fn play_line<W: Write + Drop>(
     alloc: Global,
     world: &mut World<PlainLog>,
     line: &[u8],
     output: &mut Output<W>,
 ) -> Result<bool, Fault>
-    ensures { IfErr result (λ fault. fault ≡ Fault.WriteFailed output.new.writer.taken) }
+    ensures played { IfOk result (λ is_command. PlaysLine is_command world.old (printed W.contents output.old) (printed W.contents output.new) world.new) }
+    ensures fault { IfErr result (λ fault. fault ≡ Fault.WriteFailed (taken output.new)) }
 {
     match Command::read(alloc, line) {
         Ok(Some(command)) => {

@@ -1,6 +1,7 @@
 //! The run of a script.
 ghost use Rattle.std.specs.Prelude.{◌≡◌, ◌+◌, ◌<◌, ◌≤◌, true, false, vec_len, OnOk, IfOk, IfErr};
 ghost use Rattle.sb_script.specs.Script.{EndsSo, bytes_to_come, status_of};
+ghost use Rattle.sb_script.specs.Written.{taken};
 ghost use Rattle.sb_script.specs.Reads.{AreCounted, IsRunFault, comes_before_reads, is_run_fault};
 
 use crate::lines::Lines;
@@ -100,7 +101,7 @@ fn run_on<R: Read + Drop, W: Write + Drop, L: Ledger>(
 }
 
 #[tactic(auto, using(crate::proofs::Runs::counted_later, crate::proofs::Runs::fault_later, crate::proofs::Runs::write_fault))]
-fn play<R: Read, W: Write, L: Ledger>(
+fn play<R: Read, W: Write + Drop, L: Ledger>(
     alloc: Global,
     lines: &mut Lines<R>,
     output: &mut Output<W>,
@@ -132,9 +133,9 @@ fn play<R: Read, W: Write, L: Ledger>(
 }
 
 /// Ends the run at a line that is no command.
-fn end_at<W: Write>(number: u64, output: &mut Output<W>) -> Result<Ending, Fault>
+fn end_at<W: Write + Drop>(number: u64, output: &mut Output<W>) -> Result<Ending, Fault>
     ensures wrong { IfOk result (λ ending. ending ≡ Ending.WrongLine) }
-    ensures fault { IfErr result (λ fault. fault ≡ Fault.WriteFailed output.new.writer.taken) }
+    ensures fault { IfErr result (λ fault. fault ≡ Fault.WriteFailed (taken output.new)) }
 {
     output.print(format_args!("line {number}\n"))?;
     Ok(Ending::WrongLine)

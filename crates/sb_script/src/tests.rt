@@ -100,16 +100,19 @@ impl Read for BreakingReader<'_> {
     }
 }
 
-/// A writer that fails once it has taken so many bytes, and at each flush where it is told to.
+/// A writer that fails once it has taken so many bytes, and at each flush where it is told to. It counts the writes
+/// that failed.
 #[derive(Drop)]
 struct ClosingWriter {
     left: usize,
     is_flushed: bool,
+    failed: u32,
 }
 
 impl Write for ClosingWriter {
     fn write(&mut self, bytes: &[u8]) -> io::Result<usize> {
         if self.left == 0 {
+            self.failed = self.failed.saturating_add(1);
             return Err(io::Error::from(ErrorKind::BrokenPipe));
         }
         let count = bytes.len().min(self.left);
@@ -369,14 +372,19 @@ fn a_failed_read_is_no_end_and_the_end_is_read_once(rt: HostRuntime) -> Result<(
 
 #[test]
 fn a_failed_write_says_how_much_was_written(rt: HostRuntime) -> Result<(), Fail> {
-    for (left, is_flushed, wanted) in [
-        (17, true, Err(Fault::WriteFailed(17))),
-        (500, false, Err(Fault::WriteFailed(114))),
-        (114, true, Ok(Ending::Whole)),
+    for (left, is_flushed, failed, wanted) in [
+        (17, true, 1, Err(Fault::WriteFailed(17))),
+        (500, false, 0, Err(Fault::WriteFailed(114))),
+        (114, true, 0, Ok(Ending::Whole)),
     ] {
-        let writer = ClosingWriter { left, is_flushed };
-        let ended = sim_run_uncounted(rt.alloc(), EXAMPLE.as_bytes(), writer, 100);
+        let mut writer = ClosingWriter {
+            left,
+            is_flushed,
+            failed: 0,
+        };
+        let ended = sim_run_uncounted(rt.alloc(), EXAMPLE.as_bytes(), &mut writer, 100);
         assert_eq!(rt; with_memory(ended)?, wanted);
+        assert_eq!(rt; writer.failed, failed);
     }
     Ok(())
 }
