@@ -1,0 +1,7 @@
+pub mod Fronts
+pub mod Adding
+pub mod ByText
+pub mod Turning
+pub mod Showing
+pub mod Appending
+pub mod Beginning

@@ -1,0 +1,6 @@
+pub mod Stories
+pub mod Rules
+pub mod Pages
+pub mod Copies
+pub mod Ops
+pub mod Views
