@@ -1,8 +1,9 @@
 -- What is appended leads to the view of what is ready.
-use Rattle.std.proofs.Common.{◌≡◌, ℕ, Bool, true, false, List, [], ◌∷◌, ◌++◌, fold, refl, sym, ap, subst, ◌∙◌, append_assoc}
+use Rattle.std.proofs.Common.{◌≡◌, ℕ, Bool, true, false, List, [], ◌∷◌, ◌++◌, Result, Ok, Err, OnOk, OnErr, fold, refl, sym, ap, subst, ◌∙◌, append_assoc}
 use Rattle.std.proofs.lemmas.Bool.{and_parts}
 use mathlib.Core.List.{IsPrefix}
 use Rattle.logbook.specs.Pages.{Book}
+use Rattle.sb_types.specs.declared.fault.Fault.{Fault}
 use Rattle.sb_types.specs.Records.{Entry, Table}
 use Rattle.sb_holdings.specs.Held.{shown_of}
 use Rattle.sb_holdings.specs.Nodes.{Node}
@@ -28,6 +29,20 @@ pub alone-push : (ops : List Op) (owner : List ℕ) (e : Entry) → are_entries 
 alone-push [] owner e is = refl
 alone-push (Enter o x ∷ ops) owner e is = alone-push ops owner e is
 alone-push (Reach mark ∷ ops) owner e is = absurd (cc)
+
+module _ (old new : List Op) (owner : List ℕ) (e : Entry) where
+  pub pushed-alone : (r : Result (Unit {0}) Fault) → OnOk r (new ≡ old ++ Enter owner e ∷ []) → OnErr r (new ≡ old) → are_entries old ≡ true → are_entries new ≡ true
+  pushed-alone (Ok u) ok err is = ap are_entries ok ∙ alone-push old owner e is
+  pushed-alone (Err fault) ok err is = ap are_entries err ∙ is
+
+  pub pushed-ok : (r : Result (Unit {0}) Fault) (batch : List (List ℕ × Entry)) → entries_of old ≡ batch → OnOk r (new ≡ old ++ Enter owner e ∷ [])
+      → OnOk r (entries_of new ≡ batch ++ (owner, e) ∷ [])
+  pushed-ok (Ok u) batch view ok = ap entries_of ok ∙ entries-push old owner e ∙ ap (λ (b : List (List ℕ × Entry)). b ++ (owner, e) ∷ []) view
+  pushed-ok (Err fault) batch view ok = tt
+
+  pub pushed-err : (r : Result (Unit {0}) Fault) (batch : List (List ℕ × Entry)) → entries_of old ≡ batch → OnErr r (new ≡ old) → OnErr r (entries_of new ≡ batch)
+  pushed-err (Ok u) batch view err = tt
+  pushed-err (Err fault) batch view err = ap entries_of err ∙ view
 
 fold-append : (copy : Copy) (xs ys : List Op) → fold after_op copy (xs ++ ys) ≡ fold after_op (fold after_op copy xs) ys
 fold-append copy [] ys = refl

@@ -16,7 +16,7 @@ use Rattle.sb_table.specs.Plain.{IsPlainTable, plain_table, with_entry}
 use Rattle.sb_table.proofs.Copying.{IsCopying, copying-begins, copying-goes_on, copying-ends}
 use Rattle.sb_holdings.specs.Held.{Held, nothing, shown_of}
 use Rattle.sb_holdings.specs.Plain.{alone, IsPlainHolder, IsHoldings, is_from, tables_from}
-use Rattle.sb_views.specs.Pages.{Sheet, no_sheet, sheet_of, IsPage, page_with_all, of_owner, table_with_all, owned, all_owned}
+use Rattle.sb_views.specs.Pages.{Sheet, Page, page_with, no_sheet, sheet_of, IsPage, page_with_all, of_owner, table_with_all, owned, all_owned}
 use Rattle.sb_views.proofs.ByText.{by_text}
 use Rattle.sb_views.proofs.Showing.{same_tables, page-with-all}
 
@@ -72,7 +72,7 @@ module _ (o : List ℕ) where
       ∙ map-append (λ (p : List ℕ × Entry). p.1) (filter (λ p. pointwise nat_eq p.0 o) xs) (filter (λ p. pointwise nat_eq p.0 o) ys)
 
   abbrev owned_each : List (List ℕ × Holder) → List (List ℕ × Entry)
-  owned_each hs = flat_map (λ p. owned p.0 p.1) (map (λ (p : List ℕ × Holder). (p.0, p.1.shown)) hs)
+  owned_each hs = flat_map (λ (p : List ℕ × Table). owned p.0 p.1) (map (λ (p : List ℕ × Holder). (p.0, p.1.shown)) hs)
 
   abbrev there : List (List ℕ × Holder) → Table
   there hs = (unwrap_or (find by_text o hs) nothing).shown
@@ -135,3 +135,47 @@ module _ (held : Held) (is : IsHoldings held) where
   first-page =
       same_tables (λ o. table_with_all (plain_table []) (of_owner o (all_owned held))) (shown_of held) (page_with_all empty (all_owned held)) shown-all
         (page-with-all (λ o. plain_table []) empty (all_owned held) empty-page)
+
+-- ---- entering all of it, step by step
+
+pub record IsEntering (owner : List ℕ) (from : Page) (all : List Entry) (page : Page) (rest : List Entry) : Type 0 where
+  pub left : page_with_all page (map (λ e. (owner, e)) rest) ≡ page_with_all from (map (λ e. (owner, e)) all)
+
+pub entering-begins : (owner : List ℕ) (from : Page) (all rest : List Entry) → rest ≡ all → IsEntering owner from all from rest
+entering-begins owner from all rest is = record { left = ap (λ (es : List Entry). page_with_all from (map (λ e. (owner, e)) es)) is }
+
+pub entering-goes_on : (owner : List ℕ) (from : Page) (all : List Entry) (page new : Page) (e : Entry) (rest : List Entry)
+    → IsEntering owner from all page (e ∷ rest) → new ≡ page_with page owner e → IsEntering owner from all new rest
+entering-goes_on owner from all page new e rest is step =
+    record { left = ap (λ (p : Page). page_with_all p (map (λ x. (owner, x)) rest)) step ∙ is.left }
+
+pub entering-ends : (owner : List ℕ) (from : Page) (all : List Entry) (page : Page) (rest : List Entry)
+    → rest ≡ [] → IsEntering owner from all page rest → page ≡ page_with_all from (map (λ e. (owner, e)) all)
+entering-ends owner from all page rest done is =
+    sym (ap (λ (es : List Entry). page_with_all page (map (λ e. (owner, e)) es)) done) ∙ is.left
+
+with-append : (page : Page) (xs ys : List (List ℕ × Entry)) → page_with_all page (xs ++ ys) ≡ page_with_all (page_with_all page xs) ys
+with-append page [] ys = refl
+with-append page (x ∷ xs) ys = with-append (page_with page x.0 x.1) xs ys
+
+pub record IsFilling (held : Held) (page : Page) (rest : List (List ℕ × Table)) : Type 0 where
+  pub left : page_with_all page (flat_map (λ (p : List ℕ × Table). owned p.0 p.1) rest) ≡ page_with_all empty (all_owned held)
+
+pub filling-begins : (held : Held) (page : Page) (rest : List (List ℕ × Table)) → page ≡ empty → rest ≡ tables_from None held → IsFilling held page rest
+filling-begins held page rest none is =
+    record {
+      left = ap (λ (p : Page). page_with_all p (flat_map (λ (q : List ℕ × Table). owned q.0 q.1) rest)) none
+          ∙ ap (λ (ts : List (List ℕ × Table)). page_with_all empty (flat_map (λ (q : List ℕ × Table). owned q.0 q.1) ts)) is;
+    }
+
+pub filling-goes_on : (held : Held) (page new : Page) (owner : List ℕ) (t : Table) (rest : List (List ℕ × Table))
+    → IsFilling held page ((owner, t) ∷ rest) → new ≡ page_with_all page (owned owner t) → IsFilling held new rest
+filling-goes_on held page new owner t rest is step =
+    record {
+      left = ap (λ (p : Page). page_with_all p (flat_map (λ (q : List ℕ × Table). owned q.0 q.1) rest)) step
+          ∙ sym (with-append page (owned owner t) (flat_map (λ (q : List ℕ × Table). owned q.0 q.1) rest)) ∙ is.left;
+    }
+
+pub filling-ends : (held : Held) (page : Page) (rest : List (List ℕ × Table)) → rest ≡ [] → IsFilling held page rest → page ≡ page_with_all empty (all_owned held)
+filling-ends held page rest done is =
+    sym (ap (λ (ts : List (List ℕ × Table)). page_with_all page (flat_map (λ (q : List ℕ × Table). owned q.0 q.1) ts)) done) ∙ is.left

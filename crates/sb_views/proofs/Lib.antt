@@ -5,3 +5,6 @@ pub mod Turning
 pub mod Showing
 pub mod Appending
 pub mod Beginning
+pub mod Sheets
+pub mod Leading
+pub mod Reaching

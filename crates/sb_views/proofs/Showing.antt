@@ -43,7 +43,7 @@ sheet-cond : (b : Bool) (s : Sheet) (o : Option Sheet) → unwrap_or (cond b (So
 sheet-cond true s o = refl
 sheet-cond false s o = refl
 
-tied : (owner o : List ℕ) → eq_by_cmp by_text o owner ≡ pointwise nat_eq owner o
+pub tied : (owner o : List ℕ) → eq_by_cmp by_text o owner ≡ pointwise nat_eq owner o
 tied owner o = (eq_by_cmp_equiv nat_list_cmp_total).symm o owner ∙ sym (texts_ties owner o)
 
 sheet-with : (page : Page) (owner : List ℕ) (e : Entry) (o : List ℕ) → sheet_of (page_with page owner e) o ≡ cond (pointwise nat_eq owner o) (sheet_with (sheet_of page owner) e) (sheet_of page o)

@@ -2,5 +2,6 @@ pub mod Stories
 pub mod Rules
 pub mod Pages
 pub mod Copies
+pub mod Rows
 pub mod Ops
 pub mod Views

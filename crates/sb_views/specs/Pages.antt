@@ -3,7 +3,7 @@ use Rattle.std.specs.Prelude.{◌≡◌, ℕ, Bool, true, nat_eq, List, [], ◌�
 use Rattle.std.specs.List.{starts_with}
 use Rattle.std.specs.Ordering.{nat_cmp}
 use Rattle.std.specs.Cmp.Lexicographic.{slice_cmp, pointwise}
-use Rattle.std.specs.FinMap.{FinMap, empty, get, insert, remove, entries}
+use Rattle.std.specs.FinMap.{FinMap, empty, get, insert, remove, entries, from_sorted}
 use Rattle.sb_types.specs.declared.entry.Slot.{Slot}
 use Rattle.sb_types.specs.declared.entry.Slot.TheVariants.{Set, Removed}
 use Rattle.sb_types.specs.Value.{Value}
@@ -21,6 +21,13 @@ pub record Sheet : Type 0 where
 -- the owners' sheets, by name
 abbrev pub Page : Type 0
 Page = FinMap (slice_cmp nat_cmp) Sheet
+
+-- of a list in the order of its keys
+abbrev pub rows_of : List (List ℕ × (Value × ℕ)) → FinMap (slice_cmp nat_cmp) (Value × ℕ)
+rows_of rows = from_sorted rows
+
+abbrev pub page_of : List (List ℕ × Sheet) → Page
+page_of sheets = from_sorted sheets
 
 abbrev pub no_sheet : Sheet
 no_sheet = record { upto = 0; rows = empty }

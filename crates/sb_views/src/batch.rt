@@ -2,6 +2,7 @@
 ghost use Rattle.std.specs.Prelude.{◌≡◌, ◌++◌, ◌∷◌, [], true, OnOk, OnErr, IfErr};
 ghost use Rattle.sb_views.specs.Ops.{entries_of, are_entries};
 
+use crate::sheet::lose;
 use crate::shown::Op;
 use sb_types::{Entry, Fault, Name};
 use std::alloc::Global;
@@ -26,6 +27,21 @@ impl Model for Batch {
     ghost invariant = { λ b. are_entries b.entries.items ≡ true };
 }
 
+/// Puts a step behind the others. Where memory is wanting nothing changes.
+fn push_step(steps: &mut VecDeque<Op>, step: Op) -> Result<(), Fault>
+    ensures ok { OnOk result (steps.new.items ≡ steps.old.items ++ step ∷ []) }
+    ensures err { OnErr result (steps.new.items ≡ steps.old.items) }
+    ensures memory { IfErr result (λ fault. fault ≡ Fault.NoMemory) }
+{
+    match steps.push_back(step) {
+        Ok(()) => Ok(()),
+        Err(refused) => {
+            lose(refused);
+            Err(Fault::NoMemory)
+        }
+    }
+}
+
 impl Batch {
     /// A batch without entries. It takes no memory; what it allocates later it allocates by `alloc`.
     pub fn new(alloc: Global) -> Batch
@@ -42,10 +58,7 @@ impl Batch {
         ensures err { OnErr result (self.new ≡ self.old) }
         ensures memory { IfErr result (λ fault. fault ≡ Fault.NoMemory) }
     {
-        match self.entries.push_back(Op::Enter(owner, entry)) {
-            Ok(()) => Ok(()),
-            Err(_) => Err(Fault::NoMemory),
-        }
+        push_step(&mut self.entries, Op::Enter(owner, entry))
     }
 
     /// The entries as steps of a copy.

@@ -1,14 +1,20 @@
 //! What is shown of all owners.
 ghost use Rattle.std.specs.Prelude.{◌≡◌, None, OnOk, OnErr};
-ghost use Rattle.std.specs.Option.{option_map};
-ghost use Rattle.std.specs.FinMap.{empty, get};
+ghost use Rattle.std.specs.Option.{option_map, option_copied};
+ghost use Rattle.std.specs.FinMap.{empty, get, insert};
+ghost use Rattle.std.specs.Ordering.{nat_cmp};
+ghost use Rattle.std.specs.Cmp.Lexicographic.{slice_cmp};
+ghost use Rattle.std.specs.BTreeMap.{IsOrdered};
 ghost use Rattle.sb_views.specs.Pages as pages;
+ghost use Rattle.sb_views.specs.Rows as spec;
 
-use crate::sheet::Sheet;
-use sb_types::{Entry, Key, Name, Value};
+use crate::sheet::{Sheet, lose};
+use crate::rows::Rows;
+use sb_types::{Entry, Key, Name, Prefix, Value};
 use std::alloc::{AllocError, Global};
 use std::collections::BTreeMap;
 use std::marker::Model;
+use std::ops::Bound;
 
 /// The owners' sheets, by name.
 #[derive(Drop)]
@@ -22,16 +28,39 @@ impl Model for Page {
     ghost use Rattle.std.specs.Cmp.Lexicographic.{slice_cmp};
     ghost use Rattle.std.specs.BTreeMap.{IsOrdered};
     ghost use Rattle.std.specs.Coded.{codes};
-    ghost use Rattle.std.specs.FinMap.{code, from_sorted};
+    ghost use Rattle.std.specs.FinMap.{code};
     ghost use Rattle.sb_views.specs.Pages as pages;
 
     ghost Value = { pages.Page };
 
     ghost coded = { Prim.hlevel (codes, code) };
 
-    ghost view = { λ p. from_sorted p.sheets.entries };
+    ghost view = { λ p. pages.page_of p.sheets.entries };
 
     ghost invariant = { λ p. IsOrdered (slice_cmp nat_cmp) p.sheets };
+}
+
+/// Puts a sheet under a name. Where memory is wanting nothing changes.
+fn put_sheet(
+    sheets: &mut BTreeMap<Name, Sheet>,
+    owner: Name,
+    sheet: Sheet,
+) -> Result<(), AllocError>
+    requires { IsOrdered (slice_cmp nat_cmp) sheets.old }
+    ensures ok { OnOk result (pages.page_of sheets.new.entries ≡ insert (pages.page_of sheets.old.entries) owner sheet) }
+    ensures err { OnErr result (sheets.new.entries ≡ sheets.old.entries) }
+    ensures ordered { IsOrdered (slice_cmp nat_cmp) sheets.new }
+{
+    match sheets.insert(owner, sheet) {
+        Ok(earlier) => {
+            lose(earlier);
+            Ok(())
+        }
+        Err(refused) => {
+            lose(refused);
+            Err(AllocError)
+        }
+    }
 }
 
 impl Page {
@@ -65,17 +94,21 @@ impl Page {
     {
         let mut sheet = Sheet::new(self.alloc);
         sheet.enter(self.alloc, entry)?;
-        match self.sheets.insert(*owner, sheet) {
-            Ok(_) => Ok(()),
-            Err(_) => Err(AllocError),
-        }
+        put_sheet(&mut self.sheets, *owner, sheet)
+    }
+
+    /// The sheet of an owner.
+    pub(crate) fn sheet(&self, owner: &Name) -> Option<&Sheet>
+        ensures { option_copied result ≡ get self.now owner.now }
+    {
+        self.sheets.get(owner)
     }
 
     /// The version up to which an owner is held, 0 where it is not.
     pub(crate) fn upto(&self, owner: &Name) -> u64
         ensures { result ≡ pages.upto_of self.now owner.now }
     {
-        match self.sheets.get(owner) {
+        match self.sheet(owner) {
             Some(sheet) => sheet.upto(),
             None => 0,
         }
@@ -85,6 +118,25 @@ impl Page {
     pub(crate) fn get(&self, owner: &Name, key: &Key) -> Option<(&Value, u64)>
         ensures { option_map (λ p. (p.0.now, p.1)) result ≡ pages.row_of self.now owner.now key.now }
     {
-        self.sheets.get(owner)?.get(key)
+        match self.sheet(owner) {
+            Some(sheet) => sheet.get(key),
+            None => None,
+        }
+    }
+
+    /// The rows of the wanted owner, or of all, under the keys that begin with the prefix.
+    pub(crate) fn rows(&self, wanted: Option<Name>, prefix: Prefix) -> Rows<'_>
+        ensures { result ≡ spec.rows_in wanted prefix self.now }
+    {
+        match wanted {
+            Some(owner) => {
+                let one = (Bound::Included(owner), Bound::Included(owner));
+                Rows::new(self.sheets.range(one), prefix)
+            }
+            None => {
+                let all: (Bound<Name>, Bound<Name>) = (Bound::Unbounded, Bound::Unbounded);
+                Rows::new(self.sheets.range(all), prefix)
+            }
+        }
     }
 }

@@ -2,9 +2,11 @@
 ghost use Rattle.std.specs.Prelude.{◌≡◌};
 ghost use Rattle.std.specs.Option.{option_map};
 ghost use Rattle.sb_views.specs.Pages as pages;
+ghost use Rattle.sb_views.specs.Rows as spec;
 
 use crate::page::Page;
-use sb_types::{Key, Name, Value};
+use crate::rows::Rows;
+use sb_types::{Key, Name, Prefix, Value};
 use std::marker::Model;
 
 /// What is shown of a node, lent while its reader reads. No call takes memory.
@@ -45,5 +47,13 @@ impl<'a> Snapshot<'a> {
         ensures { option_map (λ p. (p.0.now, p.1)) result ≡ pages.row_of self.now owner.now key.now }
     {
         self.page.get(owner, key)
+    }
+
+    /// The live rows of the wanted owner, or of all, under the keys that begin with the prefix: owner by owner in
+    /// ascending order of their names, and key by key.
+    pub fn rows(&self, wanted: Option<Name>, prefix: Prefix) -> Rows<'a>
+        ensures { result ≡ spec.rows_in wanted prefix self.now }
+    {
+        self.page.rows(wanted, prefix)
     }
 }

@@ -110,16 +110,23 @@ impl<S: Site, R: Wait + Drop> ViewWriter<S, R> {
         ensures readers { IfOk result (λ readers. readers.items ≡ replicate seats []) }
         ensures memory { IfErr result (λ fault. fault ≡ Fault.NoMemory) }
     {
-        let Ok(mut readers) = Vec::with_capacity(alloc, seats) else {
-            return Err(Fault::NoMemory);
-        };
+        let mut readers = Vec::new(alloc);
         for _ in 0..seats {
-            match self.writer.factory().reader() {
-                Ok(reader) => readers.push_reserved(Reader::new(reader, self.ready.again())),
-                Err(_) => return Err(Fault::NoMemory),
-            }
+            let reader = self.reader()?;
+            readers.push(reader)?;
         }
         Ok(readers)
+    }
+
+    fn reader(&self) -> Result<Reader<S>, Fault>
+        requires { self.now.ready ≡ [] }
+        ensures reader { IfOk result (λ reader. reader ≡ []) }
+        ensures memory { IfErr result (λ fault. fault ≡ Fault.NoMemory) }
+    {
+        match self.writer.factory().reader() {
+            Ok(reader) => Ok(Reader::new(reader, self.ready.again())),
+            Err(_) => Err(Fault::NoMemory),
+        }
     }
 
     /// Appends a batch, which leads from what is ready to the view of the events up to `upto`. Readers see nothing of
