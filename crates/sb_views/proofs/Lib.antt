@@ -8,3 +8,5 @@ pub mod Beginning
 pub mod Sheets
 pub mod Leading
 pub mod Reaching
+pub mod Starting
+pub mod Wanted
