@@ -70,10 +70,10 @@ module _ (story : Book) (opening : Node) (ready upto : List Event) (shown : Copy
   view : IsView (node_after opening upto) (page_with_all (fold after_op shown pending).page (entries_of ops))
   view =
       let before : IsView (node_after opening ready) (fold after_op shown pending).page =
-          subst (λ (l : List Event). IsView (node_after opening l) (fold after_op shown pending).page) is.reaches is.told.view in
+      subst (λ (l : List Event). IsView (node_after opening l) (fold after_op shown pending).page) is.reaches is.told.view in
       same_tables (λ o. table_with_all (shown_of (node_after opening ready).held o) (of_owner o (entries_of ops))) (shown_of (node_after opening upto).held)
-        (page_with_all (fold after_op shown pending).page (entries_of ops)) (λ o. sym (leads o))
-        (page-with-all (shown_of (node_after opening ready).held) (fold after_op shown pending).page (entries_of ops) before)
+      (page_with_all (fold after_op shown pending).page (entries_of ops)) (λ o. sym (leads o))
+      (page-with-all (shown_of (node_after opening ready).held) (fold after_op shown pending).page (entries_of ops) before)
 
   next : IsReady story opening upto shown (record { mark = mark; page = page_with_all (fold after_op shown pending).page (entries_of ops) })
   next = record { told = record { book = refl; view = view }; reaches = refl; begins = prefix_trans shown.mark.events ready upto is.begins begins }

@@ -134,7 +134,7 @@ module _ (held : Held) (is : IsHoldings held) where
   pub first-page : IsPage (shown_of held) (page_with_all empty (all_owned held))
   first-page =
       same_tables (λ o. table_with_all (plain_table []) (of_owner o (all_owned held))) (shown_of held) (page_with_all empty (all_owned held)) shown-all
-        (page-with-all (λ o. plain_table []) empty (all_owned held) empty-page)
+      (page-with-all (λ o. plain_table []) empty (all_owned held) empty-page)
 
 -- ---- entering all of it, step by step
 

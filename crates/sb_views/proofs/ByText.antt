@@ -52,18 +52,18 @@ module _ {X : Type 0} where
       → ((q : List ℕ) → found new q ≡ cond (is_at (by_text k) q) (Some v) (found old q)) → from_sorted {R = by_text} new ≡ insert (from_sorted {R = by_text} old) k v
   with_inserted old new k v up up_new is =
       same _ _ (λ q. get-found new up_new q ∙ is q
-        ∙ ap (λ (b : Bool). cond b (Some v) (found old q)) ((eq_by_cmp_equiv nat_list_cmp_total).symm k q)
-        ∙ ap (cond (eq_by_cmp by_text q k) (Some v)) (sym (get-found old up q))
-        ∙ sym (get-insert nat_list_cmp_total (from_sorted {R = by_text} old) k v q))
+      ∙ ap (λ (b : Bool). cond b (Some v) (found old q)) ((eq_by_cmp_equiv nat_list_cmp_total).symm k q)
+      ∙ ap (cond (eq_by_cmp by_text q k) (Some v)) (sym (get-found old up q))
+      ∙ sym (get-insert nat_list_cmp_total (from_sorted {R = by_text} old) k v q))
 
   -- with a key taken out
   pub with_removed : (old new : List (List ℕ × X)) (k : List ℕ) → Ascend old → Ascend new
       → ((q : List ℕ) → found new q ≡ cond (is_at (by_text k) q) None (found old q)) → from_sorted {R = by_text} new ≡ remove (from_sorted {R = by_text} old) k
   with_removed old new k up up_new is =
       same _ _ (λ q. get-found new up_new q ∙ is q
-        ∙ ap (λ (b : Bool). cond b None (found old q)) ((eq_by_cmp_equiv nat_list_cmp_total).symm k q)
-        ∙ ap (cond (eq_by_cmp by_text q k) None) (sym (get-found old up q))
-        ∙ sym (get-remove nat_list_cmp_total (from_sorted {R = by_text} old) k q))
+      ∙ ap (λ (b : Bool). cond b None (found old q)) ((eq_by_cmp_equiv nat_list_cmp_total).symm k q)
+      ∙ ap (cond (eq_by_cmp by_text q k) None) (sym (get-found old up q))
+      ∙ sym (get-remove nat_list_cmp_total (from_sorted {R = by_text} old) k q))
 
   pub from_nothing : (es : List (List ℕ × X)) → es ≡ [] → Ascend es → from_sorted {R = by_text} es ≡ empty
   from_nothing es none up = same _ _ (λ q. get-found es up q ∙ ap (λ l. found l q) none ∙ sym (get-empty by_text q))

@@ -89,5 +89,5 @@ pub page-with-all : (tables : List ℕ → Table) (page : Page) (batch : List (L
 page-with-all tables page [] is = is
 page-with-all tables page (p ∷ ps) is =
     same_tables (batched (tables_with tables p.0 p.1) ps) (batched tables (p ∷ ps)) (page_with_all page (p ∷ ps))
-      (λ o. next-case (tables o) p (pointwise nat_eq p.0 o) (filter (λ q. pointwise nat_eq q.0 o) ps))
-      (page-with-all (tables_with tables p.0 p.1) (page_with page p.0 p.1) ps (page-with tables page is p.0 p.1))
+    (λ o. next-case (tables o) p (pointwise nat_eq p.0 o) (filter (λ q. pointwise nat_eq q.0 o) ps))
+    (page-with-all (tables_with tables p.0 p.1) (page_with page p.0 p.1) ps (page-with tables page is p.0 p.1))

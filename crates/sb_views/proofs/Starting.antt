@@ -18,6 +18,6 @@ pub told-first : (story : Book) (opening : Node) (held : Held) (mark : Mark) (pa
     → mark ≡ record { book = story; events = [] } → page ≡ page_with_all empty (all_owned held) → IsTold story opening (copy_of mark page)
 told-first story opening held mark page is same at first =
     let shows : IsView opening (page_with_all empty (all_owned held)) =
-        subst (λ (h : Held). IsPage (shown_of h) (page_with_all empty (all_owned held))) (sym same) (first-page held is) in
+    subst (λ (h : Held). IsPage (shown_of h) (page_with_all empty (all_owned held))) (sym same) (first-page held is) in
     let view : IsView opening page = subst (IsView opening) (sym first) shows in
     subst (λ (m : Mark). IsTold story opening (copy_of m page)) (sym at) (record { book = refl; view = view })

@@ -18,7 +18,7 @@ use Rattle.sb_views.proofs.Fronts.{prefix_length}
 set_below : (n m : ℕ) (seen : List ℕ) (reader w : ℕ) → AllBelow n seen → n ≤ m → w ≤ m → AllBelow m (slice_set seen reader w)
 set_below n m seen reader w below up low j u at =
     ⊎_elim (λ (t : (j ≡ reader) × (w ≡ u)). subst (λ (z : ℕ). z ≤ m) t.1 low) (λ (t : (j ≢ reader) × (get_elem? seen j ≡ some u)). le_trans (below j u t.1) up)
-      (at_set seen reader j w u at)
+    (at_set seen reader j w u at)
 
 module _ (story : Book) (opening : Node) where
   -- a reader may come at any time
@@ -41,7 +41,7 @@ module _ (story : Book) (opening : Node) where
     pub publishes : (writer v : ℕ) (shown next : Copy) → IsReady story opening ready shown next → TurnsAt (IsPublished story opening) writer v shown next (λ v x y w. Unit {0})
     publishes writer v shown next is seen was at =
         let up : length shown.mark.events ≤ length next.mark.events =
-            subst (λ (l : List Event). length shown.mark.events ≤ length l) (sym is.reaches) (prefix_length shown.mark.events ready is.begins) in
+        subst (λ (l : List Event). length shown.mark.events ≤ length l) (sym is.reaches) (prefix_length shown.mark.events ready is.begins) in
         (length next.mark.events, turns writer shown next is.told up seen was, tt)
 
     -- with nothing left in the queue, what is pending are the steps of the log

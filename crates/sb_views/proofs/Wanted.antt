@@ -22,7 +22,7 @@ pub one-between : (owner : List ℕ) (es : List (List ℕ × Sheet))
     → filter (λ (p : List ℕ × Sheet). range_contains by_text (Included owner) (Included owner) p.0) es ≡ filter (λ (p : List ℕ × Sheet). is_wanted (Some owner) p.0) es
 one-between owner es =
     filter_agree (λ (p : List ℕ × Sheet). range_contains by_text (Included owner) (Included owner) p.0) (λ (p : List ℕ × Sheet). is_wanted (Some owner) p.0)
-      (λ p. between-case (by_text owner p.0) ∙ sym (texts_ties owner p.0)) es
+    (λ p. between-case (by_text owner p.0) ∙ sym (texts_ties owner p.0)) es
 
 pub rows-wanted : (wanted : Option (List ℕ)) (prefix : List ℕ) (es part : List (List ℕ × Sheet)) (page : Page) → Ascend es → page_of es ≡ page
     → part ≡ filter (λ (p : List ℕ × Sheet). is_wanted wanted p.0) es → rows_of_sheets prefix part ≡ rows_in wanted prefix page

@@ -8,8 +8,8 @@ ghost use Rattle.std.specs.BTreeMap.{IsOrdered};
 ghost use Rattle.sb_views.specs.Pages as pages;
 ghost use Rattle.sb_views.specs.Rows as spec;
 
-use crate::sheet::{Sheet, lose};
 use crate::rows::Rows;
+use crate::sheet::{Sheet, lose};
 use sb_types::{Entry, Key, Name, Prefix, Value};
 use std::alloc::{AllocError, Global};
 use std::collections::BTreeMap;

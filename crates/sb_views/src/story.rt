@@ -1,14 +1,14 @@
 //! The story: all events of a node in one order, which exists in proofs alone.
-ghost use Rattle.std.specs.Prelude.{◌≡◌, ◌+◌, ◌<◌, ◌≤◌, ◌-◌, ◌^◌, ◌++◌, ◌∷◌, ◌⊎◌, [], length, MatchBool, ◌==◌};
+ghost use Rattle.std.specs.Prelude.{◌≡◌, ◌≢◌, ◌+◌, ◌<◌, ◌≤◌, ◌-◌, ◌^◌, ◌++◌, ◌∷◌, ◌⊎◌, [], length, MatchBool, ◌==◌};
 ghost use mathlib.Core.List.{IsPrefix};
 ghost use Rattle.sb_views.specs.declared.event.Event.TheVariants as events;
 ghost use Rattle.sb_views.specs.Stories.{IsLonger};
 ghost use Rattle.sb_views.specs.Rules.{head_of};
 
 use crate::event::Event;
+use logbook::{Gain, Offer, Plain, Play, Rule, Seen, Start, Word};
 use sb_holdings::Report;
 use sb_types::{Delta, Entry};
-use logbook::{Gain, Offer, Plain, Play, Rule, Seen, Start, Word};
 use std::marker::{Brand, Model, PhantomData};
 use std::sync::ledger::Ledger;
 
@@ -98,6 +98,7 @@ impl Site for Brand {
 }
 
 /// A story that has just begun, which has no name yet.
+#[derive(Drop)]
 pub struct Opened {
     head: Word<Event, u64, Law>,
     seen: Seen<Event, u64, Law>,
@@ -106,6 +107,7 @@ pub struct Opened {
 }
 
 impl Opened {
+    /// A story without events. It takes no memory.
     pub fn new() -> Opened {
         let (seen, mut first, _second) = Seen::open(Start::alone(), 0, 0);
         Opened {
@@ -178,9 +180,9 @@ impl Mark {
     }
 
     /// Whether both have the same events.
-    pub fn is_same(&self, other: &Mark) -> bool
+    pub(crate) fn is_same(&self, other: &Mark) -> bool
         requires { other.now.book ≡ self.now.book }
-        ensures { MatchBool result (other.now.events ≡ self.now.events) (Unit {0}) }
+        ensures { MatchBool result (other.now.events ≡ self.now.events) (other.now.events ≢ self.now.events) }
     {
         let mut both = self.seen.again();
         both.learn(&other.seen);
@@ -188,7 +190,7 @@ impl Mark {
     }
 
     /// Of two marks of one story the shorter begins the longer.
-    pub fn longer(&self, other: &Mark) -> Mark
+    pub(crate) fn longer(&self, other: &Mark) -> Mark
         requires { other.now.book ≡ self.now.book }
         ensures one { (result ≡ self.now) ⊎ (result ≡ other.now) }
         ensures this { IsPrefix self.now.events result.events }
@@ -230,20 +232,18 @@ impl<S: Site> Front<S> {
         self.mark.len()
     }
 
-    pub fn mark(&self) -> &Mark
+    /// The mark of its events.
+    pub(crate) fn mark(&self) -> &Mark
         ensures { result.now ≡ record { book = S.story; events = self.now } }
     {
         &self.mark
     }
 
-    pub fn at(mark: &Mark) -> Front<S>
-        requires { mark.now.book ≡ S.story }
-        ensures { result ≡ mark.now.events }
+    /// Whether both have the same events.
+    pub fn is_same(&self, other: &Front<S>) -> bool
+        ensures { MatchBool result (other.now ≡ self.now) (other.now ≢ self.now) }
     {
-        Front {
-            mark: mark.again(),
-            of: PhantomData,
-        }
+        self.mark.is_same(&other.mark)
     }
 
     /// A copy.
@@ -257,7 +257,7 @@ impl<S: Site> Front<S> {
     }
 
     /// Sees as much as a longer mark.
-    pub fn raise(&mut self, mark: &Mark)
+    pub(crate) fn raise(&mut self, mark: &Mark)
         requires book { mark.now.book ≡ S.story }
         requires longer { length self.old ≤ length mark.now.events }
         ensures events { self.new ≡ mark.now.events }
@@ -274,7 +274,9 @@ impl<S: Site> Front<S> {
         ensures { MatchBool result (self.new ≡ self.old ++ events.TookOwn entry.now ∷ []) (IsLonger self.old self.new) }
     {
         let mark = &mut self.mark;
-        let mut offer: Offer<Event, u64, Law, Nothing> = mark.seen.plain::<Nothing, Entry, Add>(entry);
+        let mut offer: Offer<Event, u64, Law, Nothing> = mark
+            .seen
+            .plain::<Nothing, Entry, Add>(entry);
         let found = exchange(&story.head, mark.events, &mut mark.seen, &mut offer);
         let added = found == mark.events;
         mark.events = if added { found + 1 } else { found };

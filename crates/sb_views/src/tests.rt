@@ -5,9 +5,9 @@ ghost use Rattle.sb_holdings.specs.Held.{shown_of};
 
 use super::*;
 use crate::page::Page;
-use sb_holdings::Holdings;
+use sb_holdings::{BlockEnd, Holdings, Report};
 use sb_table::Table;
-use sb_types::{Entry, Fault, Key, Name, Prefix, Slot, Value, ValueRef};
+use sb_types::{Block, Delta, Entry, Fault, Key, Name, Prefix, Slot, Value, ValueRef};
 use std::alloc::Global;
 use std::marker::Brand;
 use std::process::Abort;
@@ -24,11 +24,36 @@ struct Case {
 }
 
 const WRITES: [Case; 5] = [
-    Case { owner: b"b", key: b"net/a", version: 1, weight: Some(7) },
-    Case { owner: b"a", key: b"net/b", version: 1, weight: Some(1) },
-    Case { owner: b"a", key: b"net/a", version: 2, weight: Some(2) },
-    Case { owner: b"a", key: b"w", version: 3, weight: Some(3) },
-    Case { owner: b"a", key: b"net/b", version: 4, weight: None },
+    Case {
+        owner: b"b",
+        key: b"net/a",
+        version: 1,
+        weight: Some(7),
+    },
+    Case {
+        owner: b"a",
+        key: b"net/b",
+        version: 1,
+        weight: Some(1),
+    },
+    Case {
+        owner: b"a",
+        key: b"net/a",
+        version: 2,
+        weight: Some(2),
+    },
+    Case {
+        owner: b"a",
+        key: b"w",
+        version: 3,
+        weight: Some(3),
+    },
+    Case {
+        owner: b"a",
+        key: b"net/b",
+        version: 4,
+        weight: None,
+    },
 ];
 
 fn entry_of(case: Case) -> Result<Entry, Fault> {
@@ -69,7 +94,10 @@ fn pages_show_what_is_live(rt: HostRuntime) -> Result<(), Fail> {
     assert_eq!(rt; snapshot.upto(&a), 4);
     assert_eq!(rt; snapshot.upto(&b), 1);
     assert_eq!(rt; snapshot.upto(&c), 0);
-    assert_eq!(rt; weight_of(snapshot.get(&a, &Key::read(b"net/a")?)), Some((2, 2)));
+    assert_eq!(rt;
+        weight_of(snapshot.get(&a, &Key::read(b"net/a")?)),
+        Some((2, 2))
+    );
     assert_eq!(rt; weight_of(snapshot.get(&a, &Key::read(b"net/b")?)), None);
     assert_eq!(rt; weight_of(snapshot.get(&c, &Key::read(b"w")?)), None);
     Ok(())
@@ -84,11 +112,31 @@ struct Asked {
 }
 
 const ASKED: [Asked; 5] = [
-    Asked { wanted: b"", prefix: b"", rows: &[(b"a", b"net/a", 2), (b"a", b"w", 3), (b"b", b"net/a", 1)] },
-    Asked { wanted: b"", prefix: b"net/", rows: &[(b"a", b"net/a", 2), (b"b", b"net/a", 1)] },
-    Asked { wanted: b"a", prefix: b"", rows: &[(b"a", b"net/a", 2), (b"a", b"w", 3)] },
-    Asked { wanted: b"b", prefix: b"w", rows: &[] },
-    Asked { wanted: b"c", prefix: b"", rows: &[] },
+    Asked {
+        wanted: b"",
+        prefix: b"",
+        rows: &[(b"a", b"net/a", 2), (b"a", b"w", 3), (b"b", b"net/a", 1)],
+    },
+    Asked {
+        wanted: b"",
+        prefix: b"net/",
+        rows: &[(b"a", b"net/a", 2), (b"b", b"net/a", 1)],
+    },
+    Asked {
+        wanted: b"a",
+        prefix: b"",
+        rows: &[(b"a", b"net/a", 2), (b"a", b"w", 3)],
+    },
+    Asked {
+        wanted: b"b",
+        prefix: b"w",
+        rows: &[],
+    },
+    Asked {
+        wanted: b"c",
+        prefix: b"",
+        rows: &[],
+    },
 ];
 
 #[test]
@@ -96,11 +144,17 @@ fn rows_come_in_order(rt: HostRuntime) -> Result<(), Fail> {
     let page = written_page(rt.alloc())?;
     let snapshot = Snapshot::of(&page);
     for asked in ASKED {
-        let wanted = if asked.wanted.is_empty() { None } else { Some(Name::read(asked.wanted)?) };
+        let wanted = if asked.wanted.is_empty() {
+            None
+        } else {
+            Some(Name::read(asked.wanted)?)
+        };
         let mut rows = snapshot.rows(wanted, Prefix::read(asked.prefix)?);
         for (owner, key, version) in asked.rows {
             let row = rows.next().ok_or("a row")?;
-            assert!(rt; row.owner.bytes() == *owner && row.key.bytes() == *key && row.version == *version);
+            assert!(rt;
+                row.owner.bytes() == *owner && row.key.bytes() == *key && row.version == *version
+            );
         }
         assert!(rt; rows.next().is_none());
     }
@@ -136,9 +190,12 @@ fn publish_one<S: Site, R: Wait + Abort>(
     let added = upto.add_own(&story, &entry);
     let mut batch = Batch::new(alloc);
     batch.push(a, entry)?;
-    own_writes_lead();
-    if !added || writer.append(batch, &upto).is_err() {
-        return Err("a write is appended".into());
+    if !added {
+        return Err("a write is added".into());
+    }
+    match writer.append(batch, &upto) {
+        Ok(()) => {}
+        Err(_) => return Err("a write is appended".into()),
     }
     let reader = readers.pop().ok_or("a reader")?;
     let entered = reader.enter().ok().ok_or("it enters")?;
@@ -149,5 +206,29 @@ fn publish_one<S: Site, R: Wait + Abort>(
     let snapshot = entered.snapshot();
     assert_eq!(rt; (snapshot.upto(&a), entered.told().len()), (1, 1));
     assert_eq!(rt; weight_of(snapshot.get(&a, &key)), Some((1, 1)));
+    Ok(())
+}
+
+#[test]
+fn events_are_added_behind_others(rt: HostRuntime) -> Result<(), Fail> {
+    add_events::<Brand, _>(&rt, rt.alloc(), Opened::new())
+}
+
+fn add_events<S: Site, R: Abort>(rt: &R, alloc: Global, opened: Opened) -> Result<(), Fail>
+    requires { opened.seen.book ≡ S.story }
+{
+    let entry = entry_of(WRITES[1])?;
+    let block = Block::new(Name::read(b"b")?, 0, vec![in alloc; entry_of(WRITES[0])?]?)?;
+    let delta = Delta::new(vec![in alloc; block]?)?;
+    let ends = Report::new(vec![in alloc; BlockEnd::Taken(1)]?);
+    let (story, start) = opened.named::<S>();
+    let (mut one, mut two) = (start.again(), start.again());
+    assert!(rt; one.add_own(&story, &entry) && !one.is_same(&start));
+    assert!(rt; !two.add_own(&story, &entry) && two.is_same(&one));
+    if two.len() != 1 {
+        return Err("one event".into());
+    }
+    assert!(rt; two.add_applied(&story, &delta, &ends) && !two.is_same(&one));
+    assert_eq!(rt; (start.len(), one.len(), two.len()), (0, 1, 2));
     Ok(())
 }

@@ -9,6 +9,6 @@ pub new-requires-clause-told : goal.new-requires-clause-told
 new-requires-clause-told g c =
     let story = g.S.Site.story in
     subst (IsTold story g.S.Site.opening) (sym c.new-first.ensures)
-      (told-first story g.S.Site.opening c.args.holdings.now c.again.result c.in-Ok.first c.page_of.ensures.holdings c.requires.opening
-        (c.again.ensures ∙ (c.mark.ensures ∙ ap (λ (l : List Event). let m : Mark = record { book = story; events = l } in m) c.requires.start))
-        c.in-Ok.ensures.page)
+    (told-first story g.S.Site.opening c.args.holdings.now c.again.result c.in-Ok.first c.page_of.ensures.holdings c.requires.opening
+    (c.again.ensures ∙ (c.mark.ensures ∙ ap (λ (l : List Event). let m : Mark = record { book = story; events = l } in m) c.requires.start))
+    c.in-Ok.ensures.page)

@@ -1,4 +1,4 @@
-use Rattle.std.proofs.Common.{◌≡◌, ◌≤◌, ◌==◌, Bool, true, false, MatchBool, ℕ, ap, sym, ◌∙◌, subst, arith, length, List, refl}
+use Rattle.std.proofs.Common.{eq-eqb, ◌≢◌, ◌≡◌, ◌≤◌, ◌==◌, Bool, true, false, MatchBool, ℕ, ap, sym, ◌∙◌, subst, arith, length, List, refl}
 use Rattle.std.proofs.lemmas.Bool.Decides.{nat_tests}
 use mathlib.Core.List.{IsPrefix}
 use Rattle.sb_views.specs.declared.event.Event.{Event}
@@ -6,11 +6,16 @@ use Rattle.sb_views.proofs.Fronts.{prefix_shorter, prefix_whole}
 use Rattle.sb_views.proofs.story.Mark.is_same.Goals as goal
 
 same_length : (xs ys both : List Event) → IsPrefix xs both → IsPrefix ys both → (b : Bool) → (length xs == length ys) ≡ b
-    → MatchBool b (ys ≡ xs) (Unit {0})
+    → MatchBool b (ys ≡ xs) (ys ≢ xs)
 same_length xs ys both p q true e =
     let here : length xs ≡ length ys = grind (arith, nat_tests) in
     sym (prefix_whole xs ys (prefix_shorter xs ys both p q (omega arith)) (omega arith))
-same_length xs ys both p q false e = tt
+same_length xs ys both p q false e =
+    λ same. (
+    let long = ap length same in
+    let lengths = eq-eqb (length xs) (length ys) (sym long) in
+    absurd (cc)
+    )
 
 pub returns : goal.returns
 returns c =

@@ -26,11 +26,11 @@ invariant_of-self g c =
     let same : c.args.self.now.ready ≡ ready = sym (ap (λ (v : Views). v.ready) c.self.view_is) in
     let begins : IsPrefix ready upto = subst (λ (l : List Event). IsPrefix l upto) same c.requires.begins in
     let entries : Leads (node_after opening c.args.self.now.ready).held (node_after opening upto).held (entries_of ops) =
-        subst (Leads (node_after opening c.args.self.now.ready).held (node_after opening upto).held) (sym c.into_steps-steps.ensures.entries) c.requires.leads in
+    subst (Leads (node_after opening c.args.self.now.ready).held (node_after opening upto).held) (sym c.into_steps-steps.ensures.entries) c.requires.leads in
     let leads : Leads (node_after opening ready).held (node_after opening upto).held (entries_of ops) =
-        subst (λ (l : List Event). Leads (node_after opening l).held (node_after opening upto).held (entries_of ops)) same entries in
+    subst (λ (l : List Event). Leads (node_after opening l).held (node_after opening upto).held (entries_of ops)) same entries in
     let queued : dropped ++ c.queue_all.new.queue.items ≡ (dropped ++ queue) ++ (ops ++ Reach mark ∷ []) =
-        ap (λ (q : List Op). dropped ++ q) (c.in-Ok.ensures ∙ ap (λ (m : Mark). queue ++ (ops ++ Reach m ∷ [])) c.mark.ensures)
-        ∙ sym (append_assoc dropped queue (ops ++ Reach mark ∷ [])) in
+    ap (λ (q : List Op). dropped ++ q) (c.in-Ok.ensures ∙ ap (λ (m : Mark). queue ++ (ops ++ Reach m ∷ [])) c.mark.ensures)
+    ∙ sym (append_assoc dropped queue (ops ++ Reach mark ∷ [])) in
     subst (λ (l : List Event). IsReady story opening l shown (fold after_op shown (dropped ++ c.queue_all.new.queue.items))) (sym c.again.ensures)
-      (appended story opening ready upto shown (dropped ++ queue) ops c.self.invariant c.into_steps-steps.ensures.alone begins leads (dropped ++ c.queue_all.new.queue.items) queued)
+    (appended story opening ready upto shown (dropped ++ queue) ops c.self.invariant c.into_steps-steps.ensures.alone begins leads (dropped ++ c.queue_all.new.queue.items) queued)
