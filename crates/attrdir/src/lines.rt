@@ -1,11 +1,10 @@
 //! The lines of a script.
-ghost use Rattle.std.specs.Prelude.{◌≡◌, ◌+◌, ◌<◌, ◌≤◌, true, false, vec_len, IfOk, OnOk, IfErr};
+ghost use Rattle.std.specs.Prelude.{◌≡◌, ◌+◌, ◌<◌, ◌≤◌, true, false, length, vec_len, IfOk, OnOk, IfErr};
 ghost use Rattle.attrdir.specs.declared.lines.TheConstants.{ROOM};
 ghost use Rattle.attrdir.specs.Reads.{AreCounted, IsRunFault, comes_before_reads};
 ghost use Rattle.attrdir.specs.Script.{bytes_to_come};
 
-use crate::counted::Counted;
-use crate::steps::Steps;
+use sb_frames::{Steps, read_within};
 use sb_types::Fault;
 use std::alloc::Global;
 use std::io::Read;
@@ -14,11 +13,28 @@ use std::sync::ledger::Ledger;
 /// How many bytes are read at once.
 const ROOM: usize = 65_536;
 
+/// Reads some bytes, 0 at the end. `TurnsSpent` where no read is left; `ReadFailed`.
+fn read_some<R: Read, L: Ledger>(
+    reader: &mut R,
+    bytes: &mut [u8],
+    left: &mut u64,
+    steps: &mut Steps<L>,
+) -> Result<usize, Fault>
+    ensures counted { AreCounted steps.old left.old steps.new left.new }
+    ensures count { IfOk result (λ count. count ≤ length bytes.new) }
+    ensures made { OnOk result (left.new < left.old) }
+    ensures fault { IfErr result (IsRunFault steps.old steps.new left.old) }
+    ensures early { IfErr result (λ fault. comes_before_reads fault ≡ false → steps.old < steps.new) }
+{
+    read_within(reader, bytes, left, steps)
+}
+
 /// The lines of what is read, one after the other. A line ends at a newline; a last one without counts.
 /// No more is kept of the script than what is read at once and the line that was met.
 #[derive(Drop)]
 pub(crate) struct Lines<R> {
-    reader: Counted<R>,
+    reader: R,
+    left: u64,
     bytes: Vec<u8>,
     at: usize,
     end: usize,
@@ -36,12 +52,13 @@ impl<R: Read> Lines<R> {
     fn new(alloc: Global, reader: R, max_reads: u64) -> Result<Lines<R>, Fault>
     where
         R: Drop,
-        ensures reads { IfOk result (λ lines. lines.reader.left ≡ max_reads) }
+        ensures reads { IfOk result (λ lines. lines.left ≡ max_reads) }
         ensures unread { IfOk result (λ lines. (lines.at ≡ lines.end) × (lines.ended ≡ false)) }
         ensures fault { IfErr result (λ fault. fault ≡ Fault.NoMemory) }
     {
         Ok(Lines {
-            reader: Counted::new(reader, max_reads),
+            reader,
+            left: max_reads,
             bytes: vec![in alloc; 0; ROOM]?,
             at: 0,
             end: 0,
@@ -62,7 +79,7 @@ impl<R: Read> Lines<R> {
     where
         R: Drop,
         ensures reads { steps.new ≤ steps.old + max_reads }
-        ensures counted { IfOk result (λ lines. AreCounted steps.old max_reads steps.new lines.reader.left) }
+        ensures counted { IfOk result (λ lines. AreCounted steps.old max_reads steps.new lines.left) }
         ensures made { OnOk result (steps.old < steps.new) }
         ensures fault { IfErr result (IsRunFault steps.old steps.new max_reads) }
         ensures early { IfErr result (λ fault. comes_before_reads fault ≡ false → steps.old < steps.new) }
@@ -85,13 +102,13 @@ impl<R: Read> Lines<R> {
     /// Goes on to the next line that is not empty, where there is one.
     #[tactic(auto, using(crate::proofs::Runs::counted_later, crate::proofs::Runs::fault_later))]
     pub(crate) fn advance<L: Ledger>(&mut self, steps: &mut Steps<L>) -> Result<bool, Fault>
-        ensures counted { AreCounted steps.old self.old.reader.left steps.new self.new.reader.left }
+        ensures counted { AreCounted steps.old self.old.left steps.new self.new.left }
         ensures met { IfOk result (λ met. met ≡ true →
-            bytes_to_come self.new.reader.left self.new.at self.new.end
-            < bytes_to_come self.old.reader.left self.old.at self.old.end) }
+            bytes_to_come self.new.left self.new.at self.new.end
+            < bytes_to_come self.old.left self.old.at self.old.end) }
         ensures ended { IfOk result (λ met. met ≡ false → self.new.ended ≡ true) }
         ensures left { IfOk result (λ met. met ≡ false → vec_len self.new.line ≡ 0) }
-        ensures fault { IfErr result (IsRunFault steps.old steps.new self.old.reader.left) }
+        ensures fault { IfErr result (IsRunFault steps.old steps.new self.old.left) }
     {
         while self.next_line(steps)? {
             if !self.line.is_empty() {
@@ -104,13 +121,13 @@ impl<R: Read> Lines<R> {
     /// Goes on to the next line, empty or not.
     #[tactic(auto, using(crate::proofs::Runs::counted_later, crate::proofs::Runs::fault_later, crate::proofs::Runs::memory_fault))]
     fn next_line<L: Ledger>(&mut self, steps: &mut Steps<L>) -> Result<bool, Fault>
-        ensures counted { AreCounted steps.old self.old.reader.left steps.new self.new.reader.left }
+        ensures counted { AreCounted steps.old self.old.left steps.new self.new.left }
         ensures met { IfOk result (λ met. met ≡ true →
-            bytes_to_come self.new.reader.left self.new.at self.new.end
-            < bytes_to_come self.old.reader.left self.old.at self.old.end) }
+            bytes_to_come self.new.left self.new.at self.new.end
+            < bytes_to_come self.old.left self.old.at self.old.end) }
         ensures ended { IfOk result (λ met. met ≡ false → self.new.ended ≡ true) }
         ensures left { IfOk result (λ met. met ≡ false → vec_len self.new.line ≡ 0) }
-        ensures fault { IfErr result (IsRunFault steps.old steps.new self.old.reader.left) }
+        ensures fault { IfErr result (IsRunFault steps.old steps.new self.old.left) }
     {
         self.line.clear();
         self.number = self.number.saturating_add(1);
@@ -124,17 +141,17 @@ impl<R: Read> Lines<R> {
 
     /// Reads where nothing is left of what was read before. Says whether there is something now.
     fn refill<L: Ledger>(&mut self, steps: &mut Steps<L>) -> Result<bool, Fault>
-        ensures counted { AreCounted steps.old self.old.reader.left steps.new self.new.reader.left }
+        ensures counted { AreCounted steps.old self.old.left steps.new self.new.left }
         ensures more { IfOk result (λ more. more ≡ true → self.new.at < self.new.end) }
         ensures ended { IfOk result (λ more. more ≡ false → self.new.ended ≡ true) }
-        ensures fewer { bytes_to_come self.new.reader.left self.new.at self.new.end ≤ bytes_to_come self.old.reader.left self.old.at self.old.end }
+        ensures fewer { bytes_to_come self.new.left self.new.at self.new.end ≤ bytes_to_come self.old.left self.old.at self.old.end }
         ensures line { self.new.line ≡ self.old.line }
         ensures made { OnOk result (self.old.at ≡ self.old.end → self.old.ended ≡ false → steps.old < steps.new) }
-        ensures fault { IfErr result (IsRunFault steps.old steps.new self.old.reader.left) }
+        ensures fault { IfErr result (IsRunFault steps.old steps.new self.old.left) }
         ensures early { IfErr result (λ fault. comes_before_reads fault ≡ false → steps.old < steps.new) }
     {
         if self.at == self.end && !self.ended {
-            self.end = self.reader.read(&mut self.bytes, steps)?;
+            self.end = read_some(&mut self.reader, &mut self.bytes, &mut self.left, steps)?;
             self.at = 0;
             self.ended = self.end == 0;
         }
@@ -145,12 +162,13 @@ impl<R: Read> Lines<R> {
     fn take_piece(&mut self) -> Result<bool, Fault>
         requires { self.old.at < self.old.end }
         ensures reader { self.new.reader ≡ self.old.reader }
+        ensures left { self.new.left ≡ self.old.left }
         ensures taken { OnOk result (
-            vec_len self.new.line + bytes_to_come self.new.reader.left self.new.at self.new.end
-            ≤ vec_len self.old.line + bytes_to_come self.old.reader.left self.old.at self.old.end) }
+            vec_len self.new.line + bytes_to_come self.new.left self.new.at self.new.end
+            ≤ vec_len self.old.line + bytes_to_come self.old.left self.old.at self.old.end) }
         ensures fewer { OnOk result (
-            bytes_to_come self.new.reader.left self.new.at self.new.end
-            < bytes_to_come self.old.reader.left self.old.at self.old.end) }
+            bytes_to_come self.new.left self.new.at self.new.end
+            < bytes_to_come self.old.left self.old.at self.old.end) }
         ensures fault { IfErr result (λ fault. fault ≡ Fault.NoMemory) }
     {
         let rest = &self.bytes[self.at..self.end];

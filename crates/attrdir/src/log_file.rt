@@ -33,6 +33,7 @@ pub(crate) fn print_log(
     let cluster = Name::read(cluster.as_bytes())?;
     let conn = connect(rt, path)?;
     let mut log = SqlLog::open(rt.alloc(), conn, owner, cluster, VERSION_MOST)?;
-    log_run(rt.alloc(), &mut log, &mut rt.stdout())?;
+    let (printed, _) = log_run(rt.alloc(), &mut log, &mut rt.stdout());
+    printed?;
     log.close()
 }

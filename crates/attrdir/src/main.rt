@@ -2,7 +2,6 @@
 #![tactic(auto)]
 
 mod command_line;
-mod counted;
 mod lines;
 mod log_file;
 mod node;
@@ -10,7 +9,6 @@ mod output;
 mod parse;
 mod print;
 mod sim;
-mod steps;
 #[cfg(test)]
 mod story;
 #[cfg(test)]

@@ -7,8 +7,8 @@ use crate::lines::Lines;
 use crate::output::Output;
 use crate::parse::{Command, WorldLine, words_of};
 use crate::print::Answer;
-use crate::steps::Steps;
 use crate::world::World;
+use sb_frames::Steps;
 use sb_types::Fault;
 use std::alloc::Global;
 use std::io::{Read, Write};
@@ -106,11 +106,11 @@ fn play<R: Read, W: Write, L: Ledger>(
     output: &mut Output<W>,
     steps: &mut Steps<L>,
 ) -> Result<Ending, Fault>
-    ensures counted { AreCounted steps.old lines.old.reader.left steps.new lines.new.reader.left }
+    ensures counted { AreCounted steps.old lines.old.left steps.new lines.new.left }
     ensures ending { IfOk result (λ ending. EndsSo ending lines.new.ended (vec_len lines.new.line)
-        (bytes_to_come lines.old.reader.left lines.old.at lines.old.end)
-        (bytes_to_come lines.new.reader.left lines.new.at lines.new.end)) }
-    ensures fault { IfErr result (IsRunFault steps.old steps.new lines.old.reader.left) }
+        (bytes_to_come lines.old.left lines.old.at lines.old.end)
+        (bytes_to_come lines.new.left lines.new.at lines.new.end)) }
+    ensures fault { IfErr result (IsRunFault steps.old steps.new lines.old.left) }
 {
     if !lines.advance(steps)? {
         return Ok(Ending::Whole);

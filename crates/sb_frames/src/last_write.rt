@@ -8,7 +8,8 @@ ghost use Rattle.sb_frames.specs.Sending.{took_nothing};
 use std::io::{self, Write};
 use std::marker::Model;
 
-/// Whether the last write failed or took no byte. Only a write to a writer changes it.
+/// Whether the last write of a call failed or took no byte. Each call that writes makes its own, and only a write to a
+/// writer changes it: so it tells of no write that was made before the call.
 #[derive(Debug, Drop)]
 pub struct LastWrite {
     has_failed: bool,

@@ -9,7 +9,7 @@ use crate::last_write::LastWrite;
 use sb_codec::{Message, append_payload, length};
 use sb_types::{FRAME_MARK, FRAME_VERSION, Fault, HEADER_LENGTH};
 use std::alloc::Global;
-use std::io::Write;
+use std::io::{ErrorKind, Write};
 
 /// Puts the message's frame into a buffer, in place of what was in it. It takes memory only where the buffer
 /// has no room for it. `NoMemory` is its only fault.
@@ -38,53 +38,59 @@ pub fn frame_of(alloc: Global, message: &Message) -> Result<Vec<u8>, Fault>
     Ok(frame)
 }
 
-/// Writes all of the bytes, and tells in `last` what the last write answered. `WriteFailed` with how many were
-/// written, always fewer than all. A write that takes no byte has failed.
-pub fn write_counted<W: Write>(
-    writer: &mut W,
-    bytes: &[u8],
-    last: &mut LastWrite,
-) -> Result<(), Fault>
-    ensures sends { Sends (W.contents writer.old) (W.contents writer.new) bytes.now result }
-    ensures failed { OnlyWhereFailed result last.new }
+/// How often in a row a write that was interrupted is made again.
+const INTERRUPTED_MOST: u32 = 1_000;
+
+/// Writes all of the bytes, and tells what the last write of the call answered. `WriteFailed` with how many were
+/// written, always fewer than all. A write that takes no byte has failed, and so has one that was interrupted
+/// 1,001 times in a row; after fewer it is made again.
+pub fn write_counted<W: Write>(writer: &mut W, bytes: &[u8]) -> (Result<(), Fault>, LastWrite)
+    ensures sends { Sends (W.contents writer.old) (W.contents writer.new) bytes.now result.0 }
+    ensures failed { OnlyWhereFailed result.0 result.1 }
 {
-    let mut count = 0;
+    let mut last = LastWrite::new();
+    let (mut count, mut left) = (0, INTERRUPTED_MOST);
     while count < bytes.len() {
         match last.write(writer, &bytes[count..]) {
-            Ok(0) | Err(_) => return Err(Fault::WriteFailed(count as u64)),
-            Ok(written) => count += written,
+            Ok(0) => return (Err(Fault::WriteFailed(count as u64)), last),
+            Ok(written) => {
+                count += written;
+                left = INTERRUPTED_MOST;
+            }
+            Err(error) if left > 0 && error.kind() == ErrorKind::Interrupted => left -= 1,
+            Err(_) => return (Err(Fault::WriteFailed(count as u64)), last),
         }
     }
-    Ok(())
+    (Ok(()), last)
 }
 
-/// Writes the message's frame out of a buffer that is kept from one message to the next, and tells in `last` what
-/// the last write answered. It takes memory only where the buffer has no room for the frame. The faults of `send`.
+/// Writes the message's frame out of a buffer that is kept from one message to the next, and tells what the last
+/// write of the call answered. It takes memory only where the buffer has no room for the frame. The faults of `send`.
 pub fn send_from<W: Write>(
     buffer: &mut Vec<u8>,
     writer: &mut W,
     message: &Message,
-    last: &mut LastWrite,
-) -> Result<(), Fault>
-    ensures sends { Sends (W.contents writer.old) (W.contents writer.new) (frame message.now) result }
-    // A write that did not fail is no reason to stop.
-    ensures failed { OnlyWhereFailed result last.new }
+) -> (Result<(), Fault>, LastWrite)
+    ensures sends { Sends (W.contents writer.old) (W.contents writer.new) (frame message.now) result.0 }
+    // A write that did not fail, or that was made before the call, is no reason to stop.
+    ensures failed { OnlyWhereFailed result.0 result.1 }
 {
-    write_frame(buffer, message)?;
-    write_counted(writer, buffer, last)
+    match write_frame(buffer, message) {
+        Ok(()) => write_counted(writer, buffer),
+        Err(fault) => (Err(fault), LastWrite::new()),
+    }
 }
 
-/// Writes the message's frame, and tells in `last` what the last write answered. The faults of `send`.
+/// Writes the message's frame, and tells what the last write of the call answered. The faults of `send`.
 pub fn send_telling<W: Write>(
     alloc: Global,
     writer: &mut W,
     message: &Message,
-    last: &mut LastWrite,
-) -> Result<(), Fault>
-    ensures sends { Sends (W.contents writer.old) (W.contents writer.new) (frame message.now) result }
-    ensures failed { OnlyWhereFailed result last.new }
+) -> (Result<(), Fault>, LastWrite)
+    ensures sends { Sends (W.contents writer.old) (W.contents writer.new) (frame message.now) result.0 }
+    ensures failed { OnlyWhereFailed result.0 result.1 }
 {
-    send_from(&mut Vec::new(alloc), writer, message, last)
+    send_from(&mut Vec::new(alloc), writer, message)
 }
 
 /// Writes the message's frame. `NoMemory`, with nothing written; `WriteFailed` with how many bytes of
@@ -92,5 +98,6 @@ pub fn send_telling<W: Write>(
 pub fn send<W: Write>(alloc: Global, writer: &mut W, message: &Message) -> Result<(), Fault>
     ensures { Sends (W.contents writer.old) (W.contents writer.new) (frame message.now) result }
 {
-    send_telling(alloc, writer, message, &mut LastWrite::new())
+    let (sent, _) = send_telling(alloc, writer, message);
+    sent
 }

@@ -50,9 +50,9 @@ impl<L: Ledger> Steps<L> {
     }
 }
 
-/// Reads some bytes, none at the end. A read that was interrupted is made again. `TurnsSpent` where no
-/// read is left; `ReadFailed`.
-pub(crate) fn read_within<R: Read, L: Ledger>(
+/// Reads some bytes, none at the end, with as many reads as are left. A read that was interrupted is made again.
+/// `TurnsSpent` where one more read is needed than were left; `ReadFailed`. `left` is what is left after the call.
+pub fn read_within<R: Read, L: Ledger>(
     reader: &mut R,
     bytes: &mut [u8],
     left: &mut u64,

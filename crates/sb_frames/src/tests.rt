@@ -32,12 +32,14 @@ const DIGEST: &[u8] = b"\xa7\x01\x00\x00\x00\x10\x02\x01\x00\x00\
 /// Bye, since the rounds are done.
 const BYE: &[u8] = b"\xa7\x01\x00\x00\x00\x02\x04\x01";
 
-/// Takes a few bytes in each write, and fails once it has no room.
+/// Takes a few bytes in each write, and fails once it has no room. Before each of them it is interrupted so often.
 #[derive(Drop)]
 struct Narrow {
     bytes: Vec<u8>,
     most: usize,
     room: usize,
+    interruptions: u32,
+    interrupted: u32,
 }
 
 impl Narrow {
@@ -46,6 +48,8 @@ impl Narrow {
             bytes: Vec::new(alloc),
             most,
             room,
+            interruptions: 0,
+            interrupted: 0,
         }
     }
 
@@ -56,6 +60,11 @@ impl Narrow {
 
 impl Write for Narrow {
     fn write(&mut self, buf: &[u8]) -> io::Result<usize> {
+        if self.interrupted < self.interruptions {
+            self.interrupted += 1;
+            return Err(ErrorKind::Interrupted.into());
+        }
+        self.interrupted = 0;
         let room = self.room.saturating_sub(self.bytes.len());
         if room == 0 {
             return Err(ErrorKind::BrokenPipe.into());
@@ -303,9 +312,8 @@ fn the_greatest_frame(rt: HostRuntime) -> Result<(), Fail> {
 
 /// What a writer with room for so many bytes gives a message, and whether its last write is said to have failed.
 fn told(alloc: Global, room: usize, message: &Message) -> (Result<(), Fault>, bool) {
-    let mut last = LastWrite::new();
     let mut narrow = Narrow::new(alloc, 7, room);
-    let answer = send_telling(alloc, &mut narrow, message, &mut last);
+    let (answer, last) = send_telling(alloc, &mut narrow, message);
     (answer, last.has_failed())
 }
 
@@ -319,6 +327,25 @@ fn what_the_last_write_answered(rt: HostRuntime) -> Result<(), Fail> {
         (0, (Err(Fault::WriteFailed(0)), true)),
     ] {
         assert_eq!(rt; told(alloc, room, &message), expected);
+    }
+    Ok(())
+}
+
+#[test]
+fn interrupted_writes_go_on(rt: HostRuntime) -> Result<(), Fail> {
+    let alloc = rt.alloc();
+    let message = message(alloc)?;
+    for (interruptions, expected) in [
+        (1, Ok(())),
+        (1_000, Ok(())),
+        (1_001, Err(Fault::WriteFailed(0))),
+    ] {
+        let mut narrow = Narrow {
+            interruptions,
+            ..Narrow::new(alloc, 20, 64)
+        };
+        assert_eq!(rt; sent(alloc, &mut narrow, &message), expected);
+        assert_eq!(rt; narrow.has_written(FRAME), expected.is_ok());
     }
     Ok(())
 }

@@ -3,7 +3,7 @@
 
 mod log_lines;
 
-pub use log_lines::{log_run, log_run_telling};
+pub use log_lines::log_run;
 
 #[cfg(test)]
 mod tests;

@@ -72,36 +72,28 @@ fn lines_of(alloc: Global, owner: &Name, table: &Table) -> Result<Vec<u8>, Fault
 }
 
 /// Prints what a log holds: a line `owner key version kind value` for each entry, in ascending key, `owner key version
-/// removed -` where the key was removed, and then `last V`, the version of the last write. The faults of `load`, with
-/// nothing written; `NoMemory` likewise; `WriteFailed` with how many bytes were written, always fewer than all.
+/// removed -` where the key was removed, and then `last V`, the version of the last write; and tells what the last write
+/// of the call answered. The faults of `load`, with nothing written; `NoMemory` likewise; `WriteFailed` with how many
+/// bytes were written, always fewer than all.
 pub fn log_run<L: WriteLog, W: Write>(
     alloc: Global,
     log: &mut L,
     writer: &mut W,
-) -> Result<(), Fault>
-    ensures prints { PrintsLog (L.seen log.old) (L.seen log.new) (W.contents writer.old) (W.contents writer.new) result }
+) -> (Result<(), Fault>, LastWrite)
+    ensures prints { PrintsLog (L.seen log.old) (L.seen log.new) (W.contents writer.old) (W.contents writer.new) result.0 }
     // As long as its store does what it promises, the lines are those of the log's content.
-    ensures content { (L.seen log.new).is_clean ≡ true → OnOk result (
+    ensures content { (L.seen log.new).is_clean ≡ true → OnOk result.0 (
         Appends (W.contents writer.old) (W.contents writer.new) (printed (L.seen log.old).owner (L.seen log.old).content)) }
-{
-    log_run_telling(alloc, log, writer, &mut LastWrite::new())
-}
-
-/// As `log_run`, and tells in `last` what the last write answered.
-pub fn log_run_telling<L: WriteLog, W: Write>(
-    alloc: Global,
-    log: &mut L,
-    writer: &mut W,
-    last: &mut LastWrite,
-) -> Result<(), Fault>
-    ensures prints { PrintsLog (L.seen log.old) (L.seen log.new) (W.contents writer.old) (W.contents writer.new) result }
-    ensures content { (L.seen log.new).is_clean ≡ true → OnOk result (
-        Appends (W.contents writer.old) (W.contents writer.new) (printed (L.seen log.old).owner (L.seen log.old).content)) }
-    // A write that did not fail is no reason to stop.
-    ensures failed { OnlyWhereFailed result last.new }
+    // A write that did not fail, or that was made before the call, is no reason to stop.
+    ensures failed { OnlyWhereFailed result.0 result.1 }
 {
     let owner = *log.owner();
-    let table = log.load(alloc)?;
-    let lines = lines_of(alloc, &owner, &table)?;
-    write_counted(writer, &lines, last)
+    let table = match log.load(alloc) {
+        Ok(table) => table,
+        Err(fault) => return (Err(fault), LastWrite::new()),
+    };
+    match lines_of(alloc, &owner, &table) {
+        Ok(lines) => write_counted(writer, &lines),
+        Err(fault) => (Err(fault), LastWrite::new()),
+    }
 }

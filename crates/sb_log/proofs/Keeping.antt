@@ -40,7 +40,7 @@ module _ (old : Log) (up : old.is_open ≡ true) (key : List ℕ) (slot : Slot) 
   refuses_reason : (fault : Fault) → fault ≢ Closed → fault ≢ StoreFailed → IsReason (refusal old.most old.content key slot) fault → Puts old key slot (Err fault) old
   refuses_reason fault open_fault kept_fault reason =
       record {
-        stays = record { owner = refl; cluster = refl; most = refl; clean = λ c. c };
+        stays = record { owner = refl; cluster = refl; most = refl; clean = λ c. c; sure = λ s. s };
         closed = (λ e. absurd (open_fault (same_fault e)), λ shut. absurd (true≢false (sym up ∙ shut)));
         kept = tt;
         refused = record { reason = λ _ _. reason; unchanged = λ _. refl; closes = λ e. absurd (kept_fault e) };
@@ -86,7 +86,7 @@ module _ {S : Type 0} (g : Ghosts S) (settled : (s : S) (db : Trees) → IsTrue 
       refuses_known fault is =
           let others = other_reasons most table key slot fault is in
           record {
-            stays = record { owner = refl; cluster = refl; most = refl; clean = λ c. c };
+            stays = record { owner = refl; cluster = refl; most = refl; clean = λ c. c; sure = λ s. absurd (cc) };
             closed = (λ e. absurd (others.0 (let f : fault ≡ Closed = cc in f)), λ shut. absurd (true≢false (sym up ∙ shut)));
             kept = tt;
             refused = record {
@@ -99,7 +99,7 @@ module _ {S : Type 0} (g : Ghosts S) (settled : (s : S) (db : Trees) → IsTrue 
       pub refuses_memory : refusal most table key slot ≡ None → Puts before key slot (Err NoMemory) before
       refuses_memory is =
           record {
-            stays = record { owner = refl; cluster = refl; most = refl; clean = λ c. c };
+            stays = record { owner = refl; cluster = refl; most = refl; clean = λ c. c; sure = λ s. absurd (cc) };
             closed = (λ e. absurd (cc), λ shut. absurd (true≢false (sym up ∙ shut)));
             kept = tt;
             refused = record {
@@ -123,7 +123,7 @@ module _ {S : Type 0} (g : Ghosts S) (settled : (s : S) (db : Trees) → IsTrue 
         pub fails : refusal most table key slot ≡ None → Puts before key slot (Err StoreFailed) (log_in g (view_with false conn'))
         fails is =
             record {
-              stays = record { owner = refl; cluster = refl; most = refl; clean = was_clean };
+              stays = record { owner = refl; cluster = refl; most = refl; clean = was_clean; sure = λ s. absurd (cc) };
               closed = (λ e. absurd (cc), λ shut. absurd (true≢false (sym up ∙ shut)));
               kept = tt;
               refused = record {
@@ -145,7 +145,7 @@ module _ {S : Type 0} (g : Ghosts S) (settled : (s : S) (db : Trees) → IsTrue 
               → Puts before key slot (Ok c) (log_in g (view_with is_open conn'))
           keeps c is free enters =
               record {
-                stays = record { owner = refl; cluster = refl; most = refl; clean = was_clean };
+                stays = record { owner = refl; cluster = refl; most = refl; clean = was_clean; sure = λ s. absurd (cc) };
                 closed = (λ e. absurd (never_closed c e), λ shut. absurd (true≢false (sym up ∙ shut)));
                 kept = record {
                   is_open = up;
@@ -198,7 +198,7 @@ module _ {S : Type 0} (g : Ghosts S) (settled : (s : S) (db : Trees) → IsTrue 
           → Loads before (Ok t) (log_in g (view_with is_open conn'))
       gives t plain read rows =
           record {
-            stays = record { owner = refl; cluster = refl; most = refl; clean = still_clean };
+            stays = record { owner = refl; cluster = refl; most = refl; clean = still_clean; sure = λ s. absurd (cc) };
             closed = (λ e. absurd (never_closed t e), λ shut. absurd (true≢false (sym up ∙ shut)));
             given = record {
               is_open = up;
@@ -212,7 +212,7 @@ module _ {S : Type 0} (g : Ghosts S) (settled : (s : S) (db : Trees) → IsTrue 
       pub gives_no_memory : Read → Loads before (Err NoMemory) (log_in g (view_with is_open conn'))
       gives_no_memory read =
           record {
-            stays = record { owner = refl; cluster = refl; most = refl; clean = still_clean };
+            stays = record { owner = refl; cluster = refl; most = refl; clean = still_clean; sure = λ s. absurd (cc) };
             closed = (λ e. absurd (cc), λ shut. absurd (true≢false (sym up ∙ shut)));
             given = tt;
             failed = record {
@@ -227,7 +227,7 @@ module _ {S : Type 0} (g : Ghosts S) (settled : (s : S) (db : Trees) → IsTrue 
       pub gives_nothing : Loads before (Err StoreFailed) (log_in g (view_with false conn'))
       gives_nothing =
           record {
-            stays = record { owner = refl; cluster = refl; most = refl; clean = still_clean };
+            stays = record { owner = refl; cluster = refl; most = refl; clean = still_clean; sure = λ s. absurd (cc) };
             closed = (λ e. absurd (cc), λ shut. absurd (true≢false (sym up ∙ shut)));
             given = tt;
             failed = record {

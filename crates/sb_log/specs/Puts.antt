@@ -35,7 +35,11 @@ next_content log key slot = with_entry log.content (next_entry log.content key s
 
 -- a log of nothing
 abbrev pub new_log : List ℕ → List ℕ → ℕ → Log
-new_log owner cluster most = record { owner = owner; cluster = cluster; most = most; content = plain_table []; is_open = true; is_clean = true }
+new_log owner cluster most = record { owner = owner; cluster = cluster; most = most; content = plain_table []; is_open = true; is_clean = true; is_sure = true }
+
+-- its store keeps its promise, and always will
+abbrev pub IsSure : Log → Type 0
+IsSure log = (log.is_sure ≡ true) × (log.is_clean ≡ true)
 
 -- whose log it is stays, and a store that broke its promise is not trusted again
 pub record Stays (old new : Log) : Type 0 where
@@ -43,6 +47,7 @@ pub record Stays (old new : Log) : Type 0 where
   pub cluster : new.cluster ≡ old.cluster
   pub most : new.most ≡ old.most
   pub clean : new.is_clean ≡ true → old.is_clean ≡ true
+  pub sure : IsSure old → IsSure new
 
 -- ---- a write
 

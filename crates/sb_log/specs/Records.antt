@@ -18,3 +18,5 @@ pub record Log : Type 0 where
   pub is_open : Bool
   -- so far its store has done what it promises; what is said of the content is said while this holds
   pub is_clean : Bool
+  -- nothing can make its store break its promise: it has none but memory
+  pub is_sure : Bool

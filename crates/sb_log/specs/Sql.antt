@@ -1,5 +1,5 @@
 -- A log in a database, as plain data.
-use Rattle.std.specs.Prelude.{ℕ, Bool, List, refl}
+use Rattle.std.specs.Prelude.{ℕ, Bool, false, List, refl}
 use Rattle.std.specs.Coded.{Coded, code_by, coded×, coded_ℕ, coded_bool, coded_list}
 use Rattle.sqlite_trees.specs.declared.store.Store.{Ghosts}
 use Rattle.sqlite.specs.Held.{Held, held_code, state}
@@ -29,4 +29,5 @@ log_in g v = record {
   content = content_of ((state g v.conn).now.trees 1);
   is_open = v.is_open;
   is_clean = (state g v.conn).is_clean;
+  is_sure = false;
 }

@@ -31,7 +31,8 @@ pub(crate) fn open_tables<S: Alter>(
     ensures opens { HasCleanDisk (state S.Store conn.new) → IfOk result (Opens owner.now cluster.now (state S.Store conn.old).now) }
     ensures ready { HasCleanDisk (state S.Store conn.new) → OnOk result (IsReady (state S.Store conn.new)) }
     ensures rows { HasCleanDisk (state S.Store conn.new) → IfOk result (λ t. AreRowsOf t ((state S.Store conn.new).now.trees 1)) }
-    ensures meta { HasCleanDisk (state S.Store conn.new) → OnOk result (map meta_cells ((state S.Store conn.new).now.trees 0) ≡ meta_row owner.now cluster.now ∷ []) }
+    ensures meta { HasCleanDisk (state S.Store conn.new)
+        → OnOk result (map meta_cells ((state S.Store conn.new).now.trees 0) ≡ meta_row owner.now cluster.now ∷ []) }
     ensures clean { doubt (state S.Store conn.old).is_clean ≤ doubt (state S.Store conn.new).is_clean }
     ensures fault { IfErr result IsOpeningFault }
 {
@@ -51,11 +52,14 @@ fn open_new<S: Alter>(
     owner: &Name,
     cluster: &Name,
 ) -> Result<Table, Fault>
-    ensures rows { HasCleanDisk (state S.Store conn.new) → IsReady (state S.Store conn.old) → IfOk result (λ t. AreRowsOf t ((state S.Store conn.old).now.trees 1)) }
+    ensures rows { HasCleanDisk (state S.Store conn.new) → IsReady (state S.Store conn.old)
+        → IfOk result (λ t. AreRowsOf t ((state S.Store conn.old).now.trees 1)) }
     ensures empty { IfOk result (λ t. t ≡ plain_table []) }
     ensures ready { HasCleanDisk (state S.Store conn.new) → IsReady (state S.Store conn.old) → OnOk result (IsReady (state S.Store conn.new)) }
-    ensures same { HasCleanDisk (state S.Store conn.new) → IsReady (state S.Store conn.old) → OnOk result ((state S.Store conn.new).now.trees 1 ≡ (state S.Store conn.old).now.trees 1) }
-    ensures meta { HasCleanDisk (state S.Store conn.new) → IsReady (state S.Store conn.old) → (state S.Store conn.old).now.trees 0 ≡ [] → OnOk result (map meta_cells ((state S.Store conn.new).now.trees 0) ≡ meta_row owner.now cluster.now ∷ []) }
+    ensures same { HasCleanDisk (state S.Store conn.new) → IsReady (state S.Store conn.old)
+        → OnOk result ((state S.Store conn.new).now.trees 1 ≡ (state S.Store conn.old).now.trees 1) }
+    ensures meta { HasCleanDisk (state S.Store conn.new) → IsReady (state S.Store conn.old) → (state S.Store conn.old).now.trees 0 ≡ []
+        → OnOk result (map meta_cells ((state S.Store conn.new).now.trees 0) ≡ meta_row owner.now cluster.now ∷ []) }
     ensures clean { doubt (state S.Store conn.old).is_clean ≤ doubt (state S.Store conn.new).is_clean }
     ensures fault { IfErr result IsOpeningFault }
 {
@@ -78,9 +82,11 @@ fn open_old<S: Alter>(
     owner: &Name,
     cluster: &Name,
 ) -> Result<Table, Fault>
-    ensures rows { HasCleanDisk (state S.Store conn.new) → IsReady (state S.Store conn.old) → IfOk result (λ t. AreRowsOf t ((state S.Store conn.old).now.trees 1)) }
+    ensures rows { HasCleanDisk (state S.Store conn.new) → IsReady (state S.Store conn.old)
+        → IfOk result (λ t. AreRowsOf t ((state S.Store conn.old).now.trees 1)) }
     ensures ready { HasCleanDisk (state S.Store conn.new) → IsReady (state S.Store conn.old) → OnOk result (IsReady (state S.Store conn.new)) }
-    ensures same { HasCleanDisk (state S.Store conn.new) → IsReady (state S.Store conn.old) → OnOk result ((state S.Store conn.new).now ≡ (state S.Store conn.old).now) }
+    ensures same { HasCleanDisk (state S.Store conn.new) → IsReady (state S.Store conn.old)
+        → OnOk result ((state S.Store conn.new).now ≡ (state S.Store conn.old).now) }
     ensures meta { OnOk result (row.now ≡ meta_row owner.now cluster.now) }
     ensures clean { doubt (state S.Store conn.old).is_clean ≤ doubt (state S.Store conn.new).is_clean }
     ensures fault { IfErr result IsOpeningFault }
@@ -113,10 +119,15 @@ fn make_tables<S: Alter>(conn: &mut Connection<S>) -> Result<(), Fault>
 }
 
 fn make_both<S: Alter>(conn: &mut Connection<S>) -> Result<(), Fault>
-    ensures schema { HasCleanDisk (state S.Store conn.new) → (state S.Store conn.old).now.schema ≡ no_schema → OnOk result ((state S.Store conn.new).now.schema ≡ log_schema) }
-    ensures meta { HasCleanDisk (state S.Store conn.new) → (state S.Store conn.old).now.schema ≡ no_schema → OnOk result ((state S.Store conn.new).now.trees 0 ≡ []) }
-    ensures rows { HasCleanDisk (state S.Store conn.new) → (state S.Store conn.old).now.schema ≡ no_schema → OnOk result ((state S.Store conn.new).now.trees 1 ≡ []) }
-    ensures settled { HasCleanDisk (state S.Store conn.new) → (state S.Store conn.old).now.schema ≡ no_schema → (state S.Store conn.old).in_transaction ≡ false → OnOk result (((state S.Store conn.new).in_transaction ≡ false) × ((state S.Store conn.new).now ≡ (state S.Store conn.new).committed)) }
+    ensures schema { HasCleanDisk (state S.Store conn.new) → (state S.Store conn.old).now.schema ≡ no_schema
+        → OnOk result ((state S.Store conn.new).now.schema ≡ log_schema) }
+    ensures meta { HasCleanDisk (state S.Store conn.new) → (state S.Store conn.old).now.schema ≡ no_schema
+        → OnOk result ((state S.Store conn.new).now.trees 0 ≡ []) }
+    ensures rows { HasCleanDisk (state S.Store conn.new) → (state S.Store conn.old).now.schema ≡ no_schema
+        → OnOk result ((state S.Store conn.new).now.trees 1 ≡ []) }
+    ensures settled { HasCleanDisk (state S.Store conn.new) → (state S.Store conn.old).now.schema ≡ no_schema
+        → (state S.Store conn.old).in_transaction ≡ false
+        → OnOk result (((state S.Store conn.new).in_transaction ≡ false) × ((state S.Store conn.new).now ≡ (state S.Store conn.new).committed)) }
     ensures clean { doubt (state S.Store conn.old).is_clean ≤ doubt (state S.Store conn.new).is_clean }
     ensures fault { IfErr result (λ fault. fault ≡ Fault.StoreFailed) }
 {

@@ -27,7 +27,7 @@ impl Model for PlainLog {
 
     ghost Value = { records.Log };
 
-    ghost view = { λ l. record { owner = l.owner; cluster = l.cluster; most = l.max_version; content = l.table; is_open = true; is_clean = true } };
+    ghost view = { λ l. record { owner = l.owner; cluster = l.cluster; most = l.max_version; content = l.table; is_open = true; is_clean = true; is_sure = true } };
 }
 
 impl PlainLog {

@@ -211,7 +211,8 @@ fn is_index(index: &Index, name: &[u8], tree: u32, place: usize) -> bool
 }
 
 fn are_indexes(by_key: &Index, by_version: &Index) -> bool
-    ensures { IsTrue result → (by_key.now ≡ form.writes_index (codes "sqlite_autoindex_writes_1") 2 1) × (by_version.now ≡ form.writes_index (codes "sqlite_autoindex_writes_2") 3 2) }
+    ensures { IsTrue result
+        → (by_key.now ≡ form.writes_index (codes "sqlite_autoindex_writes_1") 2 1) × (by_version.now ≡ form.writes_index (codes "sqlite_autoindex_writes_2") 3 2) }
 {
     is_index(by_key, b"sqlite_autoindex_writes_1", 2, 1)
         && is_index(by_version, b"sqlite_autoindex_writes_2", 3, 2)

@@ -65,7 +65,8 @@ impl<S: Alter + Drop> SqlLog<S> {
         ensures log { IfOk result (λ l. IsOpenedAs owner cluster max_version (log_in S.Store l)) }
         ensures clean { IfOk result (λ l. doubt (state S.Store conn).is_clean ≤ doubt (state S.Store l.conn).is_clean) }
         ensures found { IfOk result (λ l. HasCleanDisk (state S.Store l.conn) → Opens owner cluster (state S.Store conn).now (log_in S.Store l).content) }
-        ensures meta { IfOk result (λ l. HasCleanDisk (state S.Store l.conn) → map meta_cells ((state S.Store l.conn).now.trees 0) ≡ meta_row owner cluster ∷ []) }
+        ensures meta { IfOk result (λ l. HasCleanDisk (state S.Store l.conn)
+            → map meta_cells ((state S.Store l.conn).now.trees 0) ≡ meta_row owner cluster ∷ []) }
         ensures settled { IfOk result (λ l. IsSettled (log_in S.Store l) (MayLeave S.Store l.conn)) }
         ensures fault { IfErr result IsOpeningFault }
     {

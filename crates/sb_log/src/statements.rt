@@ -19,9 +19,13 @@ use std::alloc::Global;
 
 /// Makes the table of the log's owner. `StoreFailed`.
 pub(crate) fn make_meta<S: Alter>(conn: &mut Connection<S>) -> Result<(), Fault>
-    ensures schema { HasCleanDisk (state S.Store conn.new) → (state S.Store conn.old).now.schema ≡ no_schema → OnOk result ((state S.Store conn.new).now.schema ≡ meta_schema) }
-    ensures rows { HasCleanDisk (state S.Store conn.new) → (state S.Store conn.old).now.schema ≡ no_schema → OnOk result ((state S.Store conn.new).now.trees 0 ≡ []) }
-    ensures settled { HasCleanDisk (state S.Store conn.new) → (state S.Store conn.old).now.schema ≡ no_schema → (state S.Store conn.old).in_transaction ≡ false → OnOk result (((state S.Store conn.new).in_transaction ≡ false) × ((state S.Store conn.new).now ≡ (state S.Store conn.new).committed)) }
+    ensures schema { HasCleanDisk (state S.Store conn.new) → (state S.Store conn.old).now.schema ≡ no_schema
+        → OnOk result ((state S.Store conn.new).now.schema ≡ meta_schema) }
+    ensures rows { HasCleanDisk (state S.Store conn.new) → (state S.Store conn.old).now.schema ≡ no_schema
+        → OnOk result ((state S.Store conn.new).now.trees 0 ≡ []) }
+    ensures settled { HasCleanDisk (state S.Store conn.new) → (state S.Store conn.old).now.schema ≡ no_schema
+        → (state S.Store conn.old).in_transaction ≡ false
+        → OnOk result (((state S.Store conn.new).in_transaction ≡ false) × ((state S.Store conn.new).now ≡ (state S.Store conn.new).committed)) }
     ensures clean { doubt (state S.Store conn.old).is_clean ≤ doubt (state S.Store conn.new).is_clean }
     ensures fault { IfErr result (λ fault. fault ≡ Fault.StoreFailed) }
 {
@@ -36,10 +40,15 @@ pub(crate) fn make_meta<S: Alter>(conn: &mut Connection<S>) -> Result<(), Fault>
 
 /// Makes the table of the writes beside it. `StoreFailed`.
 pub(crate) fn make_writes<S: Alter>(conn: &mut Connection<S>) -> Result<(), Fault>
-    ensures schema { HasCleanDisk (state S.Store conn.new) → (state S.Store conn.old).now.schema ≡ meta_schema → OnOk result ((state S.Store conn.new).now.schema ≡ log_schema) }
-    ensures rows { HasCleanDisk (state S.Store conn.new) → (state S.Store conn.old).now.schema ≡ meta_schema → OnOk result ((state S.Store conn.new).now.trees 1 ≡ []) }
-    ensures meta { HasCleanDisk (state S.Store conn.new) → (state S.Store conn.old).now.schema ≡ meta_schema → OnOk result ((state S.Store conn.new).now.trees 0 ≡ (state S.Store conn.old).now.trees 0) }
-    ensures settled { HasCleanDisk (state S.Store conn.new) → (state S.Store conn.old).now.schema ≡ meta_schema → (state S.Store conn.old).in_transaction ≡ false → OnOk result (((state S.Store conn.new).in_transaction ≡ false) × ((state S.Store conn.new).now ≡ (state S.Store conn.new).committed)) }
+    ensures schema { HasCleanDisk (state S.Store conn.new) → (state S.Store conn.old).now.schema ≡ meta_schema
+        → OnOk result ((state S.Store conn.new).now.schema ≡ log_schema) }
+    ensures rows { HasCleanDisk (state S.Store conn.new) → (state S.Store conn.old).now.schema ≡ meta_schema
+        → OnOk result ((state S.Store conn.new).now.trees 1 ≡ []) }
+    ensures meta { HasCleanDisk (state S.Store conn.new) → (state S.Store conn.old).now.schema ≡ meta_schema
+        → OnOk result ((state S.Store conn.new).now.trees 0 ≡ (state S.Store conn.old).now.trees 0) }
+    ensures settled { HasCleanDisk (state S.Store conn.new) → (state S.Store conn.old).now.schema ≡ meta_schema
+        → (state S.Store conn.old).in_transaction ≡ false
+        → OnOk result (((state S.Store conn.new).in_transaction ≡ false) × ((state S.Store conn.new).now ≡ (state S.Store conn.new).committed)) }
     ensures clean { doubt (state S.Store conn.old).is_clean ≤ doubt (state S.Store conn.new).is_clean }
     ensures fault { IfErr result (λ fault. fault ≡ Fault.StoreFailed) }
 {
@@ -54,8 +63,10 @@ pub(crate) fn make_writes<S: Alter>(conn: &mut Connection<S>) -> Result<(), Faul
 
 /// The rows that say whose log it is. `StoreFailed`.
 pub(crate) fn read_meta<S: Alter>(conn: &mut Connection<S>) -> Result<Vec<Row>, Fault>
-    ensures rows { HasCleanDisk (state S.Store conn.new) → IsPrepared (state S.Store conn.old) → IfOk result (λ rows. IsPermutation (map meta_cells ((state S.Store conn.old).now.trees 0)) rows.items) }
-    ensures ready { HasCleanDisk (state S.Store conn.new) → IsPrepared (state S.Store conn.old) → OnOk result (IsReady (state S.Store conn.new) × ((state S.Store conn.new).now ≡ (state S.Store conn.old).now)) }
+    ensures rows { HasCleanDisk (state S.Store conn.new) → IsPrepared (state S.Store conn.old)
+        → IfOk result (λ rows. IsPermutation (map meta_cells ((state S.Store conn.old).now.trees 0)) rows.items) }
+    ensures ready { HasCleanDisk (state S.Store conn.new) → IsPrepared (state S.Store conn.old)
+        → OnOk result (IsReady (state S.Store conn.new) × ((state S.Store conn.new).now ≡ (state S.Store conn.old).now)) }
     ensures clean { doubt (state S.Store conn.old).is_clean ≤ doubt (state S.Store conn.new).is_clean }
     ensures fault { IfErr result (λ fault. fault ≡ Fault.StoreFailed) }
 {
@@ -72,8 +83,10 @@ pub(crate) fn write_meta<S: Alter>(
     cluster: &Name,
 ) -> Result<(), Fault>
     ensures ready { HasCleanDisk (state S.Store conn.new) → IsReady (state S.Store conn.old) → OnOk result (IsReady (state S.Store conn.new)) }
-    ensures rows { HasCleanDisk (state S.Store conn.new) → IsReady (state S.Store conn.old) → OnOk result ((state S.Store conn.new).now.trees 1 ≡ (state S.Store conn.old).now.trees 1) }
-    ensures meta { HasCleanDisk (state S.Store conn.new) → IsReady (state S.Store conn.old) → (state S.Store conn.old).now.trees 0 ≡ [] → OnOk result (map meta_cells ((state S.Store conn.new).now.trees 0) ≡ meta_row owner.now cluster.now ∷ []) }
+    ensures rows { HasCleanDisk (state S.Store conn.new) → IsReady (state S.Store conn.old)
+        → OnOk result ((state S.Store conn.new).now.trees 1 ≡ (state S.Store conn.old).now.trees 1) }
+    ensures meta { HasCleanDisk (state S.Store conn.new) → IsReady (state S.Store conn.old) → (state S.Store conn.old).now.trees 0 ≡ []
+        → OnOk result (map meta_cells ((state S.Store conn.new).now.trees 0) ≡ meta_row owner.now cluster.now ∷ []) }
     ensures clean { doubt (state S.Store conn.old).is_clean ≤ doubt (state S.Store conn.new).is_clean }
     ensures fault { IfErr result (λ fault. fault ≡ Fault.StoreFailed) }
 {
@@ -91,9 +104,12 @@ pub(crate) fn write_meta<S: Alter>(
 
 /// The rows of the writes with their rowids, by version. `StoreFailed`.
 pub(crate) fn read_rows<S: Alter>(conn: &mut Connection<S>) -> Result<Vec<Row>, Fault>
-    ensures rows { HasCleanDisk (state S.Store conn.new) → (state S.Store conn.old).now.schema ≡ log_schema → IfOk result (λ rows. IsPermutation (map numbered_cells ((state S.Store conn.old).now.trees 1)) rows.items) }
-    ensures ready { HasCleanDisk (state S.Store conn.new) → IsReady (state S.Store conn.old) → OnOk result (IsReady (state S.Store conn.new) × ((state S.Store conn.new).now ≡ (state S.Store conn.old).now)) }
-    ensures crash { HasCleanDisk (state S.Store conn.new) → IsReady (state S.Store conn.old) → (db : Trees) → (state S.Store conn.new).may_leave db → (state S.Store conn.old).may_leave db }
+    ensures rows { HasCleanDisk (state S.Store conn.new) → (state S.Store conn.old).now.schema ≡ log_schema
+        → IfOk result (λ rows. IsPermutation (map numbered_cells ((state S.Store conn.old).now.trees 1)) rows.items) }
+    ensures ready { HasCleanDisk (state S.Store conn.new) → IsReady (state S.Store conn.old)
+        → OnOk result (IsReady (state S.Store conn.new) × ((state S.Store conn.new).now ≡ (state S.Store conn.old).now)) }
+    ensures crash { HasCleanDisk (state S.Store conn.new) → IsReady (state S.Store conn.old) → (db : Trees) → (state S.Store conn.new).may_leave db
+        → (state S.Store conn.old).may_leave db }
     ensures clean { doubt (state S.Store conn.old).is_clean ≤ doubt (state S.Store conn.new).is_clean }
     ensures fault { IfErr result (λ fault. fault ≡ Fault.StoreFailed) }
 {
@@ -110,7 +126,8 @@ pub(crate) fn read_rows<S: Alter>(conn: &mut Connection<S>) -> Result<Vec<Row>, 
 pub(crate) fn write_entry<S: Alter>(conn: &mut Connection<S>, entry: &Entry) -> Result<(), Fault>
     requires kept { is_kept entry.now ≡ true }
     requires short { entry.now.version < 2 ^ 63 }
-    ensures enters { HasCleanDisk (state S.Store conn.new) → IsReady (state S.Store conn.old) → OnOk result (Enters entry.now ((state S.Store conn.old).now.trees 1) ((state S.Store conn.new).now.trees 1)) }
+    ensures enters { HasCleanDisk (state S.Store conn.new) → IsReady (state S.Store conn.old)
+        → OnOk result (Enters entry.now ((state S.Store conn.old).now.trees 1) ((state S.Store conn.new).now.trees 1)) }
     ensures ready { HasCleanDisk (state S.Store conn.new) → IsReady (state S.Store conn.old) → OnOk result (IsReady (state S.Store conn.new)) }
     ensures crash { HasCleanDisk (state S.Store conn.new) → IsReady (state S.Store conn.old) → (db : Trees) → (state S.Store conn.new).may_leave db
         → (state S.Store conn.old).may_leave db ⊎ Enters entry.now ((state S.Store conn.old).now.trees 1) (db 1) }
@@ -128,11 +145,13 @@ pub(crate) fn write_entry<S: Alter>(conn: &mut Connection<S>, entry: &Entry) -> 
 
 /// The table of the writes. `StoreFailed`; `LogDamaged`, where the rows are not those of a table; `NoMemory`.
 pub(crate) fn read_table<S: Alter>(conn: &mut Connection<S>, alloc: Global) -> Result<Table, Fault>
-    ensures rows { HasCleanDisk (state S.Store conn.new) → IsReady (state S.Store conn.old) → IfOk result (λ t. AreRowsOf t ((state S.Store conn.old).now.trees 1)) }
+    ensures rows { HasCleanDisk (state S.Store conn.new) → IsReady (state S.Store conn.old)
+        → IfOk result (λ t. AreRowsOf t ((state S.Store conn.old).now.trees 1)) }
     ensures plain { IfOk result IsPlainTable }
     ensures ready { HasCleanDisk (state S.Store conn.new) → IsReady (state S.Store conn.old) → result ≢ Err Fault.StoreFailed
         → IsReady (state S.Store conn.new) × ((state S.Store conn.new).now ≡ (state S.Store conn.old).now) }
-    ensures crash { HasCleanDisk (state S.Store conn.new) → IsReady (state S.Store conn.old) → (db : Trees) → (state S.Store conn.new).may_leave db → (state S.Store conn.old).may_leave db }
+    ensures crash { HasCleanDisk (state S.Store conn.new) → IsReady (state S.Store conn.old) → (db : Trees) → (state S.Store conn.new).may_leave db
+        → (state S.Store conn.old).may_leave db }
     ensures clean { doubt (state S.Store conn.old).is_clean ≤ doubt (state S.Store conn.new).is_clean }
     ensures fault { IfErr result (λ fault. (fault ≡ Fault.NoMemory) ⊎ ((fault ≡ Fault.StoreFailed) ⊎ (fault ≡ Fault.LogDamaged))) }
 {

@@ -3,10 +3,11 @@ ghost use Rattle.std.specs.Prelude.{◌≡◌, ◌<◌};
 use crate::NodeCore;
 use crate::tests::{applied, log_of, node, write};
 use sb_codec::Message;
-use sb_frames::{LastWrite, Steps};
+use sb_frames::Steps;
 use sb_session::{Ended, Session, dial, serve};
 use sb_types::{Block, Delta, Entry, Fault, Key, Name, Order, Slot, Value};
 use std::alloc::Global;
+use std::io::{self, ErrorKind, Read, Write};
 use std::marker::Brand;
 use std::sync::ledger::{Blank, Ledger};
 use std::test::Fail;
@@ -32,81 +33,259 @@ const DIALED_BY_A: &[u8] = b"\xa7\x01\x00\x00\x00\x06\x01\x02c1\x01a\
 const DIALED_BY_B: &[u8] = b"\xa7\x01\x00\x00\x00\x06\x01\x02c1\x01b\
     \xa7\x01\x00\x00\x00\x02\x04\x01";
 
-/// A talk over these bytes of the peer: how it ended, and what was written.
+/// Hello of a.
+const HELLO_A: &[u8] = b"\xa7\x01\x00\x00\x00\x06\x01\x02c1\x01a";
+
+/// One block of a, after 0, with the weight 5 under w as version 1.
+const FRAME: &[u8] = b"\xa7\x01\x00\x00\x00\x22\x03\x00\x01\x01a\x00\x00\x00\x00\x00\x00\x00\x00\
+    \x00\x01\x01w\x00\x00\x00\x00\x00\x00\x00\x01\x02\x00\x00\x00\x00\x00\x00\x00\x05";
+
+/// A block of b, and then one of a.
+const DESCENDING: &[u8] = b"\xa7\x01\x00\x00\x00\x41\x03\x00\x02\
+    \x01b\x00\x00\x00\x00\x00\x00\x00\x00\
+    \x00\x01\x01w\x00\x00\x00\x00\x00\x00\x00\x01\x02\x00\x00\x00\x00\x00\x00\x00\x05\
+    \x01a\x00\x00\x00\x00\x00\x00\x00\x00\
+    \x00\x01\x01w\x00\x00\x00\x00\x00\x00\x00\x01\x02\x00\x00\x00\x00\x00\x00\x00\x05";
+
+/// What a peer says, a few bytes in each read; whether reading fails then.
+#[derive(Drop)]
+struct Saying<'a> {
+    bytes: &'a [u8],
+    piece: usize,
+    breaks: bool,
+}
+
+impl Read for Saying<'_> {
+    fn read(&mut self, buf: &mut [u8]) -> io::Result<usize> {
+        if self.bytes.is_empty() && self.breaks {
+            return Err(ErrorKind::ConnectionReset.into());
+        }
+        let count = self.piece.min(buf.len()).min(self.bytes.len());
+        let (front, rest) = self.bytes.split_at(count);
+        buf[..count].copy_from_slice(front);
+        self.bytes = rest;
+        Ok(count)
+    }
+}
+
+/// What a peer hears, up to so many bytes.
+#[derive(Drop)]
+struct Hearing {
+    bytes: Vec<u8>,
+    room: usize,
+}
+
+impl Write for Hearing {
+    fn write(&mut self, buf: &[u8]) -> io::Result<usize> {
+        let room = self.room.saturating_sub(self.bytes.len());
+        if room == 0 {
+            return Err(ErrorKind::BrokenPipe.into());
+        }
+        let taken = buf.get(..room).unwrap_or(buf);
+        self.bytes.extend_from_slice(taken)?;
+        Ok(taken.len())
+    }
+
+    fn flush(&mut self) -> io::Result<()> {
+        Ok(())
+    }
+}
+
+/// What a talk has to go on: what the peer says, in which pieces, whether reading fails then, how many reads may be
+/// made, how many bytes the peer hears, and the rounds of one that dials.
+#[derive(Clone, Copy)]
+struct Terms<'a> {
+    said: &'a [u8],
+    piece: usize,
+    breaks: bool,
+    reads: u64,
+    room: usize,
+    rounds: Option<u64>,
+}
+
+fn peer_terms(said: &[u8], rounds: Option<u64>) -> Terms<'_> {
+    Terms {
+        said,
+        piece: 4_096,
+        breaks: false,
+        reads: 99,
+        room: 128,
+        rounds,
+    }
+}
+
+/// How a talk ended, and what was written.
 fn talk_on<L: Ledger>(
     core: &mut NodeCore,
     alloc: Global,
-    heard: &[u8],
-    rounds: Option<u64>,
+    terms: Terms<'_>,
     blank: Blank,
-) -> Result<(Ended, Vec<u8>), Fault>
+) -> Result<(Result<Ended, Fault>, Vec<u8>), Fault>
     requires name { blank.name ≡ L.name }
     requires parts { blank.parts ≡ L.parts }
     requires some { 0 < blank.parts }
 {
     let session = Session::new(Name::read(b"c1")?, *core.name());
     let mut steps = Steps::<L>::new(blank);
-    let mut last = LastWrite::new();
-    let mut reader = heard;
-    let mut written = Vec::new(alloc);
-    let ended = match rounds {
+    let mut reader = Saying {
+        bytes: terms.said,
+        piece: terms.piece,
+        breaks: terms.breaks,
+    };
+    let mut writer = Hearing {
+        bytes: Vec::new(alloc),
+        room: terms.room,
+    };
+    let (ended, _) = match terms.rounds {
         None => serve(
             alloc,
             &mut reader,
-            &mut written,
+            &mut writer,
             session,
             core,
-            9,
+            terms.reads,
             &mut steps,
-            &mut last,
         ),
         Some(rounds) => dial(
             alloc,
             &mut reader,
-            &mut written,
+            &mut writer,
             session,
             core,
             rounds,
-            9,
+            terms.reads,
             &mut steps,
-            &mut last,
         ),
-    }?;
-    Ok((ended, written))
+    };
+    Ok((ended, writer.bytes))
 }
 
 /// How a talk ended, and whether it wrote just these bytes.
 fn talk(
     core: &mut NodeCore,
     alloc: Global,
-    heard: &[u8],
-    rounds: Option<u64>,
+    terms: Terms<'_>,
     said: &[u8],
-) -> Result<(Ended, bool), Fault> {
-    let (ended, written) = talk_on::<Brand>(core, alloc, heard, rounds, Blank::new(1))?;
+) -> Result<(Result<Ended, Fault>, bool), Fault> {
+    let (ended, written) = talk_on::<Brand>(core, alloc, terms, Blank::new(1))?;
     Ok((ended, written.as_slice() == said))
+}
+
+/// The node b, which wrote the flag true under w.
+fn node_b(alloc: Global) -> Result<NodeCore, Fault> {
+    let b = Name::read(b"b")?;
+    let mut core = node(alloc, b, 256, Order::Breadth)?;
+    let mut log = log_of(alloc, b)?;
+    write(&mut core, &mut log, b"w", &Slot::Set(Value::flag(true)))?;
+    Ok(core)
 }
 
 #[test]
 fn two_nodes_talk(rt: HostRuntime) -> Result<(), Fail> {
     let alloc = rt.alloc();
     let [a, b] = [Name::read(b"a")?, Name::read(b"b")?];
-    let mut asked = node(alloc, b, 256, Order::Breadth)?;
-    write(
-        &mut asked,
-        &mut log_of(alloc, b)?,
-        b"w",
-        &Slot::Set(Value::flag(true)),
-    )?;
-    let served = talk(&mut asked, alloc, SAID_BY_A, None, SAID_BY_B)?;
-    assert_eq!(rt; served, (Ended::Bye(1), true));
-    let told = talk(&mut asked, alloc, b"", Some(0), DIALED_BY_B)?;
-    assert_eq!(rt; told, (Ended::RoundsDone, true));
+    for piece in [1usize, 7, 42] {
+        let mut asked = node_b(alloc)?;
+        let terms = Terms {
+            piece,
+            ..peer_terms(SAID_BY_A, None)
+        };
+        let served = talk(&mut asked, alloc, terms, SAID_BY_B)?;
+        assert_eq!(rt; served, (Ok(Ended::Bye(1)), true));
+    }
+    let mut asked = node_b(alloc)?;
+    let told = talk(&mut asked, alloc, peer_terms(b"", Some(0)), DIALED_BY_B)?;
+    assert_eq!(rt; told, (Ok(Ended::RoundsDone), true));
 
     let mut asks = node(alloc, a, 256, Order::Breadth)?;
-    let dialed = talk(&mut asks, alloc, SAID_BY_B, Some(1), DIALED_BY_A)?;
-    assert_eq!(rt; dialed, (Ended::RoundsDone, true));
+    let dialed = talk(
+        &mut asks,
+        alloc,
+        peer_terms(SAID_BY_B, Some(1)),
+        DIALED_BY_A,
+    )?;
+    assert_eq!(rt; dialed, (Ok(Ended::RoundsDone), true));
     assert_eq!(rt; asks.upto(&b), 1);
+    Ok(())
+}
+
+#[test]
+fn peers_that_give_out(rt: HostRuntime) -> Result<(), Fail> {
+    let alloc = rt.alloc();
+    for (room, count) in [(20usize, 8u64), (12, 0), (45, 0)] {
+        let mut asked = node_b(alloc)?;
+        let terms = Terms {
+            room,
+            ..peer_terms(SAID_BY_A, None)
+        };
+        let written = SAID_BY_B.get(..room).unwrap_or(&[]);
+        let served = talk(&mut asked, alloc, terms, written)?;
+        assert_eq!(rt; served, (Err(Fault::WriteFailed(count)), true));
+    }
+    let mut asked = node_b(alloc)?;
+    let terms = Terms {
+        breaks: true,
+        ..peer_terms(HELLO_A, None)
+    };
+    let written = SAID_BY_B.get(..12).unwrap_or(&[]);
+    let served = talk(&mut asked, alloc, terms, written)?;
+    assert_eq!(rt; served, (Err(Fault::ReadFailed), true));
+    Ok(())
+}
+
+/// How a talk of b with a peer a ends that says this behind its Hello, and how far a is held then.
+fn heard(
+    alloc: Global,
+    frames: &[&[u8]],
+    piece: usize,
+    reads: u64,
+) -> Result<(Result<Ended, Fault>, u64), Fault> {
+    let mut said = Vec::from_slice(alloc, HELLO_A)?;
+    for frame in frames {
+        said.extend_from_slice(frame)?;
+    }
+    let mut core = node_b(alloc)?;
+    let terms = Terms {
+        piece,
+        reads,
+        ..peer_terms(&said, None)
+    };
+    let (ended, _) = talk(&mut core, alloc, terms, b"")?;
+    Ok((ended, core.upto(&Name::read(b"a")?)))
+}
+
+#[test]
+fn a_delta_in_any_pieces(rt: HostRuntime) -> Result<(), Fail> {
+    let alloc = rt.alloc();
+    let whole = (Ok(Ended::End), 1);
+    let front = FRAME.get(..17).unwrap_or(&[]);
+    assert_eq!(rt; heard(alloc, &[FRAME], 1, 99)?, whole);
+    assert_eq!(rt; heard(alloc, &[FRAME], 51, 99)?, whole);
+    assert_eq!(rt; heard(alloc, &[FRAME, FRAME], 4_096, 99)?, whole);
+    assert_eq!(rt;
+        heard(alloc, &[front], 4_096, 99)?,
+        (Err(Fault::Truncated), 0)
+    );
+    assert_eq!(rt;
+        heard(alloc, &[FRAME], 4_096, 0)?,
+        (Err(Fault::TurnsSpent), 0)
+    );
+    Ok(())
+}
+
+#[test]
+fn faulty_frames_enter_nothing(rt: HostRuntime) -> Result<(), Fail> {
+    let alloc = rt.alloc();
+    for (frame, fault) in [
+        (b"\xa6".as_slice(), Fault::BadMark),
+        (b"\xa7\x09", Fault::BadVersion),
+        (b"\xa7\x01\x00\x00\x00\x00", Fault::BadLength),
+        (b"\xa7\x01\x00\x00\xff\xfb", Fault::BadLength),
+        (b"\xa7\x01\x00\x00\x00\x01\x55", Fault::UnknownKind(0x55)),
+        (DESCENDING, Fault::Malformed(3)),
+    ] {
+        assert_eq!(rt; heard(alloc, &[frame, FRAME], 4_096, 99)?, (Err(fault), 0));
+    }
     Ok(())
 }
 

@@ -37,7 +37,9 @@ fn say<W: Write>(
     ensures says { Says (W.contents writer.old) (W.contents writer.new) (message ∷ []) result }
     ensures failed { OnlyWhereFailed result last.new }
 {
-    send_from(buffer, writer, &message, last)
+    let (sent, told) = send_from(buffer, writer, &message);
+    *last = told;
+    sent
 }
 
 /// Sends what comes of a message that was taken, and gives the reason of a Bye.
@@ -171,14 +173,13 @@ fn talk<R: Read, W: Write, H: Handler, L: Ledger>(
     Ok(Ended::End)
 }
 
-/// Says Hello, and answers the peer until it says Bye, or until its bytes end between two frames. At most
-/// `max_reads` reads are made.
+/// Says Hello, and answers the peer until it says Bye, or until its bytes end between two frames; and tells what the
+/// last write of the call answered. At most `max_reads` reads are made.
 ///
 /// `BadMark`, `BadVersion`, `BadLength`, `UnknownKind`, `Malformed`, `ReadFailed` and `Truncated` of the
 /// peer's bytes; `WriteFailed` with how many bytes of the frame that was being written are out; `NoHello`,
 /// `WrongCluster`, `SameName` and `SecondHello` of the peer's messages; `TurnsSpent` where one more read
 /// is needed, or the handler's; `NoMemory`, with whole frames written. What was applied before stands.
-/// `last` tells what the last write answered.
 pub fn serve<R: Read, W: Write, H: Handler, L: Ledger>(
     alloc: Global,
     reader: &mut R,
@@ -187,21 +188,23 @@ pub fn serve<R: Read, W: Write, H: Handler, L: Ledger>(
     handler: &mut H,
     max_reads: u64,
     steps: &mut Steps<L>,
-    last: &mut LastWrite,
-) -> Result<Ended, Fault>
+) -> (Result<Ended, Fault>, LastWrite)
     ensures talks { (left : ℕ) × Talks H.step (party_of true None session handler.old) handler.new (R.remaining reader.old) (R.remaining reader.new)
-        (W.contents writer.old) (W.contents writer.new) max_reads left result × (steps.new + left ≡ steps.old + max_reads) }
-    ensures failed { OnlyWhereFailed result last.new }
+        (W.contents writer.old) (W.contents writer.new) max_reads left result.0 × (steps.new + left ≡ steps.old + max_reads) }
+    // A write that did not fail, or that was made before the call, is no reason to stop.
+    ensures failed { OnlyWhereFailed result.0 result.1 }
     ensures grows { H.grows handler.old handler.new }
 {
-    talk(
-        alloc, reader, writer, session, handler, None, max_reads, steps, last,
-    )
+    let mut last = LastWrite::new();
+    let ended = talk(
+        alloc, reader, writer, session, handler, None, max_reads, steps, &mut last,
+    );
+    (ended, last)
 }
 
 /// Says Hello, and then asks with a digest that wants one in answer, `rounds` times; it answers whatever
 /// comes. A round is done when a digest that wants none in answer was answered. After the last round it
-/// says Bye and ends. At most `max_reads` reads are made. The faults of `serve`.
+/// says Bye and ends. At most `max_reads` reads are made. It tells what `serve` tells; the faults of `serve`.
 pub fn dial<R: Read, W: Write, H: Handler, L: Ledger>(
     alloc: Global,
     reader: &mut R,
@@ -211,14 +214,14 @@ pub fn dial<R: Read, W: Write, H: Handler, L: Ledger>(
     rounds: u64,
     max_reads: u64,
     steps: &mut Steps<L>,
-    last: &mut LastWrite,
-) -> Result<Ended, Fault>
+) -> (Result<Ended, Fault>, LastWrite)
     ensures talks { (left : ℕ) × Talks H.step (party_of true (Some rounds) session handler.old) handler.new (R.remaining reader.old) (R.remaining reader.new)
-        (W.contents writer.old) (W.contents writer.new) max_reads left result × (steps.new + left ≡ steps.old + max_reads) }
-    ensures failed { OnlyWhereFailed result last.new }
+        (W.contents writer.old) (W.contents writer.new) max_reads left result.0 × (steps.new + left ≡ steps.old + max_reads) }
+    ensures failed { OnlyWhereFailed result.0 result.1 }
     ensures grows { H.grows handler.old handler.new }
 {
-    talk(
+    let mut last = LastWrite::new();
+    let ended = talk(
         alloc,
         reader,
         writer,
@@ -227,6 +230,7 @@ pub fn dial<R: Read, W: Write, H: Handler, L: Ledger>(
         Some(rounds),
         max_reads,
         steps,
-        last,
-    )
+        &mut last,
+    );
+    (ended, last)
 }

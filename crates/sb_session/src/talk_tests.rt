@@ -39,12 +39,13 @@ impl Read for Pieces<'_> {
     }
 }
 
-/// Takes a few bytes in each write, and fails once it has no room.
+/// Takes one byte in each write, and fails once it has no room. Every other write is interrupted.
 #[derive(Drop)]
 struct Room {
     bytes: [u8; 128],
     written: usize,
     room: usize,
+    interrupts: bool,
 }
 
 impl Room {
@@ -53,6 +54,7 @@ impl Room {
             bytes: [0; 128],
             written: 0,
             room,
+            interrupts: false,
         }
     }
 
@@ -77,6 +79,10 @@ impl Room {
 impl Write for Room {
     fn write(&mut self, buf: &[u8]) -> io::Result<usize> {
         let [byte, ..] = buf else { return Ok(0) };
+        self.interrupts = !self.interrupts;
+        if self.interrupts {
+            return Err(ErrorKind::Interrupted.into());
+        }
         if self.written >= self.room || self.written >= 128 {
             return Err(ErrorKind::BrokenPipe.into());
         }
@@ -127,9 +133,8 @@ fn talk_on<L: Ledger>(
     writer: &mut Room,
     session: Session,
     terms: Terms<'_>,
-    last: &mut LastWrite,
     blank: Blank,
-) -> Result<Ended, Fault>
+) -> (Result<Ended, Fault>, LastWrite)
     requires name { blank.name ≡ L.name }
     requires parts { blank.parts ≡ L.parts }
     requires some { 0 < blank.parts }
@@ -151,7 +156,6 @@ fn talk_on<L: Ledger>(
             node,
             terms.reads,
             &mut steps,
-            last,
         ),
         Some(rounds) => dial(
             alloc,
@@ -162,48 +166,29 @@ fn talk_on<L: Ledger>(
             rounds,
             terms.reads,
             &mut steps,
-            last,
         ),
     }
 }
 
-/// A whole talk of a node of the cluster c1, and what its last write answered.
+/// A whole talk of a node of the cluster c1, and whether its last write is said to have failed.
 fn talk_telling(
     node: &mut Node,
     writer: &mut Room,
     terms: Terms<'_>,
-    last: &mut LastWrite,
-) -> Result<Ended, Fault> {
+) -> Result<(Result<Ended, Fault>, bool), Fault> {
     let session = Session::new(Name::read(b"c1")?, *node.holdings.me());
-    talk_on::<Brand>(node, writer, session, terms, last, Blank::new(1))
+    let (ended, last) = talk_on::<Brand>(node, writer, session, terms, Blank::new(1));
+    Ok((ended, last.has_failed()))
 }
 
 /// A whole talk of a node of the cluster c1.
 fn talk(node: &mut Node, writer: &mut Room, terms: Terms<'_>) -> Result<Ended, Fault> {
-    talk_telling(node, writer, terms, &mut LastWrite::new())
+    let (ended, _) = talk_telling(node, writer, terms)?;
+    ended
 }
 
-#[test]
-fn one_end_answers_until_bye(rt: HostRuntime) -> Result<(), Fail> {
-    let alloc = rt.alloc();
-    let input = joined(alloc, &[HELLO_A, DIGEST_A, BYE])?;
-    let written: [&[u8]; 3] = [HELLO_B, DELTA_B, DIGEST_B];
-    for piece in [1usize, 7, 42, 4_096] {
-        let mut node = Node::new(alloc, b"b", true)?;
-        let mut writer = Room::new(128);
-        let terms = Terms {
-            piece,
-            ..serving(&input)
-        };
-        assert_eq!(rt; talk(&mut node, &mut writer, terms), Ok(Ended::Bye(1)));
-        assert!(rt; writer.has_written(&written));
-        assert_eq!(rt; writer.written, 67);
-    }
-    Ok(())
-}
-
-/// A talk that goes well: who speaks, in how many rounds if it dials, what it hears and what it writes; and how many
-/// bytes it has written before it has heard so many, and then.
+/// A talk that goes well: who speaks, in how many rounds if it dials, what it hears and what it writes; how many
+/// bytes it has written before it has heard so many, and then; and how it ends.
 #[derive(Clone, Copy)]
 struct Course<'a> {
     name: &'a [u8],
@@ -214,6 +199,7 @@ struct Course<'a> {
     early: usize,
     turn: usize,
     late: usize,
+    ended: Ended,
 }
 
 /// The course of one that serves, and of one that dials.
@@ -226,6 +212,7 @@ const SERVED: Course<'static> = Course {
     early: 12,
     turn: 34,
     late: 67,
+    ended: Ended::Bye(1),
 };
 
 const DIALED: Course<'static> = Course {
@@ -237,7 +224,30 @@ const DIALED: Course<'static> = Course {
     early: 34,
     turn: 67,
     late: 51,
+    ended: Ended::RoundsDone,
 };
+
+#[test]
+fn bytes_come_in_any_pieces(rt: HostRuntime) -> Result<(), Fail> {
+    let alloc = rt.alloc();
+    for course in [SERVED, DIALED] {
+        let input = joined(alloc, &course.heard)?;
+        for piece in [1usize, 7, 42, 4_096] {
+            let mut node = Node::new(alloc, course.name, course.has_written)?;
+            let mut writer = Room::new(128);
+            let terms = Terms {
+                piece,
+                rounds: course.rounds,
+                ..serving(&input)
+            };
+            let told = talk_telling(&mut node, &mut writer, terms)?;
+            assert_eq!(rt; told, (Ok(course.ended), false));
+            assert!(rt; writer.has_written(course.written));
+            assert_eq!(rt; writer.written, course.late);
+        }
+    }
+    Ok(())
+}
 
 /// How many bytes of its piece stand before the byte at a place, of pieces that stand one after the other.
 fn within(pieces: &[&[u8]], place: usize) -> usize {
@@ -257,14 +267,13 @@ fn wrong_room(alloc: Global, course: Course<'_>) -> Result<Option<usize>, Fault>
     for room in 0..course.late {
         let mut node = Node::new(alloc, course.name, course.has_written)?;
         let mut writer = Room::new(room);
-        let mut last = LastWrite::new();
         let terms = Terms {
             rounds: course.rounds,
             ..serving(&input)
         };
-        let answer = talk_telling(&mut node, &mut writer, terms, &mut last);
+        let (answer, has_failed) = talk_telling(&mut node, &mut writer, terms)?;
         let fault = Fault::WriteFailed(within(course.written, room) as u64);
-        if answer != Err(fault) || !writer.has_written(course.written) || !last.has_failed() {
+        if answer != Err(fault) || !writer.has_written(course.written) || !has_failed {
             return Ok(Some(room));
         }
     }
@@ -423,6 +432,25 @@ fn faulty_talks_end(rt: HostRuntime) -> Result<(), Fail> {
                 assert_eq!(rt; answer, Err(Fault::UnknownKind(kind)));
             }
         }
+    }
+    Ok(())
+}
+
+#[test]
+fn a_flood_before_hello_is_not_taken(rt: HostRuntime) -> Result<(), Fail> {
+    let alloc = rt.alloc();
+    let mut input = Vec::new(alloc);
+    for _ in 0..1_000u32 {
+        input.extend_from_slice(DELTA_B)?;
+    }
+    input.extend_from_slice(HELLO_B)?;
+    for (terms, length) in [(serving(&input), 12usize), (dialing(&input, 1), 34)] {
+        let mut node = Node::new(alloc, b"a", false)?;
+        let mut writer = Room::new(128);
+        let answer = talk(&mut node, &mut writer, terms);
+        assert_eq!(rt; answer, Err(Fault::NoHello));
+        assert_eq!(rt; writer.written, length);
+        assert_eq!(rt; node.upto(b"b")?, 0);
     }
     Ok(())
 }

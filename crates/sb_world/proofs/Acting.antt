@@ -27,7 +27,7 @@ use Rattle.sb_frames.specs.Frames.{frame}
 use Rattle.sb_frames.specs.Streams.{Stream, TakesNext}
 use Rattle.sb_frames.proofs.Splitting.{length-frame}
 use Rattle.sb_log.specs.Records.{Committed, Log}
-use Rattle.sb_log.specs.Puts.{Puts, Loads, next_entry}
+use Rattle.sb_log.specs.Puts.{Puts, Loads, IsSure, next_entry}
 use Rattle.sb_node.specs.Answers.{IsAnswer}
 use Rattle.sb_node.specs.Cores.{Core, with_node}
 use Rattle.sb_node.specs.Steps.{Steps}
@@ -60,9 +60,10 @@ use Rattle.sb_world.proofs.Keeping.{AreWaiting, waiting_more, waiting_on, relogg
 pub record Same (p : Place) (turn : Turn) : Type 0 where
   pub me : turn.place.me ≡ p.me
   pub clean : turn.place.log.is_clean ≡ true → p.log.is_clean ≡ true
+  pub sure : IsSure p.log → IsSure turn.place.log
 
 still_same : (p : Place) (answer : Result Answer Fault) → Same p (still p answer)
-still_same p answer = record { me = refl; clean = λ e. e }
+still_same p answer = record { me = refl; clean = λ e. e; sure = λ s. s }
 
 turned_same : (p : Place) (turn : Turn) (other : Turn) → turn ≡ other → Same p other → Same p turn
 turned_same p turn other is same = subst (Same p) (sym is) same
@@ -72,31 +73,31 @@ takes_same p [] turn takes = turned_same p turn _ takes (still_same p _)
 takes_same p (c ∷ others) turn takes = turned_same p turn _ takes.3 (one takes.0)
   where
     one : (result : Result (Unit {0}) Fault) → Same p (take_turn p c others result)
-    one (Ok done) = record { me = refl; clean = λ e. e }
+    one (Ok done) = record { me = refl; clean = λ e. e; sure = λ s. s }
     one (Err fault) = still_same p _
 
 restarts_same : (p : Place) (result : Result Table Fault) (log : Log) (turn : Turn) → Loads p.log result log → RestartEnds p log result turn → Same p turn
 restarts_same p (Ok table) log turn loads ends =
     ⊎_elim
-    (λ is. turned_same p turn (reopened_turn p log table) is (record { me = refl; clean = loads.stays.clean }))
-    (λ is. turned_same p turn (refused_turn p log NoMemory) is (record { me = refl; clean = loads.stays.clean }))
+    (λ is. turned_same p turn (reopened_turn p log table) is (record { me = refl; clean = loads.stays.clean; sure = loads.stays.sure }))
+    (λ is. turned_same p turn (refused_turn p log NoMemory) is (record { me = refl; clean = loads.stays.clean; sure = loads.stays.sure }))
     ends
-restarts_same p (Err fault) log turn loads ends = turned_same p turn (refused_turn p log fault) ends (record { me = refl; clean = loads.stays.clean })
+restarts_same p (Err fault) log turn loads ends = turned_same p turn (refused_turn p log fault) ends (record { me = refl; clean = loads.stays.clean; sure = loads.stays.sure })
 
 crashes_same : (p : Place) (key : List ℕ) (slot : Slot) (is_kept : Bool) (turn : Turn) → Crashes p key slot is_kept turn → Same p turn
-crashes_same p key slot false turn is = turned_same p turn (crash_turn p rests p.log) is (record { me = refl; clean = λ e. e })
-crashes_same p key slot true turn c = turned_same p turn (crash_turn p c.1 c.2) c.5 (record { me = refl; clean = c.3.stays.clean })
+crashes_same p key slot false turn is = turned_same p turn (crash_turn p rests p.log) is (record { me = refl; clean = λ e. e; sure = λ s. s })
+crashes_same p key slot true turn c = turned_same p turn (crash_turn p c.1 c.2) c.5 (record { me = refl; clean = c.3.stays.clean; sure = c.3.stays.sure })
 
 stays_same : (p : Place) (conns : List Connection) (answer : Result Answer Fault) (turn : Turn) (new : List Connection) → Stays p conns answer turn new → Same p turn
 stays_same p conns answer turn new stays = turned_same p turn _ stays.0 (still_same p answer)
 
 -- only what the node holds changed, whatever was sent and answered
 core_same : (p : Place) (core : Core) (answer : Result Answer Fault) (effect : Effect) (frames : List (List ℕ)) → Same p (record { answer = answer; effect = effect; place = with_core p core; frames = frames })
-core_same p core answer effect frames = record { me = refl; clean = λ e. e }
+core_same p core answer effect frames = record { me = refl; clean = λ e. e; sure = λ s. s }
 
 connects_same : (found : Option Connection) (p : Place) (number : ℕ) (conns : List Connection) (sent : List (List ℕ)) (turn : Turn) (new : List Connection) → Connects found p number conns sent turn new → Same p turn
 connects_same (Some c) p number conns sent turn new stays = stays_same p conns _ turn new stays
-connects_same None p number conns sent turn new acts = ⊎_elim (stays_same p conns _ turn new) (λ is. turned_same p turn (sent_turn p sent (hello_of (begun p))) is.2 (record { me = refl; clean = λ e. e })) acts
+connects_same None p number conns sent turn new acts = ⊎_elim (stays_same p conns _ turn new) (λ is. turned_same p turn (sent_turn p sent (hello_of (begun p))) is.2 (record { me = refl; clean = λ e. e; sure = λ s. s })) acts
 
 closes_same : (found : Option Connection) (p : Place) (number : ℕ) (conns : List Connection) (turn : Turn) (new : List Connection) → Closes found p number conns turn new → Same p turn
 closes_same None p number conns turn new stays = stays_same p conns _ turn new stays
@@ -123,7 +124,7 @@ pieces_same (Some c) p number count conns sent turn new d = turned_same p turn _
 
 acts_same : (event : Event) (p : Place) (conns : List Connection) (sent : List (List ℕ)) (turn : Turn) (new : List Connection) → Acts event p conns sent turn new → Same p turn
 acts_same (Commit me key slot) p conns sent turn new acts =
-    ⊎_elim (λ is. turned_same p turn _ is (still_same p _)) (λ c. turned_same p turn (commit_turn p c.0 c.1 c.2) c.5 (record { me = refl; clean = c.3.stays.clean })) acts.0
+    ⊎_elim (λ is. turned_same p turn _ is (still_same p _)) (λ c. turned_same p turn (commit_turn p c.0 c.1 c.2) c.5 (record { me = refl; clean = c.3.stays.clean; sure = c.3.stays.sure })) acts.0
 acts_same (Take me) p conns sent turn new acts = takes_same p p.waiting turn acts.0
 acts_same (CrashInCommit me key slot is_kept) p conns sent turn new acts = crashes_same p key slot is_kept turn acts.0
 acts_same (Restart me) p conns sent turn new acts = let r = acts.0 in restarts_same p r.0 r.1 turn r.2 r.3
@@ -133,7 +134,7 @@ acts_same (Line number index) p conns sent turn new acts = lines_same (connectio
 acts_same (Piece number count) p conns sent turn new acts = pieces_same (connection_at conns number) p number count conns sent turn new acts
 acts_same (Ask number) p conns sent turn new acts = asks_same (connection_at conns number) p number conns sent turn new acts
 acts_same (Offer me owner after) p conns sent turn new acts =
-    ⊎_elim (λ is. turned_same p turn _ is (still_same p _)) (λ o. turned_same p turn (sent_turn p sent (messages.Delta o.0)) o.4 (record { me = refl; clean = λ e. e })) acts.0
+    ⊎_elim (λ is. turned_same p turn _ is (still_same p _)) (λ o. turned_same p turn (sent_turn p sent (messages.Delta o.0)) o.4 (record { me = refl; clean = λ e. e; sure = λ s. s })) acts.0
 acts_same (Read me owner key) p conns sent turn new acts = ⊎_elim (λ is. turned_same p turn _ is (still_same p _)) (λ is. turned_same p turn _ is (still_same p _)) acts.0
 acts_same (Upto me owner) p conns sent turn new acts = turned_same p turn _ acts.0 (still_same p _)
 

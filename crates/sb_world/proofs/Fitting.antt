@@ -97,8 +97,8 @@ pub names_more : (ps : List Place) (p : Place) (names : List (List ℕ)) → map
 names_more [] p names = refl
 names_more (q ∷ ps) p names = ap (λ xs. q.me ∷ xs) (names_more ps p names)
 
-pub new_more : (settings : Settings) (ps : List Place) (p : Place) → ((q : Place) → Stands ps q → IsNew settings q) → IsNew settings p → (q : Place) → Stands (ps ++ p ∷ []) q → IsNew settings q
-new_more settings ps p each new = joined (IsNew settings) ps (p ∷ []) each (λ q stands. ⊎_elim (λ same. subst (IsNew settings) same new) (λ s. absurd s) stands)
+pub each_more : (P : Place → Type 0) (ps : List Place) (p : Place) → ((q : Place) → Stands ps q → P q) → P p → (q : Place) → Stands (ps ++ p ∷ []) q → P q
+each_more P ps p each here = joined P ps (p ∷ []) each (λ q stands. ⊎_elim (λ same. subst P same here) (λ s. absurd s) stands)
 
 pub first_is : {X : Type 0} (xs : List X) (x : X) → 0 < length xs → x ≡ get_or xs 0 x → xs ≡ x ∷ drop 1 xs
 first_is [] x some is = absurd (omega (arith, some))

@@ -4,7 +4,8 @@ use Rattle.std.specs.Prelude.{unwrap_or}
 use Rattle.std.specs.Cmp.Lexicographic.{pointwise}
 use Rattle.std.proofs.lemmas.Cmp.{nat_list_eq_equiv}
 use Rattle.sb_types.proofs.Texts.{same_text, text_same}
-use Rattle.sb_world.specs.Places.{Place, place_at, with_place, IsClean}
+use Rattle.sb_log.specs.Puts.{IsSure}
+use Rattle.sb_world.specs.Places.{Place, place_at, with_place, IsClean, AreSure}
 use Rattle.sb_world.specs.States.{put_at}
 
 -- what is the value of an option, whatever stands for none
@@ -76,6 +77,11 @@ module _ (name : List ℕ) (p q : Place) (me : q.me ≡ name) where
       go true is = subst (λ (o : Option Place). IfSome o (λ r. r.log.is_clean ≡ true)) (sym (ap (place_at ps) (same_text other name is) ∙ found)) (before here)
       go false is =
           subst (λ (o : Option Place). IfSome o (λ r. r.log.is_clean ≡ true)) (placed ps found other ∙ ap (λ b. cond b (Some q) (place_at ps other)) is) (clean other)
+
+  -- stores that are sure stay so
+  pub sure_after : (ps : List Place) → place_at ps name ≡ Some p → (IsSure p.log → IsSure q.log) → AreSure ps → AreSure (with_place ps name q)
+  sure_after ps found after sure =
+      each_placed (λ r. IsSure r.log) ps found (after (subst (λ (o : Option Place). IfSome o (λ r. IsSure r.log)) found (sure name))) (λ other not. sure other)
 
   pub clean_there : (ps : List Place) → place_at ps name ≡ Some p → IsClean (with_place ps name q) → q.log.is_clean ≡ true
   clean_there ps found clean = subst (λ (o : Option Place). IfSome o (λ r. r.log.is_clean ≡ true)) (placed_there ps found) (clean name)

@@ -15,12 +15,12 @@ use Rattle.sb_world.specs.declared.event.Event.{Event}
 use Rattle.sb_world.specs.declared.event.Answer.{Answer}
 use Rattle.sb_world.specs.Connections.{Connection}
 use Rattle.sb_world.specs.Lines.{IsTrueConnection}
-use Rattle.sb_world.specs.Places.{Place, Seen, place_at, IsClean}
+use Rattle.sb_world.specs.Places.{Place, Seen, place_at, IsClean, AreSure}
 use Rattle.sb_world.specs.States.{Past, State, Moves, Run, last_of, IsFresh, IsStart, IsReached, FitsWorld}
 use Rattle.sb_world.specs.Truth.{IsTrueFrame, IsTruePlace, IsTrueState}
 use Rattle.sb_world.specs.Claims.{EachState, EachStep}
 use Rattle.sb_node.proofs.Told.{Laws}
-use Rattle.sb_world.proofs.Stepping.{some_map, clean_moved, true_moved}
+use Rattle.sb_world.proofs.Stepping.{some_map, clean_moved, sure_moved, true_moved}
 
 -- a store that keeps its promise to the end of a run kept it before
 pub clean_run : (old : State) (events : List Event) (answers : List (Result Answer Fault)) (states : List State) → Run old events answers states → IsClean (last_of old states).now.places → IsClean old.now.places
@@ -30,6 +30,18 @@ clean_run old [] (a ∷ rs) states run clean = absurd run
 clean_run old (e ∷ es) [] states run clean = absurd run
 clean_run old (e ∷ es) (a ∷ rs) [] run clean = absurd run
 clean_run old (e ∷ es) (a ∷ rs) (s ∷ ss) run clean = clean_moved old e a s run.0 (clean_run s es rs ss run.1 clean)
+
+-- and one that can't break it keeps it to the end
+pub sure_run : (old : State) (events : List Event) (answers : List (Result Answer Fault)) (states : List State) → Run old events answers states → AreSure old.now.places → AreSure (last_of old states).now.places
+sure_run old [] [] [] run sure = sure
+sure_run old [] [] (s ∷ ss) run sure = absurd run
+sure_run old [] (a ∷ rs) states run sure = absurd run
+sure_run old (e ∷ es) [] states run sure = absurd run
+sure_run old (e ∷ es) (a ∷ rs) [] run sure = absurd run
+sure_run old (e ∷ es) (a ∷ rs) (s ∷ ss) run sure = sure_run s es rs ss run.1 (sure_moved old e a s run.0 sure)
+
+pub sure_clean : (places : List Place) → AreSure places → IsClean places
+sure_clean places sure name = some_map _ _ (place_at places name) (λ p is log. log.1) (sure name)
 
 pub true_run : Laws → (old : State) (events : List Event) (answers : List (Result Answer Fault)) (states : List State) → Run old events answers states → IsClean (last_of old states).now.places → IsTrueState old → EachState IsTrueState old states
 true_run laws old [] [] [] run clean t = t

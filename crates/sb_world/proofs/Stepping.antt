@@ -8,14 +8,14 @@ use Rattle.sb_holdings.specs.Contents.{content_table}
 use Rattle.sb_holdings.specs.Growth.{Grows}
 use Rattle.sb_world.specs.declared.event.Event.{Event}
 use Rattle.sb_world.specs.declared.event.Answer.{Answer}
-use Rattle.sb_world.specs.Places.{Place, Seen, place_at, with_place, IsClean}
+use Rattle.sb_world.specs.Places.{Place, Seen, place_at, with_place, IsClean, AreSure}
 use Rattle.sb_world.specs.Connections.{Connection}
 use Rattle.sb_world.specs.Turns.{Effect}
 use Rattle.sb_world.specs.Events.{node_of, place_for, Does}
 use Rattle.sb_world.specs.Steps.{StepAt, seen_after}
 use Rattle.sb_world.specs.States.{Past, State, put_at, writes_after, past_after, remembered, Moves}
 use Rattle.sb_world.specs.Truth.{IsTrueFrame, IsTruePlace, IsTrueState}
-use Rattle.sb_world.proofs.Names.{found_me, put_same, put_other, each_placed, clean_before, clean_there}
+use Rattle.sb_world.proofs.Names.{found_me, put_same, put_other, each_placed, clean_before, sure_after, clean_there}
 use Rattle.sb_world.proofs.Going.{grown, frame_on}
 use Rattle.sb_world.proofs.Keeping.{joined, relogged, waiting_on}
 use Rattle.sb_node.proofs.Told.{Laws}
@@ -40,6 +40,12 @@ module _ (event : Event) (answer : Result Answer Fault) (effect : Effect) (old :
   clean_step (Some p) is seen step clean =
       let same = does_same event p old.now.connections old.now.sent _ step.1 step.3 in
       clean_before p.me p step.0 same.me old.now.places (found_for old.now event p is) same.clean (subst (λ (s : Seen). IsClean s.places) step.4 clean)
+
+  sure_step : (found : Option Place) → place_for old.now event ≡ found → (seen : Seen) → StepAt found old.now event answer effect seen → AreSure old.now.places → AreSure seen.places
+  sure_step None is seen step sure = subst (λ (s : Seen). AreSure s.places) (sym step.2) sure
+  sure_step (Some p) is seen step sure =
+      let same = does_same event p old.now.connections old.now.sent _ step.1 step.3 in
+      subst (λ (s : Seen). AreSure s.places) (sym step.4) (sure_after p.me p step.0 same.me old.now.places (found_for old.now event p is) same.sure sure)
 
   -- of a node of another name nothing changed
   elsewhere : (me : List ℕ) (p : Place) → pointwise nat_eq p.me me ≡ false → IsTruePlace old.writes (old.past p.me) old.now.settings p →
@@ -89,6 +95,9 @@ module _ (old : State) (event : Event) (answer : Result Answer Fault) (new : Sta
   -- a store that keeps its promise kept it before
   pub clean_moved : IsClean new.now.places → IsClean old.now.places
   clean_moved = clean_step event answer moves.0 old (place_for old.now event) refl new.now moves.1
+
+  pub sure_moved : AreSure old.now.places → AreSure new.now.places
+  sure_moved = sure_step event answer moves.0 old (place_for old.now event) refl new.now moves.1
 
   pub true_moved : Laws → IsClean new.now.places → IsTrueState old → IsTrueState new
   true_moved laws clean t = subst IsTrueState (sym moves.2) (true_step event answer moves.0 old laws (place_for old.now event) refl new.now moves.1 clean t)

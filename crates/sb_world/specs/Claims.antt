@@ -98,6 +98,15 @@ NothingFalls first states = ((later : State) → Stands states later → FallsNo
 abbrev pub IsWithinBudget : State → Type 0
 IsWithinBudget s = (bytes : List ℕ) → Stands s.now.sent bytes → length bytes ≤ s.now.settings.budget
 
+-- ---- all of them, of one run
+
+pub record Promise (old : State) (events : List Event) (answers : List (Result Answer Fault)) (states : List State) : Type 0 where
+  pub given : EachStep GivenIsWritten old events answers states
+  pub exact : EachState IsExact old states
+  pub taken : EachStep JoinedIsTaken old events answers states
+  pub later : NothingFalls old states
+  pub budget : EachState IsWithinBudget old states
+
 -- ---- a claim on every run from a state that fits the world, as long as each store keeps its promise
 
 abbrev pub OnEachRun : Seen → List Event → List (Result Answer Fault) → (State → List State → Type 0) → Type 0

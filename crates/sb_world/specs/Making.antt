@@ -8,7 +8,9 @@ use Rattle.sb_types.specs.declared.limits.TheConstants.{OWNERS_MOST}
 use Rattle.sb_types.specs.Records.{Settings}
 use Rattle.sb_table.specs.Plain.{IsPlainTable}
 use Rattle.sb_holdings.specs.Nodes.{opened_node}
+use Rattle.sb_types.specs.Runs.{Stands}
 use Rattle.sb_log.specs.Records.{Log}
+use Rattle.sb_log.specs.Puts.{IsSure}
 use Rattle.sb_world.specs.Places.{Place, Seen, place_at}
 
 -- a log has the name
@@ -39,6 +41,10 @@ IsOpeningFault fault = (fault ≡ NoMemory) ⊎ ((fault ≡ Closed) ⊎ ((fault 
 abbrev pub IsMakingFault : Option Fault → Fault → Type 0
 IsMakingFault (Some refused) fault = fault ≡ refused
 IsMakingFault None fault = IsOpeningFault fault
+
+-- nothing can make the store of one of these logs break its promise
+abbrev pub AreSureLogs : List Log → Type 0
+AreSureLogs logs = (log : Log) → Stands logs log → IsSure log
 
 -- a node that has just opened with what its log has
 pub record IsNew (of_world : Settings) (p : Place) : Type 0 where

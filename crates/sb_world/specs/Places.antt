@@ -3,6 +3,7 @@ use Rattle.std.specs.Prelude.{◌≡◌, ℕ, zero, suc, Bool, true, if◌then�
 use Rattle.std.specs.Cmp.Lexicographic.{pointwise}
 use Rattle.sb_types.specs.Records.{Settings}
 use Rattle.sb_log.specs.Records.{Committed, Log}
+use Rattle.sb_log.specs.Puts.{IsSure}
 use Rattle.sb_node.specs.Cores.{Core}
 use Rattle.sb_world.specs.Connections.{Connection}
 
@@ -39,3 +40,7 @@ frame_at sent (suc n) = slice_get sent n
 -- the store of each log did so far what it promises
 abbrev pub IsClean : List Place → Type 0
 IsClean places = (name : List ℕ) → IfSome (place_at places name) (λ p. p.log.is_clean ≡ true)
+
+-- and always will, since nothing can make it break that
+abbrev pub AreSure : List Place → Type 0
+AreSure places = (name : List ℕ) → IfSome (place_at places name) (λ p. IsSure p.log)

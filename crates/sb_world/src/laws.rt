@@ -4,7 +4,7 @@ ghost use Rattle.std.specs.Prelude.{◌≡◌, ℕ, List, [], ◌++◌, Result, 
 ghost use Rattle.sb_types.specs.declared.fault.Fault.{Fault};
 ghost use Rattle.sb_world.specs.declared.event.Event.{Event};
 ghost use Rattle.sb_world.specs.declared.event.Answer.{Answer};
-ghost use Rattle.sb_world.specs.Places.{Seen};
+ghost use Rattle.sb_world.specs.Places.{Seen, IsClean, AreSure};
 ghost use Rattle.sb_world.specs.States.{State, Moves, Run, last_of, FitsWorld};
 ghost use Rattle.sb_world.specs.Steps.{Step, Passes};
 ghost use Rattle.sb_world.specs.Turns.{Effect};
@@ -26,6 +26,12 @@ pub fn worlds_keep_their_promise()
     answers_are_honest();
     calls_keep_truth();
 }
+
+/// Where nothing can make the store of a log break its promise, each store has kept it at the end of every run.
+pub fn sure_stores_are_trusted()
+    ensures run { (old : State) (events : List Event) (answers : List (Result Answer Fault)) (states : List State) → Run old events answers states →
+        AreSure old.now.places → IsClean (last_of old states).now.places }
+{}
 
 /// Whatever a world does is a run of the machine of worlds, from each state that fits it to one that fits it afterwards.
 pub fn worlds_are_reached()

@@ -3,9 +3,10 @@
 ghost use Rattle.std.specs.Prelude.{◌≡◌, Err, map, IfOk, IfErr, IfSome};
 ghost use Rattle.sb_types.specs.Runs.{Stands};
 ghost use Rattle.sb_log.specs.Records as records;
+ghost use Rattle.sb_log.specs.Puts.{IsSure};
 ghost use Rattle.sb_world.specs.Places as world;
 ghost use Rattle.sb_world.specs.Making as spec;
-ghost use Rattle.sb_world.specs.Making.{IsNew, IsOpeningFault, IsMakingFault};
+ghost use Rattle.sb_world.specs.Making.{IsNew, IsOpeningFault, IsMakingFault, AreSureLogs};
 
 use crate::place::Place;
 use sb_log::WriteLog;
@@ -75,6 +76,7 @@ fn opened<L: WriteLog + Drop>(
 ) -> Result<Place<L>, Fault>
     ensures new { IfOk result (IsNew settings) }
     ensures name { IfOk result (λ p. p.me ≡ (L.seen log).owner) }
+    ensures sure { IsSure (L.seen log) → IfOk result (λ p. IsSure p.log) }
     ensures why { IfErr result IsOpeningFault }
 {
     let me = *log.owner();
@@ -103,6 +105,7 @@ pub(crate) fn places_of<L: WriteLog + Drop>(
     ensures why { IfErr result (λ fault. IsMakingFault (spec.refusal settings (map L.seen logs.items)) fault) }
     ensures names { IfOk result (λ places. map (λ (p : world.Place). p.me) places.items ≡ map (λ (log : records.Log). log.owner) (map L.seen logs.items)) }
     ensures new { IfOk result (λ places. (p : world.Place) → Stands places.items p → IsNew settings p) }
+    ensures sure { AreSureLogs (map L.seen logs.items) → IfOk result (λ places. (p : world.Place) → Stands places.items p → IsSure p.log) }
 {
     if let Some(fault) = refusal(&settings, &logs) {
         return Err(fault);

@@ -306,7 +306,7 @@ fn a_run_answers_each_event(rt: HostRuntime) -> Result<(), Fail> {
     ] {
         events.push(event(alloc, line)?)?;
     }
-    let answers = world.run(&events)?;
+    let answers = run_in_memory(&mut world, &events)?;
     assert_eq!(rt; answers.len(), 4);
     for (answer, wanted) in answers
         .iter()

@@ -3,13 +3,13 @@
 ghost use Rattle.std.specs.Prelude.{◌≡◌, ◌<◌, ℕ, List, [], ◌++◌, length, slice_set, slice_get, map, Some, None, Err, IfOk, IfSome, IfNone, IfErr, OnErr};
 ghost use Rattle.std.specs.Option.{option_copied};
 ghost use Rattle.sb_world.specs.Places as spec;
-ghost use Rattle.sb_world.specs.Places.{place_at, with_place, frame_at, IsClean};
+ghost use Rattle.sb_world.specs.Places.{place_at, with_place, frame_at, IsClean, AreSure};
 ghost use Rattle.sb_world.specs.Turns.{Effect, rests, Offers};
 ghost use Rattle.sb_world.specs.Events.{Acts, Does};
 ghost use Rattle.sb_world.specs.Steps.{Step, Passes};
 ghost use Rattle.sb_world.specs.States.{State, Moves, Run, last_of, FitsWorld};
 ghost use Rattle.sb_world.specs.States.{start_of, AreContents};
-ghost use Rattle.sb_world.specs.Making.{refusal, IsMakingFault, IsMade};
+ghost use Rattle.sb_world.specs.Making.{refusal, IsMakingFault, IsMade, AreSureLogs};
 ghost use Rattle.sb_types.specs.declared.entry.Write.{Write};
 ghost use Rattle.sb_log.specs.Records as records;
 ghost use Rattle.sb_world.specs.Truth.{IsTrueState};
@@ -146,6 +146,7 @@ impl<L: WriteLog + Drop> World<L> {
         ensures settings { IfOk result (λ w. w.settings ≡ settings) }
         ensures names { IfOk result (λ w. map (λ (p : spec.Place). p.me) w.places ≡ map (λ (log : records.Log). log.owner) (map L.seen logs.items)) }
         ensures made { IfOk result IsMade }
+        ensures sure { AreSureLogs (map L.seen logs.items) → IfOk result (λ w. AreSure w.places) }
 
         // It fits whatever was written that the logs' contents come of; and something was.
         ensures fits { IfOk result (λ w. IsClean w.places → (writes : List ℕ → List Write) → AreContents writes w.places → FitsWorld (start_of writes w) w) }

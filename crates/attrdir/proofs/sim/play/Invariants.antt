@@ -5,9 +5,9 @@ use Rattle.attrdir.proofs.sim.play.Given as goal
 
 abbrev pub invariant-loop-world : goal.invariant-loop-world
 invariant-loop-world g l =
-    AreCounted l.fn.steps l.fn.lines.reader.left l.steps l.lines.reader.left
-    × (bytes_to_come l.lines.reader.left l.lines.at l.lines.end
-    < bytes_to_come l.fn.lines.reader.left l.fn.lines.at l.fn.lines.end)
+    AreCounted l.fn.steps l.fn.lines.left l.steps l.lines.left
+    × (bytes_to_come l.lines.left l.lines.at l.lines.end
+    < bytes_to_come l.fn.lines.left l.fn.lines.at l.fn.lines.end)
 
 abbrev pub decreases-loop-world : goal.decreases-loop-world
-decreases-loop-world g l = bytes_to_come l.lines.reader.left l.lines.at l.lines.end
+decreases-loop-world g l = bytes_to_come l.lines.left l.lines.at l.lines.end

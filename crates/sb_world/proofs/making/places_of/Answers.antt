@@ -1,9 +1,10 @@
-use Rattle.std.proofs.Common.{◌≡◌, ◌<◌, rules, List, ◌∷◌, ◌++◌, map, length, refl, sym, ap, subst, ◌∙◌}
+use Rattle.std.proofs.Common.{◌≡◌, ◌<◌, rules, List, ◌∷◌, ◌++◌, map, length, inl, inr, refl, sym, ap, subst, ◌∙◌}
 use Rattle.sb_types.specs.Runs.{Stands}
 use Rattle.sb_log.specs.Records as records
 use Rattle.sb_world.specs.Places as world
-use Rattle.sb_world.specs.Making.{IsNew}
-use Rattle.sb_world.proofs.Fitting.{names_more, new_more, first_is}
+use Rattle.sb_log.specs.Puts.{IsSure}
+use Rattle.sb_world.specs.Making.{IsNew, AreSureLogs}
+use Rattle.sb_world.proofs.Fitting.{names_more, each_more, first_is}
 use Rattle.sb_world.proofs.making.places_of.Goals as goal
 
 pub loop-alloc-preserved : goal.loop-alloc-preserved
@@ -22,7 +23,14 @@ loop-alloc-preserved g c =
           ∙ ap (λ name. map (λ (q : world.Place). q.me) places ++ name ∷ map (λ (l : records.Log). l.owner) (map g.L.WriteLog.seen left)) c.in_ok-opened.ensures.name
           ∙ ap (λ ls. map (λ (q : world.Place). q.me) places ++ map (λ (l : records.Log). l.owner) (map g.L.WriteLog.seen ls)) (sym first)
           ∙ c.loop-alloc.invariant.names;
-      new = subst (λ (ps : List world.Place). (q : world.Place) → Stands ps q → IsNew c.args.settings q) (sym more) (new_more c.args.settings places p c.loop-alloc.invariant.new c.in_ok-opened.ensures.new);
+      new = subst (λ (ps : List world.Place). (q : world.Place) → Stands ps q → IsNew c.args.settings q) (sym more) (each_more (IsNew c.args.settings) places p c.loop-alloc.invariant.new c.in_ok-opened.ensures.new);
+      sure = λ all.
+          let was = c.loop-alloc.invariant.sure all in
+          let rest = subst (λ ls. AreSureLogs (map g.L.WriteLog.seen ls)) first was.0 in (
+            λ l stands. rest l (inr stands),
+            subst (λ (ps : List world.Place). (q : world.Place) → Stands ps q → IsSure q.log) (sym more)
+                (each_more (λ (q : world.Place). IsSure q.log) places p was.1 (c.in_ok-opened.ensures.sure (rest (g.L.WriteLog.seen log) (inl refl)))),
+          );
       settings = refl;
       room = search rules;
     }

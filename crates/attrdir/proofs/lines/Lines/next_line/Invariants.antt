@@ -5,9 +5,9 @@ use Rattle.attrdir.proofs.lines.Lines.next_line.Given as goal
 
 abbrev pub invariant-loop-self : goal.invariant-loop-self
 invariant-loop-self g l =
-    AreCounted l.fn.steps l.fn.self.reader.left l.steps l.self.reader.left
-    × (vec_len l.self.line + bytes_to_come l.self.reader.left l.self.at l.self.end
-    ≤ bytes_to_come l.fn.self.reader.left l.fn.self.at l.fn.self.end)
+    AreCounted l.fn.steps l.fn.self.left l.steps l.self.left
+    × (vec_len l.self.line + bytes_to_come l.self.left l.self.at l.self.end
+    ≤ bytes_to_come l.fn.self.left l.fn.self.at l.fn.self.end)
 
 abbrev pub decreases-loop-self : goal.decreases-loop-self
-decreases-loop-self g l = bytes_to_come l.self.reader.left l.self.at l.self.end
+decreases-loop-self g l = bytes_to_come l.self.left l.self.at l.self.end
