@@ -166,7 +166,7 @@ fn a_write_is_shown_once_published(rt: HostRuntime) -> Result<(), Fail> {
     let alloc = rt.alloc();
     let holdings = Holdings::new(alloc, Name::read(b"a")?, Table::new(alloc))?;
     let entry = entry_of(WRITES[1])?;
-    if holdings.upto(holdings.me()) + 1 != entry.version() {
+    if holdings.upto(holdings.me()) != 0 || entry.version() != 1 {
         return Err("the first write".into());
     }
     publish_one::<Brand, _>(&rt, alloc, Opened::new(), &holdings, entry)
