@@ -132,9 +132,15 @@ fn measure_session(
 ) -> Result<(), Problem> {
     let caught = catch_up::measure(rt, sizes, blocks)?;
     caught.entries.print(rt, telling, "catch-up", "entry")?;
-    caught.frames.print(rt, Telling::Counts, "catch-up-sent", "frame")?;
-    caught.bytes.print(rt, Telling::Counts, "catch-up-sent", "byte")?;
-    caught.content.print(rt, Telling::Counts, "catch-up-content", "byte")?;
+    caught
+        .frames
+        .print(rt, Telling::Counts, "catch-up-sent", "frame")?;
+    caught
+        .bytes
+        .print(rt, Telling::Counts, "catch-up-sent", "byte")?;
+    caught
+        .content
+        .print(rt, Telling::Counts, "catch-up-content", "byte")?;
     Ok(())
 }
 
