@@ -16,6 +16,3 @@ pub use encode::{append_payload, encode_payload};
 pub use lengths::length;
 pub use message::{Ask, Bye, Done, Hello, Message, Refused, Row, Rows};
 pub use payloads::{one_payload_each, payloads_have_these_lengths};
-
-#[cfg(test)]
-mod tests;

@@ -43,7 +43,7 @@ impl Model for Pair {
 /// ```
 /// let a = Name::read(b"a")?;
 /// let b = Name::read(b"b")?;
-/// let pairs = vec![in alloc; Pair { owner: a, version: 3 }]?;
+/// let pairs = vec![in alloc; Pair { owner: a, upto: 3 }]?;
 /// let digest = Digest::new(true, None, Some(b), pairs)?;
 /// assert!(rt; digest.covers(&a) && !digest.covers(&b));
 /// assert_eq!(rt; digest.number(&a), 3);

@@ -9,6 +9,3 @@ mod laws;
 pub use digest::{Digest, Pair};
 pub use digest_building::build;
 pub use laws::{digests_are_true, digests_have_few_pairs, one_front_is_longest};
-
-#[cfg(test)]
-mod tests;

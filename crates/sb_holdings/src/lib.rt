@@ -25,6 +25,3 @@ pub use node_laws::{
 pub use owners::{Owners, Tables};
 pub use reading::reads_are_true;
 pub use report::Report;
-
-#[cfg(test)]
-mod tests;

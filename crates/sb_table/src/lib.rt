@@ -12,6 +12,3 @@ pub use laws::{
 };
 pub use prefixed::Prefixed;
 pub use table::{Table, entries_above};
-
-#[cfg(test)]
-mod tests;

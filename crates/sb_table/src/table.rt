@@ -26,8 +26,8 @@ use std::ops::Bound;
 /// ```
 /// let mut table = Table::new(alloc);
 /// let key = Key::read(b"port")?;
-/// push(&rt, &mut table, Entry::new(key, 1, Slot::Set(Value::weight(80)?)))?;
-/// push(&rt, &mut table, Entry::new(key, 2, Slot::Removed))?;
+/// push(&mut table, Entry::new(key, 1, Slot::Set(Value::weight(80)?)))?;
+/// push(&mut table, Entry::new(key, 2, Slot::Removed))?;
 /// assert_eq!(rt; (table.len(), table.upto()), (1, 2));
 /// assert!(rt; matches!(table.get(&key), Some((2, Slot::Removed))));
 /// ```

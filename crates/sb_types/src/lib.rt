@@ -37,8 +37,3 @@ pub use limits::{
 pub use settings::{Order, RawSettings, Settings};
 pub use text::{Key, Name, Prefix};
 pub use value::{Value, ValueRef};
-
-#[cfg(test)]
-mod fault_texts;
-#[cfg(test)]
-mod tests;

@@ -42,7 +42,7 @@ fn has_key_bytes(text: &[u8]) -> bool
 /// assert!(rt; matches!(Name::read(b"Node 7"), Err(Fault::BadName)));
 /// ```
 ///
-/// The test `example_of_values_and_names` runs these lines.
+/// The test `example_of_names` runs these lines.
 #[derive(Clone, Copy, Debug, PartialEq, Eq, PartialOrd, Ord)]
 pub struct Name {
     text: InlineText<NAME_MOST>,

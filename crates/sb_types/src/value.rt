@@ -39,7 +39,7 @@ enum Content {
 /// assert_eq!(rt; value.to_string(alloc)?.as_str(), "weight 7");
 /// ```
 ///
-/// The test `example_of_values_and_names` runs these lines.
+/// The test `example_of_values` runs these lines.
 #[derive(Debug, Drop)]
 pub struct Value {
     content: Content,

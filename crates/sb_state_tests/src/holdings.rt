@@ -1,6 +1,6 @@
-//! What is taken of blocks and of own writes, by tables of cases, also at the greatest sizes.
+//! Holdings: what is taken of blocks and of own writes, by tables of cases, also at the greatest sizes.
 
-use super::*;
+use sb_holdings::{BlockEnd, Holdings, Report};
 use sb_table::Table;
 use sb_types::{Block, Entry, Fault, Key, Name, Slot, Value};
 use std::alloc::Global;
@@ -22,17 +22,11 @@ fn address(alloc: Global, key: &[u8], version: u64) -> Result<Entry, Fault> {
     Ok(Entry::new(Key::read(key)?, version.max(1), slot))
 }
 
-/// The version under a key, with its weight where it is not removed.
-fn weight_at(holdings: &Holdings, owner: &Name, key: &[u8]) -> Option<(u64, Option<u64>)> {
-    let table = holdings.table(owner)?;
-    match Key::read(key) {
-        Ok(key) => match table.get(&key) {
-            Some((version, Slot::Set(value))) => Some((version, value.as_weight())),
-            Some((version, Slot::Removed)) => Some((version, None)),
-            None => None,
-        },
-        Err(_) => None,
-    }
+/// The version and the weight under a key.
+type Shown = Option<(u64, Option<u64>)>;
+
+fn weight_at(holdings: &Holdings, owner: &Name, key: &[u8]) -> Shown {
+    crate::table::shown(holdings.table(owner)?, key)
 }
 
 /// The text of a number, in four letters.
@@ -100,6 +94,22 @@ fn block_case(
     }
 }
 
+/// How the case's block ends, how far the owner is then held, and how many keys it has where it is known.
+fn take(
+    alloc: Global,
+    holdings: &mut Holdings,
+    owner: &Name,
+    case: &Case,
+) -> Result<(BlockEnd, u64, Option<usize>), Fault> {
+    let entries = entries(alloc, case.first, case.count, case.key)?;
+    let end = applied(holdings, &Block::new(*owner, case.after, entries)?)?;
+    let keys = match holdings.table(owner) {
+        Some(table) => Some(table.len()),
+        None => None,
+    };
+    Ok((end, holdings.upto(owner), keys))
+}
+
 /// The blocks come in turn, and each is ended and held as its case says.
 fn assert_cases(
     rt: &impl Abort,
@@ -109,12 +119,8 @@ fn assert_cases(
     cases: &[Case],
 ) -> Result<(), Fault> {
     for case in cases {
-        let entries = entries(alloc, case.first, case.count, case.key)?;
-        let block = Block::new(*owner, case.after, entries)?;
-        assert_eq!(rt; applied(holdings, &block)?, case.end, "at {}", case.first);
-        assert_eq!(rt; holdings.upto(owner), case.upto, "at {}", case.first);
-        let keys = holdings.table(owner).map(|table| table.len());
-        assert_eq!(rt; keys, case.keys, "at {}", case.first);
+        let held = take(alloc, holdings, owner, case)?;
+        assert_eq!(rt; held, (case.end, case.upto, case.keys), "{}", case.first);
     }
     Ok(())
 }
@@ -146,6 +152,24 @@ fn blocks_join_on_or_change_nothing(rt: HostRuntime) -> Result<(), Fail> {
     ];
     assert_cases(&rt, alloc, &mut holdings, &Name::read(b"a")?, &cases)?;
     Ok(())
+}
+
+/// How the block of an entry ends, and what is then shown of its owner under x and y.
+fn take_entry(
+    alloc: Global,
+    holdings: &mut Holdings,
+    owner: &[u8],
+    after: u64,
+    entry: Entry,
+) -> Result<(BlockEnd, Shown, Shown), Fault> {
+    let owner = Name::read(owner)?;
+    let block = Block::new(owner, after, vec![in alloc; entry]?)?;
+    let end = applied(holdings, &block)?;
+    let [x, y] = [
+        weight_at(holdings, &owner, b"x"),
+        weight_at(holdings, &owner, b"y"),
+    ];
+    Ok((end, x, y))
 }
 
 /// Superseded versions may be missing, and removals leave markers.
@@ -186,13 +210,12 @@ fn keys_show_their_last_write(rt: HostRuntime) -> Result<(), Fail> {
         ),
         (b"b", b"x", 0, true, BlockEnd::Stale, Some((3, None)), None),
     ] {
-        let owner = Name::read(owner)?;
         let version = if after == 0 { 2 } else { 3 };
-        let entries = vec![in alloc; entry(key, version, is_set)?]?;
-        let block = Block::new(owner, after, entries)?;
-        assert_eq!(rt; applied(&mut holdings, &block)?, end);
-        assert_eq!(rt; weight_at(&holdings, &owner, b"x"), x);
-        assert_eq!(rt; weight_at(&holdings, &owner, b"y"), y);
+        let entry = entry(key, version, is_set)?;
+        assert_eq!(rt;
+            take_entry(alloc, &mut holdings, owner, after, entry)?,
+            (end, x, y)
+        );
     }
     Ok(())
 }
@@ -203,16 +226,16 @@ fn assert_own(
     holdings: &mut Holdings,
     write: (&[u8], u64, bool),
     answer: Result<(), Fault>,
-    shown: Option<(u64, Option<u64>)>,
+    shown: Shown,
 ) -> Result<(), Fault> {
     let (key, version, is_set) = write;
+    let found = crate::settled(holdings.push_own(entry(key, version, is_set)?))?;
     let me = *holdings.me();
     assert_eq!(rt;
-        holdings.push_own(entry(key, version, is_set)?),
-        answer,
+        (found, weight_at(holdings, &me, key)),
+        (answer, shown),
         "{version}"
     );
-    assert_eq!(rt; weight_at(holdings, &me, key), shown, "{version}");
     Ok(())
 }
 
@@ -221,9 +244,8 @@ fn own_writes_come_in_turn(rt: HostRuntime) -> Result<(), Fail> {
     let alloc = rt.alloc();
     let me = Name::read(b"m")?;
     let mut holdings = holdings_of(alloc, b"m")?;
-    assert_eq!(rt; *holdings.me(), me);
-    assert_eq!(rt; holdings.upto(&me), 0);
-    assert_eq!(rt; holdings.table(&me).map(|table| table.len()), Some(0));
+    let own = holdings.table(&me).map(|table| table.len());
+    assert_eq!(rt; (*holdings.me(), holdings.upto(&me), own), (me, 0, Some(0)));
     let first = Some((1, Some(1)));
     for (version, answer, shown) in [
         (2, Err(Fault::OutOfTurn(1)), None),
@@ -326,29 +348,30 @@ fn the_greatest_block_is_taken(rt: HostRuntime) -> Result<(), Fail> {
     Ok(())
 }
 
-/// How many owners there are from a name on.
-fn count_from(holdings: &Holdings, first: Option<&Name>) -> u64 {
+/// Whether these are the owners, and from a name on these the owners with how far each is held; and how many there are
+/// from the first on.
+fn owners_are(
+    holdings: &Holdings,
+    owners: &[&[u8]],
+    first: &Name,
+    later: &[(&[u8], u64)],
+) -> (bool, bool, u64) {
+    let mut are_owners = true;
+    let mut wanted = owners.iter().copied();
+    for owner in holdings.owners() {
+        are_owners &= Some(owner.bytes()) == wanted.next();
+    }
+    let mut are_later = true;
+    let mut wanted_later = later.iter().copied();
+    for (owner, table) in holdings.tables_from(Some(first)) {
+        are_later &= Some((owner.bytes(), table.upto())) == wanted_later.next();
+    }
     let mut count = 0_u64;
-    for _ in holdings.tables_from(first) {
+    for _ in holdings.tables_from(None) {
         count = count.wrapping_add(1);
     }
-    count
-}
-
-fn assert_owners(rt: &impl Abort, holdings: &Holdings, wanted: &[&[u8]]) {
-    let mut wanted = wanted.iter().copied();
-    for owner in holdings.owners() {
-        assert_eq!(rt; Some(owner.bytes()), wanted.next());
-    }
-    assert_eq!(rt; wanted.next(), None);
-}
-
-fn assert_tables_from(rt: &impl Abort, holdings: &Holdings, from: &Name, wanted: &[(&[u8], u64)]) {
-    let mut wanted = wanted.iter().copied();
-    for (owner, table) in holdings.tables_from(Some(from)) {
-        assert_eq!(rt; Some((owner.bytes(), table.upto())), wanted.next());
-    }
-    assert_eq!(rt; wanted.next(), None);
+    let are_all = (wanted.next().is_none(), wanted_later.next().is_none());
+    (are_owners && are_all.0, are_later && are_all.1, count)
 }
 
 #[test]
@@ -358,14 +381,10 @@ fn owners_come_in_the_order_of_their_names(rt: HostRuntime) -> Result<(), Fail> 
     for name in [b"z".as_slice(), b"a", b"ma"] {
         assert_cases(&rt, rt.alloc(), &mut holdings, &Name::read(name)?, &two)?;
     }
-    assert_owners(&rt, &holdings, &[b"a", b"m", b"ma", b"z"]);
-    assert_tables_from(
-        &rt,
-        &holdings,
-        &Name::read(b"ma")?,
-        &[(b"ma", 2), (b"z", 2)],
-    );
-    assert_eq!(rt; count_from(&holdings, None), 4);
+    let owners = [b"a".as_slice(), b"m", b"ma", b"z"];
+    let later = [(b"ma".as_slice(), 2), (b"z", 2)];
+    let found = owners_are(&holdings, &owners, &Name::read(b"ma")?, &later);
+    assert_eq!(rt; found, (true, true, 4));
     Ok(())
 }
 
@@ -395,28 +414,24 @@ fn a_front_stays_where_memory_runs_out(rt: HostRuntime) -> Result<(), Fail> {
             } else {
                 (BlockEnd::NoMemory(held), BlockEnd::Taken(rest))
             };
-            assert_eq!(rt; (end, again), ends);
-            assert_eq!(rt; upto, 3);
+            assert_eq!(rt; (end, again, upto), (ends.0, ends.1, 3));
         }
         Err(fault) => assert_eq!(rt; fault, Fault::NoMemory),
     }
     Ok(())
 }
 
-/// A refused own write leaves what was held.
-fn assert_unchanged(rt: &impl Abort, holdings: &mut Holdings, key: &[u8]) -> Result<(), Fault> {
+/// Whether an own write is entered, or leaves what was held for want of memory.
+fn is_pushed_or_left(holdings: &mut Holdings, key: &[u8]) -> Result<bool, Fault> {
     let me = *holdings.me();
     let before = holdings.upto(&me);
     let next = before.saturating_add(1);
-    match holdings.push_own(entry(key, next, true)?) {
-        Ok(()) => assert_eq!(rt; holdings.upto(&me), next),
-        Err(fault) => {
-            assert_eq!(rt; fault, Fault::NoMemory);
-            assert_eq!(rt; holdings.upto(&me), before);
-            assert_eq!(rt; weight_at(holdings, &me, key), None);
-        }
-    }
-    Ok(())
+    let answer = holdings.push_own(entry(key, next, true)?);
+    let found = (holdings.upto(&me), weight_at(holdings, &me, key));
+    Ok(match answer {
+        Ok(()) => found.0 == next,
+        Err(fault) => fault == Fault::NoMemory && found == (before, None),
+    })
 }
 
 /// Whichever allocation is refused.
@@ -425,7 +440,7 @@ fn own_writes_without_memory_change_nothing(rt: HostRuntime) -> Result<(), Fail>
     match holdings_of(rt.alloc(), b"m") {
         Ok(mut holdings) => {
             for number in 1..10 {
-                assert_unchanged(&rt, &mut holdings, &text_of(number))?;
+                assert!(rt; is_pushed_or_left(&mut holdings, &text_of(number))?);
             }
         }
         Err(fault) => assert_eq!(rt; fault, Fault::NoMemory),
@@ -437,8 +452,7 @@ fn own_writes_without_memory_change_nothing(rt: HostRuntime) -> Result<(), Fail>
 fn reports_list_the_ends(rt: HostRuntime) -> Result<(), Fail> {
     let ends = [BlockEnd::Taken(2), BlockEnd::Gap];
     let report = Report::new(Vec::from_array(rt.alloc(), ends)?);
-    assert_eq!(rt; report.len(), 2);
-    assert!(rt; !report.is_empty());
-    assert_eq!(rt; report.ends(), ends.as_slice());
+    let read = (report.len(), report.is_empty(), report.ends());
+    assert_eq!(rt; read, (2, false, ends.as_slice()));
     Ok(())
 }

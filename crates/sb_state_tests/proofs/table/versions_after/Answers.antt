@@ -3,7 +3,7 @@ use Rattle.std.proofs.lemmas.Iterator.{items_from_collect, YieldsList-from_map}
 use Rattle.std.proofs.lemmas.Iterator.Consumers.{YieldsList-at, YieldsList-from_first}
 use Rattle.sb_types.specs.Records.{Entry}
 use Rattle.sb_types.specs.Runs.{above}
-use Rattle.sb_table.proofs.tests.versions_after.Goals as goal
+use Rattle.sb_state_tests.proofs.table.versions_after.Goals as goal
 
 pub returns : goal.returns
 returns c =

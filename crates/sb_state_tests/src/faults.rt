@@ -1,8 +1,8 @@
 //! The number and the text of each fault, as they are printed.
-use super::Fault;
+use sb_types::Fault;
 use std::test::Fail;
 
-const FAULTS: [(Fault, u8, &str); 31] = [
+const FAULTS: &[(Fault, u8, &str)] = &[
     (
         Fault::NoMemory,
         1,
@@ -114,9 +114,9 @@ const FAULTS: [(Fault, u8, &str); 31] = [
 
 #[test]
 fn each_fault_has_its_number_and_its_text(rt: HostRuntime) -> Result<(), Fail> {
-    for (fault, number, text) in FAULTS {
-        assert_eq!(rt; fault.number(), number);
-        assert_eq!(rt; format!(in rt.alloc(); "{fault}")?.as_str(), text);
+    for (fault, number, text) in FAULTS.iter() {
+        let printed = fault.to_string(rt.alloc())?;
+        assert_eq!(rt; (fault.number(), printed.as_str()), (*number, *text));
     }
     Ok(())
 }
