@@ -1,9 +1,10 @@
+//! The node: own writes, blocks of others, digests and answers.
 ghost use Rattle.std.specs.Prelude.{◌≤◌};
 
-use super::*;
 use sb_digest::Digest;
 use sb_holdings::{BlockEnd, Report};
 use sb_log::{Committed, PlainLog, WriteLog};
+use sb_node::NodeCore;
 use sb_table::Table;
 use sb_types::{
     Block, Delta, Entry, Fault, HEADER_LENGTH, Key, Name, Order, RawSettings, Settings, Slot, Value,
@@ -12,7 +13,7 @@ use std::alloc::Global;
 use std::test::Fail;
 
 /// A new node of a name.
-pub(crate) fn node(alloc: Global, me: Name, budget: u64, order: Order) -> Result<NodeCore, Fault> {
+pub fn node(alloc: Global, me: Name, budget: u64, order: Order) -> Result<NodeCore, Fault> {
     let settings = Settings::check(RawSettings {
         cluster: b"c1",
         budget,
@@ -24,7 +25,7 @@ pub(crate) fn node(alloc: Global, me: Name, budget: u64, order: Order) -> Result
     NodeCore::open(alloc, settings, me, Table::new(alloc))
 }
 
-pub(crate) fn log_of(alloc: Global, owner: Name) -> Result<PlainLog, Fault> {
+pub fn log_of(alloc: Global, owner: Name) -> Result<PlainLog, Fault> {
     Ok(PlainLog::new(alloc, owner, Name::read(b"c1")?, 100))
 }
 
@@ -33,7 +34,7 @@ fn commit(log: &mut PlainLog, key: &[u8], slot: &Slot) -> Result<Committed, Faul
 }
 
 /// A write that is committed and entered.
-pub(crate) fn write(
+pub fn write(
     core: &mut NodeCore,
     log: &mut PlainLog,
     key: &[u8],
@@ -76,7 +77,7 @@ fn block(alloc: Global, owner: Name, after: u64, letters: &[u8]) -> Result<Block
 }
 
 /// How the blocks end, unless one finds no memory.
-pub(crate) fn applied(core: &mut NodeCore, delta: &Delta) -> Result<Report, Fault> {
+pub fn applied(core: &mut NodeCore, delta: &Delta) -> Result<Report, Fault> {
     let report = core.apply(delta)?;
     for end in report.ends() {
         if matches!(end, BlockEnd::NoMemory(_)) {
