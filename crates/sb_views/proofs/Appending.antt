@@ -1,20 +1,19 @@
 -- What is appended leads to the view of what is ready.
-use Rattle.std.proofs.Common.{◌≡◌, ℕ, Bool, true, false, List, [], ◌∷◌, ◌++◌, Result, Ok, Err, OnOk, OnErr, fold, refl, sym, ap, subst, ◌∙◌, append_assoc}
-use Rattle.std.proofs.lemmas.Bool.{and_parts}
+use Rattle.std.proofs.Common.{◌≡◌, ℕ, true, List, [], ◌∷◌, ◌++◌, Result, Ok, Err, OnOk, OnErr, fold, refl, sym, ap, subst, ◌∙◌}
 use mathlib.Core.List.{IsPrefix}
 use Rattle.logbook.specs.Pages.{Book}
 use Rattle.sb_types.specs.declared.fault.Fault.{Fault}
-use Rattle.sb_types.specs.Records.{Entry, Table}
+use Rattle.sb_types.specs.Records.{Entry}
 use Rattle.sb_holdings.specs.Held.{shown_of}
 use Rattle.sb_holdings.specs.Nodes.{Node}
 use Rattle.sb_views.specs.declared.event.Event.{Event}
 use Rattle.sb_views.specs.declared.shown.Op.{Op}
 use Rattle.sb_views.specs.declared.shown.Op.TheVariants.{Enter, Reach}
 use Rattle.sb_views.specs.Stories.{Mark, node_after}
-use Rattle.sb_views.specs.Pages.{Page, IsPage, page_with_all, of_owner, table_with_all, Leads}
+use Rattle.sb_views.specs.Pages.{page_with_all, of_owner, table_with_all, Leads}
 use Rattle.sb_views.specs.Copies.{Copy}
 use Rattle.sb_views.specs.Ops.{after_op, entries_of, are_entries}
-use Rattle.sb_views.specs.Views.{IsView, IsTold, IsReady}
+use Rattle.sb_views.specs.Views.{IsView, IsReady}
 use Rattle.sb_views.proofs.Fronts.{prefix_trans}
 use Rattle.sb_views.proofs.Showing.{same_tables, page-with-all}
 

@@ -2,20 +2,20 @@
 use Rattle.std.proofs.Common.{◌≡◌, ℕ, Bool, true, false, cond, ◌&&◌, List, [], ◌∷◌, ◌++◌, map, filter, flat_map, Option, Some, None, IfSome, unwrap_or, nat_eq, T, arith, refl, sym, ap, subst, ◌∙◌, append-nil}
 use Rattle.std.proofs.lemmas.List.{map-append}
 use Rattle.std.proofs.lemmas.List.Elements.{filter-append}
-use Rattle.std.proofs.lemmas.Cmp.{nat_list_cmp_total, nat_list_eq_equiv}
-use Rattle.std.specs.Cmp.Lexicographic.{pointwise, slice_cmp, texts_ties}
-use Rattle.std.specs.Ordering.{nat_cmp, eq_by_cmp, is_lt, is_eq}
+use Rattle.std.proofs.lemmas.Cmp.{nat_list_eq_equiv}
+use Rattle.std.specs.Cmp.Lexicographic.{pointwise, texts_ties}
+use Rattle.std.specs.Ordering.{eq_by_cmp, is_lt}
 use Rattle.std.specs.declared.cmp.Ordering.{Ordering}
 use Rattle.std.specs.declared.cmp.Ordering.TheVariants.{Less, Equal, Greater}
-use Rattle.std.specs.FinMap.{FinMap, get, empty, entries, entries_sorted, get-entries, get-empty, find, is_sorted}
+use Rattle.std.specs.FinMap.{get, empty, entries, entries_sorted, get-entries, get-empty, find, is_sorted}
 use Rattle.std.specs.FinMap.Entries.{below_all}
 use Rattle.sb_types.specs.Records.{Entry, Table, Holder}
-use Rattle.sb_types.specs.Runs.{above, shown_by_entry, shown_at}
-use Rattle.sb_types.proofs.Texts.{same_text, text_same, apart-from_Less}
+use Rattle.sb_types.specs.Runs.{above}
+use Rattle.sb_types.proofs.Texts.{same_text, apart-from_Less}
 use Rattle.sb_table.specs.Plain.{IsPlainTable, plain_table, with_entry}
 use Rattle.sb_table.proofs.Copying.{IsCopying, copying-begins, copying-goes_on, copying-ends}
 use Rattle.sb_holdings.specs.Held.{Held, nothing, shown_of}
-use Rattle.sb_holdings.specs.Plain.{alone, IsPlainHolder, IsHoldings, is_from, tables_from}
+use Rattle.sb_holdings.specs.Plain.{IsPlainHolder, IsHoldings, is_from, tables_from}
 use Rattle.sb_views.specs.Pages.{Sheet, Page, page_with, no_sheet, sheet_of, IsPage, page_with_all, of_owner, table_with_all, owned, all_owned}
 use Rattle.sb_views.proofs.ByText.{by_text}
 use Rattle.sb_views.proofs.Showing.{same_tables, page-with-all}

@@ -1,11 +1,11 @@
 -- Which batches lead from one node to the next.
-use Rattle.std.proofs.Common.{◌≡◌, ℕ, ◌+◌, Bool, true, false, cond, List, [], ◌∷◌, Option, Some, None, unwrap_or, nat_eq, refl, sym, ap, subst, ◌∙◌, eq-eqb}
+use Rattle.std.proofs.Common.{◌≡◌, ℕ, ◌+◌, Bool, true, false, cond, List, [], ◌∷◌, Option, Some, unwrap_or, nat_eq, refl, sym, ap, subst, ◌∙◌, eq-eqb}
 use Rattle.std.proofs.lemmas.Bool.{cond-true}
 use Rattle.std.proofs.lemmas.Cmp.{nat_list_cmp_total}
 use Rattle.std.specs.Cmp.Lexicographic.{pointwise}
 use Rattle.std.specs.Ordering.{eq_by_cmp}
 use Rattle.std.specs.FinMap.{get, get-insert}
-use Rattle.sb_types.specs.Records.{Entry, Table, Holder}
+use Rattle.sb_types.specs.Records.{Entry, Holder}
 use Rattle.sb_types.proofs.Texts.{same_text}
 use Rattle.sb_table.specs.Plain.{with_entry}
 use Rattle.sb_holdings.specs.Held.{Held, nothing, holder_of, shown_of, written}

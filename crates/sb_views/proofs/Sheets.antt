@@ -1,9 +1,9 @@
 -- Pages whose sheets are changed.
-use Rattle.std.proofs.Common.{◌≡◌, ℕ, List, [], Option, Some, None, is_some, unwrap_or, Result, Ok, Err, OnOk, OnErr, refl, sym, ap, subst, ◌∙◌}
+use Rattle.std.proofs.Common.{◌≡◌, ℕ, List, [], Option, Some, None, is_some, unwrap_or, Result, Ok, Err, OnOk, OnErr, sym, ap, ◌∙◌}
 use Rattle.std.proofs.lemmas.Map.Steps.{set_value_same}
 use Rattle.std.specs.declared.alloc.AllocError.{AllocError}
-use Rattle.std.specs.BTreeMap.{BTreeMap, WritesThrough, Updates}
-use Rattle.std.specs.FinMap.{FinMap, get, insert, empty, get-empty}
+use Rattle.std.specs.BTreeMap.{BTreeMap, WritesThrough}
+use Rattle.std.specs.FinMap.{FinMap, get, insert, get-empty}
 use Rattle.sb_types.specs.Value.{Value}
 use Rattle.sb_types.specs.Records.{Entry}
 use Rattle.sb_views.specs.Pages.{Sheet, Page, rows_of, page_of, no_sheet, sheet_of, row_of, sheet_with, page_with}

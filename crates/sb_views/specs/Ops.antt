@@ -1,8 +1,7 @@
 -- The steps by which a copy of the page follows.
 use Rattle.std.specs.Prelude.{Bool, true, false, List, [], ◌∷◌, ℕ}
 use Rattle.sb_types.specs.Records.{Entry}
-use Rattle.sb_views.specs.Stories.{Mark}
-use Rattle.sb_views.specs.Pages.{Page, page_with}
+use Rattle.sb_views.specs.Pages.{page_with}
 use Rattle.sb_views.specs.declared.shown.Op.{Op}
 use Rattle.sb_views.specs.declared.shown.Op.TheVariants.{Enter, Reach}
 use Rattle.sb_views.specs.Copies.{Copy}

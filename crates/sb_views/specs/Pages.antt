@@ -1,9 +1,8 @@
 -- What readers are shown of a node.
-use Rattle.std.specs.Prelude.{◌≡◌, ℕ, Bool, true, nat_eq, List, [], ◌∷◌, map, filter, flat_map, Option, Some, None, unwrap_or}
-use Rattle.std.specs.List.{starts_with}
+use Rattle.std.specs.Prelude.{◌≡◌, ℕ, nat_eq, List, [], ◌∷◌, map, filter, flat_map, Option, None, unwrap_or}
 use Rattle.std.specs.Ordering.{nat_cmp}
 use Rattle.std.specs.Cmp.Lexicographic.{slice_cmp, pointwise}
-use Rattle.std.specs.FinMap.{FinMap, empty, get, insert, remove, entries, from_sorted}
+use Rattle.std.specs.FinMap.{FinMap, empty, get, insert, remove, from_sorted}
 use Rattle.sb_types.specs.declared.entry.Slot.{Slot}
 use Rattle.sb_types.specs.declared.entry.Slot.TheVariants.{Set, Removed}
 use Rattle.sb_types.specs.Value.{Value}

@@ -1,5 +1,5 @@
 -- What is published, and what each reader saw.
-use Rattle.std.specs.Prelude.{◌≡◌, ℕ, ◌≤◌, List, length, fold}
+use Rattle.std.specs.Prelude.{◌≡◌, ℕ, ◌≤◌, List, length}
 use mathlib.Core.List.{IsPrefix}
 use mathlib.Core.Option.{some}
 use lib.ListN.{get_elem?}

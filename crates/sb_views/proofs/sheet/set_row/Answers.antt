@@ -1,4 +1,4 @@
-use Rattle.std.proofs.Common.{◌≡◌, ℕ, Result, Ok, ap, ◌∙◌}
+use Rattle.std.proofs.Common.{◌≡◌, Result, Ok, ap, ◌∙◌}
 use Rattle.std.specs.FinMap.{insert}
 use Rattle.sb_types.specs.declared.fault.Fault.{Fault}
 use Rattle.sb_types.specs.Value.{Value}

@@ -7,7 +7,6 @@ use Rattle.std.specs.BTreeMap.Range.{range_contains}
 use Rattle.std.specs.declared.ops.Bound.TheVariants.{Unbounded}
 use Rattle.std.specs.FinMap.{entries-from_sorted}
 use Rattle.sb_types.specs.Value.{Value}
-use Rattle.sb_views.specs.Pages.{Sheet}
 use Rattle.sb_views.specs.Rows.{row_at, rows_under, reached}
 use Rattle.sb_views.proofs.ByText.{by_text, sorted}
 use Rattle.sb_views.proofs.Reaching.{reached-filter}

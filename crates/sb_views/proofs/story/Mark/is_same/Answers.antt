@@ -1,4 +1,4 @@
-use Rattle.std.proofs.Common.{eq-eqb, ◌≢◌, ◌≡◌, ◌≤◌, ◌==◌, Bool, true, false, MatchBool, ℕ, ap, sym, ◌∙◌, subst, arith, length, List, refl}
+use Rattle.std.proofs.Common.{eq-eqb, ◌≢◌, ◌≡◌, ◌==◌, Bool, true, false, MatchBool, ap, sym, subst, arith, length, List, refl}
 use Rattle.std.proofs.lemmas.Bool.Decides.{nat_tests}
 use mathlib.Core.List.{IsPrefix}
 use Rattle.sb_views.specs.declared.event.Event.{Event}

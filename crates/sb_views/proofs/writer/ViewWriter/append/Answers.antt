@@ -1,6 +1,5 @@
-use Rattle.std.proofs.Common.{◌≡◌, ◌++◌, ◌∷◌, [], List, ℕ, drop, fold, sym, ap, subst, ◌∙◌, append_assoc}
+use Rattle.std.proofs.Common.{◌≡◌, ◌++◌, ◌∷◌, [], List, drop, fold, sym, ap, subst, ◌∙◌, append_assoc}
 use mathlib.Core.List.{IsPrefix}
-use Rattle.sb_types.specs.Records.{Entry}
 use Rattle.sb_views.specs.declared.event.Event.{Event}
 use Rattle.sb_views.specs.declared.shown.Op.{Op}
 use Rattle.sb_views.specs.declared.shown.Op.TheVariants.{Reach}

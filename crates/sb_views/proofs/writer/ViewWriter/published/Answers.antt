@@ -1,4 +1,4 @@
-use Rattle.std.proofs.Common.{◌≡◌, ◌++◌, [], drop, fold, sym, ap, subst}
+use Rattle.std.proofs.Common.{◌≡◌, [], drop, fold, sym, ap, subst}
 use Rattle.sb_views.specs.Views.{IsReady}
 use Rattle.sb_views.specs.Ops.{after_op}
 use Rattle.sb_views.proofs.Turning.{publishes, handed, after_publish}
