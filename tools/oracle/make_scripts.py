@@ -1,9 +1,10 @@
 #!/usr/bin/env python3
 """Writes random scripts for `attrdir sim`: make_scripts.py SEED COUNT DIR.
 
-The scripts are DIR/00001.sim and so on. The same seed gives the same scripts. Most are short lives of a few nodes;
-some have a line that is no command, some a world line with a fault, and a few are long: 4,096 keys and one more, deltas
-about as long as a frame can carry, a thousand nodes.
+The scripts are DIR/00001.sim and so on. The same seed gives the same scripts. Most are short lives of a few nodes that
+write, crash, restart and talk over connections that lose, repeat, reorder and cut; some have a line that is no command,
+some a world line with a fault, and a few are long: 4,096 keys and one more, deltas about as long as a frame can carry, a
+thousand nodes, digests that take several frames.
 """
 import os
 import random
@@ -52,7 +53,7 @@ class Life:
         self.rng = rng
         self.nodes = nodes or self.some(rng.randint(1, 4), NAME_BYTES, 32)
         self.keys = self.some(rng.randint(1, 6), KEY_BYTES, 64)
-        self.puts = 0
+        self.puts = self.sent = 0
         self.lines = [f"world {settings or rng.choice(GOOD_WORLDS)} {' '.join(self.nodes)}"]
 
     def some(self, count, letters, most):
@@ -63,34 +64,75 @@ class Life:
         """Picks a node, now and then a name that is none in this world."""
         return self.rng.choice(self.nodes * 8 + ["not-there"])
 
+    def connection(self):
+        """Picks the number of a connection, mostly a small one."""
+        return self.rng.choice([1, 1, 1, 2, 2, 2, 3, 3, 4, 999_999, "007"])
+
+    def frame(self):
+        """Picks the number of a frame, mostly one that may have been sent of late."""
+        rng = self.rng
+        return rng.choice([rng.randint(1, self.sent + 1), max(1, self.sent - rng.randint(0, 3)), max(1, self.sent - rng.randint(0, 3)), rng.choice([0, 1, f"00{self.sent}", GREATEST])])
+
+    def end(self):
+        """Picks how a crash ends."""
+        return self.rng.choice(["kept", "lost"])
+
+    def held(self):
+        """Picks a version that somebody may hold."""
+        return number(self.rng, self.puts // len(self.nodes))
+
+    def write_line(self):
+        """Makes a line that writes, or tries to."""
+        node, key, rng = self.node(), self.rng.choice(self.keys), self.rng
+        self.puts += 1
+        put, crash = f"put {node} {key} {value(rng)}", f"crash {node} {key} {value(rng)} {self.end()}"
+        return rng.choice([put, put, put, f"del {node} {key}", f"commit {node} {key} {value(rng)}", f"commit {node} {key} removed", f"take {node}", f"take {node}", crash])
+
+    def connection_line(self):
+        """Makes a line of a connection."""
+        rng, number = self.rng, self.connection()
+        self.sent += 1
+        piece = f"piece {number} {rng.choice([0, 1, 5, 13, 40, rng.randint(1, 300), rng.randint(1, 300), 100_000, GREATEST])}"
+        connect, ask = f"connect {self.node()} {number}", f"ask {number}"
+        return rng.choice([connect, connect, ask, ask, f"line {number} {self.frame()}", f"line {number} {self.frame()}", f"line {number} {self.frame()}", piece, piece, piece, f"close {number}"])
+
     def line(self):
         """Makes a line that is a command without a fault of its words."""
         rng = self.rng
-        self.puts += 1
-        put = f"put {self.node()} {rng.choice(self.keys)} {value(rng)}"
-        give = f"give {self.node()} {self.node()} {number(rng, self.puts // len(self.nodes))}"
+        if rng.random() < 0.3:
+            return self.write_line()
+        if rng.random() < 0.5:
+            return self.connection_line()
+        self.sent += 3
+        give = f"give {self.node()} {self.node()} {self.held()}"
+        offer = f"offer {self.node()} {self.node()} {self.held()}"
         read = f"read {self.node()} {self.node()} {rng.choice([*self.keys, 'other'])}"
-        return rng.choice([put, put, give, give, read])
+        return rng.choice([give, give, offer, read, read, f"upto {self.node()} {self.node()}", f"show {self.frame()}", f"restart {self.node()}"])
 
     def faulty_line(self):
         """Makes a line with one to three faults among its words."""
         rng = self.rng
         name = lambda: rng.choice([self.node(), rng.choice(BAD_NAMES)])
         key = lambda: rng.choice([rng.choice(self.keys), rng.choice(BAD_KEYS)])
-        put = f"put {name()} {key()} {rng.choice([value(rng), rng.choice(BAD_VALUES), rng.choice(BAD_VALUES)])}"
-        give = f"give {name()} {name()} {number(rng, self.puts)}"
-        return rng.choice([put, put, give, f"read {name()} {name()} {key()}"])
+        words = rng.choice([value(rng), rng.choice(BAD_VALUES), rng.choice(BAD_VALUES)])
+        write = rng.choice([f"put {name()} {key()} {words}", f"commit {name()} {key()} {words}", f"crash {name()} {key()} {words} {self.end()}"])
+        others = [f"give {name()} {name()} {number(rng, self.puts)}", f"offer {name()} {name()} {number(rng, self.puts)}", f"read {name()} {name()} {key()}"]
+        few = [f"del {name()} {key()}", f"commit {name()} {key()} removed", f"take {name()}", f"restart {name()}", f"connect {name()} {self.connection()}", f"upto {name()} {name()}"]
+        return rng.choice([write, write, rng.choice(others), rng.choice(few)])
 
     def wrong_line(self):
         """Makes a line that is no command."""
         rng = self.rng
         line = rng.choice([self.line(), self.faulty_line()])
         words = line.split(" ")
+        node, bad = self.node(), rng.choice(BAD_NUMBERS)
+        far = rng.choice([bad, "0", "00", "1000000", "1000001", str(GREATEST)])
         ways = [
             " " + line, line + " ", line.replace(" ", "  ", 1), line.replace(" ", "\t", 1), line + " x", " ".join(words[:-1]),
-            "\r", " ", "#", "put", line.upper(), line.capitalize(), words[0] + "\r", "\x00" + line,
-            f"give {self.node()} {self.node()} {rng.choice(BAD_NUMBERS)}", f"put {self.node()} k removed", f"put {self.node()} k addr a b",
-            f"del {self.node()} k", f"commit {self.node()} k weight 1", f"take {self.node()}", f"upto {self.node()} a", "connect a 1", "show 1",
+            "\r", " ", "#", line.upper(), line.capitalize(), words[0], words[0] + "\r", "\x00" + line,
+            f"give {node} {node} {bad}", f"offer {node} {node} {bad}", f"piece 1 {bad}", f"line 1 {bad}", f"show {bad}",
+            f"connect {node} {far}", f"close {far}", f"ask {far}", f"line {far} 1", f"piece {far} 1",
+            f"put {node} k removed", f"put {node} k addr a b", f"commit {node} k Removed", f"crash {node} k removed kept", f"crash {node} k weight 1", f"crash {node} k weight 1 Kept",
             self.lines[0], "world 256 breadth 100 a b", "world",
         ]
         return rng.choice(ways)
@@ -119,6 +161,57 @@ def broken(rng):
     life = Life(rng).live(rng.randint(0, 12), faulty=0.2)
     life.lines.append(life.wrong_line())
     return life.live(rng.randint(0, 3)).lines
+
+
+def talk(rng):
+    """Nodes that write, and greet, ask and answer over connections, in order or not, in pieces or whole."""
+    life = Life(rng, nodes=["a", "b", "c"][: rng.randint(2, 3)])
+    ends = {number: node for number, node in enumerate([node for node in life.nodes for _ in life.nodes], 1)}
+    lines, sent = life.lines, 0
+    for number, node in ends.items():
+        lines.append(f"connect {node} {number}")
+        sent += 1
+    for _ in range(rng.randint(4, 40)):
+        number = rng.choice([*ends])
+        way = rng.random()
+        if way < 0.25:
+            life.puts += 1
+            lines.append(f"{rng.choice(['put', 'put', 'commit'])} {ends[number]} {rng.choice(life.keys)} {value(rng)}")
+        elif way < 0.35:
+            lines.append(f"ask {number}")
+            sent += 1
+        elif way < 0.4:
+            lines.append(rng.choice([f"take {ends[number]}", f"restart {ends[number]}", f"close {number}", f"connect {ends[number]} {number}", f"upto {ends[number]} a"]))
+        else:
+            # each connection hears the Hello of another node first, and then what was sent of late
+            other = rng.choice([it for it in ends if ends[it] != ends[number]])
+            if rng.random() < 0.5:
+                lines.append(f"line {number} {other}")
+            lines += [f"line {number} {max(1, sent - rng.randint(0, 4))}" for _ in range(rng.randint(0, 3))]
+            lines += [f"piece {number} {rng.choice([1, 13, 30, rng.randint(1, 200), 100_000, 100_000])}" for _ in range(rng.randint(1, 3))]
+            sent += rng.choice([0, 1, 2, 2])
+    return [*lines, *(f"show {at}" for at in rng.sample(range(1, sent + 2), min(4, sent))), *(f"read {node} {owner} {rng.choice(life.keys)}" for node in life.nodes for owner in life.nodes)]
+
+
+def through(rng):
+    """A node that learns of others' writes, and passes them on: digests and deltas of many owners."""
+    count = rng.choice([3, 5, 8, 12])
+    names = [f"{at:02}".rjust(rng.choice([2, 32]), "n") for at in range(count)]
+    lines = [f"world {rng.choice([256, 300, 440, 512, 700, 65536])} {rng.choice(['breadth', 'depth'])} 1000 {' '.join(names)}"]
+    for name in names[1:]:
+        lines += [f"put {name} k{rng.randint(0, 5)} {value(rng)}" for _ in range(rng.randint(0, 4))]
+        lines += [f"give {name} {names[0]} 0"] * rng.randint(1, 3)
+    other = names[1]
+    sent = sum(line.startswith("give") for line in lines) * 3
+    lines += [f"connect {names[0]} 1", f"connect {other} 2", f"line 1 {sent + 2}", f"line 2 {sent + 1}"]
+    sent += 2
+    for _ in range(rng.randint(1, 6)):
+        lines += ["ask 2", f"line 1 {sent + 1}", "piece 1 100000", f"line 2 {sent + 2}", f"line 2 {sent + 3}", f"piece 2 {rng.choice([100, 100_000, 100_000])}"]
+        sent += 4
+        if rng.random() < 0.3:
+            lines.append(f"put {rng.choice(names)} k{rng.randint(0, 5)} {value(rng)}")
+    lines += [f"upto {other} {name}" for name in names] + [f"offer {other} {rng.choice(names)} {rng.randint(0, 2)}", f"show {rng.randint(1, sent + 1)}", f"show {sent}"]
+    return lines
 
 
 def spent(rng):
@@ -174,7 +267,7 @@ def full(rng):
 def long(rng):
     """An owner whose delta is a byte or two shorter or longer than the longest that a frame carries."""
     name = text(rng, NAME_BYTES, 32)
-    lines = [f"world 65536 depth 1000 {name} not-{'b' * rng.randint(1, 20)}"]
+    lines = [f"world 65536 {rng.choice(['depth', 'breadth'])} 1000 {name} not-{'b' * rng.randint(1, 20)}"]
     other = lines[0].split(" ")[-1]
     lines += [f"put {name} {at:064} addr {'x' * 128}" for at in range(321)]
     left = 65_530 - 3 - 11 - len(name) - 321 * 203
@@ -199,7 +292,7 @@ def empty(rng):
     return [""] * rng.randint(0, 4)
 
 
-KINDS = {quiet: 30, faulty: 22, broken: 22, twins: 20, spent: 8, worlds: 20, edges: 16, full: 2, long: 4, crowd: 3, empty: 1}
+KINDS = {quiet: 40, faulty: 22, broken: 26, twins: 14, talk: 40, through: 20, spent: 8, worlds: 16, edges: 12, full: 1, long: 2, crowd: 2, empty: 1}
 
 
 def script(seed, at):

@@ -11,27 +11,28 @@ Lines
 - An empty line is passed over, but counts in `line N`. A script of empty lines prints nothing and ends with status 0.
 - Words are separated by exactly one space, with none at an end. A line of one space is no command.
 - The first line that is not empty is the world line. Later a world line is no command, even a faultless one.
-- The shape of the whole line is looked at before any of its words is read: how many words, the numbers, the order's word.
+- The shape of the whole line is looked at before any of its words is read: how many words, the numbers, the order's
+  word, `kept` or `lost`. The number of a connection is 1 to 999,999, and another is no command.
 - A line that is no command is `line N` and ends the run; what was printed before it stands.
 - Numbers are decimal digits, at most 2^64 - 1, and may have leading zeros, however many. A weight is no such number:
   it is a value with a spelling of its own, and a wrong one is fault 4.
 - A value is two words. So `put a k removed` is no command, and `put a k removed x` is one with an unknown kind (4).
+  `commit a k removed` is a removal, and `crash a k removed kept` no command.
 
 Order of faults
 - Names (2), keys (3) and values (4) are read from left to right, all of them before the line does anything. So a bad
   key is told even where the node is not in the world.
 - World line: names, then budget and last version (5), then the number of nodes (5), then two equal names (24). The run
   ends at the first of these with status 3. After any other fault the script goes on.
-- A node that is not in the world: `nothing`, once. An owner that is no node of the world holds nothing: `none`.
-- put: a new key beside 4,096 others (6) is told before the last version is reached (8), and either changes nothing.
+- A node that is not in the world: `nothing`. A node that is down: 15, but for a restart. Then what is not there or
+  already there: `nothing`. An owner that is no node of the world holds nothing: `none`, 0, an empty delta.
+- A removal of what is not there (9), then a new key beside 4,096 others (6), then the last version reached (8).
 
-Give
-- What is above V in A's own table goes into one frame, printed before B is looked at. The budget does not cut it.
-- With nothing above V the frame is the empty delta, which no block answers for: `nothing`.
-- A delta that no frame can carry is `fault 14` alone, whatever B is.
-- After the frame: `fault 24` where B is A, `nothing` where B is not in the world, also for an empty delta.
-- The block begins after V, so B finds a gap wherever V is above the version that it holds. Else it is stale where B
-  holds its last version, and only what is above B's version is entered and counted.
+Composite lines
+- `put` and `del` print the version that was entered, which is not the one that was committed where another waits.
+- `give` connects its giver, sends the offer, and prints that frame; then it connects its taker, lines both frames up there
+  and lets all of them come. A fault is printed and skips what is left, but both connections end in silence. What is not
+  there skips nothing: the taker of a giver that is not there still greets, and `nothing` is printed.
 """
 import re
 import sys
@@ -42,11 +43,15 @@ WEIGHT_MOST = 2**63 - 1
 NUMBER_MOST = 2**64 - 1
 VERSION_MOST = 2**40 - 1
 BUDGET_LEAST, BUDGET_MOST = 256, 65_536
-NODES_MOST, KEYS_MOST = 1_024, 4_096
-PAYLOAD_MOST, ENTRIES_MOST = 65_530, 65_535
+NODES_MOST, KEYS_MOST, OWNERS_MOST = 1_024, 4_096, 1_024
+CONNECTION_MOST = 999_999
+CLUSTER = b"sim"
 
 BAD_NAME, BAD_KEY, BAD_VALUE, BAD_SETTING = 2, 3, 4, 5
-TABLE_FULL, VERSIONS_SPENT, MALFORMED, SAME_NAME = 6, 8, 14, 24
+TABLE_FULL, VERSIONS_SPENT, NOTHING_THERE, CLOSED = 6, 8, 9, 15
+CONFLICT, NO_HELLO, WRONG_CLUSTER, SAME_NAME, SECOND_HELLO = 21, 22, 23, 24, 25
+
+NOTHING = [b"nothing"]
 
 
 class NoCommand(Exception):
@@ -61,43 +66,7 @@ class Fault(Exception):
         self.number = number
 
 
-@dataclass(frozen=True)
-class Value:
-    """A value, as it goes into a frame and as it is printed."""
-
-    tag: int
-    encoded: bytes
-    shown: bytes
-
-
-@dataclass
-class Table:
-    """One owner's entries, (version, value) under each key in ascending version, and the last version entered."""
-
-    entries: dict = field(default_factory=dict)
-    last: int = 0
-
-    def has_room(self, key):
-        """Says whether an entry under this key keeps to the most keys."""
-        return key in self.entries or len(self.entries) < KEYS_MOST
-
-    def push(self, key, version, value):
-        """Enters a write, which takes the place of an older one under its key."""
-        self.entries.pop(key, None)
-        self.entries[key] = (version, value)
-        self.last = version
-
-    def above(self, version):
-        """Lists the entries above a version as (key, version, value), ascending."""
-        return [(key, *entry) for key, entry in self.entries.items() if entry[0] > version]
-
-
-@dataclass
-class World:
-    """The nodes' names, the greatest version, and a table for each pair of a node and an owner."""
-
-    max_version: int
-    tables: dict
+# ---- words
 
 
 def words_of(line):
@@ -118,6 +87,21 @@ def read_number(word):
     return int(digits)
 
 
+def read_connection(word):
+    """Reads the number of a connection."""
+    number = read_number(word)
+    if not 1 <= number <= CONNECTION_MOST:
+        raise NoCommand
+    return number
+
+
+def read_end(word):
+    """Reads how a crash ends."""
+    if word not in (b"kept", b"lost"):
+        raise NoCommand
+    return word == b"kept"
+
+
 def read_name(word):
     """Reads the name of a node or an owner."""
     if len(word) > NAME_MOST or not re.fullmatch(rb"[a-z0-9-]+", word):
@@ -132,8 +116,21 @@ def read_key(word):
     return word
 
 
-def read_value(kind, word):
+@dataclass(frozen=True)
+class Value:
+    """A value, as it goes into a frame and as it is printed; of a removal nothing is printed."""
+
+    tag: int
+    encoded: bytes
+    shown: bytes
+
+
+REMOVED = Value(0, b"", b"")
+
+
+def read_value(words):
     """Reads a value in its two words."""
+    kind, word = words
     if kind == b"addr" and len(word) <= ADDR_MOST and re.fullmatch(rb"[\x21-\x7e]+", word):
         return Value(1, bytes([len(word)]) + word, b"addr " + word)
     if kind == b"weight" and len(word) <= 19 and re.fullmatch(rb"0|[1-9][0-9]*", word) and int(word) <= WEIGHT_MOST:
@@ -143,40 +140,424 @@ def read_value(kind, word):
     raise Fault(BAD_VALUE)
 
 
-def encode_text(text):
-    """Spells a name or a key: its length, then its bytes."""
-    return bytes([len(text)]) + text
+# ---- messages
 
 
-def encode_delta(owner, after, entries):
-    """Makes the frame of a delta with these entries of one owner, or with no block where there are none."""
-    payload = bytearray(b"\x03" + bool(entries).to_bytes(2, "big"))
-    if len(entries) > ENTRIES_MOST:
-        raise Fault(MALFORMED)
-    if entries:
-        payload += encode_text(owner) + after.to_bytes(8, "big") + len(entries).to_bytes(2, "big")
-    for key, version, value in entries:
-        payload += encode_text(key) + version.to_bytes(8, "big") + bytes([value.tag]) + value.encoded
-    if len(payload) > PAYLOAD_MOST:
-        raise Fault(MALFORMED)
-    return b"\xa7\x01" + len(payload).to_bytes(4, "big") + bytes(payload)
+@dataclass(frozen=True)
+class Hello:
+    """Who speaks."""
+
+    cluster: bytes
+    node: bytes
+
+    def payload(self):
+        """Spells the message."""
+        return b"\x01" + text(self.cluster) + text(self.node)
 
 
-def enter_block(table, after, entries):
-    """Enters a block into what a node holds of its owner, and says how it ended."""
-    if after > table.last:
-        return b"gap"
-    if entries[-1][1] <= table.last:
-        return b"stale"
-    taken = 0
-    for key, version, value in entries:
-        if version <= table.last:
-            continue
-        if not table.has_room(key):
-            return b"too-many-keys %d" % taken
-        table.push(key, version, value)
-        taken += 1
-    return b"taken %d" % taken
+@dataclass(frozen=True)
+class Digest:
+    """How far each owner of a range is held."""
+
+    want: bool
+    start: bytes
+    until: bytes
+    pairs: tuple
+
+    def payload(self):
+        """Spells the message."""
+        pairs = b"".join(text(name) + u64(upto) for name, upto in self.pairs)
+        return b"\x02" + bytes([self.want]) + text(self.start) + text(self.until) + u16(len(self.pairs)) + pairs
+
+    def number(self, name):
+        """Tells the version up to which the owner is held, or None where the digest does not speak of it."""
+        if name < self.start or (self.until and name >= self.until):
+            return None
+        return dict(self.pairs).get(name, 0)
+
+
+@dataclass(frozen=True)
+class Block:
+    """Entries (key, version, value) of an owner, all that it wrote above `after` up to the last of them."""
+
+    owner: bytes
+    after: int
+    entries: tuple
+
+
+@dataclass(frozen=True)
+class Delta:
+    """A block for each of some owners."""
+
+    blocks: tuple
+
+    def payload(self):
+        """Spells the message."""
+        spelled = b"\x03" + u16(len(self.blocks))
+        for block in self.blocks:
+            spelled += text(block.owner) + u64(block.after) + u16(len(block.entries))
+            for key, version, value in block.entries:
+                spelled += text(key) + u64(version) + bytes([value.tag]) + value.encoded
+        return spelled
+
+
+def text(it):
+    """Spells a name or a key, or none."""
+    return bytes([len(it)]) + it
+
+
+def u16(number):
+    """Spells a count."""
+    return number.to_bytes(2, "big")
+
+
+def u64(number):
+    """Spells a version."""
+    return number.to_bytes(8, "big")
+
+
+def frame_of(message):
+    """Spells the frame of a message."""
+    payload = message.payload()
+    return b"\xa7\x01" + len(payload).to_bytes(4, "big") + payload
+
+
+# ---- nodes
+
+
+@dataclass
+class Table:
+    """One owner's entries, (version, value) under each key in ascending version, and the last version entered."""
+
+    entries: dict = field(default_factory=dict)
+    last: int = 0
+
+    def has_room(self, key):
+        """Says whether an entry under this key keeps to the most keys."""
+        return key in self.entries or len(self.entries) < KEYS_MOST
+
+    def live(self, key):
+        """The version and the value under a key, unless nothing stands there."""
+        entry = self.entries.get(key)
+        return None if entry is None or entry[1] is REMOVED else entry
+
+    def push(self, key, version, value):
+        """Enters a write, which takes the place of an older one under its key."""
+        self.entries.pop(key, None)
+        self.entries[key] = (version, value)
+        self.last = version
+
+    def above(self, version):
+        """Lists the entries above a version as (key, version, value), ascending."""
+        return [(key, *entry) for key, entry in self.entries.items() if entry[0] > version]
+
+    def copy(self):
+        """An equal table."""
+        return Table(dict(self.entries), self.last)
+
+
+@dataclass
+class Node:
+    """What a node has on its log, what it holds of each owner, which writes wait, and whether it runs."""
+
+    name: bytes
+    log: Table = field(default_factory=Table)
+    held: dict = field(default_factory=dict)
+    waiting: list = field(default_factory=list)
+    is_up: bool = True
+    seen_ahead: bool = False
+
+    def __post_init__(self):
+        self.held = {self.name: Table()}
+
+    def upto(self, owner):
+        """The version up to which an owner is held."""
+        return self.held[owner].last if owner in self.held else 0
+
+    def put(self, key, value, most):
+        """The log takes a write, and answers its version."""
+        if value is REMOVED and self.log.live(key) is None:
+            raise Fault(NOTHING_THERE)
+        if not self.log.has_room(key):
+            raise Fault(TABLE_FULL)
+        if self.log.last >= most:
+            raise Fault(VERSIONS_SPENT)
+        self.log.push(key, self.log.last + 1, value)
+        return self.log.last
+
+    def restart(self):
+        """Opens anew with what the log has."""
+        self.held, self.waiting = {self.name: self.log.copy()}, []
+        self.is_up, self.seen_ahead = True, False
+
+    def apply(self, block):
+        """Takes a block, and says how it ended."""
+        owner, entries = block.owner, block.entries
+        last, held = entries[-1][1], self.upto(block.owner)
+        if owner == self.name:
+            if last <= held:
+                return b"own"
+            self.seen_ahead = True
+            return b"own-ahead %d" % last
+        if block.after > held:
+            return b"gap"
+        if last <= held:
+            return b"stale"
+        if owner not in self.held and len(self.held) >= OWNERS_MOST:
+            return b"owners-full"
+        table, taken = self.held.setdefault(owner, Table()), 0
+        for key, version, value in entries:
+            if version <= held:
+                continue
+            if not table.has_room(key):
+                return b"too-many-keys %d" % taken
+            table.push(key, version, value)
+            taken += 1
+        return b"taken %d" % taken
+
+    def delta_for(self, digest, world):
+        """All that the digest's sender lacks, as far as the budget has room, in the order of the world."""
+        items = []
+        for owner in self.held:
+            number = digest.number(owner)
+            if number is None:
+                continue
+            entries = self.held[owner].above(number)
+            items += [(rank, len(entries), owner, number, entry) for rank, entry in enumerate(entries)]
+        if world.order == b"breadth":
+            items.sort(key=lambda it: (it[0], it[2]))
+        else:
+            items.sort(key=lambda it: (-it[1], it[2], it[4][1]))
+        blocks, length = {}, 9
+        for _, _, owner, number, entry in items:
+            length += 10 + len(entry[0]) + len(entry[2].encoded)
+            length += 0 if owner in blocks else 11 + len(owner)
+            if length > world.budget:
+                break
+            blocks.setdefault(owner, (number, []))[1].append(entry)
+        return Delta(tuple(Block(owner, blocks[owner][0], tuple(blocks[owner][1])) for owner in sorted(blocks)))
+
+    def digest(self, start, want, budget):
+        """How far it holds each owner from a name on, as many as the budget has room for."""
+        pairs = [(name, self.held[name].last) for name in sorted(self.held) if name >= start]
+        whole = Digest(want, start, b"", tuple(pairs))
+        if len(frame_of(whole)) <= budget:
+            return whole
+        for count in range(len(pairs) - 1, -1, -1):
+            part = Digest(want, start, pairs[count][0], tuple(pairs[:count]))
+            if len(frame_of(part)) <= budget:
+                return part
+        raise AssertionError("a budget has room for one pair")
+
+
+@dataclass
+class Connection:
+    """A session at a node, the messages that are lined up towards it, and how many of their bytes have come."""
+
+    node: Node
+    lined: list = field(default_factory=list)
+    length: int = 0
+    come: int = 0
+    taken: int = 0
+    greeted: bool = False
+    cursor: bytes = b""
+
+
+# ---- the world
+
+
+class World:
+    """Nodes, their connections, and the messages of all frames that were sent."""
+
+    def __init__(self, budget, order, most, names):
+        self.budget, self.order, self.most = budget, order, most
+        self.nodes = {name: Node(name) for name in names}
+        self.connections = {}
+        self.sent = []
+
+    def running(self, name):
+        """The node of a name that answers, None where there is none of that name."""
+        node = self.nodes.get(name)
+        if node is not None and not node.is_up:
+            raise Fault(CLOSED)
+        return node
+
+    def send(self, message):
+        """Sends a message, and answers the number of its frame."""
+        self.sent.append((message, frame_of(message)))
+        return len(self.sent)
+
+    def drop_connections(self, node):
+        """Drops the connections of a node."""
+        self.connections = {number: it for number, it in self.connections.items() if it.node is not node}
+
+    def commit(self, name, key, value):
+        """The log of a node takes a write, which waits."""
+        node = self.running(name)
+        if node is None:
+            return NOTHING
+        node.waiting.append((key, node.put(key, value, self.most), value))
+        return [b"committed %d" % node.log.last]
+
+    def take(self, name):
+        """The oldest write of a node that waits is entered."""
+        node = self.running(name)
+        if node is None or not node.waiting:
+            return NOTHING
+        if node.seen_ahead:
+            raise Fault(CONFLICT)
+        node.held[name].push(*node.waiting.pop(0))
+        return [b"took %d" % node.upto(name)]
+
+    def crash(self, name, key, value, is_kept):
+        """A node goes down, behind a write or before it."""
+        node = self.running(name)
+        if node is None:
+            return NOTHING
+        try:
+            if is_kept:
+                node.put(key, value, self.most)
+        except Fault:
+            pass
+        node.is_up = False
+        self.drop_connections(node)
+        return [b"crashed"]
+
+    def restart(self, name):
+        """A node opens anew."""
+        if name not in self.nodes:
+            return NOTHING
+        node = self.nodes[name]
+        self.drop_connections(node)
+        node.restart()
+        return [b"restarted %d" % node.upto(name)]
+
+    def connect(self, name, number):
+        """A connection begins, and greets."""
+        node = self.running(name)
+        if node is None or number in self.connections:
+            return NOTHING
+        self.connections[number] = Connection(node)
+        return [b"frame %d" % self.send(Hello(CLUSTER, name))]
+
+    def close(self, number):
+        """A connection ends."""
+        return NOTHING if self.connections.pop(number, None) is None else [b"closed"]
+
+    def line(self, number, at):
+        """A frame is lined up on a connection."""
+        connection = self.connections.get(number)
+        if connection is None or not 1 <= at <= len(self.sent):
+            return NOTHING
+        message, frame = self.sent[at - 1]
+        connection.length += len(frame)
+        connection.lined.append((message, connection.length))
+        return [b"lined"]
+
+    def next_digest(self, connection, want):
+        """The next digest of a session, which goes on where the last one ended."""
+        digest = connection.node.digest(connection.cursor, want, self.budget)
+        connection.cursor = digest.until
+        return digest
+
+    def ask(self, number):
+        """A session sends its next digest."""
+        connection = self.connections.get(number)
+        if connection is None:
+            return NOTHING
+        return [b"frame %d" % self.send(self.next_digest(connection, True))]
+
+    def take_message(self, connection, message):
+        """A session takes a message, and answers what is printed of it."""
+        if not isinstance(message, Hello) and not connection.greeted:
+            raise Fault(NO_HELLO)
+        if isinstance(message, Hello):
+            if connection.greeted:
+                raise Fault(SECOND_HELLO)
+            if message.cluster != CLUSTER:
+                raise Fault(WRONG_CLUSTER)
+            if message.node == connection.node.name:
+                raise Fault(SAME_NAME)
+            connection.greeted = True
+            return []
+        if isinstance(message, Delta):
+            return [connection.node.apply(block) for block in message.blocks]
+        replies = [connection.node.delta_for(message, self)]
+        if message.want:
+            replies.append(self.next_digest(connection, False))
+        return [b"frame %d" % self.send(reply) for reply in replies]
+
+    def piece(self, number, count):
+        """The next bytes of a line come, and each message is taken that has come whole."""
+        connection = self.connections.get(number)
+        if connection is None:
+            return NOTHING
+        connection.come = min(connection.come + count, connection.length)
+        printed = []
+        while connection.taken < len(connection.lined):
+            message, end = connection.lined[connection.taken]
+            if end > connection.come:
+                break
+            connection.taken += 1
+            try:
+                printed += self.take_message(connection, message)
+            except Fault as fault:
+                del self.connections[number]
+                return [*printed, b"fault %d" % fault.number]
+        return printed or NOTHING
+
+    def offer(self, name, owner, after):
+        """A node sends what it holds of an owner above a version."""
+        node = self.running(name)
+        if node is None:
+            return NOTHING
+        pairs = {held: table.last for held, table in node.held.items()}
+        pairs[owner] = after
+        return [b"frame %d" % self.send(node.delta_for(Digest(False, b"", b"", tuple(sorted(pairs.items()))), self))]
+
+    def read(self, name, owner, key):
+        """What a node has under an owner's key."""
+        node = self.running(name)
+        if node is None:
+            return NOTHING
+        entry = node.held.get(owner, Table()).live(key)
+        return [b"none"] if entry is None else [b"%s %s %d %s" % (owner, key, entry[0], entry[1].shown)]
+
+    def upto(self, name, owner):
+        """How far a node holds an owner."""
+        node = self.running(name)
+        return NOTHING if node is None else [b"%d" % node.upto(owner)]
+
+    def show(self, at):
+        """A frame that was sent."""
+        return [self.sent[at - 1][1].hex().encode()] if 1 <= at <= len(self.sent) else NOTHING
+
+    def write(self, name, key, value):
+        """A write that is entered at once, or an older one in its place."""
+        self.commit(name, key, value)
+        return [line.replace(b"took", b"version") for line in self.take(name)]
+
+    def give(self, giver, taker, after):
+        """A node sends another what it wrote above a version, on two connections that end with it."""
+        one, other, printed = CONNECTION_MOST + 1, CONNECTION_MOST + 2, []
+        try:
+            first = len(self.sent)
+            if self.connect(giver, one) != NOTHING:
+                self.offer(giver, giver, after)
+                printed += self.show(first + 2)
+            delta = len(self.sent)
+            self.connect(taker, other)
+            for at in range(first + 1, delta + 1):
+                self.line(other, at)
+            printed += self.piece(other, NUMBER_MOST)
+        except Fault as fault:
+            printed.append(b"fault %d" % fault.number)
+        self.close(one)
+        self.close(other)
+        return printed
+
+
+# ---- lines
 
 
 def make_world(words):
@@ -191,59 +572,64 @@ def make_world(words):
         raise Fault(BAD_SETTING)
     if len(set(names)) < len(names):
         raise Fault(SAME_NAME)
-    return World(max_version, {node: {} for node in names})
+    return World(budget, words[2], max_version, names)
 
 
-def put(world, words):
-    """Answers `put N K KIND VALUE`."""
-    node, key, value = read_name(words[1]), read_key(words[2]), read_value(words[3], words[4])
-    if node not in world.tables:
-        return [b"nothing"]
-    own = world.tables[node].setdefault(node, Table())
-    if not own.has_room(key):
-        raise Fault(TABLE_FULL)
-    if own.last >= world.max_version:
-        raise Fault(VERSIONS_SPENT)
-    own.push(key, own.last + 1, value)
-    return [b"version %d" % own.last]
+def read_removal(words):
+    """Reads the end of a removal."""
+    if words != [b"removed"]:
+        raise NoCommand
+    return REMOVED
 
 
-def give(world, words):
-    """Answers `give A B V`."""
-    after = read_number(words[3])
-    giver, taker = read_name(words[1]), read_name(words[2])
-    if giver not in world.tables:
-        return [b"nothing"]
-    entries = world.tables[giver].get(giver, Table()).above(after)
-    frame = encode_delta(giver, after, entries).hex().encode()
-    if taker == giver:
-        return [frame, b"fault %d" % SAME_NAME]
-    if taker not in world.tables or not entries:
-        return [frame, b"nothing"]
-    return [frame, enter_block(world.tables[taker].setdefault(giver, Table()), after, entries)]
+# Each form of a line: how many words follow the command, which of them are read how, and what the world does with what was
+# read. N a name, K a key, V the two words of a value, R the word of a removal, # a number, C a connection's, E a crash's end.
+FORMS = {
+    b"commit": [("NKV", World.commit), ("NKR", World.commit)],
+    b"take": [("N", World.take)],
+    b"put": [("NKV", World.write)],
+    b"del": [("NK", lambda world, name, key: world.write(name, key, REMOVED))],
+    b"crash": [("NKVE", World.crash)],
+    b"restart": [("N", World.restart)],
+    b"connect": [("NC", World.connect)],
+    b"ask": [("C", World.ask)],
+    b"offer": [("NN#", World.offer)],
+    b"close": [("C", World.close)],
+    b"line": [("C#", World.line)],
+    b"piece": [("C#", World.piece)],
+    b"read": [("NNK", World.read)],
+    b"upto": [("NN", World.upto)],
+    b"show": [("#", World.show)],
+    b"give": [("NN#", World.give)],
+}
+SHAPED = {"#": read_number, "C": read_connection, "E": read_end}
+NAMED = {"N": read_name, "K": read_key, "V": read_value}
 
 
-def read(world, words):
-    """Answers `read N O K`."""
-    node, owner, key = read_name(words[1]), read_name(words[2]), read_key(words[3])
-    if node not in world.tables:
-        return [b"nothing"]
-    entry = world.tables[node].get(owner, Table()).entries.get(key)
-    if entry is None:
-        return [b"none"]
-    return [b"%s %s %d %s" % (owner, key, entry[0], entry[1].shown)]
-
-
-# Each command of a world, with how many words its line has.
-COMMANDS = {b"put": (put, 5), b"give": (give, 4), b"read": (read, 4)}
+def parts_of(form, words):
+    """Splits the words behind a command into the parts of a form, with the numbers and ends among them read."""
+    if len(words) != len(form) + form.count("V"):
+        raise NoCommand
+    parts, at = [], 0
+    for kind in form:
+        if kind == "V":
+            parts.append(words[at : at + 2])
+            at += 2
+            continue
+        parts.append(SHAPED[kind](words[at]) if kind in SHAPED else read_removal([words[at]]) if kind == "R" else words[at])
+        at += 1
+    return parts
 
 
 def answer(world, words):
     """Answers a line below the world line."""
-    command, count = COMMANDS.get(words[0], (None, 0))
-    if len(words) != count:
-        raise NoCommand
-    return command(world, words)
+    for form, act in FORMS.get(words[0], []):
+        try:
+            parts = parts_of(form, words[1:])
+        except NoCommand:
+            continue
+        return act(world, *(NAMED[kind](part) if kind in NAMED else part for kind, part in zip(form, parts)))
+    raise NoCommand
 
 
 def run(script):

@@ -1,8 +1,8 @@
 //! The command line of the program.
 use crate::log_file::print_log;
-use crate::sim::sim_run_uncounted;
 use clap::error::ErrorKind;
 use clap::{Arg, ArgAction, ArgMatches, Command};
+use sb_script::sim_run_uncounted;
 use sb_types::Fault;
 use std::alloc::{AllocError, Global};
 use std::{env, io};
@@ -20,15 +20,29 @@ const EXAMPLE: &str = "Example:
   taken 1
   a w 1 weight 5";
 
-const SCRIPT: &str = "The lines of a script:
-  world BUDGET ORDER MAX NAME..  makes the nodes; it comes first
-  put N K KIND VALUE             node N writes under the key K: addr TEXT, weight NUMBER or flag true|false
-  give A B V                     node A sends node B what it wrote above the version V
-  read N O K                     node N reads what owner O has under the key K
+const SCRIPT: &str = "The first line of a script makes the nodes, each with an empty log:
+  world BUDGET ORDER MAX NAME..   frames of at most BUDGET bytes, ORDER breadth or depth, versions up to MAX
 
-A fault of a line below the first is printed as `fault N`, leaves the nodes as they were, and the script goes on: 1 no
-memory, 2 a name, 3 a key, 4 a value that is none, 6 a key too many, 8 no version is left, 14 more than a frame carries,
-24 a node gives to itself. One of the first line is printed too (1, 2, 5 a setting, 24 two nodes of one name) and ends the run.
+Each other line is a command, and prints its answer:
+  put N K VALUE, del N K          node N writes under the key K, or removes what stands there: `version V`
+  commit N K VALUE, take N        the two halves of a put: the log takes it, the oldest that waits is entered
+  commit N K removed              the first half of a del
+  crash N K VALUE kept|lost       node N goes down, behind the commit or before it
+  restart N                       node N opens anew with what its log has
+  give A B V                      node A sends node B what it wrote above the version V, as far as a frame has room
+  offer N O V                     node N sends what it holds of owner O above the version V: `frame I`
+  connect N C, close C            a connection of the number C begins at node N, and its Hello is sent; it ends
+  ask C                           it sends its next digest
+  line C I, piece C n             frame I is lined up towards it; the next n bytes of its line come
+  read N O K, upto N O            what node N has of owner O under the key K; up to which version it holds O
+  show I                          the frame of the number I, in hexadecimal
+VALUE is addr TEXT, weight NUMBER or flag true|false.
+
+A fault of a line below the first is printed as `fault N`, and the script goes on: 1 no memory, 2 a name, 3 a key, 4 a value that
+is none, 6 a key too many, 8 no version is left, 9 nothing to remove, 15 the node is down or the session over, 21 another writes under
+the node's name, 22 to 25 a Hello that is missing, of another cluster, of the same name or the second. Where a node, a
+connection or a frame is not there, the answer is `nothing`. A fault of the first line is printed too (1, 2, 5 a setting, 24 two
+nodes of one name) and ends the run.
 
 A fault of the run ends it, after what was answered, with `fault N` and its text on standard error: 1 no memory, 16 the
 script cannot be read, 17 the answers cannot be written, 29 the script takes more than 1,000,000 reads.
@@ -40,7 +54,19 @@ Example:
   version 1
   a7010000002203000101610000000000000000000101770000000000000001020000000000000005
   taken 1
-  a w 1 weight 5";
+  a w 1 weight 5
+
+The same in single events, with the frame in two pieces:
+  $ printf 'world 256 breadth 100 a b\\nput a w weight 5\\nconnect a 1\\noffer a a 0\\nconnect b 2\\nline 2 1\\nline 2 2\\n\
+piece 2 20\\npiece 2 33\\n' | attrdir sim
+  version 1
+  frame 1
+  frame 2
+  frame 3
+  lined
+  lined
+  nothing
+  taken 1";
 
 const LOG: &str =
     "Each write that still stands is a line of the owner, the key, the version, the kind and the value, in ascending key, or

@@ -2,18 +2,7 @@
 #![tactic(auto)]
 
 mod command_line;
-mod lines;
 mod log_file;
-mod node;
-mod output;
-mod parse;
-mod print;
-mod sim;
-#[cfg(test)]
-mod story;
-#[cfg(test)]
-mod tests;
-mod world;
 
 use std::process::ExitCode;
 

@@ -1,4 +1,5 @@
 //! The command line of the program, and the layers in turn.
+use crate::catch_up;
 use crate::layers::{self, WholeDelta};
 use crate::problem::Problem;
 use crate::report::Telling;
@@ -122,6 +123,27 @@ fn measure_bytes(
     Ok(())
 }
 
+/// How a node catches up with a peer.
+fn measure_session(
+    rt: &HostRuntime,
+    sizes: Sizes,
+    telling: Telling,
+    blocks: &[Block],
+) -> Result<(), Problem> {
+    let caught = catch_up::measure(rt, sizes, blocks)?;
+    caught.entries.print(rt, telling, "catch-up", "entry")?;
+    caught
+        .frames
+        .print(rt, Telling::Counts, "catch-up-sent", "frame")?;
+    caught
+        .bytes
+        .print(rt, Telling::Counts, "catch-up-sent", "byte")?;
+    caught
+        .content
+        .print(rt, Telling::Counts, "catch-up-content", "byte")?;
+    Ok(())
+}
+
 /// Measures each layer and prints a line for it.
 fn measure(rt: &HostRuntime, sizes: Sizes, telling: Telling) -> Result<(), Problem> {
     let blocks = blocks(rt.alloc(), sizes)?;
@@ -129,7 +151,8 @@ fn measure(rt: &HostRuntime, sizes: Sizes, telling: Telling) -> Result<(), Probl
     measure_node(rt, sizes, telling, &blocks, &node)?;
     measure_delta(rt, sizes, telling, &node)?;
     let delta = layers::greatest_delta(rt.alloc(), &node)?;
-    measure_bytes(rt, sizes, telling, &delta)
+    measure_bytes(rt, sizes, telling, &delta)?;
+    measure_session(rt, sizes, telling, &blocks)
 }
 
 fn words(rt: &HostRuntime) -> Result<Vec<String>, Problem> {

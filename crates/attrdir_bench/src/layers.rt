@@ -12,7 +12,7 @@ use std::alloc::Global;
 use std::time::CpuClock;
 
 /// How many entries were taken of a block that ended so.
-fn taken(end: BlockEnd) -> u64 {
+pub(crate) fn taken(end: BlockEnd) -> u64 {
     match end {
         BlockEnd::Taken(count) | BlockEnd::TooManyKeys(count) | BlockEnd::NoMemory(count) => count,
         _ => 0,

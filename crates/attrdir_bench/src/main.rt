@@ -1,6 +1,7 @@
 //! How long each layer of the directory takes.
 #![tactic(auto)]
 
+mod catch_up;
 mod command_line;
 mod layers;
 mod problem;

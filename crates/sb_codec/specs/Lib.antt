@@ -6,3 +6,4 @@ pub mod Fields
 pub mod Reading
 pub mod Refusal
 pub mod Messages
+pub mod Standing

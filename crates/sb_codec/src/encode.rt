@@ -1,109 +1,160 @@
 //! The payload of a message, behind what was written.
 
-ghost use Rattle.std.specs.Prelude.{◌≡◌, ◌++◌, true, IfOk, IfErr, OnOk};
+ghost use Rattle.std.specs.Prelude.{◌≡◌, ◌∷◌, ◌++◌, true, IfOk, IfErr, OnOk, OnErr};
+ghost use Rattle.sb_types.specs.Text.{is_name};
+ghost use Rattle.sb_codec.specs.Limits.{is_optional};
+ghost use Rattle.sb_codec.specs.Spelling.{flag, list, optional, pair};
 ghost use Rattle.sb_codec.specs.Messages.{Spells, IsSole, spelling, is_message};
+ghost use Rattle.sb_codec.specs.Standing.{Stands};
 
 use crate::lengths::payload_length;
 use crate::message::{Ask, Bye, Done, Hello, Message, Refused, Rows};
 use crate::writing::{
-    write_flag, write_list, write_optional_name, write_place, write_slot, write_text, write_u64,
+    write_byte, write_bytes, write_flag, write_list, write_optional_name, write_place, write_slot,
+    write_text, write_u64,
 };
 use sb_digest::Digest;
 use sb_types::{
     Delta, Fault, KIND_ASK, KIND_BYE, KIND_DELTA, KIND_DIGEST, KIND_DONE, KIND_HELLO, KIND_PUT,
-    KIND_REFUSED, KIND_ROWS, Write,
+    KIND_REFUSED, KIND_ROWS, Name, Write,
 };
 use std::alloc::{AllocError, Global};
 
-#[tactic(auto, unfolding(crate::specs::Messages::spelling, crate::specs::Spelling::hello))]
+#[tactic(auto, using(crate::proofs::Standings::stands_on), unfolding(crate::specs::Messages::spelling, crate::specs::Spelling::hello))]
 fn write_hello(out: &mut Vec<u8>, hello: &Hello) -> Result<(), AllocError>
     ensures written { OnOk result (out.new.items ≡ out.old.items ++ spelling (Message.Hello hello.now)) }
+    ensures stands { Stands out.old.items out.new.items }
     ensures limits { OnOk result (is_message (Message.Hello hello.now) ≡ true) }
 {
-    out.push(KIND_HELLO)?;
+    write_byte(out, KIND_HELLO)?;
     write_text(out, hello.cluster.bytes())?;
     write_text(out, hello.node.bytes())
 }
 
-#[tactic(auto, unfolding(crate::specs::Messages::spelling, crate::specs::Spelling::digest))]
-fn write_digest(out: &mut Vec<u8>, digest: &Digest) -> Result<(), AllocError>
-    ensures written { OnOk result (out.new.items ≡ out.old.items ++ spelling (Message.Digest digest.now)) }
-    ensures limits { OnOk result (is_message (Message.Digest digest.now) ≡ true) }
+/// The kind of a message and the flag that follows it.
+#[tactic(auto, using(crate::proofs::Standings::stands_on))]
+fn write_flagged(out: &mut Vec<u8>, kind: u8, set: bool) -> Result<(), AllocError>
+    ensures written { OnOk result (out.new.items ≡ out.old.items ++ kind ∷ flag set) }
+    ensures stands { Stands out.old.items out.new.items }
 {
-    out.push(KIND_DIGEST)?;
-    write_flag(out, digest.want())?;
-    write_optional_name(out, digest.from())?;
-    write_optional_name(out, digest.until())?;
+    write_byte(out, kind)?;
+    write_flag(out, set)
+}
+
+/// The names between which a digest speaks.
+#[tactic(auto, using(crate::proofs::Standings::stands_on))]
+fn write_range(out: &mut Vec<u8>, from: Option<Name>, until: Option<Name>) -> Result<(), AllocError>
+    ensures written { OnOk result (out.new.items ≡ out.old.items ++ (optional from ++ optional until)) }
+    ensures stands { Stands out.old.items out.new.items }
+    ensures names { OnOk result ((is_optional is_name from ≡ true) × (is_optional is_name until ≡ true)) }
+{
+    write_optional_name(out, from)?;
+    write_optional_name(out, until)
+}
+
+/// The pairs of a digest.
+fn write_pairs(out: &mut Vec<u8>, digest: &Digest) -> Result<(), AllocError>
+    ensures written { OnOk result (out.new.items ≡ out.old.items ++ list pair digest.now.pairs) }
+    ensures stands { Stands out.old.items out.new.items }
+{
     write_list(out, digest.pairs())
 }
 
-#[tactic(auto, unfolding(crate::specs::Messages::spelling))]
+#[tactic(auto, using(crate::proofs::Standings::stands_on), unfolding(crate::specs::Messages::spelling, crate::specs::Spelling::digest))]
+fn write_digest(out: &mut Vec<u8>, digest: &Digest) -> Result<(), AllocError>
+    ensures written { OnOk result (out.new.items ≡ out.old.items ++ spelling (Message.Digest digest.now)) }
+    ensures stands { Stands out.old.items out.new.items }
+    ensures limits { OnOk result (is_message (Message.Digest digest.now) ≡ true) }
+{
+    write_flagged(out, KIND_DIGEST, digest.want())?;
+    write_range(out, digest.from(), digest.until())?;
+    write_pairs(out, digest)
+}
+
+#[tactic(auto, using(crate::proofs::Standings::stands_on), unfolding(crate::specs::Messages::spelling))]
 fn write_delta(out: &mut Vec<u8>, delta: &Delta) -> Result<(), AllocError>
     ensures written { OnOk result (out.new.items ≡ out.old.items ++ spelling (Message.Delta delta.now)) }
+    ensures stands { Stands out.old.items out.new.items }
     ensures limits { OnOk result (is_message (Message.Delta delta.now) ≡ true) }
 {
-    out.push(KIND_DELTA)?;
+    write_byte(out, KIND_DELTA)?;
     write_list(out, delta.blocks())
 }
 
 #[tactic(auto, unfolding(crate::specs::Messages::spelling))]
 fn write_bye(out: &mut Vec<u8>, bye: &Bye) -> Result<(), AllocError>
     ensures written { OnOk result (out.new.items ≡ out.old.items ++ spelling (Message.Bye bye.now)) }
+    ensures stands { Stands out.old.items out.new.items }
     ensures limits { OnOk result (is_message (Message.Bye bye.now) ≡ true) }
 {
-    out.extend_from_slice(&[KIND_BYE, bye.reason()])
+    write_bytes(out, &[KIND_BYE, bye.reason()])
 }
 
-#[tactic(auto, unfolding(crate::specs::Messages::spelling, crate::specs::Spelling::ask))]
+/// The kind of a message and the name that follows it, where there is one.
+#[tactic(auto, using(crate::proofs::Standings::stands_on))]
+fn write_named(out: &mut Vec<u8>, kind: u8, name: Option<Name>) -> Result<(), AllocError>
+    ensures written { OnOk result (out.new.items ≡ out.old.items ++ kind ∷ optional name) }
+    ensures stands { Stands out.old.items out.new.items }
+    ensures name { OnOk result (is_optional is_name name ≡ true) }
+{
+    write_byte(out, kind)?;
+    write_optional_name(out, name)
+}
+
+#[tactic(auto, using(crate::proofs::Standings::stands_on), unfolding(crate::specs::Messages::spelling, crate::specs::Spelling::ask))]
 fn write_ask(out: &mut Vec<u8>, ask: &Ask) -> Result<(), AllocError>
     ensures written { OnOk result (out.new.items ≡ out.old.items ++ spelling (Message.Ask ask.now)) }
+    ensures stands { Stands out.old.items out.new.items }
     ensures limits { OnOk result (is_message (Message.Ask ask.now) ≡ true) }
 {
-    out.push(KIND_ASK)?;
-    write_optional_name(out, ask.owner)?;
+    write_named(out, KIND_ASK, ask.owner)?;
     write_text(out, ask.prefix.bytes())?;
     write_place(out, ask.after)
 }
 
-#[tactic(auto, unfolding(crate::specs::Messages::spelling, crate::specs::Spelling::page))]
+#[tactic(auto, using(crate::proofs::Standings::stands_on), unfolding(crate::specs::Messages::spelling, crate::specs::Spelling::page))]
 fn write_rows(out: &mut Vec<u8>, rows: &Rows) -> Result<(), AllocError>
     ensures written { OnOk result (out.new.items ≡ out.old.items ++ spelling (Message.Rows rows.now)) }
+    ensures stands { Stands out.old.items out.new.items }
     ensures limits { OnOk result (is_message (Message.Rows rows.now) ≡ true) }
 {
-    out.push(KIND_ROWS)?;
-    write_flag(out, rows.more())?;
+    write_flagged(out, KIND_ROWS, rows.more())?;
     write_list(out, rows.rows())
 }
 
-#[tactic(auto, unfolding(crate::specs::Messages::spelling, crate::specs::Spelling::write))]
+#[tactic(auto, using(crate::proofs::Standings::stands_on), unfolding(crate::specs::Messages::spelling, crate::specs::Spelling::write))]
 fn write_put(out: &mut Vec<u8>, write: &Write) -> Result<(), AllocError>
     ensures written { OnOk result (out.new.items ≡ out.old.items ++ spelling (Message.Put write.now)) }
+    ensures stands { Stands out.old.items out.new.items }
     ensures limits { OnOk result (is_message (Message.Put write.now) ≡ true) }
 {
-    out.push(KIND_PUT)?;
+    write_byte(out, KIND_PUT)?;
     write_text(out, write.key.bytes())?;
     write_slot(out, &write.slot)
 }
 
-#[tactic(auto, unfolding(crate::specs::Messages::spelling))]
+#[tactic(auto, using(crate::proofs::Standings::stands_on), unfolding(crate::specs::Messages::spelling))]
 fn write_done(out: &mut Vec<u8>, done: &Done) -> Result<(), AllocError>
     ensures written { OnOk result (out.new.items ≡ out.old.items ++ spelling (Message.Done done.now)) }
+    ensures stands { Stands out.old.items out.new.items }
     ensures limits { OnOk result (is_message (Message.Done done.now) ≡ true) }
 {
-    out.push(KIND_DONE)?;
+    write_byte(out, KIND_DONE)?;
     write_u64(out, done.version())
 }
 
 #[tactic(auto, unfolding(crate::specs::Messages::spelling))]
 fn write_refused(out: &mut Vec<u8>, refused: &Refused) -> Result<(), AllocError>
     ensures written { OnOk result (out.new.items ≡ out.old.items ++ spelling (Message.Refused refused.now)) }
+    ensures stands { Stands out.old.items out.new.items }
     ensures limits { OnOk result (is_message (Message.Refused refused.now) ≡ true) }
 {
-    out.extend_from_slice(&[KIND_REFUSED, refused.number()])
+    write_bytes(out, &[KIND_REFUSED, refused.number()])
 }
 
 fn write_message(out: &mut Vec<u8>, message: &Message) -> Result<(), AllocError>
     ensures written { OnOk result (out.new.items ≡ out.old.items ++ spelling message.now) }
+    ensures stands { Stands out.old.items out.new.items }
     ensures limits { OnOk result (is_message message.now ≡ true) }
 {
     match message {
@@ -119,15 +170,24 @@ fn write_message(out: &mut Vec<u8>, message: &Message) -> Result<(), AllocError>
     }
 }
 
-/// Writes the one payload that spells the message behind what `out` holds. `NoMemory` is its only fault;
-/// a part of the payload may then stand behind what was there.
+/// Writes the one payload that spells the message behind what `out` holds. `NoMemory` is its only fault,
+/// and leaves what `out` holds as it was.
+#[tactic(auto, using(crate::proofs::Standings::what_stood))]
 pub fn append_payload(out: &mut Vec<u8>, message: &Message) -> Result<(), Fault>
     ensures written { OnOk result (out.new.items ≡ out.old.items ++ spelling message.now) }
+    ensures left { OnErr result (out.new.items ≡ out.old.items) }
     ensures found { OnOk result (Spells (spelling message.now) message.now) }
     ensures sole { OnOk result (IsSole (spelling message.now) message.now) }
     ensures fault { IfErr result (λ fault. fault ≡ Fault.NoMemory) }
 {
-    Ok(write_message(out, message)?)
+    let start = out.len();
+    match write_message(out, message) {
+        Ok(()) => Ok(()),
+        Err(_) => {
+            out.truncate(start);
+            Err(Fault::NoMemory)
+        }
+    }
 }
 
 /// The one payload that spells the message. `NoMemory` is its only fault.

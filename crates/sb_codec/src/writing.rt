@@ -1,11 +1,12 @@
 //! The parts of a message, written.
 
-ghost use Rattle.std.specs.Prelude.{◌≡◌, ◌<◌, ◌++◌, length, true, OnOk};
+ghost use Rattle.std.specs.Prelude.{◌≡◌, ◌<◌, ◌++◌, [], ◌∷◌, length, true, OnOk};
 ghost use Rattle.std.specs.Int.{w16, w64};
 ghost use Rattle.sb_types.specs.Text.{is_name};
 ghost use Rattle.sb_types.specs.Value.{is_value};
 ghost use Rattle.sb_types.specs.Limits.{is_slot};
 ghost use Rattle.sb_codec.specs.Limits.{is_optional, is_place};
+ghost use Rattle.sb_codec.specs.Standing.{Stands};
 ghost use Rattle.sb_codec.specs.Spelling.{number, text, list, flag, value, slot, entry, block, optional, pair, place, row};
 
 use crate::list_item::ListItem;
@@ -16,49 +17,73 @@ use sb_types::{
 };
 use std::alloc::AllocError;
 
+/// Writes a byte behind what was written. Whatever comes of it, what was written stands; so it is with all that write.
+#[tactic(auto, using(crate::proofs::Standings::stands_behind, crate::proofs::Standings::stands_still))]
+pub(crate) fn write_byte(out: &mut Vec<u8>, byte: u8) -> Result<(), AllocError>
+    ensures written { OnOk result (out.new.items ≡ out.old.items ++ byte ∷ []) }
+    ensures stands { Stands out.old.items out.new.items }
+{
+    Ok(out.push(byte)?)
+}
+
+#[tactic(auto, using(crate::proofs::Standings::stands_behind, crate::proofs::Standings::stands_still))]
+pub(crate) fn write_bytes(out: &mut Vec<u8>, bytes: &[u8]) -> Result<(), AllocError>
+    ensures written { OnOk result (out.new.items ≡ out.old.items ++ bytes.now) }
+    ensures stands { Stands out.old.items out.new.items }
+{
+    out.extend_from_slice(bytes)
+}
+
 #[tactic(auto, unfolding(crate::specs::Spelling::number))]
 fn write_u16(out: &mut Vec<u8>, count: u16) -> Result<(), AllocError>
-    ensures { OnOk result (out.new.items ≡ out.old.items ++ number w16 count) }
+    ensures written { OnOk result (out.new.items ≡ out.old.items ++ number w16 count) }
+    ensures stands { Stands out.old.items out.new.items }
 {
-    out.extend_from_slice(&count.to_be_bytes())
+    write_bytes(out, &count.to_be_bytes())
 }
 
 #[tactic(auto, unfolding(crate::specs::Spelling::number))]
 pub(crate) fn write_u64(out: &mut Vec<u8>, n: u64) -> Result<(), AllocError>
-    ensures { OnOk result (out.new.items ≡ out.old.items ++ number w64 n) }
+    ensures written { OnOk result (out.new.items ≡ out.old.items ++ number w64 n) }
+    ensures stands { Stands out.old.items out.new.items }
 {
-    out.extend_from_slice(&n.to_be_bytes())
+    write_bytes(out, &n.to_be_bytes())
 }
 
+#[tactic(auto, using(crate::proofs::Standings::stands_on))]
 pub(crate) fn write_text(out: &mut Vec<u8>, bytes: &[u8]) -> Result<(), AllocError>
     requires { length bytes.now < 256 }
-    ensures { OnOk result (out.new.items ≡ out.old.items ++ text bytes.now) }
+    ensures written { OnOk result (out.new.items ≡ out.old.items ++ text bytes.now) }
+    ensures stands { Stands out.old.items out.new.items }
 {
-    out.push(bytes.len() as u8)?;
-    out.extend_from_slice(bytes)
+    write_byte(out, bytes.len() as u8)?;
+    write_bytes(out, bytes)
 }
 
 pub(crate) fn write_flag(out: &mut Vec<u8>, set: bool) -> Result<(), AllocError>
-    ensures { OnOk result (out.new.items ≡ out.old.items ++ flag set) }
+    ensures written { OnOk result (out.new.items ≡ out.old.items ++ flag set) }
+    ensures stands { Stands out.old.items out.new.items }
 {
-    Ok(out.push(u8::from(set))?)
+    write_byte(out, u8::from(set))
 }
 
+#[tactic(auto, using(crate::proofs::Standings::stands_on))]
 fn write_value(out: &mut Vec<u8>, written: &Value) -> Result<(), AllocError>
     ensures written { OnOk result (out.new.items ≡ out.old.items ++ value written.now) }
+    ensures stands { Stands out.old.items out.new.items }
     ensures value { is_value written.now ≡ true }
 {
     match written.view() {
         ValueRef::Addr(bytes) => {
-            out.push(TAG_ADDR)?;
+            write_byte(out, TAG_ADDR)?;
             write_text(out, bytes)
         }
         ValueRef::Weight(weight) => {
-            out.push(TAG_WEIGHT)?;
+            write_byte(out, TAG_WEIGHT)?;
             write_u64(out, weight)
         }
         ValueRef::Flag(set) => {
-            out.push(TAG_FLAG)?;
+            write_byte(out, TAG_FLAG)?;
             write_flag(out, set)
         }
     }
@@ -67,36 +92,41 @@ fn write_value(out: &mut Vec<u8>, written: &Value) -> Result<(), AllocError>
 #[tactic(auto, unfolding(crate::specs::Spelling::slot))]
 pub(crate) fn write_slot(out: &mut Vec<u8>, value: &Slot) -> Result<(), AllocError>
     ensures written { OnOk result (out.new.items ≡ out.old.items ++ slot value.now) }
+    ensures stands { Stands out.old.items out.new.items }
     ensures slot { is_slot value.now ≡ true }
 {
     match value {
-        Slot::Removed => out.push(TAG_REMOVED)?,
+        Slot::Removed => write_byte(out, TAG_REMOVED)?,
         Slot::Set(value) => write_value(out, value)?,
     }
     Ok(())
 }
 
-#[tactic(auto, unfolding(crate::specs::Spelling::entry))]
+#[tactic(auto, using(crate::proofs::Standings::stands_on), unfolding(crate::specs::Spelling::entry))]
 pub(crate) fn write_entry(out: &mut Vec<u8>, written: &Entry) -> Result<(), AllocError>
-    ensures { OnOk result (out.new.items ≡ out.old.items ++ entry written.now) }
+    ensures written { OnOk result (out.new.items ≡ out.old.items ++ entry written.now) }
+    ensures stands { Stands out.old.items out.new.items }
 {
     write_text(out, written.key().bytes())?;
     write_u64(out, written.version())?;
     write_slot(out, written.slot())
 }
 
-#[tactic(auto, unfolding(crate::specs::Spelling::block))]
+#[tactic(auto, using(crate::proofs::Standings::stands_on), unfolding(crate::specs::Spelling::block))]
 pub(crate) fn write_block(out: &mut Vec<u8>, written: &Block) -> Result<(), AllocError>
-    ensures { OnOk result (out.new.items ≡ out.old.items ++ block written.now) }
+    ensures written { OnOk result (out.new.items ≡ out.old.items ++ block written.now) }
+    ensures stands { Stands out.old.items out.new.items }
 {
     write_text(out, written.owner().bytes())?;
     write_u64(out, written.after())?;
     write_list(out, written.entries())
 }
 
+#[tactic(auto, using(crate::proofs::Standings::stands_on, crate::proofs::Standings::stands_behind))]
 pub(crate) fn write_list<T: ListItem>(out: &mut Vec<u8>, items: &[T]) -> Result<(), AllocError>
     requires { length items.now < 65536 }
-    ensures { OnOk result (out.new.items ≡ out.old.items ++ list T.spelling items.now) }
+    ensures written { OnOk result (out.new.items ≡ out.old.items ++ list T.spelling items.now) }
+    ensures stands { Stands out.old.items out.new.items }
 {
     write_u16(out, items.len() as u16)?;
     for item in items {
@@ -107,6 +137,7 @@ pub(crate) fn write_list<T: ListItem>(out: &mut Vec<u8>, items: &[T]) -> Result<
 
 pub(crate) fn write_optional_name(out: &mut Vec<u8>, name: Option<Name>) -> Result<(), AllocError>
     ensures written { OnOk result (out.new.items ≡ out.old.items ++ optional name) }
+    ensures stands { Stands out.old.items out.new.items }
     ensures name { is_optional is_name name ≡ true }
 {
     match name {
@@ -115,31 +146,44 @@ pub(crate) fn write_optional_name(out: &mut Vec<u8>, name: Option<Name>) -> Resu
     }
 }
 
+#[tactic(auto, using(crate::proofs::Standings::stands_on))]
 pub(crate) fn write_place(out: &mut Vec<u8>, after: Option<(Name, Key)>) -> Result<(), AllocError>
     ensures written { OnOk result (out.new.items ≡ out.old.items ++ place after) }
+    ensures stands { Stands out.old.items out.new.items }
     ensures place { is_optional is_place after ≡ true }
 {
     let Some((owner, key)) = after else {
-        return out.extend_from_slice(&[0, 0]);
+        return write_bytes(out, &[0, 0]);
     };
     write_text(out, owner.bytes())?;
     write_text(out, key.bytes())
 }
 
-#[tactic(auto, unfolding(crate::specs::Spelling::pair))]
+#[tactic(auto, using(crate::proofs::Standings::stands_on), unfolding(crate::specs::Spelling::pair))]
 pub(crate) fn write_pair(out: &mut Vec<u8>, written: &Pair) -> Result<(), AllocError>
-    ensures { OnOk result (out.new.items ≡ out.old.items ++ pair written.now) }
+    ensures written { OnOk result (out.new.items ≡ out.old.items ++ pair written.now) }
+    ensures stands { Stands out.old.items out.new.items }
 {
     write_text(out, written.owner.bytes())?;
     write_u64(out, written.upto)
 }
 
-#[tactic(auto, unfolding(crate::specs::Spelling::row))]
-pub(crate) fn write_row(out: &mut Vec<u8>, written: &Row) -> Result<(), AllocError>
-    ensures { OnOk result (out.new.items ≡ out.old.items ++ row written.now) }
+/// What a row has behind its owner.
+#[tactic(auto, using(crate::proofs::Standings::stands_on))]
+fn write_under_key(out: &mut Vec<u8>, written: &Row) -> Result<(), AllocError>
+    ensures written { OnOk result (out.new.items ≡ out.old.items ++ (text written.now.key ++ (number w64 written.now.version ++ value written.now.value))) }
+    ensures stands { Stands out.old.items out.new.items }
 {
-    write_text(out, written.owner().bytes())?;
     write_text(out, written.key().bytes())?;
     write_u64(out, written.version())?;
     write_value(out, written.value())
+}
+
+#[tactic(auto, using(crate::proofs::Standings::stands_on), unfolding(crate::specs::Spelling::row))]
+pub(crate) fn write_row(out: &mut Vec<u8>, written: &Row) -> Result<(), AllocError>
+    ensures written { OnOk result (out.new.items ≡ out.old.items ++ row written.now) }
+    ensures stands { Stands out.old.items out.new.items }
+{
+    write_text(out, written.owner().bytes())?;
+    write_under_key(out, written)
 }

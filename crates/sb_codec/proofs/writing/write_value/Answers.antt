@@ -4,11 +4,11 @@ use Rattle.sb_types.specs.Content.{lent}
 use Rattle.sb_codec.proofs.Values.{addr_spelled, weight_spelled, flag_spelled}
 use Rattle.sb_codec.proofs.writing.write_value.Goals as goal
 
-pub returns-in_ok-push-in-Addr-clause-written : goal.returns-in_ok-push-in-Addr-clause-written
-returns-in_ok-push-in-Addr-clause-written c = rw (addr_spelled c.args.written.now c.in-Addr.bytes.now (sym (ap lent c.in-Addr.is) ∙ c.view.ensures.content)) (grind (arith, common_steps))
+pub returns-in_ok-write_byte-in-Addr-clause-written : goal.returns-in_ok-write_byte-in-Addr-clause-written
+returns-in_ok-write_byte-in-Addr-clause-written c = rw (addr_spelled c.args.written.now c.in-Addr.bytes.now (sym (ap lent c.in-Addr.is) ∙ c.view.ensures.content)) (grind (arith, common_steps))
 
-pub returns-in_ok-push-in-Weight-clause-written : goal.returns-in_ok-push-in-Weight-clause-written
-returns-in_ok-push-in-Weight-clause-written c = rw (weight_spelled c.args.written.now c.in-Weight.weight (sym (ap lent c.in-Weight.is) ∙ c.view.ensures.content)) (grind (arith, common_steps))
+pub returns-in_ok-write_byte-in-Weight-clause-written : goal.returns-in_ok-write_byte-in-Weight-clause-written
+returns-in_ok-write_byte-in-Weight-clause-written c = rw (weight_spelled c.args.written.now c.in-Weight.weight (sym (ap lent c.in-Weight.is) ∙ c.view.ensures.content)) (grind (arith, common_steps))
 
-pub returns-in_ok-push-in-Flag-clause-written : goal.returns-in_ok-push-in-Flag-clause-written
-returns-in_ok-push-in-Flag-clause-written c = rw (flag_spelled c.args.written.now c.in-Flag.set (sym (ap lent c.in-Flag.is) ∙ c.view.ensures.content)) (grind (arith, common_steps))
+pub returns-in_ok-write_byte-in-Flag-clause-written : goal.returns-in_ok-write_byte-in-Flag-clause-written
+returns-in_ok-write_byte-in-Flag-clause-written c = rw (flag_spelled c.args.written.now c.in-Flag.set (sym (ap lent c.in-Flag.is) ∙ c.view.ensures.content)) (grind (arith, common_steps))

@@ -1,0 +1,6 @@
+pub mod Reads
+pub mod Script
+pub mod Printed
+pub mod Commands
+pub mod Written
+pub mod Played

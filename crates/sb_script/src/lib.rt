@@ -1,0 +1,20 @@
+//! Scripts: their lines as events of a world of nodes in memory, and the lines that its answers print.
+#![tactic(auto)]
+
+mod command;
+mod line;
+mod lines;
+mod making;
+mod output;
+mod playing;
+mod print;
+mod sim;
+mod words;
+
+pub use sb_frames::Steps;
+pub use sim::{Ending, sim_run, sim_run_uncounted};
+
+#[cfg(test)]
+mod story;
+#[cfg(test)]
+mod tests;

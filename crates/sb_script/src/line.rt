@@ -1,0 +1,164 @@
+//! The lines of a script below the first. Only their shape is looked at: names, keys and values are words yet.
+use crate::words::{ValueWords, WriteWords, are_words, connection_of, number_of};
+
+/// A line below the world line, with its words. Numbers of connections are 1 to 999,999.
+#[derive(Clone, Copy)]
+pub(crate) enum Line<'a> {
+    /// `commit N K KIND VALUE`, `commit N K removed`: the log of node N takes a write.
+    Commit {
+        write: WriteWords<'a>,
+    },
+    /// `put N K KIND VALUE`, `del N K`: it takes a write, and the oldest that waits is entered.
+    Write {
+        write: WriteWords<'a>,
+    },
+    /// `crash N K KIND VALUE kept`, `.. lost`: node N crashes in that commit.
+    Crash {
+        write: WriteWords<'a>,
+        is_kept: bool,
+    },
+    /// `take N`: the oldest write of node N that waits is entered.
+    Take {
+        node: &'a [u8],
+    },
+    /// `restart N`
+    Restart {
+        node: &'a [u8],
+    },
+    /// `connect N C`: a connection of this number begins at node N.
+    Connect {
+        node: &'a [u8],
+        connection: u64,
+    },
+    /// `close C`
+    Close {
+        connection: u64,
+    },
+    /// `line C I`: frame I is lined up.
+    LineUp {
+        connection: u64,
+        frame: u64,
+    },
+    /// `piece C n`: the next n bytes come.
+    Piece {
+        connection: u64,
+        count: u64,
+    },
+    /// `ask C`: the session sends its next digest.
+    Ask {
+        connection: u64,
+    },
+    /// `offer N O V`: node N sends what it holds of owner O above the version V.
+    Offer {
+        node: &'a [u8],
+        owner: &'a [u8],
+        after: u64,
+    },
+    /// `read N O K`: node N reads what owner O has under the key K.
+    Read {
+        node: &'a [u8],
+        owner: &'a [u8],
+        key: &'a [u8],
+    },
+    /// `upto N O`: how far node N holds owner O.
+    Upto {
+        node: &'a [u8],
+        owner: &'a [u8],
+    },
+    /// `show I`: the frame of this number.
+    Show {
+        frame: u64,
+    },
+    /// `give A B V`: node A sends node B what it wrote above the version V, on connections of their own.
+    Give {
+        giver: &'a [u8],
+        taker: &'a [u8],
+        after: u64,
+    },
+}
+
+/// A line that says what a node writes.
+fn parse_write<'a>(words: &[&'a [u8]]) -> Option<Line<'a>> {
+    let (node, key, value) = match *words {
+        [b"del", node, key] | [b"commit", node, key, b"removed"] => (node, key, None),
+        [b"put" | b"commit", node, key, kind, content]
+        | [b"crash", node, key, kind, content, b"kept" | b"lost"] => {
+            (node, key, Some(ValueWords { kind, content }))
+        }
+        _ => return None,
+    };
+    let write = WriteWords { node, key, value };
+    match *words {
+        [b"commit", ..] => Some(Line::Commit { write }),
+        [b"crash", .., end] => Some(Line::Crash {
+            write,
+            is_kept: end == b"kept".as_slice(),
+        }),
+        _ => Some(Line::Write { write }),
+    }
+}
+
+/// A line of a connection.
+fn parse_connection<'a>(words: &[&'a [u8]]) -> Option<Line<'a>> {
+    match *words {
+        [b"connect", node, connection] => Some(Line::Connect {
+            node,
+            connection: connection_of(connection)?,
+        }),
+        [b"close", connection] => Some(Line::Close {
+            connection: connection_of(connection)?,
+        }),
+        [b"line", connection, frame] => Some(Line::LineUp {
+            connection: connection_of(connection)?,
+            frame: number_of(frame)?,
+        }),
+        [b"piece", connection, count] => Some(Line::Piece {
+            connection: connection_of(connection)?,
+            count: number_of(count)?,
+        }),
+        [b"ask", connection] => Some(Line::Ask {
+            connection: connection_of(connection)?,
+        }),
+        _ => None,
+    }
+}
+
+/// Another line of a node, or of two.
+fn parse_node<'a>(words: &[&'a [u8]]) -> Option<Line<'a>> {
+    match *words {
+        [b"take", node] => Some(Line::Take { node }),
+        [b"restart", node] => Some(Line::Restart { node }),
+        [b"offer", node, owner, after] => Some(Line::Offer {
+            node,
+            owner,
+            after: number_of(after)?,
+        }),
+        [b"read", node, owner, key] => Some(Line::Read { node, owner, key }),
+        [b"upto", node, owner] => Some(Line::Upto { node, owner }),
+        [b"show", frame] => Some(Line::Show {
+            frame: number_of(frame)?,
+        }),
+        [b"give", giver, taker, after] => Some(Line::Give {
+            giver,
+            taker,
+            after: number_of(after)?,
+        }),
+        _ => None,
+    }
+}
+
+impl<'a> Line<'a> {
+    /// None where the line is no command.
+    pub(crate) fn parse(words: &[&'a [u8]]) -> Option<Line<'a>> {
+        if !are_words(words) {
+            return None;
+        }
+        if let Some(line) = parse_write(words) {
+            return Some(line);
+        }
+        match parse_connection(words) {
+            Some(line) => Some(line),
+            None => parse_node(words),
+        }
+    }
+}

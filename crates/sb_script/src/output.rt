@@ -1,0 +1,93 @@
+//! The answers of a script, on their way out.
+ghost use Rattle.std.specs.Prelude.{◌≡◌, OnOk, IfErr, IfSome};
+ghost use Rattle.std.specs.Io.KnownBytes.{Appends, Keeps};
+ghost use Rattle.sb_script.specs.Written.{printed, taken, written};
+
+use sb_types::Fault;
+use std::alloc::Global;
+use std::fmt::Display;
+use std::io::{self, BufWriter, ErrorKind, Write};
+
+/// How many bytes are written at once.
+const ROOM: usize = 65_536;
+
+/// A writer that counts the bytes that it took. Nothing more is written behind a write that failed.
+#[derive(Drop)]
+struct Counting<W> {
+    writer: W,
+    taken: u64,
+    has_failed: bool,
+}
+
+impl<W: Write> Write for Counting<W> {
+    ghost contents = { λ c. W.contents c.writer };
+
+    fn write(&mut self, bytes: &[u8]) -> io::Result<usize> {
+        if self.has_failed {
+            return Err(io::Error::from(ErrorKind::BrokenPipe));
+        }
+        let answer = self.writer.write(bytes);
+        match &answer {
+            Ok(0) => self.has_failed = true,
+            Ok(count) => self.taken = self.taken.saturating_add(*count as u64),
+            Err(error) => self.has_failed = error.kind() != ErrorKind::Interrupted,
+        }
+        answer
+    }
+
+    fn flush(&mut self) -> io::Result<()> {
+        self.writer.flush()
+    }
+}
+
+/// Lines that are written many at once. It takes its memory when it is made and none later.
+#[derive(Drop)]
+pub(crate) struct Output<W: Write + Drop> {
+    writer: BufWriter<Counting<W>>,
+}
+
+impl<W: Write + Drop> Output<W> {
+    /// `NoMemory`.
+    pub(crate) fn new(alloc: Global, writer: W) -> Result<Output<W>, Fault>
+        ensures { IfErr result (λ fault. fault ≡ Fault.NoMemory) }
+    {
+        let counting = Counting {
+            writer,
+            taken: 0,
+            has_failed: false,
+        };
+        match BufWriter::with_capacity(alloc, ROOM, counting) {
+            Ok(writer) => Ok(Output { writer }),
+            Err(_) => Err(Fault::NoMemory),
+        }
+    }
+
+    /// Prints lines. `WriteFailed`, with how many bytes were written in all.
+    pub(crate) fn print<D: Display + Drop>(&mut self, lines: D) -> Result<(), Fault>
+        ensures printed { OnOk result (IfSome (D.output lines) (Appends (printed W.contents self.old) (printed W.contents self.new))) }
+        ensures fault { IfErr result (λ fault. fault ≡ Fault.WriteFailed (taken self.new)) }
+    {
+        match self.writer.write_fmt(lines) {
+            Ok(()) => Ok(()),
+            Err(_) => Err(self.fault()),
+        }
+    }
+
+    /// Writes what waits. `WriteFailed`, with how many bytes were written in all.
+    pub(crate) fn finish(&mut self) -> Result<(), Fault>
+        ensures kept { Keeps (printed W.contents self.old) (printed W.contents self.new) }
+        ensures written { OnOk result (Keeps (printed W.contents self.old) (written W.contents self.new)) }
+        ensures fault { IfErr result (λ fault. fault ≡ Fault.WriteFailed (taken self.new)) }
+    {
+        match self.writer.flush() {
+            Ok(()) => Ok(()),
+            Err(_) => Err(self.fault()),
+        }
+    }
+
+    fn fault(&self) -> Fault
+        ensures { result ≡ Fault.WriteFailed (taken self.now) }
+    {
+        Fault::WriteFailed(self.writer.get_ref().taken)
+    }
+}

@@ -1,0 +1,221 @@
+//! What the commands of a script do to its world, and what is printed of it.
+ghost use Rattle.std.specs.Prelude.{◌≡◌, OnOk, IfOk, IfErr};
+ghost use Rattle.std.specs.Io.KnownBytes.{Appends};
+ghost use Rattle.sb_world.specs.Places.{frame_at};
+ghost use Rattle.sb_script.specs.Printed.{lines_of, shown_frame};
+ghost use Rattle.sb_script.specs.Played.{PlaysStep, PlaysWrite, Plays, PlaysLine};
+ghost use Rattle.sb_script.specs.Written.{printed, taken};
+
+use crate::command::Command;
+use crate::output::Output;
+use crate::print::{AnswerLines, FaultLine, FrameLine};
+use crate::words::CONNECTION_MOST;
+use sb_log::PlainLog;
+use sb_types::{Fault, Name};
+use sb_world::{Answer, Event, World};
+use std::alloc::Global;
+use std::io::Write;
+
+/// The connections of a give: numbers that no line of a script can name.
+const GIVER: u64 = CONNECTION_MOST + 1;
+
+const TAKER: u64 = CONNECTION_MOST + 2;
+
+/// The frames that a give sends, by their numbers, where it sends them.
+#[derive(Clone, Copy)]
+struct Given {
+    hello: Option<u64>,
+    delta: Option<u64>,
+}
+
+/// Lets go of what the world answered.
+fn lose(_answer: Result<Answer, Fault>) {}
+
+/// Lets go of an event.
+fn lose_event(_event: Event) {}
+
+/// Prints what an event answered. `WriteFailed`.
+fn tell<W: Write + Drop>(
+    event: Event,
+    answer: Result<Answer, Fault>,
+    output: &mut Output<W>,
+) -> Result<(), Fault>
+    ensures printed { OnOk result (Appends (printed W.contents output.old) (printed W.contents output.new) (lines_of event answer)) }
+    ensures fault { IfErr result (λ fault. fault ≡ Fault.WriteFailed (taken output.new)) }
+{
+    let printed = output.print(AnswerLines {
+        event: &event,
+        answer: &answer,
+    });
+    lose(answer);
+    lose_event(event);
+    printed
+}
+
+/// Lets an event happen, and prints what it answers. `WriteFailed`.
+fn step<W: Write + Drop>(
+    world: &mut World<PlainLog>,
+    event: Event,
+    output: &mut Output<W>,
+) -> Result<(), Fault>
+    ensures played { OnOk result (PlaysStep world.old event (printed W.contents output.old) (printed W.contents output.new) world.new) }
+    ensures fault { IfErr result (λ fault. fault ≡ Fault.WriteFailed (taken output.new)) }
+{
+    let answer = world.step(&event);
+    tell(event, answer, output)
+}
+
+/// Prints a frame that was sent, or that none has this number. `WriteFailed`.
+fn show<W: Write + Drop>(
+    world: &World<PlainLog>,
+    number: u64,
+    output: &mut Output<W>,
+) -> Result<(), Fault>
+    ensures printed { OnOk result (Appends (printed W.contents output.old) (printed W.contents output.new) (shown_frame (frame_at world.now.sent number))) }
+    ensures fault { IfErr result (λ fault. fault ≡ Fault.WriteFailed (taken output.new)) }
+{
+    match world.frame(number) {
+        Some(frame) => output.print(FrameLine(frame)),
+        None => output.print("nothing\n"),
+    }
+}
+
+/// A node's log takes a write, and the oldest of its writes that wait is entered, whose version is printed. `WriteFailed`.
+fn write<W: Write + Drop>(
+    world: &mut World<PlainLog>,
+    commit: Event,
+    take: Event,
+    output: &mut Output<W>,
+) -> Result<(), Fault>
+    ensures played { OnOk result (PlaysWrite world.old commit take (printed W.contents output.old) (printed W.contents output.new) world.new) }
+    ensures fault { IfErr result (λ fault. fault ≡ Fault.WriteFailed (taken output.new)) }
+{
+    let committed = world.step(&commit);
+    lose_event(commit);
+    match committed {
+        Ok(answer) => lose(Ok(answer)),
+        Err(fault) => {
+            lose_event(take);
+            return output.print(FaultLine(fault));
+        }
+    }
+    match world.step(&take) {
+        Ok(Answer::Took(version)) => {
+            lose_event(take);
+            output.print(format_args!("version {version}\n"))
+        }
+        answer => tell(take, answer, output),
+    }
+}
+
+/// Lets an event happen, and answers the number of the frame that it sent, if it sent one.
+fn send(world: &mut World<PlainLog>, event: Event) -> Result<Option<u64>, Fault> {
+    match world.step(&event)? {
+        Answer::Sent(number) => Ok(Some(number)),
+        _ => Ok(None),
+    }
+}
+
+/// The giver's part of a give.
+fn offer(world: &mut World<PlainLog>, giver: Name, after: u64) -> Result<Given, Fault> {
+    Ok(Given {
+        hello: send(world, Event::Connect(giver, GIVER))?,
+        delta: send(world, Event::Offer(giver, giver, after))?,
+    })
+}
+
+/// Lines up a frame for the taker, if it was sent.
+fn line_up(world: &mut World<PlainLog>, frame: Option<u64>) -> Result<(), Fault> {
+    if let Some(number) = frame {
+        lose(Ok(world.step(&Event::Line(TAKER, number))?));
+    }
+    Ok(())
+}
+
+/// The taker's part of a give, and what came of the frames.
+fn take_up(world: &mut World<PlainLog>, taker: Name, given: Given) -> Result<Answer, Fault> {
+    let _hello = send(world, Event::Connect(taker, TAKER))?;
+    line_up(world, given.hello)?;
+    line_up(world, given.delta)?;
+    world.step(&Event::Piece(TAKER, u64::MAX))
+}
+
+/// Closes the connections of a give.
+fn close(world: &mut World<PlainLog>) {
+    lose(world.step(&Event::Close(GIVER)));
+    lose(world.step(&Event::Close(TAKER)));
+}
+
+/// A node sends another what it wrote above a version, on connections of their own. The delta's frame is printed, and
+/// what came of it. `WriteFailed`.
+fn give<W: Write + Drop>(
+    world: &mut World<PlainLog>,
+    giver: Name,
+    taker: Name,
+    after: u64,
+    output: &mut Output<W>,
+) -> Result<(), Fault>
+    ensures { IfErr result (λ fault. fault ≡ Fault.WriteFailed (taken output.new)) }
+{
+    let given = match offer(world, giver, after) {
+        Ok(given) => given,
+        Err(fault) => {
+            close(world);
+            return output.print(FaultLine(fault));
+        }
+    };
+    match given.delta {
+        Some(number) => match show(world, number, output) {
+            Ok(()) => {}
+            Err(fault) => return Err(fault),
+        },
+        None => {}
+    }
+    let answer = take_up(world, taker, given);
+    close(world);
+    tell(Event::Piece(TAKER, u64::MAX), answer, output)
+}
+
+/// Does what a command says, and prints what it answers. `WriteFailed`.
+fn play_command<W: Write + Drop>(
+    world: &mut World<PlainLog>,
+    command: Command,
+    output: &mut Output<W>,
+) -> Result<(), Fault>
+    ensures played { OnOk result (Plays world.old command (printed W.contents output.old) (printed W.contents output.new) world.new) }
+    ensures fault { IfErr result (λ fault. fault ≡ Fault.WriteFailed (taken output.new)) }
+{
+    match command {
+        Command::Step(event) => step(world, event, output),
+        Command::Write { commit, take } => write(world, commit, take, output),
+        Command::Give {
+            giver,
+            taker,
+            after,
+        } => give(world, giver, taker, after, output),
+        Command::Show { frame } => show(world, frame, output),
+    }
+}
+
+/// Does what a line says and prints what it answers, or its fault. False where it is no command. `WriteFailed`.
+pub(crate) fn play_line<W: Write + Drop>(
+    alloc: Global,
+    world: &mut World<PlainLog>,
+    line: &[u8],
+    output: &mut Output<W>,
+) -> Result<bool, Fault>
+    ensures played { IfOk result (λ is_command. PlaysLine is_command world.old (printed W.contents output.old) (printed W.contents output.new) world.new) }
+    ensures fault { IfErr result (λ fault. fault ≡ Fault.WriteFailed (taken output.new)) }
+{
+    match Command::read(alloc, line) {
+        Ok(Some(command)) => {
+            play_command(world, command, output)?;
+            Ok(true)
+        }
+        Ok(None) => Ok(false),
+        Err(fault) => {
+            output.print(FaultLine(fault))?;
+            Ok(true)
+        }
+    }
+}

@@ -1,0 +1,142 @@
+//! The run of a script.
+ghost use Rattle.std.specs.Prelude.{◌≡◌, ◌+◌, ◌<◌, ◌≤◌, true, false, vec_len, OnOk, IfOk, IfErr};
+ghost use Rattle.sb_script.specs.Script.{EndsSo, bytes_to_come, status_of};
+ghost use Rattle.sb_script.specs.Written.{taken};
+ghost use Rattle.sb_script.specs.Reads.{AreCounted, IsRunFault, comes_before_reads, is_run_fault};
+
+use crate::lines::Lines;
+use crate::making::make_world;
+use crate::output::Output;
+use crate::playing::play_line;
+use crate::print::FaultLine;
+use sb_frames::Steps;
+use sb_types::Fault;
+use std::alloc::Global;
+use std::io::{Read, Write};
+use std::marker::Brand;
+use std::sync::ledger::{Blank, Ledger};
+
+/// How a script ended.
+#[derive(Clone, Copy, Debug, PartialEq, Eq)]
+pub enum Ending {
+    /// All of its lines were run.
+    Whole,
+    /// A line was no command.
+    WrongLine,
+    /// The world line had a fault.
+    NoWorld,
+}
+
+impl Ending {
+    /// The exit status of the program.
+    pub fn status(self) -> u8
+        ensures { result ≡ status_of self }
+    {
+        match self {
+            Ending::Whole => 0,
+            Ending::WrongLine => 2,
+            Ending::NoWorld => 3,
+        }
+    }
+}
+
+/// Runs a script, and prints what it answers. At most `max_reads` reads are made.
+///
+/// The faults of lines are printed. The run's own come back: `ReadFailed`; `WriteFailed`, with how many
+/// bytes were written; `TurnsSpent` where the script takes more reads; `NoMemory`. What was printed before
+/// the end of the run has been written, but for what a failed write left.
+#[tactic(auto, using(crate::proofs::Runs::memory_fault, crate::proofs::Runs::write_fault, crate::proofs::Runs::fault_later))]
+pub fn sim_run<R: Read + Drop, W: Write + Drop, L: Ledger>(
+    alloc: Global,
+    reader: R,
+    writer: W,
+    max_reads: u64,
+    steps: &mut Steps<L>,
+) -> Result<Ending, Fault>
+    ensures reads { steps.new ≤ steps.old + max_reads }
+    ensures made { OnOk result (steps.old < steps.new) }
+    ensures fault { IfErr result (IsRunFault steps.old steps.new max_reads) }
+    ensures early { IfErr result (λ fault. comes_before_reads fault ≡ false → steps.old < steps.new) }
+{
+    let mut output = Output::new(alloc, writer)?;
+    let mut lines = Lines::open(alloc, reader, max_reads, steps)?;
+    let ended = play(alloc, &mut lines, &mut output, steps);
+    let finished = output.finish();
+    let ending = ended?;
+    finished?;
+    Ok(ending)
+}
+
+/// Runs a script for a caller that does not count the reads.
+pub fn sim_run_uncounted<R: Read + Drop, W: Write + Drop>(
+    alloc: Global,
+    reader: R,
+    writer: W,
+    max_reads: u64,
+) -> Result<Ending, Fault>
+    ensures made { OnOk result (0 < max_reads) }
+    ensures fault { IfErr result (λ fault. is_run_fault fault ≡ true) }
+    ensures early { IfErr result (λ fault. comes_before_reads fault ≡ false → 0 < max_reads) }
+{
+    run_on::<R, W, Brand>(alloc, reader, writer, max_reads, Blank::new(1))
+}
+
+/// Runs a script, and counts its reads in a ledger of their own.
+fn run_on<R: Read + Drop, W: Write + Drop, L: Ledger>(
+    alloc: Global,
+    reader: R,
+    writer: W,
+    max_reads: u64,
+    blank: Blank,
+) -> Result<Ending, Fault>
+    requires name { blank.name ≡ L.name }
+    requires parts { blank.parts ≡ L.parts }
+    requires some { 0 < blank.parts }
+    ensures made { OnOk result (0 < max_reads) }
+    ensures fault { IfErr result (λ fault. is_run_fault fault ≡ true) }
+    ensures early { IfErr result (λ fault. comes_before_reads fault ≡ false → 0 < max_reads) }
+{
+    let mut steps = Steps::<L>::new(blank);
+    sim_run(alloc, reader, writer, max_reads, &mut steps)
+}
+
+#[tactic(auto, using(crate::proofs::Runs::counted_later, crate::proofs::Runs::fault_later, crate::proofs::Runs::write_fault))]
+fn play<R: Read, W: Write + Drop, L: Ledger>(
+    alloc: Global,
+    lines: &mut Lines<R>,
+    output: &mut Output<W>,
+    steps: &mut Steps<L>,
+) -> Result<Ending, Fault>
+    ensures counted { AreCounted steps.old lines.old.left steps.new lines.new.left }
+    ensures ending { IfOk result (λ ending. EndsSo ending lines.new.ended (vec_len lines.new.line)
+        (bytes_to_come lines.old.left lines.old.at lines.old.end)
+        (bytes_to_come lines.new.left lines.new.at lines.new.end)) }
+    ensures fault { IfErr result (IsRunFault steps.old steps.new lines.old.left) }
+{
+    if !lines.advance(steps)? {
+        return Ok(Ending::Whole);
+    }
+    let mut world = match make_world(alloc, lines.line()) {
+        Ok(Some(world)) => world,
+        Ok(None) => return end_at(lines.number(), output),
+        Err(fault) => {
+            output.print(FaultLine(fault))?;
+            return Ok(Ending::NoWorld);
+        }
+    };
+    while lines.advance(steps)? {
+        if !play_line(alloc, &mut world, lines.line(), output)? {
+            return end_at(lines.number(), output);
+        }
+    }
+    Ok(Ending::Whole)
+}
+
+/// Ends the run at a line that is no command.
+fn end_at<W: Write + Drop>(number: u64, output: &mut Output<W>) -> Result<Ending, Fault>
+    ensures wrong { IfOk result (λ ending. ending ≡ Ending.WrongLine) }
+    ensures fault { IfErr result (λ fault. fault ≡ Fault.WriteFailed (taken output.new)) }
+{
+    output.print(format_args!("line {number}\n"))?;
+    Ok(Ending::WrongLine)
+}

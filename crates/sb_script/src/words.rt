@@ -1,0 +1,84 @@
+//! The words of a line, and the numbers among them.
+ghost use Rattle.std.specs.Prelude.{◌≡◌, IfOk};
+ghost use Rattle.sb_world.specs.declared.event.Event.TheVariants as events;
+ghost use Rattle.sb_types.specs.declared.entry.Slot as entries;
+ghost use Rattle.sb_script.specs.Commands.{IsSlot};
+
+use sb_types::{Fault, Key, Name, Slot, Value};
+use sb_world::Event;
+use std::alloc::Global;
+
+/// The greatest number of a connection in a script.
+pub(crate) const CONNECTION_MOST: u64 = 999_999;
+
+/// The words of a line, with one space between two. An empty word stands where that is broken.
+pub(crate) fn words_of(alloc: Global, line: &[u8]) -> Result<Vec<&[u8]>, Fault> {
+    Ok(line.split(|byte| *byte == b' ').collect(alloc)?)
+}
+
+/// Whether no word is empty.
+pub(crate) fn are_words(words: &[&[u8]]) -> bool {
+    words.iter().all(|word| !word.is_empty())
+}
+
+/// A number in decimal digits, which may have leading zeros.
+pub(crate) fn number_of(word: &[u8]) -> Option<u64> {
+    if !word.iter().all(|byte| byte.is_ascii_digit()) {
+        return None;
+    }
+    str::from_utf8(word).ok()?.parse().ok()
+}
+
+/// The number of a connection, 1 to 999,999.
+pub(crate) fn connection_of(word: &[u8]) -> Option<u64> {
+    match number_of(word)? {
+        0 => None,
+        number if number > CONNECTION_MOST => None,
+        number => Some(number),
+    }
+}
+
+/// The two words of a value.
+#[derive(Clone, Copy)]
+pub(crate) struct ValueWords<'a> {
+    pub(crate) kind: &'a [u8],
+    pub(crate) content: &'a [u8],
+}
+
+/// The words of a write: a node, a key, and a value where it is no removal.
+#[derive(Clone, Copy)]
+pub(crate) struct WriteWords<'a> {
+    pub(crate) node: &'a [u8],
+    pub(crate) key: &'a [u8],
+    pub(crate) value: Option<ValueWords<'a>>,
+}
+
+impl WriteWords<'_> {
+    /// What is to stand under the key. `BadValue`; `NoMemory`.
+    fn slot(&self, alloc: Global) -> Result<Slot, Fault>
+        ensures { IfOk result (IsSlot self.now.value) }
+    {
+        match self.value {
+            Some(words) => Ok(Slot::Set(Value::from_words(alloc, words.kind, words.content)?)),
+            None => Ok(Slot::Removed),
+        }
+    }
+
+    /// The node commits the write. `BadName`; `BadKey`; `BadValue`; `NoMemory`.
+    pub(crate) fn commit(&self, alloc: Global) -> Result<Event, Fault>
+        ensures { IfOk result (λ event. (slot : entries.Slot) × IsSlot self.now.value slot × (event ≡ events.Commit self.now.node.now self.now.key.now slot)) }
+    {
+        let node = Name::read(self.node)?;
+        let key = Key::read(self.key)?;
+        Ok(Event::Commit(node, key, self.slot(alloc)?))
+    }
+
+    /// The node crashes in that commit, behind it or before it. The faults of `commit`.
+    pub(crate) fn crash(&self, alloc: Global, is_kept: bool) -> Result<Event, Fault>
+        ensures { IfOk result (λ event. (slot : entries.Slot) × IsSlot self.now.value slot × (event ≡ events.CrashInCommit self.now.node.now self.now.key.now slot is_kept)) }
+    {
+        let node = Name::read(self.node)?;
+        let key = Key::read(self.key)?;
+        Ok(Event::CrashInCommit(node, key, self.slot(alloc)?, is_kept))
+    }
+}

@@ -1,0 +1,55 @@
+-- Which batches lead from one node to the next.
+use Rattle.std.proofs.Common.{◌≡◌, ℕ, ◌+◌, Bool, true, false, cond, List, [], ◌∷◌, Option, Some, unwrap_or, nat_eq, refl, sym, ap, subst, ◌∙◌, eq-eqb}
+use Rattle.std.proofs.lemmas.Bool.{cond-true}
+use Rattle.std.proofs.lemmas.Cmp.{nat_list_cmp_total}
+use Rattle.std.specs.Cmp.Lexicographic.{pointwise}
+use Rattle.std.specs.Ordering.{eq_by_cmp}
+use Rattle.std.specs.FinMap.{get, get-insert}
+use Rattle.sb_types.specs.Records.{Entry, Holder}
+use Rattle.sb_types.proofs.Texts.{same_text}
+use Rattle.sb_table.specs.Plain.{with_entry}
+use Rattle.sb_holdings.specs.Held.{Held, nothing, holder_of, shown_of, written}
+use Rattle.sb_holdings.specs.Shown.{own}
+use Rattle.sb_holdings.specs.Nodes.{Node}
+use Rattle.sb_views.specs.declared.event.Event.{Event}
+use Rattle.sb_views.specs.declared.event.Event.TheVariants.{TookOwn}
+use Rattle.sb_views.specs.Stories.{node_after}
+use Rattle.sb_views.specs.Pages.{Leads, of_owner, table_with_all}
+use Rattle.sb_views.proofs.ByText.{by_text}
+use Rattle.sb_views.proofs.Showing.{tied}
+
+module _ (held : Held) (e : Entry) (next : e.version ≡ (shown_of held held.me).held + 1) where
+  abbrev mine : Holder
+  mine = holder_of held.owners held.me
+
+  shown-own : (own mine e).shown ≡ with_entry mine.shown e
+  shown-own = ap (λ (h : Holder). h.shown) (cond-true (nat_eq e.version (mine.shown.held + 1)) _ mine (eq-eqb e.version _ next))
+
+  shown-cond : (b : Bool) (o : Option Holder) → (unwrap_or (cond b (Some (own mine e)) o) nothing).shown ≡ cond b (own mine e).shown (unwrap_or o nothing).shown
+  shown-cond true o = refl
+  shown-cond false o = refl
+
+  shown-written : (owner : List ℕ) → shown_of (written held e) owner ≡ cond (pointwise nat_eq held.me owner) (own mine e).shown (shown_of held owner)
+  shown-written owner =
+      ap (λ (o : Option Holder). (unwrap_or o nothing).shown) (get-insert nat_list_cmp_total held.owners held.me (own mine e) owner)
+      ∙ shown-cond (eq_by_cmp by_text owner held.me) (get held.owners owner)
+      ∙ ap (λ (b : Bool). cond b (own mine e).shown (shown_of held owner)) (tied held.me owner)
+
+  lead-case : (owner : List ℕ) (b : Bool) → pointwise nat_eq held.me owner ≡ b
+      → cond b (own mine e).shown (shown_of held owner) ≡ table_with_all (shown_of held owner) (of_owner owner ((held.me, e) ∷ []))
+  lead-case owner true is = rw is (shown-own ∙ ap (λ (o : List ℕ). with_entry (shown_of held o) e) (same_text held.me owner is))
+  lead-case owner false is = rw is refl
+
+  pub own-leads : Leads held (written held e) ((held.me, e) ∷ [])
+  own-leads owner = shown-written owner ∙ lead-case owner (pointwise nat_eq held.me owner) refl
+
+-- the first own write of a node leads from the node as it was opened
+pub first-leads : (opening : Node) (held : Held) (e : Entry) (ready upto : List Event) (batch : List (List ℕ × Entry)) → opening.held ≡ held
+    → e.version ≡ (shown_of held held.me).held + 1 → ready ≡ [] → upto ≡ TookOwn e ∷ [] → batch ≡ (held.me, e) ∷ []
+    → Leads (node_after opening ready).held (node_after opening upto).held batch
+first-leads opening held e ready upto batch same next none one alone =
+    let leads : Leads opening.held (written opening.held e) ((held.me, e) ∷ []) =
+    subst (λ (h : Held). Leads h (written h e) ((held.me, e) ∷ [])) (sym same) (own-leads held e next) in
+    subst (λ (b : List (List ℕ × Entry)). Leads (node_after opening ready).held (node_after opening upto).held b) (sym alone)
+    (subst (λ (l : List Event). Leads (node_after opening l).held (node_after opening upto).held ((held.me, e) ∷ [])) (sym none)
+    (subst (λ (l : List Event). Leads opening.held (node_after opening l).held ((held.me, e) ∷ [])) (sym one) leads))

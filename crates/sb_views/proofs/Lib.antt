@@ -1,0 +1,12 @@
+pub mod Fronts
+pub mod Adding
+pub mod ByText
+pub mod Turning
+pub mod Showing
+pub mod Appending
+pub mod Beginning
+pub mod Sheets
+pub mod Leading
+pub mod Reaching
+pub mod Starting
+pub mod Wanted

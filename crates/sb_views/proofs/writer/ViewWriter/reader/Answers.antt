@@ -1,0 +1,5 @@
+use Rattle.sb_views.proofs.Turning.{admits}
+use Rattle.sb_views.proofs.writer.ViewWriter.reader.Goals as goal
+
+pub reader-requires : goal.reader-requires
+reader-requires g c = admits g.S.Site.story g.S.Site.opening

@@ -1,0 +1,57 @@
+-- Rows as they are lent, in order.
+use Rattle.std.specs.Prelude.{◌≡◌, ◌++◌, ℕ, Bool, true, false, nat_eq, if◌then◌else◌, List, [], ◌∷◌, map, filter, flat_map, Option, Some, None}
+use Rattle.std.specs.List.{starts_with}
+use Rattle.std.specs.Cmp.Lexicographic.{pointwise}
+use Rattle.std.specs.FinMap.{entries}
+use Rattle.sb_types.specs.Value.{Value}
+use Rattle.sb_views.specs.declared.rows.Row as rust
+use Rattle.sb_views.specs.Pages.{Sheet, Page}
+
+-- an owner's value under a key, with the version of its write
+pub record Row : Type 0 where
+  pub owner : List ℕ
+  pub key : List ℕ
+  pub value : Value
+  pub version : ℕ
+
+abbrev pub row_lent : rust.Row → Row
+row_lent r = record { owner = r.owner.now; key = r.key.now; value = r.value.now; version = r.version }
+
+abbrev pub row_at : List ℕ → List ℕ × (Value × ℕ) → Row
+row_at owner p = record { owner = owner; key = p.0; value = p.1.0; version = p.1.1 }
+
+-- an owner's rows under the keys that begin so
+abbrev pub rows_under : List ℕ → List ℕ → Sheet → List Row
+rows_under prefix owner sheet = map (row_at owner) (filter (λ p. starts_with nat_eq p.0 prefix) (entries sheet.rows))
+
+-- the same of owners with their sheets, one after the other
+abbrev pub rows_of_sheets : List ℕ → List (List ℕ × Sheet) → List Row
+rows_of_sheets prefix sheets = flat_map (λ p. rows_under prefix p.0 p.1) sheets
+
+abbrev pub is_wanted : Option (List ℕ) → List ℕ → Bool
+is_wanted None owner = true
+is_wanted (Some wanted) owner = pointwise nat_eq wanted owner
+
+-- the rows of the wanted owner, or of all, under the keys that begin so: owner by owner, key by key
+abbrev pub rows_in : Option (List ℕ) → List ℕ → Page → List Row
+rows_in wanted prefix page = rows_of_sheets prefix (filter (λ p. is_wanted wanted p.0) (entries page))
+
+-- the rows at the front whose keys begin so
+abbrev pub reached : List ℕ → List ℕ → List (List ℕ × (Value × ℕ)) → List Row
+reached owner prefix [] = []
+reached owner prefix (p ∷ ps) = if starts_with nat_eq p.0 prefix then row_at owner p ∷ reached owner prefix ps else []
+
+-- none, once there was an end
+abbrev pub rows_left : Bool → List ℕ → List ℕ → List (List ℕ × (Value × ℕ)) → List Row
+rows_left true owner prefix ps = []
+rows_left false owner prefix ps = reached owner prefix ps
+
+-- those of the owner that is read, and then those of the owners behind
+abbrev pub rows_to_come : List ℕ → Option (List Row) → List (List ℕ × Sheet) → List Row
+rows_to_come prefix None sheets = rows_of_sheets prefix sheets
+rows_to_come prefix (Some rows) sheets = rows ++ rows_of_sheets prefix sheets
+
+-- the first row is given and the others stay; nothing is given where there is none, and nothing is left
+abbrev pub GivesFirst : List Row → Option Row → List Row → Type 0
+GivesFirst old None new = (old ≡ []) × (new ≡ [])
+GivesFirst old (Some row) new = old ≡ row ∷ new

@@ -1,0 +1,32 @@
+-- The story of a node: all that happened to it since it was opened, in one order. Nobody keeps it.
+use Rattle.std.specs.Prelude.{◌<◌, List, [], ◌∷◌, length}
+use Rattle.std.specs.List.{flat_map}
+use mathlib.Core.List.{IsPrefix}
+use Rattle.logbook.specs.Pages.{Book}
+use Rattle.sb_types.specs.Records.{Block}
+use Rattle.sb_holdings.specs.declared.ends.BlockEnd.{BlockEnd}
+use Rattle.sb_holdings.specs.Nodes.{Node, NodeEvent, Wrote, Took, replay_node}
+use Rattle.sb_views.specs.declared.event.Event.{Event}
+use Rattle.sb_views.specs.declared.event.Event.TheVariants.{TookOwn, Applied}
+
+-- these events begin the story of this book
+pub record Mark : Type 0 where
+  pub book : Book
+  pub events : List Event
+
+abbrev pub took_each : List Block → List BlockEnd → List NodeEvent
+took_each [] ends = []
+took_each (b ∷ bs) [] = []
+took_each (b ∷ bs) (end ∷ ends) = Took b end ∷ took_each bs ends
+
+abbrev pub steps_of : Event → List NodeEvent
+steps_of (TookOwn e) = Wrote e ∷ []
+steps_of (Applied blocks ends) = took_each blocks ends
+
+-- the node after these events
+abbrev pub node_after : Node → List Event → Node
+node_after opening events = replay_node opening (flat_map steps_of events)
+
+-- ys begins with xs, and goes on
+abbrev pub IsLonger : List Event → List Event → Type 0
+IsLonger xs ys = IsPrefix xs ys × (length xs < length ys)

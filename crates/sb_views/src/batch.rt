@@ -1,0 +1,80 @@
+//! Entries of owners, as they are to be shown.
+ghost use Rattle.std.specs.Prelude.{◌≡◌, ◌++◌, ◌∷◌, [], true, OnOk, OnErr, IfErr};
+ghost use Rattle.sb_views.specs.Ops.{entries_of, are_entries};
+
+use crate::sheet::lose;
+use crate::shown::Op;
+use sb_types::{Entry, Fault, Name};
+use std::alloc::Global;
+use std::collections::VecDeque;
+use std::marker::Model;
+
+/// Entries, each with its owner, in the order in which they were entered.
+#[derive(Drop)]
+pub struct Batch {
+    entries: VecDeque<Op>,
+}
+
+impl Model for Batch {
+    ghost use Rattle.std.specs.Prelude.{◌≡◌, ℕ, List, true};
+    ghost use Rattle.sb_types.specs.Records as records;
+    ghost use Rattle.sb_views.specs.Ops.{entries_of, are_entries};
+
+    ghost Value = { List (List ℕ × records.Entry) };
+
+    ghost view = { λ b. entries_of b.entries.items };
+
+    ghost invariant = { λ b. are_entries b.entries.items ≡ true };
+}
+
+/// Puts a step behind the others. Where memory is wanting nothing changes.
+fn push_step(steps: &mut VecDeque<Op>, step: Op) -> Result<(), Fault>
+    ensures ok { OnOk result (steps.new.items ≡ steps.old.items ++ step ∷ []) }
+    ensures err { OnErr result (steps.new.items ≡ steps.old.items) }
+    ensures memory { IfErr result (λ fault. fault ≡ Fault.NoMemory) }
+{
+    match steps.push_back(step) {
+        Ok(()) => Ok(()),
+        Err(refused) => {
+            lose(refused);
+            Err(Fault::NoMemory)
+        }
+    }
+}
+
+impl Batch {
+    /// A batch without entries. It takes no memory; what it allocates later it allocates by `alloc`.
+    pub fn new(alloc: Global) -> Batch
+        ensures { result ≡ [] }
+    {
+        Batch {
+            entries: VecDeque::new(alloc),
+        }
+    }
+
+    /// Puts an entry of an owner behind the others. `NoMemory`, which leaves the batch as it was.
+    pub fn push(&mut self, owner: Name, entry: Entry) -> Result<(), Fault>
+        ensures ok { OnOk result (self.new ≡ self.old ++ (owner, entry) ∷ []) }
+        ensures err { OnErr result (self.new ≡ self.old) }
+        ensures memory { IfErr result (λ fault. fault ≡ Fault.NoMemory) }
+    {
+        push_step(&mut self.entries, Op::Enter(owner, entry))
+    }
+
+    /// The entries as steps of a copy.
+    pub(crate) fn into_steps(self) -> VecDeque<Op>
+        ensures entries { entries_of result.items ≡ self }
+        ensures alone { are_entries result.items ≡ true }
+    {
+        let Batch { entries } = self;
+        entries
+    }
+
+    /// The batch of these steps.
+    pub(crate) fn from_steps(entries: VecDeque<Op>) -> Batch
+        requires { are_entries entries.items ≡ true }
+        ensures { result ≡ entries_of entries.items }
+    {
+        Batch { entries }
+    }
+}

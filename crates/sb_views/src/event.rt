@@ -1,0 +1,12 @@
+//! What happens to a node.
+
+use sb_holdings::Report;
+use sb_types::{Delta, Entry};
+
+/// An event of a node: it took a committed write of its own, or a delta whose blocks ended so. Events are named in
+/// contracts alone: no value of this type is made.
+#[derive(Drop)]
+pub enum Event {
+    TookOwn(Entry),
+    Applied(Delta, Report),
+}

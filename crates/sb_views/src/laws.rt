@@ -1,0 +1,21 @@
+//! What follows from the definitions alone. The functions do nothing: each clause is a law.
+ghost use Rattle.std.specs.Prelude.{◌≡◌, ◌+◌, ℕ, List, [], ◌∷◌};
+ghost use Rattle.sb_types.specs.Records as records;
+ghost use Rattle.sb_types.specs.Runs.{shown_at};
+ghost use Rattle.sb_holdings.specs.Held.{Held, shown_of, written};
+ghost use Rattle.sb_holdings.specs.Nodes.{Node};
+ghost use Rattle.sb_views.specs.Pages as pages;
+ghost use Rattle.sb_views.specs.Views.{IsView};
+
+/// What a view shows of an owner and of a key is what the node holds: the version, and the value with the version of
+/// its write, or nothing where the key was removed or never written.
+pub fn views_show_what_is_held()
+    ensures upto { (node : Node) (page : pages.Page) (owner : List ℕ) → IsView node page → pages.upto_of page owner ≡ (shown_of node.held owner).held }
+    ensures row { (node : Node) (page : pages.Page) (owner key : List ℕ) →
+        IsView node page → pages.row_of page owner key ≡ shown_at key (shown_of node.held owner).entries }
+{}
+
+/// A node's own write leads on by itself: with it entered, the tables are those after the write.
+pub fn own_writes_lead()
+    ensures { (held : Held) (e : records.Entry) → e.version ≡ (shown_of held held.me).held + 1 → pages.Leads held (written held e) ((held.me, e) ∷ []) }
+{}

@@ -1,0 +1,31 @@
+//! Views: what threads read of a node without its lock.
+#![tactic(auto)]
+
+mod batch;
+mod event;
+mod laws;
+mod opening;
+mod page;
+mod reader;
+mod rows;
+mod rule;
+mod sheet;
+mod shown;
+mod snapshot;
+mod story;
+mod writer;
+
+pub use batch::Batch;
+pub use event::Event;
+pub use laws::{own_writes_lead, views_show_what_is_held};
+pub use opening::views;
+pub use reader::{Entered, Reader};
+pub use rows::{Row, Rows};
+pub use rule::Shows;
+pub use shown::{Op, Shown};
+pub use snapshot::Snapshot;
+pub use story::{Front, Mark, Opened, Site, Story};
+pub use writer::ViewWriter;
+
+#[cfg(test)]
+mod tests;

@@ -1,0 +1,163 @@
+//! What is shown of one owner.
+ghost use Rattle.std.specs.Prelude.{◌≡◌, ℕ, List, OnOk, OnErr};
+ghost use Rattle.std.specs.Option.{option_map};
+ghost use Rattle.std.specs.FinMap.{get, insert, remove};
+ghost use Rattle.std.specs.Ordering.{nat_cmp, is_le};
+ghost use Rattle.std.specs.BTreeMap.Range.{is_from_start};
+ghost use Rattle.sb_views.specs.Rows as spec;
+ghost use Rattle.std.specs.Cmp.Lexicographic.{slice_cmp};
+ghost use Rattle.std.specs.BTreeMap.{IsOrdered};
+ghost use Rattle.sb_views.specs.Pages as pages;
+
+use crate::rows::OwnerRows;
+use sb_types::{Entry, Key, Name, Prefix, Slot, Value};
+use std::alloc::{AllocError, Global};
+use std::collections::BTreeMap;
+use std::marker::Model;
+use std::ops::Bound;
+
+/// Up to which version an owner is held, and its live rows by key, each a value with the version of its write.
+#[derive(Drop)]
+pub(crate) struct Sheet {
+    upto: u64,
+    rows: BTreeMap<Key, (Value, u64)>,
+}
+
+impl Model for Sheet {
+    ghost use Rattle.std.specs.Ordering.{nat_cmp};
+    ghost use Rattle.std.specs.Cmp.Lexicographic.{slice_cmp};
+    ghost use Rattle.std.specs.BTreeMap.{IsOrdered};
+    ghost use Rattle.std.specs.Coded.{codes};
+    ghost use Rattle.std.specs.FinMap.{code};
+    ghost use Rattle.sb_views.specs.Pages as pages;
+
+    ghost Value = { pages.Sheet };
+
+    ghost coded = { Prim.hlevel (codes, code) };
+
+    ghost view = { λ s. record { upto = s.upto; rows = pages.rows_of s.rows.entries } };
+
+    ghost invariant = { λ s. IsOrdered (slice_cmp nat_cmp) s.rows };
+}
+
+/// Lets a value go that a map gave back.
+pub(crate) fn lose<T: Drop>(_value: T) {}
+
+/// Puts a value under a key, with the version of its write. Where memory is wanting nothing changes.
+fn set_row(
+    alloc: Global,
+    rows: &mut BTreeMap<Key, (Value, u64)>,
+    key: Key,
+    value: &Value,
+    version: u64,
+) -> Result<(), AllocError>
+    requires { IsOrdered (slice_cmp nat_cmp) rows.old }
+    ensures ok { OnOk result (pages.rows_of rows.new.entries ≡ insert (pages.rows_of rows.old.entries) key (value.now, version)) }
+    ensures err { OnErr result (rows.new.entries ≡ rows.old.entries) }
+    ensures ordered { IsOrdered (slice_cmp nat_cmp) rows.new }
+{
+    let Ok(copy) = value.copy(alloc) else {
+        return Err(AllocError);
+    };
+    match rows.insert(key, (copy, version)) {
+        Ok(earlier) => {
+            lose(earlier);
+            Ok(())
+        }
+        Err(refused) => {
+            lose(refused);
+            Err(AllocError)
+        }
+    }
+}
+
+/// Takes out what is under a key.
+fn remove_row(rows: &mut BTreeMap<Key, (Value, u64)>, key: &Key)
+    requires { IsOrdered (slice_cmp nat_cmp) rows.old }
+    ensures removed { pages.rows_of rows.new.entries ≡ remove (pages.rows_of rows.old.entries) key.now }
+    ensures ordered { IsOrdered (slice_cmp nat_cmp) rows.new }
+{
+    let earlier = rows.remove(key);
+    lose(earlier);
+}
+
+/// Shows what a write puts under its key. Where memory is wanting nothing changes.
+fn enter_row(
+    alloc: Global,
+    rows: &mut BTreeMap<Key, (Value, u64)>,
+    entry: &Entry,
+) -> Result<(), AllocError>
+    requires { IsOrdered (slice_cmp nat_cmp) rows.old }
+    ensures ok { OnOk result (pages.rows_of rows.new.entries ≡ pages.rows_with (pages.rows_of rows.old.entries) entry.now entry.now.slot) }
+    ensures err { OnErr result (rows.new.entries ≡ rows.old.entries) }
+    ensures ordered { IsOrdered (slice_cmp nat_cmp) rows.new }
+{
+    match entry.slot() {
+        Slot::Set(value) => set_row(alloc, rows, *entry.key(), value, entry.version()),
+        Slot::Removed => {
+            remove_row(rows, entry.key());
+            Ok(())
+        }
+    }
+}
+
+impl Sheet {
+    /// The sheet of an owner who wrote nothing. It takes no memory.
+    pub(crate) fn new(alloc: Global) -> Sheet
+        ensures { result ≡ pages.no_sheet }
+    {
+        Sheet {
+            upto: 0,
+            rows: BTreeMap::new(alloc),
+        }
+    }
+
+    /// Shows a write. Where memory is wanting nothing changes.
+    pub(crate) fn enter(&mut self, alloc: Global, entry: &Entry) -> Result<(), AllocError>
+        ensures ok { OnOk result (self.new ≡ pages.sheet_with self.old entry.now) }
+        ensures err { OnErr result (self.new ≡ self.old) }
+    {
+        match enter_row(alloc, &mut self.rows, entry) {
+            Ok(()) => {
+                self.upto = entry.version();
+                Ok(())
+            }
+            Err(refused) => Err(refused),
+        }
+    }
+
+    /// The version up to which the owner is held.
+    pub(crate) fn upto(&self) -> u64
+        ensures { result ≡ self.now.upto }
+    {
+        self.upto
+    }
+
+    /// The value under a key, with the version of its write.
+    pub(crate) fn get(&self, key: &Key) -> Option<(&Value, u64)>
+        ensures { option_map (λ p. (p.0.now, p.1)) result ≡ get self.now.rows key.now }
+    {
+        match self.rows.get(key) {
+            Some(row) => Some((&row.0, row.1)),
+            None => None,
+        }
+    }
+
+    /// The rows under the keys that begin with the prefix, in ascending order of their keys.
+    pub(crate) fn rows<'a>(&'a self, owner: &'a Name, prefix: Prefix) -> OwnerRows<'a>
+        ensures { result ≡ spec.rows_under prefix owner.now self.now }
+    {
+        let from_start = (start_of(&prefix), Bound::Unbounded);
+        OwnerRows::new(owner, self.rows.range(from_start), prefix)
+    }
+}
+
+/// Where the keys start that do not come before the prefix.
+fn start_of(prefix: &Prefix) -> Bound<Key>
+    ensures { (key : List ℕ) → is_from_start (slice_cmp nat_cmp) result key ≡ is_le (slice_cmp nat_cmp prefix.now key) }
+{
+    match Key::read(prefix.bytes()) {
+        Ok(key) => Bound::Included(key),
+        Err(_) => Bound::Unbounded,
+    }
+}
