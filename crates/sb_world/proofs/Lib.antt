@@ -7,6 +7,7 @@ pub mod Heard
 pub mod Acting
 pub mod Stepping
 pub mod Running
+pub mod Staying
 pub mod Later
 pub mod Claiming
 pub mod Choosing

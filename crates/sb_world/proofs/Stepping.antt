@@ -41,7 +41,7 @@ module _ (event : Event) (answer : Result Answer Fault) (effect : Effect) (old :
       let same = does_same event p old.now.connections old.now.sent _ step.1 step.3 in
       clean_before p.me p step.0 same.me old.now.places (found_for old.now event p is) same.clean (subst (λ (s : Seen). IsClean s.places) step.4 clean)
 
-  sure_step : (found : Option Place) → place_for old.now event ≡ found → (seen : Seen) → StepAt found old.now event answer effect seen → AreSure old.now.places → AreSure seen.places
+  pub sure_step : (found : Option Place) → place_for old.now event ≡ found → (seen : Seen) → StepAt found old.now event answer effect seen → AreSure old.now.places → AreSure seen.places
   sure_step None is seen step sure = subst (λ (s : Seen). AreSure s.places) (sym step.2) sure
   sure_step (Some p) is seen step sure =
       let same = does_same event p old.now.connections old.now.sent _ step.1 step.3 in

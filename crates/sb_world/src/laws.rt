@@ -27,8 +27,13 @@ pub fn worlds_keep_their_promise()
     calls_keep_truth();
 }
 
-/// Where nothing can make the store of a log break its promise, each store has kept it at the end of every run.
+/// Where nothing can make the store of a log break its promise, that stays so over every step, and each store has kept it at
+/// the end of every run.
 pub fn sure_stores_are_trusted()
+    ensures step { (world new : Seen) (event : Event) (answer : Result Answer Fault) (effect : Effect) → Step world event answer effect new →
+        AreSure world.places → AreSure new.places }
+    ensures passes { (world new : Seen) (events : List Event) (answers : List (Result Answer Fault)) → Passes world events answers new →
+        AreSure world.places → AreSure new.places }
     ensures run { (old : State) (events : List Event) (answers : List (Result Answer Fault)) (states : List State) → Run old events answers states →
         AreSure old.now.places → IsClean (last_of old states).now.places }
 {}

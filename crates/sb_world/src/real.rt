@@ -24,6 +24,7 @@ pub fn run_in_memory(
     ensures memory { IfErr result (λ fault. fault ≡ Fault.NoMemory) }
     ensures fits { IfOk result (λ answers. (old : State) → FitsWorld old world.old →
         (states : List State) × Run old events.now answers.items states × FitsWorld (last_of old states) world.new) }
+    ensures sure { IfOk result (λ answers. AreSure world.old.places → AreSure world.new.places) }
     ensures promise { AreSure world.old.places → IfOk result (λ answers. (old : State) (states : List State) → FitsWorld old world.old →
         Run old events.now answers.items states → Promise old events.now answers.items states) }
 {

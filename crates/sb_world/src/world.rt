@@ -17,7 +17,7 @@ ghost use Rattle.sb_world.specs.Claims.{EachState, EachStep, GivenIsWritten, IsE
 
 use crate::connection::{Connection, drop_those_of, node_of};
 use crate::event::{Answer, Event};
-use crate::laws::{worlds_are_reached, worlds_keep_their_promise};
+use crate::laws::{sure_stores_are_trusted, worlds_are_reached, worlds_keep_their_promise};
 use crate::making::places_of;
 use crate::place::Place;
 use crate::sent::{Sent, frame_in};
@@ -169,8 +169,10 @@ impl<L: WriteLog> World<L> {
     pub fn step(&mut self, event: &Event) -> Result<Answer, Fault>
         ensures step { (effect : Effect) × Step self.old event.now result effect self.new }
         ensures fits { (old : State) → FitsWorld old self.old → (new : State) × Moves old event.now result new × FitsWorld new self.new }
+        ensures sure { AreSure self.old.places → AreSure self.new.places }
     {
         worlds_are_reached();
+        sure_stores_are_trusted();
         self.step_once(event)
     }
 
@@ -207,6 +209,7 @@ impl<L: WriteLog> World<L> {
         // From each state that fits before there is a run with these events and these answers to one that fits.
         ensures fits { IfOk result (λ answers. (old : State) → FitsWorld old self.old →
             (states : List State) × Run old events.now answers.items states × FitsWorld (last_of old states) self.new) }
+        ensures sure { IfOk result (λ answers. AreSure self.old.places → AreSure self.new.places) }
 
         // And this holds of each such run, as long as each log's store keeps its promise.
         ensures sound { IfOk result (λ answers. OnEachRun self.old events.now answers.items (λ old states. EachState IsTrueState old states)) }
@@ -218,6 +221,7 @@ impl<L: WriteLog> World<L> {
     {
         worlds_are_reached();
         worlds_keep_their_promise();
+        sure_stores_are_trusted();
         self.run_each(events)
     }
 

@@ -6,3 +6,6 @@ returns-clause-fits g c = IfOk-weaker c.run_each.result _ _ (λ answers passes. 
 
 pub returns-clause-later : goal.returns-clause-later
 returns-clause-later g c = IfOk-weaker c.run_each.result _ _ (λ answers passes. c.worlds_keep_their_promise.ensures.later c.args.self.now c.args.events.now answers.items) c.run_each.ensures.passes
+
+pub returns-clause-sure : goal.returns-clause-sure
+returns-clause-sure g c = IfOk-weaker c.run_each.result _ _ (λ answers passes. c.sure_stores_are_trusted.ensures.passes c.args.self.now c.run_each.new.self c.args.events.now answers.items passes) c.run_each.ensures.passes
