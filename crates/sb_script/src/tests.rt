@@ -252,10 +252,14 @@ fn a_crash_keeps_a_write_or_loses_it(rt: HostRuntime) -> Result<(), Fail> {
         ("world 256 breadth 2 a b", ""),
         ("crash a x weight 1 kept", "crashed"),
         ("upto b a", "0"),
+        ("read a a x", "fault 15"),
         ("restart a", "restarted 1"),
+        ("read a a x", "a x 1 weight 1"),
         ("put a y weight 2", "version 2"),
+        ("take a", "nothing"),
         ("put a z weight 3", "fault 8"),
         ("upto a a", "2"),
+        ("upto c a", "nothing"),
     ];
     assert!(rt; prints(rt.alloc(), &kept)?);
     let lost = [
@@ -267,6 +271,82 @@ fn a_crash_keeps_a_write_or_loses_it(rt: HostRuntime) -> Result<(), Fail> {
         ("put a x weight 2", "version 1"),
     ];
     assert!(rt; prints(rt.alloc(), &lost)?);
+    Ok(())
+}
+
+#[test]
+fn what_waited_goes_with_a_restart(rt: HostRuntime) -> Result<(), Fail> {
+    let lines = [
+        ("world 256 breadth 100 a b", ""),
+        ("commit a x weight 2", "committed 1"),
+        ("upto a a", "0"),
+        ("restart a", "restarted 1"),
+        ("take a", "nothing"),
+        ("read a a x", "a x 1 weight 2"),
+    ];
+    assert!(rt; prints(rt.alloc(), &lines)?);
+    Ok(())
+}
+
+#[test]
+fn a_frame_is_lost_and_another_comes_twice(rt: HostRuntime) -> Result<(), Fail> {
+    let lines = [
+        ("world 256 breadth 100 a b", ""),
+        ("put a w weight 5", "version 1"),
+        ("connect a 1", "frame 1"),
+        ("offer a a 0", "frame 2"),
+        ("show 2", "FRAME"),
+        ("put a x weight 6", "version 2"),
+        ("offer a a 1", "frame 3"),
+        ("connect b 2", "frame 4"),
+        ("connect a 2", "nothing"),
+        ("line 2 1", "lined"),
+        ("line 2 3", "lined"),
+        ("piece 2 1000", "gap"),
+        ("line 2 9", "nothing"),
+        ("line 2 0", "nothing"),
+        ("line 2 2", "lined"),
+        ("piece 2 40", "taken 1"),
+        ("line 2 2", "lined"),
+        ("piece 2 40", "stale"),
+        ("line 2 3", "lined"),
+        ("piece 2 40", "taken 1"),
+        ("upto b a", "2"),
+        ("close 2", "closed"),
+        ("close 2", "nothing"),
+        ("piece 2 1", "nothing"),
+        ("ask 2", "nothing"),
+        ("show 5", "nothing"),
+    ];
+    assert!(rt; prints(rt.alloc(), &lines)?);
+    Ok(())
+}
+
+#[test]
+fn a_session_asks_and_is_answered(rt: HostRuntime) -> Result<(), Fail> {
+    let lines = [
+        ("world 256 breadth 100 a b", ""),
+        ("put a w weight 5", "version 1"),
+        ("connect a 1", "frame 1"),
+        ("connect b 2", "frame 2"),
+        ("ask 2", "frame 3"),
+        ("line 1 2", "lined"),
+        ("line 1 3", "lined"),
+        ("piece 1 1000", "frame 4|frame 5"),
+        ("show 4", "FRAME"),
+        ("line 2 1", "lined"),
+        ("line 2 4", "lined"),
+        ("line 2 5", "lined"),
+        ("piece 2 13", "nothing"),
+        ("piece 2 39", "nothing"),
+        ("piece 2 1", "taken 1"),
+        ("piece 2 1000", "frame 6"),
+        ("read b a w", "a w 1 weight 5"),
+        ("crash b w weight 1 lost", "crashed"),
+        ("ask 2", "nothing"),
+        ("connect b 2", "fault 15"),
+    ];
+    assert!(rt; prints(rt.alloc(), &lines)?);
     Ok(())
 }
 
@@ -287,6 +367,7 @@ fn a_node_restarts_inside_a_frame(rt: HostRuntime) -> Result<(), Fail> {
         ("connect b 3", "frame 4"),
         ("line 3 2", "lined"),
         ("piece 3 300", "fault 22"),
+        ("piece 3 1", "nothing"),
         ("connect b 4", "frame 5"),
         ("line 4 1", "lined"),
         ("line 4 2", "lined"),
