@@ -15,7 +15,8 @@ gives_lines (Ok done) a b event answer p = ([], None, a, event, answer, Keeps-re
 gives_lines (Err fault) a b event answer p = tt
 
 -- a give that showed what it sent
-pub gives_frame : (result : Result (Unit {0}) Fault) (sent : List (List ℕ)) (number : Option ℕ) (a b c : Option (List ℕ)) (event : Event) (answer : Result Answer Fault)
+pub gives_frame : (result : Result (Unit {0}) Fault) (sent : List (List ℕ)) (number : Option ℕ) (a b c : Option (List ℕ))
+    (event : Event) (answer : Result Answer Fault)
     → ShowsSent sent number a b → OnOk result (Appends b c (lines_of event answer)) → OnOk result (PlaysGive a c)
 gives_frame (Ok done) sent number a b c event answer shown p = (sent, number, b, event, answer, shown, p)
 gives_frame (Err fault) sent number a b c event answer shown p = tt

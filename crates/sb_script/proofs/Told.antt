@@ -23,6 +23,7 @@ told_kept ending detail a b c (inr p) q =
 -- ---- one more line
 
 pub plays_more : (detail : Detail) (count : ℕ) (old mid new : Seen) (a b c d : Option (List ℕ)) (is_command : Bool)
-    → PlaysLines detail count old a b mid → PlaysLine is_command mid b c new → is_command ≡ true → Explains detail c d → (more : ℕ) × PlaysLines detail more old a d new
+    → PlaysLines detail count old a b mid → PlaysLine is_command mid b c new → is_command ≡ true → Explains detail c d
+    → (more : ℕ) × PlaysLines detail more old a d new
 plays_more detail count old mid new a b c d is_command before played same words =
     (suc count, (mid, b, before, (c, subst (λ is. PlaysLine is mid b c new) same played, words)))

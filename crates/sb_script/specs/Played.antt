@@ -33,7 +33,7 @@ abbrev pub ShowsSent : List (List ℕ) → Option ℕ → Option (List ℕ) → 
 ShowsSent sent None before after = Keeps before after
 ShowsSent sent (Some number) before after = Appends before after (shown_frame (frame_at sent number))
 
--- a give prints its frame, and then the lines of an answer; which steps it takes is not said
+-- a give prints at most one frame, and then the lines of an answer; which, and what it does to the world, is not said
 abbrev pub PlaysGive : Option (List ℕ) → Option (List ℕ) → Type 0
 PlaysGive before after = (sent : List (List ℕ)) × (number : Option ℕ) × (between : Option (List ℕ)) × (event : Event) × (answer : Result Answer Fault)
     × ShowsSent sent number before between × Appends between after (lines_of event answer)
