@@ -1,9 +1,10 @@
+//! A node in sessions: what it says to another, and how it tells of all owners in turn.
 ghost use Rattle.std.specs.Prelude.{◌≡◌, ◌<◌};
 
-use crate::NodeCore;
-use crate::tests::{applied, log_of, node, write};
+use crate::node::{applied, log_of, node, write};
 use sb_codec::Message;
 use sb_frames::Steps;
+use sb_node::NodeCore;
 use sb_session::{Ended, Session, dial, serve};
 use sb_types::{Block, Delta, Entry, Fault, Key, Name, Order, Slot, Value};
 use std::alloc::Global;

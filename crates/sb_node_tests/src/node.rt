@@ -1,9 +1,10 @@
+//! The node: own writes, blocks of others, digests and answers.
 ghost use Rattle.std.specs.Prelude.{◌≤◌};
 
-use super::*;
 use sb_digest::Digest;
 use sb_holdings::{BlockEnd, Report};
 use sb_log::{Committed, PlainLog, WriteLog};
+use sb_node::NodeCore;
 use sb_table::Table;
 use sb_types::{
     Block, Delta, Entry, Fault, HEADER_LENGTH, Key, Name, Order, RawSettings, Settings, Slot, Value,

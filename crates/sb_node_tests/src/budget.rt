@@ -1,11 +1,14 @@
 //! What is offered and cut at exact budgets, also of all keys that an owner may have.
 ghost use Rattle.std.specs.Prelude.{◌≡◌, ◌≤◌, IfOk};
 
-use super::*;
+use crate::making::letters_of;
+use sb_budget::{Offered, available, cut};
 use sb_digest::{Digest, Pair};
 use sb_holdings::{BlockEnd, Holdings};
 use sb_table::Table;
-use sb_types::{BUDGET_LEAST, BUDGET_MOST, Block, Delta, Entry, Fault, Key, Name, Slot, Value};
+use sb_types::{
+    BUDGET_LEAST, BUDGET_MOST, Block, Delta, Entry, Fault, HEADER_LENGTH, Key, Name, Slot, Value,
+};
 use std::alloc::Global;
 use std::test::Fail;
 
@@ -65,8 +68,13 @@ fn version_at(holdings: &Holdings, owner: &Name, key: &[u8]) -> Result<Option<u6
     }
 }
 
-/// The digest of all names, with these owners held up to these versions.
-fn digest_of(alloc: Global, held: &[(Name, u64)]) -> Result<Digest, Fault> {
+/// The digest of a range of names, with these owners held up to these versions.
+fn digest_of(
+    alloc: Global,
+    from: Option<Name>,
+    until: Option<Name>,
+    held: &[(Name, u64)],
+) -> Result<Digest, Fault> {
     let mut pairs = Vec::new(alloc);
     for (owner, version) in held {
         pairs.push(Pair {
@@ -74,7 +82,7 @@ fn digest_of(alloc: Global, held: &[(Name, u64)]) -> Result<Digest, Fault> {
             upto: *version,
         })?;
     }
-    Digest::new(false, None, None, pairs)
+    Digest::new(false, from, until, pairs)
 }
 
 /// All that is held, cut to the budget.
@@ -101,22 +109,34 @@ fn told(alloc: Global, delta: &Delta) -> Result<Vec<(Name, u64)>, Fault> {
 fn flags(alloc: Global, count: u64) -> Result<Holdings, Fault> {
     let mut holdings = Holdings::new(alloc, Name::read(b"a")?, Table::new(alloc))?;
     for number in 0..count {
-        let mut key = [b'k'; 4];
-        let mut rest = number;
-        for letter in key.iter_mut() {
-            *letter = b'a' + (rest % 26) as u8;
-            rest /= 26;
-        }
         let slot = Slot::Set(Value::flag(true));
-        holdings.push_own(Entry::new(Key::read(&key)?, number + 1, slot))?;
+        let key = Key::read(&letters_of(number))?;
+        holdings.push_own(Entry::new(key, number + 1, slot))?;
     }
     Ok(holdings)
+}
+
+/// How long the frame of a cut of all is, and of each of its blocks the owner, the range and how many entries it has.
+type Cut = (u64, Vec<(Name, u64, u64, usize)>);
+
+fn cut_to(alloc: Global, holdings: &Holdings, budget: u64) -> Result<Cut, Fault>
+    requires least { BUDGET_LEAST ≤ budget }
+    requires most { budget ≤ BUDGET_MOST }
+{
+    let delta = cut_of_all(alloc, holdings, budget)?;
+    let mut blocks = Vec::new(alloc);
+    for block in delta.blocks() {
+        let range = (block.after(), block.upto());
+        blocks.push((*block.owner(), range.0, range.1, block.entries().len()))?;
+    }
+    Ok((delta.encoded_length() + HEADER_LENGTH, blocks))
 }
 
 /// All 4,096 keys of an owner are offered, and fit a frame of 61,461 bytes.
 #[test]
 fn all_keys_of_an_owner_are_cut(rt: HostRuntime) -> Result<(), Fail> {
     let alloc = rt.alloc();
+    let a = Name::read(b"a")?;
     let holdings = flags(alloc, 4_096)?;
     for (budget, count, length) in [
         (65_536, 4_096, 61_461),
@@ -124,13 +144,9 @@ fn all_keys_of_an_owner_are_cut(rt: HostRuntime) -> Result<(), Fail> {
         (61_460, 4_095, 61_446),
         (256, 15, 246),
     ] {
-        let delta = cut_of_all(alloc, &holdings, budget)?;
-        assert_eq!(rt; delta.encoded_length() + 6, length, "at {budget}");
-        assert_eq!(rt; delta.blocks().len(), 1, "at {budget}");
-        for block in delta.blocks() {
-            assert_eq!(rt; block.entries().len(), count, "at {budget}");
-            assert_eq!(rt; block.upto(), count as u64, "at {budget}");
-        }
+        let (frame, blocks) = cut_to(alloc, &holdings, budget)?;
+        let wanted = (a, 0, count, count as usize);
+        assert_eq!(rt; (frame, blocks.as_slice()), (length, [wanted].as_slice()));
     }
     Ok(())
 }
@@ -152,70 +168,68 @@ fn example_of_cut(rt: HostRuntime) -> Result<(), Fail> {
     Ok(())
 }
 
+/// What a peer makes of a delta of one block and one entry: how the block ends, how far its owner is then held, and the
+/// versions under the keys y and x.
+fn taken(
+    alloc: Global,
+    delta: &Delta,
+) -> Result<Option<(BlockEnd, u64, Option<u64>, Option<u64>)>, Fault> {
+    let mut peer = Holdings::new(alloc, Name::read(b"b")?, Table::new(alloc))?;
+    let Some(block) = delta.blocks().first() else {
+        return Ok(None);
+    };
+    let end = apply(&mut peer, block)?;
+    let owner = block.owner();
+    let [y, x] = [
+        version_at(&peer, owner, b"y")?,
+        version_at(&peer, owner, b"x")?,
+    ];
+    Ok(Some((end, peer.upto(owner), y, x)))
+}
+
 #[test]
 fn an_entry_that_does_not_fit_waits(rt: HostRuntime) -> Result<(), Fail> {
     let alloc = rt.alloc();
     let a = Name::read(b"a")?;
-    let delta = cut_of_all(alloc, &three_writes(alloc)?, 256)?;
-    // A frame of 161 bytes.
-    assert_eq!(rt; delta.encoded_length(), 155);
-    assert_eq!(rt; delta.blocks().len(), 1);
-    for block in delta.blocks() {
-        assert_eq!(rt; *block.owner(), a);
-        assert_eq!(rt; (block.after(), block.upto()), (0, 2));
-        assert_eq!(rt; block.entries().len(), 1);
-        for entry in block.entries() {
-            assert_eq!(rt; entry.key().bytes(), b"y".as_slice());
-            assert_eq!(rt; entry.version(), 2);
-        }
-        let mut peer = Holdings::new(alloc, Name::read(b"b")?, Table::new(alloc))?;
-        assert_eq!(rt; apply(&mut peer, block)?, BlockEnd::Taken(1));
-        assert_eq!(rt; peer.upto(&a), 2);
-        assert_eq!(rt; version_at(&peer, &a, b"y")?, Some(2));
-        assert_eq!(rt; version_at(&peer, &a, b"x")?, None);
+    let holdings = three_writes(alloc)?;
+    // The whole has a frame of 301 bytes.
+    for (budget, length, upto, count) in [(256, 161, 2, 1), (300, 161, 2, 1), (301, 301, 3, 2)] {
+        let (frame, blocks) = cut_to(alloc, &holdings, budget)?;
+        let wanted = [(a, 0, upto, count)];
+        assert_eq!(rt; (frame, blocks.as_slice()), (length, wanted.as_slice()));
     }
+    let delta = cut_of_all(alloc, &holdings, 256)?;
+    assert_eq!(rt; told(alloc, &delta)?.as_slice(), [(a, 2)].as_slice());
+    assert_eq!(rt;
+        taken(alloc, &delta)?,
+        Some((BlockEnd::Taken(1), 2, Some(2), None))
+    );
     Ok(())
 }
 
-#[test]
-fn an_entry_waits_until_it_fits(rt: HostRuntime) -> Result<(), Fail> {
-    let alloc = rt.alloc();
-    // The whole has a frame of 301 bytes.
-    assert_eq!(rt;
-        cut_of_all(alloc, &three_writes(alloc)?, 300)?.encoded_length(),
-        155
-    );
-    assert_eq!(rt;
-        cut_of_all(alloc, &three_writes(alloc)?, 301)?.encoded_length(),
-        295
-    );
-    Ok(())
+/// The longest entry of all, under the longest name.
+fn longest_of_all(alloc: Global) -> Result<Holdings, Fault> {
+    let mut table = Table::new(alloc);
+    table.push(longest_value(alloc, LONGEST_KEY, 1)?)?;
+    Holdings::new(alloc, Name::read(LONGEST_NAME)?, table)
 }
 
 #[test]
 fn the_longest_entry_fits_the_least_budget(rt: HostRuntime) -> Result<(), Fail> {
     let alloc = rt.alloc();
-    let mut table = Table::new(alloc);
-    table.push(longest_value(alloc, LONGEST_KEY, 1)?)?;
-    let holdings = Holdings::new(alloc, Name::read(LONGEST_NAME)?, table)?;
-    let delta = cut_of_all(alloc, &holdings, 256)?;
-    // A frame of 255 bytes.
-    assert_eq!(rt; delta.encoded_length(), 249);
-    assert_eq!(rt;
-        told(alloc, &delta)?.as_slice(),
-        [(Name::read(LONGEST_NAME)?, 1)].as_slice()
-    );
+    let (frame, blocks) = cut_to(alloc, &longest_of_all(alloc)?, 256)?;
+    let wanted = [(Name::read(LONGEST_NAME)?, 0, 1, 1)];
+    assert_eq!(rt; (frame, blocks.as_slice()), (255, wanted.as_slice()));
     Ok(())
 }
 
 #[test]
 fn owners_follow_one_another(rt: HostRuntime) -> Result<(), Fail> {
     let alloc = rt.alloc();
-    let a = Name::read(b"a")?;
-    let b = Name::read(b"b")?;
+    let [a, b] = [Name::read(b"a")?, Name::read(b"b")?];
     let all = [(a, 1), (a, 2), (a, 3), (b, 1)];
     let holdings = two_owners(alloc)?;
-    let frames = [
+    for (budget, count, length) in [
         (256, 1, 224),
         (426, 1, 224),
         (427, 2, 427),
@@ -225,59 +239,74 @@ fn owners_follow_one_another(rt: HostRuntime) -> Result<(), Fail> {
         (630, 3, 630),
         (844, 3, 630),
         (845, 4, 845),
-    ];
-    for (budget, count, length) in frames {
+    ] {
         let delta = cut_of_all(alloc, &holdings, budget)?;
-        assert_eq!(rt; delta.encoded_length() + 6, length, "at {budget}");
         let (front, _) = all.split_at(count);
-        assert_eq!(rt; told(alloc, &delta)?.as_slice(), front, "at {budget}");
+        let found = told(alloc, &delta)?;
+        let frame = delta.encoded_length() + HEADER_LENGTH;
+        assert_eq!(rt; (frame, found.as_slice()), (length, front), "{budget}");
     }
     Ok(())
 }
 
-#[test]
-fn items_tell_their_place(rt: HostRuntime) -> Result<(), Fail> {
-    let alloc = rt.alloc();
-    let a = Name::read(b"a")?;
-    let b = Name::read(b"b")?;
-    let holdings = two_owners(alloc)?;
-    let digest = digest_of(alloc, &[(a, 1)])?;
-    let places = [(a, 1, 3, 0, 2, 2), (a, 1, 3, 1, 2, 3), (b, 0, 1, 0, 1, 1)];
-    let offered = available(alloc, &holdings, &digest)?;
-    assert_eq!(rt; offered.len(), 3);
-    for (item, place) in offered.iter().zip(places) {
-        let found = (
-            item.owner,
-            item.after,
-            item.upto,
-            item.rank,
-            item.count,
-            item.entry.version(),
-        );
-        assert_eq!(rt; found, place);
+/// Of an item the owner, what it is offered after and up to, its rank and count, and its version.
+type Place = (Name, u64, u64, u64, u64, u64);
+
+fn place(item: &Offered) -> Place {
+    (
+        item.owner,
+        item.after,
+        item.upto,
+        item.rank,
+        item.count,
+        item.entry.version(),
+    )
+}
+
+/// Whether these items are what a digest leaves.
+fn are_left(
+    alloc: Global,
+    holdings: &Holdings,
+    digest: &Digest,
+    wanted: &[Place],
+) -> Result<bool, Fault> {
+    let offered = available(alloc, holdings, digest)?;
+    let mut are_equal = offered.len() == wanted.len();
+    for (item, wanted) in offered.iter().zip(wanted) {
+        are_equal &= place(item) == *wanted;
     }
-    Ok(())
+    Ok(are_equal)
 }
 
 #[test]
 fn what_a_digest_leaves(rt: HostRuntime) -> Result<(), Fail> {
     let alloc = rt.alloc();
     let holdings = two_owners(alloc)?;
-    let a = Name::read(b"a")?;
-    let b = Name::read(b"b")?;
-    let beside = Digest::new(false, Some(b), None, Vec::new(alloc))?;
-    let of_b = available(alloc, &holdings, &beside)?;
-    assert_eq!(rt; of_b.len(), 1);
-    assert!(rt; of_b.iter().all(|item| item.owner == b));
-    let below = Digest::new(false, None, Some(b), Vec::new(alloc))?;
-    let of_a = available(alloc, &holdings, &below)?;
-    assert_eq!(rt; of_a.len(), 3);
-    assert!(rt; of_a.iter().all(|item| item.owner == a));
-    let none = digest_of(alloc, &[(a, 3), (b, 1)])?;
-    let delta = cut(alloc, available(alloc, &holdings, &none)?, 256)?;
-    assert_eq!(rt; delta.blocks().len(), 0);
+    let [a, b] = [Name::read(b"a")?, Name::read(b"b")?];
+    let of_a = [(a, 0, 3, 0, 3, 1), (a, 0, 3, 1, 3, 2), (a, 0, 3, 2, 3, 3)];
+    let of_b = [(b, 0, 1, 0, 1, 1)];
+    let rest = [(a, 1, 3, 0, 2, 2), (a, 1, 3, 1, 2, 3), (b, 0, 1, 0, 1, 1)];
+    for (from, until, held, wanted) in [
+        (None, None, [(a, 1)].as_slice(), rest.as_slice()),
+        (Some(b), None, &[], &of_b),
+        (None, Some(b), &[], &of_a),
+        (None, None, &[(a, 3), (b, 1)], &[]),
+    ] {
+        let digest = digest_of(alloc, from, until, held)?;
+        assert!(rt; are_left(alloc, &holdings, &digest, wanted)?, "{held:?}");
+    }
+    Ok(())
+}
+
+#[test]
+fn nothing_is_cut_of_nothing(rt: HostRuntime) -> Result<(), Fail> {
+    let alloc = rt.alloc();
+    let held = [(Name::read(b"a")?, 3), (Name::read(b"b")?, 1)];
+    let digest = digest_of(alloc, None, None, &held)?;
+    let offered = available(alloc, &two_owners(alloc)?, &digest)?;
+    let delta = cut(alloc, offered, 256)?;
     // A frame of 9 bytes.
-    assert_eq!(rt; delta.encoded_length(), 3);
+    assert_eq!(rt; (delta.blocks().len(), delta.encoded_length()), (0, 3));
     Ok(())
 }
 
@@ -285,21 +314,16 @@ fn what_a_digest_leaves(rt: HostRuntime) -> Result<(), Fail> {
 #[test]
 fn a_refused_cut_is_made_again(rt: HostRuntime) -> Result<(), Fail> {
     let alloc = rt.alloc();
+    let [a, b] = [Name::read(b"a")?, Name::read(b"b")?];
     let holdings = match two_owners(alloc) {
         Err(Fault::NoMemory) => two_owners(alloc)?,
         made => made?,
     };
-    let delta = match cut_of_all(alloc, &holdings, 845) {
-        Err(Fault::NoMemory) => cut_of_all(alloc, &holdings, 845)?,
+    let (frame, blocks) = match cut_to(alloc, &holdings, 845) {
+        Err(Fault::NoMemory) => cut_to(alloc, &holdings, 845)?,
         made => made?,
     };
-    assert_eq!(rt; delta.encoded_length(), 839);
-    assert_eq!(rt; delta.blocks().len(), 2);
-    for (block, (owner, count)) in delta.blocks().iter().zip([(b"a", 3), (b"b", 1)]) {
-        assert_eq!(rt; block.owner().bytes(), owner.as_slice());
-        assert_eq!(rt; block.after(), 0);
-        assert_eq!(rt; block.upto(), count as u64);
-        assert_eq!(rt; block.entries().len(), count);
-    }
+    let wanted = [(a, 0, 3, 3), (b, 0, 1, 1)];
+    assert_eq!(rt; (frame, blocks.as_slice()), (845, wanted.as_slice()));
     Ok(())
 }
