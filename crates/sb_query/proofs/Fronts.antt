@@ -7,7 +7,7 @@ use Rattle.std.proofs.lemmas.List.Sums.{sum_by-cons, sum_by-append}
 use Rattle.std.specs.List.{list_all}
 use Rattle.sb_codec.specs.Records.{Row, rows_of}
 use Rattle.sb_codec.specs.Limits.{is_row}
-use Rattle.sb_codec.specs.Lengths.{row_length, rows_length}
+use Rattle.sb_codec.specs.Lengths.{row_length}
 use Rattle.sb_views.specs.Rows as views
 use Rattle.sb_query.specs.Pages.{row_told, rows_frame_length, IsLongestPage}
 

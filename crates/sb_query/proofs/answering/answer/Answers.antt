@@ -1,4 +1,4 @@
-use Rattle.std.proofs.Common.{◌≡◌, ℕ, ◌<◌, List, length, map, Result, subst, sym}
+use Rattle.std.proofs.Common.{◌≡◌, ◌<◌, List, length, map, Result, subst, sym}
 use Rattle.std.specs.Prelude.{IfOk, IfErr}
 use Rattle.sb_types.specs.declared.fault.Fault.{Fault}
 use Rattle.sb_types.specs.declared.fault.Fault.TheVariants.{NoMemory}
