@@ -1,18 +1,17 @@
 -- Rows in their order.
-use Rattle.std.proofs.Common.{◌≡◌, ℕ, Bool, true, false, cond, ◌&&◌, T, List, [], ◌∷◌, ◌++◌, map, filter, Option, Some, None, refl, sym, ap, ◌∙◌, nat_eq, arith}
+use Rattle.std.proofs.Common.{◌≡◌, ℕ, Bool, true, false, cond, ◌&&◌, T, List, [], ◌∷◌, ◌++◌, map, filter, Option, Some, refl, nat_eq, arith}
 use Rattle.std.proofs.lemmas.Cmp.{nat_list_cmp_total, tied_itself}
 use Rattle.std.proofs.lemmas.List.Kept.{AllPairs-cons, AllPairs-filter}
 use Rattle.std.proofs.lemmas.List.Elements.{All-from_recursion}
-use Rattle.std.specs.List.{All, AllPairs, AllByRecursion, flat_map, starts_with}
+use Rattle.std.specs.List.{AllByRecursion, starts_with}
 use Rattle.std.specs.List.Sorted.{IsStrictlySortedBy}
 use Rattle.std.specs.Map.{keys_of}
-use Rattle.std.specs.Ordering.{nat_cmp, is_lt, ordering_then}
+use Rattle.std.specs.Ordering.{is_lt}
 use Rattle.std.specs.declared.cmp.Ordering.{Ordering}
 use Rattle.std.specs.declared.cmp.Ordering.TheVariants.{Less, Equal, Greater}
 use Rattle.std.specs.FinMap.{entries, entries_sorted, is_sorted}
 use Rattle.std.specs.FinMap.Entries.{below_all}
 use Rattle.sb_types.specs.Value.{Value}
-use Rattle.sb_types.proofs.Texts.{Less-from_is_lt}
 use Rattle.sb_views.specs.Pages.{Sheet, Page}
 use Rattle.sb_views.specs.Rows.{Row, row_at, rows_under, rows_of_sheets, rows_in, rows_behind, is_wanted, is_behind, place_of, AreAscending}
 use Rattle.sb_views.proofs.ByText.{by_text, Ascend}

@@ -1,6 +1,5 @@
-use Rattle.std.proofs.Common.{ℕ, List, [], Option, Some, filter, ap, sym, ◌∙◌, ◌&&◌}
+use Rattle.std.proofs.Common.{ℕ, List, [], Option, ap, sym, ◌∙◌, ◌&&◌}
 use Rattle.std.proofs.Math.Bool.{and-true}
-use Rattle.std.specs.FinMap.{entries}
 use Rattle.std.specs.Ordering.{is_lt}
 use Rattle.std.specs.declared.ops.Bound.TheVariants.{Included, Excluded, Unbounded}
 use Rattle.sb_views.specs.Rows.{is_wanted}

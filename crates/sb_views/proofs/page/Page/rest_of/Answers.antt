@@ -1,7 +1,6 @@
-use Rattle.std.proofs.Common.{◌≡◌, ℕ, true, List, Option, Some, None, rules, arith, ap, sym, ◌∙◌}
+use Rattle.std.proofs.Common.{◌≡◌, ℕ, true, List, Some, None, rules, arith, ap, sym, ◌∙◌}
 use Rattle.std.specs.FinMap.{slice_cmp-IsAntisymmetric, nat_cmp-IsAntisymmetric}
 use Rattle.std.specs.List.{filter}
-use Rattle.sb_views.specs.Pages.{Sheet}
 use Rattle.sb_views.specs.Rows.{Row, rows_under, is_behind, is_wanted}
 use Rattle.sb_views.proofs.Behind.{rest-wanted}
 use Rattle.sb_views.proofs.page.Page.rest_of.Goals as goal

@@ -1,4 +1,4 @@
-use Rattle.std.proofs.Common.{◌≡◌, ℕ, List, Option, ap, sym, ◌∙◌}
+use Rattle.std.proofs.Common.{ℕ, List, Option, ap, sym, ◌∙◌}
 use Rattle.sb_views.specs.Rows.{rows_behind}
 use Rattle.sb_views.proofs.Behind.{behind-nothing}
 use Rattle.sb_views.proofs.page.Page.rows_behind.Goals as goal
