@@ -5,6 +5,10 @@
 #[cfg(test)]
 mod crashes;
 #[cfg(test)]
+mod database;
+#[cfg(test)]
 mod disks;
 #[cfg(test)]
 mod lent;
+#[cfg(test)]
+mod plain;
