@@ -16,7 +16,7 @@ ghost use Rattle.sb_budget.specs.Available.{available_for};
 ghost use Rattle.sb_budget.specs.Orders.{IsOffer, AscendsByOwner};
 ghost use Rattle.sb_node.specs.Answers.{IsListedBy, IsDelta, IsAnswer};
 ghost use Rattle.sb_node.specs.Cores.{with_node, committed_answer};
-ghost use Rattle.sb_node.specs.Ends.{Treats, took_each};
+ghost use Rattle.sb_holdings.specs.Treats.{Treats, took_each};
 
 use sb_breadth::Breadth;
 use sb_budget::{DeltaOrder, Offered, available, cut, orders_keep_owners};

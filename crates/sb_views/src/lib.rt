@@ -17,7 +17,7 @@ mod writer;
 
 pub use batch::Batch;
 pub use event::Event;
-pub use laws::{own_writes_lead, views_show_what_is_held};
+pub use laws::{new_entries_lead, own_writes_lead, tables_grow, views_show_what_is_held};
 pub use opening::views;
 pub use reader::{Entered, Reader};
 pub use rows::{Row, Rows};
