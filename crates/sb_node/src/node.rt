@@ -167,10 +167,12 @@ impl NodeCore {
         self.holdings.push_own(committed.entry().copy(self.alloc)?)
     }
 
-    /// Why a committed write can't be entered, the first reason that holds.
-    fn refusal(&self, committed: &Committed) -> Option<Fault>
+    /// Why a committed write can't be entered, the first reason that holds of `WrongOwner`, `OwnerConflict`,
+    /// `OutOfTurn` and `TableFull`; nothing where only memory may be wanting. It takes no memory.
+    pub fn refusal(&self, committed: &Committed) -> Option<Fault>
         ensures some { IfSome result (λ fault. committed_answer self.now.node committed.now ≡ Err fault) }
         ensures none { IfNone result (committed_answer self.now.node committed.now ≡ Ok tt) }
+        ensures holdings { IsHoldings self.now.node.held }
     {
         if committed.owner() != self.holdings.me() {
             return Some(Fault::WrongOwner);

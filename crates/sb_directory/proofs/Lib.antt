@@ -1,0 +1,4 @@
+pub mod Reaching
+pub mod Pending
+pub mod Noting
+pub mod Keeping
