@@ -1,4 +1,5 @@
 pub mod Reaching
 pub mod Pending
 pub mod Noting
+pub mod Following
 pub mod Keeping

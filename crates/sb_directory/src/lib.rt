@@ -9,3 +9,6 @@ mod telling;
 mod views;
 
 pub use locked::Locked;
+
+#[cfg(test)]
+mod tests;

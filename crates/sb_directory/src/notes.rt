@@ -50,7 +50,7 @@ pub(crate) fn versions_of(
     ensures memory { IfErr result (λ fault. fault ≡ Fault.NoMemory) }
 {
     let mut versions = Vec::new(alloc);
-    for block in blocks.iter() {
+    for block in blocks {
         versions.push((*block.owner(), holdings.upto(block.owner())))?;
     }
     Ok(versions)
