@@ -31,7 +31,7 @@ use Rattle.sb_views.proofs.Grown.{grown-held}
 use Rattle.sb_views.proofs.Growing.{grown-on, own-grown, delta-grown}
 use Rattle.sb_views.proofs.Leading.{own-leads}
 use Rattle.sb_directory.specs.Notes.{note_of, with_notes, entered_of, versions_of, is_held}
-use Rattle.sb_directory.specs.Locks.{Locked, IsLocked, after_own, after_delta}
+use Rattle.sb_directory.specs.Locks.{Locked, IsLocked, after_own, after_delta, with_shown, with_hub}
 use Rattle.sb_directory.proofs.Noting.{told-held, since-held}
 
 -- ---- the story
@@ -109,3 +109,12 @@ module _ (opening : Node) (ready : List Event) (old : Locked) (is : IsLocked ope
               (notes-raised old.core.node.held new.held old.hub grown after is.notes)
               (since-held new.held (versions_of old.core.node.held blocks) after);
         }
+
+-- ---- what changes nothing of the node
+
+pub moved : (opening : Node) (ready next : List Event) (l : Locked) (shown : List Event) → IsLocked opening ready l → IsPrefix next l.story
+    → AreGrown (node_after opening next).held l.core.node.held → IsLocked opening next (with_shown l shown)
+moved opening ready next l shown is begins grown = record { node = is.node; begins = begins; grown = grown; notes = is.notes }
+
+pub hub-locked : (opening : Node) (ready : List Event) (l : Locked) (hub : Hub) → IsLocked opening ready l → AllNotes (is_held l.core.node.held) hub → IsLocked opening ready (with_hub l hub)
+hub-locked opening ready l hub is notes = record { node = is.node; begins = is.begins; grown = is.grown; notes = notes }

@@ -3,3 +3,4 @@ pub mod Pending
 pub mod Noting
 pub mod Following
 pub mod Keeping
+pub mod Polling

@@ -1,10 +1,8 @@
 //! What lies under the lock: a node with its story, its views and its watches.
-ghost use Rattle.std.specs.Prelude.{◌≡◌, ◌≢◌, ◌<◌, ◌≤◌, ◌^◌, ◌++◌, ◌∷◌, [], length, replicate, Result, Ok, Err, if◌then◌else◌, OnOk, OnErr, IfOk, IfErr};
+ghost use Rattle.std.specs.Prelude.{◌≡◌, ◌≢◌, ◌<◌, ◌≤◌, ◌^◌, [], length, replicate, Ok, Err, if◌then◌else◌, OnOk, OnErr, IfOk, IfErr};
 ghost use Rattle.sb_types.specs.Faults.{Gives};
-ghost use Rattle.sb_types.specs.Limits.{is_delta};
 ghost use Rattle.sb_holdings.specs.Held.{shown_of};
-ghost use Rattle.sb_holdings.specs.Nodes.{Wrote, node_after_event, replay_node};
-ghost use Rattle.sb_holdings.specs.Treats.{Treats, took_each};
+ghost use Rattle.sb_holdings.specs.Treats.{Treats};
 ghost use Rattle.sb_digest.specs.Builders.{IsLongestFront};
 ghost use Rattle.sb_digest.specs.Pairs.{pairs_from};
 ghost use Rattle.sb_budget.specs.Available.{available_for};
@@ -96,11 +94,13 @@ impl<S: Site, R: Wait + Drop> Locked<S, R> {
         if self.front.len() == u64::MAX {
             return Err(Fault::TurnsSpent);
         }
+        let me = *self.core.name();
+        let entry = committed.entry();
         // Does nothing: the call tells the prover that versions keep their limits.
-        let _before = self.core.upto(self.core.name());
+        let _before = self.core.upto(&me);
         self.core.take_own(committed)?;
-        add_own(rt, &self.story, &mut self.front, committed.entry());
-        tell(&mut self.hub, self.core.name(), committed.entry());
+        add_own(rt, &self.story, &mut self.front, entry);
+        tell(&mut self.hub, &me, entry);
         Ok(self.views.show(&self.core, &self.front))
     }
 
@@ -119,7 +119,8 @@ impl<S: Site, R: Wait + Drop> Locked<S, R> {
         if self.front.len() == u64::MAX {
             return Err(Fault::TurnsSpent);
         }
-        let versions = versions_of(self.alloc, self.core.holdings(), delta.blocks())?;
+        let blocks = delta.blocks();
+        let versions = versions_of(self.alloc, self.core.holdings(), blocks)?;
         let ends = self.core.apply(delta)?;
         add_applied(rt, &self.story, &mut self.front, delta, &ends);
         tell_since(&mut self.hub, self.core.holdings(), versions);
@@ -161,7 +162,10 @@ impl<S: Site, R: Wait + Drop> Locked<S, R> {
         ensures ok { OnOk result (self.new ≡ spec.with_hub self.old (with_watch self.old.hub filter capacity)) }
         ensures err { OnErr result (self.new ≡ self.old) }
     {
-        self.hub.add(filter, capacity)
+        match self.hub.add(filter, capacity) {
+            Ok(id) => Ok(id),
+            Err(fault) => Err(fault),
+        }
     }
 
     /// Drops a watch with its notes. `NoWatch` where no watch with the id stands, which changes nothing.

@@ -140,7 +140,8 @@ fn be_told<S: Site, R: Wait + Abort>(
     locked.take_own(rt, &first_write(alloc, b"a")?)?;
     locked.apply(rt, &delta_of_b(alloc)?)?;
     locked.apply(rt, &delta_of_b(alloc)?)?;
-    for owner in [b"a", b"b"] {
+    let owners: [&[u8]; 2] = [b"a", b"b"];
+    for owner in owners {
         match locked.poll(id)? {
             Polled::Note(note) => assert!(rt; note.owner.bytes() == owner && note.version == 1),
             _ => return Err("a note".into()),

@@ -1,5 +1,5 @@
 //! Views that follow a node.
-ghost use Rattle.std.specs.Prelude.{◌≡◌, ℕ, List, ◌<◌, ◌^◌, [], replicate, MatchBool, MatchResult, OnOk, OnErr, IfOk, IfErr};
+ghost use Rattle.std.specs.Prelude.{◌≡◌, ◌<◌, ◌^◌, [], replicate, MatchBool, MatchResult, OnOk, OnErr, IfOk, IfErr};
 ghost use mathlib.Core.List.{IsPrefix};
 ghost use Rattle.sb_views.specs.Growing.{AreGrown};
 ghost use Rattle.sb_views.specs.Stories.{node_after};
@@ -56,8 +56,9 @@ impl<S: Site, R: Wait + Drop> Views<S, R> {
         ensures readers { IfOk result (λ v. v.1.items ≡ replicate seats []) }
         ensures memory { IfErr result (λ fault. fault ≡ Fault.NoMemory) }
     {
-        let reached = Reached::of(alloc, core.holdings())?;
-        let (writer, readers) = views::<S, R>(alloc, rt, start.again(), core.holdings(), seats)?;
+        let holdings = core.holdings();
+        let reached = Reached::of(alloc, holdings)?;
+        let (writer, readers) = views::<S, R>(alloc, rt, start.again(), holdings, seats)?;
         let views = Views {
             writer,
             shown: start.again(),
@@ -77,8 +78,9 @@ impl<S: Site, R: Wait + Drop> Views<S, R> {
         ensures err { OnErr result (self.new ≡ self.old) }
         ensures memory { IfErr result (λ fault. fault ≡ Fault.NoMemory) }
     {
-        let batch = pending(self.alloc, core.holdings(), &self.reached)?;
-        let reached = Reached::of(self.alloc, core.holdings())?;
+        let holdings = core.holdings();
+        let batch = pending(self.alloc, holdings, &self.reached)?;
+        let reached = Reached::of(self.alloc, holdings)?;
         match self.writer.append(batch, front) {
             Ok(()) => {
                 self.ready = front.again();

@@ -1,0 +1,12 @@
+use Rattle.std.proofs.Common.{◌≡◌, ℕ, List, [], None, refl, sym, ap, subst, ◌∙◌}
+use Rattle.std.specs.FinMap.{empty}
+use Rattle.sb_holdings.specs.Held.{Held}
+use Rattle.sb_holdings.specs.Nodes.{Node}
+use Rattle.sb_holdings.specs.Plain.{tables_from}
+use Rattle.sb_views.specs.declared.event.Event.{Event}
+use Rattle.sb_directory.specs.Reached.{with_tables}
+use Rattle.sb_directory.proofs.Following.{Reaches, reached-node}
+use Rattle.sb_directory.proofs.views.Views.open.Goals as goal
+
+pub views-requires-clause-opening : goal.views-requires-clause-opening
+views-requires-clause-opening g c = ap (λ (n : Node). n.held) c.requires.opening ∙ sym c.holdings-holdings.ensures.held
