@@ -12,7 +12,7 @@ use Rattle.sb_views.specs.Stories.{node_after}
 use Rattle.sb_views.proofs.Following.{new-leads}
 use Rattle.sb_views.proofs.Growing.{grown-none}
 use Rattle.sb_directory.specs.Reached.{Reached, version_in, with_tables, all_above}
-use Rattle.sb_directory.proofs.Pending.{gathered-new}
+use Rattle.sb_directory.proofs.Batches.{gathered-new}
 use Rattle.sb_directory.proofs.Reaching.{version-reached}
 
 -- the versions are those up to which the node after these events holds its owners

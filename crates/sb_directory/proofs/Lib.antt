@@ -1,5 +1,5 @@
 pub mod Reaching
-pub mod Pending
+pub mod Batches
 pub mod Noting
 pub mod Following
 pub mod Keeping

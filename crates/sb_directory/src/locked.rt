@@ -39,9 +39,13 @@ pub struct Locked<S: Site, R: Wait + Drop> {
 }
 
 impl<S: Site, R: Wait + Drop> Model for Locked<S, R> {
+    ghost use Rattle.std.specs.Coded.{codes};
+    ghost use Rattle.std.specs.FinMap.{code};
     ghost use Rattle.sb_directory.specs.Locks as spec;
 
     ghost Value = { spec.Locked };
+
+    ghost coded = { Prim.hlevel (codes, code) };
 
     ghost view = { λ l. record { core = l.core; hub = l.hub; story = l.front; shown = l.views.shown } };
 

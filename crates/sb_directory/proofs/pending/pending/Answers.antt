@@ -1,5 +1,5 @@
 use Rattle.std.proofs.Common.{rules}
-use Rattle.sb_directory.proofs.Pending.{gathering-goes_on}
+use Rattle.sb_directory.proofs.Batches.{gathering-goes_on}
 use Rattle.sb_directory.proofs.pending.pending.Goals as goal
 
 pub loop-owner-preserved : goal.loop-owner-preserved

@@ -1,4 +1,4 @@
-use Rattle.sb_directory.proofs.Pending.{IsGathering}
+use Rattle.sb_directory.proofs.Batches.{IsGathering}
 use Rattle.sb_directory.proofs.pending.pending.Given as goal
 
 abbrev pub invariant-loop-owner : goal.invariant-loop-owner

@@ -1,6 +1,6 @@
 use Rattle.std.proofs.Common.{rules, ◌∙◌}
 use Rattle.sb_types.specs.Runs.{above}
-use Rattle.sb_directory.proofs.Pending.{pushing-begins, pushing-goes_on, pushing-ends}
+use Rattle.sb_directory.proofs.Batches.{pushing-begins, pushing-goes_on, pushing-ends}
 use Rattle.sb_directory.proofs.pending.push_above.Goals as goal
 
 pub loop-entry-init : goal.loop-entry-init

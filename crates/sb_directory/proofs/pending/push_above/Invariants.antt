@@ -1,5 +1,5 @@
 use Rattle.sb_types.specs.Runs.{above}
-use Rattle.sb_directory.proofs.Pending.{IsPushing}
+use Rattle.sb_directory.proofs.Batches.{IsPushing}
 use Rattle.sb_directory.proofs.pending.push_above.Given as goal
 
 abbrev pub invariant-loop-entry : goal.invariant-loop-entry
