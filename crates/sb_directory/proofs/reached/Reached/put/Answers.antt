@@ -4,7 +4,7 @@ use Rattle.sb_views.proofs.ByText.{with_inserted}
 use Rattle.sb_directory.specs.Reached.{Reached}
 use Rattle.sb_directory.proofs.reached.Reached.put.Goals as goal
 
-pub returns-in-Ok-clause-ok : goal.returns-in-Ok-clause-ok
-returns-in-Ok-clause-ok c =
+pub returns-clause-ok : goal.returns-clause-ok
+returns-clause-ok c =
     with_inserted c.self.inside.versions.entries c.insert.new.self.entries c.args.owner c.args.version c.self.invariant c.insert.ensures.ordered c.in-Ok.ensures.updates.0
     ∙ ap (λ (r : Reached). insert r c.args.owner c.args.version) c.self.view_is

@@ -25,6 +25,6 @@ invariant_of-self g c =
     let inside = c.self.inside in (
       c.in-Ok.ensures ∙ (λ i. record { shown = (c.self.invariant.0 i).shown; ready = sym c.again.ensures i }),
       subst (λ (l : List Event). Reaches opening l c.in_ok-reached.reached) (sym c.again.ensures)
-      (reached-node opening c.args.core.now.node c.args.front.now c.requires.node c.in_ok-reached.reached
-      (c.in_ok-reached.ensures.tables ∙ ap (λ (h : Held). with_tables empty (tables_from None h)) c.holdings-holdings.ensures.held)),
+          (reached-node opening c.args.core.now.node c.args.front.now c.requires.node c.in_ok-reached.reached
+          (c.in_ok-reached.ensures.tables ∙ ap (λ (h : Held). with_tables empty (tables_from None h)) c.holdings-holdings.ensures.held)),
     )
