@@ -17,6 +17,7 @@ use Rattle.sb_holdings.specs.Treats.{Treats, took_each}
 use Rattle.sb_holdings.proofs.Changed.{shown-plain}
 use Rattle.sb_holdings.proofs.Lent.{entry-next}
 use Rattle.sb_holdings.proofs.Nodes.{replay_node-append}
+use Rattle.sb_node.specs.Cores.{Core, with_node}
 use Rattle.sb_watch.specs.declared.note.Note.{Note}
 use Rattle.sb_watch.specs.Records.{Hub}
 use Rattle.sb_watch.specs.Hubs.{AllNotes}
@@ -95,6 +96,13 @@ module _ (opening : Node) (ready : List Event) (old : Locked) (is : IsLocked ope
           (own-noted old.core.node.held e next, tt);
     }
 
+    -- so it is wherever the core, the story and the watches are these
+    pub own-there : (core : Core) (front : List Event) (hub : Hub) (shown : List Event) → core ≡ with_node old.core (node_after_event old.core.node (Wrote e))
+        → front ≡ old.story ++ TookOwn e ∷ [] → hub ≡ with_notes old.hub ((old.core.node.held.me, e) ∷ [])
+        → IsLocked opening ready (record { core = core; hub = hub; story = front; shown = shown })
+    own-there core front hub shown taken longer told =
+        subst (IsLocked opening ready) (λ i. record { core = sym taken i; hub = sym told i; story = sym longer i; shown = shown }) (own-locked shown)
+
   module _ (blocks : List Block) (ends : List BlockEnd) (delta : is_delta blocks ≡ true) (treats : Treats old.core.node blocks ends)
       (after : IsHoldings (replay_node old.core.node (took_each blocks ends)).held) where
     pub delta-locked : (shown : List Event) → IsLocked opening ready (after_delta old blocks ends shown)
@@ -110,11 +118,18 @@ module _ (opening : Node) (ready : List Event) (old : Locked) (is : IsLocked ope
               (since-held new.held (versions_of old.core.node.held blocks) after);
         }
 
+    pub delta-there : (core : Core) (front : List Event) (hub : Hub) (shown : List Event) → core ≡ with_node old.core (replay_node old.core.node (took_each blocks ends))
+        → front ≡ old.story ++ Applied blocks ends ∷ []
+        → hub ≡ with_notes old.hub (entered_of blocks old.core.node.held (replay_node old.core.node (took_each blocks ends)).held)
+        → IsLocked opening ready (record { core = core; hub = hub; story = front; shown = shown })
+    delta-there core front hub shown taken longer told =
+        subst (IsLocked opening ready) (λ i. record { core = sym taken i; hub = sym told i; story = sym longer i; shown = shown }) (delta-locked shown)
+
 -- ---- what changes nothing of the node
 
-pub moved : (opening : Node) (ready next : List Event) (l : Locked) (shown : List Event) → IsLocked opening ready l → IsPrefix next l.story
-    → AreGrown (node_after opening next).held l.core.node.held → IsLocked opening next (with_shown l shown)
-moved opening ready next l shown is begins grown = record { node = is.node; begins = begins; grown = grown; notes = is.notes }
+pub moved : (opening : Node) (ready later : List Event) (l : Locked) (shown : List Event) → IsLocked opening ready l → IsPrefix later l.story
+    → AreGrown (node_after opening later).held l.core.node.held → IsLocked opening later (with_shown l shown)
+moved opening ready later l shown is begins grown = record { node = is.node; begins = begins; grown = grown; notes = is.notes }
 
 pub hub-locked : (opening : Node) (ready : List Event) (l : Locked) (hub : Hub) → IsLocked opening ready l → AllNotes (is_held l.core.node.held) hub → IsLocked opening ready (with_hub l hub)
 hub-locked opening ready l hub is notes = record { node = is.node; begins = is.begins; grown = is.grown; notes = notes }

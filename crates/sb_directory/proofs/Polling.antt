@@ -9,13 +9,13 @@ use Rattle.sb_watch.specs.declared.note.Polled.{Polled}
 use Rattle.sb_watch.specs.Records.{Watch, Hub}
 use Rattle.sb_watch.specs.Hubs.{is_id, has_watch, watch_at, answer_if_found, answer_at}
 
+some-or : (b : Bool) (w : Watch) (found : Option Watch) (any : Bool) → is_some found ≡ any → is_some (cond b (Some w) found) ≡ (b || any)
+some-or true w found any same = refl
+some-or false w found any same = same
+
 found-any : (p : Watch → Bool) (ws : List Watch) → is_some (find p ws) ≡ list_any p ws
 found-any p [] = refl
-found-any p (w ∷ ws) = go (p w)
-  where
-    go : (b : Bool) → is_some (cond b (Some w) (find p ws)) ≡ (b || list_any p ws)
-    go true = refl
-    go false = found-any p ws
+found-any p (w ∷ ws) = some-or (p w) w (find p ws) (list_any p ws) (found-any p ws)
 
 none-case : (found : Option Watch) → is_some found ≡ false → answer_if_found found ≡ Err NoWatch
 none-case None e = refl

@@ -1,6 +1,7 @@
 //! Views that follow a node.
 ghost use Rattle.std.specs.Prelude.{◌≡◌, ◌<◌, ◌^◌, [], replicate, MatchBool, MatchResult, OnOk, OnErr, IfOk, IfErr};
 ghost use mathlib.Core.List.{IsPrefix};
+ghost use Rattle.sb_holdings.specs.Plain.{IsHoldings};
 ghost use Rattle.sb_views.specs.Growing.{AreGrown};
 ghost use Rattle.sb_views.specs.Stories.{node_after};
 
@@ -77,6 +78,7 @@ impl<S: Site, R: Wait + Drop> Views<S, R> {
         ensures ok { OnOk result (self.new ≡ record { shown = self.old.shown; ready = front.now }) }
         ensures err { OnErr result (self.new ≡ self.old) }
         ensures memory { IfErr result (λ fault. fault ≡ Fault.NoMemory) }
+        ensures holdings { IsHoldings core.now.node.held }
     {
         let holdings = core.holdings();
         let batch = pending(self.alloc, holdings, &self.reached)?;
@@ -136,6 +138,7 @@ impl<S: Site, R: Wait + Drop> Views<S, R> {
         requires begins { IsPrefix self.old.ready front.now }
         requires grown { AreGrown (node_after S.opening self.old.ready).held core.now.node.held }
         ensures ready { MatchBool result (self.new ≡ record { shown = self.old.shown; ready = front.now }) (self.new ≡ self.old) }
+        ensures grown { AreGrown (node_after S.opening self.new.ready).held core.now.node.held }
     {
         if self.ready.is_same(front) {
             return true;
