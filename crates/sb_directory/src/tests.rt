@@ -80,7 +80,7 @@ fn play<S: Site, R: Wait + Abort>(
     let (reader, shown) = upto_both(reader)?;
     assert_eq!(rt; shown, [1, 0]);
     let (ends, shown) = locked.apply(rt, &delta_of_b(alloc)?)?;
-    assert!(rt; ends.ends() == &[BlockEnd::Taken(1)]);
+    assert!(rt; ends.ends() == [BlockEnd::Taken(1)].as_slice());
     assert!(rt; shown || locked.refresh());
     let (_reader, shown) = upto_both(reader)?;
     assert_eq!(rt; (shown, locked.front().len()), ([1, 1], 2));
