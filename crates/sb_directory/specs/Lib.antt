@@ -1,3 +1,4 @@
 pub mod Reached
 pub mod Notes
 pub mod Locks
+pub mod Seats

@@ -10,6 +10,7 @@ ghost use Rattle.sb_node.specs.Answers.{IsDelta, IsAnswer};
 ghost use Rattle.sb_watch.specs.declared.note.Note.{Note};
 ghost use Rattle.sb_watch.specs.declared.note.Polled.TheVariants as answers;
 ghost use Rattle.sb_watch.specs.Hubs.{new_hub, next_id, has_watch, answer_at, with_watch, with_answer, without_watch};
+ghost use Rattle.sb_views.specs.Stories.{node_after};
 ghost use Rattle.sb_directory.specs.Locks as spec;
 
 use crate::notes::{tell, tell_since, versions_of};
@@ -210,7 +211,8 @@ impl<S: Site, R: Wait + Drop> Locked<S, R> {
 
     /// The events that happened.
     pub fn front(&self) -> &Front<S>
-        ensures { result.now ≡ self.now.story }
+        ensures front { result.now ≡ self.now.story }
+        ensures node { self.now.core.node ≡ node_after S.opening self.now.story }
     {
         &self.front
     }
