@@ -9,7 +9,7 @@ use sb_types::{
     Block, Delta, Entry, Fault, Key, Name, Order, Prefix, RawSettings, Settings, Slot, Value,
 };
 use sb_views::{Opened, Reader, Site};
-use sb_watch::{Filter, Polled};
+use sb_watch::{Filter, Polled, WatchId};
 use std::alloc::Global;
 use std::marker::Brand;
 use std::process::Abort;
@@ -73,17 +73,38 @@ fn play<S: Site, R: Wait + Abort>(
     let reader = readers.pop().ok_or("a reader")?;
     let (reader, shown) = upto_both(reader)?;
     assert_eq!(rt; shown, [0, 0]);
-    let write = first_write(alloc, b"a")?;
-    // Where there was no memory to show it, the next call makes up for it.
-    let shown = locked.take_own(rt, &write)? || locked.refresh();
-    assert_eq!(rt; (shown, locked.front().len()), (true, 1));
+    write_first(rt, alloc, &mut locked)?;
     let (reader, shown) = upto_both(reader)?;
     assert_eq!(rt; shown, [1, 0]);
-    let (ends, shown) = locked.apply(rt, &delta_of_b(alloc)?)?;
-    assert!(rt; ends.ends() == [BlockEnd::Taken(1)].as_slice());
-    assert!(rt; shown || locked.refresh());
+    take_first(rt, alloc, &mut locked)?;
     let (_reader, shown) = upto_both(reader)?;
-    assert_eq!(rt; (shown, locked.front().len()), ([1, 1], 2));
+    assert_eq!(rt; shown, [1, 1]);
+    Ok(())
+}
+
+/// The first write of a node is shown. Where there was no memory for it, the next call makes up for it.
+fn write_first<S: Site, H: Wait + Drop, R: Wait + Abort>(
+    rt: &R,
+    alloc: Global,
+    locked: &mut Locked<S, H>,
+) -> Result<(), Fail> {
+    let write = first_write(alloc, b"a")?;
+    let shown = locked.take_own(rt, &write)? || locked.refresh();
+    assert_eq!(rt; (shown, locked.front().len()), (true, 1));
+    Ok(())
+}
+
+/// So is a delta with the first write of b.
+fn take_first<S: Site, H: Wait + Drop, R: Wait + Abort>(
+    rt: &R,
+    alloc: Global,
+    locked: &mut Locked<S, H>,
+) -> Result<(), Fail> {
+    let delta = delta_of_b(alloc)?;
+    let (ends, shown) = locked.apply(rt, &delta)?;
+    assert!(rt; ends.ends() == [BlockEnd::Taken(1)].as_slice());
+    let shown = shown || locked.refresh();
+    assert_eq!(rt; (shown, locked.front().len()), (true, 2));
     Ok(())
 }
 
@@ -138,21 +159,41 @@ fn be_told<S: Site, R: Wait + Abort>(
     };
     let id = locked.watch(filter, 4)?;
     locked.take_own(rt, &first_write(alloc, b"a")?)?;
-    locked.apply(rt, &delta_of_b(alloc)?)?;
-    locked.apply(rt, &delta_of_b(alloc)?)?;
-    let owners: [&[u8]; 2] = [b"a", b"b"];
-    for owner in owners {
-        match locked.poll(id)? {
-            Polled::Note(note) => assert!(rt; note.owner.bytes() == owner && note.version == 1),
-            _ => return Err("a note".into()),
-        }
-    }
+    let delta = delta_of_b(alloc)?;
+    locked.apply(rt, &delta)?;
+    locked.apply(rt, &delta)?;
+    give_note(rt, &mut locked, id, b"a")?;
+    give_note(rt, &mut locked, id, b"b")?;
     assert_eq!(rt; locked.poll(id)?, Polled::Empty);
+    fill(rt, &mut locked, filter)?;
+    locked.unwatch(id)?;
+    assert_eq!(rt; locked.poll(id), Err(Fault::NoWatch));
+    Ok(())
+}
+
+/// The watch gives a note of the first write of an owner.
+fn give_note<S: Site, H: Wait + Drop, R: Abort>(
+    rt: &R,
+    locked: &mut Locked<S, H>,
+    id: WatchId,
+    owner: &[u8],
+) -> Result<(), Fail> {
+    match locked.poll(id)? {
+        Polled::Note(note) => assert!(rt; note.owner.bytes() == owner && note.version == 1),
+        _ => return Err("a note".into()),
+    }
+    Ok(())
+}
+
+/// Beside one watch stand 63 others, and no more.
+fn fill<S: Site, H: Wait + Drop, R: Abort>(
+    rt: &R,
+    locked: &mut Locked<S, H>,
+    filter: Filter,
+) -> Result<(), Fail> {
     for _ in 0..63 {
         locked.watch(filter, 1)?;
     }
     assert_eq!(rt; locked.watch(filter, 1), Err(Fault::WatchesFull));
-    locked.unwatch(id)?;
-    assert_eq!(rt; locked.poll(id), Err(Fault::NoWatch));
     Ok(())
 }
