@@ -1,0 +1,7 @@
+//! The tests of sessions. They stand in a crate of their own, since a crate with tests is proved twice: with them and without.
+#![tactic(auto)]
+
+#[cfg(test)]
+mod session;
+#[cfg(test)]
+mod talk;
