@@ -154,6 +154,10 @@ class Hello:
         """Spells the message."""
         return b"\x01" + text(self.cluster) + text(self.node)
 
+    def words(self):
+        """Says the message in words."""
+        return [b"hello, cluster %s, node %s" % (self.cluster, self.node)]
+
 
 @dataclass(frozen=True)
 class Digest:
@@ -168,6 +172,14 @@ class Digest:
         """Spells the message."""
         pairs = b"".join(text(name) + u64(upto) for name, upto in self.pairs)
         return b"\x02" + bytes([self.want]) + text(self.start) + text(self.until) + u16(len(self.pairs)) + pairs
+
+    def words(self):
+        """Says the message in words."""
+        want = b"wants an answer" if self.want else b"wants no answer"
+        start = b"from " + (self.start or b"the first name")
+        until = b"until " + self.until if self.until else b"to the last name"
+        head = b"digest, %s, %s, %s, pairs %d" % (want, start, until, len(self.pairs))
+        return [head, *(b"    %s upto %d" % pair for pair in self.pairs)]
 
     def number(self, name):
         """Tells the version up to which the owner is held, or None where the digest does not speak of it."""
@@ -199,6 +211,16 @@ class Delta:
             for key, version, value in block.entries:
                 spelled += text(key) + u64(version) + bytes([value.tag]) + value.encoded
         return spelled
+
+    def words(self):
+        """Says the message in words."""
+        said = [b"delta, blocks %d" % len(self.blocks)]
+        for block in self.blocks:
+            last, count = block.entries[-1][1], len(block.entries)
+            said.append(b"    block of %s, after %d, upto %d, entries %d" % (block.owner, block.after, last, count))
+            for key, version, value in block.entries:
+                said.append(b"      %s %s %d %s" % (block.owner, key, version, value.shown or b"removed -"))
+        return said
 
 
 def text(it):
@@ -532,6 +554,11 @@ class World:
         """A frame that was sent."""
         return [self.sent[at - 1][1].hex().encode()] if 1 <= at <= len(self.sent) else NOTHING
 
+    def words(self, at):
+        """A frame that was sent, in words."""
+        first, *others = self.sent[at - 1][0].words()
+        return [b"  frame %d: %s" % (at, first), *others]
+
     def write(self, name, key, value):
         """A write that is entered at once, or an older one in its place."""
         self.commit(name, key, value)
@@ -632,12 +659,20 @@ def answer(world, words):
     raise NoCommand
 
 
-def run(script):
+def explain(world, words, known):
+    """Says in words the frame that a line shows, and those that were sent since so many were."""
+    at = read_number(words[1]) if words[0] == b"show" else 0
+    frames = [at] if 1 <= at <= known else []
+    return [line for frame in [*frames, *range(known + 1, len(world.sent) + 1)] for line in world.words(frame)]
+
+
+def run(script, explains=False):
     """Runs a script, and returns what it prints and its exit status."""
     printed, world = [], None
     for number, line in enumerate(script.split(b"\n"), 1):
         if not line:
             continue
+        known = 0 if world is None else len(world.sent)
         try:
             words = words_of(line)
             if world is None:
@@ -650,6 +685,8 @@ def run(script):
             printed.append(b"fault %d" % fault.number)
             if world is None:
                 return b"".join(it + b"\n" for it in printed), 3
+        if explains:
+            printed += explain(world, words, known)
     return b"".join(it + b"\n" for it in printed), 0
 
 

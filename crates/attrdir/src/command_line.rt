@@ -2,7 +2,7 @@
 use crate::log_file::print_log;
 use clap::error::ErrorKind;
 use clap::{Arg, ArgAction, ArgMatches, Command};
-use sb_script::sim_run_uncounted;
+use sb_script::{Detail, Output, sim_run_uncounted};
 use sb_types::Fault;
 use std::alloc::{AllocError, Global};
 use std::{env, io};
@@ -56,6 +56,18 @@ Example:
   taken 1
   a w 1 weight 5
 
+With --explain each frame that a line sent or shows is said in words behind what the line prints:
+  $ printf 'world 256 breadth 100 a b\\nput a w weight 5\\ngive a b 0\\nread b a w\\n' | attrdir sim --explain
+  version 1
+  a7010000002203000101610000000000000000000101770000000000000001020000000000000005
+  taken 1
+    frame 1: hello, cluster sim, node a
+    frame 2: delta, blocks 1
+      block of a, after 0, upto 1, entries 1
+        a w 1 weight 5
+    frame 3: hello, cluster sim, node b
+  a w 1 weight 5
+
 The same in single events, with the frame in two pieces:
   $ printf 'world 256 breadth 100 a b\\nput a w weight 5\\nconnect a 1\\noffer a a 0\\nconnect b 2\\nline 2 1\\nline 2 2\\n\
 piece 2 20\\npiece 2 33\\n' | attrdir sim
@@ -84,10 +96,16 @@ Example:
   a y 3 flag true
   last 3";
 
-fn sim<'a>(alloc: Global) -> Command<'a> {
+fn sim<'a>(alloc: Global) -> Result<Command<'a>, AllocError> {
     Command::new(alloc, "sim")
         .about("Runs a script of nodes, from standard input to standard output")
         .after_help(SCRIPT)
+        .arg(
+            Arg::new(alloc, "explain")
+                .long("explain")
+                .action(ArgAction::SetTrue)
+                .help("Says in words what the frames hold"),
+        )
 }
 
 /// An option that has to be given, with one value.
@@ -115,7 +133,7 @@ fn command<'a>(alloc: Global) -> Result<Command<'a>, AllocError> {
         .about("A directory of the attributes of nodes")
         .after_help(EXAMPLE)
         .subcommand_required(true)
-        .subcommand(sim(alloc))?
+        .subcommand(sim(alloc)?)?
         .subcommand(log(alloc)?)
 }
 
@@ -132,9 +150,18 @@ fn words(rt: &HostRuntime) -> Result<Option<Vec<String>>, Fault> {
 }
 
 /// Plays the script on standard input, and answers the exit status.
-fn play(rt: &HostRuntime) -> Result<u8, Fault> {
-    let ending = sim_run_uncounted(rt.alloc(), rt.stdin(), rt.stdout(), MAX_READS)?;
+fn play(rt: &HostRuntime, detail: Detail) -> Result<u8, Fault> {
+    let mut output = Output::new(rt.alloc(), rt.stdout())?;
+    let ending = sim_run_uncounted(rt.alloc(), rt.stdin(), &mut output, MAX_READS, detail)?;
     Ok(ending.status())
+}
+
+/// What a script is to print, as the command line says.
+fn detail_of(matches: &ArgMatches<'_>) -> Detail {
+    match matches.subcommand_matches("sim") {
+        Some(given) if given.get_flag("explain") => Detail::Explained,
+        _ => Detail::Plain,
+    }
 }
 
 /// The value of an option, which `clap` saw to be given.
@@ -154,7 +181,7 @@ fn carry_out(rt: &HostRuntime, matches: &ArgMatches<'_>) -> Result<u8, Fault> {
             )?;
             Ok(0)
         }
-        None => play(rt),
+        None => play(rt, detail_of(matches)),
     }
 }
 

@@ -36,6 +36,3 @@ impl DeltaOrder for Breadth {
         Ok(items)
     }
 }
-
-#[cfg(test)]
-mod tests;

@@ -13,6 +13,3 @@ pub use cutting::cut;
 pub use laws::{available_by_number, available_by_owner, cuts_are_honest, offers_are_honest};
 pub use offered::Offered;
 pub use order::{DeltaOrder, orders_keep_owners};
-
-#[cfg(test)]
-mod tests;

@@ -37,6 +37,3 @@ impl DeltaOrder for Depth {
         Ok(items)
     }
 }
-
-#[cfg(test)]
-mod tests;

@@ -160,10 +160,6 @@ kept_consumes (Some x) None c bytes p q = absurd p
 kept_consumes (Some x) (Some y) None bytes p q = absurd q
 kept_consumes (Some x) (Some y) (Some z) bytes p q = sym p ∙ q
 
-pub cut_some : (bytes : List ℕ) → 0 < length bytes → end_of_held bytes ≡ Err Truncated
-cut_some [] some = absurd (omega (arith, some))
-cut_some (byte ∷ bytes) some = refl
-
 -- ---- a read into room behind what is held
 
 -- what stands in front of the room, and what was read into it

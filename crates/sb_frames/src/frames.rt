@@ -110,15 +110,25 @@ impl Frames {
         }
     }
 
+    /// How many bytes were fed and not handed out in messages; none after a faulty frame. It takes no memory.
+    pub fn held(&self) -> usize
+        ensures { result ≡ length (held_of self.now) }
+    {
+        if self.is_closed {
+            return 0;
+        }
+        self.bytes.len() - self.taken
+    }
+
     /// At the end of the stream: `Truncated` where a byte that was fed was not handed out in a message.
     /// After a faulty frame none is left. It takes no memory.
     pub fn end(&self) -> Result<(), Fault>
         ensures { result ≡ end_of self.now }
     {
-        if self.is_closed || self.taken == self.bytes.len() {
-            return Ok(());
+        if self.held() > 0 {
+            return Err(Fault::Truncated);
         }
-        Err(Fault::Truncated)
+        Ok(())
     }
 
     /// Whether nothing more is read, after a faulty frame.

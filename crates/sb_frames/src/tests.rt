@@ -156,6 +156,24 @@ fn a_frame_in_any_pieces(rt: HostRuntime) -> Result<(), Fail> {
     Ok(())
 }
 
+#[test]
+fn what_was_not_handed_out_is_held(rt: HostRuntime) -> Result<(), Fail> {
+    let mut frames = Frames::new(rt.alloc());
+    fed(&mut frames, FRAME)?;
+    fed(&mut frames, FRAME)?;
+    fed(&mut frames, &FRAME[..17])?;
+    for held in [97usize, 57, 17] {
+        assert_eq!(rt; frames.held(), held);
+        let is_whole = taken(&mut frames)?.is_some();
+        assert_eq!(rt; is_whole, held > 17);
+    }
+    assert_eq!(rt; frames.end(), Err(Fault::Truncated));
+    fed(&mut frames, FRAME)?;
+    assert!(rt; matches!(taken(&mut frames), Err(Fault::Malformed(3))));
+    assert_eq!(rt; frames.held(), 0);
+    Ok(())
+}
+
 /// What the frame is read as; nothing where it is not one message.
 fn read(alloc: Global, frame: &[u8]) -> Result<Option<Message>, Fault> {
     let mut frames = Frames::new(alloc);

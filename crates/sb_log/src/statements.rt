@@ -135,7 +135,8 @@ pub(crate) fn write_entry<S: Alter>(conn: &mut Connection<S>, entry: &Entry) -> 
     ensures fault { IfErr result (λ fault. fault ≡ Fault.StoreFailed) }
 {
     match conn.execute(
-        "INSERT INTO writes (k, version, tag, num, txt) VALUES (?1, ?2, ?3, ?4, ?5) ON CONFLICT (k) DO UPDATE SET version = excluded.version, tag = excluded.tag, num = excluded.num, txt = excluded.txt",
+        "INSERT INTO writes (k, version, tag, num, txt) VALUES (?1, ?2, ?3, ?4, ?5) \
+ON CONFLICT (k) DO UPDATE SET version = excluded.version, tag = excluded.tag, num = excluded.num, txt = excluded.txt",
         &cells_of(entry),
     ) {
         Ok(_) => Ok(()),

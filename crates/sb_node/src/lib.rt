@@ -10,8 +10,3 @@ pub use laws::{
     sessions_keep_truth,
 };
 pub use node::NodeCore;
-
-#[cfg(test)]
-mod session_tests;
-#[cfg(test)]
-mod tests;

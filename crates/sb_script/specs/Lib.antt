@@ -4,3 +4,4 @@ pub mod Printed
 pub mod Commands
 pub mod Written
 pub mod Played
+pub mod Told

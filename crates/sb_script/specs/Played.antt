@@ -1,5 +1,5 @@
 -- What the commands of a script do to its world and print of it.
-use Rattle.std.specs.Prelude.{◌≡◌, ◌⊎◌, ℕ, List, Bool, true, false, Option, Result, Ok, Err, ⊤}
+use Rattle.std.specs.Prelude.{◌≡◌, ◌⊎◌, ℕ, List, Bool, true, false, Option, Some, None, Result, Ok, Err}
 use Rattle.std.specs.Io.KnownBytes.{Appends, Keeps}
 use Rattle.sb_types.specs.declared.fault.Fault.{Fault}
 use Rattle.sb_world.specs.declared.event.Event.{Event}
@@ -28,11 +28,20 @@ abbrev pub PlaysWrite : Seen → Event → Event → Option (List ℕ) → Optio
 PlaysWrite old commit take before after new =
     (middle : Seen) × (effect : Effect) × (answer : Result Answer Fault) × Step old commit answer effect middle × PlaysTake answer middle take before after new
 
--- of a give nothing is said
+-- the frame of a give, where one was sent
+abbrev pub ShowsSent : List (List ℕ) → Option ℕ → Option (List ℕ) → Option (List ℕ) → Type 0
+ShowsSent sent None before after = Keeps before after
+ShowsSent sent (Some number) before after = Appends before after (shown_frame (frame_at sent number))
+
+-- a give prints at most one frame, and then the lines of an answer; which, and what it does to the world, is not said
+abbrev pub PlaysGive : Option (List ℕ) → Option (List ℕ) → Type 0
+PlaysGive before after = (sent : List (List ℕ)) × (number : Option ℕ) × (between : Option (List ℕ)) × (event : Event) × (answer : Result Answer Fault)
+    × ShowsSent sent number before between × Appends between after (lines_of event answer)
+
 abbrev pub Plays : Seen → Command → Option (List ℕ) → Option (List ℕ) → Seen → Type 0
 Plays old (commands.Step event) before after new = PlaysStep old event before after new
 Plays old (commands.Write commit take) before after new = PlaysWrite old commit take before after new
-Plays old (commands.Give giver taker above) before after new = ⊤
+Plays old (commands.Give giver taker above) before after new = PlaysGive before after
 Plays old (commands.Show frame) before after new = (new ≡ old) × Appends before after (shown_frame (frame_at old.sent frame))
 
 -- a line does what it says; one with a name, a key or a value that is none prints that fault alone

@@ -23,6 +23,10 @@ counted word number = line (word ++ decimal number)
 abbrev pub fault_line : Fault → List ℕ
 fault_line fault = counted (codes "fault ") (number_of fault)
 
+-- the line that is no command, by its number
+abbrev pub wrong_line : ℕ → List ℕ
+wrong_line number = counted (codes "line ") number
+
 -- the two digits of a byte
 abbrev pub hex : ℕ → List ℕ
 hex byte = digit_char (byte / 16) ∷ digit_char (byte % 16) ∷ []

@@ -2,6 +2,7 @@
 #![tactic(auto)]
 
 mod command;
+mod explain;
 mod line;
 mod lines;
 mod making;
@@ -11,8 +12,9 @@ mod print;
 mod sim;
 mod words;
 
+pub use output::Output;
 pub use sb_frames::Steps;
-pub use sim::{Ending, sim_run, sim_run_uncounted};
+pub use sim::{Detail, Ending, sim_run, sim_run_uncounted};
 
 #[cfg(test)]
 mod story;

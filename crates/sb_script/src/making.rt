@@ -1,4 +1,7 @@
 //! The line that makes the world.
+ghost use Rattle.std.specs.Prelude.{IfOk, IfSome};
+ghost use Rattle.sb_world.specs.Making.{IsMade};
+
 use crate::words::{are_words, number_of, words_of};
 use sb_log::PlainLog;
 use sb_types::{Fault, Name, Order, RawSettings, Settings};
@@ -55,7 +58,9 @@ impl<'a> WorldLine<'a> {
     }
 
     /// `BadName`; `BadSetting`, for more than 1,024 nodes, too; `SameName`; `NoMemory`.
-    fn world(&self, alloc: Global) -> Result<World<PlainLog>, Fault> {
+    fn world(&self, alloc: Global) -> Result<World<PlainLog>, Fault>
+        ensures { IfOk result IsMade }
+    {
         let mut names = Vec::new(alloc);
         for word in self.names {
             names.push(Name::read(word)?)?;
@@ -72,7 +77,9 @@ impl<'a> WorldLine<'a> {
 
 /// The world of the first line, of empty logs. None where that line is no command. `BadName`; `BadSetting`, for more than
 /// 1,024 nodes, too; `SameName`; `NoMemory`.
-pub(crate) fn make_world(alloc: Global, line: &[u8]) -> Result<Option<World<PlainLog>>, Fault> {
+pub(crate) fn make_world(alloc: Global, line: &[u8]) -> Result<Option<World<PlainLog>>, Fault>
+    ensures { IfOk result (λ made. IfSome made IsMade) }
+{
     let words = words_of(alloc, line)?;
     match WorldLine::parse(&words) {
         Some(line) => Ok(Some(line.world(alloc)?)),

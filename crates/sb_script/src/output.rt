@@ -1,6 +1,6 @@
 //! The answers of a script, on their way out.
-ghost use Rattle.std.specs.Prelude.{◌≡◌, OnOk, IfErr, IfSome};
-ghost use Rattle.std.specs.Io.KnownBytes.{Appends, Keeps};
+ghost use Rattle.std.specs.Prelude.{◌≡◌, [], OnOk, IfOk, IfErr, IfSome};
+ghost use Rattle.std.specs.Io.KnownBytes.{Appends, Keeps, append_known};
 ghost use Rattle.sb_script.specs.Written.{printed, taken, written};
 
 use sb_types::Fault;
@@ -17,6 +17,14 @@ struct Counting<W> {
     writer: W,
     taken: u64,
     has_failed: bool,
+}
+
+impl<W> Counting<W> {
+    fn into_writer(self) -> W
+        ensures { result ≡ self.writer }
+    {
+        self.writer
+    }
 }
 
 impl<W: Write> Write for Counting<W> {
@@ -40,16 +48,18 @@ impl<W: Write> Write for Counting<W> {
     }
 }
 
-/// Lines that are written many at once. It takes its memory when it is made and none later.
+/// What a script prints, on its way to a writer, which gets many lines at once. It takes its memory when it is made and
+/// none later.
 #[derive(Drop)]
-pub(crate) struct Output<W: Write + Drop> {
+pub struct Output<W: Write + Drop> {
     writer: BufWriter<Counting<W>>,
 }
 
 impl<W: Write + Drop> Output<W> {
-    /// `NoMemory`.
-    pub(crate) fn new(alloc: Global, writer: W) -> Result<Output<W>, Fault>
-        ensures { IfErr result (λ fault. fault ≡ Fault.NoMemory) }
+    /// An output to a writer, with nothing printed yet. `NoMemory`, with the writer dropped.
+    pub fn new(alloc: Global, writer: W) -> Result<Output<W>, Fault>
+        ensures nothing { IfOk result (λ output. printed W.contents output ≡ append_known (W.contents writer) []) }
+        ensures fault { IfErr result (λ fault. fault ≡ Fault.NoMemory) }
     {
         let counting = Counting {
             writer,
@@ -60,6 +70,14 @@ impl<W: Write + Drop> Output<W> {
             Ok(writer) => Ok(Output { writer }),
             Err(_) => Err(Fault::NoMemory),
         }
+    }
+
+    /// The writer, with what was written. Where a write failed, what still waits to be written is dropped.
+    pub fn into_writer(self) -> W
+        ensures { W.contents result ≡ written W.contents self }
+    {
+        let (counting, _) = self.writer.into_parts();
+        counting.into_writer()
     }
 
     /// Prints lines. `WriteFailed`, with how many bytes were written in all.

@@ -3,7 +3,7 @@ ghost use Rattle.std.specs.Prelude.{◌≡◌, OnOk, IfOk, IfErr};
 ghost use Rattle.std.specs.Io.KnownBytes.{Appends};
 ghost use Rattle.sb_world.specs.Places.{frame_at};
 ghost use Rattle.sb_script.specs.Printed.{lines_of, shown_frame};
-ghost use Rattle.sb_script.specs.Played.{PlaysStep, PlaysWrite, Plays, PlaysLine};
+ghost use Rattle.sb_script.specs.Played.{PlaysStep, PlaysWrite, ShowsSent, PlaysGive, Plays, PlaysLine};
 ghost use Rattle.sb_script.specs.Written.{printed, taken};
 
 use crate::command::Command;
@@ -146,6 +146,21 @@ fn close(world: &mut World<PlainLog>) {
     lose(world.step(&Event::Close(TAKER)));
 }
 
+/// Prints the frame that a give sent, if it sent one. `WriteFailed`.
+fn show_sent<W: Write + Drop>(
+    world: &World<PlainLog>,
+    sent: Option<u64>,
+    output: &mut Output<W>,
+) -> Result<(), Fault>
+    ensures printed { OnOk result (ShowsSent world.now.sent sent (printed W.contents output.old) (printed W.contents output.new)) }
+    ensures fault { IfErr result (λ fault. fault ≡ Fault.WriteFailed (taken output.new)) }
+{
+    match sent {
+        Some(number) => show(world, number, output),
+        None => Ok(()),
+    }
+}
+
 /// A node sends another what it wrote above a version, on connections of their own. The delta's frame is printed, and
 /// what came of it. `WriteFailed`.
 fn give<W: Write + Drop>(
@@ -155,25 +170,27 @@ fn give<W: Write + Drop>(
     after: u64,
     output: &mut Output<W>,
 ) -> Result<(), Fault>
-    ensures { IfErr result (λ fault. fault ≡ Fault.WriteFailed (taken output.new)) }
+    ensures printed { OnOk result (PlaysGive (printed W.contents output.old) (printed W.contents output.new)) }
+    ensures fault { IfErr result (λ fault. fault ≡ Fault.WriteFailed (taken output.new)) }
 {
+    let piece = Event::Piece(TAKER, u64::MAX);
     let given = match offer(world, giver, after) {
         Ok(given) => given,
         Err(fault) => {
             close(world);
-            return output.print(FaultLine(fault));
+            return tell(piece, Err(fault), output);
         }
     };
-    match given.delta {
-        Some(number) => match show(world, number, output) {
-            Ok(()) => {}
-            Err(fault) => return Err(fault),
-        },
-        None => {}
+    match show_sent(world, given.delta, output) {
+        Ok(()) => {}
+        Err(fault) => {
+            lose_event(piece);
+            return Err(fault);
+        }
     }
     let answer = take_up(world, taker, given);
     close(world);
-    tell(Event::Piece(TAKER, u64::MAX), answer, output)
+    tell(piece, answer, output)
 }
 
 /// Does what a command says, and prints what it answers. `WriteFailed`.

@@ -50,7 +50,7 @@ struct Hex(u8);
 
 /// A text of ASCII.
 #[derive(Clone, Copy)]
-struct Text<'a>(&'a [u8]);
+pub(crate) struct Text<'a>(pub(crate) &'a [u8]);
 
 impl fmt::Display for Text<'_> {
     ghost use Rattle.std.specs.Prelude.{Some};

@@ -1,16 +1,22 @@
 //! The run of a script.
 ghost use Rattle.std.specs.Prelude.{◌≡◌, ◌+◌, ◌<◌, ◌≤◌, true, false, vec_len, OnOk, IfOk, IfErr};
 ghost use Rattle.sb_script.specs.Script.{EndsSo, bytes_to_come, status_of};
-ghost use Rattle.sb_script.specs.Written.{taken};
+ghost use Rattle.sb_script.specs.Printed.{fault_line, wrong_line};
+ghost use Rattle.sb_script.specs.Told.{Tells, TellsFrom};
+ghost use Rattle.std.specs.Io.KnownBytes.{Appends};
+ghost use Rattle.sb_script.specs.Written.{printed, taken, written};
 ghost use Rattle.sb_script.specs.Reads.{AreCounted, IsRunFault, comes_before_reads, is_run_fault};
 
+use crate::explain::explain;
 use crate::lines::Lines;
 use crate::making::make_world;
 use crate::output::Output;
 use crate::playing::play_line;
 use crate::print::FaultLine;
 use sb_frames::Steps;
+use sb_log::PlainLog;
 use sb_types::Fault;
+use sb_world::World;
 use std::alloc::Global;
 use std::io::{Read, Write};
 use std::marker::Brand;
@@ -25,6 +31,15 @@ pub enum Ending {
     WrongLine,
     /// The world line had a fault.
     NoWorld,
+}
+
+/// What a script prints beside its answers.
+#[derive(Clone, Copy, Debug, PartialEq, Eq)]
+pub enum Detail {
+    /// Nothing.
+    Plain,
+    /// Behind the answers of a line, in words, the frames that it sent and the one that it shows.
+    Explained,
 }
 
 impl Ending {
@@ -43,24 +58,27 @@ impl Ending {
 /// Runs a script, and prints what it answers. At most `max_reads` reads are made.
 ///
 /// The faults of lines are printed. The run's own come back: `ReadFailed`; `WriteFailed`, with how many
-/// bytes were written; `TurnsSpent` where the script takes more reads; `NoMemory`. What was printed before
+/// bytes the output's writer took; `TurnsSpent` where the script takes more reads; `NoMemory`. What was printed before
 /// the end of the run has been written, but for what a failed write left.
 #[tactic(auto, using(crate::proofs::Runs::memory_fault, crate::proofs::Runs::write_fault, crate::proofs::Runs::fault_later))]
 pub fn sim_run<R: Read + Drop, W: Write + Drop, L: Ledger>(
     alloc: Global,
     reader: R,
-    writer: W,
+    output: &mut Output<W>,
     max_reads: u64,
+    detail: Detail,
     steps: &mut Steps<L>,
 ) -> Result<Ending, Fault>
     ensures reads { steps.new ≤ steps.old + max_reads }
     ensures made { OnOk result (steps.old < steps.new) }
     ensures fault { IfErr result (IsRunFault steps.old steps.new max_reads) }
     ensures early { IfErr result (λ fault. comes_before_reads fault ≡ false → steps.old < steps.new) }
+
+    // The writer has the lines of commands that were played in turn in a new world, and no others but words that were asked for.
+    ensures told { IfOk result (λ ending. Tells ending detail (printed W.contents output.old) (written W.contents output.new)) }
 {
-    let mut output = Output::new(alloc, writer)?;
     let mut lines = Lines::open(alloc, reader, max_reads, steps)?;
-    let ended = play(alloc, &mut lines, &mut output, steps);
+    let ended = play(alloc, &mut lines, output, detail, steps);
     let finished = output.finish();
     let ending = ended?;
     finished?;
@@ -71,22 +89,25 @@ pub fn sim_run<R: Read + Drop, W: Write + Drop, L: Ledger>(
 pub fn sim_run_uncounted<R: Read + Drop, W: Write + Drop>(
     alloc: Global,
     reader: R,
-    writer: W,
+    output: &mut Output<W>,
     max_reads: u64,
+    detail: Detail,
 ) -> Result<Ending, Fault>
     ensures made { OnOk result (0 < max_reads) }
     ensures fault { IfErr result (λ fault. is_run_fault fault ≡ true) }
     ensures early { IfErr result (λ fault. comes_before_reads fault ≡ false → 0 < max_reads) }
+    ensures told { IfOk result (λ ending. Tells ending detail (printed W.contents output.old) (written W.contents output.new)) }
 {
-    run_on::<R, W, Brand>(alloc, reader, writer, max_reads, Blank::new(1))
+    run_on::<R, W, Brand>(alloc, reader, output, max_reads, detail, Blank::new(1))
 }
 
 /// Runs a script, and counts its reads in a ledger of their own.
 fn run_on<R: Read + Drop, W: Write + Drop, L: Ledger>(
     alloc: Global,
     reader: R,
-    writer: W,
+    output: &mut Output<W>,
     max_reads: u64,
+    detail: Detail,
     blank: Blank,
 ) -> Result<Ending, Fault>
     requires name { blank.name ≡ L.name }
@@ -95,16 +116,19 @@ fn run_on<R: Read + Drop, W: Write + Drop, L: Ledger>(
     ensures made { OnOk result (0 < max_reads) }
     ensures fault { IfErr result (λ fault. is_run_fault fault ≡ true) }
     ensures early { IfErr result (λ fault. comes_before_reads fault ≡ false → 0 < max_reads) }
+    ensures told { IfOk result (λ ending. Tells ending detail (printed W.contents output.old) (written W.contents output.new)) }
 {
     let mut steps = Steps::<L>::new(blank);
-    sim_run(alloc, reader, writer, max_reads, &mut steps)
+    sim_run(alloc, reader, output, max_reads, detail, &mut steps)
 }
 
+/// Plays all lines, the world line first.
 #[tactic(auto, using(crate::proofs::Runs::counted_later, crate::proofs::Runs::fault_later, crate::proofs::Runs::write_fault))]
 fn play<R: Read, W: Write + Drop, L: Ledger>(
     alloc: Global,
     lines: &mut Lines<R>,
     output: &mut Output<W>,
+    detail: Detail,
     steps: &mut Steps<L>,
 ) -> Result<Ending, Fault>
     ensures counted { AreCounted steps.old lines.old.left steps.new lines.new.left }
@@ -112,22 +136,41 @@ fn play<R: Read, W: Write + Drop, L: Ledger>(
         (bytes_to_come lines.old.left lines.old.at lines.old.end)
         (bytes_to_come lines.new.left lines.new.at lines.new.end)) }
     ensures fault { IfErr result (IsRunFault steps.old steps.new lines.old.left) }
+    ensures told { IfOk result (λ ending. Tells ending detail (printed W.contents output.old) (printed W.contents output.new)) }
 {
     if !lines.advance(steps)? {
         return Ok(Ending::Whole);
     }
-    let mut world = match make_world(alloc, lines.line()) {
-        Ok(Some(world)) => world,
-        Ok(None) => return end_at(lines.number(), output),
-        Err(fault) => {
-            output.print(FaultLine(fault))?;
-            return Ok(Ending::NoWorld);
-        }
-    };
+    match make_world(alloc, lines.line()) {
+        Ok(Some(world)) => play_in(alloc, world, lines, output, detail, steps),
+        Ok(None) => end_at(lines.number(), output),
+        Err(fault) => end_without(fault, output),
+    }
+}
+
+/// Plays the lines below the world line.
+#[tactic(auto, using(crate::proofs::Runs::counted_later, crate::proofs::Runs::fault_later, crate::proofs::Runs::write_fault))]
+fn play_in<R: Read, W: Write + Drop, L: Ledger>(
+    alloc: Global,
+    mut world: World<PlainLog>,
+    lines: &mut Lines<R>,
+    output: &mut Output<W>,
+    detail: Detail,
+    steps: &mut Steps<L>,
+) -> Result<Ending, Fault>
+    ensures counted { AreCounted steps.old lines.old.left steps.new lines.new.left }
+    ensures ending { IfOk result (λ ending. EndsSo ending lines.new.ended (vec_len lines.new.line)
+        (bytes_to_come lines.old.left lines.old.at lines.old.end)
+        (bytes_to_come lines.new.left lines.new.at lines.new.end)) }
+    ensures fault { IfErr result (IsRunFault steps.old steps.new lines.old.left) }
+    ensures told { IfOk result (λ ending. TellsFrom world ending detail (printed W.contents output.old) (printed W.contents output.new)) }
+{
+    let mut told = 0;
     while lines.advance(steps)? {
         if !play_line(alloc, &mut world, lines.line(), output)? {
             return end_at(lines.number(), output);
         }
+        explain(alloc, &world, lines.line(), detail, &mut told, output)?;
     }
     Ok(Ending::Whole)
 }
@@ -135,8 +178,19 @@ fn play<R: Read, W: Write + Drop, L: Ledger>(
 /// Ends the run at a line that is no command.
 fn end_at<W: Write + Drop>(number: u64, output: &mut Output<W>) -> Result<Ending, Fault>
     ensures wrong { IfOk result (λ ending. ending ≡ Ending.WrongLine) }
+    ensures printed { OnOk result (Appends (printed W.contents output.old) (printed W.contents output.new) (wrong_line number)) }
     ensures fault { IfErr result (λ fault. fault ≡ Fault.WriteFailed (taken output.new)) }
 {
     output.print(format_args!("line {number}\n"))?;
     Ok(Ending::WrongLine)
+}
+
+/// Ends the run at a world line that has a fault.
+fn end_without<W: Write + Drop>(fault: Fault, output: &mut Output<W>) -> Result<Ending, Fault>
+    ensures none { IfOk result (λ ending. ending ≡ Ending.NoWorld) }
+    ensures printed { OnOk result (Appends (printed W.contents output.old) (printed W.contents output.new) (fault_line fault)) }
+    ensures fault { IfErr result (λ fault. fault ≡ Fault.WriteFailed (taken output.new)) }
+{
+    output.print(FaultLine(fault))?;
+    Ok(Ending::NoWorld)
 }

@@ -1,5 +1,5 @@
 //! What no clause says: what scripts print, and the ends of a run.
-use crate::{Ending, sim_run_uncounted};
+use crate::{Detail, Ending, Output, sim_run_uncounted};
 use sb_types::Fault;
 use std::alloc::Global;
 use std::io;
@@ -70,10 +70,22 @@ fn with_memory(ended: Result<Ending, Fault>) -> Result<Result<Ending, Fault>, Fa
     }
 }
 
+/// Runs a script to a writer, without words behind the answers.
+fn run_to<R: Read + Drop, W: Write + Drop>(
+    alloc: Global,
+    reader: R,
+    writer: W,
+    max_reads: u64,
+) -> Result<Ending, Fault> {
+    let mut output = Output::new(alloc, writer)?;
+    sim_run_uncounted(alloc, reader, &mut output, max_reads, Detail::Plain)
+}
+
 /// Runs a script in ample reads, and answers how it ended with what it printed.
-fn run(alloc: Global, script: &str) -> Result<(Ending, Page), Fault> {
-    let mut page = Page::new();
-    let ending = sim_run_uncounted(alloc, script.as_bytes(), &mut page, 100)?;
+fn run(alloc: Global, script: &str, detail: Detail) -> Result<(Ending, Page), Fault> {
+    let mut output = Output::new(alloc, Page::new())?;
+    let ending = sim_run_uncounted(alloc, script.as_bytes(), &mut output, 100, detail)?;
+    let page = output.into_writer();
     if !page.had_memory() {
         return Err(Fault::NoMemory);
     }
@@ -155,6 +167,11 @@ fn add_line(out: &mut String, line: &str) -> Result<(), Fault> {
 
 /// Whether each line prints what stands beside it.
 fn prints(alloc: Global, lines: &[(&str, &str)]) -> Result<bool, Fault> {
+    prints_in(alloc, lines, Detail::Plain)
+}
+
+/// Whether each line prints what stands beside it, in this detail.
+fn prints_in(alloc: Global, lines: &[(&str, &str)], detail: Detail) -> Result<bool, Fault> {
     let mut script = String::new(alloc);
     let mut wanted = String::new(alloc);
     for (line, printed) in lines {
@@ -163,7 +180,7 @@ fn prints(alloc: Global, lines: &[(&str, &str)]) -> Result<bool, Fault> {
             add_line(&mut wanted, line)?;
         }
     }
-    let (ending, page) = run(alloc, &script)?;
+    let (ending, page) = run(alloc, &script, detail)?;
     Ok(ending == Ending::Whole && page.printed() == wanted.as_bytes())
 }
 
@@ -252,10 +269,14 @@ fn a_crash_keeps_a_write_or_loses_it(rt: HostRuntime) -> Result<(), Fail> {
         ("world 256 breadth 2 a b", ""),
         ("crash a x weight 1 kept", "crashed"),
         ("upto b a", "0"),
+        ("read a a x", "fault 15"),
         ("restart a", "restarted 1"),
+        ("read a a x", "a x 1 weight 1"),
         ("put a y weight 2", "version 2"),
+        ("take a", "nothing"),
         ("put a z weight 3", "fault 8"),
         ("upto a a", "2"),
+        ("upto c a", "nothing"),
     ];
     assert!(rt; prints(rt.alloc(), &kept)?);
     let lost = [
@@ -267,6 +288,82 @@ fn a_crash_keeps_a_write_or_loses_it(rt: HostRuntime) -> Result<(), Fail> {
         ("put a x weight 2", "version 1"),
     ];
     assert!(rt; prints(rt.alloc(), &lost)?);
+    Ok(())
+}
+
+#[test]
+fn what_waited_goes_with_a_restart(rt: HostRuntime) -> Result<(), Fail> {
+    let lines = [
+        ("world 256 breadth 100 a b", ""),
+        ("commit a x weight 2", "committed 1"),
+        ("upto a a", "0"),
+        ("restart a", "restarted 1"),
+        ("take a", "nothing"),
+        ("read a a x", "a x 1 weight 2"),
+    ];
+    assert!(rt; prints(rt.alloc(), &lines)?);
+    Ok(())
+}
+
+#[test]
+fn a_frame_is_lost_and_another_comes_twice(rt: HostRuntime) -> Result<(), Fail> {
+    let lines = [
+        ("world 256 breadth 100 a b", ""),
+        ("put a w weight 5", "version 1"),
+        ("connect a 1", "frame 1"),
+        ("offer a a 0", "frame 2"),
+        ("show 2", "FRAME"),
+        ("put a x weight 6", "version 2"),
+        ("offer a a 1", "frame 3"),
+        ("connect b 2", "frame 4"),
+        ("connect a 2", "nothing"),
+        ("line 2 1", "lined"),
+        ("line 2 3", "lined"),
+        ("piece 2 1000", "gap"),
+        ("line 2 9", "nothing"),
+        ("line 2 0", "nothing"),
+        ("line 2 2", "lined"),
+        ("piece 2 40", "taken 1"),
+        ("line 2 2", "lined"),
+        ("piece 2 40", "stale"),
+        ("line 2 3", "lined"),
+        ("piece 2 40", "taken 1"),
+        ("upto b a", "2"),
+        ("close 2", "closed"),
+        ("close 2", "nothing"),
+        ("piece 2 1", "nothing"),
+        ("ask 2", "nothing"),
+        ("show 5", "nothing"),
+    ];
+    assert!(rt; prints(rt.alloc(), &lines)?);
+    Ok(())
+}
+
+#[test]
+fn a_session_asks_and_is_answered(rt: HostRuntime) -> Result<(), Fail> {
+    let lines = [
+        ("world 256 breadth 100 a b", ""),
+        ("put a w weight 5", "version 1"),
+        ("connect a 1", "frame 1"),
+        ("connect b 2", "frame 2"),
+        ("ask 2", "frame 3"),
+        ("line 1 2", "lined"),
+        ("line 1 3", "lined"),
+        ("piece 1 1000", "frame 4|frame 5"),
+        ("show 4", "FRAME"),
+        ("line 2 1", "lined"),
+        ("line 2 4", "lined"),
+        ("line 2 5", "lined"),
+        ("piece 2 13", "nothing"),
+        ("piece 2 39", "nothing"),
+        ("piece 2 1", "taken 1"),
+        ("piece 2 1000", "frame 6"),
+        ("read b a w", "a w 1 weight 5"),
+        ("crash b w weight 1 lost", "crashed"),
+        ("ask 2", "nothing"),
+        ("connect b 2", "fault 15"),
+    ];
+    assert!(rt; prints(rt.alloc(), &lines)?);
     Ok(())
 }
 
@@ -287,6 +384,7 @@ fn a_node_restarts_inside_a_frame(rt: HostRuntime) -> Result<(), Fail> {
         ("connect b 3", "frame 4"),
         ("line 3 2", "lined"),
         ("piece 3 300", "fault 22"),
+        ("piece 3 1", "nothing"),
         ("connect b 4", "frame 5"),
         ("line 4 1", "lined"),
         ("line 4 2", "lined"),
@@ -321,6 +419,76 @@ fn nodes_that_are_not_there_and_words_that_are_none(rt: HostRuntime) -> Result<(
 }
 
 #[test]
+fn frames_are_said_in_words(rt: HostRuntime) -> Result<(), Fail> {
+    let lines = [
+        ("world 256 breadth 100 a b", ""),
+        ("put a w weight 5", "version 1"),
+        ("put a x flag true", "version 2"),
+        ("del a x", "version 3"),
+        ("put a y addr h:1", "version 4"),
+        (
+            "connect a 1",
+            "frame 1|  frame 1: hello, cluster sim, node a",
+        ),
+        (
+            "ask 1",
+            "frame 2|  frame 2: digest, wants an answer, from the first name, to the last name, pairs 1|    a upto 4",
+        ),
+        (
+            "offer a a 0",
+            "frame 3|  frame 3: delta, blocks 1|    block of a, after 0, upto 4, entries 3|      a w 1 weight 5\
+|      a x 3 removed -|      a y 4 addr h:1",
+        ),
+        (
+            "offer a a 3",
+            "frame 4|  frame 4: delta, blocks 1|    block of a, after 3, upto 4, entries 1|      a y 4 addr h:1",
+        ),
+        ("offer a a 4", "frame 5|  frame 5: delta, blocks 0"),
+        ("show 5", "a70100000003030000|  frame 5: delta, blocks 0"),
+        ("show 6", "nothing"),
+        ("offer c a 0", "nothing"),
+        ("read a a x", "none"),
+        ("commit a X flag true", "fault 3"),
+    ];
+    assert!(rt; prints_in(rt.alloc(), &lines, Detail::Explained)?);
+    Ok(())
+}
+
+#[test]
+fn frames_of_a_give_and_replies_are_said_in_words(rt: HostRuntime) -> Result<(), Fail> {
+    let lines = [
+        ("world 256 breadth 100 a b", ""),
+        ("put a w weight 5", "version 1"),
+        (
+            "give a b 0",
+            "FRAME|taken 1|  frame 1: hello, cluster sim, node a|  frame 2: delta, blocks 1\
+|    block of a, after 0, upto 1, entries 1|      a w 1 weight 5|  frame 3: hello, cluster sim, node b",
+        ),
+        (
+            "connect b 2",
+            "frame 4|  frame 4: hello, cluster sim, node b",
+        ),
+        (
+            "ask 2",
+            "frame 5|  frame 5: digest, wants an answer, from the first name, to the last name, pairs 2|    a upto 1|    b upto 0",
+        ),
+        (
+            "connect a 1",
+            "frame 6|  frame 6: hello, cluster sim, node a",
+        ),
+        ("line 1 4", "lined"),
+        ("line 1 5", "lined"),
+        (
+            "piece 1 999",
+            "frame 7|frame 8|  frame 7: delta, blocks 0\
+|  frame 8: digest, wants no answer, from the first name, to the last name, pairs 1|    a upto 1",
+        ),
+    ];
+    assert!(rt; prints_in(rt.alloc(), &lines, Detail::Explained)?);
+    Ok(())
+}
+
+#[test]
 fn a_wrong_line_ends_the_run(rt: HostRuntime) -> Result<(), Fail> {
     let alloc = rt.alloc();
     for (script, status, wanted) in [
@@ -332,7 +500,7 @@ fn a_wrong_line_ends_the_run(rt: HostRuntime) -> Result<(), Fail> {
         ),
         ("world 255 breadth 100 a", 3, "fault 5\n"),
     ] {
-        let (ending, page) = run(alloc, script)?;
+        let (ending, page) = run(alloc, script, Detail::Plain)?;
         assert_eq!(rt; ending.status(), status);
         assert_eq!(rt; page.printed(), wanted.as_bytes());
     }
@@ -343,10 +511,10 @@ fn a_wrong_line_ends_the_run(rt: HostRuntime) -> Result<(), Fail> {
 fn reads_are_counted(rt: HostRuntime) -> Result<(), Fail> {
     let alloc = rt.alloc();
     for max_reads in 0..2 {
-        let ended = sim_run_uncounted(alloc, EXAMPLE.as_bytes(), io::sink(), max_reads);
+        let ended = run_to(alloc, EXAMPLE.as_bytes(), io::sink(), max_reads);
         assert_eq!(rt; with_memory(ended)?, Err(Fault::TurnsSpent));
     }
-    let ended = sim_run_uncounted(alloc, EXAMPLE.as_bytes(), io::sink(), 2);
+    let ended = run_to(alloc, EXAMPLE.as_bytes(), io::sink(), 2);
     assert_eq!(rt; with_memory(ended)?, Ok(Ending::Whole));
     Ok(())
 }
@@ -360,7 +528,7 @@ fn a_failed_read_is_no_end_and_the_end_is_read_once(rt: HostRuntime) -> Result<(
     ] {
         let mut page = Page::new();
         let bytes = script.as_bytes();
-        let run = sim_run_uncounted(rt.alloc(), BreakingReader { bytes, ends }, &mut page, 100);
+        let run = run_to(rt.alloc(), BreakingReader { bytes, ends }, &mut page, 100);
         if !page.had_memory() {
             return Err(Fault::NoMemory.into());
         }
@@ -382,7 +550,7 @@ fn a_failed_write_says_how_much_was_written(rt: HostRuntime) -> Result<(), Fail>
             is_flushed,
             failed: 0,
         };
-        let ended = sim_run_uncounted(rt.alloc(), EXAMPLE.as_bytes(), &mut writer, 100);
+        let ended = run_to(rt.alloc(), EXAMPLE.as_bytes(), &mut writer, 100);
         assert_eq!(rt; with_memory(ended)?, wanted);
         assert_eq!(rt; writer.failed, failed);
     }
@@ -403,7 +571,7 @@ fn are_lines(printed: &[u8], lines: &[&str]) -> bool {
 #[test]
 fn any_memory_may_be_refused(rt: HostRuntime) -> Result<(), Fail> {
     let mut page = Page::new();
-    let ended = sim_run_uncounted(rt.alloc(), EXAMPLE.as_bytes(), &mut page, 100);
+    let ended = run_to(rt.alloc(), EXAMPLE.as_bytes(), &mut page, 100);
     let printed = page.printed();
     let whole = ["version 1", FRAME, "taken 1", "a w 1 weight 5"];
     let allowed = match ended {

@@ -10,3 +10,6 @@ pub mod Leading
 pub mod Reaching
 pub mod Starting
 pub mod Wanted
+pub mod Behind
+pub mod Rising
+pub mod Starts

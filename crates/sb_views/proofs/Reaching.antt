@@ -1,6 +1,7 @@
 -- What is reached from a start on is all that begins so.
-use Rattle.std.proofs.Common.{◌≡◌, ℕ, Bool, true, false, List, [], ◌∷◌, map, filter, nat_eq, refl, sym, ap, ◌∙◌}
+use Rattle.std.proofs.Common.{◌≡◌, ℕ, Bool, true, false, List, [], ◌∷◌, map, filter, nat_eq, Some, refl, sym, ap, ◌∙◌}
 use Rattle.std.proofs.lemmas.Bool.{false≢true}
+use Rattle.std.proofs.lemmas.Cmp.{nat_list_cmp_total, tied_itself}
 use Rattle.std.specs.List.{AllByRecursion, starts_with}
 use Rattle.std.specs.List.Sorted.{IsStrictlySortedBy}
 use Rattle.std.specs.Map.{keys_of}
@@ -8,7 +9,7 @@ use Rattle.std.specs.Ordering.{is_lt, is_le}
 use Rattle.std.specs.declared.cmp.Ordering.TheVariants.{Less}
 use Rattle.sb_types.specs.Value.{Value}
 use Rattle.sb_types.proofs.Texts.{text_lt-back, starts-behind, starts-between}
-use Rattle.sb_views.specs.Rows.{Row, row_at, reached}
+use Rattle.sb_views.specs.Rows.{Row, row_at, reached, is_behind}
 use Rattle.sb_views.proofs.ByText.{by_text, Ascend}
 
 module _ (owner prefix : List ℕ) where
@@ -45,3 +46,32 @@ module _ (owner prefix : List ℕ) where
     unfolding IsStrictlySortedBy
     reached-filter [] up = refl
     reached-filter (p ∷ ps) up = reached-case p ps up.0 (reached-filter ps up.1) (test p.0) (begins p) refl refl
+
+  module _ (key : List ℕ) (test : List ℕ → Bool) (from : (k : List ℕ) → test k ≡ true → is_le (by_text prefix k) ≡ true)
+      (behind : (k : List ℕ) → starts_with nat_eq k prefix ≡ true → test k ≡ is_lt (by_text key k)) where
+    abbrev left : List (List ℕ × (Value × ℕ)) → List Row
+    left es = filter (λ row. is_behind (Some (owner, key)) row) (map (row_at owner) (filter begins es))
+
+    -- of the owner itself those stand behind the place that stand behind its key
+    own-behind : (p : List ℕ × (Value × ℕ)) → is_behind (Some (owner, key)) (row_at owner p) ≡ is_lt (by_text key p.0)
+    own-behind p = rw (tied_itself nat_list_cmp_total owner) refl
+
+    behind-case : (p : List ℕ × (Value × ℕ)) (ps : List (List ℕ × (Value × ℕ))) → AllByRecursion (λ k. by_text p.0 k ≡ Less) (keys_of ps)
+        → reached owner prefix (filter (λ q. test q.0) ps) ≡ left ps
+        → (t b : Bool) → test p.0 ≡ t → begins p ≡ b
+        → reached owner prefix (filter (λ q. test q.0) (p ∷ ps)) ≡ left (p ∷ ps)
+    behind-case p ps later rest true true is starts =
+        let stands : is_behind (Some (owner, key)) (row_at owner p) ≡ true = own-behind p ∙ sym (behind p.0 starts) ∙ is in
+        rw (is, starts, stands) (ap (λ (rows : List Row). row_at owner p ∷ rows) rest)
+    behind-case p ps later rest true false is starts =
+        rw (is, starts) (ap (λ (qs : List (List ℕ × (Value × ℕ))). filter (λ row. is_behind (Some (owner, key)) row) (map (row_at owner) qs)) (sym (none-later p.0 (from p.0 is) starts ps later)))
+    behind-case p ps later rest false true is starts =
+        let passed : is_behind (Some (owner, key)) (row_at owner p) ≡ false = own-behind p ∙ sym (behind p.0 starts) ∙ is in
+        rw (is, starts, passed) rest
+    behind-case p ps later rest false false is starts = rw (is, starts) rest
+
+    -- what is reached from a start behind the key is all that begins so and stands behind it
+    pub reached-behind : (es : List (List ℕ × (Value × ℕ))) → Ascend es → reached owner prefix (filter (λ q. test q.0) es) ≡ left es
+    unfolding IsStrictlySortedBy
+    reached-behind [] up = refl
+    reached-behind (p ∷ ps) up = behind-case p ps up.0 (reached-behind ps up.1) (test p.0) (begins p) refl refl

@@ -1,8 +1,10 @@
 -- Rows as they are lent, in order.
-use Rattle.std.specs.Prelude.{◌≡◌, ◌++◌, ℕ, Bool, true, false, nat_eq, if◌then◌else◌, List, [], ◌∷◌, map, filter, flat_map, Option, Some, None}
+use Rattle.std.specs.Prelude.{◌≡◌, ◌++◌, ℕ, Bool, true, false, nat_eq, if◌then◌else◌, List, [], ◌∷◌, map, filter, flat_map, AllPairs, Option, Some, None}
 use Rattle.std.specs.List.{starts_with}
-use Rattle.std.specs.Cmp.Lexicographic.{pointwise}
-use Rattle.std.specs.FinMap.{entries}
+use Rattle.std.specs.Option.{option_map}
+use Rattle.std.specs.Ordering.{nat_cmp, is_lt, ordering_then}
+use Rattle.std.specs.Cmp.Lexicographic.{pointwise, slice_cmp}
+use Rattle.std.specs.FinMap.{entries, get}
 use Rattle.sb_types.specs.Value.{Value}
 use Rattle.sb_views.specs.declared.rows.Row as rust
 use Rattle.sb_views.specs.Pages.{Sheet, Page}
@@ -15,7 +17,7 @@ pub record Row : Type 0 where
   pub version : ℕ
 
 abbrev pub row_lent : rust.Row → Row
-row_lent r = record { owner = r.owner.now; key = r.key.now; value = r.value.now; version = r.version }
+row_lent r = record { owner = r.owner.now; key = r.key.now; value = r.live.now.0; version = r.live.now.1 }
 
 abbrev pub row_at : List ℕ → List ℕ × (Value × ℕ) → Row
 row_at owner p = record { owner = owner; key = p.0; value = p.1.0; version = p.1.1 }
@@ -35,6 +37,27 @@ is_wanted (Some wanted) owner = pointwise nat_eq wanted owner
 -- the rows of the wanted owner, or of all, under the keys that begin so: owner by owner, key by key
 abbrev pub rows_in : Option (List ℕ) → List ℕ → Page → List Row
 rows_in wanted prefix page = rows_of_sheets prefix (filter (λ p. is_wanted wanted p.0) (entries page))
+
+-- whether the row stands behind the place, by owner and then by key; every row does where there is none
+abbrev pub is_behind : Option (List ℕ × List ℕ) → Row → Bool
+is_behind None row = true
+is_behind (Some place) row = is_lt (ordering_then (slice_cmp nat_cmp place.0 row.owner) (slice_cmp nat_cmp place.1 row.key))
+
+-- those of them that stand behind the place
+abbrev pub rows_behind : Option (List ℕ × List ℕ) → Option (List ℕ) → List ℕ → Page → List Row
+rows_behind place wanted prefix page = filter (is_behind place) (rows_in wanted prefix page)
+
+abbrev pub place_of : Row → List ℕ × List ℕ
+place_of row = (row.owner, row.key)
+
+-- each row stands behind those before it
+abbrev pub AreAscending : List Row → Type 0
+AreAscending rows = AllPairs (λ x y. is_behind (Some (place_of x)) y ≡ true) rows
+
+-- the rows of the owner itself behind the key, where it is wanted and there
+abbrev pub rest_of : Option (List ℕ) → List ℕ → List ℕ → List ℕ → Page → Option (List Row)
+rest_of wanted prefix owner key page =
+    if is_wanted wanted owner then option_map (λ sheet. filter (is_behind (Some (owner, key))) (rows_under prefix owner sheet)) (get page owner) else None
 
 -- the rows at the front whose keys begin so
 abbrev pub reached : List ℕ → List ℕ → List (List ℕ × (Value × ℕ)) → List Row

@@ -1,10 +1,11 @@
 //! What follows from the definitions alone. The functions do nothing: each clause is a law.
-ghost use Rattle.std.specs.Prelude.{◌≡◌, ◌+◌, ℕ, List, [], ◌∷◌};
+ghost use Rattle.std.specs.Prelude.{◌≡◌, ◌+◌, ℕ, List, [], ◌∷◌, Option};
 ghost use Rattle.sb_types.specs.Records as records;
 ghost use Rattle.sb_types.specs.Runs.{shown_at};
 ghost use Rattle.sb_holdings.specs.Held.{Held, shown_of, written};
 ghost use Rattle.sb_holdings.specs.Nodes.{Node};
 ghost use Rattle.sb_views.specs.Pages as pages;
+ghost use Rattle.sb_views.specs.Rows as rows;
 ghost use Rattle.sb_views.specs.Views.{IsView};
 
 /// What a view shows of an owner and of a key is what the node holds: the version, and the value with the version of
@@ -18,4 +19,10 @@ pub fn views_show_what_is_held()
 /// A node's own write leads on by itself: with it entered, the tables are those after the write.
 pub fn own_writes_lead()
     ensures { (held : Held) (e : records.Entry) → e.version ≡ (shown_of held held.me).held + 1 → pages.Leads held (written held e) ((held.me, e) ∷ []) }
+{}
+
+/// Rows come in ascending order: each stands behind those before it, by owner and then by key.
+pub fn rows_ascend()
+    ensures { (place : Option (List ℕ × List ℕ)) (wanted : Option (List ℕ)) (prefix : List ℕ) (page : pages.Page) →
+        rows.AreAscending (rows.rows_behind place wanted prefix page) }
 {}

@@ -4,6 +4,7 @@
 mod batch;
 mod event;
 mod laws;
+mod live;
 mod opening;
 mod page;
 mod reader;
@@ -17,7 +18,8 @@ mod writer;
 
 pub use batch::Batch;
 pub use event::Event;
-pub use laws::{own_writes_lead, views_show_what_is_held};
+pub use laws::{own_writes_lead, rows_ascend, views_show_what_is_held};
+pub use live::Live;
 pub use opening::views;
 pub use reader::{Entered, Reader};
 pub use rows::{Row, Rows};

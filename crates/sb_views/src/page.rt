@@ -1,18 +1,22 @@
 //! What is shown of all owners.
-ghost use Rattle.std.specs.Prelude.{◌≡◌, None, OnOk, OnErr};
+ghost use Rattle.std.specs.Prelude.{◌≡◌, ◌&&◌, ℕ, List, filter, Some, None, OnOk, OnErr};
 ghost use Rattle.std.specs.Option.{option_map, option_copied};
-ghost use Rattle.std.specs.FinMap.{empty, get, insert};
-ghost use Rattle.std.specs.Ordering.{nat_cmp};
+ghost use Rattle.std.specs.FinMap.{empty, entries, get, insert};
+ghost use Rattle.std.specs.Ordering.{nat_cmp, is_lt};
 ghost use Rattle.std.specs.Cmp.Lexicographic.{slice_cmp};
 ghost use Rattle.std.specs.BTreeMap.{IsOrdered};
+ghost use Rattle.std.specs.BTreeMap.Range.{range_contains, IsLeBy, IsLtBy};
+ghost use Rattle.std.specs.Range.Bound.{IsForward};
+ghost use Rattle.std.specs.declared.ops.Bound.TheVariants.{Included};
 ghost use Rattle.sb_views.specs.Pages as pages;
 ghost use Rattle.sb_views.specs.Rows as spec;
 
-use crate::rows::Rows;
+use crate::rows::{OwnerRows, Rows};
 use crate::sheet::{Sheet, lose};
 use sb_types::{Entry, Key, Name, Prefix, Value};
 use std::alloc::{AllocError, Global};
 use std::collections::BTreeMap;
+use std::collections::btree_map::Range;
 use std::marker::Model;
 use std::ops::Bound;
 
@@ -131,12 +135,95 @@ impl Page {
         match wanted {
             Some(owner) => {
                 let one = (Bound::Included(owner), Bound::Included(owner));
-                Rows::new(self.sheets.range(one), prefix)
+                Rows::new(None, self.sheets.range(one), prefix)
             }
             None => {
                 let all: (Bound<Name>, Bound<Name>) = (Bound::Unbounded, Bound::Unbounded);
-                Rows::new(self.sheets.range(all), prefix)
+                Rows::new(None, self.sheets.range(all), prefix)
             }
         }
+    }
+
+    /// Those of them that stand behind the place.
+    pub(crate) fn rows_behind(
+        &self,
+        wanted: Option<Name>,
+        prefix: Prefix,
+        place: Option<(Name, Key)>,
+    ) -> Rows<'_>
+        ensures { result ≡ spec.rows_behind place wanted prefix self.now }
+    {
+        match place {
+            Some(place) => self.rows_from(wanted, prefix, place),
+            None => self.rows(wanted, prefix),
+        }
+    }
+
+    /// Those of them that stand behind this place.
+    fn rows_from(&self, wanted: Option<Name>, prefix: Prefix, place: (Name, Key)) -> Rows<'_>
+        ensures { result ≡ spec.rows_behind (Some place) wanted prefix self.now }
+    {
+        let (owner, key) = place;
+        // Copies: what is handed to a call counts as lent while what the call lends is in use.
+        let (same_wanted, same_owner, same_prefix) = (wanted, owner, prefix);
+        let others = self.others_behind(same_wanted, same_owner);
+        let rest = self.rest_of(wanted, same_prefix, owner, key);
+        Rows::new(rest, others, prefix)
+    }
+
+    /// The sheets of the wanted owners behind this one.
+    fn others_behind(&self, wanted: Option<Name>, owner: Name) -> Range<'_, Name, Sheet>
+        ensures { result ≡ filter (λ p. spec.is_wanted wanted p.0 && is_lt (slice_cmp nat_cmp owner p.0)) (entries self.now) }
+    {
+        match wanted {
+            Some(name) => {
+                let end = end_behind(name, owner);
+                self.sheets.range((Bound::Included(name), end))
+            }
+            None => self
+                .sheets
+                .range((Bound::Excluded(owner), Bound::Unbounded)),
+        }
+    }
+
+    /// The rows of the owner, where it is wanted, that stand behind the key.
+    fn rest_of(
+        &self,
+        wanted: Option<Name>,
+        prefix: Prefix,
+        owner: Name,
+        key: Key,
+    ) -> Option<OwnerRows<'_>>
+        ensures { result ≡ spec.rest_of wanted prefix owner key self.now }
+    {
+        if !is_wanted(wanted, owner) {
+            return None;
+        }
+        match self.sheets.get_key_value(&owner) {
+            Some((owner, sheet)) => Some(sheet.rows_behind(owner, prefix, key)),
+            None => None,
+        }
+    }
+}
+
+fn is_wanted(wanted: Option<Name>, owner: Name) -> bool
+    ensures { result ≡ spec.is_wanted wanted owner }
+{
+    match wanted {
+        Some(name) => name == owner,
+        None => true,
+    }
+}
+
+/// Where a range ends that has the name alone, or nothing where the name is not behind the owner's.
+fn end_behind(name: Name, owner: Name) -> Bound<Name>
+    ensures forward { IsForward (IsLeBy (slice_cmp nat_cmp)) (IsLtBy (slice_cmp nat_cmp)) (Included name) result }
+    ensures behind { (other : List ℕ) → range_contains (slice_cmp nat_cmp) (Included name) result other
+        ≡ (spec.is_wanted (Some name) other && is_lt (slice_cmp nat_cmp owner other)) }
+{
+    if owner.bytes().cmp(name.bytes()).is_lt() {
+        Bound::Included(name)
+    } else {
+        Bound::Excluded(name)
     }
 }

@@ -4,26 +4,26 @@ ghost use Rattle.std.specs.Option.{option_map};
 ghost use Rattle.std.specs.Iterator.{YieldsFirstBy, item_count};
 ghost use Rattle.sb_views.specs.Rows as spec;
 
+use crate::live::Live;
 use crate::sheet::Sheet;
-use sb_types::{Key, Name, Prefix, Value};
+use sb_types::{Key, Name, Prefix};
 use std::collections::btree_map::Range;
 use std::iter::FusedIterator;
 use std::marker::Model;
 
-/// A live row, lent: an owner's value under a key, with the version of its write.
+/// A live row, lent: what an owner has under a key.
 #[derive(Clone, Copy)]
 pub struct Row<'a> {
     pub owner: &'a Name,
     pub key: &'a Key,
-    pub value: &'a Value,
-    pub version: u64,
+    pub live: &'a Live,
 }
 
 /// The rows of one owner under the keys that begin with a prefix, in ascending order of the keys.
 #[derive(Drop)]
 pub(crate) struct OwnerRows<'a> {
     owner: &'a Name,
-    rows: Range<'a, Key, (Value, u64)>,
+    rows: Range<'a, Key, Live>,
     prefix: Prefix,
     ended: bool,
 }
@@ -38,11 +38,7 @@ impl<'a> Model for OwnerRows<'a> {
 }
 
 impl<'a> OwnerRows<'a> {
-    pub(crate) fn new(
-        owner: &'a Name,
-        rows: Range<'a, Key, (Value, u64)>,
-        prefix: Prefix,
-    ) -> OwnerRows<'a>
+    pub(crate) fn new(owner: &'a Name, rows: Range<'a, Key, Live>, prefix: Prefix) -> OwnerRows<'a>
         ensures { result ≡ spec.rows_left false owner.now prefix rows.entry }
     {
         OwnerRows {
@@ -65,13 +61,12 @@ impl<'a> Iterator for OwnerRows<'a> {
         if self.ended {
             return None;
         }
-        if let Some((key, row)) = self.rows.next() {
+        if let Some((key, live)) = self.rows.next() {
             if key.bytes().starts_with(self.prefix.bytes()) {
                 return Some(Row {
                     owner: self.owner,
                     key,
-                    value: &row.0,
-                    version: row.1,
+                    live,
                 });
             }
         }
@@ -101,11 +96,16 @@ impl<'a> Model for Rows<'a> {
 }
 
 impl<'a> Rows<'a> {
-    pub(crate) fn new(sheets: Range<'a, Name, Sheet>, prefix: Prefix) -> Rows<'a>
-        ensures { result ≡ spec.rows_of_sheets prefix sheets.entry }
+    /// The rows of an owner that is read already, and then those of the others.
+    pub(crate) fn new(
+        current: Option<OwnerRows<'a>>,
+        sheets: Range<'a, Name, Sheet>,
+        prefix: Prefix,
+    ) -> Rows<'a>
+        ensures { result ≡ spec.rows_to_come prefix current.entry sheets.entry }
     {
         Rows {
-            current: None,
+            current,
             sheets,
             prefix,
         }

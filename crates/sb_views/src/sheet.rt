@@ -1,14 +1,16 @@
 //! What is shown of one owner.
-ghost use Rattle.std.specs.Prelude.{◌≡◌, ℕ, List, OnOk, OnErr};
+ghost use Rattle.std.specs.Prelude.{◌≡◌, ◌≤◌, ℕ, true, nat_eq, List, filter, Some, OnOk, OnErr};
+ghost use Rattle.std.specs.List.{starts_with};
 ghost use Rattle.std.specs.Option.{option_map};
 ghost use Rattle.std.specs.FinMap.{get, insert, remove};
-ghost use Rattle.std.specs.Ordering.{nat_cmp, is_le};
+ghost use Rattle.std.specs.Ordering.{nat_cmp, is_lt, is_le};
 ghost use Rattle.std.specs.BTreeMap.Range.{is_from_start};
 ghost use Rattle.sb_views.specs.Rows as spec;
 ghost use Rattle.std.specs.Cmp.Lexicographic.{slice_cmp};
 ghost use Rattle.std.specs.BTreeMap.{IsOrdered};
 ghost use Rattle.sb_views.specs.Pages as pages;
 
+use crate::live::Live;
 use crate::rows::OwnerRows;
 use sb_types::{Entry, Key, Name, Prefix, Slot, Value};
 use std::alloc::{AllocError, Global};
@@ -16,11 +18,11 @@ use std::collections::BTreeMap;
 use std::marker::Model;
 use std::ops::Bound;
 
-/// Up to which version an owner is held, and its live rows by key, each a value with the version of its write.
+/// Up to which version an owner is held, and what is live of it by key.
 #[derive(Drop)]
 pub(crate) struct Sheet {
     upto: u64,
-    rows: BTreeMap<Key, (Value, u64)>,
+    rows: BTreeMap<Key, Live>,
 }
 
 impl Model for Sheet {
@@ -46,12 +48,13 @@ pub(crate) fn lose<T: Drop>(_value: T) {}
 /// Puts a value under a key, with the version of its write. Where memory is wanting nothing changes.
 fn set_row(
     alloc: Global,
-    rows: &mut BTreeMap<Key, (Value, u64)>,
+    rows: &mut BTreeMap<Key, Live>,
     key: Key,
     value: &Value,
     version: u64,
 ) -> Result<(), AllocError>
-    requires { IsOrdered (slice_cmp nat_cmp) rows.old }
+    requires ordered { IsOrdered (slice_cmp nat_cmp) rows.old }
+    requires version { 1 ≤ version }
     ensures ok { OnOk result (pages.rows_of rows.new.entries ≡ insert (pages.rows_of rows.old.entries) key (value.now, version)) }
     ensures err { OnErr result (rows.new.entries ≡ rows.old.entries) }
     ensures ordered { IsOrdered (slice_cmp nat_cmp) rows.new }
@@ -59,7 +62,7 @@ fn set_row(
     let Ok(copy) = value.copy(alloc) else {
         return Err(AllocError);
     };
-    match rows.insert(key, (copy, version)) {
+    match rows.insert(key, Live::new(copy, version)) {
         Ok(earlier) => {
             lose(earlier);
             Ok(())
@@ -72,7 +75,7 @@ fn set_row(
 }
 
 /// Takes out what is under a key.
-fn remove_row(rows: &mut BTreeMap<Key, (Value, u64)>, key: &Key)
+fn remove_row(rows: &mut BTreeMap<Key, Live>, key: &Key)
     requires { IsOrdered (slice_cmp nat_cmp) rows.old }
     ensures removed { pages.rows_of rows.new.entries ≡ remove (pages.rows_of rows.old.entries) key.now }
     ensures ordered { IsOrdered (slice_cmp nat_cmp) rows.new }
@@ -82,11 +85,7 @@ fn remove_row(rows: &mut BTreeMap<Key, (Value, u64)>, key: &Key)
 }
 
 /// Shows what a write puts under its key. Where memory is wanting nothing changes.
-fn enter_row(
-    alloc: Global,
-    rows: &mut BTreeMap<Key, (Value, u64)>,
-    entry: &Entry,
-) -> Result<(), AllocError>
+fn enter_row(alloc: Global, rows: &mut BTreeMap<Key, Live>, entry: &Entry) -> Result<(), AllocError>
     requires { IsOrdered (slice_cmp nat_cmp) rows.old }
     ensures ok { OnOk result (pages.rows_of rows.new.entries ≡ pages.rows_with (pages.rows_of rows.old.entries) entry.now entry.now.slot) }
     ensures err { OnErr result (rows.new.entries ≡ rows.old.entries) }
@@ -138,7 +137,7 @@ impl Sheet {
         ensures { option_map (λ p. (p.0.now, p.1)) result ≡ get self.now.rows key.now }
     {
         match self.rows.get(key) {
-            Some(row) => Some((&row.0, row.1)),
+            Some(live) => Some((live.value(), live.version())),
             None => None,
         }
     }
@@ -150,6 +149,19 @@ impl Sheet {
         let from_start = (start_of(&prefix), Bound::Unbounded);
         OwnerRows::new(owner, self.rows.range(from_start), prefix)
     }
+
+    /// Those of them that stand behind the key.
+    pub(crate) fn rows_behind<'a>(
+        &'a self,
+        owner: &'a Name,
+        prefix: Prefix,
+        key: Key,
+    ) -> OwnerRows<'a>
+        ensures { result ≡ filter (spec.is_behind (Some (owner.now, key))) (spec.rows_under prefix owner.now self.now) }
+    {
+        let behind = (start_behind(key, prefix), Bound::Unbounded);
+        OwnerRows::new(owner, self.rows.range(behind), prefix)
+    }
 }
 
 /// Where the keys start that do not come before the prefix.
@@ -159,5 +171,18 @@ fn start_of(prefix: &Prefix) -> Bound<Key>
     match Key::read(prefix.bytes()) {
         Ok(key) => Bound::Included(key),
         Err(_) => Bound::Unbounded,
+    }
+}
+
+/// Where the keys start that stand behind the key and do not come before the prefix.
+fn start_behind(key: Key, prefix: Prefix) -> Bound<Key>
+    ensures from { (other : List ℕ) → is_from_start (slice_cmp nat_cmp) result other ≡ true → is_le (slice_cmp nat_cmp prefix other) ≡ true }
+    ensures behind { (other : List ℕ) → starts_with nat_eq other prefix ≡ true
+        → is_from_start (slice_cmp nat_cmp) result other ≡ is_lt (slice_cmp nat_cmp key other) }
+{
+    if key.bytes().cmp(prefix.bytes()).is_lt() {
+        start_of(&prefix)
+    } else {
+        Bound::Excluded(key)
     }
 }

@@ -56,4 +56,17 @@ impl<'a> Snapshot<'a> {
     {
         self.page.rows(wanted, prefix)
     }
+
+    /// Those of them that stand behind the place, by owner and then by key; all of them where there is none. Where they
+    /// begin is searched for: the rows up to the place are not passed over.
+    pub fn rows_behind(
+        &self,
+        wanted: Option<Name>,
+        prefix: Prefix,
+        place: Option<(Name, Key)>,
+    ) -> Rows<'a>
+        ensures { result ≡ spec.rows_behind place wanted prefix self.now }
+    {
+        self.page.rows_behind(wanted, prefix, place)
+    }
 }

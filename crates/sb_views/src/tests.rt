@@ -153,7 +153,9 @@ fn rows_come_in_order(rt: HostRuntime) -> Result<(), Fail> {
         for (owner, key, version) in asked.rows {
             let row = rows.next().ok_or("a row")?;
             assert!(rt;
-                row.owner.bytes() == *owner && row.key.bytes() == *key && row.version == *version
+                row.owner.bytes() == *owner
+                    && row.key.bytes() == *key
+                    && row.live.version() == *version
             );
         }
         assert!(rt; rows.next().is_none());

@@ -12,6 +12,7 @@ ghost use Rattle.sb_world.specs.Hearing.{Listener, Heard, Hears, Tells};
 use crate::event::{Event, Item};
 use crate::hearing::hear;
 use crate::sent::Sent;
+use bytes::BytesMut;
 use sb_frames::Frames;
 use sb_node::NodeCore;
 use sb_session::Session;
@@ -26,7 +27,7 @@ pub(crate) struct Connection {
     me: Name,
     session: Session,
     frames: Frames,
-    left: Vec<u8>,
+    left: BytesMut,
 }
 
 impl Model for Connection {
@@ -91,14 +92,6 @@ pub(crate) fn drop_those_of(connections: &mut Vec<Connection>, me: &Name)
     connections.retain(|connection| connection.node() != me);
 }
 
-/// Drops the first bytes.
-fn drop_front(bytes: &mut Vec<u8>, count: usize)
-    requires { count ≤ length bytes.now.items }
-    ensures { bytes.new.items ≡ drop count bytes.old.items }
-{
-    bytes.drain(..count);
-}
-
 impl Connection {
     /// A connection of a node, as it begins.
     pub(crate) fn new(alloc: Global, number: u64, me: Name, session: Session) -> Connection
@@ -109,7 +102,7 @@ impl Connection {
             me,
             session,
             frames: Frames::new(alloc),
-            left: Vec::new(alloc),
+            left: BytesMut::new(alloc),
         }
     }
 
@@ -167,11 +160,11 @@ impl Connection {
             × (core.new ≡ last.core) × IfNone result (self.new ≡ heard_by self.old count last) }
     {
         let count = count.min(self.left.len() as u64) as usize;
-        match self.frames.feed(&self.left[..count]) {
+        match self.frames.feed(&self.left.as_slice()[..count]) {
             Ok(()) => {}
             Err(fault) => return Some(fault),
         }
-        drop_front(&mut self.left, count);
+        self.left.advance(count);
         hear(
             alloc,
             core,

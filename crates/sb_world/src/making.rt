@@ -13,6 +13,7 @@ use sb_log::WriteLog;
 use sb_node::NodeCore;
 use sb_types::{Fault, Name, OWNERS_MOST, Settings};
 use std::alloc::Global;
+use std::collections::VecDeque;
 
 /// Whether one of the logs has this name.
 fn is_owned<L: WriteLog>(name: &Name, logs: &[L]) -> bool
@@ -89,7 +90,7 @@ fn opened<L: WriteLog + Drop>(
         me,
         log,
         core,
-        waiting: Vec::new(alloc),
+        waiting: VecDeque::new(alloc),
         is_up: true,
     })
 }

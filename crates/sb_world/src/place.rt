@@ -22,6 +22,7 @@ use sb_log::{Committed, WriteLog};
 use sb_node::NodeCore;
 use sb_types::{Fault, Key, Name, Slot};
 use std::alloc::Global;
+use std::collections::VecDeque;
 use std::marker::Model;
 
 /// A node, its log, its writes that wait to be entered, and whether it runs.
@@ -30,7 +31,7 @@ pub(crate) struct Place<L: WriteLog> {
     pub(crate) me: Name,
     pub(crate) log: L,
     pub(crate) core: NodeCore,
-    pub(crate) waiting: Vec<Committed>,
+    pub(crate) waiting: VecDeque<Committed>,
     pub(crate) is_up: bool,
 }
 
@@ -48,6 +49,9 @@ impl<L: WriteLog> Model for Place<L> {
 
 /// Lets go of what a log answered.
 fn lose(_result: Result<Committed, Fault>) {}
+
+/// Lets go of a write that was entered.
+fn lose_first(_oldest: Option<Committed>) {}
 
 impl<L: WriteLog> Place<L> {
     /// Whether this is its name.
@@ -79,7 +83,7 @@ impl<L: WriteLog> Place<L> {
         match self.log.put(key, slot) {
             Ok(committed) => {
                 let version = committed.entry().version();
-                self.waiting.push_reserved(committed);
+                self.waiting.push_back_reserved(committed);
                 Ok(Answer::Committed(version))
             }
             Err(fault) => Err(fault),
@@ -102,13 +106,13 @@ impl<L: WriteLog> Place<L> {
     pub(crate) fn take(&mut self) -> Result<Answer, Fault>
         ensures { (effect : Effect) × TakesFirst self.old self.old.waiting (record { answer = result; effect = effect; place = self.new; frames = [] }) }
     {
-        let Some(oldest) = self.waiting.first() else {
+        let Some(oldest) = self.waiting.front() else {
             return Ok(Answer::Nothing);
         };
         let version = oldest.entry().version();
         match self.core.take_own(oldest) {
             Ok(()) => {
-                lose(Ok(self.waiting.remove(0)));
+                lose_first(self.waiting.pop_front());
                 Ok(Answer::Took(version))
             }
             Err(fault) => Err(fault),

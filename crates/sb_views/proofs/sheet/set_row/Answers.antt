@@ -11,5 +11,6 @@ copied value copy e = cc
 
 pub returns-in-Ok-insert-clause-ok : goal.returns-in-Ok-insert-clause-ok
 returns-in-Ok-insert-clause-ok c =
-    with_inserted c.args.rows.now.entries c.insert.new.self.entries c.args.key (c.in-Ok.copy, c.args.version) c.requires c.insert.ensures.ordered c.in-Ok-insert.ensures.updates.0
-    ∙ ap (λ (v : Value). insert (rows_of c.args.rows.now.entries) c.args.key (v, c.args.version)) (copied c.args.value.now c.in-Ok.copy c.in-Ok.ensures)
+    with_inserted c.args.rows.now.entries c.insert.new.self.entries c.args.key c.new.result c.requires.ordered c.insert.ensures.ordered c.in-Ok-insert.ensures.updates.0
+    ∙ ap (insert (rows_of c.args.rows.now.entries) c.args.key)
+    (c.new.ensures ∙ ap (λ (v : Value). (v, c.args.version)) (copied c.args.value.now c.in-Ok.copy c.in-Ok.ensures))

@@ -15,7 +15,7 @@ returns-in-Ok g c =
     let slot = c.args.slot.now in
     let effect = logs (write_of key slot) in
     let version : c.version-version.result ≡ committed.entry.version = c.version-version.ensures.version ∙ ap (λ (e : Entry). e.version) c.entry.ensures.entry in
-    let waits : c.push_reserved.new.self.items ≡ c.self.inside.waiting.items ++ committed ∷ [] = c.push_reserved.ensures.items ∙ ap (λ (cs : List Committed). cs ++ committed ∷ []) c.in_ok-reserve.ensures.items in (
+    let waits : c.push_back_reserved.new.self.items ≡ c.self.inside.waiting.items ++ committed ∷ [] = c.push_back_reserved.ensures.items ∙ ap (λ (cs : List Committed). cs ++ committed ∷ []) c.in_ok-reserve.ensures.items in (
       effect,
       inr (
         Ok committed,

@@ -1,4 +1,5 @@
-use Rattle.std.proofs.Common.{◌≡◌, List, [], ◌∷◌, drop, slice_get, IfErr, Ok, Err, sym, ap, subst, ◌∙◌}
+use Rattle.std.proofs.Common.{◌≡◌, List, [], ◌∷◌, drop, IfErr, Some, Ok, Err, sym, ap, subst, ◌∙◌}
+use Rattle.std.proofs.lemmas.Option.{slice_get-get_or}
 use Rattle.sb_types.specs.Records.{Entry}
 use Rattle.sb_types.specs.Faults.{Gives}
 use Rattle.sb_holdings.specs.Nodes.{Wrote, node_after_event}
@@ -13,10 +14,11 @@ use Rattle.sb_world.proofs.place.Place.take.Goals as goal
 pub returns-in-Ok : goal.returns-in-Ok
 returns-in-Ok g c =
     let oldest = c.in-Some.oldest.now in
-    let others = c.remove.new.self.items in
+    let others = c.pop_front.new.self.items in
     let took = c.in-Ok.ensures in
-    let first = oldest_first c.self.inside.waiting.items oldest (c.in-Some.ensures.value ∙ ap (λ (xs : List Committed). slice_get xs 0) c.deref.ensures.value) in
-    let waiting : c.args.self.now.waiting ≡ oldest ∷ others = sym (ap (λ (p : Place). p.waiting) c.self.view_is) ∙ first ∙ ap (λ (xs : List Committed). oldest ∷ xs) (sym c.remove.ensures.items) in
+    let there = c.in-Some.ensures.item in
+    let first = oldest_first c.self.inside.waiting.items oldest (ap (λ (d : Committed). Some d) there.1 ∙ sym (slice_get-get_or c.self.inside.waiting.items 0 oldest there.3.0)) in
+    let waiting : c.args.self.now.waiting ≡ oldest ∷ others = sym (ap (λ (p : Place). p.waiting) c.self.view_is) ∙ first ∙ ap (λ (xs : List Committed). oldest ∷ xs) (sym c.pop_front.ensures.rest) in
     let version : c.version-version.result ≡ oldest.entry.version = c.version-version.ensures.version ∙ ap (λ (e : Entry). e.version) c.entry.ensures.entry in
     let gives = subst (λ (p : Place). Gives (Ok c.in-Ok.field-0) (committed_answer p.core.node oldest)) c.self.view_is took.answer in
     let refused = subst (λ (p : Place). IfErr (committed_answer p.core.node oldest) (λ fault. Ok c.in-Ok.field-0 ≡ Err fault)) c.self.view_is took.refused in (
@@ -41,7 +43,8 @@ returns-in-Err g c =
     let others = drop 1 c.self.inside.waiting.items in
     let fault = c.in-Err.fault in
     let left = c.in-Err.ensures in
-    let first = oldest_first c.self.inside.waiting.items oldest (c.in-Some.ensures.value ∙ ap (λ (xs : List Committed). slice_get xs 0) c.deref.ensures.value) in
+    let there = c.in-Some.ensures.item in
+    let first = oldest_first c.self.inside.waiting.items oldest (ap (λ (d : Committed). Some d) there.1 ∙ sym (slice_get-get_or c.self.inside.waiting.items 0 oldest there.3.0)) in
     let waiting : c.args.self.now.waiting ≡ oldest ∷ others = sym (ap (λ (p : Place). p.waiting) c.self.view_is) ∙ first in
     let gives = subst (λ (p : Place). Gives (Err fault) (committed_answer p.core.node oldest)) c.self.view_is left.answer in
     let refused = subst (λ (p : Place). IfErr (committed_answer p.core.node oldest) (λ other. Err fault ≡ Err other)) c.self.view_is left.refused in (

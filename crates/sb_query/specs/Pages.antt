@@ -1,0 +1,32 @@
+-- The page that answers a question for rows.
+use Rattle.std.specs.Prelude.{◌≡◌, ℕ, ◌+◌, ◌≤◌, ◌<◌, nat_lt, List, length, take, map, Some}
+use Rattle.sb_types.specs.declared.format.TheConstants.{HEADER_LENGTH}
+use Rattle.sb_codec.specs.declared.message.ask.Ask.{Ask}
+use Rattle.sb_codec.specs.Records.{Row, Rows, row_of}
+use Rattle.sb_codec.specs.Lengths.{rows_length}
+use Rattle.sb_views.specs.Pages.{Page}
+use Rattle.sb_views.specs.Rows as views
+
+-- a live row, as an answer tells it
+abbrev pub row_told : views.Row → Row
+row_told row = row_of row.owner row.key row.version row.value
+
+-- the live rows that are asked for: of the owner or of all, under the prefix, behind the place
+abbrev pub asked_rows : Ask → Page → List Row
+asked_rows ask page = map row_told (views.rows_behind ask.after ask.owner ask.prefix page)
+
+-- the same question for what stands behind the row
+abbrev pub asking_behind : Row → Ask → Ask
+asking_behind row ask = record { owner = ask.owner; prefix = ask.prefix; after = Some (row.owner, row.key) }
+
+abbrev pub rows_frame_length : List Row → ℕ
+rows_frame_length rows = HEADER_LENGTH + rows_length rows
+
+-- the longest front of the rows whose frame has at most budget bytes, and whether rows are left
+pub record IsLongestPage (budget : ℕ) (asked : List Row) (page : Rows) : Type 0 where
+  pub count : ℕ
+  pub within : count ≤ length asked
+  pub rows : page.rows ≡ take count asked
+  pub more : page.more ≡ nat_lt count (length asked)
+  pub fits : rows_frame_length page.rows ≤ budget
+  pub longest : (n : ℕ) → count < n → n ≤ length asked → budget < rows_frame_length (take n asked)

@@ -1,0 +1,61 @@
+//! The page that answers a question for rows.
+ghost use Rattle.std.specs.Prelude.{◌≡◌, ◌≤◌, ◌<◌, true, length, map, IfOk, IfErr};
+ghost use Rattle.std.specs.List.{list_all};
+ghost use Rattle.sb_codec.specs.Records.{rows_of};
+ghost use Rattle.sb_codec.specs.Limits.{is_row};
+ghost use Rattle.sb_views.specs.Rows.{row_lent};
+ghost use Rattle.sb_query.specs.Pages.{row_told, asked_rows, IsLongestPage};
+
+use sb_codec::{Ask, Row, Rows};
+use sb_types::{BUDGET_LEAST, BUDGET_MOST, BYTE_LENGTH, COUNT_LENGTH, Fault, HEADER_LENGTH};
+use sb_views::Snapshot;
+use std::alloc::Global;
+
+/// The length of the frame of a page without rows: a header, the kind, whether more follow, and the count.
+const EMPTY_FRAME: u64 = HEADER_LENGTH + BYTE_LENGTH + BYTE_LENGTH + COUNT_LENGTH;
+
+/// The row, copied. `NoMemory`.
+fn copy_of(alloc: Global, row: sb_views::Row<'_>) -> Result<Row, Fault>
+    ensures told { IfOk result (λ copy. copy ≡ row_told (row_lent row.entry)) }
+    ensures memory { IfErr result (λ fault. fault ≡ Fault.NoMemory) }
+{
+    let value = row.live.value().copy(alloc)?;
+    Row::new(*row.owner, *row.key, row.live.version(), value)
+}
+
+/// Whether rows are left, and the longest front of the rows whose page has a frame within the budget.
+fn gather(alloc: Global, asked: sb_views::Rows<'_>, budget: u64) -> Result<(bool, Vec<Row>), Fault>
+    requires least { BUDGET_LEAST ≤ budget }
+    requires most { budget ≤ BUDGET_MOST }
+    ensures front { IfOk result (λ found. IsLongestPage budget (map row_told asked.entry) (rows_of found.0 found.1.items)) }
+    ensures some { IfOk result (λ found. 0 < length (map row_told asked.entry) → 0 < length found.1.items) }
+    ensures each { IfOk result (λ found. list_all is_row found.1.items ≡ true) }
+    ensures memory { IfErr result (λ fault. fault ≡ Fault.NoMemory) }
+{
+    let mut rows = Vec::new(alloc);
+    let mut room = budget - EMPTY_FRAME;
+    for row in asked {
+        let copy = copy_of(alloc, row)?;
+        let Some(left) = room.checked_sub(copy.encoded_length()) else {
+            return Ok((true, rows));
+        };
+        rows.push(copy)?;
+        room = left;
+    }
+    Ok((false, rows))
+}
+
+/// The longest page of the live rows that are asked for whose frame has at most `budget` bytes, 256 to 65,536, and
+/// whether rows are left. It has at least one row where one is asked for, so asking behind the last row goes on. It
+/// reads the rows of the page and one more, behind a search for where they begin. `NoMemory`.
+pub fn answer(alloc: Global, snapshot: &Snapshot<'_>, ask: &Ask, budget: u64) -> Result<Rows, Fault>
+    requires least { BUDGET_LEAST ≤ budget }
+    requires most { budget ≤ BUDGET_MOST }
+    ensures page { IfOk result (λ page. IsLongestPage budget (asked_rows ask.now snapshot.now) page) }
+    ensures some { IfOk result (λ page. 0 < length (asked_rows ask.now snapshot.now) → 0 < length page.rows) }
+    ensures memory { IfErr result (λ fault. fault ≡ Fault.NoMemory) }
+{
+    let asked = snapshot.rows_behind(ask.owner, ask.prefix, ask.after);
+    let (more, rows) = gather(alloc, asked, budget)?;
+    Rows::new(more, rows)
+}

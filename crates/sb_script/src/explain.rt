@@ -1,0 +1,205 @@
+//! Frames in words.
+ghost use Rattle.std.specs.Prelude.{◌≡◌, OnOk, IfErr};
+ghost use Rattle.sb_script.specs.Told.{Explains};
+ghost use Rattle.sb_script.specs.Written.{printed, taken};
+
+use crate::line::Line;
+use crate::output::Output;
+use crate::print::Text;
+use crate::sim::Detail;
+use crate::words::words_of;
+use sb_codec::Message;
+use sb_digest::Digest;
+use sb_frames::Frames;
+use sb_log::PlainLog;
+use sb_types::{Block, Delta, Entry, Fault, Name, Slot};
+use sb_world::World;
+use std::alloc::Global;
+use std::fmt::{Display, Write};
+use std::io;
+
+/// Adds some words. `NoMemory`.
+fn add<D: Display + Drop>(words: &mut String, more: D) -> Result<(), Fault> {
+    match words.write_fmt(more) {
+        Ok(()) => Ok(()),
+        Err(_) => Err(Fault::NoMemory),
+    }
+}
+
+fn add_entry(words: &mut String, owner: &Name, entry: &Entry) -> Result<(), Fault> {
+    let (owner, key) = (Text(owner.bytes()), Text(entry.key().bytes()));
+    add(
+        words,
+        format_args!("      {owner} {key} {} ", entry.version()),
+    )?;
+    match entry.slot() {
+        Slot::Set(value) => add(words, format_args!("{value}\n")),
+        Slot::Removed => add(words, "removed -\n"),
+    }
+}
+
+fn add_block(words: &mut String, block: &Block) -> Result<(), Fault> {
+    let owner = Text(block.owner().bytes());
+    let entries = block.entries();
+    add(
+        words,
+        format_args!(
+            "    block of {owner}, after {}, upto {}, entries {}\n",
+            block.after(),
+            block.upto(),
+            entries.len()
+        ),
+    )?;
+    for entry in entries {
+        add_entry(words, block.owner(), entry)?;
+    }
+    Ok(())
+}
+
+fn add_delta(words: &mut String, delta: &Delta) -> Result<(), Fault> {
+    let blocks = delta.blocks();
+    add(words, format_args!("delta, blocks {}\n", blocks.len()))?;
+    for block in blocks {
+        add_block(words, block)?;
+    }
+    Ok(())
+}
+
+/// Adds the end of a digest's range, or that it has none.
+fn add_bound(
+    words: &mut String,
+    bound: Option<Name>,
+    word: &str,
+    no_bound: &str,
+) -> Result<(), Fault> {
+    match bound {
+        Some(name) => add(words, format_args!(", {word} {}", Text(name.bytes()))),
+        None => add(words, format_args!(", {no_bound}")),
+    }
+}
+
+fn add_digest(words: &mut String, digest: &Digest) -> Result<(), Fault> {
+    add(
+        words,
+        if digest.want() {
+            "digest, wants an answer"
+        } else {
+            "digest, wants no answer"
+        },
+    )?;
+    add_bound(words, digest.from(), "from", "from the first name")?;
+    add_bound(words, digest.until(), "until", "to the last name")?;
+    let pairs = digest.pairs();
+    add(words, format_args!(", pairs {}\n", pairs.len()))?;
+    for pair in pairs {
+        let owner = Text(pair.owner.bytes());
+        add(words, format_args!("    {owner} upto {}\n", pair.upto))?;
+    }
+    Ok(())
+}
+
+/// Adds the words of a message. Those of callers are named alone, since no node of a world sends one.
+fn add_message(words: &mut String, message: &Message) -> Result<(), Fault> {
+    match message {
+        Message::Hello(hello) => {
+            let (cluster, node) = (Text(hello.cluster.bytes()), Text(hello.node.bytes()));
+            add(
+                words,
+                format_args!("hello, cluster {cluster}, node {node}\n"),
+            )
+        }
+        Message::Digest(digest) => add_digest(words, digest),
+        Message::Delta(delta) => add_delta(words, delta),
+        Message::Bye(bye) => add(words, format_args!("bye, reason {}\n", bye.reason())),
+        Message::Ask(_) => add(words, "ask\n"),
+        Message::Rows(_) => add(words, "rows\n"),
+        Message::Put(_) => add(words, "put\n"),
+        Message::Done(_) => add(words, "done\n"),
+        Message::Refused(_) => add(words, "refused\n"),
+    }
+}
+
+/// Adds the words of the frame of a number, where there is one. `NoMemory`.
+fn add_frame(
+    alloc: Global,
+    words: &mut String,
+    world: &World<PlainLog>,
+    number: u64,
+) -> Result<(), Fault> {
+    let Some(frame) = world.frame(number) else {
+        return Ok(());
+    };
+    let mut frames = Frames::new(alloc);
+    frames.feed(frame)?;
+    match frames.next()? {
+        Some(message) => {
+            add(words, format_args!("  frame {number}: "))?;
+            add_message(words, &message)
+        }
+        None => Ok(()),
+    }
+}
+
+/// How many frames were sent, where it is known of so many.
+fn count_sent(world: &World<PlainLog>, known: u64) -> u64 {
+    for number in known..u64::MAX {
+        if world.frame(number + 1).is_none() {
+            return number;
+        }
+    }
+    u64::MAX
+}
+
+/// The number of the frame that a line shows.
+fn shown_by(alloc: Global, line: &[u8]) -> Result<Option<u64>, Fault> {
+    let words = words_of(alloc, line)?;
+    match Line::parse(&words) {
+        Some(Line::Show { frame }) => Ok(Some(frame)),
+        _ => Ok(None),
+    }
+}
+
+/// The words of the frame that a line shows, and of those that it sent: the ones behind the first `known`, up to `sent`.
+/// `NoMemory`.
+fn words_behind(
+    alloc: Global,
+    world: &World<PlainLog>,
+    line: &[u8],
+    known: u64,
+    sent: u64,
+) -> Result<String, Fault> {
+    let mut words = String::new(alloc);
+    if let Some(number) = shown_by(alloc, line)? {
+        add_frame(alloc, &mut words, world, number)?;
+    }
+    for before in known..sent {
+        add_frame(alloc, &mut words, world, before + 1)?;
+    }
+    Ok(words)
+}
+
+/// Prints what is to stand behind the answers of a line: where words are asked for, those of the frame that it shows and
+/// of the frames that were sent since `told` were, each line with two spaces in front, or for want of memory `fault 1`
+/// in their place. `WriteFailed`.
+pub(crate) fn explain<W: io::Write + Drop>(
+    alloc: Global,
+    world: &World<PlainLog>,
+    line: &[u8],
+    detail: Detail,
+    told: &mut u64,
+    output: &mut Output<W>,
+) -> Result<(), Fault>
+    ensures words { OnOk result (Explains detail (printed W.contents output.old) (printed W.contents output.new)) }
+    ensures fault { IfErr result (λ fault. fault ≡ Fault.WriteFailed (taken output.new)) }
+{
+    match detail {
+        Detail::Plain => return Ok(()),
+        Detail::Explained => {}
+    }
+    let known = *told;
+    *told = count_sent(world, known);
+    match words_behind(alloc, world, line, known, *told) {
+        Ok(words) => output.print(words.as_str()),
+        Err(fault) => output.print(format_args!("  fault {}\n", fault.number())),
+    }
+}
