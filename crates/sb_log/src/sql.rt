@@ -85,13 +85,6 @@ impl<S: Alter + Drop> SqlLog<S> {
     }
 }
 
-#[cfg(test)]
-impl<S: Alter + Drop> SqlLog<S> {
-    pub(crate) fn into_connection(self) -> Connection<S> {
-        self.conn
-    }
-}
-
 impl<S: Alter + Drop> WriteLog for SqlLog<S> {
     ghost seen = { λ l. log_in S.Store l };
 
