@@ -1,0 +1,6 @@
+pub mod Reaching
+pub mod Batches
+pub mod Noting
+pub mod Following
+pub mod Keeping
+pub mod Polling

@@ -1,0 +1,4 @@
+pub mod Reached
+pub mod Notes
+pub mod Locks
+pub mod Seats
