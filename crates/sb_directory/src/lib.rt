@@ -14,6 +14,3 @@ mod views;
 pub use locked::Locked;
 pub use receipt::{Applied, Receipt};
 pub use seat::{EnteredSeat, ReaderSeat};
-
-#[cfg(test)]
-mod tests;

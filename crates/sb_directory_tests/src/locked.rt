@@ -1,6 +1,6 @@
 //! A locked node: what its calls answer, and what readers are shown of it.
 
-use super::*;
+use sb_directory::Locked;
 use sb_holdings::BlockEnd;
 use sb_log::{Committed, PlainLog, WriteLog};
 use sb_node::NodeCore;

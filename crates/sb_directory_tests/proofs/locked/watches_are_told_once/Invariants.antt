@@ -1,4 +1,4 @@
-use Rattle.sb_directory.proofs.tests.watches_are_told_once.Given as goal
+use Rattle.sb_directory_tests.proofs.locked.watches_are_told_once.Given as goal
 
 abbrev pub ghosts-be_told-S-Ledger : goal.ghosts-be_told-S-Ledger
 ghosts-be_told-S-Ledger g a = record { name = 0; parts = 0 }

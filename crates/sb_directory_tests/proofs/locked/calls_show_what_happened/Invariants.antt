@@ -1,4 +1,4 @@
-use Rattle.sb_directory.proofs.tests.calls_show_what_happened.Given as goal
+use Rattle.sb_directory_tests.proofs.locked.calls_show_what_happened.Given as goal
 
 abbrev pub ghosts-play-S-Ledger : goal.ghosts-play-S-Ledger
 ghosts-play-S-Ledger g a = record { name = 0; parts = 0 }

@@ -1,4 +1,4 @@
-use Rattle.sb_directory.proofs.tests.a_refused_write_leaves_all.Given as goal
+use Rattle.sb_directory_tests.proofs.locked.a_refused_write_leaves_all.Given as goal
 
 abbrev pub ghosts-refuse-S-Ledger : goal.ghosts-refuse-S-Ledger
 ghosts-refuse-S-Ledger g a = record { name = 0; parts = 0 }
