@@ -123,6 +123,10 @@ impl<S: Alter + Drop> WriteLog for SqlLog<S> {
         match read_table(&mut self.conn, alloc) {
             Ok(table) => Ok(table),
             Err(Fault::NoMemory) => Err(Fault::NoMemory),
+            Err(Fault::LogDamaged) => {
+                self.is_open = false;
+                Err(Fault::LogDamaged)
+            }
             Err(_) => {
                 self.is_open = false;
                 Err(Fault::StoreFailed)
