@@ -179,11 +179,7 @@ impl<S: Site, H: Wait + Drop> Desk<S, H> {
         let digest = self.locked.digest(None, true)?;
         let nothing = Digest::new(false, None, None, Vec::new(self.alloc))?;
         let delta = self.locked.deltas(&nothing)?;
-        Ok(Answer::Told(
-            digest.number(&a),
-            digest.number(&b),
-            delta.blocks().len(),
-        ))
+        Ok(Answer::Told(digest.number(&a), digest.number(&b), delta.blocks().len()))
     }
 }
 
@@ -200,6 +196,16 @@ fn read_both<S: Site>(reader: Reader<S>, a: &Name, b: &Name) -> (Reader<S>, Opti
     }
 }
 
+/// A refusal as an answer. Where memory was wanting to show what happened, or for a block, that is the refusal.
+fn told(answer: Result<Answer, Fault>) -> Answer {
+    match answer {
+        Ok(Answer::NotShown) => Answer::Refused(Fault::NoMemory),
+        Ok(Answer::Ended(BlockEnd::NoMemory(_))) => Answer::Refused(Fault::NoMemory),
+        Ok(answer) => answer,
+        Err(fault) => Answer::Refused(fault),
+    }
+}
+
 /// A call, and what it answers.
 pub(crate) type Case = (Call, Answer);
 
@@ -210,11 +216,7 @@ pub(crate) fn play<S: Site, H: Wait + Drop, R: Wait + Abort>(
     cases: &[Case],
 ) -> Result<(), Fault> {
     for (index, (call, wanted)) in cases.iter().enumerate() {
-        let found = match desk.perform(rt, *call) {
-            Ok(Answer::NotShown | Answer::Ended(BlockEnd::NoMemory(_))) => Answer::Refused(Fault::NoMemory),
-            Ok(answer) => answer,
-            Err(fault) => Answer::Refused(fault),
-        };
+        let found = told(desk.perform(rt, *call));
         if found == Answer::Refused(Fault::NoMemory) {
             return Err(Fault::NoMemory);
         }

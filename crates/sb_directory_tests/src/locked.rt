@@ -49,6 +49,19 @@ fn answers_as<S: Site, R: Wait + Abort>(
     play(rt, &mut desk, cases)
 }
 
+fn refused(fault: Fault) -> Answer {
+    Answer::Refused(fault)
+}
+
+/// The block of a delta ends so.
+fn ended(end: BlockEnd) -> Answer {
+    Answer::Ended(end)
+}
+
+fn taken(count: u64) -> Answer {
+    Answer::Ended(BlockEnd::Taken(count))
+}
+
 /// A watch gives this note.
 fn note(owner: &[u8], key: &[u8], version: u64) -> Result<Answer, Fault> {
     Ok(Answer::Polled(Polled::Note(Note {
@@ -88,9 +101,9 @@ fn watches_are_told_once(rt: HostRuntime) -> Result<(), Fail> {
     let cases = [
         (Call::Watch(b"", 4), Answer::Done),
         (Call::Write(b"x"), Answer::Shown),
-        (Call::Delta(b"b", 0, b"y"), Answer::Ended(BlockEnd::Taken(1))),
-        (Call::Delta(b"b", 0, b"y"), Answer::Ended(BlockEnd::Stale)),
-        (Call::Delta(b"b", 0, b"yz"), Answer::Ended(BlockEnd::Taken(1))),
+        (Call::Delta(b"b", 0, b"y"), taken(1)),
+        (Call::Delta(b"b", 0, b"y"), ended(BlockEnd::Stale)),
+        (Call::Delta(b"b", 0, b"yz"), taken(1)),
         (Call::Poll(0), own),
         (Call::Poll(0), first),
         (Call::Poll(0), second),
@@ -101,8 +114,8 @@ fn watches_are_told_once(rt: HostRuntime) -> Result<(), Fail> {
 
 #[test]
 fn watches_that_are_refused(rt: HostRuntime) -> Result<(), Fail> {
-    let no_watch = Answer::Refused(Fault::NoWatch);
-    let bad_setting = Answer::Refused(Fault::BadSetting);
+    let no_watch = refused(Fault::NoWatch);
+    let bad_setting = refused(Fault::BadSetting);
     let cases = [
         (Call::Watch(b"", 0), bad_setting),
         (Call::Watch(b"", 1_025), bad_setting),
@@ -117,18 +130,22 @@ fn watches_that_are_refused(rt: HostRuntime) -> Result<(), Fail> {
 
 #[test]
 fn at_most_64_watches_stand(rt: HostRuntime) -> Result<(), Fail> {
-    let mut cases = [(Call::Watch(b"", 1), Answer::Done); 67];
-    cases[64].1 = Answer::Refused(Fault::WatchesFull);
-    cases[65].0 = Call::Unwatch(63);
-    Ok(answers(&rt, rt.alloc(), &cases)?)
+    let mut cases = Vec::new(rt.alloc());
+    for _ in 0..64 {
+        cases.push((Call::Watch(b"", 1), Answer::Done))?;
+    }
+    cases.push((Call::Watch(b"", 1), refused(Fault::WatchesFull)))?;
+    cases.push((Call::Unwatch(63), Answer::Done))?;
+    cases.push((Call::Watch(b"", 1), Answer::Done))?;
+    Ok(answers(&rt, rt.alloc(), cases.as_slice())?)
 }
 
 #[test]
 fn own_writes_come_once(rt: HostRuntime) -> Result<(), Fail> {
     let cases = [
-        (Call::TakeOfAnother, Answer::Refused(Fault::WrongOwner)),
+        (Call::TakeOfAnother, refused(Fault::WrongOwner)),
         (Call::Write(b"x"), Answer::Shown),
-        (Call::Take, Answer::Refused(Fault::OutOfTurn(2))),
+        (Call::Take, refused(Fault::OutOfTurn(2))),
         (Call::Conflict, Answer::Conflict(None)),
         (Call::Read, Answer::Read(1, 1, 0)),
         (Call::Tell, Answer::Told(1, 0, 1)),
@@ -140,11 +157,11 @@ fn own_writes_come_once(rt: HostRuntime) -> Result<(), Fail> {
 fn another_writes_under_the_name(rt: HostRuntime) -> Result<(), Fail> {
     let cases = [
         (Call::Write(b"x"), Answer::Shown),
-        (Call::Delta(b"a", 0, b"x"), Answer::Ended(BlockEnd::Own)),
+        (Call::Delta(b"a", 0, b"x"), ended(BlockEnd::Own)),
         (Call::Conflict, Answer::Conflict(None)),
-        (Call::Delta(b"a", 1, b"y"), Answer::Ended(BlockEnd::OwnAhead(2))),
+        (Call::Delta(b"a", 1, b"y"), ended(BlockEnd::OwnAhead(2))),
         (Call::Conflict, Answer::Conflict(Some(2))),
-        (Call::Write(b"y"), Answer::Refused(Fault::OwnerConflict(2))),
+        (Call::Write(b"y"), refused(Fault::OwnerConflict(2))),
         (Call::Read, Answer::Read(3, 1, 0)),
     ];
     Ok(answers(&rt, rt.alloc(), &cases)?)
@@ -153,12 +170,12 @@ fn another_writes_under_the_name(rt: HostRuntime) -> Result<(), Fail> {
 #[test]
 fn writes_of_others_are_shown(rt: HostRuntime) -> Result<(), Fail> {
     let cases = [
-        (Call::Delta(b"b", 2, b"z"), Answer::Ended(BlockEnd::Gap)),
+        (Call::Delta(b"b", 2, b"z"), ended(BlockEnd::Gap)),
         (Call::Read, Answer::Read(1, 0, 0)),
-        (Call::Delta(b"b", 0, b"xy"), Answer::Ended(BlockEnd::Taken(2))),
+        (Call::Delta(b"b", 0, b"xy"), taken(2)),
         (Call::Read, Answer::Read(2, 0, 2)),
         (Call::Write(b"x"), Answer::Shown),
-        (Call::Delta(b"b", 2, b"z"), Answer::Ended(BlockEnd::Taken(1))),
+        (Call::Delta(b"b", 2, b"z"), taken(1)),
         (Call::Read, Answer::Read(4, 1, 3)),
         (Call::Tell, Answer::Told(1, 3, 2)),
     ];
@@ -170,7 +187,7 @@ fn writes_of_others_are_shown(rt: HostRuntime) -> Result<(), Fail> {
 fn a_full_table_takes_no_new_key(rt: HostRuntime) -> Result<(), Fail> {
     let alloc = rt.alloc();
     let cases = [
-        (Call::Write(b"new"), Answer::Refused(Fault::TableFull)),
+        (Call::Write(b"new"), refused(Fault::TableFull)),
         (Call::Read, Answer::Read(0, 4_096, 0)),
     ];
     let core = node_of(alloc, b"a", full_table(alloc)?)?;

@@ -60,14 +60,13 @@ fn letters_of(number: u64) -> [u8; 4] {
     text
 }
 
-/// A flag under each of the 4,096 keys that an owner may have.
+/// The table of an owner that has all of the 4,096 keys that it may have.
 pub(crate) fn full_table(alloc: Global) -> Result<Table, Fault> {
-    let mut table = Table::new(alloc);
+    let mut log = log_of(alloc, b"a")?;
     for number in 0..4_096 {
-        let slot = Slot::Set(Value::flag(true));
-        table.push(Entry::new(Key::read(&letters_of(number))?, number + 1, slot))?;
+        commit(&mut log, &letters_of(number))?;
     }
-    Ok(table)
+    log.load(alloc)
 }
 
 /// A log of the owner a that took so many writes, all under one key.

@@ -31,7 +31,11 @@ fn write_late<S: Site, H: Wait + Drop, R: Wait + Abort>(
 ) -> Result<(), Fault> {
     match desk.perform(rt, Call::Take) {
         // Everything is as it was, and the same write is taken then.
-        Err(Fault::NoMemory) => play(rt, desk, &[(Call::Read, NOTHING), (Call::Take, Answer::Shown)]),
+        Err(Fault::NoMemory) => play(
+            rt,
+            desk,
+            &[(Call::Read, NOTHING), (Call::Take, Answer::Shown)],
+        ),
         // It is entered, and the reader sees what it saw.
         Ok(Answer::NotShown) => play(rt, desk, &[(Call::Read, NOTHING)]),
         _ => play(rt, desk, &[(Call::Read, Answer::Read(1, 1, 0))]),
@@ -51,7 +55,11 @@ fn take_late<S: Site, H: Wait + Drop, R: Wait + Abort>(
         }
         // The block found no memory, which is an event too.
         Ok(Answer::Ended(BlockEnd::NoMemory(_))) => {
-            play(rt, desk, &[(Call::Read, Answer::Read(1, 0, 0)), (TAKE_OF_B, TAKEN)])?;
+            play(
+                rt,
+                desk,
+                &[(Call::Read, Answer::Read(1, 0, 0)), (TAKE_OF_B, TAKEN)],
+            )?;
             Ok(2)
         }
         // It is entered, and the reader sees what it saw.
@@ -84,10 +92,22 @@ fn write_then<S: Site, R: Wait + Abort>(
     play(rt, &mut desk, cases)
 }
 
+/// A new node writes, and then answers this call so, after which the reader sees this.
+fn write_then_call<R: Wait + Abort>(
+    rt: &R,
+    alloc: Global,
+    call: Call,
+    answer: Answer,
+    seen: Answer,
+) -> Result<(), Fault> {
+    let core = node_of(alloc, b"a", Table::new(alloc))?;
+    let cases = [(call, answer), (Call::Read, seen)];
+    write_then::<Brand, _>(rt, Opened::new(), core, alloc, &cases)
+}
+
 /// Whichever call comes next that shows: a refresh, a poll, a write or a delta.
 #[test]
 fn the_next_call_shows_a_write(rt: HostRuntime) -> Result<(), Fail> {
-    let alloc = rt.alloc();
     let note = Answer::Polled(Polled::Note(Note {
         owner: Name::read(b"a")?,
         key: Key::read(b"x")?,
@@ -99,9 +119,7 @@ fn the_next_call_shows_a_write(rt: HostRuntime) -> Result<(), Fail> {
         (Call::Write(b"y"), Answer::Shown, Answer::Read(2, 2, 0)),
         (TAKE_OF_B, TAKEN, Answer::Read(2, 1, 1)),
     ] {
-        let core = node_of(alloc, b"a", Table::new(alloc))?;
-        let cases = [(call, answer), (Call::Read, seen)];
-        write_then::<Brand, _>(&rt, Opened::new(), core, alloc, &cases)?;
+        write_then_call(&rt, rt.alloc(), call, answer, seen)?;
     }
     Ok(())
 }

@@ -1,4 +1,4 @@
-use Rattle.sb_directory_tests.proofs.memory.the_next_call_shows_a_write.Given as goal
+use Rattle.sb_directory_tests.proofs.memory.write_then_call.Given as goal
 
 abbrev pub ghosts-write_then-S-Ledger : goal.ghosts-write_then-S-Ledger
 ghosts-write_then-S-Ledger g a = record { name = 0; parts = 0 }
