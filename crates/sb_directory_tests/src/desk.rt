@@ -30,6 +30,8 @@ pub(crate) enum Call {
     Delta(&'static [u8], u64, &'static [u8]),
     /// A watch of the keys with a prefix is added, with room for so many notes.
     Watch(&'static [u8], usize),
+    /// So many watches of all keys are added, each with room for one note.
+    Watches(usize),
     /// The watch that was added at this place is dropped.
     Unwatch(usize),
     /// It is polled.
@@ -98,6 +100,7 @@ impl<S: Site, H: Wait + Drop> Desk<S, H> {
             Call::TakeOfAnother => self.take_of_another(rt),
             Call::Delta(owner, after, letters) => self.take_delta(rt, owner, after, letters),
             Call::Watch(prefix, capacity) => self.watch(prefix, capacity),
+            Call::Watches(count) => self.watch_all(count),
             Call::Unwatch(place) => self.unwatch(place),
             Call::Poll(place) => self.poll(place),
             Call::Refresh => Ok(shown(self.locked.refresh(), Answer::Shown)),
@@ -142,6 +145,13 @@ impl<S: Site, H: Wait + Drop> Desk<S, H> {
     fn watch(&mut self, prefix: &[u8], capacity: usize) -> Result<Answer, Fault> {
         let id = self.locked.watch(filter_of(prefix)?, capacity)?;
         self.watches.push(id)?;
+        Ok(Answer::Done)
+    }
+
+    fn watch_all(&mut self, count: usize) -> Result<Answer, Fault> {
+        for _ in 0..count {
+            self.watch(b"", 1)?;
+        }
         Ok(Answer::Done)
     }
 

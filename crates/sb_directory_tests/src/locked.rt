@@ -130,14 +130,13 @@ fn watches_that_are_refused(rt: HostRuntime) -> Result<(), Fail> {
 
 #[test]
 fn at_most_64_watches_stand(rt: HostRuntime) -> Result<(), Fail> {
-    let mut cases = Vec::new(rt.alloc());
-    for _ in 0..64 {
-        cases.push((Call::Watch(b"", 1), Answer::Done))?;
-    }
-    cases.push((Call::Watch(b"", 1), refused(Fault::WatchesFull)))?;
-    cases.push((Call::Unwatch(63), Answer::Done))?;
-    cases.push((Call::Watch(b"", 1), Answer::Done))?;
-    Ok(answers(&rt, rt.alloc(), cases.as_slice())?)
+    let cases = [
+        (Call::Watches(64), Answer::Done),
+        (Call::Watch(b"", 1), refused(Fault::WatchesFull)),
+        (Call::Unwatch(63), Answer::Done),
+        (Call::Watch(b"", 1), Answer::Done),
+    ];
+    Ok(answers(&rt, rt.alloc(), &cases)?)
 }
 
 #[test]
