@@ -3,4 +3,10 @@
 #![tactic(auto)]
 
 #[cfg(test)]
+mod desk;
+#[cfg(test)]
 mod locked;
+#[cfg(test)]
+mod making;
+#[cfg(test)]
+mod memory;
