@@ -10,3 +10,11 @@ mod locked;
 mod making;
 #[cfg(test)]
 mod memory;
+#[cfg(test)]
+mod peers;
+#[cfg(test)]
+mod seats;
+#[cfg(test)]
+mod serving;
+#[cfg(test)]
+mod threads;

@@ -49,6 +49,19 @@ pub(crate) fn delta_of(
     Delta::new(vec![in alloc; block]?)
 }
 
+/// A delta of one write: what an owner wrote under this key, behind the version `after`.
+pub(crate) fn delta_under(
+    alloc: Global,
+    owner: &[u8],
+    after: u64,
+    key: &[u8],
+) -> Result<Delta, Fault> {
+    let slot = Slot::Set(Value::weight(7)?);
+    let entry = Entry::new(Key::read(key)?, after.saturating_add(1), slot);
+    let block = Block::new(Name::read(owner)?, after, vec![in alloc; entry]?)?;
+    Delta::new(vec![in alloc; block]?)
+}
+
 /// The text of a number, in four letters.
 fn letters_of(number: u64) -> [u8; 4] {
     let mut text = [b'a'; 4];
