@@ -6,3 +6,4 @@ pub mod Keeping
 pub mod Polling
 pub mod Sharing
 pub mod Rising
+pub mod Showing

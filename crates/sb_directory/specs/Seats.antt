@@ -1,16 +1,16 @@
 -- What is known of a seat, and what the node answers after some events.
-use Rattle.std.specs.Prelude.{◌≡◌, ℕ, ◌+◌, if◌then◌else◌, List, [], ◌∷◌, Result, Ok, Err}
+use Rattle.std.specs.Prelude.{◌≡◌, ◌≢◌, ℕ, ◌+◌, Bool, MatchBool, if◌then◌else◌, ◌⊎◌, List, [], ◌∷◌, Result, Ok, Err, IfErr}
 use mathlib.Core.List.{IsPrefix}
 use Rattle.sb_types.specs.Text.{is_between}
 use Rattle.sb_types.specs.declared.limits.TheConstants.{SEATS_MOST}
 use Rattle.sb_types.specs.declared.fault.Fault.{Fault}
-use Rattle.sb_types.specs.declared.fault.Fault.TheVariants.{BadSetting}
+use Rattle.sb_types.specs.declared.fault.Fault.TheVariants.{NoMemory, BadSetting}
 use Rattle.sb_holdings.specs.Nodes.{Node}
 use Rattle.sb_log.specs.Records.{Committed}
 use Rattle.sb_node.specs.Cores.{committed_answer}
 use Rattle.sb_views.specs.declared.event.Event.{Event}
 use Rattle.sb_views.specs.Stories.{node_after}
-use Rattle.sb_directory.specs.Locks.{unless_spent}
+use Rattle.sb_directory.specs.Locks.{Locked, unless_spent}
 
 -- what its reader was told or has seen, and how many events its calls made
 pub record Seat : Type 0 where
@@ -42,3 +42,11 @@ own_due_after opening story c = unless_spent story (committed_answer (node_after
 -- what a delta is answered after these events, where there is memory
 abbrev pub delta_due_after : List Event → Result (Unit {0}) Fault
 delta_due_after story = unless_spent story (Ok tt)
+
+-- a refusal is what is due; where nothing is due it is want of memory
+abbrev pub Refuses : Result (Unit {0}) Fault → Fault → Type 0
+Refuses due fault = IfErr due (λ other. fault ≡ other) × (fault ≢ NoMemory → due ≡ Err fault)
+
+-- all that happened is shown where that is said; where it is not said, that may be so too, or what is shown stays
+abbrev pub ShowsWhereSaid : Bool → Locked → Locked → Type 0
+ShowsWhereSaid said old new = MatchBool said (new.shown ≡ new.story) ((new.shown ≡ new.story) ⊎ (new.shown ≡ old.shown))

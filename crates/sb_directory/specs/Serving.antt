@@ -1,5 +1,5 @@
 -- The calls that a session makes to a directory from a seat: what it answers, and what they leave of the seat.
-use Rattle.std.proofs.Common.{◌≡◌, ◌≢◌, ◌+◌, ◌≤◌, Bool, true, false, MatchBool, List, Ok, Err, sym, subst, arith}
+use Rattle.std.proofs.Common.{◌≡◌, ◌+◌, ◌≤◌, Bool, true, false, MatchBool, List, Ok, Err, sym, subst, arith}
 use mathlib.Core.List.{IsPrefix}
 use Rattle.sb_types.specs.declared.fault.Fault.TheVariants.{NoMemory}
 use Rattle.sb_types.specs.Records.{Settings}
@@ -12,7 +12,7 @@ use Rattle.sb_node.specs.Answers.{IsDelta, IsAnswer}
 use Rattle.sb_views.specs.declared.event.Event.{Event}
 use Rattle.sb_views.specs.Stories.{node_after}
 use Rattle.sb_views.proofs.Fronts.{prefix_self, prefix_trans}
-use Rattle.sb_directory.specs.Seats.{Seat, delta_due_after}
+use Rattle.sb_directory.specs.Seats.{Seat, delta_due_after, Refuses}
 
 -- what a node with these settings answers after these events
 abbrev pub AnswersAfter : Node → Settings → List Event → Act → Type 0
@@ -23,7 +23,7 @@ AnswersAfter opening settings story (gives told (Ok blocks)) =
     IsDelta settings (node_after opening story).held told blocks × IsAnswer settings.budget (node_after opening story).held told blocks
 AnswersAfter opening settings story (gives told (Err fault)) = fault ≡ NoMemory
 AnswersAfter opening settings story (applies blocks (Ok ends)) = (delta_due_after story ≡ Ok tt) × Treats (node_after opening story) blocks ends
-AnswersAfter opening settings story (applies blocks (Err fault)) = fault ≢ NoMemory → delta_due_after story ≡ Err fault
+AnswersAfter opening settings story (applies blocks (Err fault)) = Refuses (delta_due_after story) fault
 
 -- the seat was told no less, and made one event more
 pub record IsOneMore (old new : Seat) : Type 0 where

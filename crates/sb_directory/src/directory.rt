@@ -98,7 +98,7 @@ impl<S: Configured, R: Wait + Drop> Directory<S, R> {
         ensures answer { (l : List Event) × IsPrefix seat.old.told l × MatchResult result
             (λ receipt. (spec.own_due_after S.opening l committed.now ≡ Ok tt)
             × (receipt.shown ≡ true → seat.new.told ≡ l ++ events.TookOwn committed.now.entry ∷ []))
-            (λ fault. fault ≢ Fault.NoMemory → spec.own_due_after S.opening l committed.now ≡ Err fault) }
+            (spec.Refuses (spec.own_due_after S.opening l committed.now)) }
         ensures count { MatchResult result (λ _. seat.new.events ≡ seat.old.events + 1) (λ _. seat.new ≡ seat.old) }
         ensures grows { IsPrefix seat.old.told seat.new.told }
         ensures version { IfOk result (λ receipt. receipt.version ≡ committed.now.entry.version) }
@@ -119,7 +119,7 @@ impl<S: Configured, R: Wait + Drop> Directory<S, R> {
         ensures answer { (l : List Event) × IsPrefix seat.old.told l × MatchResult result
             (λ applied. (spec.delta_due_after l ≡ Ok tt) × Treats (node_after S.opening l) delta.now applied.ends
             × (applied.shown ≡ true → seat.new.told ≡ l ++ events.Applied delta.now applied.ends ∷ []))
-            (λ fault. fault ≢ Fault.NoMemory → spec.delta_due_after l ≡ Err fault) }
+            (spec.Refuses (spec.delta_due_after l)) }
         ensures fault { IfErr result IsRefusal }
         ensures count { MatchResult result (λ _. seat.new.events ≡ seat.old.events + 1) (λ _. seat.new ≡ seat.old) }
         ensures grows { IsPrefix seat.old.told seat.new.told }

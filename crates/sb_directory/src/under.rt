@@ -1,5 +1,5 @@
 //! What the lock guards: the node, and the book of its seats.
-ghost use Rattle.std.specs.Prelude.{◌≡◌, ◌≢◌, ◌≤◌, ◌+◌, ◌++◌, ◌∷◌, [], true, length, if◌then◌else◌, Ok, Err, MatchResult, IfOk, IfErr, OnOk, OnErr};
+ghost use Rattle.std.specs.Prelude.{◌≡◌, ◌≤◌, ◌+◌, ◌++◌, ◌∷◌, [], true, false, length, if◌then◌else◌, Ok, Err, MatchResult, IfOk, IfErr, OnOk, OnErr};
 ghost use mathlib.Core.List.{IsPrefix};
 ghost use Rattle.sb_types.specs.Faults.{Gives};
 ghost use Rattle.sb_holdings.specs.Held.{shown_of};
@@ -9,7 +9,8 @@ ghost use Rattle.sb_views.specs.Stories.{node_after};
 ghost use Rattle.sb_views.specs.declared.event.Event.TheVariants as events;
 ghost use Rattle.sb_watch.specs.declared.note.Polled.TheVariants as answers;
 ghost use Rattle.sb_watch.specs.declared.note.Note.{Note};
-ghost use Rattle.sb_watch.specs.Hubs.{next_id, has_watch, answer_at};
+ghost use Rattle.sb_watch.specs.Hubs.{next_id, has_watch, answer_at, with_watch, with_answer, without_watch};
+ghost use Rattle.sb_directory.specs.Locks as locks;
 ghost use Rattle.sb_directory.specs.Seats as spec;
 ghost use Rattle.sb_directory.specs.Serving.{AnswersAfter};
 
@@ -62,6 +63,7 @@ fn settle<S: Site, R: Wait + Drop>(
     ensures total { book.new.total ≡ book.old.total + 1 }
     ensures count { seat.new.events ≡ seat.old.events + 1 }
     ensures grows { IsPrefix seat.old.told seat.new.told }
+    ensures said { result ≡ true → shown ≡ true }
     ensures told { result ≡ true → seat.new.told ≡ locked.now.story }
 {
     seat.count(book);
@@ -91,13 +93,13 @@ impl<S: Configured, R: Wait + Drop> Under<S, R> {
         seat: &mut ReaderSeat<S>,
         committed: &Committed,
     ) -> Result<Receipt, Fault>
-        ensures event { MatchResult result
-            (λ _. self.new.story ≡ self.old.story ++ events.TookOwn committed.now.entry ∷ [])
-            (λ _. self.new.story ≡ self.old.story) }
+        ensures taken { IfOk result (λ _. self.new ≡ locks.after_own self.old committed.now.entry self.new.shown) }
+        ensures shown { IfOk result (λ receipt. spec.ShowsWhereSaid receipt.shown self.old self.new) }
+        ensures err { OnErr result (self.new ≡ self.old) }
         ensures answer { MatchResult result
             (λ receipt. (spec.own_due_after S.opening self.old.story committed.now ≡ Ok tt)
             × (receipt.shown ≡ true → seat.new.told ≡ self.old.story ++ events.TookOwn committed.now.entry ∷ []))
-            (λ fault. fault ≢ Fault.NoMemory → spec.own_due_after S.opening self.old.story committed.now ≡ Err fault) }
+            (spec.Refuses (spec.own_due_after S.opening self.old.story committed.now)) }
         ensures count { MatchResult result (λ _. seat.new.events ≡ seat.old.events + 1) (λ _. seat.new ≡ seat.old) }
         ensures knew { IsPrefix seat.old.told self.old.story }
         ensures grows { IsPrefix seat.old.told seat.new.told }
@@ -123,14 +125,14 @@ impl<S: Configured, R: Wait + Drop> Under<S, R> {
         seat: &mut ReaderSeat<S>,
         delta: &Delta,
     ) -> Result<Applied, Fault>
-        ensures event { MatchResult result
-            (λ applied. self.new.story ≡ self.old.story ++ events.Applied delta.now applied.ends ∷ [])
-            (λ _. self.new.story ≡ self.old.story) }
+        ensures taken { IfOk result (λ applied. self.new ≡ locks.after_delta self.old delta.now applied.ends self.new.shown) }
+        ensures shown { IfOk result (λ applied. spec.ShowsWhereSaid applied.shown self.old self.new) }
+        ensures err { OnErr result (self.new ≡ self.old) }
         ensures answer { MatchResult result
             (λ applied. (spec.delta_due_after self.old.story ≡ Ok tt)
             × Treats (node_after S.opening self.old.story) delta.now applied.ends
             × (applied.shown ≡ true → seat.new.told ≡ self.old.story ++ events.Applied delta.now applied.ends ∷ []))
-            (λ fault. fault ≢ Fault.NoMemory → spec.delta_due_after self.old.story ≡ Err fault) }
+            (spec.Refuses (spec.delta_due_after self.old.story)) }
         ensures fault { IfErr result IsRefusal }
         ensures count { MatchResult result (λ _. seat.new.events ≡ seat.old.events + 1) (λ _. seat.new ≡ seat.old) }
         ensures knew { IsPrefix seat.old.told self.old.story }
@@ -190,21 +192,24 @@ impl<S: Configured, R: Wait + Drop> Under<S, R> {
     pub(crate) fn watch(&mut self, filter: Filter, capacity: usize) -> Result<WatchId, Fault>
         ensures answer { Gives result (next_id self.old.hub capacity) }
         ensures refused { (fault : Fault) → next_id self.old.hub capacity ≡ Err fault → result ≡ Err fault }
+        ensures ok { OnOk result (self.new ≡ locks.with_hub self.old (with_watch self.old.hub filter capacity)) }
+        ensures err { OnErr result (self.new ≡ self.old) }
     {
         self.locked.watch(filter, capacity)
     }
 
     /// Drops a watch with its notes.
     pub(crate) fn unwatch(&mut self, id: WatchId) -> Result<(), Fault>
-        ensures { result ≡ (if has_watch self.old.hub id then Ok tt else Err Fault.NoWatch) }
+        ensures answer { result ≡ (if has_watch self.old.hub id then Ok tt else Err Fault.NoWatch) }
+        ensures left { self.new ≡ locks.with_hub self.old (without_watch self.old.hub id) }
     {
         self.locked.unwatch(id)
     }
 
     /// Shows readers all that happened, and lets the seat see it; says whether it did.
     pub(crate) fn refresh<Q: Wait>(&mut self, rt: &Q, seat: &mut ReaderSeat<S>) -> bool
-        ensures story { self.new.story ≡ self.old.story }
-        ensures hub { self.new.hub ≡ self.old.hub }
+        ensures left { self.new ≡ locks.with_shown self.old self.new.shown }
+        ensures shown { spec.ShowsWhereSaid result self.old self.new }
         ensures knew { IsPrefix seat.old.told self.old.story }
         ensures grows { IsPrefix seat.old.told seat.new.told }
         ensures count { seat.new.events ≡ seat.old.events }
@@ -227,8 +232,9 @@ impl<S: Configured, R: Wait + Drop> Under<S, R> {
         ensures answer { Gives result (answer_at self.old.hub id) }
         ensures refused { IfErr (answer_at self.old.hub id) (λ fault. result ≡ Err fault) }
         ensures held { (note : Note) → result ≡ Ok (answers.Note note) → note.version ≤ (shown_of (node_after S.opening seat.new.told).held note.owner).held }
-        ensures story { self.new.story ≡ self.old.story }
-        ensures ring { OnErr result (self.new.hub ≡ self.old.hub) }
+        ensures ok { OnOk result (self.new ≡ locks.with_shown (locks.with_hub self.old (with_answer self.old.hub id)) self.old.story) }
+        ensures err { OnErr result (self.new ≡ locks.with_shown self.old self.new.shown) }
+        ensures shown { OnErr result (spec.ShowsWhereSaid false self.old self.new) }
         ensures knew { IsPrefix seat.old.told self.old.story }
         ensures grows { IsPrefix seat.old.told seat.new.told }
         ensures count { seat.new.events ≡ seat.old.events }

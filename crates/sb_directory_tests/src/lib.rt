@@ -3,4 +3,18 @@
 #![tactic(auto)]
 
 #[cfg(test)]
+mod desk;
+#[cfg(test)]
 mod locked;
+#[cfg(test)]
+mod making;
+#[cfg(test)]
+mod memory;
+#[cfg(test)]
+mod peers;
+#[cfg(test)]
+mod seats;
+#[cfg(test)]
+mod serving;
+#[cfg(test)]
+mod threads;

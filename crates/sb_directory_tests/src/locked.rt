@@ -1,199 +1,194 @@
 //! A locked node: what its calls answer, and what readers are shown of it.
 
-use sb_directory::Locked;
+ghost use Rattle.std.specs.Prelude.{◌≡◌};
+
+use crate::desk::{Answer, Call, Case, desk_of, play};
+use crate::making::{full_table, log_of, node_of, written_log};
 use sb_holdings::BlockEnd;
-use sb_log::{Committed, PlainLog, WriteLog};
+use sb_log::PlainLog;
 use sb_node::NodeCore;
 use sb_table::Table;
-use sb_types::{
-    Block, Delta, Entry, Fault, Key, Name, Order, Prefix, RawSettings, Settings, Slot, Value,
-};
-use sb_views::{Opened, Reader, Site};
-use sb_watch::{Filter, Polled, WatchId};
+use sb_types::{Fault, Key, Name};
+use sb_views::{Opened, Site};
+use sb_watch::{Note, Polled};
 use std::alloc::Global;
 use std::marker::Brand;
 use std::process::Abort;
 use std::sync::Wait;
 use std::test::Fail;
 
-/// A new node of the name a.
-fn new_node(alloc: Global) -> Result<NodeCore, Fault> {
-    let settings = Settings::check(RawSettings {
-        cluster: b"c1",
-        budget: 1024,
-        order: Order::Breadth,
-        max_version: 100,
-        seats: 2,
-        workers: 1,
-    })?;
-    NodeCore::open(alloc, settings, Name::read(b"a")?, Table::new(alloc))
+/// A new node answers these calls so.
+fn answers<R: Wait + Abort>(rt: &R, alloc: Global, cases: &[Case]) -> Result<(), Fault> {
+    let core = node_of(alloc, b"a", Table::new(alloc))?;
+    answers_of(rt, alloc, core, log_of(alloc, b"a")?, cases)
 }
 
-/// The first write of an owner, which its log took.
-fn first_write(alloc: Global, owner: &[u8]) -> Result<Committed, Fault> {
-    let mut log = PlainLog::new(alloc, Name::read(owner)?, Name::read(b"c1")?, 100);
-    log.put(&Key::read(b"x")?, &Slot::Set(Value::weight(5)?))
+/// This node answers these calls so, with this log.
+fn answers_of<R: Wait + Abort>(
+    rt: &R,
+    alloc: Global,
+    core: NodeCore,
+    log: PlainLog,
+    cases: &[Case],
+) -> Result<(), Fault> {
+    answers_as::<Brand, _>(rt, Opened::new(), core, log, alloc, cases)
 }
 
-/// A delta with the first write of b.
-fn delta_of_b(alloc: Global) -> Result<Delta, Fault> {
-    let entry = Entry::new(Key::read(b"y")?, 1, Slot::Set(Value::weight(7)?));
-    let block = Block::new(Name::read(b"b")?, 0, vec![in alloc; entry]?)?;
-    Delta::new(vec![in alloc; block]?)
+fn answers_as<S: Site, R: Wait + Abort>(
+    rt: &R,
+    opened: Opened,
+    core: NodeCore,
+    log: PlainLog,
+    alloc: Global,
+    cases: &[Case],
+) -> Result<(), Fault>
+    requires story { opened.seen.book ≡ S.story }
+    requires opening { S.opening ≡ core.node }
+{
+    let mut desk = desk_of::<S, R>(rt, opened, core, log, alloc)?;
+    play(rt, &mut desk, cases)
 }
 
-/// How far a reader is shown a and b.
-fn upto_both<S: Site>(reader: Reader<S>) -> Result<(Reader<S>, [u64; 2]), Fail> {
-    let entered = reader.enter().ok().ok_or("it enters")?;
-    let snapshot = entered.snapshot();
-    let shown = [
-        snapshot.upto(&Name::read(b"a")?),
-        snapshot.upto(&Name::read(b"b")?),
+fn refused(fault: Fault) -> Answer {
+    Answer::Refused(fault)
+}
+
+/// The block of a delta ends so.
+fn ended(end: BlockEnd) -> Answer {
+    Answer::Ended(end)
+}
+
+fn taken(count: u64) -> Answer {
+    Answer::Ended(BlockEnd::Taken(count))
+}
+
+/// A watch gives this note.
+fn note(owner: &[u8], key: &[u8], version: u64) -> Result<Answer, Fault> {
+    Ok(Answer::Polled(Polled::Note(Note {
+        owner: Name::read(owner)?,
+        key: Key::read(key)?,
+        version,
+    })))
+}
+
+#[test]
+fn watches_tell_what_is_shown(rt: HostRuntime) -> Result<(), Fail> {
+    let [second, last] = [note(b"a", b"net/b", 2)?, note(b"a", b"net/c", 4)?];
+    let cases = [
+        (Call::Watch(b"net/", 2), Answer::Done),
+        (Call::Write(b"net/a"), Answer::Shown),
+        (Call::Write(b"net/b"), Answer::Shown),
+        (Call::Write(b"w"), Answer::Shown),
+        (Call::Write(b"net/c"), Answer::Shown),
+        (Call::Poll(0), Answer::Polled(Polled::Lagged(1))),
+        (Call::Poll(0), second),
+        (Call::Poll(0), last),
+        (Call::Poll(0), Answer::Polled(Polled::Empty)),
+        (Call::Read, Answer::Read(4, 4, 0)),
+        (Call::Refresh, Answer::Shown),
     ];
-    Ok((entered.leave(), shown))
+    Ok(answers(&rt, rt.alloc(), &cases)?)
 }
 
-#[test]
-fn calls_show_what_happened(rt: HostRuntime) -> Result<(), Fail> {
-    let core = new_node(rt.alloc())?;
-    play::<Brand, _>(&rt, rt.alloc(), Opened::new(), core)
-}
-
-fn play<S: Site, R: Wait + Abort>(
-    rt: &R,
-    alloc: Global,
-    opened: Opened,
-    core: NodeCore,
-) -> Result<(), Fail>
-    requires story { opened.seen.book ≡ S.story }
-    requires opening { S.opening ≡ core.node }
-{
-    let (story, start) = opened.named::<S>();
-    let (mut locked, mut readers) = Locked::<S, &R>::open(alloc, rt, story, start, core, 2)?;
-    let reader = readers.pop().ok_or("a reader")?;
-    let (reader, shown) = upto_both(reader)?;
-    assert_eq!(rt; shown, [0, 0]);
-    write_first(rt, alloc, &mut locked)?;
-    let (reader, shown) = upto_both(reader)?;
-    assert_eq!(rt; shown, [1, 0]);
-    take_first(rt, alloc, &mut locked)?;
-    let (_reader, shown) = upto_both(reader)?;
-    assert_eq!(rt; shown, [1, 1]);
-    Ok(())
-}
-
-/// The first write of a node is shown. Where there was no memory for it, the next call makes up for it.
-fn write_first<S: Site, H: Wait + Drop, R: Wait + Abort>(
-    rt: &R,
-    alloc: Global,
-    locked: &mut Locked<S, H>,
-) -> Result<(), Fail> {
-    let write = first_write(alloc, b"a")?;
-    let shown = locked.take_own(rt, &write)? || locked.refresh();
-    assert_eq!(rt; (shown, locked.front().len()), (true, 1));
-    Ok(())
-}
-
-/// So is a delta with the first write of b.
-fn take_first<S: Site, H: Wait + Drop, R: Wait + Abort>(
-    rt: &R,
-    alloc: Global,
-    locked: &mut Locked<S, H>,
-) -> Result<(), Fail> {
-    let delta = delta_of_b(alloc)?;
-    let (ends, shown) = locked.apply(rt, &delta)?;
-    assert!(rt; ends.ends() == [BlockEnd::Taken(1)].as_slice());
-    let shown = shown || locked.refresh();
-    assert_eq!(rt; (shown, locked.front().len()), (true, 2));
-    Ok(())
-}
-
-#[test]
-fn a_refused_write_leaves_all(rt: HostRuntime) -> Result<(), Fail> {
-    let core = new_node(rt.alloc())?;
-    refuse::<Brand, _>(&rt, rt.alloc(), Opened::new(), core)
-}
-
-fn refuse<S: Site, R: Wait + Abort>(
-    rt: &R,
-    alloc: Global,
-    opened: Opened,
-    core: NodeCore,
-) -> Result<(), Fail>
-    requires story { opened.seen.book ≡ S.story }
-    requires opening { S.opening ≡ core.node }
-{
-    let (story, start) = opened.named::<S>();
-    let (mut locked, _readers) = Locked::<S, &R>::open(alloc, rt, story, start, core, 1)?;
-    let write = first_write(alloc, b"a")?;
-    locked.take_own(rt, &write)?;
-    assert_eq!(rt; locked.take_own(rt, &write), Err(Fault::OutOfTurn(2)));
-    assert_eq!(rt;
-        locked.take_own(rt, &first_write(alloc, b"b")?),
-        Err(Fault::WrongOwner)
-    );
-    assert_eq!(rt; (locked.front().len(), locked.conflict()), (1, None));
-    Ok(())
-}
-
+/// What a watch of everything is told of own writes, and of those of others, which come to it once.
 #[test]
 fn watches_are_told_once(rt: HostRuntime) -> Result<(), Fail> {
-    let core = new_node(rt.alloc())?;
-    be_told::<Brand, _>(&rt, rt.alloc(), Opened::new(), core)
+    let [own, first, second] = [
+        note(b"a", b"x", 1)?,
+        note(b"b", b"y", 1)?,
+        note(b"b", b"z", 2)?,
+    ];
+    let cases = [
+        (Call::Watch(b"", 4), Answer::Done),
+        (Call::Write(b"x"), Answer::Shown),
+        (Call::Delta(b"b", 0, b"y"), taken(1)),
+        (Call::Delta(b"b", 0, b"y"), ended(BlockEnd::Stale)),
+        (Call::Delta(b"b", 0, b"yz"), taken(1)),
+        (Call::Poll(0), own),
+        (Call::Poll(0), first),
+        (Call::Poll(0), second),
+        (Call::Poll(0), Answer::Polled(Polled::Empty)),
+    ];
+    Ok(answers(&rt, rt.alloc(), &cases)?)
 }
 
-fn be_told<S: Site, R: Wait + Abort>(
-    rt: &R,
-    alloc: Global,
-    opened: Opened,
-    core: NodeCore,
-) -> Result<(), Fail>
-    requires story { opened.seen.book ≡ S.story }
-    requires opening { S.opening ≡ core.node }
-{
-    let (story, start) = opened.named::<S>();
-    let (mut locked, _readers) = Locked::<S, &R>::open(alloc, rt, story, start, core, 1)?;
-    let filter = Filter {
-        owner: None,
-        prefix: Prefix::read(b"")?,
-    };
-    let id = locked.watch(filter, 4)?;
-    locked.take_own(rt, &first_write(alloc, b"a")?)?;
-    let delta = delta_of_b(alloc)?;
-    locked.apply(rt, &delta)?;
-    locked.apply(rt, &delta)?;
-    give_note(rt, &mut locked, id, b"a")?;
-    give_note(rt, &mut locked, id, b"b")?;
-    assert_eq!(rt; locked.poll(id)?, Polled::Empty);
-    fill(rt, &mut locked, filter)?;
-    locked.unwatch(id)?;
-    assert_eq!(rt; locked.poll(id), Err(Fault::NoWatch));
-    Ok(())
+#[test]
+fn watches_that_are_refused(rt: HostRuntime) -> Result<(), Fail> {
+    let no_watch = refused(Fault::NoWatch);
+    let bad_setting = refused(Fault::BadSetting);
+    let cases = [
+        (Call::Watch(b"", 0), bad_setting),
+        (Call::Watch(b"", 1_025), bad_setting),
+        (Call::Watch(b"", 1_024), Answer::Done),
+        (Call::Unwatch(0), Answer::Done),
+        (Call::Poll(0), no_watch),
+        (Call::Unwatch(0), no_watch),
+        (Call::Read, Answer::Read(0, 0, 0)),
+    ];
+    Ok(answers(&rt, rt.alloc(), &cases)?)
 }
 
-/// The watch gives a note of the first write of an owner.
-fn give_note<S: Site, H: Wait + Drop, R: Abort>(
-    rt: &R,
-    locked: &mut Locked<S, H>,
-    id: WatchId,
-    owner: &[u8],
-) -> Result<(), Fail> {
-    match locked.poll(id)? {
-        Polled::Note(note) => assert!(rt; note.owner.bytes() == owner && note.version == 1),
-        _ => return Err("a note".into()),
-    }
-    Ok(())
+#[test]
+fn at_most_64_watches_stand(rt: HostRuntime) -> Result<(), Fail> {
+    let cases = [
+        (Call::Watches(64), Answer::Done),
+        (Call::Watch(b"", 1), refused(Fault::WatchesFull)),
+        (Call::Unwatch(63), Answer::Done),
+        (Call::Watch(b"", 1), Answer::Done),
+    ];
+    Ok(answers(&rt, rt.alloc(), &cases)?)
 }
 
-/// Beside one watch stand 63 others, and no more.
-fn fill<S: Site, H: Wait + Drop, R: Abort>(
-    rt: &R,
-    locked: &mut Locked<S, H>,
-    filter: Filter,
-) -> Result<(), Fail> {
-    for _ in 0..63 {
-        locked.watch(filter, 1)?;
-    }
-    assert_eq!(rt; locked.watch(filter, 1), Err(Fault::WatchesFull));
-    Ok(())
+#[test]
+fn own_writes_come_once(rt: HostRuntime) -> Result<(), Fail> {
+    let cases = [
+        (Call::TakeOfAnother, refused(Fault::WrongOwner)),
+        (Call::Write(b"x"), Answer::Shown),
+        (Call::Take, refused(Fault::OutOfTurn(2))),
+        (Call::Conflict, Answer::Conflict(None)),
+        (Call::Read, Answer::Read(1, 1, 0)),
+        (Call::Tell, Answer::Told(1, 0, 1)),
+    ];
+    Ok(answers(&rt, rt.alloc(), &cases)?)
+}
+
+#[test]
+fn another_writes_under_the_name(rt: HostRuntime) -> Result<(), Fail> {
+    let cases = [
+        (Call::Write(b"x"), Answer::Shown),
+        (Call::Delta(b"a", 0, b"x"), ended(BlockEnd::Own)),
+        (Call::Conflict, Answer::Conflict(None)),
+        (Call::Delta(b"a", 1, b"y"), ended(BlockEnd::OwnAhead(2))),
+        (Call::Conflict, Answer::Conflict(Some(2))),
+        (Call::Write(b"y"), refused(Fault::OwnerConflict(2))),
+        (Call::Read, Answer::Read(3, 1, 0)),
+    ];
+    Ok(answers(&rt, rt.alloc(), &cases)?)
+}
+
+#[test]
+fn writes_of_others_are_shown(rt: HostRuntime) -> Result<(), Fail> {
+    let cases = [
+        (Call::Delta(b"b", 2, b"z"), ended(BlockEnd::Gap)),
+        (Call::Read, Answer::Read(1, 0, 0)),
+        (Call::Delta(b"b", 0, b"xy"), taken(2)),
+        (Call::Read, Answer::Read(2, 0, 2)),
+        (Call::Write(b"x"), Answer::Shown),
+        (Call::Delta(b"b", 2, b"z"), taken(1)),
+        (Call::Read, Answer::Read(4, 1, 3)),
+        (Call::Tell, Answer::Told(1, 3, 2)),
+    ];
+    Ok(answers(&rt, rt.alloc(), &cases)?)
+}
+
+/// The log's next write, its 4,097th, is under a key that the node has no room for.
+#[test]
+fn a_full_table_takes_no_new_key(rt: HostRuntime) -> Result<(), Fail> {
+    let alloc = rt.alloc();
+    let cases = [
+        (Call::Write(b"new"), refused(Fault::TableFull)),
+        (Call::Read, Answer::Read(0, 4_096, 0)),
+    ];
+    let core = node_of(alloc, b"a", full_table(alloc)?)?;
+    Ok(answers_of(&rt, alloc, core, written_log(alloc, 4_096)?, &cases)?)
 }
