@@ -1,0 +1,4 @@
+pub mod Owners
+pub mod Hearing
+pub mod Control
+pub mod Gates
