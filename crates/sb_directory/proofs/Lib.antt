@@ -4,3 +4,5 @@ pub mod Noting
 pub mod Following
 pub mod Keeping
 pub mod Polling
+pub mod Sharing
+pub mod Rising

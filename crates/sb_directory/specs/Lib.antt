@@ -2,3 +2,4 @@ pub mod Reached
 pub mod Notes
 pub mod Locks
 pub mod Seats
+pub mod Serving

@@ -7,6 +7,7 @@ ghost use Rattle.sb_digest.specs.Builders.{IsLongestFront};
 ghost use Rattle.sb_digest.specs.Pairs.{pairs_from};
 ghost use Rattle.sb_budget.specs.Available.{available_for};
 ghost use Rattle.sb_node.specs.Answers.{IsDelta, IsAnswer};
+ghost use Rattle.sb_session.specs.Handlers.{IsRefusal};
 ghost use Rattle.sb_watch.specs.declared.note.Note.{Note};
 ghost use Rattle.sb_watch.specs.declared.note.Polled.TheVariants as answers;
 ghost use Rattle.sb_watch.specs.Hubs.{new_hub, next_id, has_watch, answer_at, with_watch, with_answer, without_watch};
@@ -89,6 +90,7 @@ impl<S: Site, R: Wait + Drop> Locked<S, R> {
     pub fn take_own<Q: Wait>(&mut self, rt: &Q, committed: &Committed) -> Result<bool, Fault>
         ensures answer { IfErr result (λ fault. fault ≢ Fault.NoMemory → spec.own_due self.old committed.now ≡ Err fault) }
         ensures refused { IfErr (spec.own_due self.old committed.now) (λ fault. result ≡ Err fault) }
+        ensures due { OnOk result (spec.own_due self.old committed.now ≡ Ok tt) }
         ensures taken { IfOk result (λ shown. self.new ≡ spec.after_own self.old committed.now.entry self.new.shown) }
         ensures shown { IfOk result (λ shown. spec.Shows shown self.old self.new) }
         ensures err { OnErr result (self.new ≡ self.old) }
@@ -116,6 +118,8 @@ impl<S: Site, R: Wait + Drop> Locked<S, R> {
     pub fn apply<Q: Wait>(&mut self, rt: &Q, delta: &Delta) -> Result<(Report, bool), Fault>
         ensures answer { IfErr result (λ fault. fault ≢ Fault.NoMemory → spec.delta_due self.old ≡ Err fault) }
         ensures refused { IfErr (spec.delta_due self.old) (λ fault. result ≡ Err fault) }
+        ensures fault { IfErr result IsRefusal }
+        ensures due { OnOk result (spec.delta_due self.old ≡ Ok tt) }
         ensures ends { IfOk result (λ r. Treats self.old.core.node delta.now r.0) }
         ensures taken { IfOk result (λ r. self.new ≡ spec.after_delta self.old delta.now r.0 self.new.shown) }
         ensures shown { IfOk result (λ r. spec.Shows r.1 self.old self.new) }
@@ -171,6 +175,13 @@ impl<S: Site, R: Wait + Drop> Locked<S, R> {
             Ok(id) => Ok(id),
             Err(fault) => Err(fault),
         }
+    }
+
+    /// Whether a watch with the id stands.
+    pub fn has_watch(&self, id: WatchId) -> bool
+        ensures { result ≡ has_watch self.now.hub id }
+    {
+        self.hub.has(id)
     }
 
     /// Drops a watch with its notes. `NoWatch` where no watch with the id stands, which changes nothing.

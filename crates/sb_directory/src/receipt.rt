@@ -1,5 +1,6 @@
 //! What calls that change a directory give.
 use sb_holdings::Report;
+use sb_node::NodeCore;
 
 /// A write was entered under this version; whether readers are shown it yet.
 #[derive(Clone, Copy, PartialEq, Eq, Debug)]
@@ -13,4 +14,11 @@ pub struct Receipt {
 pub struct Applied {
     pub ends: Report,
     pub shown: bool,
+}
+
+/// The node of a directory that was closed, and how many events there were since it was opened.
+#[derive(Drop)]
+pub struct Closing {
+    pub core: NodeCore,
+    pub events: u64,
 }

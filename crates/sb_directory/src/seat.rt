@@ -107,6 +107,18 @@ impl<S: Site> ReaderSeat<S> {
         }
     }
 
+    /// Its part of the ledger, with the number of events that its calls made.
+    pub(crate) fn into_share(self) -> Share<S>
+        ensures parts { result.parts ≡ 1 }
+        ensures amount { result.amount ≡ self.events }
+    {
+        let ReaderSeat {
+            reader: _reader,
+            share,
+        } = self;
+        share
+    }
+
     /// Counts an event that a call of it made.
     pub(crate) fn count(&mut self, book: &mut Book<S>)
         ensures total { book.new.total ≡ book.old.total + 1 }
