@@ -1,7 +1,39 @@
 -- Every fault has a number that an answer may give.
 use Rattle.std.proofs.Common.{◌≡◌, true, refl}
 use Rattle.sb_types.specs.declared.fault.Fault.{Fault}
-use Rattle.sb_types.specs.declared.fault.Fault.TheVariants.{NoMemory, BadName, BadKey, BadValue, BadSetting, TableFull, OwnersFull, VersionsSpent, NothingThere, BadMark, BadVersion, BadLength, UnknownKind, Malformed, Closed, ReadFailed, WriteFailed, StoreFailed, LogDamaged, WrongOwner, OwnerConflict, NoHello, WrongCluster, SameName, SecondHello, NoWatch, WatchesFull, Truncated, TurnsSpent, FloorTooHigh, OutOfTurn}
+use Rattle.sb_types.specs.declared.fault.Fault.TheVariants.{
+  NoMemory,
+  BadName,
+  BadKey,
+  BadValue,
+  BadSetting,
+  TableFull,
+  OwnersFull,
+  VersionsSpent,
+  NothingThere,
+  BadMark,
+  BadVersion,
+  BadLength,
+  UnknownKind,
+  Malformed,
+  Closed,
+  ReadFailed,
+  WriteFailed,
+  StoreFailed,
+  LogDamaged,
+  WrongOwner,
+  OwnerConflict,
+  NoHello,
+  WrongCluster,
+  SameName,
+  SecondHello,
+  NoWatch,
+  WatchesFull,
+  Truncated,
+  TurnsSpent,
+  FloorTooHigh,
+  OutOfTurn,
+}
 use Rattle.sb_types.specs.Faults.{number_of}
 use Rattle.sb_codec.specs.Limits.{is_fault_number}
 

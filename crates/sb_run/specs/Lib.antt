@@ -2,3 +2,4 @@ pub mod Owners
 pub mod Hearing
 pub mod Control
 pub mod Gates
+pub mod Pools

@@ -35,7 +35,8 @@ PassesOn told c (Shared receipt) owed seen =
 PassesOn told c (Owed version) owed seen = owed ≡ Some c
 
 -- the log took the write in this call, and what it took is passed on under the version that it gave
-pub record IsStored (old : Log) (told : List Event) (key : List ℕ) (slot : Slot) (stored : Stored) (new : Log) (owed : Option Committed) (seen : List Event) : Type 0 where
+pub record IsStored (old : Log) (told : List Event) (key : List ℕ) (slot : Slot) (stored : Stored)
+    (new : Log) (owed : Option Committed) (seen : List Event) : Type 0 where
   pub committed : Committed
   pub puts : Puts old key slot (Ok committed) new
   pub version : version_of stored ≡ committed.entry.version

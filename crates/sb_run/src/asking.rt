@@ -21,7 +21,8 @@ pub fn ask_control<R: Read, W: Write, K: Ledger>(
     max_reads: u64,
     steps: &mut Steps<K>,
 ) -> Result<Message, Fault>
-    ensures { (left : ℕ) × Asks request.now (R.remaining reader.old) (R.remaining reader.new) (W.contents writer.old) (W.contents writer.new) max_reads left result
+    ensures { (left : ℕ) × Asks request.now (R.remaining reader.old) (R.remaining reader.new)
+        (W.contents writer.old) (W.contents writer.new) max_reads left result
         × (steps.new + left ≡ steps.old + max_reads) }
 {
     match send(alloc, writer, request) {

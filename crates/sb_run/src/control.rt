@@ -6,11 +6,10 @@ ghost use Rattle.sb_codec.specs.declared.message.Message.TheVariants as kinds;
 ghost use Rattle.sb_log.specs.Puts.{IsSettled};
 ghost use Rattle.sb_run.specs.Control.{IsPutReply, IsPageReply, IsLookedUp, Answers, Controls};
 
-use crate::directory::Directory;
 use crate::hearing::hear;
 use crate::owner::Owner;
 use sb_codec::{Ask, Done, Message, Refused};
-use sb_directory::{EnteredSeat, ReaderSeat};
+use sb_directory::{Configured, Directory, EnteredSeat, ReaderSeat};
 use sb_frames::{Steps, send};
 use sb_log::WriteLog;
 use sb_query::answer;
@@ -81,9 +80,9 @@ fn reply_to_ask<S: Site>(
 }
 
 /// Answers a Put: the log takes the write before the directory is told of it.
-fn reply_to_put<L: WriteLog, S: Site, D: Directory<S>, Q: Wait>(
+fn reply_to_put<L: WriteLog, S: Configured, H: Wait + Drop, Q: Wait>(
     rt: &Q,
-    directory: &D,
+    directory: &Directory<S, H>,
     owner: &mut Owner<L>,
     seat: &mut ReaderSeat<S>,
     key: &Key,
@@ -99,16 +98,17 @@ fn reply_to_put<L: WriteLog, S: Site, D: Directory<S>, Q: Wait>(
 }
 
 /// The answer to a request.
-fn reply_to<L: WriteLog, S: Site, D: Directory<S>, Q: Wait>(
+fn reply_to<L: WriteLog, S: Configured, H: Wait + Drop, Q: Wait>(
     rt: &Q,
     alloc: Global,
     settings: &Settings,
-    directory: &D,
+    directory: &Directory<S, H>,
     owner: &mut Owner<L>,
     seat: ReaderSeat<S>,
     request: &Message,
 ) -> (ReaderSeat<S>, Message)
-    ensures answers { Answers L.seen S.opening settings.now.budget owner.old.log owner.old.owed seat request.now owner.new.log owner.new.owed result.0 result.1 }
+    ensures answers { Answers L.seen S.opening settings.now.budget owner.old.log owner.old.owed seat request.now
+        owner.new.log owner.new.owed result.0 result.1 }
     ensures settled { IsSettled (L.seen owner.old.log) (L.leaves owner.old.log) → IsSettled (L.seen owner.new.log) (L.leaves owner.new.log) }
 {
     match request {
@@ -136,13 +136,21 @@ fn reply_to<L: WriteLog, S: Site, D: Directory<S>, Q: Wait>(
 /// end before or inside it; `TurnsSpent` where one more read is needed; `NoMemory`. Each of these is before anything
 /// is answered, and leaves all as it was. Then `WriteFailed`, with how many bytes of the answer are out, and
 /// `NoMemory`, with none: what the request did stands.
-pub fn serve_control<R: Read, W: Write, L: WriteLog, S: Site, D: Directory<S>, Q: Wait, K: Ledger>(
+pub fn serve_control<
+    R: Read,
+    W: Write,
+    L: WriteLog,
+    S: Configured,
+    H: Wait + Drop,
+    Q: Wait,
+    K: Ledger,
+>(
     rt: &Q,
     alloc: Global,
     reader: &mut R,
     writer: &mut W,
     settings: &Settings,
-    directory: &D,
+    directory: &Directory<S, H>,
     owner: &mut Owner<L>,
     seat: ReaderSeat<S>,
     max_reads: u64,

@@ -5,11 +5,9 @@ ghost use Rattle.sb_codec.specs.Limits.{is_version};
 ghost use Rattle.sb_log.specs.Puts.{IsSettled};
 ghost use Rattle.sb_run.specs.Owners.{version_of, count_owed, count_shared, IsHeldBack, IsStored, IsRefused};
 
-use crate::directory::Directory;
-use sb_directory::{ReaderSeat, Receipt};
+use sb_directory::{Configured, Directory, ReaderSeat, Receipt};
 use sb_log::{Committed, WriteLog};
 use sb_types::{Fault, Key, Slot};
-use sb_views::Site;
 use std::sync::Wait;
 
 /// What became of a write that the log took.
@@ -51,10 +49,10 @@ impl<L: WriteLog> Owner<L> {
 
     /// Hands in what is owed. `OwnerConflict` where another node writes under the own name; then the faults of
     /// the directory for what is owed. Each leaves everything as it was.
-    fn settle<S: Site, D: Directory<S>, Q: Wait>(
+    fn settle<S: Configured, H: Wait + Drop, Q: Wait>(
         &mut self,
         rt: &Q,
-        directory: &D,
+        directory: &Directory<S, H>,
         seat: &mut ReaderSeat<S>,
     ) -> Result<(), Fault>
         ensures log { self.new.log ≡ self.old.log }
@@ -81,18 +79,20 @@ impl<L: WriteLog> Owner<L> {
     /// `OwnerConflict` where another node writes under the own name; the faults of the directory for what is owed.
     /// Each of these leaves everything as it was. Then the faults of the log, which take no write; what was owed is
     /// handed in before them.
-    pub fn put<S: Site, D: Directory<S>, Q: Wait>(
+    pub fn put<S: Configured, H: Wait + Drop, Q: Wait>(
         &mut self,
         rt: &Q,
-        directory: &D,
+        directory: &Directory<S, H>,
         seat: &mut ReaderSeat<S>,
         key: &Key,
         slot: &Slot,
     ) -> Result<Stored, Fault>
-        ensures stored { IfOk result (λ stored. IsStored (L.seen self.old.log) seat.old.told key.now slot.now stored (L.seen self.new.log) self.new.owed seat.new.told) }
+        ensures stored { IfOk result (λ stored. IsStored (L.seen self.old.log) seat.old.told key.now slot.now stored
+            (L.seen self.new.log) self.new.owed seat.new.told) }
         ensures version { IfOk result (λ stored. is_version (version_of stored) ≡ true) }
         ensures count { IfOk result (λ stored. seat.new.events ≡ seat.old.events + count_owed self.old.owed + count_shared stored) }
-        ensures refused { IfErr result (λ fault. IsRefused L.seen S.opening self.old.log self.old.owed seat.old key.now slot.now self.new.log self.new.owed seat.new fault) }
+        ensures refused { IfErr result (λ fault. IsRefused L.seen S.opening self.old.log self.old.owed seat.old key.now slot.now
+            self.new.log self.new.owed seat.new fault) }
         ensures settled { IsSettled (L.seen self.old.log) (L.leaves self.old.log) → IsSettled (L.seen self.new.log) (L.leaves self.new.log) }
         ensures grows { IsPrefix seat.old.told seat.new.told }
     {
