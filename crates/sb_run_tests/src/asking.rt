@@ -120,7 +120,11 @@ fn no_whole_answer_is_a_fault(rt: HostRuntime) -> Result<(), Fail> {
         (&DONE[..14], 2, Fault::Truncated),
         (DONE, 0, Fault::TurnsSpent),
         (b"\xa6".as_slice(), 1, Fault::BadMark),
-        (b"\xa7\x01\x00\x00\x00\x01\x55".as_slice(), 1, Fault::UnknownKind(0x55)),
+        (
+            b"\xa7\x01\x00\x00\x00\x01\x55".as_slice(),
+            1,
+            Fault::UnknownKind(0x55),
+        ),
     ] {
         match asked(alloc, held, &mut Vec::new(alloc), &request, max_reads) {
             Err(Fault::NoMemory) => return Err(Fault::NoMemory)?,

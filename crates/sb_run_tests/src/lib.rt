@@ -4,3 +4,5 @@
 
 #[cfg(test)]
 mod asking;
+#[cfg(test)]
+mod owning;
