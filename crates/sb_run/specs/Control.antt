@@ -27,7 +27,7 @@ use Rattle.sb_run.specs.Hearing.{Hears}
 -- what the owner's `put` leaves with this answer
 pub record IsPut {L : Type 0} (seen : L → Log) (opening : Node) (old : L) (owed : Option Committed) (before : Seat) (key : List ℕ) (slot : Slot)
     (new : L) (owes : Option Committed) (after : Seat) (answer : Result Stored Fault) : Type 0 where
-  pub stored : IfOk answer (λ stored. IsStored (seen old) before.told key slot stored (seen new) owes after.told)
+  pub stored : IfOk answer (λ stored. IsStored opening (seen old) before.told key slot stored (seen new) owes after.told)
   pub count : IfOk answer (λ stored. after.events ≡ before.events + count_owed owed + count_shared stored)
   pub refused : IfErr answer (λ fault. IsRefused seen opening old owed before key slot new owes after fault)
   pub grows : IsPrefix before.told after.told

@@ -1,5 +1,3 @@
 pub mod Owners
 pub mod Hearing
 pub mod Control
-pub mod Gates
-pub mod Pools

@@ -2,6 +2,7 @@
 ghost use Rattle.std.specs.Prelude.{◌≡◌, ◌+◌, ℕ, true};
 ghost use Rattle.sb_types.specs.Faults.{number_of};
 ghost use Rattle.sb_codec.specs.Limits.{is_version};
+ghost use Rattle.sb_frames.specs.Sending.{OnlyWhereFailed};
 ghost use Rattle.sb_codec.specs.declared.message.Message.TheVariants as kinds;
 ghost use Rattle.sb_log.specs.Puts.{IsSettled};
 ghost use Rattle.sb_run.specs.Control.{IsPutReply, IsPageReply, IsLookedUp, Answers, Controls};
@@ -10,7 +11,7 @@ use crate::hearing::hear;
 use crate::owner::Owner;
 use sb_codec::{Ask, Done, Message, Refused};
 use sb_directory::{Configured, Directory, EnteredSeat, ReaderSeat};
-use sb_frames::{Steps, send};
+use sb_frames::{LastWrite, Steps, send_telling};
 use sb_log::WriteLog;
 use sb_query::answer;
 use sb_types::{
@@ -101,18 +102,17 @@ fn reply_to_put<L: WriteLog, S: Configured, H: Wait + Drop, Q: Wait>(
 fn reply_to<L: WriteLog, S: Configured, H: Wait + Drop, Q: Wait>(
     rt: &Q,
     alloc: Global,
-    settings: &Settings,
     directory: &Directory<S, H>,
     owner: &mut Owner<L>,
     seat: ReaderSeat<S>,
     request: &Message,
 ) -> (ReaderSeat<S>, Message)
-    ensures answers { Answers L.seen S.opening settings.now.budget owner.old.log owner.old.owed seat request.now
+    ensures answers { Answers L.seen S.opening S.settings.budget owner.old.log owner.old.owed seat request.now
         owner.new.log owner.new.owed result.0 result.1 }
     ensures settled { IsSettled (L.seen owner.old.log) (L.leaves owner.old.log) → IsSettled (L.seen owner.new.log) (L.leaves owner.new.log) }
 {
     match request {
-        Message::Ask(ask) => reply_to_ask(alloc, settings, seat, ask),
+        Message::Ask(ask) => reply_to_ask(alloc, directory.settings(), seat, ask),
         Message::Put(write) => {
             let mut seat = seat;
             let reply = reply_to_put(rt, directory, owner, &mut seat, &write.key, &write.slot);
@@ -130,7 +130,7 @@ fn reply_to<L: WriteLog, S: Configured, H: Wait + Drop, Q: Wait>(
 
 /// Reads one request, with at most `max_reads` reads, and writes one answer: to an Ask its page, to a Put the version
 /// under which the log took the write in this call, and to either the fault that it met; to any other message the
-/// fault `UnknownKind`. The seat comes back.
+/// fault `UnknownKind`. The seat comes back, and it tells what the last write of the call answered.
 ///
 /// `BadMark`, `BadVersion`, `BadLength`, `UnknownKind` or `Malformed` of the request; `ReadFailed`; `Truncated` at an
 /// end before or inside it; `TurnsSpent` where one more read is needed; `NoMemory`. Each of these is before anything
@@ -149,25 +149,27 @@ pub fn serve_control<
     alloc: Global,
     reader: &mut R,
     writer: &mut W,
-    settings: &Settings,
     directory: &Directory<S, H>,
     owner: &mut Owner<L>,
     seat: ReaderSeat<S>,
     max_reads: u64,
     steps: &mut Steps<K>,
-) -> (ReaderSeat<S>, Result<(), Fault>)
+) -> (ReaderSeat<S>, Result<(), Fault>, LastWrite)
     ensures controls { (left : ℕ)
         × Controls ((owner.new.log ≡ owner.old.log) × (owner.new.owed ≡ owner.old.owed) × (result.0 ≡ seat))
-        (λ request reply. Answers L.seen S.opening settings.now.budget owner.old.log owner.old.owed seat request owner.new.log owner.new.owed result.0 reply)
+        (λ request reply. Answers L.seen S.opening S.settings.budget owner.old.log owner.old.owed seat request owner.new.log owner.new.owed result.0 reply)
         (R.remaining reader.old) (R.remaining reader.new) (W.contents writer.old) (W.contents writer.new) max_reads left result.1
         × (steps.new + left ≡ steps.old + max_reads) }
+    // A write that did not fail, or that was made before the call, is no reason to stop.
+    ensures failed { OnlyWhereFailed result.1 result.2 }
     ensures settled { IsSettled (L.seen owner.old.log) (L.leaves owner.old.log) → IsSettled (L.seen owner.new.log) (L.leaves owner.new.log) }
 {
     match hear(alloc, reader, max_reads, steps) {
         Ok(request) => {
-            let (seat, reply) = reply_to(rt, alloc, settings, directory, owner, seat, &request);
-            (seat, send(alloc, writer, &reply))
+            let (seat, reply) = reply_to(rt, alloc, directory, owner, seat, &request);
+            let (sent, last) = send_telling(alloc, writer, &reply);
+            (seat, sent, last)
         }
-        Err(fault) => (seat, Err(fault)),
+        Err(fault) => (seat, Err(fault), LastWrite::new()),
     }
 }

@@ -1,5 +1,6 @@
 //! The one message of a connection.
-ghost use Rattle.std.specs.Prelude.{◌≡◌, ◌+◌, ℕ};
+ghost use Rattle.std.specs.Prelude.{◌≡◌, ◌+◌, ℕ, Bool};
+ghost use Rattle.sb_frames.specs.Sending.{OnlyWhereFailed};
 ghost use Rattle.sb_run.specs.Hearing.{Hears};
 
 use sb_codec::Message;
@@ -18,7 +19,9 @@ pub(crate) fn hear<R: Read, K: Ledger>(
     max_reads: u64,
     steps: &mut Steps<K>,
 ) -> Result<Message, Fault>
-    ensures { (left : ℕ) × Hears (R.remaining reader.old) (R.remaining reader.new) max_reads left result × (steps.new + left ≡ steps.old + max_reads) }
+    ensures hears { (left : ℕ) × Hears (R.remaining reader.old) (R.remaining reader.new) max_reads left result × (steps.new + left ≡ steps.old + max_reads) }
+    // It writes nothing, and no fault of it says that a write failed.
+    ensures unwritten { (has_failed : Bool) → OnlyWhereFailed result has_failed }
 {
     let mut frames = Frames::new(alloc);
     match receive(reader, &mut frames, max_reads, steps) {

@@ -87,7 +87,7 @@ impl<L: WriteLog> Owner<L> {
         key: &Key,
         slot: &Slot,
     ) -> Result<Stored, Fault>
-        ensures stored { IfOk result (λ stored. IsStored (L.seen self.old.log) seat.old.told key.now slot.now stored
+        ensures stored { IfOk result (λ stored. IsStored S.opening (L.seen self.old.log) seat.old.told key.now slot.now stored
             (L.seen self.new.log) self.new.owed seat.new.told) }
         ensures version { IfOk result (λ stored. is_version (version_of stored) ≡ true) }
         ensures count { IfOk result (λ stored. seat.new.events ≡ seat.old.events + count_owed self.old.owed + count_shared stored) }

@@ -110,23 +110,12 @@ fn serve_one<S: Configured, R: Wait, K: Ledger>(
     requires parts { blank.parts ≡ K.parts }
     requires some { 0 < blank.parts }
 {
-    let Ok(settings) = settings() else {
-        return (seat, Err(Fault::BadSetting));
-    };
     let mut steps = Steps::<K>::new(blank);
     let mut reader = request;
-    serve_control(
-        rt,
-        alloc,
-        &mut reader,
-        answer,
-        &settings,
-        directory,
-        owner,
-        seat,
-        1,
-        &mut steps,
-    )
+    let (seat, ended, _) = serve_control(
+        rt, alloc, &mut reader, answer, directory, owner, seat, 1, &mut steps,
+    );
+    (seat, ended)
 }
 
 #[test]
