@@ -24,20 +24,24 @@ use crate::under::Under;
 use sb_digest::Digest;
 use sb_log::Committed;
 use sb_node::NodeCore;
-use sb_types::{Delta, Fault, Name, SEATS_MOST};
-use sb_views::{Opened, Site};
+use sb_types::{Delta, Fault, Name, SEATS_MOST, Settings};
+use sb_views::Opened;
 use sb_watch::{Filter, Polled, WatchId};
 use std::alloc::Global;
 use std::marker::PhantomData;
 use std::sync::ledger::Blank;
 use std::sync::{Mutex, Wait};
 
-/// How many seats there are.
+/// What never changes: how many seats there are, and the settings and the name of the node.
 #[derive(Drop)]
-struct Count<S: Site> {
+struct Fixed<S: Configured> {
     seats: usize,
+    settings: Settings,
+    name: Name,
     of: PhantomData<S>,
     ghost all: { seats ≡ S.seats },
+    ghost set: { settings ≡ S.settings },
+    ghost named: { name ≡ S.opening.held.me },
 }
 
 /// A node that threads share, each from a seat of its own. Each call takes the one lock, so that its answer is that of the
@@ -45,7 +49,7 @@ struct Count<S: Site> {
 #[derive(Drop)]
 pub struct Directory<S: Configured, R: Wait + Drop> {
     under: Mutex<Under<S, R>>,
-    count: Count<S>,
+    fixed: Fixed<S>,
 }
 
 impl<S: Configured, R: Wait + Drop> Directory<S, R> {
@@ -73,16 +77,32 @@ impl<S: Configured, R: Wait + Drop> Directory<S, R> {
         if seats < 1 || seats as u64 > SEATS_MOST {
             return Err(Fault::BadSetting);
         }
+        let fixed = Fixed {
+            seats,
+            settings: core.settings(),
+            name: *core.name(),
+            of: PhantomData,
+        };
         let (story, start) = opened.named::<S>();
         let (locked, readers) = Locked::open(alloc, rt, story, start, core, seats)?;
         let (book, mut rest) = blank.open::<S>();
         let made = seat_all(alloc, readers, &mut rest)?;
-        let count = Count {
-            seats,
-            of: PhantomData,
-        };
         let under = Mutex::new(Under::new(locked, book, rest));
-        Ok((Directory { under, count }, made))
+        Ok((Directory { under, fixed }, made))
+    }
+
+    /// The settings of the node. It takes no lock.
+    pub fn settings(&self) -> &Settings
+        ensures { result.now ≡ S.settings }
+    {
+        &self.fixed.settings
+    }
+
+    /// The name of the node. It takes no lock.
+    pub fn name(&self) -> &Name
+        ensures { result.now ≡ S.opening.held.me }
+    {
+        &self.fixed.name
     }
 
     /// Enters a committed write of the node's own, tells watches of it, and shows readers all that happened; gives its
@@ -216,12 +236,12 @@ impl<S: Configured, R: Wait + Drop> Directory<S, R> {
         ensures refused { IfErr result (λ back. (back.0 ≡ Fault.BadSetting) × (back.2.items ≡ seats.items)) }
         ensures all { MatchResult result (λ _. length seats.items ≡ S.seats) (λ _. length seats.items ≢ S.seats) }
     {
-        if seats.len() != self.count.seats {
+        if seats.len() != self.fixed.seats {
             return Err((Fault::BadSetting, self, seats));
         }
         let Self {
             under,
-            count: _count,
+            fixed: _fixed,
         } = self;
         Ok(under.into_inner().close(rt, seats))
     }
