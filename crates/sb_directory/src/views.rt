@@ -105,12 +105,7 @@ impl<S: Site, R: Wait + Drop> Views<S, R> {
 
     /// Shows readers the node as it stands, after these events, and says whether there was memory for it. Where there
     /// was none, what is shown stays, and what could not be appended is appended by the next call.
-    pub(crate) fn show(
-        &mut self,
-        core: &NodeCore,
-        front: &Front<S>,
-        behind: &mut Behind,
-    ) -> bool
+    pub(crate) fn show(&mut self, core: &NodeCore, front: &Front<S>, behind: &mut Behind) -> bool
         requires node { core.now.node ≡ node_after S.opening front.now }
         requires begins { IsPrefix self.old.ready front.now }
         requires grown { AreGrown (node_after S.opening self.old.ready).held core.now.node.held }
