@@ -24,7 +24,7 @@ use Rattle.sb_session.specs.Handlers.{Act}
 use Rattle.sb_session.specs.Sessions.{Session, hello_of}
 use Rattle.sb_session.specs.Taking.{TakesUnless, TakesUp, AnswersDigest, Asks, messages_of, bye_of}
 use Rattle.sb_session.specs.Telling.{CutShort, Says}
-use Rattle.sb_session.specs.Talks.{Party, party_of, ends_round, rounds_after, are_done, Speaks, SpeaksOn, Move, hears, speaks, Moves, Refuses, Run, heard_in, Ends, at_end, at_bye, at_rounds, at_reading, at_message, at_speaking, at_writing, Talks, Hearing, Speaking}
+use Rattle.sb_session.specs.Talks.{Party, party_of, ends_round, rounds_after, are_done, Speaks, SpeaksOn, Move, hears, speaks, Moves, Refuses, Run, heard_in, Ends, at_end, at_bye, at_rounds, at_reading, at_message, at_speaking, at_writing, Talks, Hearing, Speaking, Turning, by_fault, by_bye, in_round, at_turn}
 use Rattle.sb_session.proofs.Saying.{kept_after, cut_behind, put_behind}
 
 -- the message that a move takes out of what was read
@@ -387,17 +387,72 @@ speaking_digest step rounds n message s h s' h' old new result is some asks says
 pub same_reason : (x y : ℕ) (r : Result ℕ Fault) → r ≡ Ok x → r ≡ Ok y → x ≡ y
 same_reason x y r e f = cc
 
+-- ---- a whole turn
+
 -- after a message: whether it is this end's turn, and the rounds that are left
-pub talk_turns : {H : Type 0} (step : H → Act → H
-    → Type 0) (a : Party H) (m : Message) (ends b : Bool) (rounds after : Option ℕ) (s : Session) (h : H) (frames : Stream) (from to old new : Option (List ℕ)) (before left : ℕ)
-    → ends ≡ ends_round m → after ≡ rounds_after ends rounds → ends ≡ b
+talk_turns : {H : Type 0} (step : H → Act → H
+    → Type 0) (a : Party H) (m : Message) (b : Bool) (rounds after : Option ℕ) (s : Session) (h : H) (frames : Stream) (from to old new : Option (List ℕ)) (before left : ℕ)
+    → ends_round m ≡ b → after ≡ rounds_after b rounds
     → Talking step a (party_of (ends_round m) (rounds_after (ends_round m) rounds) s h) [] frames from to old new before left
     → Talking step a (party_of b after s h) [] frames from to old new before left
-talk_turns step a m ends b rounds after s h frames from to old new before left is counted turn t =
-    let same : ends_round m ≡ b = sym is ∙ turn in
-    let rest : rounds_after b rounds ≡ after = sym (counted ∙ ap (λ (x : Bool). rounds_after x rounds) turn) in
-    subst (λ (x : Option ℕ). Talking step a (party_of b x s h) [] frames from to old new before left) rest
-    (subst (λ (y : Bool). Talking step a (party_of y (rounds_after y rounds) s h) [] frames from to old new before left) same t)
+talk_turns step a m b rounds after s h frames from to old new before left turn counted t =
+    subst (λ (x : Option ℕ). Talking step a (party_of b x s h) [] frames from to old new before left) (sym counted)
+    (subst (λ (y : Bool). Talking step a (party_of y (rounds_after y rounds) s h) [] frames from to old new before left) turn t)
 
-pub still_goes : (ends : Bool) (rounds after : Option ℕ) → after ≡ rounds_after ends rounds → ends ≡ false → are_done rounds ≡ false → are_done after ≡ false
-still_goes ends rounds after counted turn goes = ap are_done (counted ∙ ap (λ (x : Bool). rounds_after x rounds) turn) ∙ goes
+module _ {H : Type 0} (step : H → Act → H
+    → Type 0) (a : Party H) (was rounds : Option ℕ) (s : Session) (h : H) (s' : Session) (h' : H) (m : Message) (frames : Stream) (from to old mid new : Option (List ℕ)) (before left : ℕ) where
+  pub turn_goes : are_done was ≡ false → Turning step m (party_of false was s h) (party_of false rounds s' h') mid new (Ok None) → are_done rounds ≡ false
+  turn_goes goes (by_fault fault is hearing) = absurd cc is
+  turn_goes goes (by_bye reason is hearing) = absurd cc is
+  turn_goes goes (in_round is quiet same hearing) = ap are_done same ∙ goes
+  turn_goes goes (at_turn s1 h1 between (Ok true) is ends counted hearing speaking) = absurd cc is
+  turn_goes goes (at_turn s1 h1 between (Ok false) is ends counted hearing speaking) = goes_on step a rounds s1 h1 s' h' frames from to old between new before left speaking
+  turn_goes goes (at_turn s1 h1 between (Err fault) is ends counted hearing speaking) = absurd cc is
+
+  -- this end's turn to speak
+  turn_comes : (s1 : Session) (h1 : H) (between : Option (List ℕ)) → are_done was ≡ false → Talking step a (party_of false was s h) (m ∷ []) frames from to old mid before left
+      → ends_round m ≡ true → rounds ≡ rounds_after true was → Hearing step m s h s1 h1 mid between (Ok None)
+      → Talking step a (party_of true rounds s1 h1) [] frames from to old between before left
+  turn_comes s1 h1 between goes t ends counted hearing =
+      talk_turns step a m true was rounds s1 h1 frames from to old between before left ends counted
+      (talk_heard step a was s h s1 h1 frames from to old mid between before left m goes t hearing)
+
+  pub turn_goes_on : are_done was ≡ false → Talking step a (party_of false was s h) (m ∷ []) frames from to old mid before left
+      → Turning step m (party_of false was s h) (party_of false rounds s' h') mid new (Ok None)
+      → Talking step a (party_of false rounds s' h') [] frames from to old new before left
+  turn_goes_on goes t (by_fault fault is hearing) = absurd cc is
+  turn_goes_on goes t (by_bye reason is hearing) = absurd cc is
+  turn_goes_on goes t (in_round is quiet same hearing) =
+      talk_turns step a m false was rounds s' h' frames from to old new before left quiet same (talk_heard step a was s h s' h' frames from to old mid new before left m goes t hearing)
+  turn_goes_on goes t (at_turn s1 h1 between (Ok true) is ends counted hearing speaking) = absurd cc is
+  turn_goes_on goes t (at_turn s1 h1 between (Ok false) is ends counted hearing speaking) =
+      talk_spoke step a rounds s1 h1 s' h' frames from to old between new before left (turn_comes s1 h1 between goes t ends counted hearing) speaking
+  turn_goes_on goes t (at_turn s1 h1 between (Err fault) is ends counted hearing speaking) = absurd cc is
+
+  pub turn_ends : (ended : Ended) → are_done was ≡ false → Talking step a (party_of false was s h) (m ∷ []) frames from to old mid before left
+      → Turning step m (party_of false was s h) (party_of false rounds s' h') mid new (Ok (Some ended))
+      → Talks step a h' from to old new before left (Ok ended)
+  turn_ends ended goes t (by_fault fault is hearing) = absurd cc is
+  turn_ends ended goes t (by_bye reason is hearing) =
+      let same : ended ≡ endings.Bye reason = cc is in
+      rw same (talk_heard_bye step a was s h s' h' frames from to old mid new before left m reason goes t hearing)
+  turn_ends ended goes t (in_round is quiet same hearing) = absurd cc is
+  turn_ends ended goes t (at_turn s1 h1 between (Ok true) is ends counted hearing speaking) =
+      let same : ended ≡ endings.RoundsDone = cc is in
+      rw same (talk_done step a rounds s1 h1 s' h' frames from to old between new before left (turn_comes s1 h1 between goes t ends counted hearing) speaking)
+  turn_ends ended goes t (at_turn s1 h1 between (Ok false) is ends counted hearing speaking) = absurd cc is
+  turn_ends ended goes t (at_turn s1 h1 between (Err fault) is ends counted hearing speaking) = absurd cc is
+
+  pub turn_fails : (fault : Fault) → are_done was ≡ false → Talking step a (party_of false was s h) (m ∷ []) frames from to old mid before left
+      → Turning step m (party_of false was s h) (party_of false rounds s' h') mid new (Err fault)
+      → Talks step a h' from to old new before left (Err fault)
+  turn_fails fault goes t (by_fault met is hearing) =
+      let same : fault ≡ met = cc is in
+      rw same (talk_heard_fault step a was s h s' h' frames from to old mid new before left m met goes t hearing)
+  turn_fails fault goes t (by_bye reason is hearing) = absurd cc is
+  turn_fails fault goes t (in_round is quiet same hearing) = absurd cc is
+  turn_fails fault goes t (at_turn s1 h1 between (Ok true) is ends counted hearing speaking) = absurd cc is
+  turn_fails fault goes t (at_turn s1 h1 between (Ok false) is ends counted hearing speaking) = absurd cc is
+  turn_fails fault goes t (at_turn s1 h1 between (Err met) is ends counted hearing speaking) =
+      let same : fault ≡ met = cc is in
+      rw same (talk_spoke_fault step a rounds s1 h1 s' h' frames from to old between new before left met (turn_comes s1 h1 between goes t ends counted hearing) speaking)

@@ -135,3 +135,21 @@ abbrev pub Speaking : {H : Type 0} → (H → Act → H → Type 0) → Option �
 Speaking step rounds s h s' h' old new result =
     ((said : List Message) × Speaks step rounds s h said s' h' × Says old new said result × IfOk result (λ done. done ≡ are_done rounds))
     ⊎ ((fault : Fault) × (result ≡ Err fault) × (are_done rounds ≡ false) × Asks step s h (Err fault) s' h' × Keeps old new)
+
+-- what this end gives where it spoke at the end of a round
+abbrev pub ending_of : Result Bool Fault → Result (Option Ended) Fault
+ending_of (Ok true) = Ok (Some endings.RoundsDone)
+ending_of (Ok false) = Ok None
+ending_of (Err fault) = Err fault
+
+-- one turn of a talk: a message is heard, and where it ends a round this end speaks; how the talk ends, where it does
+pub data Turning {H : Type 0} (step : H → Act → H → Type 0) (message : Message) (a b : Party H) (old new : Option (List ℕ)) (result : Result (Option Ended) Fault) : Type 0 where
+  by_fault : (fault : Fault) → result ≡ Err fault → Hearing step message a.session a.handler b.session b.handler old new (Err fault)
+      → Turning step message a b old new result
+  by_bye : (reason : ℕ) → result ≡ Ok (Some (endings.Bye reason)) → Hearing step message a.session a.handler b.session b.handler old new (Ok (Some reason))
+      → Turning step message a b old new result
+  in_round : result ≡ Ok None → ends_round message ≡ false → b.rounds ≡ a.rounds → Hearing step message a.session a.handler b.session b.handler old new (Ok None)
+      → Turning step message a b old new result
+  at_turn : (s : Session) (h : H) (mid : Option (List ℕ)) (spoke : Result Bool Fault) → result ≡ ending_of spoke → ends_round message ≡ true
+      → b.rounds ≡ rounds_after true a.rounds → Hearing step message a.session a.handler s h old mid (Ok None) → Speaking step b.rounds s h b.session b.handler mid new spoke
+      → Turning step message a b old new result

@@ -4,7 +4,7 @@ ghost use Rattle.std.specs.Prelude.{◌≡◌, ◌+◌, ℕ, true, false, [], �
 ghost use Rattle.sb_frames.specs.Sending.{OnlyWhereFailed};
 ghost use Rattle.sb_session.specs.Telling.{Says};
 ghost use Rattle.sb_session.specs.Taking.{messages_of, bye_of};
-ghost use Rattle.sb_session.specs.Talks.{party_of, ends_round, rounds_after, Hearing, Speaking, Talks};
+ghost use Rattle.sb_session.specs.Talks.{party_of, ends_round, rounds_after, Hearing, Speaking, Turning, Talks};
 
 use crate::handler::Handler;
 use crate::replies::Replies;
@@ -133,6 +133,35 @@ fn rounds_after(ends: bool, rounds: Option<u64>) -> Option<u64>
     }
 }
 
+/// One turn of a talk: takes a message and answers it, and speaks where the message ended a round. Gives how the talk
+/// ends, where it does.
+fn turn<W: Write, H: Handler>(
+    buffer: &mut Vec<u8>,
+    writer: &mut W,
+    last: &mut LastWrite,
+    session: &mut Session,
+    handler: &mut H,
+    rounds: &mut Option<u64>,
+    message: Message,
+) -> Result<Option<Ended>, Fault>
+    ensures turns { Turning H.step message (party_of false rounds.old session.old handler.old) (party_of false rounds.new session.new handler.new)
+        (W.contents writer.old) (W.contents writer.new) result }
+    ensures failed { OnlyWhereFailed result last.new }
+    ensures grows { H.grows handler.old handler.new }
+{
+    let ends = ends_round(&message);
+    if let Some(reason) = hear(buffer, writer, last, session, handler, message)? {
+        return Ok(Some(Ended::Bye(reason)));
+    }
+    *rounds = rounds_after(ends, *rounds);
+    if ends {
+        if speak(buffer, writer, last, session, handler, *rounds)? {
+            return Ok(Some(Ended::RoundsDone));
+        }
+    }
+    Ok(None)
+}
+
 /// Says Hello, and then speaks, hears and answers until the talk ends: it begins with this session, and with
 /// so many rounds where it dials.
 fn talk<R: Read, W: Write, H: Handler, L: Ledger>(
@@ -159,15 +188,17 @@ fn talk<R: Read, W: Write, H: Handler, L: Ledger>(
         return Ok(Ended::RoundsDone);
     }
     while let Some(message) = receive_within(reader, &mut frames, &mut left, steps)? {
-        let ends = ends_round(&message);
-        if let Some(reason) = hear(&mut buffer, writer, last, &mut session, handler, message)? {
-            return Ok(Ended::Bye(reason));
-        }
-        rounds = rounds_after(ends, rounds);
-        if ends {
-            if speak(&mut buffer, writer, last, &mut session, handler, rounds)? {
-                return Ok(Ended::RoundsDone);
-            }
+        let ended = turn(
+            &mut buffer,
+            writer,
+            last,
+            &mut session,
+            handler,
+            &mut rounds,
+            message,
+        )?;
+        if let Some(ended) = ended {
+            return Ok(ended);
         }
     }
     Ok(Ended::End)

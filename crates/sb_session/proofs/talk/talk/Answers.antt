@@ -12,11 +12,10 @@ use Rattle.sb_session.proofs.Talking.{
   talk_reading,
   talk_at_end,
   talk_receives,
-  talk_heard,
-  talk_heard_fault,
-  talk_heard_bye,
-  talk_turns,
-  still_goes,
+  turn_fails,
+  turn_ends,
+  turn_goes_on,
+  turn_goes,
 }
 use Rattle.sb_session.proofs.talk.talk.Goals as goal
 
@@ -110,182 +109,35 @@ returns-in_err-message-clause-failed g c =
     received_wrote c.from_residual-in_err-message.result c.loop-buffer.frames c.receive_within.new.frames (rem c.loop-buffer.reader) (rem c.receive_within.new.reader) c.loop-buffer.left
     c.receive_within.new.left _ c.loop-buffer.last (p.1 ∙ ap Err p.2) c.in_err-message.ensures.gives
 
-pub returns-in_err-reason-clause-talks : goal.returns-in_err-reason-clause-talks
-returns-in_err-reason-clause-talks g c =
-    let step = g.H.Handler.step in
-    let rem = g.R.Read.remaining in
-    let put = g.W.Write.contents in
-    let a = party_of true c.args.all c.args.first c.args.handler.now in
-    let now = party_of false c.loop-buffer.rounds c.loop-buffer.session c.loop-buffer.handler in
-    let from = rem c.args.reader.now in
-    let to = rem c.receive_within.new.reader in
-    let old = put c.args.writer.now in
-    let was = put c.loop-buffer.writer in
-    let after = c.receive_within.new.frames in
-    let less = c.receive_within.new.left in
+pub returns-in_err-ended-clause-talks : goal.returns-in_err-ended-clause-talks
+returns-in_err-ended-clause-talks g c =
     let i = c.loop-buffer.invariant in
-    let m = c.in-Some.message in
-    let pending = talk_receives step a now m c.loop-buffer.frames after from (rem c.loop-buffer.reader) to old was c.args.max_reads c.loop-buffer.left less i.talking (rw
-    c.in-Some.is at c.in_ok-message.ensures.gives) in
-    let p = err_from_is_err_and c.from_residual-in_err-reason.result c.from_residual-in_err-reason.ensures.1 in (
-      less,
-      rw (p.1, p.2) (talk_heard_fault step a c.loop-buffer.rounds c.loop-buffer.session c.loop-buffer.handler c.hear.new.session c.hear.new.handler after from to old was (put
-          c.hear.new.writer) c.args.max_reads less m _ i.goes pending c.in_err-reason.ensures.hears),
-      omega (arith, c.loop-buffer.invariant.counted, c.receive_within.ensures.counted),
+    let came = talk_receives _ _ _ c.in-Some.message _ _ _ _ _ _ _ _ _ _ i.talking (rw c.in-Some.is at c.in_ok-message.ensures.gives) in
+    let p = err_from_is_err_and c.from_residual-in_err-ended.result c.from_residual-in_err-ended.ensures.1 in (
+      c.receive_within.new.left,
+      rw (p.1, p.2) (turn_fails _ _ _ _ _ _ _ _ _ _ _ _ _ _ _ _ _ _ i.goes came c.in_err-ended.ensures.turns),
+      omega (arith, i.counted, c.receive_within.ensures.counted),
     )
 
-pub returns-in-Some-2-clause-talks : goal.returns-in-Some-2-clause-talks
-returns-in-Some-2-clause-talks g c =
-    let step = g.H.Handler.step in
-    let rem = g.R.Read.remaining in
-    let put = g.W.Write.contents in
-    let a = party_of true c.args.all c.args.first c.args.handler.now in
-    let now = party_of false c.loop-buffer.rounds c.loop-buffer.session c.loop-buffer.handler in
-    let from = rem c.args.reader.now in
-    let to = rem c.receive_within.new.reader in
-    let old = put c.args.writer.now in
-    let was = put c.loop-buffer.writer in
-    let after = c.receive_within.new.frames in
-    let less = c.receive_within.new.left in
+pub returns-in-Some-ended-clause-talks : goal.returns-in-Some-ended-clause-talks
+returns-in-Some-ended-clause-talks g c =
     let i = c.loop-buffer.invariant in
-    let m = c.in-Some.message in
-    let pending = talk_receives step a now m c.loop-buffer.frames after from (rem c.loop-buffer.reader) to old was c.args.max_reads c.loop-buffer.left less i.talking (rw
-    c.in-Some.is at c.in_ok-message.ensures.gives) in (
-      less,
-      talk_heard_bye step a c.loop-buffer.rounds c.loop-buffer.session c.loop-buffer.handler c.hear.new.session c.hear.new.handler after from to old was (put
-          c.hear.new.writer) c.args.max_reads less m c.in-Some-2.reason i.goes pending (rw c.in-Some-2.is at c.in_ok-reason.ensures.hears),
-      omega (
-        arith,
-        c.loop-buffer.invariant.counted,
-        c.receive_within.ensures.counted,
-      ),
+    let came = talk_receives _ _ _ c.in-Some.message _ _ _ _ _ _ _ _ _ _ i.talking (rw c.in-Some.is at c.in_ok-message.ensures.gives) in (
+      c.receive_within.new.left,
+      turn_ends _ _ _ _ _ _ _ _ _ _ _ _ _ _ _ _ _ c.in-Some-ended.ended i.goes came (rw c.in-Some-ended.is at c.in_ok-ended.ensures.turns),
+      omega (arith, i.counted, c.receive_within.ensures.counted),
     )
-
-pub returns-in_err-speak-2-clause-talks : goal.returns-in_err-speak-2-clause-talks
-returns-in_err-speak-2-clause-talks g c =
-    let step = g.H.Handler.step in
-    let rem = g.R.Read.remaining in
-    let put = g.W.Write.contents in
-    let a = party_of true c.args.all c.args.first c.args.handler.now in
-    let now = party_of false c.loop-buffer.rounds c.loop-buffer.session c.loop-buffer.handler in
-    let from = rem c.args.reader.now in
-    let to = rem c.receive_within.new.reader in
-    let old = put c.args.writer.now in
-    let was = put c.loop-buffer.writer in
-    let after = c.receive_within.new.frames in
-    let less = c.receive_within.new.left in
-    let i = c.loop-buffer.invariant in
-    let m = c.in-Some.message in
-    let pending = talk_receives step a now m c.loop-buffer.frames after from (rem c.loop-buffer.reader) to old was c.args.max_reads c.loop-buffer.left less i.talking (rw
-    c.in-Some.is at c.in_ok-message.ensures.gives) in
-    let heard = talk_heard step a c.loop-buffer.rounds c.loop-buffer.session c.loop-buffer.handler c.hear.new.session c.hear.new.handler after from to old was (put
-    c.hear.new.writer) c.args.max_reads less m i.goes pending (rw c.in_default-2.is at c.in_ok-reason.ensures.hears) in
-    let turned = talk_turns step a m c.ends_round-ends.result true c.loop-buffer.rounds c.rounds_after-rounds.result c.hear.new.session c.hear.new.handler after from to old (put
-    c.hear.new.writer) c.args.max_reads less
-    c.ends_round-ends.ensures c.rounds_after-rounds.ensures c.if-ends.true heard in
-    let p = err_from_is_err_and c.from_residual-in_err-speak-2.result c.from_residual-in_err-speak-2.ensures.1 in (
-      less,
-      rw (p.1, p.2) (talk_spoke_fault step a c.rounds_after-rounds.result c.hear.new.session c.hear.new.handler c.speak-then-ends.new.session c.speak-then-ends.new.handler
-          after from to old (put c.hear.new.writer) (put c.speak-then-ends.new.writer) c.args.max_reads less _ turned c.in_err-speak-2.ensures.speaks),
-      omega (
-        arith,
-        c.loop-buffer.invariant.counted,
-        c.receive_within.ensures.counted,
-      ),
-    )
-
-pub returns-then-branch-2-clause-talks : goal.returns-then-branch-2-clause-talks
-returns-then-branch-2-clause-talks g c =
-    let step = g.H.Handler.step in
-    let rem = g.R.Read.remaining in
-    let put = g.W.Write.contents in
-    let a = party_of true c.args.all c.args.first c.args.handler.now in
-    let now = party_of false c.loop-buffer.rounds c.loop-buffer.session c.loop-buffer.handler in
-    let from = rem c.args.reader.now in
-    let to = rem c.receive_within.new.reader in
-    let old = put c.args.writer.now in
-    let was = put c.loop-buffer.writer in
-    let after = c.receive_within.new.frames in
-    let less = c.receive_within.new.left in
-    let i = c.loop-buffer.invariant in
-    let m = c.in-Some.message in
-    let pending = talk_receives step a now m c.loop-buffer.frames after from (rem c.loop-buffer.reader) to old was c.args.max_reads c.loop-buffer.left less i.talking (rw
-    c.in-Some.is at c.in_ok-message.ensures.gives) in
-    let heard = talk_heard step a c.loop-buffer.rounds c.loop-buffer.session c.loop-buffer.handler c.hear.new.session c.hear.new.handler after from to old was (put
-    c.hear.new.writer) c.args.max_reads less m i.goes pending (rw c.in_default-2.is at c.in_ok-reason.ensures.hears) in
-    let turned = talk_turns step a m c.ends_round-ends.result true c.loop-buffer.rounds c.rounds_after-rounds.result c.hear.new.session c.hear.new.handler after from to old (put
-    c.hear.new.writer) c.args.max_reads less
-    c.ends_round-ends.ensures c.rounds_after-rounds.ensures c.if-ends.true heard in (
-      less,
-      talk_done step a c.rounds_after-rounds.result c.hear.new.session c.hear.new.handler c.speak-then-ends.new.session c.speak-then-ends.new.handler after from to old (put
-          c.hear.new.writer) (put c.speak-then-ends.new.writer) c.args.max_reads less turned (rw c.if-branch-2.true at c.in_ok-speak-2.ensures.speaks),
-      omega (
-        arith,
-        c.loop-buffer.invariant.counted,
-        c.receive_within.ensures.counted,
-      ),
-    )
-
-pub loop-buffer-preserved-else-branch-2 : goal.loop-buffer-preserved-else-branch-2
-loop-buffer-preserved-else-branch-2 g c =
-    let step = g.H.Handler.step in
-    let rem = g.R.Read.remaining in
-    let put = g.W.Write.contents in
-    let a = party_of true c.args.all c.args.first c.args.handler.now in
-    let now = party_of false c.loop-buffer.rounds c.loop-buffer.session c.loop-buffer.handler in
-    let from = rem c.args.reader.now in
-    let to = rem c.receive_within.new.reader in
-    let old = put c.args.writer.now in
-    let was = put c.loop-buffer.writer in
-    let after = c.receive_within.new.frames in
-    let less = c.receive_within.new.left in
-    let i = c.loop-buffer.invariant in
-    let m = c.in-Some.message in
-    let pending = talk_receives step a now m c.loop-buffer.frames after from (rem c.loop-buffer.reader) to old was c.args.max_reads c.loop-buffer.left less i.talking (rw
-    c.in-Some.is at c.in_ok-message.ensures.gives) in
-    let heard = talk_heard step a c.loop-buffer.rounds c.loop-buffer.session c.loop-buffer.handler c.hear.new.session c.hear.new.handler after from to old was (put
-    c.hear.new.writer) c.args.max_reads less m i.goes pending (rw c.in_default-2.is at c.in_ok-reason.ensures.hears) in
-    let turned = talk_turns step a m c.ends_round-ends.result true c.loop-buffer.rounds c.rounds_after-rounds.result c.hear.new.session c.hear.new.handler after from to old (put
-    c.hear.new.writer) c.args.max_reads less
-    c.ends_round-ends.ensures c.rounds_after-rounds.ensures c.if-ends.true heard in
-    let spoke = rw c.if-branch-2.false at c.in_ok-speak-2.ensures.speaks in
-    record {
-      talking = talk_spoke step a c.rounds_after-rounds.result c.hear.new.session c.hear.new.handler c.speak-then-ends.new.session c.speak-then-ends.new.handler after from to old
-          (put c.hear.new.writer) (put c.speak-then-ends.new.writer) c.args.max_reads less turned spoke;
-      goes = goes_on step a c.rounds_after-rounds.result c.hear.new.session c.hear.new.handler c.speak-then-ends.new.session c.speak-then-ends.new.handler after from to old (put
-          c.hear.new.writer) (put c.speak-then-ends.new.writer) c.args.max_reads less spoke;
-      grows = g.met.H.Handler.grows_on c.args.handler.now c.hear.new.handler c.speak-then-ends.new.handler
-          (g.met.H.Handler.grows_on c.args.handler.now c.loop-buffer.handler c.hear.new.handler i.grows c.in_ok-reason.ensures.grows) c.in_ok-speak-2.ensures.grows;
-      counted = omega (arith, c.loop-buffer.invariant.counted, c.receive_within.ensures.counted);
-    }
 
 pub loop-buffer-preserved : goal.loop-buffer-preserved
 loop-buffer-preserved g c =
-    let step = g.H.Handler.step in
-    let rem = g.R.Read.remaining in
-    let put = g.W.Write.contents in
-    let a = party_of true c.args.all c.args.first c.args.handler.now in
-    let now = party_of false c.loop-buffer.rounds c.loop-buffer.session c.loop-buffer.handler in
-    let from = rem c.args.reader.now in
-    let to = rem c.receive_within.new.reader in
-    let old = put c.args.writer.now in
-    let was = put c.loop-buffer.writer in
-    let after = c.receive_within.new.frames in
-    let less = c.receive_within.new.left in
     let i = c.loop-buffer.invariant in
-    let m = c.in-Some.message in
-    let pending = talk_receives step a now m c.loop-buffer.frames after from (rem c.loop-buffer.reader) to old was c.args.max_reads c.loop-buffer.left less i.talking (rw
-    c.in-Some.is at c.in_ok-message.ensures.gives) in
-    let heard = talk_heard step a c.loop-buffer.rounds c.loop-buffer.session c.loop-buffer.handler c.hear.new.session c.hear.new.handler after from to old was (put
-    c.hear.new.writer) c.args.max_reads less m i.goes pending (rw c.in_default-2.is at c.in_ok-reason.ensures.hears) in
-    let turned = talk_turns step a m c.ends_round-ends.result false c.loop-buffer.rounds c.rounds_after-rounds.result c.hear.new.session c.hear.new.handler after from to old (put
-    c.hear.new.writer) c.args.max_reads less
-    c.ends_round-ends.ensures c.rounds_after-rounds.ensures c.if-ends.false heard in
+    let came = talk_receives _ _ _ c.in-Some.message _ _ _ _ _ _ _ _ _ _ i.talking (rw c.in-Some.is at c.in_ok-message.ensures.gives) in
+    let turned = rw c.in_default-ended.is at c.in_ok-ended.ensures.turns in
     record {
-      talking = turned;
-      goes = still_goes c.ends_round-ends.result c.loop-buffer.rounds c.rounds_after-rounds.result c.rounds_after-rounds.ensures c.if-ends.false i.goes;
-      grows = g.met.H.Handler.grows_on c.args.handler.now c.loop-buffer.handler c.hear.new.handler i.grows c.in_ok-reason.ensures.grows;
-      counted = omega (arith, c.loop-buffer.invariant.counted, c.receive_within.ensures.counted);
+      talking = turn_goes_on _ _ _ _ _ _ _ _ _ _ _ _ _ _ _ _ _ i.goes came turned;
+      goes = turn_goes _ _ _ _ _ _ _ _ _ _ _ _ _ _ _ _ _ i.goes turned;
+      grows = g.met.H.Handler.grows_on c.args.handler.now c.loop-buffer.handler c.turn.new.handler i.grows c.in_ok-ended.ensures.grows;
+      counted = omega (arith, i.counted, c.receive_within.ensures.counted);
     }
 
 pub returns-clause-talks : goal.returns-clause-talks
