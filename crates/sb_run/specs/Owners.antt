@@ -3,7 +3,7 @@ use Rattle.std.specs.Prelude.{◌≡◌, ◌≢◌, ◌⊎◌, ℕ, ◌+◌, tru
 use mathlib.Core.List.{IsPrefix}
 use Rattle.sb_types.specs.declared.entry.Slot.{Slot}
 use Rattle.sb_types.specs.declared.fault.Fault.{Fault}
-use Rattle.sb_types.specs.declared.fault.Fault.TheVariants.{NoMemory, OwnerConflict}
+use Rattle.sb_types.specs.declared.fault.Fault.TheVariants.{OwnerConflict}
 use Rattle.sb_holdings.specs.Nodes.{Node}
 use Rattle.sb_log.specs.Records.{Committed, Log}
 use Rattle.sb_log.specs.Puts.{Puts}
@@ -11,7 +11,7 @@ use Rattle.sb_views.specs.declared.event.Event.{Event}
 use Rattle.sb_views.specs.declared.event.Event.TheVariants.{TookOwn}
 use Rattle.sb_views.specs.Stories.{node_after}
 use Rattle.sb_directory.specs.declared.receipt.Receipt.{Receipt}
-use Rattle.sb_directory.specs.Seats.{Seat, own_due_after}
+use Rattle.sb_directory.specs.Seats.{Seat, Refuses, own_due_after}
 use Rattle.sb_run.specs.declared.owner.Stored.{Stored}
 use Rattle.sb_run.specs.declared.owner.Stored.TheVariants.{Shared, Owed}
 
@@ -36,7 +36,7 @@ IsTaken opening told c receipt seen =
 
 -- the directory refuses the write, after events that begin with those that were told: with this fault, where there is memory
 abbrev pub IsTurnedAway : Node → List Event → Committed → Fault → Type 0
-IsTurnedAway opening told c fault = (l : List Event) × IsPrefix told l × (fault ≢ NoMemory → own_due_after opening l c ≡ Err fault)
+IsTurnedAway opening told c fault = (l : List Event) × IsPrefix told l × Refuses (own_due_after opening l c) fault
 
 -- the write is an event of the directory, the last that the seat sees where it is told so, and nothing is owed; or the directory refuses
 -- it, and it is owed
