@@ -13,3 +13,4 @@ pub mod Plain
 pub mod Ends
 pub mod Growth
 pub mod TakenUp
+pub mod Treats

@@ -239,6 +239,36 @@ module _ {S : Type 0} (g : Ghosts S) (settled : (s : S) (db : Trees) → IsTrue 
             };
           }
 
+      gives_damage : (g.view conn'.store).is_clean ≡ false → Loads before (Err LogDamaged) (log_in g (view_with false conn'))
+      gives_damage broken =
+          record {
+            stays = record { owner = refl; cluster = refl; most = refl; clean = still_clean; sure = λ s. absurd (cc) };
+            closed = (λ e. absurd (cc), λ shut. absurd (true≢false (sym up ∙ shut)));
+            given = tt;
+            failed = record {
+              reason = λ _. inr (inr (refl, broken));
+              is_open = λ e. absurd (cc);
+              content = λ e. absurd (cc);
+              closes = λ _. refl;
+              unchanged = λ e. absurd (cc);
+            };
+          }
+
+      abbrev TakesNoneForDamage : Type 0
+      TakesNoneForDamage =
+          HasCleanDisk (state g conn') → IsReady (state g conn) → (t : Table) → AreRowsOf t ((state g conn).now.trees 1) → ◌≢◌ {A = Result Table Fault} (Err LogDamaged) (Err LogDamaged)
+
+      -- where a row is taken for damage, the store broke its promise
+      broke : TakesNoneForDamage → (g.view conn'.store).is_clean ≡ false
+      broke whole = go (g.view conn'.store).is_clean refl
+        where
+          go : (b : Bool) → (g.view conn'.store).is_clean ≡ b → b ≡ false
+          go false is = refl
+          go true is = let stands = kept up (no_doubt _ (still_clean is)) in absurd (whole (no_doubt _ is) stands.0 table stands.1 refl)
+
+      pub gives_damaged : TakesNoneForDamage → Loads before (Err LogDamaged) (log_in g (view_with false conn'))
+      gives_damaged whole = gives_damage (broke whole)
+
       -- what a crash leaves now, it left before
       pub same_left : (HasCleanDisk (state g conn') → IsReady (state g conn) → (db : Trees) → g.recovers conn'.store db → g.recovers conn.store db)
           → (g.view conn'.store).is_clean ≡ true → (left : Table) → MayLeave g conn' left → left ≡ before.content

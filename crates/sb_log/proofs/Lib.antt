@@ -11,3 +11,4 @@ mod Writing
 mod Keeping
 mod Naming
 mod Founding
+mod Whole

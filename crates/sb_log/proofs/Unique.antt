@@ -15,7 +15,7 @@ use Rattle.sb_table.specs.Plain.{IsPlainTable, plain_table}
 use Rattle.sb_log.specs.Rows.{cells, cells_of, slot_cells, slot_by, number_of, entry_by, put_by_version, in_order, content_of, AreRowsOf}
 
 -- the cells tell the entry
-entry_back : (e : Entry) → entry_by (cells_of e) ≡ e
+pub entry_back : (e : Entry) → entry_by (cells_of e) ≡ e
 entry_back e = ap (λ (s : Slot). let x : Entry = record { key = e.key; version = e.version; slot = s } in x) (go e.slot)
   where
     go : (s : Slot) → slot_by (number_of (column (slot_cells s) 0)) (column (slot_cells s) 1) (column (slot_cells s) 2) ≡ s
@@ -112,7 +112,7 @@ mapped : (rows : List Row) → map entry_by (map cells rows) ≡ map (λ (row : 
 mapped [] = refl
 mapped (r ∷ rows) = ap (λ (es : List Entry). entry_by (cells r) ∷ es) (mapped rows)
 
-entries_of : (rows : List Row) (t : Table) → AreRowsOf t rows → IsPermutation t.entries (map (λ (row : Row). entry_by (cells row)) rows)
+pub entries_of : (rows : List Row) (t : Table) → AreRowsOf t rows → IsPermutation t.entries (map (λ (row : Row). entry_by (cells row)) rows)
 entries_of rows t are =
     subst₂ IsPermutation (entries_back t.entries) (mapped rows) (IsPermutation-map entry_by (map cells_of t.entries) (map cells rows) (IsPermutation-sym _ _ are.same))
 

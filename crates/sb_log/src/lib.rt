@@ -15,8 +15,3 @@ pub use committed::Committed;
 pub use log::WriteLog;
 pub use plain::PlainLog;
 pub use sql::SqlLog;
-
-#[cfg(test)]
-mod sql_tests;
-#[cfg(test)]
-mod tests;

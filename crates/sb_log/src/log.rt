@@ -1,9 +1,9 @@
 //! What a log promises, wherever it keeps its writes.
-ghost use Rattle.std.specs.Prelude.{◌≡◌, false, IfErr};
+ghost use Rattle.std.specs.Prelude.{◌≡◌, false, Ok, IfErr};
 ghost use Rattle.sb_types.specs.Records as records;
 ghost use Rattle.sb_types.specs.Text.{is_name};
 ghost use Rattle.sb_log.specs.Records.{Log};
-ghost use Rattle.sb_log.specs.Puts.{Puts, Loads, IsSettled, PutSurvives, LoadSurvives};
+ghost use Rattle.sb_log.specs.Puts.{Puts, Loads, IsSure, IsSettled, PutSurvives, LoadSurvives};
 
 use crate::committed::Committed;
 use sb_table::Table;
@@ -46,7 +46,9 @@ pub trait WriteLog {
         ensures crash { LoadSurvives (seen self.old) (seen self.new) (leaves self.new) }
         ensures settled { IsSettled (seen self.new) (leaves self.new) };
 
-    /// Ends the log. Nothing is promised of its store afterwards. `StoreFailed` where that could not be let go.
+    /// Ends the log. Nothing is promised of its store afterwards. `StoreFailed` where that could not be let go; a log
+    /// that has none but memory always ends.
     fn close(self) -> Result<(), Fault>
-        ensures { IfErr result (λ fault. fault ≡ Fault.StoreFailed) };
+        ensures fault { IfErr result (λ fault. fault ≡ Fault.StoreFailed) }
+        ensures sure { IsSure (seen self) → result ≡ Ok tt };
 }

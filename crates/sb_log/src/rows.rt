@@ -1,12 +1,15 @@
 //! Entries as rows of a log's table, and back.
-ghost use Rattle.std.specs.Prelude.{◌≡◌, ◌≢◌, ◌<◌, ◌⊎◌, ◌^◌, true, [], ◌∷◌, ◌++◌, pos, map, length, IfOk, IfErr, IfSome, OnOk, Ok, None, drop, IsSome};
+ghost use Rattle.std.specs.Prelude.{◌≡◌, ◌≢◌, ◌<◌, ◌⊎◌, ◌^◌, true, [], ◌∷◌, ◌++◌, false, pos, map, length, IfOk, IfErr, IfSome, OnOk, Ok, None, drop, IsSome};
 ghost use Rattle.std.specs.List.{list_all};
 ghost use Rattle.sqlite_trees.specs.Tree.{rowid};
 ghost use Rattle.sqlite_trees.specs.View.{is_int};
 ghost use Rattle.sqlite_value.specs.declared.value.Value.TheVariants.{Int, Text};
 ghost use Rattle.sqlite_value.specs.Value.{owned};
 ghost use Rattle.sqlite.specs.Values.{bound};
+ghost use Rattle.sb_types.specs.declared.limits.TheConstants.{KEYS_MOST};
 ghost use Rattle.sb_types.specs.Limits.{is_slot, is_entry};
+ghost use Rattle.sb_types.specs.Records as records;
+ghost use Rattle.sb_types.specs.Runs.{has_key};
 ghost use Rattle.sb_table.specs.Plain.{IsPlainTable};
 ghost use Rattle.sb_log.specs.Rows.{slot_cells, cells_of, is_kept, AreNumbered};
 
@@ -60,6 +63,7 @@ fn slot_cells(slot: &Slot) -> (ValueRef<'_>, ValueRef<'_>, ValueRef<'_>)
 fn entry_in(alloc: Global, row: &Row) -> Result<Option<Entry>, Fault>
     ensures entry { IfOk result (λ found. IfSome found (λ e. (cells_of e ≡ drop 1 row.now) × (is_kept e ≡ true))) }
     ensures numbered { IfOk result (λ found. IsSome found → is_int (rowid row.now) ≡ true) }
+    ensures whole { (e : records.Entry) → is_kept e ≡ true → drop 1 row.now ≡ cells_of e → is_int (rowid row.now) ≡ true → result ≢ Ok None }
     ensures fault { IfErr result (λ fault. fault ≡ Fault.NoMemory) }
 {
     if row.column_count() != 6 {
@@ -90,6 +94,8 @@ fn entry_of(
 ) -> Result<Option<Entry>, Fault>
     ensures cells { IfOk result (λ found. IfSome found (λ e. cells_of e ≡ Text key.now ∷ Int version ∷ owned slot.entry.0 ∷ owned slot.entry.1 ∷ owned slot.entry.2 ∷ [])) }
     ensures kept { IfOk result (λ found. IfSome found (λ e. is_kept e ≡ true)) }
+    ensures whole { (e : records.Entry) → is_kept e ≡ true → cells_of e ≡ Text key.now ∷ Int version ∷ owned slot.entry.0 ∷ owned slot.entry.1 ∷ owned slot.entry.2 ∷ []
+        → result ≢ Ok None }
     ensures fault { IfErr result (λ fault. fault ≡ Fault.NoMemory) }
 {
     let Ok(key) = Key::read(key) else {
@@ -119,6 +125,7 @@ fn slot_in(
     text: ValueRef<'_>,
 ) -> Result<Option<Slot>, Fault>
     ensures slot { IfOk result (λ found. IfSome found (λ s. (slot_cells s ≡ owned tag.entry ∷ owned number.entry ∷ owned text.entry ∷ []) × (is_slot s ≡ true))) }
+    ensures whole { (s : _) → is_slot s ≡ true → slot_cells s ≡ owned tag.entry ∷ owned number.entry ∷ owned text.entry ∷ [] → result ≢ Ok None }
     ensures fault { IfErr result (λ fault. fault ≡ Fault.NoMemory) }
 {
     match (tag, number, text) {
@@ -150,6 +157,8 @@ pub(crate) fn table_of(alloc: Global, rows: &[Row]) -> Result<Table, Fault>
     ensures rows { IfOk result (λ t. map cells_of t.entries ≡ map (drop 1) rows.now) }
     ensures numbered { OnOk result (AreNumbered rows.now) }
     ensures kept { IfOk result (λ t. list_all is_kept t.entries ≡ true) }
+    ensures whole { (t : records.Table) → IsPlainTable t → list_all is_kept t.entries ≡ true → map (drop 1) rows.now ≡ map cells_of t.entries → AreNumbered rows.now
+        → IfErr result (λ fault. fault ≡ Fault.NoMemory) }
     ensures fault { IfErr result (λ fault. (fault ≡ Fault.NoMemory) ⊎ (fault ≡ Fault.LogDamaged)) }
 {
     let mut table = Table::new(alloc);
@@ -163,10 +172,12 @@ pub(crate) fn table_of(alloc: Global, rows: &[Row]) -> Result<Table, Fault>
 }
 
 /// Enters an entry of a new key and a later version. `LogDamaged` where it is none, or there is no room; `NoMemory`.
-#[tactic(auto, using(crate::proofs::Cells::not_found, crate::proofs::Cells::added))]
+#[tactic(auto, using(crate::proofs::Cells::not_found, crate::proofs::Cells::added, crate::proofs::Whole::none_there))]
 fn add(table: &mut Table, entry: Entry) -> Result<(), Fault>
     ensures added { OnOk result (table.new.entries ≡ table.old.entries ++ entry ∷ []) }
     ensures plain { IsPlainTable table.new }
+    ensures whole { table.old.held < entry.version → has_key entry.key table.old.entries ≡ false → length table.old.entries < KEYS_MOST
+        → IfErr result (λ fault. fault ≡ Fault.NoMemory) }
     ensures fault { IfErr result (λ fault. (fault ≡ Fault.NoMemory) ⊎ (fault ≡ Fault.LogDamaged)) }
 {
     if entry.version() <= table.upto() {

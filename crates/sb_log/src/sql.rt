@@ -85,13 +85,6 @@ impl<S: Alter + Drop> SqlLog<S> {
     }
 }
 
-#[cfg(test)]
-impl<S: Alter + Drop> SqlLog<S> {
-    pub(crate) fn into_connection(self) -> Connection<S> {
-        self.conn
-    }
-}
-
 impl<S: Alter + Drop> WriteLog for SqlLog<S> {
     ghost seen = { λ l. log_in S.Store l };
 
@@ -130,6 +123,10 @@ impl<S: Alter + Drop> WriteLog for SqlLog<S> {
         match read_table(&mut self.conn, alloc) {
             Ok(table) => Ok(table),
             Err(Fault::NoMemory) => Err(Fault::NoMemory),
+            Err(Fault::LogDamaged) => {
+                self.is_open = false;
+                Err(Fault::LogDamaged)
+            }
             Err(_) => {
                 self.is_open = false;
                 Err(Fault::StoreFailed)

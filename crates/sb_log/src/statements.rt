@@ -1,12 +1,13 @@
 //! The statements of a log, each of which commits by itself.
-ghost use Rattle.std.specs.Prelude.{◌≡◌, ◌≢◌, Err, ◌<◌, ◌≤◌, ◌^◌, ◌⊎◌, true, false, [], ◌∷◌, map, IsPermutation, IfOk, IfErr, OnOk};
+ghost use Rattle.std.specs.Prelude.{◌≡◌, ◌≢◌, Err, ◌<◌, ◌≤◌, ◌^◌, ◌⊎◌, true, false, [], ◌∷◌, map, drop, IsPermutation, IfOk, IfErr, OnOk};
 ghost use Rattle.sqlite_trees.specs.Tree.{Trees};
 ghost use Rattle.sqlite_trees.specs.View.{doubt};
 ghost use Rattle.sqlite.specs.Held.{state};
 ghost use Rattle.sqlite.specs.State.{HasCleanDisk, IsUnchanged};
+ghost use Rattle.sb_types.specs.Records as records;
 ghost use Rattle.sb_table.specs.Plain.{IsPlainTable};
 ghost use Rattle.sb_log.specs.Form.{no_schema, meta_schema, log_schema};
-ghost use Rattle.sb_log.specs.Rows.{numbered_cells, is_kept, Enters, AreRowsOf};
+ghost use Rattle.sb_log.specs.Rows.{cells_of, numbered_cells, is_kept, Enters, AreRowsOf};
 ghost use Rattle.sb_log.specs.Opening.{meta_cells, meta_row};
 ghost use Rattle.sb_log.specs.Standing.{IsReady, IsPrepared};
 
@@ -106,6 +107,9 @@ pub(crate) fn write_meta<S: Alter>(
 pub(crate) fn read_rows<S: Alter>(conn: &mut Connection<S>) -> Result<Vec<Row>, Fault>
     ensures rows { HasCleanDisk (state S.Store conn.new) → (state S.Store conn.old).now.schema ≡ log_schema
         → IfOk result (λ rows. IsPermutation (map numbered_cells ((state S.Store conn.old).now.trees 1)) rows.items) }
+    // They come in the order that the table's entries have.
+    ensures whole { HasCleanDisk (state S.Store conn.new) → (state S.Store conn.old).now.schema ≡ log_schema
+        → IfOk result (λ rows. (t : records.Table) → AreRowsOf t ((state S.Store conn.old).now.trees 1) → map (drop 1) rows.items ≡ map cells_of t.entries) }
     ensures ready { HasCleanDisk (state S.Store conn.new) → IsReady (state S.Store conn.old)
         → OnOk result (IsReady (state S.Store conn.new) × ((state S.Store conn.new).now ≡ (state S.Store conn.old).now)) }
     ensures crash { HasCleanDisk (state S.Store conn.new) → IsReady (state S.Store conn.old) → (db : Trees) → (state S.Store conn.new).may_leave db
@@ -149,6 +153,9 @@ pub(crate) fn read_table<S: Alter>(conn: &mut Connection<S>, alloc: Global) -> R
     ensures rows { HasCleanDisk (state S.Store conn.new) → IsReady (state S.Store conn.old)
         → IfOk result (λ t. AreRowsOf t ((state S.Store conn.old).now.trees 1)) }
     ensures plain { IfOk result IsPlainTable }
+    // No row of a table's is taken for damage.
+    ensures whole { HasCleanDisk (state S.Store conn.new) → IsReady (state S.Store conn.old) → (t : records.Table) → AreRowsOf t ((state S.Store conn.old).now.trees 1)
+        → result ≢ Err Fault.LogDamaged }
     ensures ready { HasCleanDisk (state S.Store conn.new) → IsReady (state S.Store conn.old) → result ≢ Err Fault.StoreFailed
         → IsReady (state S.Store conn.new) × ((state S.Store conn.new).now ≡ (state S.Store conn.old).now) }
     ensures crash { HasCleanDisk (state S.Store conn.new) → IsReady (state S.Store conn.old) → (db : Trees) → (state S.Store conn.new).may_leave db

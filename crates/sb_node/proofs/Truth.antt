@@ -9,7 +9,7 @@ use Rattle.sb_types.specs.Runs.{Stands}
 use Rattle.sb_holdings.specs.declared.ends.BlockEnd.{BlockEnd}
 use Rattle.sb_holdings.specs.Nodes.{NodeEvent, Took, IsNodeEvent, TrueAt, AreNodeEvents, AllTrueAt}
 use Rattle.sb_types.proofs.Standing.{either}
-use Rattle.sb_node.specs.Ends.{took_each}
+use Rattle.sb_holdings.specs.Treats.{took_each}
 use Rattle.sb_node.specs.Calls.{Call, TookOwn, Applied, events_of, AreBlocks, AreHonest, IsCall, TrueCall, AreCalls, AreTrue}
 
 -- what holds of each block, however it ended, holds of each event of the delta

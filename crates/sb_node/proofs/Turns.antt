@@ -4,7 +4,7 @@ use Rattle.std.proofs.lemmas.List.{append-nil}
 use Rattle.sb_types.specs.Records.{Block}
 use Rattle.sb_holdings.specs.declared.ends.BlockEnd.{BlockEnd}
 use Rattle.sb_holdings.specs.Nodes.{Node, replay_node}
-use Rattle.sb_node.specs.Ends.{Treats, took_each}
+use Rattle.sb_holdings.specs.Treats.{Treats, took_each}
 
 -- from the first state these ends lead to the present one, where the rest of the blocks are to come
 pub record Turned (first now : Node) (blocks rest : List Block) (ends : List BlockEnd) : Type 0 where

@@ -7,7 +7,7 @@ use Rattle.sb_types.specs.Runs.{Stands, IsBlock}
 use Rattle.sb_types.specs.Writes.{Written, Honest}
 use Rattle.sb_holdings.specs.declared.ends.BlockEnd.{BlockEnd}
 use Rattle.sb_holdings.specs.Nodes.{Node, NodeEvent, Wrote, replay_node}
-use Rattle.sb_node.specs.Ends.{took_each}
+use Rattle.sb_holdings.specs.Treats.{took_each}
 
 -- the node took a committed write of its own, or a delta whose blocks ended so
 pub data Call : Type 0 where

@@ -1,5 +1,4 @@
 pub mod Cores
-pub mod Ends
 pub mod Answers
 pub mod Calls
 pub mod Steps

@@ -7,7 +7,7 @@ use Rattle.sb_session.specs.Handlers.{Act, tells, gives, applies}
 use Rattle.sb_node.specs.Answers.{IsDelta, IsAnswer}
 use Rattle.sb_node.specs.Calls.{Call, Applied, replay_calls, AreCalls}
 use Rattle.sb_node.specs.Cores.{Core, with_node}
-use Rattle.sb_node.specs.Ends.{Treats}
+use Rattle.sb_holdings.specs.Treats.{Treats}
 
 -- what a call enters: the delta that it applied
 abbrev pub entered_by : Act → List Call

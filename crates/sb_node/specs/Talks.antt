@@ -14,7 +14,7 @@ use Rattle.sb_session.specs.Sessions.{Session}
 use Rattle.sb_node.specs.Answers.{IsDelta, IsAnswer}
 use Rattle.sb_node.specs.Calls as calls
 use Rattle.sb_node.specs.Cores.{Core}
-use Rattle.sb_node.specs.Ends.{Treats}
+use Rattle.sb_holdings.specs.Treats.{Treats}
 
 -- the delta, with the ends that are told of its blocks
 abbrev pub applied_with : List Block → Replies → List calls.Call

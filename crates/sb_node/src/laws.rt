@@ -19,7 +19,7 @@ ghost use Rattle.sb_session.specs.Talks.{Party, Move, Run, heard_in};
 ghost use Rattle.sb_node.specs.Answers.{IsAnswer};
 ghost use Rattle.sb_node.specs.Calls.{Call, replay_calls, AreBlocks, AreHonest, AreCalls, AreTrue};
 ghost use Rattle.sb_node.specs.Cores.{Core, with_node};
-ghost use Rattle.sb_node.specs.Ends.{took_each};
+ghost use Rattle.sb_holdings.specs.Treats.{took_each};
 ghost use Rattle.sb_node.specs.Steps.{Steps};
 ghost use Rattle.sb_node.specs.Talks.{taken_of, IsReply, AreEnds, AreTrueMessages};
 

@@ -16,7 +16,7 @@ ghost use Rattle.sb_budget.specs.Available.{available_for};
 ghost use Rattle.sb_budget.specs.Orders.{IsOffer, AscendsByOwner};
 ghost use Rattle.sb_node.specs.Answers.{IsListedBy, IsDelta, IsAnswer};
 ghost use Rattle.sb_node.specs.Cores.{with_node, committed_answer};
-ghost use Rattle.sb_node.specs.Ends.{Treats, took_each};
+ghost use Rattle.sb_holdings.specs.Treats.{Treats, took_each};
 
 use sb_breadth::Breadth;
 use sb_budget::{DeltaOrder, Offered, available, cut, orders_keep_owners};
@@ -167,10 +167,12 @@ impl NodeCore {
         self.holdings.push_own(committed.entry().copy(self.alloc)?)
     }
 
-    /// Why a committed write can't be entered, the first reason that holds.
-    fn refusal(&self, committed: &Committed) -> Option<Fault>
+    /// Why a committed write can't be entered, the first reason that holds of `WrongOwner`, `OwnerConflict`,
+    /// `OutOfTurn` and `TableFull`; nothing where only memory may be wanting. It takes no memory.
+    pub fn refusal(&self, committed: &Committed) -> Option<Fault>
         ensures some { IfSome result (λ fault. committed_answer self.now.node committed.now ≡ Err fault) }
         ensures none { IfNone result (committed_answer self.now.node committed.now ≡ Ok tt) }
+        ensures holdings { IsHoldings self.now.node.held }
     {
         if committed.owner() != self.holdings.me() {
             return Some(Fault::WrongOwner);

@@ -71,43 +71,46 @@ module _ (o : List ℕ) where
       ap (map (λ (p : List ℕ × Entry). p.1)) (filter-append (λ (p : List ℕ × Entry). pointwise nat_eq p.0 o) xs ys)
       ∙ map-append (λ (p : List ℕ × Entry). p.1) (filter (λ p. pointwise nat_eq p.0 o) xs) (filter (λ p. pointwise nat_eq p.0 o) ys)
 
-  abbrev owned_each : List (List ℕ × Holder) → List (List ℕ × Entry)
-  owned_each hs = flat_map (λ (p : List ℕ × Table). owned p.0 p.1) (map (λ (p : List ℕ × Holder). (p.0, p.1.shown)) hs)
+  -- the entries of each owner above a version of its own
+  abbrev owned_each : (List ℕ → ℕ) → List (List ℕ × Holder) → List (List ℕ × Entry)
+  owned_each v hs = flat_map (λ (p : List ℕ × Table). map (λ e. (p.0, e)) (above (v p.0) p.1.entries)) (map (λ (p : List ℕ × Holder). (p.0, p.1.shown)) hs)
 
   abbrev there : List (List ℕ × Holder) → Table
   there hs = (unwrap_or (find by_text o hs) nothing).shown
 
-  -- whether the first owner is this one, and what the others say of it
-  next : (h : List ℕ × Holder) (hs : List (List ℕ × Holder)) (b : Bool) → pointwise nat_eq h.0 o ≡ b
-      → of_owner o (owned_each (h ∷ hs)) ≡ cond b (above 0 h.1.shown.entries) [] ++ of_owner o (owned_each hs)
-  next h hs b is =
-      of_owner-append (owned h.0 h.1.shown) (owned_each hs)
-      ∙ ap (λ (xs : List Entry). xs ++ of_owner o (owned_each hs)) (mine-case b h.0 (above 0 h.1.shown.entries) is)
-
   turned : (owner : List ℕ) (b : Bool) → eq_by_cmp by_text o owner ≡ b → pointwise nat_eq owner o ≡ b
   turned owner b is = nat_list_eq_equiv.symm owner o ∙ texts_ties o owner ∙ is
 
-  others : (hs : List (List ℕ × Holder)) → T (below_all by_text o hs) → of_owner o (owned_each hs) ≡ []
-  others [] below = refl
-  others (h ∷ hs) below =
-      let apart = apart-from_Less o h.0 (less (by_text o h.0) (first (is_lt (by_text o h.0)) _ below)) in
-      next h hs false (nat_list_eq_equiv.symm h.0 o ∙ apart) ∙ others hs (second (is_lt (by_text o h.0)) _ below)
+  module _ (v : List ℕ → ℕ) where
+    -- whether the first owner is this one, and what the others say of it
+    next : (h : List ℕ × Holder) (hs : List (List ℕ × Holder)) (b : Bool) → pointwise nat_eq h.0 o ≡ b
+        → of_owner o (owned_each v (h ∷ hs)) ≡ cond b (above (v h.0) h.1.shown.entries) [] ++ of_owner o (owned_each v hs)
+    next h hs b is =
+        of_owner-append (map (λ e. (h.0, e)) (above (v h.0) h.1.shown.entries)) (owned_each v hs)
+        ∙ ap (λ (xs : List Entry). xs ++ of_owner o (owned_each v hs)) (mine-case b h.0 (above (v h.0) h.1.shown.entries) is)
 
-  mine-or : (h : List ℕ × Holder) (hs : List (List ℕ × Holder)) (b : Bool) → eq_by_cmp by_text o h.0 ≡ b → T (below_all by_text h.0 hs)
-      → of_owner o (owned_each hs) ≡ above 0 (there hs).entries
-      → cond b (above 0 h.1.shown.entries) [] ++ of_owner o (owned_each hs) ≡ above 0 (unwrap_or (cond b (Some h.1) (find by_text o hs)) nothing).shown.entries
-  mine-or h hs true is below rest =
-      let same : h.0 ≡ o = sym (same_text o h.0 (texts_ties o h.0 ∙ is)) in
-      ap (λ (xs : List Entry). above 0 h.1.shown.entries ++ xs) (others hs (subst (λ (owner : List ℕ). T (below_all by_text owner hs)) same below))
-      ∙ append-nil (above 0 h.1.shown.entries)
-  mine-or h hs false is below rest = rest
+    others : (hs : List (List ℕ × Holder)) → T (below_all by_text o hs) → of_owner o (owned_each v hs) ≡ []
+    others [] below = refl
+    others (h ∷ hs) below =
+        let apart = apart-from_Less o h.0 (less (by_text o h.0) (first (is_lt (by_text o h.0)) _ below)) in
+        next h hs false (nat_list_eq_equiv.symm h.0 o ∙ apart) ∙ others hs (second (is_lt (by_text o h.0)) _ below)
 
-  mine : (hs : List (List ℕ × Holder)) → T (is_sorted by_text hs) → of_owner o (owned_each hs) ≡ above 0 (there hs).entries
-  mine [] up = refl
-  mine (h ∷ hs) up =
-      let b = eq_by_cmp by_text o h.0 in
-      next h hs b (turned h.0 b refl)
-      ∙ mine-or h hs b refl (first (below_all by_text h.0 hs) _ up) (mine hs (second (below_all by_text h.0 hs) _ up))
+    mine-or : (h : List ℕ × Holder) (hs : List (List ℕ × Holder)) (b : Bool) → eq_by_cmp by_text o h.0 ≡ b → T (below_all by_text h.0 hs)
+        → of_owner o (owned_each v hs) ≡ above (v o) (there hs).entries
+        → cond b (above (v h.0) h.1.shown.entries) [] ++ of_owner o (owned_each v hs) ≡ above (v o) (unwrap_or (cond b (Some h.1) (find by_text o hs)) nothing).shown.entries
+    mine-or h hs true is below rest =
+        let same : h.0 ≡ o = sym (same_text o h.0 (texts_ties o h.0 ∙ is)) in
+        ap (λ (xs : List Entry). above (v h.0) h.1.shown.entries ++ xs) (others hs (subst (λ (owner : List ℕ). T (below_all by_text owner hs)) same below))
+        ∙ append-nil (above (v h.0) h.1.shown.entries)
+        ∙ ap (λ (owner : List ℕ). above (v owner) h.1.shown.entries) same
+    mine-or h hs false is below rest = rest
+
+    mine : (hs : List (List ℕ × Holder)) → T (is_sorted by_text hs) → of_owner o (owned_each v hs) ≡ above (v o) (there hs).entries
+    mine [] up = refl
+    mine (h ∷ hs) up =
+        let b = eq_by_cmp by_text o h.0 in
+        next h hs b (turned h.0 b refl)
+        ∙ mine-or h hs b refl (first (below_all by_text h.0 hs) _ up) (mine hs (second (below_all by_text h.0 hs) _ up))
 
 -- ---- what is held
 
@@ -119,16 +122,18 @@ plain-holder : (h : Option Holder) → IfSome h IsPlainHolder → IsPlainTable (
 plain-holder None is = plain-nothing
 plain-holder (Some h) is = is.shown
 
-module _ (held : Held) (is : IsHoldings held) where
-  of_owner-all : (o : List ℕ) → of_owner o (all_owned held) ≡ above 0 (shown_of held o).entries
-  of_owner-all o =
-      ap (λ (hs : List (List ℕ × Holder)). of_owner o (owned_each o hs)) (all_from (entries held.owners))
-      ∙ mine o (entries held.owners) (entries_sorted held.owners)
-      ∙ ap (λ (h : Option Holder). above 0 (unwrap_or h nothing).shown.entries) (sym (get-entries held.owners o))
+-- of the entries above a version of each owner those of one owner
+pub of_owner-above : (held : Held) (v : List ℕ → ℕ) (o : List ℕ)
+    → of_owner o (flat_map (λ (p : List ℕ × Table). map (λ e. (p.0, e)) (above (v p.0) p.1.entries)) (tables_from None held)) ≡ above (v o) (shown_of held o).entries
+of_owner-above held v o =
+    ap (λ (hs : List (List ℕ × Holder)). of_owner o (owned_each o v hs)) (all_from (entries held.owners))
+    ∙ mine o v (entries held.owners) (entries_sorted held.owners)
+    ∙ ap (λ (h : Option Holder). above (v o) (unwrap_or h nothing).shown.entries) (sym (get-entries held.owners o))
 
+module _ (held : Held) (is : IsHoldings held) where
   shown-all : (o : List ℕ) → table_with_all (plain_table []) (of_owner o (all_owned held)) ≡ shown_of held o
   shown-all o =
-      ap (table_with_all (plain_table [])) (of_owner-all o)
+      ap (table_with_all (plain_table [])) (of_owner-above held (λ owner. 0) o)
       ∙ all_in_turn (shown_of held o) (plain-holder (get held.owners o) (is.each o))
 
   pub first-page : IsPage (shown_of held) (page_with_all empty (all_owned held))

@@ -7,6 +7,9 @@ pub mod Appending
 pub mod Beginning
 pub mod Sheets
 pub mod Leading
+pub mod Grown
+pub mod Growing
+pub mod Following
 pub mod Reaching
 pub mod Starting
 pub mod Wanted

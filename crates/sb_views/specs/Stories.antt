@@ -3,9 +3,8 @@ use Rattle.std.specs.Prelude.{◌<◌, List, [], ◌∷◌, length}
 use Rattle.std.specs.List.{flat_map}
 use mathlib.Core.List.{IsPrefix}
 use Rattle.logbook.specs.Pages.{Book}
-use Rattle.sb_types.specs.Records.{Block}
-use Rattle.sb_holdings.specs.declared.ends.BlockEnd.{BlockEnd}
-use Rattle.sb_holdings.specs.Nodes.{Node, NodeEvent, Wrote, Took, replay_node}
+use Rattle.sb_holdings.specs.Nodes.{Node, NodeEvent, Wrote, replay_node}
+use Rattle.sb_holdings.specs.Treats.{took_each}
 use Rattle.sb_views.specs.declared.event.Event.{Event}
 use Rattle.sb_views.specs.declared.event.Event.TheVariants.{TookOwn, Applied}
 
@@ -13,11 +12,6 @@ use Rattle.sb_views.specs.declared.event.Event.TheVariants.{TookOwn, Applied}
 pub record Mark : Type 0 where
   pub book : Book
   pub events : List Event
-
-abbrev pub took_each : List Block → List BlockEnd → List NodeEvent
-took_each [] ends = []
-took_each (b ∷ bs) [] = []
-took_each (b ∷ bs) (end ∷ ends) = Took b end ∷ took_each bs ends
 
 abbrev pub steps_of : Event → List NodeEvent
 steps_of (TookOwn e) = Wrote e ∷ []

@@ -189,6 +189,16 @@ impl Mark {
         self.events == other.events
     }
 
+    /// Whether the other has all the events of this one, and may be others behind them.
+    pub(crate) fn begins(&self, other: &Mark) -> bool
+        requires { other.now.book ≡ self.now.book }
+        ensures { MatchBool result (IsPrefix self.now.events other.now.events) (IsLonger other.now.events self.now.events) }
+    {
+        let mut both = self.seen.again();
+        both.learn(&other.seen);
+        self.events <= other.events
+    }
+
     /// Of two marks of one story the shorter begins the longer.
     pub(crate) fn longer(&self, other: &Mark) -> Mark
         requires { other.now.book ≡ self.now.book }
@@ -244,6 +254,14 @@ impl<S: Site> Front<S> {
         ensures { MatchBool result (other.now ≡ self.now) (other.now ≢ self.now) }
     {
         self.mark.is_same(&other.mark)
+    }
+
+    /// Whether the other has all the events of this one, and may be others behind them. Where it has not, this one
+    /// goes on beyond the other.
+    pub fn begins(&self, other: &Front<S>) -> bool
+        ensures { MatchBool result (IsPrefix self.now other.now) (IsLonger other.now self.now) }
+    {
+        self.mark.begins(&other.mark)
     }
 
     /// A copy.

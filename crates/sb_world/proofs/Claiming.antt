@@ -28,7 +28,7 @@ use Rattle.sb_node.specs.Cores.{Core}
 use Rattle.sb_node.specs.Steps.{Steps}
 use Rattle.sb_node.specs.Talks.{taken_of}
 use Rattle.sb_node.proofs.Sessions.{taken, ended}
-use Rattle.sb_node.specs.Ends.{Treats, took_each}
+use Rattle.sb_holdings.specs.Treats.{Treats, took_each}
 use Rattle.sb_node.proofs.Truth.{delta_blocks}
 use Rattle.sb_world.specs.declared.event.Event.{Event}
 use Rattle.sb_world.specs.declared.event.Event.TheVariants.{Piece, Read}

@@ -21,7 +21,7 @@ use Rattle.sb_log.specs.Records.{Committed, Log}
 use Rattle.sb_log.specs.Puts.{Puts, Loads}
 use Rattle.sb_node.specs.Answers.{IsDelta, IsAnswer}
 use Rattle.sb_node.specs.Cores.{Core, with_node, committed_answer}
-use Rattle.sb_node.specs.Ends.{Treats, took_each}
+use Rattle.sb_holdings.specs.Treats.{Treats, took_each}
 use Rattle.sb_world.specs.declared.event.Answer.{Answer}
 use Rattle.sb_world.specs.declared.event.Answer.TheVariants as answers
 use Rattle.sb_world.specs.Places.{Place, frame_at}

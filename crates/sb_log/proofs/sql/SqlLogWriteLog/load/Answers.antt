@@ -1,6 +1,6 @@
 use Rattle.std.proofs.Common.{◌≡◌, true, true≢false, sym, ◌∙◌}
 use Rattle.sqlite.specs.Held.{state}
-use Rattle.sb_log.proofs.Keeping.{gives, gives_no_memory, gives_nothing, same_left, settles, still_kept}
+use Rattle.sb_log.proofs.Keeping.{gives, gives_no_memory, gives_nothing, gives_damaged, same_left, settles, still_kept}
 use Rattle.sb_log.proofs.sql.SqlLogWriteLog.load.Goals as goal
 
 pub returns-in-Ok-clause-loads : goal.returns-in-Ok-clause-loads
@@ -52,6 +52,20 @@ returns-in-Err g c =
     let was_open : c.args.self.now.is_open ≡ true = rw (← c.self.view_is) c.if-not-self.false in
     record {
       loads = rw (← c.self.view_is) (gives_nothing g.S.Store g.met.S.Store.settled i.owner i.cluster i.max_version i.is_open c.if-not-self.false i.conn i.table c.self.invariant.0 r.new.conn r.ensures.clean);
+      closed = λ shut. absurd (true≢false (sym was_open ∙ shut));
+      crash = λ clean _. rw (← c.self.view_is)
+          (same_left g.S.Store g.met.S.Store.settled i.owner i.cluster i.max_version i.is_open c.if-not-self.false i.conn i.table c.self.invariant.0 r.new.conn r.ensures.clean r.ensures.crash clean);
+      settled = λ clean shut. absurd (true≢false (sym shut));
+    }
+
+pub returns-in-Err-LogDamaged : goal.returns-in-Err-LogDamaged
+returns-in-Err-LogDamaged g c =
+    let i = c.self.inside in
+    let r = c.read_table in
+    let was_open : c.args.self.now.is_open ≡ true = rw (← c.self.view_is) c.if-not-self.false in
+    record {
+      loads = rw (← c.self.view_is) (gives_damaged g.S.Store g.met.S.Store.settled i.owner i.cluster i.max_version i.is_open c.if-not-self.false i.conn i.table c.self.invariant.0 r.new.conn r.ensures.clean
+          (λ clean ready t are e. c.in-Err-LogDamaged.ensures.whole clean ready t are (cc)));
       closed = λ shut. absurd (true≢false (sym was_open ∙ shut));
       crash = λ clean _. rw (← c.self.view_is)
           (same_left g.S.Store g.met.S.Store.settled i.owner i.cluster i.max_version i.is_open c.if-not-self.false i.conn i.table c.self.invariant.0 r.new.conn r.ensures.clean r.ensures.crash clean);

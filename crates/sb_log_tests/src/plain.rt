@@ -1,4 +1,5 @@
-use crate::{Committed, PlainLog, WriteLog};
+//! A log in memory: what it keeps, and what it refuses.
+use sb_log::{Committed, PlainLog, WriteLog};
 use sb_table::Table;
 use sb_types::{Entry, Fault, KEYS_MOST, Key, Name, Slot, Value};
 use std::alloc::Global;

@@ -1,7 +1,9 @@
-use crate::{SqlLog, WriteLog};
+//! A log in a database: what it keeps, also when it is opened again, and the damage that it tells.
+use crate::disks::{ENDLESS, connect, new_disks};
+use sb_log::{SqlLog, WriteLog};
 use sb_types::{Fault, Key, Name, Slot, Value};
-use sqlite::{Alter, Connection, Error};
-use sqlite_trees::memory::MemStore;
+use sqlite::{Alter, Connection, Error, Files};
+use sqlite_disk::Memory;
 use std::alloc::Global;
 use std::process::Abort;
 use std::test::Fail;
@@ -60,10 +62,11 @@ fn fault_after(alloc: Global, statements: &[&str]) -> Result<u8, Error> {
     }
 }
 
-#[test]
-fn a_log_in_a_database_keeps_writes(rt: HostRuntime) -> Result<(), Fail> {
-    let alloc = rt.alloc();
-    let conn = Connection::open_in_memory(alloc)?;
+fn keeps_writes<S: Alter + Drop>(
+    rt: &impl Abort,
+    alloc: Global,
+    conn: Connection<S>,
+) -> Result<(), Fail> {
     let mut log = open(alloc, conn, b"a", 4)?;
     assert_eq!(rt; held(alloc, &mut log), Ok((0, 0)));
     assert_eq!(rt; put(&mut log, b"x", 5), Ok(1));
@@ -73,20 +76,43 @@ fn a_log_in_a_database_keeps_writes(rt: HostRuntime) -> Result<(), Fail> {
     assert_eq!(rt; put(&mut log, b"x", 7), Ok(4));
     assert_eq!(rt; put(&mut log, b"x", 8), Err(Fault::VersionsSpent));
     assert_eq!(rt; held(alloc, &mut log), Ok((2, 4)));
-    reopens(&rt, alloc, log)
+    Ok(())
 }
 
-// Opened again it holds the same, also with a lesser greatest version; under another name it is another's.
-fn reopens(rt: &impl Abort, alloc: Global, log: SqlLog<MemStore>) -> Result<(), Fail> {
-    let mut log = open(alloc, log.into_connection(), b"a", 2)?;
+// Opened again it holds the same, also with a lesser greatest version.
+fn reopens(rt: &impl Abort, alloc: Global, disks: &mut Files<Memory>) -> Result<(), Fail> {
+    let conn = connect(alloc, disks, ENDLESS).ok_or("it opens again")?;
+    let mut log = open(alloc, conn, b"a", 2)?;
     assert_eq!(rt; held(alloc, &mut log), Ok((2, 4)));
     assert_eq!(rt; put(&mut log, b"x", 8), Err(Fault::VersionsSpent));
-    let other = match open(alloc, log.into_connection(), b"b", 9) {
+    Ok(())
+}
+
+// Under another name it is another's.
+fn is_anothers(rt: &impl Abort, alloc: Global, disks: &mut Files<Memory>) -> Result<(), Fail> {
+    let conn = connect(alloc, disks, ENDLESS).ok_or("it opens again")?;
+    let fault = match open(alloc, conn, b"b", 9) {
         Ok(_) => 0,
         Err(fault) => fault.number(),
     };
-    assert_eq!(rt; other, 20);
+    assert_eq!(rt; fault, 20);
     Ok(())
+}
+
+#[test]
+fn a_log_in_memory_keeps_writes(rt: HostRuntime) -> Result<(), Fail> {
+    let alloc = rt.alloc();
+    keeps_writes(&rt, alloc, Connection::open_in_memory(alloc)?)
+}
+
+#[test]
+fn a_log_in_files_keeps_writes(rt: HostRuntime) -> Result<(), Fail> {
+    let alloc = rt.alloc();
+    let mut disks = new_disks(alloc);
+    let conn = connect(alloc, &mut disks, ENDLESS).ok_or("it opens")?;
+    keeps_writes(&rt, alloc, conn)?;
+    reopens(&rt, alloc, &mut disks)?;
+    is_anothers(&rt, alloc, &mut disks)
 }
 
 // The third write of a log of two versions.

@@ -1,0 +1,100 @@
+//! What the writer does.
+use crate::problem::Problem;
+use crate::report::Measured;
+use crate::sample::{commit, log};
+use sb_directory::{Configured, Directory, ReaderSeat};
+use sb_log::{Committed, PlainLog};
+use sb_types::Fault;
+use sb_views::Site;
+use std::alloc::Global;
+use std::sync::Wait;
+use std::sync::atomic::{AtomicBool, Ordering};
+use std::thread;
+use std::time::{Clock, CpuClock, Duration};
+
+/// How many milliseconds the writer sleeps between two writes.
+const PAUSE: u64 = 1;
+
+/// The most writes beside readers.
+const WRITES_MOST: u64 = 1_000_000;
+
+/// A seat and the log whose writes are entered from it.
+#[derive(Drop)]
+pub(crate) struct Writer<S: Site> {
+    seat: ReaderSeat<S>,
+    log: PlainLog,
+    written: u64,
+    alloc: Global,
+}
+
+impl<S: Configured> Writer<S> {
+    pub(crate) fn new(alloc: Global, seat: ReaderSeat<S>) -> Result<Writer<S>, Fault> {
+        Ok(Writer {
+            seat,
+            log: log(alloc)?,
+            written: 0,
+            alloc,
+        })
+    }
+
+    /// How many writes were committed.
+    pub(crate) fn written(&self) -> u64 {
+        self.written
+    }
+
+    fn commit(&mut self) -> Result<Committed, Fault> {
+        let committed = commit(self.alloc, &mut self.log, self.written)?;
+        self.written = self.written.saturating_add(1);
+        Ok(committed)
+    }
+
+    /// Commits a write and enters it; says whether it is shown.
+    fn write<R: Wait + Drop, Q: Wait>(
+        &mut self,
+        rt: &Q,
+        directory: &Directory<S, R>,
+    ) -> Result<bool, Fault> {
+        let committed = self.commit()?;
+        let receipt = directory.take_own(rt, &mut self.seat, &committed)?;
+        Ok(receipt.shown)
+    }
+
+    /// How long entering a committed write takes until it is shown, for so many.
+    pub(crate) fn time_writes<R: Wait + Drop, Q: Wait + CpuClock>(
+        &mut self,
+        rt: &Q,
+        directory: &Directory<S, R>,
+        writes: u64,
+    ) -> Result<Measured, Problem> {
+        let mut shown = Measured {
+            spent: Duration::ZERO,
+            units: 0,
+        };
+        for _ in 0..writes {
+            let committed = self.commit()?;
+            let start = rt.thread_cpu_time()?;
+            let receipt = directory.take_own(rt, &mut self.seat, &committed)?;
+            let spent = rt.thread_cpu_time()?.saturating_sub(start);
+            shown.spent = shown.spent.saturating_add(spent);
+            shown.units = shown.units.saturating_add(u64::from(receipt.shown));
+        }
+        Ok(shown)
+    }
+
+    /// Writes each millisecond until it is told to stop.
+    pub(crate) fn write_until<R: Wait + Drop, Q: Wait + Clock>(
+        &mut self,
+        rt: &Q,
+        directory: &Directory<S, R>,
+        stop: &AtomicBool,
+    ) -> Result<(), Fault> {
+        for _ in 0..WRITES_MOST {
+            if stop.load(Ordering::SeqCst) {
+                break;
+            }
+            self.write(rt, directory)?;
+            thread::sleep(rt, Duration::from_millis(PAUSE));
+        }
+        Ok(())
+    }
+}

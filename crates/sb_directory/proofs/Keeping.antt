@@ -1,0 +1,135 @@
+-- What lies under the lock stays a replay of its story.
+use Rattle.std.proofs.Common.{◌≡◌, ℕ, ◌+◌, ◌≤◌, ◌<◌, ◌^◌, ◌==◌, Bool, true, false, cond, not, List, [], ◌∷◌, ◌++◌, filter, map, flat_map, Result, Ok, Err, nat_eq, nat_le, le-leb, leb-true, eqb-true, refl, sym, ap, subst, ◌∙◌, arith, append-nil}
+use Rattle.std.proofs.lemmas.Grind.{flat_map-append}
+use Rattle.std.specs.Cmp.Lexicographic.{pointwise}
+use mathlib.Core.List.{IsPrefix}
+use Rattle.sb_types.specs.declared.fault.Fault.{Fault}
+use Rattle.sb_types.specs.declared.fault.Fault.TheVariants.{OutOfTurn, TableFull}
+use Rattle.sb_types.specs.Limits.{is_entry, is_delta}
+use Rattle.sb_types.specs.Records.{Entry, Table, Block}
+use Rattle.sb_types.proofs.Texts.{text_same}
+use Rattle.sb_table.specs.Plain.{with_entry, is_full_for}
+use Rattle.sb_holdings.specs.declared.ends.BlockEnd.{BlockEnd}
+use Rattle.sb_holdings.specs.Held.{Held, shown_of, written}
+use Rattle.sb_holdings.specs.Plain.{IsHoldings, next_version, own_answer}
+use Rattle.sb_holdings.specs.Nodes.{Node, NodeEvent, Wrote, node_after_event, replay_node}
+use Rattle.sb_holdings.specs.Treats.{Treats, took_each}
+use Rattle.sb_holdings.proofs.Changed.{shown-plain}
+use Rattle.sb_holdings.proofs.Lent.{entry-next}
+use Rattle.sb_holdings.proofs.Nodes.{replay_node-append}
+use Rattle.sb_node.specs.Cores.{Core, with_node}
+use Rattle.sb_watch.specs.declared.note.Note.{Note}
+use Rattle.sb_watch.specs.Records.{Hub}
+use Rattle.sb_watch.specs.Hubs.{AllNotes}
+use Rattle.sb_watch.proofs.KeptNotes.{weaker_keeps}
+use Rattle.sb_views.specs.declared.event.Event.{Event}
+use Rattle.sb_views.specs.declared.event.Event.TheVariants.{TookOwn, Applied}
+use Rattle.sb_views.specs.Growing.{AreGrown}
+use Rattle.sb_views.specs.Pages.{table_with_all}
+use Rattle.sb_views.specs.Stories.{steps_of, node_after}
+use Rattle.sb_views.proofs.Fronts.{prefix_trans}
+use Rattle.sb_views.proofs.Grown.{grown-held}
+use Rattle.sb_views.proofs.Growing.{grown-on, own-grown, delta-grown}
+use Rattle.sb_views.proofs.Leading.{own-leads}
+use Rattle.sb_directory.specs.Notes.{note_of, with_notes, entered_of, versions_of, is_held}
+use Rattle.sb_directory.specs.Locks.{Locked, IsLocked, after_own, after_delta, with_shown, with_hub}
+use Rattle.sb_directory.proofs.Noting.{told-held, since-held}
+
+-- ---- the story
+
+pub node-own : (opening : Node) (story : List Event) (e : Entry) → node_after opening (story ++ TookOwn e ∷ []) ≡ node_after_event (node_after opening story) (Wrote e)
+node-own opening story e =
+    ap (replay_node opening) (flat_map-append steps_of story (TookOwn e ∷ [])) ∙ replay_node-append opening (flat_map steps_of story) (Wrote e ∷ [])
+
+pub node-delta : (opening : Node) (story : List Event) (blocks : List Block) (ends : List BlockEnd)
+    → node_after opening (story ++ Applied blocks ends ∷ []) ≡ replay_node (node_after opening story) (took_each blocks ends)
+node-delta opening story blocks ends =
+    ap (replay_node opening) (flat_map-append steps_of story (Applied blocks ends ∷ []) ∙ ap (λ (xs : List NodeEvent). flat_map steps_of story ++ xs) (append-nil (took_each blocks ends)))
+    ∙ replay_node-append opening (flat_map steps_of story) (took_each blocks ends)
+
+pub begins-longer : (ready story : List Event) (event : Event) → IsPrefix ready story → IsPrefix ready (story ++ event ∷ [])
+begins-longer ready story event begins = prefix_trans ready story (story ++ event ∷ []) begins (event ∷ [], refl)
+
+-- ---- what watches are told of
+
+raised : (note : Note) (old new : Held) → AreGrown old new → IsHoldings new → is_held old note ≡ true → is_held new note ≡ true
+raised note old new grown is held =
+    let le : (shown_of old note.owner).held ≤ (shown_of new note.owner).held =
+    grown-held (shown_of old note.owner) (shown_of new note.owner) (grown note.owner) (shown-plain new is note.owner) in
+    le-leb note.version (shown_of new note.owner).held (omega (arith, le, leb-true note.version (shown_of old note.owner).held held))
+
+pub notes-raised : (old new : Held) (hub : Hub) → AreGrown old new → IsHoldings new → AllNotes (is_held old) hub → AllNotes (is_held new) hub
+notes-raised old new hub grown is notes =
+    weaker_keeps (λ note. is_held old note ≡ true) (λ note. is_held new note ≡ true) hub (λ note held. raised note old new grown is held) notes
+
+-- ---- an own write
+
+turn-case : (e : Entry) (next : ℕ) (b : Bool) (other : Result (Unit {0}) Fault) → (e.version == next) ≡ b → cond (not b) (Err (OutOfTurn next)) other ≡ Ok tt → e.version ≡ next
+turn-case e next true other is answer = eqb-true e.version next is
+turn-case e next false other is answer = absurd (cc)
+
+pub own-turn : (held : Held) (e : Entry) → own_answer held e ≡ Ok tt → e.version ≡ next_version (shown_of held held.me).held
+own-turn held e answer =
+    turn-case e (next_version (shown_of held held.me).held) (e.version == next_version (shown_of held held.me).held) _ refl answer
+
+own-held : (held : Held) (e : Entry) → e.version ≡ (shown_of held held.me).held + 1 → (shown_of (written held e) held.me).held ≡ e.version
+own-held held e next =
+    ap (λ (t : Table). t.held) (own-leads held e next held.me)
+    ∙ ap (λ (b : Bool). (table_with_all (shown_of held held.me) (map (λ (p : List ℕ × Entry). p.1) (cond b ((held.me, e) ∷ []) []))).held) (text_same held.me held.me refl)
+
+own-noted : (held : Held) (e : Entry) → e.version ≡ (shown_of held held.me).held + 1 → is_held (written held e) (note_of (held.me, e)) ≡ true
+own-noted held e next = le-leb e.version (shown_of (written held e) held.me).held (omega (arith, own-held held e next))
+
+module _ (opening : Node) (ready : List Event) (old : Locked) (is : IsLocked opening ready old) (holds : IsHoldings old.core.node.held) where
+  module _ (e : Entry) (turn : own_answer old.core.node.held e ≡ Ok tt) (entry : is_entry e ≡ true) (few : (shown_of old.core.node.held old.core.node.held.me).held < 2 ^ 64)
+      (after : IsHoldings (written old.core.node.held e)) where
+    next : e.version ≡ (shown_of old.core.node.held old.core.node.held.me).held + 1
+    next = entry-next e _ entry few (own-turn old.core.node.held e turn)
+
+    pub own-locked : (shown : List Event) → IsLocked opening ready (after_own old e shown)
+    own-locked shown = record {
+      node = ap (λ (n : Node). node_after_event n (Wrote e)) is.node ∙ sym (node-own opening old.story e);
+      begins = begins-longer ready old.story (TookOwn e) is.begins;
+      grown = grown-on (node_after opening ready).held old.core.node.held (written old.core.node.held e) holds is.grown (own-grown old.core.node.held e holds);
+      notes = told-held (written old.core.node.held e) old.hub ((old.core.node.held.me, e) ∷ [])
+          (notes-raised old.core.node.held (written old.core.node.held e) old.hub (own-grown old.core.node.held e holds) after is.notes)
+          (own-noted old.core.node.held e next, tt);
+    }
+
+    -- so it is wherever the core, the story and the watches are these
+    pub own-there : (core : Core) (front : List Event) (hub : Hub) (shown : List Event) → core ≡ with_node old.core (node_after_event old.core.node (Wrote e))
+        → front ≡ old.story ++ TookOwn e ∷ [] → hub ≡ with_notes old.hub ((old.core.node.held.me, e) ∷ [])
+        → IsLocked opening ready (record { core = core; hub = hub; story = front; shown = shown })
+    own-there core front hub shown taken longer told =
+        subst (IsLocked opening ready) (λ i. record { core = sym taken i; hub = sym told i; story = sym longer i; shown = shown }) (own-locked shown)
+
+  module _ (blocks : List Block) (ends : List BlockEnd) (delta : is_delta blocks ≡ true) (treats : Treats old.core.node blocks ends)
+      (after : IsHoldings (replay_node old.core.node (took_each blocks ends)).held) where
+    pub delta-locked : (shown : List Event) → IsLocked opening ready (after_delta old blocks ends shown)
+    delta-locked shown =
+        let new = replay_node old.core.node (took_each blocks ends) in
+        let grown = delta-grown old.core.node blocks ends holds delta treats in
+        record {
+          node = ap (λ (n : Node). replay_node n (took_each blocks ends)) is.node ∙ sym (node-delta opening old.story blocks ends);
+          begins = begins-longer ready old.story (Applied blocks ends) is.begins;
+          grown = grown-on (node_after opening ready).held old.core.node.held new.held holds is.grown grown;
+          notes = told-held new.held old.hub (entered_of blocks old.core.node.held new.held)
+              (notes-raised old.core.node.held new.held old.hub grown after is.notes)
+              (since-held new.held (versions_of old.core.node.held blocks) after);
+        }
+
+    pub delta-there : (core : Core) (front : List Event) (hub : Hub) (shown : List Event) → core ≡ with_node old.core (replay_node old.core.node (took_each blocks ends))
+        → front ≡ old.story ++ Applied blocks ends ∷ []
+        → hub ≡ with_notes old.hub (entered_of blocks old.core.node.held (replay_node old.core.node (took_each blocks ends)).held)
+        → IsLocked opening ready (record { core = core; hub = hub; story = front; shown = shown })
+    delta-there core front hub shown taken longer told =
+        subst (IsLocked opening ready) (λ i. record { core = sym taken i; hub = sym told i; story = sym longer i; shown = shown }) (delta-locked shown)
+
+-- ---- what changes nothing of the node
+
+pub moved : (opening : Node) (ready later : List Event) (l : Locked) (shown : List Event) → IsLocked opening ready l → IsPrefix later l.story
+    → AreGrown (node_after opening later).held l.core.node.held → IsLocked opening later (with_shown l shown)
+moved opening ready later l shown is begins grown = record { node = is.node; begins = begins; grown = grown; notes = is.notes }
+
+pub hub-locked : (opening : Node) (ready : List Event) (l : Locked) (hub : Hub) → IsLocked opening ready l → AllNotes (is_held l.core.node.held) hub → IsLocked opening ready (with_hub l hub)
+hub-locked opening ready l hub is notes = record { node = is.node; begins = is.begins; grown = is.grown; notes = notes }

@@ -1,0 +1,5 @@
+use Rattle.sb_directory.proofs.Batches.{IsGathering}
+use Rattle.sb_directory.proofs.pending.pending.Given as goal
+
+abbrev pub invariant-loop-owner : goal.invariant-loop-owner
+invariant-loop-owner l = IsGathering l.reached l.holdings l.batch l.owner-iterator

@@ -1,0 +1,15 @@
+use Rattle.std.proofs.Common.{ℕ, ◌+◌, List, ap, subst, ◌∙◌}
+use Rattle.std.specs.Vec.Iter.{into_iter_items}
+use Rattle.sb_directory.specs.Seats.{Seat}
+use Rattle.sb_directory.proofs.Sharing.{IsJoining, joining_goes_on}
+use Rattle.sb_directory.proofs.shares.join_all.Goals as goal
+
+pub loop-seat-preserved : goal.loop-seat-preserved
+loop-seat-preserved g c =
+    let story = c.args.front.now in
+    let all = c.args.seats.items in
+    let parts = c.loop-seat.all.parts in
+    let amount = c.loop-seat.all.amount in
+    let left = subst (λ (rest : List Seat). IsJoining story all parts amount rest) c.in-Some.ensures.steps.0 c.loop-seat.invariant in
+    joining_goes_on story all parts amount c.in-Some.seat (into_iter_items c.next.new.self) c.merge.new.self.parts c.merge.new.self.amount left c.know.ensures
+    (c.merge.ensures.parts ∙ ap (λ (n : ℕ). parts + n) c.into_share.ensures.parts) (c.merge.ensures.amount ∙ ap (λ (n : ℕ). amount + n) c.into_share.ensures.amount)

@@ -1,0 +1,26 @@
+use Rattle.std.proofs.Common.{◌≡◌, ◌≤◌, Err, IfErr, sym, ap, subst, ◌∙◌}
+use Rattle.sb_types.specs.declared.fault.Fault.TheVariants.{NoWatch}
+use Rattle.sb_holdings.specs.Held.{shown_of}
+use Rattle.sb_holdings.specs.Nodes.{Node}
+use Rattle.sb_watch.specs.Hubs.{answer_at}
+use Rattle.sb_views.specs.Stories.{node_after}
+use Rattle.sb_directory.specs.Locks.{Locked}
+use Rattle.sb_directory.proofs.Polling.{answer-none, answer-some, no-fault}
+use Rattle.sb_directory.proofs.under.Under.poll.Goals as goal
+
+pub returns-then-not-has_watch-clause-answer : goal.returns-then-not-has_watch-clause-answer
+returns-then-not-has_watch-clause-answer g c other =
+    subst (λ (l : Locked). answer_at l.hub c.args.id ≡ Err NoWatch) c.self.view_is (answer-none c.self.inside.locked.hub c.args.id (sym c.has_watch.ensures ∙ c.if-not-has_watch.true))
+
+pub returns-then-not-refresh-clause-refused : goal.returns-then-not-refresh-clause-refused
+returns-then-not-refresh-clause-refused g c =
+    subst (λ (l : Locked). IfErr (answer_at l.hub c.args.id) _) c.self.view_is
+    (no-fault (answer_at c.self.inside.locked.hub c.args.id) _ (answer-some c.self.inside.locked.hub c.args.id (sym c.has_watch.ensures ∙ c.if-not-has_watch.false)))
+
+pub returns-clause-held : goal.returns-clause-held
+returns-clause-held g c note given =
+    let opening = g.S.Site.opening in
+    let locked = c.self-2.inside.locked in
+    let kept : note.version ≤ (shown_of locked.core.node.held note.owner).held = c.poll.ensures.held note given in
+    let told : c.refresh.new.seat.told ≡ locked.story = c.refresh.ensures.told c.if-not-refresh.false ∙ sym (ap (λ (l : Locked). l.story) c.self-2.view_is) in
+    subst (λ (n : Node). note.version ≤ (shown_of n.held note.owner).held) (c.front-story.ensures.node ∙ ap (node_after opening) (sym told)) kept

@@ -1,0 +1,5 @@
+pub mod Reached
+pub mod Notes
+pub mod Locks
+pub mod Seats
+pub mod Serving

@@ -1,0 +1,52 @@
+-- What is known of a seat, and what the node answers after some events.
+use Rattle.std.specs.Prelude.{◌≡◌, ◌≢◌, ℕ, ◌+◌, Bool, MatchBool, if◌then◌else◌, ◌⊎◌, List, [], ◌∷◌, Result, Ok, Err, IfErr}
+use mathlib.Core.List.{IsPrefix}
+use Rattle.sb_types.specs.Text.{is_between}
+use Rattle.sb_types.specs.declared.limits.TheConstants.{SEATS_MOST}
+use Rattle.sb_types.specs.declared.fault.Fault.{Fault}
+use Rattle.sb_types.specs.declared.fault.Fault.TheVariants.{NoMemory, BadSetting}
+use Rattle.sb_holdings.specs.Nodes.{Node}
+use Rattle.sb_log.specs.Records.{Committed}
+use Rattle.sb_node.specs.Cores.{committed_answer}
+use Rattle.sb_views.specs.declared.event.Event.{Event}
+use Rattle.sb_views.specs.Stories.{node_after}
+use Rattle.sb_directory.specs.Locks.{Locked, unless_spent}
+
+-- what its reader was told or has seen, and how many events its calls made
+pub record Seat : Type 0 where
+  pub told : List Event
+  pub events : ℕ
+
+-- a seat whose calls made no event
+abbrev pub new_seat : List Event → Seat
+new_seat told = record { told = told; events = 0 }
+
+-- how many events the calls of these seats made
+abbrev pub events_of_all : List Seat → ℕ
+events_of_all [] = 0
+events_of_all (seat ∷ seats) = seat.events + events_of_all seats
+
+-- what each of these seats was told or has seen begins the story
+abbrev pub AllBegin : List Event → List Seat → Type 0
+AllBegin story [] = Unit {0}
+AllBegin story (seat ∷ seats) = IsPrefix seat.told story × AllBegin story seats
+
+-- whether a directory may have so many seats
+abbrev pub seats_due : ℕ → Result (Unit {0}) Fault
+seats_due seats = if is_between 1 SEATS_MOST seats then Ok tt else Err BadSetting
+
+-- what a committed write is answered after these events, where there is memory
+abbrev pub own_due_after : Node → List Event → Committed → Result (Unit {0}) Fault
+own_due_after opening story c = unless_spent story (committed_answer (node_after opening story) c)
+
+-- what a delta is answered after these events, where there is memory
+abbrev pub delta_due_after : List Event → Result (Unit {0}) Fault
+delta_due_after story = unless_spent story (Ok tt)
+
+-- a refusal is what is due; where nothing is due it is want of memory
+abbrev pub Refuses : Result (Unit {0}) Fault → Fault → Type 0
+Refuses due fault = IfErr due (λ other. fault ≡ other) × (fault ≢ NoMemory → due ≡ Err fault)
+
+-- all that happened is shown where that is said; where it is not said, that may be so too, or what is shown stays
+abbrev pub ShowsWhereSaid : Bool → Locked → Locked → Type 0
+ShowsWhereSaid said old new = MatchBool said (new.shown ≡ new.story) ((new.shown ≡ new.story) ⊎ (new.shown ≡ old.shown))

@@ -1,0 +1,248 @@
+//! The directory: a node that threads share.
+ghost use Rattle.std.specs.Prelude.{◌≡◌, ◌≢◌, ◌≤◌, ◌+◌, ◌++◌, ◌∷◌, List, [], true, length, replicate, if◌then◌else◌, Ok, Err, MatchResult, IfOk, IfErr};
+ghost use mathlib.Core.List.{IsPrefix};
+ghost use Rattle.sb_types.specs.Faults.{Gives};
+ghost use Rattle.sb_holdings.specs.Held.{shown_of};
+ghost use Rattle.sb_holdings.specs.Treats.{Treats};
+ghost use Rattle.sb_session.specs.Handlers.{tells, gives, IsRefusal};
+ghost use Rattle.sb_views.specs.Stories.{node_after};
+ghost use Rattle.sb_views.specs.declared.event.Event.{Event};
+ghost use Rattle.sb_views.specs.declared.event.Event.TheVariants as events;
+ghost use Rattle.sb_watch.specs.declared.note.Polled.TheVariants as answers;
+ghost use Rattle.sb_watch.specs.declared.note.Note.{Note};
+ghost use Rattle.sb_watch.specs.Records.{Hub};
+ghost use Rattle.sb_watch.specs.Hubs.{next_id, has_watch, answer_at};
+ghost use Rattle.sb_directory.specs.Seats as spec;
+ghost use Rattle.sb_directory.specs.Serving.{AnswersAfter};
+
+use crate::locked::Locked;
+use crate::receipt::{Applied, Closing, Receipt};
+use crate::seat::ReaderSeat;
+use crate::shares::seat_all;
+use crate::site::Configured;
+use crate::under::Under;
+use sb_digest::Digest;
+use sb_log::Committed;
+use sb_node::NodeCore;
+use sb_types::{Delta, Fault, Name, SEATS_MOST, Settings};
+use sb_views::Opened;
+use sb_watch::{Filter, Polled, WatchId};
+use std::alloc::Global;
+use std::marker::PhantomData;
+use std::sync::ledger::Blank;
+use std::sync::{Mutex, Wait};
+
+/// What never changes: how many seats there are, and the settings and the name of the node.
+#[derive(Drop)]
+struct Fixed<S: Configured> {
+    seats: usize,
+    settings: Settings,
+    name: Name,
+    of: PhantomData<S>,
+    ghost all: { seats ≡ S.seats },
+    ghost set: { settings ≡ S.settings },
+    ghost named: { name ≡ S.opening.held.me },
+}
+
+/// A node that threads share, each from a seat of its own. Each call takes the one lock, so that its answer is that of the
+/// node after all events up to then; these begin with those that the seat was told or has seen.
+#[derive(Drop)]
+pub struct Directory<S: Configured, R: Wait + Drop> {
+    under: Mutex<Under<S, R>>,
+    fixed: Fixed<S>,
+}
+
+impl<S: Configured, R: Wait + Drop> Directory<S, R> {
+    /// A directory of a node as it was opened, and its seats, which have seen nothing. It keeps `rt` to wait for readers
+    /// that read when it shows what happened. `BadSetting` where there are not 1 to 64 seats; `NoMemory`. Each drops
+    /// what was given.
+    pub fn make(
+        rt: R,
+        alloc: Global,
+        opened: Opened,
+        blank: Blank,
+        core: NodeCore,
+        seats: usize,
+    ) -> Result<(Directory<S, R>, Vec<ReaderSeat<S>>), Fault>
+        requires story { opened.seen.book ≡ S.story }
+        requires opening { S.opening ≡ core.node }
+        requires settings { S.settings ≡ core.settings }
+        requires name { blank.name ≡ S.name }
+        requires parts { blank.parts ≡ S.parts }
+        requires all { (seats ≡ S.seats) × (seats ≡ S.parts) }
+        ensures seats { IfOk result (λ made. made.1.items ≡ replicate seats (spec.new_seat [])) }
+        ensures answer { IfErr result (λ fault. fault ≢ Fault.NoMemory → spec.seats_due seats ≡ Err fault) }
+        ensures refused { IfErr (spec.seats_due seats) (λ fault. result ≡ Err fault) }
+    {
+        if seats < 1 || seats as u64 > SEATS_MOST {
+            return Err(Fault::BadSetting);
+        }
+        let fixed = Fixed {
+            seats,
+            settings: core.settings(),
+            name: *core.name(),
+            of: PhantomData,
+        };
+        let (story, start) = opened.named::<S>();
+        let (locked, readers) = Locked::open(alloc, rt, story, start, core, seats)?;
+        let (book, mut rest) = blank.open::<S>();
+        let made = seat_all(alloc, readers, &mut rest)?;
+        let under = Mutex::new(Under::new(locked, book, rest));
+        Ok((Directory { under, fixed }, made))
+    }
+
+    /// The settings of the node. It takes no lock.
+    pub fn settings(&self) -> &Settings
+        ensures { result.now ≡ S.settings }
+    {
+        &self.fixed.settings
+    }
+
+    /// The name of the node. It takes no lock.
+    pub fn name(&self) -> &Name
+        ensures { result.now ≡ S.opening.held.me }
+    {
+        &self.fixed.name
+    }
+
+    /// Enters a committed write of the node's own, tells watches of it, and shows readers all that happened; gives its
+    /// version, and whether the seat saw it. Where it did not, the next call that shows makes up for it. `WrongOwner`,
+    /// `OwnerConflict`, `OutOfTurn` and `TableFull` as of the node; `TurnsSpent` after 2^64 - 1 events; `NoMemory`. Each
+    /// leaves everything as it was, the seat too.
+    pub fn take_own<Q: Wait>(
+        &self,
+        rt: &Q,
+        seat: &mut ReaderSeat<S>,
+        committed: &Committed,
+    ) -> Result<Receipt, Fault>
+        ensures answer { (l : List Event) × IsPrefix seat.old.told l × MatchResult result
+            (λ receipt. (spec.own_due_after S.opening l committed.now ≡ Ok tt)
+            × (receipt.shown ≡ true → seat.new.told ≡ l ++ events.TookOwn committed.now.entry ∷ []))
+            (spec.Refuses (spec.own_due_after S.opening l committed.now)) }
+        ensures count { MatchResult result (λ _. seat.new.events ≡ seat.old.events + 1) (λ _. seat.new ≡ seat.old) }
+        ensures grows { IsPrefix seat.old.told seat.new.told }
+        ensures version { IfOk result (λ receipt. receipt.version ≡ committed.now.entry.version) }
+    {
+        self.under.lock(rt).take_own(rt, seat, committed)
+    }
+
+    /// Takes each block of a delta in turn, tells watches of each entry that it entered, and shows readers all that
+    /// happened; gives how the blocks ended, and whether the seat saw it. Where it did not, the next call that shows
+    /// makes up for it. `TurnsSpent` after 2^64 - 1 events; `NoMemory` where there is no room for the ends. Each leaves
+    /// everything as it was, the seat too.
+    pub fn apply<Q: Wait>(
+        &self,
+        rt: &Q,
+        seat: &mut ReaderSeat<S>,
+        delta: &Delta,
+    ) -> Result<Applied, Fault>
+        ensures answer { (l : List Event) × IsPrefix seat.old.told l × MatchResult result
+            (λ applied. (spec.delta_due_after l ≡ Ok tt) × Treats (node_after S.opening l) delta.now applied.ends
+            × (applied.shown ≡ true → seat.new.told ≡ l ++ events.Applied delta.now applied.ends ∷ []))
+            (spec.Refuses (spec.delta_due_after l)) }
+        ensures fault { IfErr result IsRefusal }
+        ensures count { MatchResult result (λ _. seat.new.events ≡ seat.old.events + 1) (λ _. seat.new ≡ seat.old) }
+        ensures grows { IsPrefix seat.old.told seat.new.told }
+    {
+        self.under.lock(rt).apply(rt, seat, delta)
+    }
+
+    /// The digest of the owners from a name on, or of all, as of the node; `want` says whether a digest is wanted in
+    /// answer. `NoMemory`.
+    pub fn digest<Q: Wait>(
+        &self,
+        rt: &Q,
+        seat: &ReaderSeat<S>,
+        from: Option<Name>,
+        want: bool,
+    ) -> Result<Digest, Fault>
+        ensures answer { (l : List Event) × IsPrefix seat.now.told l × AnswersAfter S.opening S.settings l (tells from want result) }
+        ensures memory { IfErr result (λ fault. fault ≡ Fault.NoMemory) }
+    {
+        self.under.lock(rt).digest(rt, seat, from, want)
+    }
+
+    /// What a peer that sent this digest lacks, as of the node. `NoMemory`.
+    pub fn deltas<Q: Wait>(
+        &self,
+        rt: &Q,
+        seat: &ReaderSeat<S>,
+        digest: &Digest,
+    ) -> Result<Delta, Fault>
+        ensures answer { (l : List Event) × IsPrefix seat.now.told l × AnswersAfter S.opening S.settings l (gives digest.now result) }
+        ensures memory { IfErr result (λ fault. fault ≡ Fault.NoMemory) }
+    {
+        self.under.lock(rt).deltas(rt, seat, digest)
+    }
+
+    /// The greatest version under the own name that a block told of and the node never wrote; none where no block did.
+    pub fn conflict<Q: Wait>(&self, rt: &Q, seat: &ReaderSeat<S>) -> Option<u64>
+        ensures { (l : List Event) × IsPrefix seat.now.told l × (result ≡ (node_after S.opening l).conflict) }
+    {
+        self.under.lock(rt).conflict(rt, seat)
+    }
+
+    /// Adds a watch with room for 1 to 1,024 notes, and gives its id. `BadSetting`, `WatchesFull` and `NoMemory` as of
+    /// the watches. Each leaves everything as it was.
+    pub fn watch<Q: Wait>(&self, rt: &Q, filter: Filter, capacity: usize) -> Result<WatchId, Fault>
+        ensures { (hub : Hub) × Gives result (next_id hub capacity) × ((fault : Fault) → next_id hub capacity ≡ Err fault → result ≡ Err fault) }
+    {
+        self.under.lock(rt).watch(filter, capacity)
+    }
+
+    /// Drops a watch with its notes. `NoWatch` where no watch with the id stands, which changes nothing.
+    pub fn unwatch<Q: Wait>(&self, rt: &Q, id: WatchId) -> Result<(), Fault>
+        ensures { (hub : Hub) × (result ≡ (if has_watch hub id then Ok tt else Err Fault.NoWatch)) }
+    {
+        self.under.lock(rt).unwatch(id)
+    }
+
+    /// Shows readers all that happened, and says whether the seat saw it. Where it did not, what is shown stays.
+    pub fn refresh<Q: Wait>(&self, rt: &Q, seat: &mut ReaderSeat<S>) -> bool
+        ensures grows { IsPrefix seat.old.told seat.new.told }
+        ensures count { seat.new.events ≡ seat.old.events }
+    {
+        self.under.lock(rt).refresh(rt, seat)
+    }
+
+    /// Shows readers all that happened, and gives what the watch answers once the seat saw it: how many notes it lost,
+    /// where it lost any since it last said so; then its notes, the oldest first; then that none is left. `NoWatch` where
+    /// no watch with the id stands; `NoMemory` where there is none to show what happened, and then the note is still to
+    /// come.
+    pub fn poll<Q: Wait>(
+        &self,
+        rt: &Q,
+        seat: &mut ReaderSeat<S>,
+        id: WatchId,
+    ) -> Result<Polled, Fault>
+        ensures answer { (hub : Hub) × Gives result (answer_at hub id) × IfErr (answer_at hub id) (λ fault. result ≡ Err fault) }
+        ensures held { (note : Note) → result ≡ Ok (answers.Note note) → note.version ≤ (shown_of (node_after S.opening seat.new.told).held note.owner).held }
+        ensures grows { IsPrefix seat.old.told seat.new.told }
+        ensures count { seat.new.events ≡ seat.old.events }
+    {
+        self.under.lock(rt).poll(rt, seat, id)
+    }
+
+    /// Ends a directory, and gives its node with the number of events. `BadSetting` where these are not all of its seats:
+    /// then directory and seats come back.
+    pub fn close<Q: Wait>(
+        self,
+        rt: &Q,
+        seats: Vec<ReaderSeat<S>>,
+    ) -> Result<Closing, (Fault, Directory<S, R>, Vec<ReaderSeat<S>>)>
+        requires { S.seats ≡ S.parts }
+        ensures closed { IfOk result (λ closing. (l : List Event) × (closing.core.node ≡ node_after S.opening l) × (closing.events ≡ length l)
+            × (closing.events ≡ spec.events_of_all seats.items) × spec.AllBegin l seats.items) }
+        ensures refused { IfErr result (λ back. (back.0 ≡ Fault.BadSetting) × (back.2.items ≡ seats.items)) }
+        ensures all { MatchResult result (λ _. length seats.items ≡ S.seats) (λ _. length seats.items ≢ S.seats) }
+    {
+        if seats.len() != self.fixed.seats {
+            return Err((Fault::BadSetting, self, seats));
+        }
+        let Self {
+            under,
+            fixed: _fixed,
+        } = self;
+        Ok(under.into_inner().close(rt, seats))
+    }
+}

@@ -1,0 +1,99 @@
+//! A directory at one end of a session.
+ghost use Rattle.std.specs.Prelude.{◌≡◌};
+
+use crate::directory::Directory;
+use crate::receipt::Applied;
+use crate::seat::ReaderSeat;
+use crate::site::Configured;
+use sb_digest::Digest;
+use sb_holdings::Report;
+use sb_session::Handler;
+use sb_types::{Delta, Fault, Name};
+use std::marker::Model;
+use std::sync::Wait;
+
+/// A directory as a session asks it, from a seat of its own. Contracts see it as the seat.
+#[derive(Drop)]
+pub struct Served<'a, S: Configured, R: Wait + Drop, Q: Wait> {
+    rt: &'a Q,
+    directory: &'a Directory<S, R>,
+    seat: ReaderSeat<S>,
+}
+
+impl<'a, S: Configured, R: Wait + Drop, Q: Wait> Model for Served<'a, S, R, Q> {
+    ghost use Rattle.sb_directory.specs.Seats as spec;
+
+    ghost Value = { spec.Seat };
+
+    ghost view = { λ s. s.seat };
+}
+
+impl<'a, S: Configured, R: Wait + Drop, Q: Wait> Served<'a, S, R, Q> {
+    /// A directory asked from this seat.
+    pub fn new(
+        rt: &'a Q,
+        directory: &'a Directory<S, R>,
+        seat: ReaderSeat<S>,
+    ) -> Served<'a, S, R, Q>
+        ensures { result ≡ seat }
+    {
+        Served {
+            rt,
+            directory,
+            seat,
+        }
+    }
+
+    /// The seat.
+    pub fn into_seat(self) -> ReaderSeat<S>
+        ensures { result ≡ self.entry }
+    {
+        let Served {
+            rt: _,
+            directory: _,
+            seat,
+        } = self;
+        seat
+    }
+}
+
+impl<'a, S: Configured, R: Wait + Drop, Q: Wait> Handler for Served<'a, S, R, Q> {
+    ghost use Rattle.std.specs.Prelude.{◌≡◌};
+    ghost use Rattle.std.proofs.Common.{refl, ◌∙◌};
+    ghost use Rattle.sb_directory.specs.Serving.{Serves, IsLater, serves-nothing, serves-later, later-same, later-on};
+
+    // Others may have entered anything since the last call.
+    ghost step = { Serves S.opening S.settings };
+
+    // The seat is as it was.
+    ghost stays = { λ old new. new ≡ old };
+
+    ghost grows = { IsLater };
+
+    fn digest(&mut self, from: Option<Name>, want: bool) -> Result<Digest, Fault> {
+        self.directory.digest(self.rt, &self.seat, from, want)
+    }
+
+    fn deltas(&mut self, told: &Digest) -> Result<Delta, Fault> {
+        self.directory.deltas(self.rt, &self.seat, told)
+    }
+
+    fn apply(&mut self, delta: &Delta) -> Result<Report, Fault> {
+        match self.directory.apply(self.rt, &mut self.seat, delta) {
+            Ok(Applied { ends, shown: _ }) => Ok(ends),
+            Err(fault) => Err(fault),
+        }
+    }
+
+    ghost enters_nothing = { serves-nothing S.opening S.settings };
+
+    ghost stays_still = { λ state. refl };
+
+    ghost stays_on = { λ old mid new a b. b ∙ a };
+
+    ghost step_grows = { serves-later S.opening S.settings };
+
+    ghost grows_still = { later-same };
+
+    ghost grows_on = { later-on };
+}

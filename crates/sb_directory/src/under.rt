@@ -1,0 +1,276 @@
+//! What the lock guards: the node, and the book of its seats.
+ghost use Rattle.std.specs.Prelude.{◌≡◌, ◌≤◌, ◌+◌, ◌++◌, ◌∷◌, [], true, false, length, if◌then◌else◌, Ok, Err, MatchResult, IfOk, IfErr, OnOk, OnErr};
+ghost use mathlib.Core.List.{IsPrefix};
+ghost use Rattle.sb_types.specs.Faults.{Gives};
+ghost use Rattle.sb_holdings.specs.Held.{shown_of};
+ghost use Rattle.sb_holdings.specs.Treats.{Treats};
+ghost use Rattle.sb_session.specs.Handlers.{tells, gives, IsRefusal};
+ghost use Rattle.sb_views.specs.Stories.{node_after};
+ghost use Rattle.sb_views.specs.declared.event.Event.TheVariants as events;
+ghost use Rattle.sb_watch.specs.declared.note.Polled.TheVariants as answers;
+ghost use Rattle.sb_watch.specs.declared.note.Note.{Note};
+ghost use Rattle.sb_watch.specs.Hubs.{next_id, has_watch, answer_at, with_watch, with_answer, without_watch};
+ghost use Rattle.sb_directory.specs.Locks as locks;
+ghost use Rattle.sb_directory.specs.Seats as spec;
+ghost use Rattle.sb_directory.specs.Serving.{AnswersAfter};
+
+use crate::locked::Locked;
+use crate::receipt::{Applied, Closing, Receipt};
+use crate::seat::ReaderSeat;
+use crate::shares::join_all;
+use crate::site::Configured;
+use sb_digest::Digest;
+use sb_log::Committed;
+use sb_types::{Delta, Fault, Name};
+use sb_views::Site;
+use sb_watch::{Filter, Polled, WatchId};
+use std::marker::Model;
+use std::sync::Wait;
+use std::sync::ledger::{Book, Share};
+
+/// The locked node with the book of its seats. Contracts see it as the locked node.
+#[derive(Drop)]
+pub(crate) struct Under<S: Configured, R: Wait + Drop> {
+    locked: Locked<S, R>,
+    book: Book<S>,
+    // What is left of the ledger once each seat has its part.
+    rest: Share<S>,
+}
+
+impl<S: Configured, R: Wait + Drop> Model for Under<S, R> {
+    ghost use Rattle.std.specs.Prelude.{◌≡◌, length};
+    ghost use Rattle.std.specs.Coded.{codes};
+    ghost use Rattle.std.specs.FinMap.{code};
+    ghost use Rattle.sb_directory.specs.Locks as locks;
+
+    ghost Value = { locks.Locked };
+
+    ghost coded = { Prim.hlevel (codes, code) };
+
+    ghost view = { λ u. u.locked };
+
+    ghost invariant = { λ u. (u.book.total ≡ length u.locked.story) × (u.locked.core.settings ≡ S.settings) × (u.rest.parts ≡ 0) × (u.rest.amount ≡ 0) };
+}
+
+/// Counts the event that a call of this seat made, and lets the seat see what readers are shown; says whether that is
+/// all that happened.
+fn settle<S: Site, R: Wait + Drop>(
+    locked: &Locked<S, R>,
+    book: &mut Book<S>,
+    seat: &mut ReaderSeat<S>,
+    shown: bool,
+) -> bool
+    ensures total { book.new.total ≡ book.old.total + 1 }
+    ensures count { seat.new.events ≡ seat.old.events + 1 }
+    ensures grows { IsPrefix seat.old.told seat.new.told }
+    ensures said { result ≡ true → shown ≡ true }
+    ensures told { result ≡ true → seat.new.told ≡ locked.now.story }
+{
+    seat.count(book);
+    if !shown {
+        return false;
+    }
+    seat.look(locked.front())
+}
+
+impl<S: Configured, R: Wait + Drop> Under<S, R> {
+    /// A node as it was opened, with the book of a ledger of which each seat has its part.
+    pub(crate) fn new(locked: Locked<S, R>, book: Book<S>, rest: Share<S>) -> Under<S, R>
+        requires story { locked.story ≡ [] }
+        requires settings { locked.core.settings ≡ S.settings }
+        requires total { book.total ≡ 0 }
+        requires parts { rest.parts ≡ 0 }
+        requires amount { rest.amount ≡ 0 }
+        ensures { result ≡ locked }
+    {
+        Under { locked, book, rest }
+    }
+
+    /// Enters a committed write for a seat.
+    pub(crate) fn take_own<Q: Wait>(
+        &mut self,
+        rt: &Q,
+        seat: &mut ReaderSeat<S>,
+        committed: &Committed,
+    ) -> Result<Receipt, Fault>
+        ensures taken { IfOk result (λ _. self.new ≡ locks.after_own self.old committed.now.entry self.new.shown) }
+        ensures shown { IfOk result (λ receipt. spec.ShowsWhereSaid receipt.shown self.old self.new) }
+        ensures err { OnErr result (self.new ≡ self.old) }
+        ensures answer { MatchResult result
+            (λ receipt. (spec.own_due_after S.opening self.old.story committed.now ≡ Ok tt)
+            × (receipt.shown ≡ true → seat.new.told ≡ self.old.story ++ events.TookOwn committed.now.entry ∷ []))
+            (spec.Refuses (spec.own_due_after S.opening self.old.story committed.now)) }
+        ensures count { MatchResult result (λ _. seat.new.events ≡ seat.old.events + 1) (λ _. seat.new ≡ seat.old) }
+        ensures knew { IsPrefix seat.old.told self.old.story }
+        ensures grows { IsPrefix seat.old.told seat.new.told }
+        ensures version { IfOk result (λ receipt. receipt.version ≡ committed.now.entry.version) }
+    {
+        seat.know(rt, self.locked.front());
+        match self.locked.take_own(rt, committed) {
+            Ok(shown) => {
+                let shown = settle(&self.locked, &mut self.book, seat, shown);
+                Ok(Receipt {
+                    version: committed.entry().version(),
+                    shown,
+                })
+            }
+            Err(fault) => Err(fault),
+        }
+    }
+
+    /// Takes the blocks of a delta for a seat.
+    pub(crate) fn apply<Q: Wait>(
+        &mut self,
+        rt: &Q,
+        seat: &mut ReaderSeat<S>,
+        delta: &Delta,
+    ) -> Result<Applied, Fault>
+        ensures taken { IfOk result (λ applied. self.new ≡ locks.after_delta self.old delta.now applied.ends self.new.shown) }
+        ensures shown { IfOk result (λ applied. spec.ShowsWhereSaid applied.shown self.old self.new) }
+        ensures err { OnErr result (self.new ≡ self.old) }
+        ensures answer { MatchResult result
+            (λ applied. (spec.delta_due_after self.old.story ≡ Ok tt)
+            × Treats (node_after S.opening self.old.story) delta.now applied.ends
+            × (applied.shown ≡ true → seat.new.told ≡ self.old.story ++ events.Applied delta.now applied.ends ∷ []))
+            (spec.Refuses (spec.delta_due_after self.old.story)) }
+        ensures fault { IfErr result IsRefusal }
+        ensures count { MatchResult result (λ _. seat.new.events ≡ seat.old.events + 1) (λ _. seat.new ≡ seat.old) }
+        ensures knew { IsPrefix seat.old.told self.old.story }
+        ensures grows { IsPrefix seat.old.told seat.new.told }
+    {
+        seat.know(rt, self.locked.front());
+        match self.locked.apply(rt, delta) {
+            Ok((ends, shown)) => {
+                let shown = settle(&self.locked, &mut self.book, seat, shown);
+                Ok(Applied { ends, shown })
+            }
+            Err(fault) => Err(fault),
+        }
+    }
+
+    /// The digest of the owners from a name on, for a seat.
+    pub(crate) fn digest<Q: Wait>(
+        &self,
+        rt: &Q,
+        seat: &ReaderSeat<S>,
+        from: Option<Name>,
+        want: bool,
+    ) -> Result<Digest, Fault>
+        ensures answer { AnswersAfter S.opening S.settings self.now.story (tells from want result) }
+        ensures memory { IfErr result (λ fault. fault ≡ Fault.NoMemory) }
+        ensures knew { IsPrefix seat.now.told self.now.story }
+    {
+        seat.know(rt, self.locked.front());
+        self.locked.digest(from, want)
+    }
+
+    /// What a peer that sent this digest lacks, for a seat.
+    pub(crate) fn deltas<Q: Wait>(
+        &self,
+        rt: &Q,
+        seat: &ReaderSeat<S>,
+        digest: &Digest,
+    ) -> Result<Delta, Fault>
+        ensures answer { AnswersAfter S.opening S.settings self.now.story (gives digest.now result) }
+        ensures memory { IfErr result (λ fault. fault ≡ Fault.NoMemory) }
+        ensures knew { IsPrefix seat.now.told self.now.story }
+    {
+        seat.know(rt, self.locked.front());
+        self.locked.deltas(digest)
+    }
+
+    /// The greatest version under the own name that the node never wrote, for a seat.
+    pub(crate) fn conflict<Q: Wait>(&self, rt: &Q, seat: &ReaderSeat<S>) -> Option<u64>
+        ensures answer { result ≡ (node_after S.opening self.now.story).conflict }
+        ensures knew { IsPrefix seat.now.told self.now.story }
+    {
+        seat.know(rt, self.locked.front());
+        self.locked.conflict()
+    }
+
+    /// Adds a watch.
+    pub(crate) fn watch(&mut self, filter: Filter, capacity: usize) -> Result<WatchId, Fault>
+        ensures answer { Gives result (next_id self.old.hub capacity) }
+        ensures refused { (fault : Fault) → next_id self.old.hub capacity ≡ Err fault → result ≡ Err fault }
+        ensures ok { OnOk result (self.new ≡ locks.with_hub self.old (with_watch self.old.hub filter capacity)) }
+        ensures err { OnErr result (self.new ≡ self.old) }
+    {
+        self.locked.watch(filter, capacity)
+    }
+
+    /// Drops a watch with its notes.
+    pub(crate) fn unwatch(&mut self, id: WatchId) -> Result<(), Fault>
+        ensures answer { result ≡ (if has_watch self.old.hub id then Ok tt else Err Fault.NoWatch) }
+        ensures left { self.new ≡ locks.with_hub self.old (without_watch self.old.hub id) }
+    {
+        self.locked.unwatch(id)
+    }
+
+    /// Shows readers all that happened, and lets the seat see it; says whether it did.
+    pub(crate) fn refresh<Q: Wait>(&mut self, rt: &Q, seat: &mut ReaderSeat<S>) -> bool
+        ensures left { self.new ≡ locks.with_shown self.old self.new.shown }
+        ensures shown { spec.ShowsWhereSaid result self.old self.new }
+        ensures knew { IsPrefix seat.old.told self.old.story }
+        ensures grows { IsPrefix seat.old.told seat.new.told }
+        ensures count { seat.new.events ≡ seat.old.events }
+        ensures told { result ≡ true → seat.new.told ≡ self.new.story }
+    {
+        seat.know(rt, self.locked.front());
+        if !self.locked.refresh() {
+            return false;
+        }
+        seat.look(self.locked.front())
+    }
+
+    /// Shows readers all that happened, lets the seat see it, and gives what the watch answers.
+    pub(crate) fn poll<Q: Wait>(
+        &mut self,
+        rt: &Q,
+        seat: &mut ReaderSeat<S>,
+        id: WatchId,
+    ) -> Result<Polled, Fault>
+        ensures answer { Gives result (answer_at self.old.hub id) }
+        ensures refused { IfErr (answer_at self.old.hub id) (λ fault. result ≡ Err fault) }
+        ensures held { (note : Note) → result ≡ Ok (answers.Note note) → note.version ≤ (shown_of (node_after S.opening seat.new.told).held note.owner).held }
+        ensures ok { OnOk result (self.new ≡ locks.with_shown (locks.with_hub self.old (with_answer self.old.hub id)) self.old.story) }
+        ensures err { OnErr result (self.new ≡ locks.with_shown self.old self.new.shown) }
+        ensures shown { OnErr result (spec.ShowsWhereSaid false self.old self.new) }
+        ensures knew { IsPrefix seat.old.told self.old.story }
+        ensures grows { IsPrefix seat.old.told seat.new.told }
+        ensures count { seat.new.events ≡ seat.old.events }
+        ensures told { OnOk result (seat.new.told ≡ self.new.story) }
+    {
+        seat.know(rt, self.locked.front());
+        if !self.locked.has_watch(id) {
+            return Err(Fault::NoWatch);
+        }
+        if !self.refresh(rt, seat) {
+            return Err(Fault::NoMemory);
+        }
+        // Does nothing: the call tells the prover that the node is what its story made of it.
+        let _story = self.locked.front();
+        self.locked.poll(id)
+    }
+
+    /// The node and how many events there were, where these are all seats.
+    pub(crate) fn close<Q: Wait>(self, rt: &Q, seats: Vec<ReaderSeat<S>>) -> Closing
+        requires all { length seats.items ≡ S.parts }
+        ensures node { result.core.node ≡ node_after S.opening self.story }
+        ensures events { result.events ≡ length self.story }
+        ensures made { result.events ≡ spec.events_of_all seats.items }
+        ensures begin { spec.AllBegin self.story seats.items }
+    {
+        let Self {
+            locked,
+            mut book,
+            rest,
+        } = self;
+        let mut all = join_all(rt, locked.front(), rest, seats);
+        book.audit(&mut all);
+        let events = locked.front().len();
+        Closing {
+            core: locked.into_core(),
+            events,
+        }
+    }
+}

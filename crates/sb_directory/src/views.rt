@@ -1,0 +1,158 @@
+//! Views that follow a node.
+ghost use Rattle.std.specs.Prelude.{◌≡◌, ◌<◌, ◌^◌, [], replicate, MatchBool, MatchResult, OnOk, OnErr, IfOk, IfErr};
+ghost use mathlib.Core.List.{IsPrefix};
+ghost use Rattle.sb_holdings.specs.Plain.{IsHoldings};
+ghost use Rattle.sb_views.specs.Growing.{AreGrown};
+ghost use Rattle.sb_views.specs.Stories.{node_after};
+
+use crate::pending::pending;
+use crate::reached::Reached;
+use crate::telling::lose;
+use sb_node::NodeCore;
+use sb_types::Fault;
+use sb_views::{Front, Reader, Site, ViewWriter, views};
+use std::alloc::Global;
+use std::marker::Model;
+use std::sync::Wait;
+
+/// The writer of the views of a node. Contracts see it as two beginnings of the story: the events that are shown, and
+/// those that will be once all that is pending is published.
+#[derive(Drop)]
+pub(crate) struct Views<S: Site, R: Wait + Drop> {
+    writer: ViewWriter<S, R>,
+    shown: Front<S>,
+    ready: Front<S>,
+    reached: Reached,
+    alloc: Global,
+}
+
+impl<S: Site, R: Wait + Drop> Model for Views<S, R> {
+    ghost use Rattle.std.specs.Prelude.{◌≡◌, ℕ, List};
+    ghost use Rattle.sb_holdings.specs.Held.{shown_of};
+    ghost use Rattle.sb_views.specs.Stories.{node_after};
+    ghost use Rattle.sb_views.specs.Views as spec;
+    ghost use Rattle.sb_directory.specs.Reached.{version_in};
+
+    ghost Value = { spec.Views };
+
+    ghost view = { λ v. v.writer };
+
+    ghost invariant = { λ v. (v.writer ≡ record { shown = v.shown; ready = v.ready })
+        × ((owner : List ℕ) → version_in v.reached owner ≡ (shown_of (node_after S.opening v.ready).held owner).held) };
+}
+
+impl<S: Site, R: Wait + Drop> Views<S, R> {
+    /// The views of a node as it is opened, for so many readers, which have seen nothing. `NoMemory`.
+    pub(crate) fn open(
+        alloc: Global,
+        rt: R,
+        start: &Front<S>,
+        core: &NodeCore,
+        seats: usize,
+    ) -> Result<(Views<S, R>, Vec<Reader<S>>), Fault>
+        requires opening { S.opening ≡ core.now.node }
+        requires start { start.now ≡ [] }
+        requires seats { (0 < seats) × (seats < 2 ^ 32) }
+        ensures views { IfOk result (λ v. v.0 ≡ record { shown = []; ready = [] }) }
+        ensures readers { IfOk result (λ v. v.1.items ≡ replicate seats []) }
+        ensures memory { IfErr result (λ fault. fault ≡ Fault.NoMemory) }
+    {
+        let holdings = core.holdings();
+        let reached = Reached::of(alloc, holdings)?;
+        let (writer, readers) = views::<S, R>(alloc, rt, start.again(), holdings, seats)?;
+        let views = Views {
+            writer,
+            shown: start.again(),
+            ready: start.again(),
+            reached,
+            alloc,
+        };
+        Ok((views, readers))
+    }
+
+    /// Appends all that is held and has not come yet. `NoMemory`, which changes nothing.
+    fn append(&mut self, core: &NodeCore, front: &Front<S>) -> Result<(), Fault>
+        requires node { core.now.node ≡ node_after S.opening front.now }
+        requires begins { IsPrefix self.old.ready front.now }
+        requires grown { AreGrown (node_after S.opening self.old.ready).held core.now.node.held }
+        ensures ok { OnOk result (self.new ≡ record { shown = self.old.shown; ready = front.now }) }
+        ensures err { OnErr result (self.new ≡ self.old) }
+        ensures memory { IfErr result (λ fault. fault ≡ Fault.NoMemory) }
+        ensures holdings { IsHoldings core.now.node.held }
+    {
+        let holdings = core.holdings();
+        let batch = pending(self.alloc, holdings, &self.reached)?;
+        let reached = Reached::of(self.alloc, holdings)?;
+        match self.writer.append(batch, front) {
+            Ok(()) => {
+                self.ready = front.again();
+                self.reached = reached;
+                Ok(())
+            }
+            Err(batch) => {
+                lose(batch);
+                Err(Fault::NoMemory)
+            }
+        }
+    }
+
+    /// Shows all that is pending. `NoMemory`, which changes nothing.
+    fn publish(&mut self) -> Result<(), Fault>
+        ensures end { MatchResult result (λ _. self.new ≡ record { shown = self.old.ready; ready = self.old.ready }) (λ _. self.new ≡ self.old) }
+        ensures memory { IfErr result (λ fault. fault ≡ Fault.NoMemory) }
+    {
+        match self.writer.publish() {
+            Ok(()) => {
+                self.shown = self.ready.again();
+                Ok(())
+            }
+            Err(fault) => Err(fault),
+        }
+    }
+
+    /// Shows readers the node as it stands, after these events, and says whether there was memory for it. Where there
+    /// was none, what is shown stays, and what could not be appended is appended by the next call.
+    pub(crate) fn show(&mut self, core: &NodeCore, front: &Front<S>) -> bool
+        requires node { core.now.node ≡ node_after S.opening front.now }
+        requires begins { IsPrefix self.old.ready front.now }
+        requires grown { AreGrown (node_after S.opening self.old.ready).held core.now.node.held }
+        ensures shown { MatchBool result (self.new.shown ≡ front.now) (self.new.shown ≡ self.old.shown) }
+        ensures begins { IsPrefix self.new.ready front.now }
+        ensures grown { AreGrown (node_after S.opening self.new.ready).held core.now.node.held }
+    {
+        if self.shown.is_same(front) {
+            return true;
+        }
+        if !self.bring(core, front) {
+            return false;
+        }
+        match self.publish() {
+            Ok(()) => true,
+            Err(_) => false,
+        }
+    }
+
+    /// Appends what is not appended, and says whether nothing is left.
+    fn bring(&mut self, core: &NodeCore, front: &Front<S>) -> bool
+        requires node { core.now.node ≡ node_after S.opening front.now }
+        requires begins { IsPrefix self.old.ready front.now }
+        requires grown { AreGrown (node_after S.opening self.old.ready).held core.now.node.held }
+        ensures ready { MatchBool result (self.new ≡ record { shown = self.old.shown; ready = front.now }) (self.new ≡ self.old) }
+        ensures grown { AreGrown (node_after S.opening self.new.ready).held core.now.node.held }
+    {
+        if self.ready.is_same(front) {
+            return true;
+        }
+        match self.append(core, front) {
+            Ok(()) => true,
+            Err(_) => false,
+        }
+    }
+
+    /// The events that are shown.
+    pub(crate) fn shown(&self) -> &Front<S>
+        ensures { result.now ≡ self.now.shown }
+    {
+        &self.shown
+    }
+}

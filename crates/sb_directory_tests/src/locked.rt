@@ -1,0 +1,194 @@
+//! A locked node: what its calls answer, and what readers are shown of it.
+
+ghost use Rattle.std.specs.Prelude.{◌≡◌};
+
+use crate::desk::{Answer, Call, Case, desk_of, play};
+use crate::making::{full_table, log_of, node_of, written_log};
+use sb_holdings::BlockEnd;
+use sb_log::PlainLog;
+use sb_node::NodeCore;
+use sb_table::Table;
+use sb_types::{Fault, Key, Name};
+use sb_views::{Opened, Site};
+use sb_watch::{Note, Polled};
+use std::alloc::Global;
+use std::marker::Brand;
+use std::process::Abort;
+use std::sync::Wait;
+use std::test::Fail;
+
+/// A new node answers these calls so.
+fn answers<R: Wait + Abort>(rt: &R, alloc: Global, cases: &[Case]) -> Result<(), Fault> {
+    let core = node_of(alloc, b"a", Table::new(alloc))?;
+    answers_of(rt, alloc, core, log_of(alloc, b"a")?, cases)
+}
+
+/// This node answers these calls so, with this log.
+fn answers_of<R: Wait + Abort>(
+    rt: &R,
+    alloc: Global,
+    core: NodeCore,
+    log: PlainLog,
+    cases: &[Case],
+) -> Result<(), Fault> {
+    answers_as::<Brand, _>(rt, Opened::new(), core, log, alloc, cases)
+}
+
+fn answers_as<S: Site, R: Wait + Abort>(
+    rt: &R,
+    opened: Opened,
+    core: NodeCore,
+    log: PlainLog,
+    alloc: Global,
+    cases: &[Case],
+) -> Result<(), Fault>
+    requires story { opened.seen.book ≡ S.story }
+    requires opening { S.opening ≡ core.node }
+{
+    let mut desk = desk_of::<S, R>(rt, opened, core, log, alloc)?;
+    play(rt, &mut desk, cases)
+}
+
+fn refused(fault: Fault) -> Answer {
+    Answer::Refused(fault)
+}
+
+/// The block of a delta ends so.
+fn ended(end: BlockEnd) -> Answer {
+    Answer::Ended(end)
+}
+
+fn taken(count: u64) -> Answer {
+    Answer::Ended(BlockEnd::Taken(count))
+}
+
+/// A watch gives this note.
+fn note(owner: &[u8], key: &[u8], version: u64) -> Result<Answer, Fault> {
+    Ok(Answer::Polled(Polled::Note(Note {
+        owner: Name::read(owner)?,
+        key: Key::read(key)?,
+        version,
+    })))
+}
+
+#[test]
+fn watches_tell_what_is_shown(rt: HostRuntime) -> Result<(), Fail> {
+    let [second, last] = [note(b"a", b"net/b", 2)?, note(b"a", b"net/c", 4)?];
+    let cases = [
+        (Call::Watch(b"net/", 2), Answer::Done),
+        (Call::Write(b"net/a"), Answer::Shown),
+        (Call::Write(b"net/b"), Answer::Shown),
+        (Call::Write(b"w"), Answer::Shown),
+        (Call::Write(b"net/c"), Answer::Shown),
+        (Call::Poll(0), Answer::Polled(Polled::Lagged(1))),
+        (Call::Poll(0), second),
+        (Call::Poll(0), last),
+        (Call::Poll(0), Answer::Polled(Polled::Empty)),
+        (Call::Read, Answer::Read(4, 4, 0)),
+        (Call::Refresh, Answer::Shown),
+    ];
+    Ok(answers(&rt, rt.alloc(), &cases)?)
+}
+
+/// What a watch of everything is told of own writes, and of those of others, which come to it once.
+#[test]
+fn watches_are_told_once(rt: HostRuntime) -> Result<(), Fail> {
+    let [own, first, second] = [
+        note(b"a", b"x", 1)?,
+        note(b"b", b"y", 1)?,
+        note(b"b", b"z", 2)?,
+    ];
+    let cases = [
+        (Call::Watch(b"", 4), Answer::Done),
+        (Call::Write(b"x"), Answer::Shown),
+        (Call::Delta(b"b", 0, b"y"), taken(1)),
+        (Call::Delta(b"b", 0, b"y"), ended(BlockEnd::Stale)),
+        (Call::Delta(b"b", 0, b"yz"), taken(1)),
+        (Call::Poll(0), own),
+        (Call::Poll(0), first),
+        (Call::Poll(0), second),
+        (Call::Poll(0), Answer::Polled(Polled::Empty)),
+    ];
+    Ok(answers(&rt, rt.alloc(), &cases)?)
+}
+
+#[test]
+fn watches_that_are_refused(rt: HostRuntime) -> Result<(), Fail> {
+    let no_watch = refused(Fault::NoWatch);
+    let bad_setting = refused(Fault::BadSetting);
+    let cases = [
+        (Call::Watch(b"", 0), bad_setting),
+        (Call::Watch(b"", 1_025), bad_setting),
+        (Call::Watch(b"", 1_024), Answer::Done),
+        (Call::Unwatch(0), Answer::Done),
+        (Call::Poll(0), no_watch),
+        (Call::Unwatch(0), no_watch),
+        (Call::Read, Answer::Read(0, 0, 0)),
+    ];
+    Ok(answers(&rt, rt.alloc(), &cases)?)
+}
+
+#[test]
+fn at_most_64_watches_stand(rt: HostRuntime) -> Result<(), Fail> {
+    let cases = [
+        (Call::Watches(64), Answer::Done),
+        (Call::Watch(b"", 1), refused(Fault::WatchesFull)),
+        (Call::Unwatch(63), Answer::Done),
+        (Call::Watch(b"", 1), Answer::Done),
+    ];
+    Ok(answers(&rt, rt.alloc(), &cases)?)
+}
+
+#[test]
+fn own_writes_come_once(rt: HostRuntime) -> Result<(), Fail> {
+    let cases = [
+        (Call::TakeOfAnother, refused(Fault::WrongOwner)),
+        (Call::Write(b"x"), Answer::Shown),
+        (Call::Take, refused(Fault::OutOfTurn(2))),
+        (Call::Conflict, Answer::Conflict(None)),
+        (Call::Read, Answer::Read(1, 1, 0)),
+        (Call::Tell, Answer::Told(1, 0, 1)),
+    ];
+    Ok(answers(&rt, rt.alloc(), &cases)?)
+}
+
+#[test]
+fn another_writes_under_the_name(rt: HostRuntime) -> Result<(), Fail> {
+    let cases = [
+        (Call::Write(b"x"), Answer::Shown),
+        (Call::Delta(b"a", 0, b"x"), ended(BlockEnd::Own)),
+        (Call::Conflict, Answer::Conflict(None)),
+        (Call::Delta(b"a", 1, b"y"), ended(BlockEnd::OwnAhead(2))),
+        (Call::Conflict, Answer::Conflict(Some(2))),
+        (Call::Write(b"y"), refused(Fault::OwnerConflict(2))),
+        (Call::Read, Answer::Read(3, 1, 0)),
+    ];
+    Ok(answers(&rt, rt.alloc(), &cases)?)
+}
+
+#[test]
+fn writes_of_others_are_shown(rt: HostRuntime) -> Result<(), Fail> {
+    let cases = [
+        (Call::Delta(b"b", 2, b"z"), ended(BlockEnd::Gap)),
+        (Call::Read, Answer::Read(1, 0, 0)),
+        (Call::Delta(b"b", 0, b"xy"), taken(2)),
+        (Call::Read, Answer::Read(2, 0, 2)),
+        (Call::Write(b"x"), Answer::Shown),
+        (Call::Delta(b"b", 2, b"z"), taken(1)),
+        (Call::Read, Answer::Read(4, 1, 3)),
+        (Call::Tell, Answer::Told(1, 3, 2)),
+    ];
+    Ok(answers(&rt, rt.alloc(), &cases)?)
+}
+
+/// The log's next write, its 4,097th, is under a key that the node has no room for.
+#[test]
+fn a_full_table_takes_no_new_key(rt: HostRuntime) -> Result<(), Fail> {
+    let alloc = rt.alloc();
+    let cases = [
+        (Call::Write(b"new"), refused(Fault::TableFull)),
+        (Call::Read, Answer::Read(0, 4_096, 0)),
+    ];
+    let core = node_of(alloc, b"a", full_table(alloc)?)?;
+    Ok(answers_of(&rt, alloc, core, written_log(alloc, 4_096)?, &cases)?)
+}

@@ -1,0 +1,11 @@
+use Rattle.std.proofs.Common.{Err, refl}
+use Rattle.sb_codec.specs.declared.message.Message.{Message}
+use Rattle.sb_session.proofs.Saying.{received_wrote}
+use Rattle.sb_run.proofs.hearing.hear.Goals as goal
+
+pub returns-clause-unwritten : goal.returns-clause-unwritten
+returns-clause-unwritten g c =
+    let rem = g.R.Read.remaining in
+    let heard = c.in-Err.ensures in
+    λ has_failed. received_wrote {X = Message} (Err c.in-Err.fault) c.new-frames.result c.receive.new.frames (rem c.args.reader.now) (rem c.receive.new.reader) c.args.max_reads heard.0
+    c.in-Err.fault has_failed refl heard.1

@@ -1,0 +1,32 @@
+use Rattle.std.proofs.Common.{refl, ap, ◌∙◌}
+use Rattle.sb_types.specs.Records.{Entry}
+use Rattle.sb_run.proofs.Handing.{taken_from, turned_from}
+use Rattle.sb_run.proofs.owner.Owner.put.Goals as goal
+
+pub returns-in-Ok-clause-stored : goal.returns-in-Ok-clause-stored
+returns-in-Ok-clause-stored g c =
+    let kept = c.in_ok-committed.committed in
+    let taken = c.in-Ok.ensures.answer in
+    record {
+      committed = kept;
+      puts = rw c.settle.ensures.log at c.in_ok-committed.ensures.puts;
+      version = c.in-Ok.ensures.version;
+      passes = (
+        c.in_ok-settle.ensures.owed,
+        taken_from g.S.Site.opening c.args.seat.now.told c.settle.new.seat.told kept c.in-Ok.receipt c.take_own.new.seat.told c.settle.ensures.grows
+            (taken.0, taken.1, taken.2.0, taken.2.1),
+      );
+    }
+
+pub returns-in-Err-clause-stored : goal.returns-in-Err-clause-stored
+returns-in-Err-clause-stored g c =
+    let kept = c.in_ok-committed.committed in
+    record {
+      committed = kept;
+      puts = rw c.settle.ensures.log at c.in_ok-committed.ensures.puts;
+      version = c.version-version.ensures.version ∙ ap (λ (e : Entry). e.version) c.entry.ensures.entry;
+      passes = (
+        refl,
+        (c.in-Err.field-0, turned_from g.S.Site.opening c.args.seat.now.told c.settle.new.seat.told kept c.in-Err.field-0 c.settle.ensures.grows c.in-Err.ensures.answer),
+      );
+    }

@@ -1,0 +1,79 @@
+-- What comes of one request on the control socket.
+use Rattle.std.specs.Prelude.{◌≡◌, ◌⊎◌, ℕ, ◌+◌, List, Option, Result, Ok, Err, IfOk, IfErr}
+use Rattle.std.specs.Io.KnownBytes.{Keeps}
+use mathlib.Core.List.{IsPrefix}
+use Rattle.sb_types.specs.declared.entry.Slot.{Slot}
+use Rattle.sb_types.specs.declared.fault.Fault.{Fault}
+use Rattle.sb_types.specs.declared.fault.Fault.TheVariants.{NoMemory, Closed}
+use Rattle.sb_types.specs.Faults.{number_of}
+use Rattle.sb_holdings.specs.Nodes.{Node}
+use Rattle.sb_codec.specs.declared.message.Message.{Message}
+use Rattle.sb_codec.specs.declared.message.Message.TheVariants as kinds
+use Rattle.sb_codec.specs.declared.message.ask.Ask as asking
+use Rattle.sb_codec.specs.Records.{Rows}
+use Rattle.sb_frames.specs.Frames.{frame}
+use Rattle.sb_frames.specs.Sending.{Sends}
+use Rattle.sb_log.specs.Records.{Committed, Log}
+use Rattle.sb_views.specs.declared.event.Event.{Event}
+use Rattle.sb_views.specs.Pages.{Page}
+use Rattle.sb_views.specs.Stories.{node_after}
+use Rattle.sb_views.specs.Views.{IsView}
+use Rattle.sb_query.specs.Pages.{asked_rows, IsLongestPage}
+use Rattle.sb_directory.specs.Seats.{Seat}
+use Rattle.sb_run.specs.declared.owner.Stored.{Stored}
+use Rattle.sb_run.specs.Owners.{version_of, count_owed, count_shared, IsStored, IsRefused}
+use Rattle.sb_run.specs.Hearing.{Hears}
+
+-- what the owner's `put` leaves with this answer
+pub record IsPut {L : Type 0} (seen : L → Log) (opening : Node) (old : L) (owed : Option Committed) (before : Seat) (key : List ℕ) (slot : Slot)
+    (new : L) (owes : Option Committed) (after : Seat) (answer : Result Stored Fault) : Type 0 where
+  pub stored : IfOk answer (λ stored. IsStored opening (seen old) before.told key slot stored (seen new) owes after.told)
+  pub count : IfOk answer (λ stored. after.events ≡ before.events + count_owed owed + count_shared stored)
+  pub refused : IfErr answer (λ fault. IsRefused seen opening old owed before key slot new owes after fault)
+  pub grows : IsPrefix before.told after.told
+
+-- the version of a write that was taken, or the number of the fault
+abbrev pub reply_of : Result Stored Fault → Message
+reply_of (Ok stored) = kinds.Done (version_of stored)
+reply_of (Err fault) = kinds.Refused (number_of fault)
+
+abbrev pub IsPutReply : {L : Type 0} → (L → Log) → Node → L → Option Committed → Seat → List ℕ → Slot → L → Option Committed → Seat → Message → Type 0
+IsPutReply seen opening old owed before key slot new owes after reply =
+    (answer : Result Stored Fault) × IsPut seen opening old owed before key slot new owes after answer × (reply ≡ reply_of answer)
+
+-- the longest page within the budget of what is asked of the node after these events; or there was no memory for it
+abbrev pub IsLookedUp : Node → ℕ → List Event → asking.Ask → Message → Type 0
+IsLookedUp opening budget told ask reply =
+    ((view : Page) × IsView (node_after opening told) view × ((page : Rows) × IsLongestPage budget (asked_rows ask view) page × (reply ≡ kinds.Rows page)))
+    ⊎ (reply ≡ kinds.Refused (number_of NoMemory))
+
+-- the seat sees what it reads; or it may not enter
+abbrev pub IsPageReply : Node → ℕ → Seat → asking.Ask → Seat → Message → Type 0
+IsPageReply opening budget before ask after reply =
+    (IsPrefix before.told after.told × (after.events ≡ before.events) × IsLookedUp opening budget after.told ask reply)
+    ⊎ ((after ≡ before) × (reply ≡ kinds.Refused (number_of Closed)))
+
+-- any other message is none that is answered here
+abbrev pub IsUnknown : Message → Type 0
+IsUnknown reply = reply ≡ kinds.Refused 13
+
+-- what the request is answered, and what it leaves of the log, of what is owed and of the seat
+abbrev pub Answers : {L : Type 0} → (L → Log) → Node → ℕ → L → Option Committed → Seat → Message → L → Option Committed → Seat → Message → Type 0
+Answers seen opening budget old owed before (kinds.Put write) new owes after reply =
+    IsPutReply seen opening old owed before write.key write.slot new owes after reply
+Answers seen opening budget old owed before (kinds.Ask ask) new owes after reply =
+    (new ≡ old) × (owes ≡ owed) × IsPageReply opening budget before ask after reply
+Answers seen opening budget old owed before (kinds.Hello x) new owes after reply = (new ≡ old) × (owes ≡ owed) × (after ≡ before) × IsUnknown reply
+Answers seen opening budget old owed before (kinds.Digest x) new owes after reply = (new ≡ old) × (owes ≡ owed) × (after ≡ before) × IsUnknown reply
+Answers seen opening budget old owed before (kinds.Delta x) new owes after reply = (new ≡ old) × (owes ≡ owed) × (after ≡ before) × IsUnknown reply
+Answers seen opening budget old owed before (kinds.Bye x) new owes after reply = (new ≡ old) × (owes ≡ owed) × (after ≡ before) × IsUnknown reply
+Answers seen opening budget old owed before (kinds.Rows x) new owes after reply = (new ≡ old) × (owes ≡ owed) × (after ≡ before) × IsUnknown reply
+Answers seen opening budget old owed before (kinds.Done x) new owes after reply = (new ≡ old) × (owes ≡ owed) × (after ≡ before) × IsUnknown reply
+Answers seen opening budget old owed before (kinds.Refused x) new owes after reply = (new ≡ old) × (owes ≡ owed) × (after ≡ before) × IsUnknown reply
+
+-- where no request is heard all stays the same and nothing is put out; else one answer is put out, or its first bytes
+abbrev pub Controls : Type 0 → (Message → Message → Type 0) → Option (List ℕ) → Option (List ℕ) → Option (List ℕ) → Option (List ℕ)
+    → ℕ → ℕ → Result (Unit {0}) Fault → Type 0
+Controls same answers from to old new before left result =
+    ((fault : Fault) × Hears from to before left (Err fault) × (result ≡ Err fault) × same × Keeps old new)
+    ⊎ ((request : Message) × Hears from to before left (Ok request) × ((reply : Message) × answers request reply × Sends old new (frame reply) result))

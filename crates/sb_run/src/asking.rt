@@ -1,0 +1,32 @@
+//! The asking side of a control socket.
+ghost use Rattle.std.specs.Prelude.{◌≡◌, ◌+◌, ℕ};
+ghost use Rattle.sb_run.specs.Hearing.{Asks};
+
+use crate::hearing::hear;
+use sb_codec::Message;
+use sb_frames::{Steps, send};
+use sb_types::Fault;
+use std::alloc::Global;
+use std::io::{Read, Write};
+use std::sync::ledger::Ledger;
+
+/// Sends one request and gives its answer, with at most `max_reads` reads. `WriteFailed`, with how many bytes of the
+/// request are out; `BadMark`, `BadVersion`, `BadLength`, `UnknownKind` or `Malformed` of the answer; `ReadFailed`;
+/// `Truncated` where no whole answer comes; `TurnsSpent` where one more read is needed; `NoMemory`.
+pub fn ask_control<R: Read, W: Write, K: Ledger>(
+    alloc: Global,
+    reader: &mut R,
+    writer: &mut W,
+    request: &Message,
+    max_reads: u64,
+    steps: &mut Steps<K>,
+) -> Result<Message, Fault>
+    ensures { (left : ℕ) × Asks request.now (R.remaining reader.old) (R.remaining reader.new)
+        (W.contents writer.old) (W.contents writer.new) max_reads left result
+        × (steps.new + left ≡ steps.old + max_reads) }
+{
+    match send(alloc, writer, request) {
+        Ok(()) => hear(alloc, reader, max_reads, steps),
+        Err(fault) => Err(fault),
+    }
+}

@@ -1,0 +1,175 @@
+//! The serving side of a control socket: one request and one answer a connection.
+ghost use Rattle.std.specs.Prelude.{◌≡◌, ◌+◌, ℕ, true};
+ghost use Rattle.sb_types.specs.Faults.{number_of};
+ghost use Rattle.sb_codec.specs.Limits.{is_version};
+ghost use Rattle.sb_frames.specs.Sending.{OnlyWhereFailed};
+ghost use Rattle.sb_codec.specs.declared.message.Message.TheVariants as kinds;
+ghost use Rattle.sb_log.specs.Puts.{IsSettled};
+ghost use Rattle.sb_run.specs.Control.{IsPutReply, IsPageReply, IsLookedUp, Answers, Controls};
+
+use crate::hearing::hear;
+use crate::owner::Owner;
+use sb_codec::{Ask, Done, Message, Refused};
+use sb_directory::{Configured, Directory, EnteredSeat, ReaderSeat};
+use sb_frames::{LastWrite, Steps, send_telling};
+use sb_log::WriteLog;
+use sb_query::answer;
+use sb_types::{
+    Fault, KIND_BYE, KIND_DELTA, KIND_DIGEST, KIND_DONE, KIND_HELLO, KIND_REFUSED, KIND_ROWS, Key,
+    Settings, Slot,
+};
+use sb_views::Site;
+use std::alloc::Global;
+use std::io::{Read, Write};
+use std::sync::Wait;
+use std::sync::ledger::Ledger;
+
+/// The answer that names a fault.
+#[tactic(auto, using(crate::proofs::Numbers::are_numbers))]
+fn refusal(fault: Fault) -> Message
+    ensures { result ≡ kinds.Refused (number_of fault) }
+{
+    let Ok(refused) = Refused::new(fault.number()) else {
+        unreachable!();
+    };
+    Message::Refused(refused)
+}
+
+/// The answer that names the version of a write.
+fn done(version: u64) -> Message
+    requires { is_version version ≡ true }
+    ensures { result ≡ kinds.Done version }
+{
+    let Ok(done) = Done::new(version) else {
+        unreachable!();
+    };
+    Message::Done(done)
+}
+
+/// The page that answers an Ask, or its refusal.
+fn look_up<S: Site>(
+    alloc: Global,
+    settings: &Settings,
+    entered: &EnteredSeat<S>,
+    ask: &Ask,
+) -> Message
+    ensures { IsLookedUp S.opening settings.now.budget entered.now.told ask.now result }
+{
+    let snapshot = entered.snapshot();
+    match answer(alloc, &snapshot, ask, settings.budget()) {
+        Ok(page) => Message::Rows(page),
+        Err(fault) => refusal(fault),
+    }
+}
+
+/// Answers an Ask by a page of what the seat reads.
+fn reply_to_ask<S: Site>(
+    alloc: Global,
+    settings: &Settings,
+    seat: ReaderSeat<S>,
+    ask: &Ask,
+) -> (ReaderSeat<S>, Message)
+    ensures { IsPageReply S.opening settings.now.budget seat ask.now result.0 result.1 }
+{
+    match seat.enter() {
+        Ok(entered) => {
+            let reply = look_up(alloc, settings, &entered, ask);
+            (entered.leave(), reply)
+        }
+        Err(seat) => (seat, refusal(Fault::Closed)),
+    }
+}
+
+/// Answers a Put: the log takes the write before the directory is told of it.
+fn reply_to_put<L: WriteLog, S: Configured, H: Wait + Drop, Q: Wait>(
+    rt: &Q,
+    directory: &Directory<S, H>,
+    owner: &mut Owner<L>,
+    seat: &mut ReaderSeat<S>,
+    key: &Key,
+    slot: &Slot,
+) -> Message
+    ensures put { IsPutReply L.seen S.opening owner.old.log owner.old.owed seat.old key.now slot.now owner.new.log owner.new.owed seat.new result }
+    ensures settled { IsSettled (L.seen owner.old.log) (L.leaves owner.old.log) → IsSettled (L.seen owner.new.log) (L.leaves owner.new.log) }
+{
+    match owner.put(rt, directory, seat, key, slot) {
+        Ok(stored) => done(stored.version()),
+        Err(met) => refusal(met),
+    }
+}
+
+/// The answer to a request.
+fn reply_to<L: WriteLog, S: Configured, H: Wait + Drop, Q: Wait>(
+    rt: &Q,
+    alloc: Global,
+    directory: &Directory<S, H>,
+    owner: &mut Owner<L>,
+    seat: ReaderSeat<S>,
+    request: &Message,
+) -> (ReaderSeat<S>, Message)
+    ensures answers { Answers L.seen S.opening S.settings.budget owner.old.log owner.old.owed seat request.now
+        owner.new.log owner.new.owed result.0 result.1 }
+    ensures settled { IsSettled (L.seen owner.old.log) (L.leaves owner.old.log) → IsSettled (L.seen owner.new.log) (L.leaves owner.new.log) }
+{
+    match request {
+        Message::Ask(ask) => reply_to_ask(alloc, directory.settings(), seat, ask),
+        Message::Put(write) => {
+            let mut seat = seat;
+            let reply = reply_to_put(rt, directory, owner, &mut seat, &write.key, &write.slot);
+            (seat, reply)
+        }
+        Message::Hello(_) => (seat, refusal(Fault::UnknownKind(KIND_HELLO))),
+        Message::Digest(_) => (seat, refusal(Fault::UnknownKind(KIND_DIGEST))),
+        Message::Delta(_) => (seat, refusal(Fault::UnknownKind(KIND_DELTA))),
+        Message::Bye(_) => (seat, refusal(Fault::UnknownKind(KIND_BYE))),
+        Message::Rows(_) => (seat, refusal(Fault::UnknownKind(KIND_ROWS))),
+        Message::Done(_) => (seat, refusal(Fault::UnknownKind(KIND_DONE))),
+        Message::Refused(_) => (seat, refusal(Fault::UnknownKind(KIND_REFUSED))),
+    }
+}
+
+/// Reads one request, with at most `max_reads` reads, and writes one answer: to an Ask its page, to a Put the version
+/// under which the log took the write in this call, and to either the fault that it met; to any other message the
+/// fault `UnknownKind`. The seat comes back, and it tells what the last write of the call answered.
+///
+/// `BadMark`, `BadVersion`, `BadLength`, `UnknownKind` or `Malformed` of the request; `ReadFailed`; `Truncated` at an
+/// end before or inside it; `TurnsSpent` where one more read is needed; `NoMemory`. Each of these is before anything
+/// is answered, and leaves all as it was. Then `WriteFailed`, with how many bytes of the answer are out, and
+/// `NoMemory`, with none: what the request did stands.
+pub fn serve_control<
+    R: Read,
+    W: Write,
+    L: WriteLog,
+    S: Configured,
+    H: Wait + Drop,
+    Q: Wait,
+    K: Ledger,
+>(
+    rt: &Q,
+    alloc: Global,
+    reader: &mut R,
+    writer: &mut W,
+    directory: &Directory<S, H>,
+    owner: &mut Owner<L>,
+    seat: ReaderSeat<S>,
+    max_reads: u64,
+    steps: &mut Steps<K>,
+) -> (ReaderSeat<S>, Result<(), Fault>, LastWrite)
+    ensures controls { (left : ℕ)
+        × Controls ((owner.new.log ≡ owner.old.log) × (owner.new.owed ≡ owner.old.owed) × (result.0 ≡ seat))
+        (λ request reply. Answers L.seen S.opening S.settings.budget owner.old.log owner.old.owed seat request owner.new.log owner.new.owed result.0 reply)
+        (R.remaining reader.old) (R.remaining reader.new) (W.contents writer.old) (W.contents writer.new) max_reads left result.1
+        × (steps.new + left ≡ steps.old + max_reads) }
+    // A write that did not fail, or that was made before the call, is no reason to stop.
+    ensures failed { OnlyWhereFailed result.1 result.2 }
+    ensures settled { IsSettled (L.seen owner.old.log) (L.leaves owner.old.log) → IsSettled (L.seen owner.new.log) (L.leaves owner.new.log) }
+{
+    match hear(alloc, reader, max_reads, steps) {
+        Ok(request) => {
+            let (seat, reply) = reply_to(rt, alloc, directory, owner, seat, &request);
+            let (sent, last) = send_telling(alloc, writer, &reply);
+            (seat, sent, last)
+        }
+        Err(fault) => (seat, Err(fault), LastWrite::new()),
+    }
+}

@@ -1,0 +1,110 @@
+//! The owner of a node's writes: each is kept in its log before the directory is told of it.
+ghost use Rattle.std.specs.Prelude.{◌≡◌, ◌+◌, true, None, OnOk, IfOk, IfErr};
+ghost use mathlib.Core.List.{IsPrefix};
+ghost use Rattle.sb_codec.specs.Limits.{is_version};
+ghost use Rattle.sb_log.specs.Puts.{IsSettled};
+ghost use Rattle.sb_run.specs.Owners.{version_of, count_owed, count_shared, IsHeldBack, IsStored, IsRefused};
+
+use sb_directory::{Configured, Directory, ReaderSeat, Receipt};
+use sb_log::{Committed, WriteLog};
+use sb_types::{Fault, Key, Slot};
+use std::sync::Wait;
+
+/// What became of a write that the log took.
+#[derive(Clone, Copy, Debug, PartialEq, Eq)]
+pub enum Stored {
+    /// The directory took it.
+    Shared(Receipt),
+    /// The directory refused it. It is kept under this version, and is handed in before the next write.
+    Owed(u64),
+}
+
+impl Stored {
+    /// The version under which the log took the write.
+    pub fn version(&self) -> u64
+        ensures { result ≡ version_of self.now }
+    {
+        match self {
+            Stored::Shared(receipt) => receipt.version,
+            Stored::Owed(version) => *version,
+        }
+    }
+}
+
+/// The log of a node's own writes, and the write that the directory has refused so far.
+#[derive(Drop)]
+pub struct Owner<L: WriteLog> {
+    log: L,
+    owed: Option<Committed>,
+}
+
+impl<L: WriteLog> Owner<L> {
+    /// The owner of what this log keeps, which owes nothing.
+    pub fn new(log: L) -> Owner<L>
+        ensures log { result.log ≡ log }
+        ensures owed { result.owed ≡ None }
+    {
+        Owner { log, owed: None }
+    }
+
+    /// Hands in what is owed. `OwnerConflict` where another node writes under the own name; then the faults of
+    /// the directory for what is owed. Each leaves everything as it was.
+    fn settle<S: Configured, H: Wait + Drop, Q: Wait>(
+        &mut self,
+        rt: &Q,
+        directory: &Directory<S, H>,
+        seat: &mut ReaderSeat<S>,
+    ) -> Result<(), Fault>
+        ensures log { self.new.log ≡ self.old.log }
+        ensures owed { OnOk result (self.new.owed ≡ None) }
+        ensures count { OnOk result (seat.new.events ≡ seat.old.events + count_owed self.old.owed) }
+        ensures refused { IfErr result (λ fault. IsHeldBack S.opening seat.old.told self.old.owed fault) }
+        ensures owes { IfErr result (λ _. self.new.owed ≡ self.old.owed) }
+        ensures seat { IfErr result (λ _. seat.new ≡ seat.old) }
+        ensures grows { IsPrefix seat.old.told seat.new.told }
+    {
+        if let Some(version) = directory.conflict(rt, seat) {
+            return Err(Fault::OwnerConflict(version));
+        }
+        if let Some(committed) = &self.owed {
+            directory.take_own(rt, seat, committed)?;
+        }
+        self.owed = None;
+        Ok(())
+    }
+
+    /// Keeps a write in the log, under the next version, and hands it to the directory. Where the directory refuses
+    /// it, it is owed, and is handed in before the next write.
+    ///
+    /// `OwnerConflict` where another node writes under the own name; the faults of the directory for what is owed.
+    /// Each of these leaves everything as it was. Then the faults of the log, which take no write; what was owed is
+    /// handed in before them.
+    pub fn put<S: Configured, H: Wait + Drop, Q: Wait>(
+        &mut self,
+        rt: &Q,
+        directory: &Directory<S, H>,
+        seat: &mut ReaderSeat<S>,
+        key: &Key,
+        slot: &Slot,
+    ) -> Result<Stored, Fault>
+        ensures stored { IfOk result (λ stored. IsStored S.opening (L.seen self.old.log) seat.old.told key.now slot.now stored
+            (L.seen self.new.log) self.new.owed seat.new.told) }
+        ensures version { IfOk result (λ stored. is_version (version_of stored) ≡ true) }
+        ensures count { IfOk result (λ stored. seat.new.events ≡ seat.old.events + count_owed self.old.owed + count_shared stored) }
+        ensures refused { IfErr result (λ fault. IsRefused L.seen S.opening self.old.log self.old.owed seat.old key.now slot.now
+            self.new.log self.new.owed seat.new fault) }
+        ensures settled { IsSettled (L.seen self.old.log) (L.leaves self.old.log) → IsSettled (L.seen self.new.log) (L.leaves self.new.log) }
+        ensures grows { IsPrefix seat.old.told seat.new.told }
+    {
+        self.settle(rt, directory, seat)?;
+        let committed = self.log.put(key, slot)?;
+        let version = committed.entry().version();
+        match directory.take_own(rt, seat, &committed) {
+            Ok(receipt) => Ok(Stored::Shared(receipt)),
+            Err(_) => {
+                self.owed = Some(committed);
+                Ok(Stored::Owed(version))
+            }
+        }
+    }
+}
