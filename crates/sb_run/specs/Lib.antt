@@ -1,3 +1,5 @@
 pub mod Owners
 pub mod Hearing
 pub mod Control
+pub mod Gates
+pub mod Pools
