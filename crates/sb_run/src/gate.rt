@@ -52,7 +52,7 @@ impl<'a, H: Handler, G: Gate> Gated<'a, H, G> {
     }
 
     pub(crate) fn into_inner(self) -> H
-        ensures { result ≡ self.inner }
+        ensures { result ≡ self.entry.inner }
     {
         let Gated {
             inner,

@@ -6,3 +6,5 @@
 mod asking;
 #[cfg(test)]
 mod owning;
+#[cfg(test)]
+mod pooling;
