@@ -119,12 +119,10 @@ impl<H: Handler, G: Gate> Handler for Gated<'_, H, G> {
     ghost step_grows = { λ old new act step. (
       step.0,
       step.1,
+      ⊎_elim (λ own. H.step_grows old.inner new.inner act own.1) (λ turned. turned.1.1) step.2,
       ⊎_elim
-          (λ own. (
-            H.step_grows old.inner new.inner act own.1,
-            λ shut. H.enters_nothing old.inner new.inner act (let-enters (G.lets old.gate.now old.session) act own.0 shut) own.1,
-          ))
-          (λ turned. (turned.1.1, λ shut. turned.1.0)) step.2,
+          (λ own shut. H.enters_nothing old.inner new.inner act (let-enters (G.lets old.gate.now old.session) act own.0 shut) own.1)
+          (λ turned shut. turned.1.0) step.2,
     ) };
 
     ghost grows_still = { λ state. (refl, refl, H.grows_still state.inner, λ shut. H.stays_still state.inner) };

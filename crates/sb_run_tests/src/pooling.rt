@@ -29,6 +29,7 @@ const ASKING: &[u8] = b"\xa7\x01\x00\x00\x00\x06\x01\x02c1\x01c\
     \xa7\x01\x00\x00\x00\x02\x04\x01";
 
 /// The peers of the sessions 1 and 2.
+#[derive(Drop)]
 struct Peers {
     alloc: Global,
     taken: AtomicUsize,
@@ -51,6 +52,7 @@ impl Source for Peers {
 
 /// A gate that holds session 1 before it applies a delta, until session 2 has answered a digest, for at most so many
 /// turns of a millisecond.
+#[derive(Drop)]
 struct Holding<'a, R> {
     rt: &'a R,
     has_answered: AtomicBool,
