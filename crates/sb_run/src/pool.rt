@@ -1,5 +1,6 @@
 //! Workers that serve the connections of a source, each from a seat of its own.
-ghost use Rattle.std.specs.Prelude.{◌≡◌, ◌<◌, length, slice_index_or, true, IfOk, IsOk};
+ghost use Rattle.std.specs.Prelude.{◌≡◌, ◌<◌, IfOk, IsOk};
+ghost use Rattle.std.specs.Thread.{IsSend};
 ghost use Rattle.sb_run.specs.Gates.{IsShut, AreShut};
 ghost use Rattle.sb_run.specs.Pools.{IsKept, AreKept};
 
@@ -144,9 +145,14 @@ fn tend_in_place<S: Configured, H: Wait + Drop, Q: Wait, X: Source, G: Gate>(
     replace_with(
         seat,
         (),
-        |seat, _| tend(
-            rt, alloc, directory, session, source, gate, max_reads, tally, seat,
-        ),
+        |seat, _| -> (ReaderSeat<S>, ())
+            requires { IsSend X.In.row × IsSend X.Out.row }
+            ensures { IsKept (AreShut (G.lets gate.entry.now)) seat result.0 }
+        {
+            tend(
+                rt, alloc, directory, session, source, gate, max_reads, tally, seat,
+            )
+        },
     );
 }
 
@@ -215,6 +221,7 @@ fn tend_all<
         seats,
         workers,
         &|_, seat| -> ()
+            requires { IsSend X.In.row × IsSend X.Out.row }
             ensures { IsKept (AreShut (G.lets gate.entry.now)) seat.entry.now seat.exit.now }
         {
             tend_in_place(
