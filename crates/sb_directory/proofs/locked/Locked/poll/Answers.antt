@@ -30,8 +30,8 @@ invariant_of-self-2 g c =
     let old : Locked = record { core = inside.core; hub = inside.hub; story = inside.front; shown = inside.views.shown } in
     let notes : AllNotes (is_held held) c.take.new.self =
     subst (AllNotes (is_held held)) (sym c.take.ensures.left) (taken_keeps (λ (note : Note). is_held held note ≡ true) inside.hub c.args.id c.self.invariant.notes) in
-    hub-locked opening c.show.new.self.ready (with_shown old c.show.new.self.shown) c.take.new.self
-    (moved opening inside.views.ready c.show.new.self.ready old c.show.new.self.shown c.self.invariant c.show.ensures.begins c.show.ensures.grown) notes
+    hub-locked opening c.show.new.self.ready c.show.new.behind (with_shown old c.show.new.self.shown) c.take.new.self
+    (moved opening inside.views.ready c.show.new.self.ready inside.behind c.show.new.behind old c.show.new.self.shown c.self.invariant c.show.ensures.begins c.show.ensures.grown c.show.ensures.since) notes
 
 pub returns-clause-held : goal.returns-clause-held
 returns-clause-held g c note given =
