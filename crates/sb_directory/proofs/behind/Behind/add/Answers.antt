@@ -12,7 +12,7 @@ returns-then-contains_key-clause-ok c =
     let has : contains_key m c.args.owner ≡ true =
     ap (λ (b : Behind). is_some (get b c.args.owner)) (sym c.self.view_is)
     ∙ ap is_some (get-found c.self.inside.versions.entries c.self.invariant c.args.owner) ∙ sym c.contains_key.ensures ∙ c.if-contains_key.true in
-    c.self.view_is ∙ sym (cond-true (contains_key m c.args.owner) m (insert m c.args.owner c.args.version) has)
+    sym (cond-true (contains_key m c.args.owner) m (insert m c.args.owner c.args.version) has)
 
 pub returns-clause-ok : goal.returns-clause-ok
 returns-clause-ok c =

@@ -75,8 +75,8 @@ show-shown-requires-clause-since g c =
     (delta-there opening ready more old is c.holdings.ensures.holdings blocks ends c.in_ok-ends.ensures.delta c.in_ok-ends.ensures.ends after has
     c.apply.new.self c.add_applied.new.front _ inside.views.shown taken c.add_applied.ensures refl).since
 
-pub invariant_of-self-4 : goal.invariant_of-self-4
-invariant_of-self-4 g c =
+pub invariant_of-self-2 : goal.invariant_of-self-2
+invariant_of-self-2 g c =
     let opening = g.S.Site.opening in
     let inside = c.self.inside in
     let ready = inside.views.ready in

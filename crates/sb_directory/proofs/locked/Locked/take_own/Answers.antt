@@ -63,8 +63,8 @@ show-requires-clause-since g c =
     (own-there opening ready c.add.new.self old is c.refusal.ensures.holdings e c.in_ok-take_own.ensures.next c.entry-entry.ensures.limits few after has
     c.take_own.new.self c.add_own.new.front _ inside.views.shown taken longer refl).since
 
-pub invariant_of-self-4 : goal.invariant_of-self-4
-invariant_of-self-4 g c =
+pub invariant_of-self-2 : goal.invariant_of-self-2
+invariant_of-self-2 g c =
     let opening = g.S.Site.opening in
     let inside = c.self.inside in
     let ready = inside.views.ready in
