@@ -8,7 +8,7 @@ use Rattle.sb_node.specs.Cores.{Core}
 use Rattle.sb_views.specs.Stories.{node_after}
 use Rattle.sb_directory.specs.Behind.{HasOwners, entries_since, AreSince}
 use Rattle.sb_directory.specs.Notes.{with_notes, versions_of, entered_of}
-use Rattle.sb_directory.specs.Locks.{Locked}
+use Rattle.sb_directory.specs.Locks.{Locked, IsLocked}
 use Rattle.sb_directory.proofs.Keeping.{noted, delta-there, moved}
 use Rattle.sb_directory.proofs.locked.Locked.apply.Goals as goal
 
@@ -103,3 +103,29 @@ invariant_of-self-2 g c =
     (delta-there opening ready more old is c.holdings.ensures.holdings blocks ends c.in_ok-ends.ensures.delta c.in_ok-ends.ensures.ends after has
     c.apply.new.self c.add_applied.new.front c.tell_since.new.hub inside.views.shown taken c.add_applied.ensures told)
     c.show-shown.ensures.begins c.show-shown.ensures.grown c.show-shown.ensures.since
+
+-- owners are noted as lacking, whether all could be or not
+pub invariant_of-self : goal.invariant_of-self
+invariant_of-self g c =
+    let opening = g.S.Site.opening in
+    let inside = c.self.inside in
+    let ready = inside.views.ready in
+    let more = c.add_owners.new.self in
+    let old : Locked = record { core = inside.core; hub = inside.hub; story = inside.front; shown = inside.views.shown } in
+    noted opening ready inside.behind more old c.self.invariant
+    (subst (λ (h : Held). AreSince (node_after opening ready).held h more) c.holdings-2.ensures.held
+    (c.add_owners.ensures.since (node_after opening ready).held
+    (subst (λ (h : Held). AreSince (node_after opening ready).held h inside.behind) (sym c.holdings-2.ensures.held) c.self.invariant.since)))
+
+pub invariant_of-self-in_err-ends : goal.invariant_of-self-in_err-ends
+invariant_of-self-in_err-ends g c =
+    let opening = g.S.Site.opening in
+    let inside = c.self.inside in
+    let ready = inside.views.ready in
+    let more = c.add_owners.new.self in
+    let old : Locked = record { core = inside.core; hub = inside.hub; story = inside.front; shown = inside.views.shown } in
+    subst (λ (core : Core). IsLocked opening ready more (record { core = core; hub = inside.hub; story = inside.front; shown = inside.views.shown })) (sym c.in_err-ends.ensures.err)
+    (noted opening ready inside.behind more old c.self.invariant
+    (subst (λ (h : Held). AreSince (node_after opening ready).held h more) c.holdings-2.ensures.held
+    (c.in_ok-add_owners.ensures.since (node_after opening ready).held
+    (subst (λ (h : Held). AreSince (node_after opening ready).held h inside.behind) (sym c.holdings-2.ensures.held) c.self.invariant.since))))

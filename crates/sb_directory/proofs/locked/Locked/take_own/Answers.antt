@@ -85,3 +85,13 @@ invariant_of-self-2 g c =
     (own-there opening ready c.add.new.self old is c.refusal.ensures.holdings e c.in_ok-take_own.ensures.next c.entry-entry.ensures.limits few after has
     c.take_own.new.self c.add_own.new.front c.tell.new.hub inside.views.shown taken longer told)
     c.show.ensures.begins c.show.ensures.grown c.show.ensures.since
+
+-- the write is not entered; what is lacked stays known
+pub invariant_of-self-in_err-take_own : goal.invariant_of-self-in_err-take_own
+invariant_of-self-in_err-take_own g c =
+    let inside = c.self.inside in
+    let ready = inside.views.ready in
+    let old : Locked = record { core = inside.core; hub = inside.hub; story = inside.front; shown = inside.views.shown } in
+    subst (λ (core : Core). IsLocked g.S.Site.opening ready c.add.new.self (record { core = core; hub = inside.hub; story = inside.front; shown = inside.views.shown }))
+    (sym c.in_err-take_own.ensures.err)
+    (added-locked g.S.Site.opening ready inside.behind c.add.new.self old c.name.result.now c.upto.result c.self.invariant c.in_ok-add.ensures.ok c.upto.ensures.version)
