@@ -1,5 +1,5 @@
 -- A batch that is filled entry by entry, and owner by owner.
-use Rattle.std.proofs.Common.{◌≡◌, ℕ, List, [], ◌∷◌, ◌++◌, map, Some, None, refl, sym, ap, ◌∙◌, append_assoc, append-nil}
+use Rattle.std.proofs.Common.{◌≡◌, ℕ, List, [], ◌∷◌, ◌++◌, map, Some, None, sym, ap, ◌∙◌, append_assoc, append-nil}
 use Rattle.std.specs.FinMap.{get}
 use Rattle.sb_types.specs.Records.{Entry, Table}
 use Rattle.sb_holdings.specs.Held.{Held, shown_of}

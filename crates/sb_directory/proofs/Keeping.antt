@@ -1,15 +1,13 @@
 -- What lies under the lock stays a replay of its story.
-use Rattle.std.proofs.Common.{◌≡◌, ℕ, ◌+◌, ◌≤◌, ◌<◌, ◌^◌, ◌==◌, Bool, true, false, cond, not, List, [], ◌∷◌, ◌++◌, filter, map, flat_map, Result, Ok, Err, nat_eq, nat_le, le-leb, leb-true, eqb-true, refl, sym, ap, subst, ◌∙◌, arith, append-nil}
+use Rattle.std.proofs.Common.{◌≡◌, ℕ, ◌+◌, ◌≤◌, ◌<◌, ◌^◌, ◌==◌, Bool, true, false, cond, not, List, [], ◌∷◌, ◌++◌, map, flat_map, Result, Ok, Err, le-leb, leb-true, eqb-true, refl, sym, ap, subst, ◌∙◌, arith, append-nil}
 use Rattle.std.proofs.lemmas.Grind.{flat_map-append}
-use Rattle.std.specs.Cmp.Lexicographic.{pointwise}
 use Rattle.std.specs.FinMap.{contains_key}
 use mathlib.Core.List.{IsPrefix}
 use Rattle.sb_types.specs.declared.fault.Fault.{Fault}
-use Rattle.sb_types.specs.declared.fault.Fault.TheVariants.{OutOfTurn, TableFull}
+use Rattle.sb_types.specs.declared.fault.Fault.TheVariants.{OutOfTurn}
 use Rattle.sb_types.specs.Limits.{is_entry, is_delta}
 use Rattle.sb_types.specs.Records.{Entry, Table, Block}
 use Rattle.sb_types.proofs.Texts.{text_same}
-use Rattle.sb_table.specs.Plain.{with_entry, is_full_for}
 use Rattle.sb_holdings.specs.declared.ends.BlockEnd.{BlockEnd}
 use Rattle.sb_holdings.specs.Held.{Held, shown_of, written}
 use Rattle.sb_holdings.specs.Plain.{IsHoldings, next_version, own_answer}

@@ -1,5 +1,5 @@
 -- Watches that are told entry by entry, and owner by owner.
-use Rattle.std.proofs.Common.{◌≡◌, ℕ, ◌≤◌, Bool, true, List, [], ◌∷◌, ◌++◌, map, flat_map, Option, Some, None, unwrap_or, inl, inr, refl, sym, ap, subst, ◌∙◌, arith, append_assoc, append-nil, nat_le, le-leb}
+use Rattle.std.proofs.Common.{◌≡◌, ℕ, ◌≤◌, true, List, [], ◌∷◌, ◌++◌, map, Option, Some, None, unwrap_or, inl, inr, refl, sym, ap, ◌∙◌, append_assoc, append-nil, le-leb}
 use Rattle.std.specs.List.{AllByRecursion}
 use Rattle.std.specs.Option.{option_map}
 use Rattle.std.specs.FinMap.{get}
@@ -10,7 +10,6 @@ use Rattle.sb_holdings.specs.Held.{Held, nothing, shown_of}
 use Rattle.sb_holdings.specs.Plain.{IsHoldings, table_of}
 use Rattle.sb_holdings.proofs.Changed.{shown-plain}
 use Rattle.sb_holdings.proofs.Order.{run_upto}
-use Rattle.sb_watch.specs.declared.note.Note.{Note}
 use Rattle.sb_watch.specs.Records.{Hub}
 use Rattle.sb_watch.specs.Hubs.{AllNotes, with_push}
 use Rattle.sb_watch.proofs.KeptNotes.{pushed_keeps}

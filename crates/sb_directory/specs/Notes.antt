@@ -1,5 +1,5 @@
 -- What watches are told.
-use Rattle.std.specs.Prelude.{◌≡◌, ℕ, ◌≤◌, Bool, nat_le, List, [], ◌∷◌, map}
+use Rattle.std.specs.Prelude.{ℕ, Bool, nat_le, List, [], ◌∷◌, map}
 use Rattle.sb_types.specs.Records.{Entry, Block}
 use Rattle.sb_holdings.specs.Held.{Held, shown_of}
 use Rattle.sb_watch.specs.declared.note.Note.{Note}

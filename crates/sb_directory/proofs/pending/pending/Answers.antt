@@ -1,6 +1,6 @@
 use Rattle.std.proofs.Common.{rules}
 use Rattle.std.specs.FinMap.{entries}
-use Rattle.sb_directory.proofs.Batches.{gathering-goes_on, gathering-passes, gathering-ends}
+use Rattle.sb_directory.proofs.Batches.{gathering-goes_on}
 use Rattle.sb_directory.proofs.pending.pending.Goals as goal
 
 pub loop-owner-preserved : goal.loop-owner-preserved

@@ -1,7 +1,6 @@
-use Rattle.std.proofs.Common.{◌≡◌, ℕ, List, refl, sym, ap, subst, ◌∙◌}
-use Rattle.sb_types.specs.Records.{Block}
+use Rattle.std.proofs.Common.{◌≡◌, refl, sym, ap, subst, ◌∙◌}
 use Rattle.sb_holdings.specs.Held.{Held}
-use Rattle.sb_holdings.specs.Nodes.{Node, replay_node}
+use Rattle.sb_holdings.specs.Nodes.{replay_node}
 use Rattle.sb_holdings.specs.Plain.{IsHoldings}
 use Rattle.sb_holdings.specs.Treats.{took_each}
 use Rattle.sb_node.specs.Cores.{Core}

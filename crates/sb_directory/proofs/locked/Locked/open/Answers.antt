@@ -1,16 +1,13 @@
 use Rattle.std.proofs.Common.{◌≡◌, List, [], refl, sym, ap, subst, ◌∙◌}
 use mathlib.Core.List.{IsPrefix}
-use Rattle.sb_holdings.specs.Nodes.{Node}
 use Rattle.sb_holdings.specs.Plain.{IsHoldings}
 use Rattle.sb_node.specs.Cores.{Core}
-use Rattle.sb_watch.specs.Records.{Hub}
 use Rattle.sb_watch.specs.Hubs.{AllNotes}
 use Rattle.sb_views.specs.declared.event.Event.{Event}
-use Rattle.sb_views.specs.Growing.{AreGrown}
 use Rattle.sb_views.specs.Stories.{node_after}
 use Rattle.sb_views.specs.Views.{Views}
 use Rattle.sb_directory.specs.Notes.{is_held}
-use Rattle.sb_directory.specs.Behind.{Behind, AreSince}
+use Rattle.sb_directory.specs.Behind.{AreSince}
 use Rattle.sb_directory.proofs.Following.{grown-there, since-there}
 use Rattle.sb_directory.proofs.locked.Locked.open.Goals as goal
 

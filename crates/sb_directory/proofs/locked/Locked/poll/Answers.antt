@@ -1,11 +1,10 @@
-use Rattle.std.proofs.Common.{◌≡◌, ℕ, true, leb-true, Result, Err, IfErr, sym, ap, subst, ◌∙◌}
-use Rattle.sb_holdings.specs.Held.{Held, shown_of}
+use Rattle.std.proofs.Common.{◌≡◌, true, leb-true, Result, Err, IfErr, sym, subst, ◌∙◌}
+use Rattle.sb_holdings.specs.Held.{shown_of}
 use Rattle.sb_types.specs.declared.fault.Fault.{Fault}
 use Rattle.sb_types.specs.declared.fault.Fault.TheVariants.{NoWatch}
 use Rattle.sb_watch.specs.declared.note.Note.{Note}
 use Rattle.sb_watch.specs.declared.note.Polled.{Polled}
-use Rattle.sb_watch.specs.Records.{Hub}
-use Rattle.sb_watch.specs.Hubs.{AllNotes, answer_at, has_watch}
+use Rattle.sb_watch.specs.Hubs.{AllNotes, answer_at}
 use Rattle.sb_watch.proofs.KeptNotes.{taken_keeps, given_holds}
 use Rattle.sb_directory.specs.Notes.{is_held}
 use Rattle.sb_directory.specs.Locks.{Locked, with_shown}

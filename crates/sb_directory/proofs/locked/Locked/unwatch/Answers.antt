@@ -1,6 +1,5 @@
 use Rattle.std.proofs.Common.{◌≡◌, true, sym, subst}
 use Rattle.sb_watch.specs.declared.note.Note.{Note}
-use Rattle.sb_watch.specs.Records.{Hub}
 use Rattle.sb_watch.specs.Hubs.{AllNotes}
 use Rattle.sb_watch.proofs.KeptNotes.{dropped_keeps}
 use Rattle.sb_directory.specs.Notes.{is_held}
