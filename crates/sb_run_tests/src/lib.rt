@@ -6,3 +6,7 @@
 mod asking;
 #[cfg(test)]
 mod owning;
+#[cfg(test)]
+mod peers;
+#[cfg(test)]
+mod running;
