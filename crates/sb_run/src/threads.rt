@@ -1,6 +1,5 @@
 //! The threads of a running node.
-ghost use Rattle.std.specs.Prelude.{◌≡◌, IfOk, IfErr};
-ghost use Rattle.sb_run.specs.Pools.{AreLater};
+ghost use Rattle.std.specs.Prelude.{◌≡◌, vec_len, IfOk, IfErr};
 
 use crate::accepting::Acceptor;
 use crate::attending::attend;
@@ -30,14 +29,14 @@ pub(crate) struct Finished<S: Paced> {
     pub(crate) faults: u64,
 }
 
-/// That a pool gives its seats back.
+/// That a pool gives as many seats back.
 #[derive(Drop)]
-struct SameSeats<S: Configured>(Snapshot<Vec<ReaderSeat<S>>>);
+struct AsMany<S: Configured>(Snapshot<Vec<ReaderSeat<S>>>);
 
-impl<S: Configured> Promise<Pooled<S>> for SameSeats<S> {
-    ghost use Rattle.sb_run.specs.Pools.{AreLater};
+impl<S: Configured> Promise<Pooled<S>> for AsMany<S> {
+    ghost use Rattle.std.specs.Prelude.{◌≡◌, vec_len};
 
-    ghost kept_by = { λ p r. AreLater p.0.value.items r.seats.items };
+    ghost kept_by = { λ p r. vec_len r.seats ≡ vec_len p.0.value };
 }
 
 /// Serves peers on the socket of the node until it is to end, with a worker for each seat.
@@ -49,7 +48,7 @@ fn tend_sock<
     node: &Shared<S, H, Q>,
     seats: Vec<ReaderSeat<S>>,
 ) -> Pooled<S>
-    ensures { AreLater seats.items result.seats.items }
+    ensures { vec_len result.seats ≡ vec_len seats }
 {
     let door = &node.doors.sock;
     let source = Acceptor::new(node.rt, door, node.ending, node.pace.idle);
@@ -95,7 +94,7 @@ pub(crate) fn run_threads<
     teller: Teller<S>,
     hearer: Hearer<S>,
 ) -> Result<Finished<S>, Fault>
-    ensures crew { IfOk result (λ finished. AreLater crew.workers.items finished.crew.workers.items) }
+    ensures crew { IfOk result (λ finished. vec_len finished.crew.workers ≡ vec_len crew.workers) }
     ensures memory { IfErr result (λ fault. fault ≡ Fault.NoMemory) }
 {
     let Crew {
@@ -104,8 +103,8 @@ pub(crate) fn run_threads<
         control,
     } = crew;
     thread::scope(thread::scope_env(), node.rt, move |scope| {
-        let same = SameSeats(Snapshot::of(&workers));
-        let Ok(pool) = scope.spawn_with(same, move || tend_sock(node, workers)) else {
+        let as_many = AsMany(Snapshot::of(&workers));
+        let Ok(pool) = scope.spawn_with(as_many, move || tend_sock(node, workers)) else {
             return Err(Fault::NoMemory);
         };
         let Ok(line) = scope.spawn(move || dial_to_the_end(node, dialing, teller)) else {

@@ -7,6 +7,9 @@ mod asking;
 #[cfg(test)]
 mod owning;
 #[cfg(test)]
+#[cfg(test)]
 mod peers;
+#[cfg(test)]
+mod pooling;
 #[cfg(test)]
 mod running;
