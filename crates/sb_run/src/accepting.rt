@@ -4,11 +4,10 @@ use crate::ending::Ending;
 use crate::pool::Source;
 use crate::sockets::{Door, limit};
 use sb_types::Fault;
-use std::io;
 use std::os::unix::net::UnixStream;
 use std::sync::atomic::{AtomicU64, Ordering};
-use std::thread;
 use std::time::{Clock, Duration};
+use std::{io, thread};
 
 /// How long an accept that failed waits before the next, in milliseconds: out of descriptors, each fails at once.
 const RESPITE: u64 = 20;

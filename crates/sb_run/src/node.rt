@@ -1,5 +1,5 @@
 //! A node that runs: it serves its peers and its owner, and dials its peers.
-ghost use Rattle.std.specs.Prelude.{◌≡◌, Err, IfOk, IfErr, IfSome};
+ghost use Rattle.std.specs.Prelude.{◌≡◌, false, None, Err, IfOk, IfErr, IfSome};
 ghost use Rattle.sb_run.specs.Running as spec;
 ghost use Rattle.sb_run.specs.Running.{IsRunningFault};
 
@@ -61,7 +61,8 @@ fn refusal<L: WriteLog>(settings: &Settings, log: &L) -> Option<Fault>
     if settings.seats() < settings.workers() + 2 {
         return Some(Fault::BadSetting);
     }
-    if *log.cluster() != settings.cluster() {
+    let cluster = settings.cluster();
+    if log.cluster() != &cluster {
         return Some(Fault::WrongCluster);
     }
     None
@@ -99,6 +100,7 @@ pub fn run_node<
 ) -> Result<Ran, Fault>
     requires { F.IsAlwaysCallable listening.now }
     ensures refused { IfSome (spec.refusal settings (L.seen log)) (λ fault. result ≡ Err fault) }
+    ensures closed { spec.refusal settings (L.seen log) ≡ None → (L.seen log).is_open ≡ false → result ≡ Err Fault.Closed }
     ensures fault { IfErr result (IsRunningFault settings (L.seen log)) }
     ensures rounds { IfOk result (λ ran. ran.rounds ≡ pace.rounds) }
 {

@@ -41,10 +41,7 @@ pub(crate) fn part<S: Configured>(
 }
 
 /// All seats again, those to spare first.
-pub(crate) fn gather<S: Configured>(
-    crew: Crew<S>,
-    spare: Vec<ReaderSeat<S>>,
-) -> Vec<ReaderSeat<S>>
+pub(crate) fn gather<S: Configured>(crew: Crew<S>, spare: Vec<ReaderSeat<S>>) -> Vec<ReaderSeat<S>>
     requires { vec_len spare + (vec_len crew.workers + 2) ≤ vec_capacity spare }
     ensures { vec_len result ≡ vec_len spare + (vec_len crew.workers + 2) }
 {

@@ -44,10 +44,7 @@ fn tend_sock<
     S: Paced + Send + Sync,
     H: Wait + Drop + Send + Sync,
     Q: Threads + Wait + Clock + Sync,
->(
-    node: &Shared<S, H, Q>,
-    seats: Vec<ReaderSeat<S>>,
-) -> Pooled<S>
+>(node: &Shared<S, H, Q>, seats: Vec<ReaderSeat<S>>) -> Pooled<S>
     ensures { vec_len result.seats ≡ vec_len seats }
 {
     let door = &node.doors.sock;

@@ -7,7 +7,6 @@ mod asking;
 #[cfg(test)]
 mod owning;
 #[cfg(test)]
-#[cfg(test)]
 mod peers;
 #[cfg(test)]
 mod pooling;

@@ -10,7 +10,7 @@ use std::alloc::Global;
 use std::io::{self, Read, Write};
 use std::marker::Brand;
 use std::net::Net;
-use std::os::unix::net::UnixStream;
+use std::os::unix::net::{UnixListener, UnixStream};
 use std::sync::ledger::{Blank, Ledger};
 
 /// A Put of the weight 5 under w, and its answer: Done, with the version 1.
@@ -91,22 +91,41 @@ pub(crate) fn talk(
     talk_on::<Brand>(core, alloc, stream, rounds, Blank::new(1))
 }
 
+/// What a call of the system gave; any error of it is `ReadFailed`.
+pub(crate) fn given<T: Drop>(answer: io::Result<T>) -> Result<T, Fault> {
+    match answer {
+        Ok(value) => Ok(value),
+        Err(_) => Err(Fault::ReadFailed),
+    }
+}
+
+/// A connection to the socket at this path.
+pub(crate) fn reach<R: Net>(rt: &R, path: &str) -> Result<UnixStream, Fault> {
+    given(UnixStream::connect(rt, path))
+}
+
+/// The next connection of a listener.
+pub(crate) fn next_of(listener: &UnixListener) -> Result<UnixStream, Fault> {
+    let (stream, _) = given(listener.accept())?;
+    Ok(stream)
+}
+
 /// Whether the owner's Put is answered by its Done.
-pub(crate) fn put_is_done<R: Net>(rt: &R, control: &str) -> io::Result<bool> {
-    let mut stream = UnixStream::connect(rt, control)?;
-    stream.write_all(PUT)?;
+pub(crate) fn put_is_done<R: Net>(rt: &R, control: &str) -> Result<bool, Fault> {
+    let mut stream = reach(rt, control)?;
+    given(stream.write_all(PUT))?;
     let mut answer = [0u8; 15];
-    stream.read_exact(&mut answer)?;
+    given(stream.read_exact(&mut answer))?;
     Ok(answer == DONE)
 }
 
 /// Hears on a connection until the other end hangs up; whether so many bytes came.
-pub(crate) fn hears_only(stream: &UnixStream, count: usize) -> io::Result<bool> {
+pub(crate) fn hears_only(stream: &UnixStream, count: usize) -> Result<bool, Fault> {
     let mut reader = stream;
     let mut heard = [0u8; 64];
     let mut all = 0;
     for _ in 0..64 {
-        let more = reader.read(&mut heard)?;
+        let more = given(reader.read(&mut heard))?;
         if more == 0 {
             return Ok(all == count);
         }

@@ -1,20 +1,19 @@
 //! A node that runs on its sockets.
 
-use crate::peers::{hears_only, new_log, node_with, put_is_done, settings, talk};
+use crate::peers::{hears_only, new_log, next_of, node_with, put_is_done, reach, settings, talk};
 use sb_run::{Pace, Paths, Ran, run_node};
 use sb_session::Ended;
 use sb_types::{Fault, Name};
 use std::alloc::Global;
 use std::cell::Cell;
-use std::fs;
 use std::net::{Net, TcpListener, TcpStream};
 use std::os::unix::net::{UnixListener, UnixStream};
 use std::rt::Files;
 use std::sync::Wait;
 use std::test::Fail;
-use std::thread;
 use std::thread::Threads;
 use std::time::Clock;
+use std::{fs, thread};
 
 /// The length of the Hello that a says.
 const HELLO: usize = 12;
@@ -37,12 +36,7 @@ fn run_a<
         + Net<Listener = TcpListener, Stream = TcpStream>
         + Send
         + Sync,
->(
-    rt: &R,
-    alloc: Global,
-    paths: &Paths,
-    pace: Pace,
-) -> Result<Ran, Fault> {
+>(rt: &R, alloc: Global, paths: &Paths, pace: Pace) -> Result<Ran, Fault> {
     let log = new_log(alloc, b"a")?;
     run_node(rt, alloc, settings()?, log, paths, pace, &|| ())
 }
@@ -63,7 +57,9 @@ fn rounds_without_peers(rt: HostRuntime) -> Result<(), Fail> {
         log,
         &paths,
         pace(3, 0),
-        &|| bound.set(fs::metadata(&rt, "quiet.sock").is_ok() && fs::metadata(&rt, "quiet.control").is_ok()),
+        &|| bound.set(
+            fs::metadata(&rt, "quiet.sock").is_ok() && fs::metadata(&rt, "quiet.control").is_ok(),
+        ),
     )?;
     let whole = Ran {
         rounds: 3,
@@ -89,7 +85,10 @@ fn a_path_that_is_taken_is_left(rt: HostRuntime) -> Result<(), Fail> {
             control,
             peers: &[],
         };
-        assert_eq!(rt; run_a(&rt, rt.alloc(), &paths, pace(1, 0)), Err(Fault::ReadFailed));
+        assert_eq!(rt;
+            run_a(&rt, rt.alloc(), &paths, pace(1, 0)),
+            Err(Fault::ReadFailed)
+        );
         assert!(rt; fs::metadata(&rt, free).is_err());
         assert_eq!(rt; fs::read_to_string(&rt, "taken")?.as_str(), "kept");
         fs::remove_file(&rt, "taken")?;
@@ -107,12 +106,17 @@ struct Seen {
 }
 
 /// Plays the owner, c which dials, and b which is dialed. The node has bound its sockets once it dials.
-fn play<R: Net>(rt: &R, alloc: Global, listener: &UnixListener, paths: &Paths) -> Result<Seen, Fail> {
+fn play<R: Net>(
+    rt: &R,
+    alloc: Global,
+    listener: &UnixListener,
+    paths: &Paths,
+) -> Result<Seen, Fault> {
     let (a, b, c) = (Name::read(b"a")?, Name::read(b"b")?, Name::read(b"c")?);
-    let (dialed, _) = listener.accept()?;
+    let dialed = next_of(listener)?;
     let done = put_is_done(rt, paths.control)?;
     let mut of_c = node_with(alloc, c.bytes(), b"k")?;
-    let by_c = talk(&mut of_c, alloc, &UnixStream::connect(rt, paths.sock)?, Some(2))?;
+    let by_c = talk(&mut of_c, alloc, &reach(rt, paths.sock)?, Some(2))?;
     let mut of_b = node_with(alloc, b.bytes(), b"w")?;
     let by_b = talk(&mut of_b, alloc, &dialed, None)?;
     Ok(Seen {
@@ -156,24 +160,26 @@ fn a_node_beside_its_owner_and_its_peers(rt: HostRuntime) -> Result<(), Fail> {
     Ok(())
 }
 
-/// Says nothing on any connection until each was hung up; then writes, and is dialed once more.
-fn stay_silent<R: Net>(rt: &R, alloc: Global, listener: &UnixListener, paths: &Paths) -> Result<Seen, Fail> {
-    let (silent, _) = listener.accept()?;
-    let control = UnixStream::connect(rt, paths.control)?;
-    let sock = UnixStream::connect(rt, paths.sock)?;
+/// Says nothing on any connection until the node hangs up; then writes, and serves as b where it is dialed once more. Whether no
+/// more than a Hello came on the silent ones, whether the write was done, how b's session ended, and how far b holds a.
+fn stay_silent<R: Net>(
+    rt: &R,
+    alloc: Global,
+    listener: &UnixListener,
+    paths: &Paths,
+) -> Result<(bool, bool, Ended, u64), Fault> {
+    let silent = next_of(listener)?;
+    let control = reach(rt, paths.control)?;
+    let sock = reach(rt, paths.sock)?;
     let silence = hears_only(&control, 0)?;
     let hello = hears_only(&sock, HELLO)?;
-    let (dialed, _) = listener.accept()?;
+    let dialed = next_of(listener)?;
     let done = put_is_done(rt, paths.control)?;
     let mut of_b = node_with(alloc, b"b", b"w")?;
     let by_b = talk(&mut of_b, alloc, &dialed, None)?;
     drop(silent);
     let held = of_b.upto(&Name::read(b"a")?);
-    Ok(Seen {
-        done: silence && hello && done,
-        ends: [by_b, by_b],
-        held: [held, held, held],
-    })
+    Ok((silence && hello, done, by_b, held))
 }
 
 #[test]
@@ -195,12 +201,7 @@ fn a_connection_that_says_nothing_ends(rt: HostRuntime) -> Result<(), Fail> {
         || stay_silent(&rt, rt.alloc(), &listener, &paths),
     );
     fs::remove_file(&rt, "idle.peer")?;
-    let all = Seen {
-        done: true,
-        ends: [Ended::Bye(1); 2],
-        held: [1; 3],
-    };
-    assert_eq!(rt; seen?, all);
+    assert_eq!(rt; seen?, (true, true, Ended::Bye(1), 1));
     let whole = Ran {
         rounds: 2,
         faults: 3,
