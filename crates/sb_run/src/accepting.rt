@@ -22,8 +22,9 @@ pub(crate) struct Acceptor<'a, R> {
     accepted: AtomicU64,
 }
 
-/// A connection as a reader and a writer, with a limit on how long it may be idle.
-fn both_ways(stream: UnixStream, idle: u64) -> io::Result<(UnixStream, UnixStream)> {
+/// A connection that was accepted, as a reader and a writer, with a limit on how long it may be idle.
+fn both_ways(accepted: io::Result<UnixStream>, idle: u64) -> io::Result<(UnixStream, UnixStream)> {
+    let stream = accepted?;
     limit(&stream, idle)?;
     let other = stream.try_clone()?;
     Ok((stream, other))
@@ -57,7 +58,7 @@ impl<R: Clock> Source for Acceptor<'_, R> {
         if self.ending.has_come() {
             return None;
         }
-        match accepted.and_then(|stream| both_ways(stream, self.idle)) {
+        match both_ways(accepted, self.idle) {
             Ok((input, output)) => {
                 let before = self.accepted.fetch_add(1, Ordering::SeqCst);
                 Some(Ok((before.wrapping_add(1), input, output)))
