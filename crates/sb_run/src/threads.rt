@@ -15,7 +15,6 @@ use sb_directory::{Configured, ReaderSeat};
 use sb_log::WriteLog;
 use sb_types::Fault;
 use std::net::{Net, TcpListener, TcpStream};
-use std::snapshot::Snapshot;
 use std::sync::Wait;
 use std::thread;
 use std::thread::{Promise, Threads};
@@ -30,14 +29,14 @@ pub(crate) struct Finished<S: Paced> {
     pub(crate) faults: u64,
 }
 
-/// That a pool gives as many seats back.
-#[derive(Drop)]
-struct AsMany<S: Configured>(Snapshot<Vec<ReaderSeat<S>>>);
+/// That a pool gives so many seats back.
+#[derive(Clone, Copy)]
+struct AsMany(usize);
 
-impl<S: Configured> Promise<Pooled<S>> for AsMany<S> {
+impl<S: Configured> Promise<Pooled<S>> for AsMany {
     ghost use Rattle.std.specs.Prelude.{◌≡◌, vec_len};
 
-    ghost kept_by = { λ p r. vec_len r.seats ≡ vec_len p.0.value };
+    ghost kept_by = { λ p r. vec_len r.seats ≡ p.0 };
 }
 
 /// Serves peers on the socket of the node until it is to end, with a worker for each seat.
@@ -100,14 +99,16 @@ pub(crate) fn run_threads<
         dialing,
         control,
     } = crew;
+    let count = workers.len();
     thread::scope(
         thread::scope_env(),
         node.rt,
         move |scope| -> Result<Finished<S>, Fault>
-            requires { IsSend S.row × IsSync S.row × IsSend H.row × IsSync H.row × IsSend Q.row × IsSync Q.row }
+            requires { IsSend S.row × IsSync S.row × IsSend H.row × IsSync H.row × IsSend Q.row × IsSync Q.row × (vec_len workers ≡ count) }
+            ensures crew { IfOk result (λ finished. vec_len finished.crew.workers ≡ count) }
+            ensures memory { IfErr result (λ fault. fault ≡ Fault.NoMemory) }
         {
-            let as_many = AsMany(Snapshot::of(&workers));
-            let Ok(pool) = scope.spawn_with(as_many, move || tend_sock(node, workers)) else {
+            let Ok(pool) = scope.spawn_with(AsMany(count), move || tend_sock(node, workers)) else {
                 return Err(Fault::NoMemory);
             };
             let Ok(line) = scope.spawn(move || dial_to_the_end(node, dialing, teller)) else {
