@@ -155,7 +155,7 @@ fn about_exchange(fault: &Fault, place: Place<'_>) -> &'static str {
             "give the control socket of a node of the same release, which is not the socket for its peers"
         }
         Fault::Closed =>
-            "the node's log met a fault, and its own output says which: start the node again",
+            "an earlier write met a fault of the node's log, which takes no more: see to its disk, and start the node again",
         Fault::WriteFailed(_) => match place {
             Place::Control(_) =>
                 "the node ended the connection: see whether it runs, and try again",

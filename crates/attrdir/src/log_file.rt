@@ -9,6 +9,14 @@ use std::fs;
 /// A log in a file of the system.
 pub(crate) type FileLog = SqlLog<FileStore<File>>;
 
+/// A fault of a log, or of printing its lines.
+fn failure(path: &str, fault: Fault) -> Failure<'_> {
+    match fault {
+        Fault::WriteFailed(_) => Failure::from(fault),
+        _ => Failure::at(Place::Log(path), fault),
+    }
+}
+
 /// A connection to a file that is there. `StoreFailed` where it is not there, or where it can't be opened or another has
 /// it open; `LogDamaged` where it is no database; `NoMemory`.
 fn connect<'a>(
@@ -26,7 +34,7 @@ fn connect<'a>(
         }
         Err(_) => Fault::StoreFailed,
     };
-    Err(Failure::at(Place::Log(path), fault))
+    Err(failure(path, fault))
 }
 
 /// The log of an owner of a cluster, in a file that is there; an empty one becomes a new log. It gives versions up to
@@ -41,7 +49,7 @@ pub(crate) fn open_log<'a>(
     let conn = connect(rt, path)?;
     match SqlLog::open(rt.alloc(), conn, owner, cluster, max_version) {
         Ok(log) => Ok(log),
-        Err(fault) => Err(Failure::at(Place::Log(path), fault)),
+        Err(fault) => Err(failure(path, fault)),
     }
 }
 
@@ -59,6 +67,6 @@ pub(crate) fn print_log<'a>(
     let (printed, _) = log_run(rt.alloc(), &mut log, &mut rt.stdout());
     match printed.and(log.close()) {
         Ok(()) => Ok(()),
-        Err(fault) => Err(Failure::at(Place::Log(path), fault)),
+        Err(fault) => Err(failure(path, fault)),
     }
 }
