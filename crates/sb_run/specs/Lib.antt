@@ -3,3 +3,4 @@ pub mod Hearing
 pub mod Control
 pub mod Gates
 pub mod Pools
+pub mod Running

@@ -1,6 +1,5 @@
 //! Gates: what a session of a pool passes before it applies a delta and after it answers a digest.
-ghost use Rattle.std.specs.Prelude.{◌≡◌};
-ghost use Rattle.sb_run.specs.Gates.{GatedStep};
+ghost use Rattle.std.specs.Prelude.{◌≡◌, ◌⊎◌, MatchBool};
 
 use sb_digest::Digest;
 use sb_holdings::Report;
@@ -18,8 +17,15 @@ pub enum Step {
 
 /// Which steps sessions may take. It is asked outside of any lock, and may take its time.
 pub trait Gate {
+    ghost use Rattle.std.specs.Prelude.{ℕ};
+    ghost use Rattle.sb_run.specs.declared.gate.Step.{Step};
+
+    /// What is known where it lets the session of this number take the step: nothing need be.
+    ghost lets: { Self → ℕ → Step → Type 0 };
+
     /// Whether the session may go on. Where it may not, it ends with `TurnsSpent`.
-    fn pass(&self, session: u64, step: Step) -> bool;
+    fn pass(&self, session: u64, step: Step) -> bool
+        ensures { MatchBool result (lets self.now session step) (Unit {0}) };
 }
 
 /// A gate that every session passes.
@@ -27,6 +33,8 @@ pub trait Gate {
 pub struct Open;
 
 impl Gate for Open {
+    ghost lets = { λ gate session step. Unit {0} };
+
     fn pass(&self, _session: u64, _step: Step) -> bool {
         true
     }
@@ -42,7 +50,9 @@ pub(crate) struct Gated<'a, H, G> {
 
 impl<'a, H: Handler, G: Gate> Gated<'a, H, G> {
     pub(crate) fn new(inner: H, gate: &'a G, session: u64) -> Gated<'a, H, G>
-        ensures { result.inner ≡ inner }
+        ensures inner { result.inner ≡ inner }
+        ensures gate { result.gate.now ≡ gate.now }
+        ensures session { result.session ≡ session }
     {
         Gated {
             inner,
@@ -52,7 +62,7 @@ impl<'a, H: Handler, G: Gate> Gated<'a, H, G> {
     }
 
     pub(crate) fn into_inner(self) -> H
-        ensures { result ≡ self.inner }
+        ensures { result ≡ self.entry.inner }
     {
         let Gated {
             inner,
@@ -64,13 +74,18 @@ impl<'a, H: Handler, G: Gate> Gated<'a, H, G> {
 }
 
 impl<H: Handler, G: Gate> Handler for Gated<'_, H, G> {
-    ghost use Rattle.std.proofs.Common.{inl, inr};
+    ghost use Rattle.std.proofs.Common.{◌≡◌, refl, ◌∙◌, ⊎_elim, subst, sym};
+    ghost use Rattle.sb_run.specs.declared.gate.Step.TheVariants.{BeforeApply};
+    ghost use Rattle.sb_run.specs.Gates.{GatedStep, IsShut, let-enters};
 
-    ghost step = { λ old act new. GatedStep H.step H.stays H.grows old.inner act new.inner };
+    ghost step = { λ old act new. (new.gate.now ≡ old.gate.now) × (new.session ≡ old.session)
+        × GatedStep (G.lets old.gate.now old.session) H.step H.stays H.grows old.inner act new.inner };
 
-    ghost stays = { λ old new. H.stays old.inner new.inner };
+    ghost stays = { λ old new. (new.gate.now ≡ old.gate.now) × (new.session ≡ old.session) × H.stays old.inner new.inner };
 
-    ghost grows = { λ old new. H.grows old.inner new.inner };
+    // A gate that lets no delta through has entered nothing.
+    ghost grows = { λ old new. (new.gate.now ≡ old.gate.now) × (new.session ≡ old.session) × H.grows old.inner new.inner
+        × (IsShut (G.lets old.gate.now old.session) → H.stays old.inner new.inner) };
 
     fn digest(&mut self, from: Option<Name>, want: bool) -> Result<Digest, Fault> {
         self.inner.digest(from, want)
@@ -91,15 +106,33 @@ impl<H: Handler, G: Gate> Handler for Gated<'_, H, G> {
         self.inner.apply(delta)
     }
 
-    ghost enters_nothing = { λ old new act none. elim [ inl own ↦ H.enters_nothing old.inner new.inner act none own | inr turned ↦ turned.1.0 ] };
+    ghost enters_nothing = { λ old new act none step. (
+      step.0,
+      step.1,
+      ⊎_elim (λ own. H.enters_nothing old.inner new.inner act none own.1) (λ turned. turned.1.0) step.2,
+    ) };
 
-    ghost stays_still = { λ state. H.stays_still state.inner };
+    ghost stays_still = { λ state. (refl, refl, H.stays_still state.inner) };
 
-    ghost stays_on = { λ old mid new first then. H.stays_on old.inner mid.inner new.inner first then };
+    ghost stays_on = { λ old mid new first then. (then.0 ∙ first.0, then.1 ∙ first.1, H.stays_on old.inner mid.inner new.inner first.2 then.2) };
 
-    ghost step_grows = { λ old new act. elim [ inl own ↦ H.step_grows old.inner new.inner act own | inr turned ↦ turned.1.1 ] };
+    ghost step_grows = { λ old new act step. (
+      step.0,
+      step.1,
+      ⊎_elim (λ own. H.step_grows old.inner new.inner act own.1) (λ turned. turned.1.1) step.2,
+      ⊎_elim
+          (λ own shut. H.enters_nothing old.inner new.inner act (let-enters (G.lets old.gate.now old.session) act own.0 shut) own.1)
+          (λ turned shut. turned.1.0) step.2,
+    ) };
 
-    ghost grows_still = { λ state. H.grows_still state.inner };
+    ghost grows_still = { λ state. (refl, refl, H.grows_still state.inner, λ shut. H.stays_still state.inner) };
 
-    ghost grows_on = { λ old mid new first then. H.grows_on old.inner mid.inner new.inner first then };
+    ghost grows_on = { λ old mid new first then. (
+      then.0 ∙ first.0,
+      then.1 ∙ first.1,
+      H.grows_on old.inner mid.inner new.inner first.2 then.2,
+      λ shut. H.stays_on old.inner mid.inner new.inner (first.3 shut)
+          (then.3 (subst (λ session. IsShut (G.lets mid.gate.now session)) (sym first.1)
+          (subst (λ gate. IsShut (G.lets gate old.session)) (sym first.0) shut))),
+    ) };
 }

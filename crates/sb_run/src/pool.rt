@@ -1,8 +1,7 @@
 //! Workers that serve the connections of a source, each from a seat of its own.
 ghost use Rattle.std.specs.Prelude.{◌≡◌, ◌<◌, length, slice_index_or, true, IfOk, IsOk};
-ghost use Rattle.sb_directory.specs.Seats as seats;
-ghost use Rattle.sb_directory.specs.Serving.{IsLater};
-ghost use Rattle.sb_run.specs.Pools.{AreLater};
+ghost use Rattle.sb_run.specs.Gates.{IsShut, AreShut};
+ghost use Rattle.sb_run.specs.Pools.{IsKept, AreKept};
 
 use crate::gate::{Gate, Gated};
 use core::mem::replace_with;
@@ -65,7 +64,7 @@ fn meet<S: Configured, H: Wait + Drop, Q: Wait, I: Read, O: Write, G: Gate, K: L
     requires name { blank.name ≡ K.name }
     requires parts { blank.parts ≡ K.parts }
     requires some { 0 < blank.parts }
-    ensures { IsLater seat result.0 }
+    ensures { IsKept (IsShut (G.lets gate.now number)) seat result.0 }
 {
     let mut steps = Steps::<K>::new(blank);
     let mut handler = Gated::new(Served::new(rt, directory, seat), gate, number);
@@ -82,6 +81,7 @@ fn meet<S: Configured, H: Wait + Drop, Q: Wait, I: Read, O: Write, G: Gate, K: L
 }
 
 /// Serves connections from a seat until the source has no more.
+#[tactic(auto, using(crate::proofs::Pooling::kept_same, crate::proofs::Pooling::kept_on))]
 fn tend<S: Configured, H: Wait + Drop, Q: Wait, X: Source, G: Gate>(
     rt: &Q,
     alloc: Global,
@@ -93,7 +93,7 @@ fn tend<S: Configured, H: Wait + Drop, Q: Wait, X: Source, G: Gate>(
     tally: &Tally,
     seat: ReaderSeat<S>,
 ) -> (ReaderSeat<S>, ())
-    ensures { IsLater seat result.0 }
+    ensures { IsKept (AreShut (G.lets gate.now)) seat result.0 }
 {
     let mut sitting = seat;
     for _ in rt.forever() {
@@ -139,7 +139,7 @@ fn tend_in_place<S: Configured, H: Wait + Drop, Q: Wait, X: Source, G: Gate>(
     tally: &Tally,
     seat: &mut ReaderSeat<S>,
 )
-    ensures { IsLater seat.old seat.new }
+    ensures { IsKept (AreShut (G.lets gate.now)) seat.old seat.new }
 {
     replace_with(
         seat,
@@ -170,7 +170,7 @@ pub fn serve_pool<
     max_reads: u64,
 ) -> Result<Pooled<S>, (Fault, Vec<ReaderSeat<S>>)>
     ensures ok { IsOk result }
-    ensures later { IfOk result (λ pooled. AreLater seats.items pooled.seats.items) }
+    ensures kept { IfOk result (λ pooled. AreKept (AreShut (G.lets gate.now)) seats.items pooled.seats.items) }
 {
     let tally = Tally {
         sessions: AtomicU64::new(0),
@@ -204,7 +204,7 @@ fn tend_all<
     tally: &Tally,
     seats: &mut [ReaderSeat<S>],
 )
-    ensures { AreLater seats.old seats.new }
+    ensures { AreKept (AreShut (G.lets gate.now)) seats.old seats.new }
 {
     if seats.is_empty() {
         return;
@@ -215,7 +215,7 @@ fn tend_all<
         seats,
         workers,
         &|_, seat| -> ()
-            ensures { IsLater seat.entry.now seat.exit.now }
+            ensures { IsKept (AreShut (G.lets gate.entry.now)) seat.entry.now seat.exit.now }
         {
             tend_in_place(
                 rt, alloc, directory, session, source, gate, max_reads, tally, seat,

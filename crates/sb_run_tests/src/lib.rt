@@ -6,3 +6,9 @@
 mod asking;
 #[cfg(test)]
 mod owning;
+#[cfg(test)]
+mod peers;
+#[cfg(test)]
+mod pooling;
+#[cfg(test)]
+mod running;

@@ -113,7 +113,15 @@ fn serve_one<S: Configured, R: Wait, K: Ledger>(
     let mut steps = Steps::<K>::new(blank);
     let mut reader = request;
     let (seat, ended, _) = serve_control(
-        rt, alloc, &mut reader, answer, directory, owner, seat, 1, &mut steps,
+        rt,
+        alloc,
+        &mut reader,
+        answer,
+        directory,
+        owner,
+        seat,
+        1,
+        &mut steps,
     );
     (seat, ended)
 }
