@@ -8,7 +8,7 @@ use sb_query::print_rows;
 use sb_run::ask_control;
 use sb_types::{
     Fault, KIND_ASK, KIND_BYE, KIND_DELTA, KIND_DIGEST, KIND_DONE, KIND_HELLO, KIND_PUT,
-    KIND_REFUSED, KIND_ROWS, Key, Name, Prefix, Slot, Write,
+    KIND_REFUSED, KIND_ROWS, Key, Name, Slot, Write,
 };
 use std::alloc::Global;
 use std::marker::Brand;
@@ -105,38 +105,54 @@ fn goes_on(page: &Rows, after: Option<(Name, Key)>) -> bool {
     }
 }
 
-/// One page of a node's rows. `Malformed(KIND_ROWS)` where it does not go on.
+/// The page, where it goes on. `Malformed(KIND_ROWS)` where it does not.
+fn going_on<'a>(
+    control: &'a str,
+    page: Rows,
+    after: Option<(Name, Key)>,
+) -> Result<Rows, Failure<'a>> {
+    if goes_on(&page, after) {
+        return Ok(page);
+    }
+    Err(Failure::at(Place::Control(control), Fault::Malformed(KIND_ROWS)))
+}
+
+/// One page of a node's rows.
 fn page_of<'a>(rt: &HostRuntime, control: &'a str, ask: Ask) -> Result<Rows, Failure<'a>> {
-    match answer_of(rt, control, &Message::Ask(ask))? {
-        Message::Rows(page) if goes_on(&page, ask.after) => Ok(page),
-        Message::Rows(_) => Err(Failure::at(Place::Control(control), Fault::Malformed(KIND_ROWS))),
+    let request = Message::Ask(ask);
+    match answer_of(rt, control, &request)? {
+        Message::Rows(page) => going_on(control, page, ask.after),
         other => Err(refusal(control, &other)),
     }
 }
 
-/// Prints the rows that a node has, page after page: of one owner or of all, of the keys that begin with the prefix.
+/// The place of the last row of a page, where more follow.
+fn place_behind(page: &Rows) -> Option<(Name, Key)> {
+    if !page.more() {
+        return None;
+    }
+    let row = page.rows().last()?;
+    Some((*row.owner(), *row.key()))
+}
+
+fn print_page(rt: &HostRuntime, page: &Rows) -> Result<(), Fault> {
+    let (printed, _) = print_rows(rt.alloc(), &mut rt.stdout(), page);
+    printed
+}
+
+/// Prints the rows that a node has, page after page: those that are asked for, from their first on.
 pub(crate) fn print_all<'a>(
     rt: &HostRuntime,
     control: &'a str,
-    owner: Option<Name>,
-    prefix: Prefix,
+    asked: Ask,
 ) -> Result<(), Failure<'a>> {
-    let mut after = None;
+    let mut ask = asked;
     for _ in 0..u64::MAX {
-        let page = page_of(
-            rt,
-            control,
-            Ask {
-                owner,
-                prefix,
-                after,
-            },
-        )?;
-        let (printed, _) = print_rows(rt.alloc(), &mut rt.stdout(), &page);
-        printed?;
-        match page.rows().last() {
-            Some(row) if page.more() => after = Some((*row.owner(), *row.key())),
-            _ => return Ok(()),
+        let page = page_of(rt, control, ask)?;
+        print_page(rt, &page)?;
+        ask.after = place_behind(&page);
+        if ask.after.is_none() {
+            return Ok(());
         }
     }
     Err(Failure::at(Place::Control(control), Fault::TurnsSpent))

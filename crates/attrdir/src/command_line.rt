@@ -3,9 +3,10 @@ use crate::asking::{print_all, put};
 use crate::commands::command;
 use crate::failure::Failure;
 use crate::log_file::print_log;
-use crate::serving::{Given, NodeRuntime, serve};
+use crate::serving::Given;
 use clap::ArgMatches;
 use clap::error::ErrorKind;
+use sb_codec::Ask;
 use sb_run::Pace;
 use sb_script::{Detail, Output, sim_run_uncounted};
 use sb_types::{Fault, Key, Name, Order, Prefix, RawSettings, Slot, Value};
@@ -15,7 +16,7 @@ use std::{env, io};
 const MAX_READS: u64 = 1_000_000;
 
 /// The exit status of a command line that is wrong.
-const USAGE_STATUS: u8 = 2;
+pub(crate) const USAGE_STATUS: u8 = 2;
 
 /// The exit status of a run that had a fault.
 const FAULT_STATUS: u8 = 3;
@@ -32,8 +33,17 @@ const NUMBERS: [&str; 8] = [
     "max-reads",
 ];
 
+/// What is left to do behind the command line.
+#[derive(Debug, Drop)]
+pub(crate) enum Next<'a> {
+    /// Nothing: the exit status.
+    Ended(u8),
+    /// A node is to run, which is for `main`: nothing else may start threads.
+    Serve(Given<'a>),
+}
+
 /// The words of the command line; none where one is not UTF-8, which is told.
-fn words(rt: &HostRuntime) -> Result<Option<Vec<String>>, Fault> {
+pub(crate) fn words(rt: &HostRuntime) -> Result<Option<Vec<String>>, Fault> {
     match env::args(rt) {
         Ok(args) => Ok(Some(args.collect(rt.alloc())?)),
         Err(error) if error.kind() == io::ErrorKind::OutOfMemory => Err(Fault::NoMemory),
@@ -105,28 +115,25 @@ fn pace_of(given: &ArgMatches<'_>) -> Pace {
     }
 }
 
-/// Runs the node that the command line says, and answers the exit status.
-fn run_serve<'a, R: NodeRuntime>(
-    rt: &HostRuntime,
-    runtime: &R,
-    given: &ArgMatches<'a>,
-) -> Result<u8, Failure<'a>> {
+/// The node that the command line says; none where a number is wrong, which is told.
+fn node_of<'a>(rt: &HostRuntime, given: &ArgMatches<'a>) -> Result<Next<'a>, Failure<'a>> {
     if let Some((name, text)) = wrong_number(given) {
         let _ = eprintln!(rt;
             "error: invalid value '{text}' for '--{name}': a number has digits alone"
         );
-        return Ok(USAGE_STATUS);
+        return Ok(Next::Ended(USAGE_STATUS));
     }
-    let node = Given {
+    let mut peers = Vec::new(rt.alloc());
+    peers.extend_from_slice(given.get_strs("PEER").unwrap_or(&[]))?;
+    Ok(Next::Serve(Given {
         name: value(given, "name"),
         log: value(given, "log"),
         settings: settings_of(given),
         sock: value(given, "sock"),
         control: value(given, "control"),
+        peers,
         pace: pace_of(given),
-    };
-    serve(rt, runtime, &node, given.get_strs("PEER").unwrap_or(&[]))?;
-    Ok(0)
+    }))
 }
 
 /// Has a node write, and prints the version of the write.
@@ -156,7 +163,12 @@ fn run_get<'a>(rt: &HostRuntime, given: &ArgMatches<'a>) -> Result<u8, Failure<'
         None => None,
     };
     let prefix = Prefix::read(value(given, "prefix").as_bytes())?;
-    print_all(rt, value(given, "control"), owner, prefix)?;
+    let asked = Ask {
+        owner,
+        prefix,
+        after: None,
+    };
+    print_all(rt, value(given, "control"), asked)?;
     Ok(0)
 }
 
@@ -166,21 +178,18 @@ fn run_log<'a>(rt: &HostRuntime, given: &ArgMatches<'a>) -> Result<u8, Failure<'
     Ok(0)
 }
 
-/// Does what a command line says that is one, and answers the exit status.
-fn carry_out<'a, R: NodeRuntime>(
-    rt: &HostRuntime,
-    runtime: &R,
-    matches: &ArgMatches<'a>,
-) -> Result<u8, Failure<'a>> {
-    match matches.subcommand() {
-        Some(("serve", given)) => run_serve(rt, runtime, given),
-        Some(("set", given)) => run_set(rt, given),
-        Some(("del", given)) => run_del(rt, given),
-        Some(("get", given)) => run_get(rt, given),
-        Some(("log", given)) => run_log(rt, given),
-        Some((_, given)) => Ok(play(rt, detail_of(given))?),
-        None => Ok(USAGE_STATUS),
-    }
+/// Does what a command line says that is one, but for running a node.
+fn carry_out<'a>(rt: &HostRuntime, matches: &ArgMatches<'a>) -> Result<Next<'a>, Failure<'a>> {
+    let status = match matches.subcommand() {
+        Some(("serve", given)) => return node_of(rt, given),
+        Some(("set", given)) => run_set(rt, given)?,
+        Some(("del", given)) => run_del(rt, given)?,
+        Some(("get", given)) => run_get(rt, given)?,
+        Some(("log", given)) => run_log(rt, given)?,
+        Some((_, given)) => play(rt, detail_of(given))?,
+        None => USAGE_STATUS,
+    };
+    Ok(Next::Ended(status))
 }
 
 /// Prints the help that was asked for, or why the words are no command line, and answers the exit status.
@@ -194,32 +203,16 @@ fn tell(rt: &HostRuntime, error: &clap::Error) -> Result<u8, Fault> {
     }
 }
 
-/// Does what these words say, and answers the exit status.
-fn follow<'a, R: NodeRuntime>(
-    rt: &HostRuntime,
-    runtime: &R,
-    words: &'a [String],
-) -> Result<u8, Failure<'a>> {
+/// Does what these words say, but for running a node.
+pub(crate) fn follow<'a>(rt: &HostRuntime, words: &'a [String]) -> Result<Next<'a>, Failure<'a>> {
     match command(rt.alloc())?.try_get_matches_from(words) {
-        Ok(matches) => carry_out(rt, runtime, &matches),
-        Err(error) => Ok(tell(rt, &error)?),
+        Ok(matches) => carry_out(rt, &matches),
+        Err(error) => Ok(Next::Ended(tell(rt, &error)?)),
     }
 }
 
 /// Prints a failure, and answers the exit status.
-fn print_failure(rt: &HostRuntime, failure: Failure<'_>) -> u8 {
+pub(crate) fn print_failure(rt: &HostRuntime, failure: Failure<'_>) -> u8 {
     let _ = eprintln!(rt; "{failure}");
     FAULT_STATUS
-}
-
-/// Does what the command line says, and answers the exit status. A node that it is to run runs on `runtime`.
-pub(crate) fn run<R: NodeRuntime>(rt: &HostRuntime, runtime: &R) -> u8 {
-    match words(rt) {
-        Ok(Some(words)) => match follow(rt, runtime, words.as_slice()) {
-            Ok(status) => status,
-            Err(failure) => print_failure(rt, failure),
-        },
-        Ok(None) => USAGE_STATUS,
-        Err(fault) => print_failure(rt, Failure::from(fault)),
-    }
 }

@@ -9,8 +9,23 @@ mod help;
 mod log_file;
 mod serving;
 
+use crate::command_line::{Next, USAGE_STATUS, follow, print_failure, words};
+use crate::failure::Failure;
+use crate::serving::serve;
 use std::process::ExitCode;
 
 fn main(rt: HostRuntime) -> ExitCode {
-    ExitCode::from(command_line::run(&rt, &rt))
+    let status = match words(&rt) {
+        Ok(Some(words)) => match follow(&rt, words.as_slice()) {
+            Ok(Next::Ended(status)) => status,
+            Ok(Next::Serve(node)) => match serve(&rt, &rt, &node) {
+                Ok(()) => 0,
+                Err(failure) => print_failure(&rt, failure),
+            },
+            Err(failure) => print_failure(&rt, failure),
+        },
+        Ok(None) => USAGE_STATUS,
+        Err(fault) => print_failure(&rt, Failure::from(fault)),
+    };
+    ExitCode::from(status)
 }

@@ -9,33 +9,15 @@ use std::sync::Wait;
 use std::thread::Threads;
 use std::time::Clock;
 
-/// What a node runs on: threads, sockets, files and a clock. The runtime of `main` is one.
-pub(crate) trait NodeRuntime: Threads
-    + Wait
-    + Clock
-    + Files
-    + Net<Listener = TcpListener, Stream = TcpStream>
-    + Send
-    + Sync {}
-
-impl<
-    R: Threads
-        + Wait
-        + Clock
-        + Files
-        + Net<Listener = TcpListener, Stream = TcpStream>
-        + Send
-        + Sync,
-> NodeRuntime for R {}
-
 /// What the command line says of a node.
-#[derive(Clone, Copy, Debug)]
+#[derive(Debug, Drop)]
 pub(crate) struct Given<'a> {
     pub(crate) name: &'a str,
     pub(crate) log: &'a str,
     pub(crate) settings: RawSettings<'a>,
     pub(crate) sock: &'a str,
     pub(crate) control: &'a str,
+    pub(crate) peers: Vec<&'a str>,
     pub(crate) pace: Pace,
 }
 
@@ -68,27 +50,26 @@ fn place_of<'a>(fault: &Fault, given: &Given<'a>) -> Place<'a> {
     }
 }
 
-/// Runs a node, which asks these peers. `BadName` of its name, and then `BadSetting`, before the log is opened; then the faults of `open_log` and
+/// Runs a node. `BadName` of its name, and then `BadSetting`, before the log is opened; then the faults of `open_log` and
 /// of `run_node`.
-pub(crate) fn serve<'a, R: NodeRuntime>(
-    rt: &HostRuntime,
-    runtime: &R,
-    given: &Given<'a>,
-    peers: &[&'a str],
-) -> Result<(), Failure<'a>> {
+pub(crate) fn serve<
+    'a,
+    R: Threads
+        + Wait
+        + Clock
+        + Files
+        + Net<Listener = TcpListener, Stream = TcpStream>
+        + Send
+        + Sync,
+>(rt: &HostRuntime, runtime: &R, given: &Given<'a>) -> Result<(), Failure<'a>> {
     let name = Name::read(given.name.as_bytes())?;
     let settings = Settings::check(given.settings)?;
-    let log = open_log(
-        rt,
-        given.log,
-        name,
-        settings.cluster(),
-        settings.max_version(),
-    )?;
+    let (cluster, max_version) = (settings.cluster(), settings.max_version());
+    let log = open_log(rt, given.log, name, cluster, max_version)?;
     let paths = Paths {
         sock: given.sock,
         control: given.control,
-        peers,
+        peers: given.peers.as_slice(),
     };
     let ran = run_node(
         runtime,
