@@ -1,5 +1,6 @@
 //! Workers that serve the connections of a source, each from a seat of its own.
-ghost use Rattle.std.specs.Prelude.{◌≡◌, ◌<◌, length, slice_index_or, true, IfOk, IsOk};
+ghost use Rattle.std.specs.Prelude.{◌≡◌, ◌<◌, IfOk, IsOk};
+ghost use Rattle.std.specs.Thread.{IsSend};
 ghost use Rattle.sb_run.specs.Gates.{IsShut, AreShut};
 ghost use Rattle.sb_run.specs.Pools.{IsKept, AreKept};
 
@@ -144,15 +145,21 @@ fn tend_in_place<S: Configured, H: Wait + Drop, Q: Wait, X: Source, G: Gate>(
     replace_with(
         seat,
         (),
-        |seat, _| tend(
-            rt, alloc, directory, session, source, gate, max_reads, tally, seat,
-        ),
+        |seat, _| -> (ReaderSeat<S>, ())
+            requires { IsSend X.In.row × IsSend X.Out.row }
+            ensures { IsKept (AreShut (G.lets gate.entry.now)) seat result.0 }
+        {
+            tend(
+                rt, alloc, directory, session, source, gate, max_reads, tally, seat,
+            )
+        },
     );
 }
 
 /// Serves the connections of a source until it has no more, with a worker for each seat, each in a thread of its own. The
 /// caller is one of them, and runs those whose thread can't be made. A session that the gate turns away ends with
-/// `TurnsSpent`; each makes at most `max_reads` reads. The seats come back in their order. It never refuses.
+/// `TurnsSpent`; each makes at most `max_reads` reads. The seats come back in their order; where
+/// the gate lets no session apply a delta, each as it was. It never refuses.
 pub fn serve_pool<
     S: Configured + Send + Sync,
     H: Wait + Drop + Send + Sync,
@@ -215,6 +222,7 @@ fn tend_all<
         seats,
         workers,
         &|_, seat| -> ()
+            requires { IsSend X.In.row × IsSend X.Out.row }
             ensures { IsKept (AreShut (G.lets gate.entry.now)) seat.entry.now seat.exit.now }
         {
             tend_in_place(

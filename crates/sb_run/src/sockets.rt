@@ -1,4 +1,5 @@
 //! The two sockets that a node binds, and the connections on them and to its peers.
+ghost use Rattle.std.specs.Prelude.{◌≡◌, IfErr};
 
 use mio::net;
 use sb_types::Fault;

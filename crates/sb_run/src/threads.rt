@@ -1,5 +1,6 @@
 //! The threads of a running node.
 ghost use Rattle.std.specs.Prelude.{◌≡◌, vec_len, IfOk, IfErr};
+ghost use Rattle.std.specs.Thread.{IsSend, IsSync};
 
 use crate::accepting::Acceptor;
 use crate::attending::attend;
@@ -99,22 +100,28 @@ pub(crate) fn run_threads<
         dialing,
         control,
     } = crew;
-    thread::scope(thread::scope_env(), node.rt, move |scope| {
-        let as_many = AsMany(Snapshot::of(&workers));
-        let Ok(pool) = scope.spawn_with(as_many, move || tend_sock(node, workers)) else {
-            return Err(Fault::NoMemory);
-        };
-        let Ok(line) = scope.spawn(move || dial_to_the_end(node, dialing, teller)) else {
-            node.end();
-            pool.join(node.rt);
-            return Err(Fault::NoMemory);
-        };
-        let (control, faults) = attend(node, owner, control);
-        let rounds = hearer.hear(node.rt);
-        let dialing = line.join(node.rt);
-        let pooled = pool.join(node.rt);
-        Ok(finish(pooled, dialing, control, rounds?, faults))
-    })
+    thread::scope(
+        thread::scope_env(),
+        node.rt,
+        move |scope| -> Result<Finished<S>, Fault>
+            requires { IsSend S.row × IsSync S.row × IsSend H.row × IsSync H.row × IsSend Q.row × IsSync Q.row }
+        {
+            let as_many = AsMany(Snapshot::of(&workers));
+            let Ok(pool) = scope.spawn_with(as_many, move || tend_sock(node, workers)) else {
+                return Err(Fault::NoMemory);
+            };
+            let Ok(line) = scope.spawn(move || dial_to_the_end(node, dialing, teller)) else {
+                node.end();
+                pool.join(node.rt);
+                return Err(Fault::NoMemory);
+            };
+            let (control, faults) = attend(node, owner, control);
+            let rounds = hearer.hear(node.rt);
+            let dialing = line.join(node.rt);
+            let pooled = pool.join(node.rt);
+            Ok(finish(pooled, dialing, control, rounds?, faults))
+        },
+    )
 }
 
 /// What is left, put together.

@@ -123,13 +123,13 @@ pub(crate) fn put_is_done<R: Net>(rt: &R, control: &str) -> Result<bool, Fault> 
 pub(crate) fn hears_only(stream: &UnixStream, count: usize) -> Result<bool, Fault> {
     let mut reader = stream;
     let mut heard = [0u8; 64];
-    let mut all = 0;
+    let mut all: usize = 0;
     for _ in 0..64 {
         let more = given(reader.read(&mut heard))?;
         if more == 0 {
             return Ok(all == count);
         }
-        all += more;
+        all = more.saturating_add(all);
     }
     Ok(false)
 }

@@ -1,4 +1,4 @@
 use Rattle.sb_run.proofs.attending.attend.Given as goal
 
-abbrev pub ghosts-answer_one-K : goal.ghosts-answer_one-K
-ghosts-answer_one-K g a = record { name = a.blank.name; parts = a.blank.parts }
+abbrev pub ghosts-answer_one : goal.ghosts-answer_one
+ghosts-answer_one g a = record { name = a.blank.name; parts = a.blank.parts }
