@@ -119,9 +119,10 @@ fn going_on<'a>(
 
 /// One page of a node's rows.
 fn page_of<'a>(rt: &HostRuntime, control: &'a str, ask: Ask) -> Result<Rows, Failure<'a>> {
+    let after = ask.after;
     let request = Message::Ask(ask);
     match answer_of(rt, control, &request)? {
-        Message::Rows(page) => going_on(control, page, ask.after),
+        Message::Rows(page) => going_on(control, page, after),
         other => Err(refusal(control, &other)),
     }
 }
