@@ -1,10 +1,9 @@
 //! The command line of the program, and the layers in turn.
-use crate::catch_up;
 use crate::layers::{self, WholeDelta};
-use crate::logs;
 use crate::problem::Problem;
 use crate::report::Telling;
 use crate::sample::{Sizes, blocks, full_node};
+use crate::{catch_up, logs};
 use clap::error::ErrorKind;
 use clap::{Arg, ArgAction, ArgMatches, Command, value_parser};
 use sb_breadth::Breadth;
