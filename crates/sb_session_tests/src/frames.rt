@@ -1,9 +1,10 @@
 //! Frames by hand, in any pieces and through any writer.
 
-use super::*;
+use crate::wire::{BYE, DIGEST_A, HELLO_A, greatest_frame};
 use sb_codec::{Bye, Hello, Message};
+use sb_frames::{Frames, send, send_telling};
 use sb_types::{Block, Delta, Entry, Fault, Key, Name, Slot, Value};
-use std::alloc::{AllocError, Global};
+use std::alloc::Global;
 use std::io::{self, ErrorKind, Write};
 use std::test::Fail;
 
@@ -18,19 +19,9 @@ const DESCENDING: &[u8] = b"\xa7\x01\x00\x00\x00\x41\x03\x00\x02\
     \x01a\x00\x00\x00\x00\x00\x00\x00\x00\
     \x00\x01\x01w\x00\x00\x00\x00\x00\x00\x00\x01\x02\x00\x00\x00\x00\x00\x00\x00\x05";
 
-/// Hello of the node a of the cluster c1.
-const HELLO: &[u8] = b"\xa7\x01\x00\x00\x00\x06\x01\x02c1\x01a";
-
 /// Hello of a node of a cluster whose name has 33 bytes.
 const LONG_CLUSTER: &[u8] = b"\xa7\x01\x00\x00\x00\x25\x01\
     \x21abcdefghijklmnopqrstuvwxyz-012345\x01a";
-
-/// The digest of a node a that holds only itself with nothing written; an answer is wanted.
-const DIGEST: &[u8] = b"\xa7\x01\x00\x00\x00\x10\x02\x01\x00\x00\
-    \x00\x01\x01a\x00\x00\x00\x00\x00\x00\x00\x00";
-
-/// Bye, since the rounds are done.
-const BYE: &[u8] = b"\xa7\x01\x00\x00\x00\x02\x04\x01";
 
 /// Takes a few bytes in each write, and fails once it has no room. Before each of them it is interrupted so often.
 #[derive(Drop)]
@@ -192,7 +183,7 @@ fn goes_out_as(alloc: Global, message: &Message, frame: &[u8]) -> Result<bool, F
     Ok(narrow.has_written(frame))
 }
 
-/// Whether it is the Hello that `HELLO` spells.
+/// Whether it is the Hello that `HELLO_A` spells.
 fn is_hello(message: &Message) -> bool {
     let Message::Hello(hello) = message else {
         return false;
@@ -200,7 +191,7 @@ fn is_hello(message: &Message) -> bool {
     hello.cluster.bytes() == b"c1".as_slice() && hello.node.bytes() == b"a".as_slice()
 }
 
-/// Whether it is the digest that `DIGEST` spells.
+/// Whether it is the digest that `DIGEST_A` spells.
 fn is_digest(message: &Message) -> bool {
     let Message::Digest(digest) = message else {
         return false;
@@ -217,17 +208,17 @@ fn frames_of_other_kinds(rt: HostRuntime) -> Result<(), Fail> {
     let alloc = rt.alloc();
     let (cluster, node) = (Name::read(b"c1")?, Name::read(b"a")?);
     let hello = Message::Hello(Hello { cluster, node });
-    assert!(rt; goes_out_as(alloc, &hello, HELLO)?);
-    let Some(message) = read(alloc, HELLO)? else {
+    assert!(rt; goes_out_as(alloc, &hello, HELLO_A)?);
+    let Some(message) = read(alloc, HELLO_A)? else {
         return Err("no message".into());
     };
     assert!(rt; is_hello(&message));
 
-    assert_eq!(rt; DIGEST.len(), 22);
-    let Some(message) = read(alloc, DIGEST)? else {
+    assert_eq!(rt; DIGEST_A.len(), 22);
+    let Some(message) = read(alloc, DIGEST_A)? else {
         return Err("no message".into());
     };
-    assert!(rt; goes_out_as(alloc, &message, DIGEST)?);
+    assert!(rt; goes_out_as(alloc, &message, DIGEST_A)?);
     assert!(rt; is_digest(&message));
 
     let bye = Message::Bye(Bye::new(1)?);
@@ -283,21 +274,6 @@ fn frames_go_out_whole(rt: HostRuntime) -> Result<(), Fail> {
         Err(Fault::WriteFailed(0))
     );
     Ok(())
-}
-
-/// A frame of 65,536 bytes: a delta of 1,310 entries of 50 bytes and one of 15, behind 15 of its payload.
-fn greatest_frame(alloc: Global) -> Result<Vec<u8>, AllocError> {
-    let mut frame = Vec::new(alloc);
-    frame.extend_from_slice(b"\xa7\x01\x00\x00\xff\xfa\x03\x00\x01\x01a")?;
-    frame.extend_from_slice(b"\x00\x00\x00\x00\x00\x00\x00\x00\x05\x1f")?;
-    for version in 1..=1_310u64 {
-        frame.push(b'\x20')?;
-        frame.extend_from_slice(format!(in alloc; "{version:032}")?.as_bytes())?;
-        frame.extend_from_slice(&version.to_be_bytes())?;
-        frame.extend_from_slice(b"\x02\x00\x00\x00\x00\x00\x00\x00\x05")?;
-    }
-    frame.extend_from_slice(b"\x05zzzzz\x00\x00\x00\x00\x00\x00\x05\x1f\x00")?;
-    Ok(frame)
 }
 
 /// The message of a frame that comes in pieces of so many bytes; nothing where it comes before the last.

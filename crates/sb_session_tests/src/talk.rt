@@ -1,43 +1,18 @@
+//! Whole sessions over readers and writers that break off, fail and give their bytes in pieces.
 ghost use Rattle.std.specs.Prelude.{◌≡◌, ◌<◌};
 
-use crate::tests::{
-    ASK, BYE, DELTA_B, DELTA_NONE, DIGEST_A, DIGEST_B, DONE, HELLO_A, HELLO_B, HELLO_C2, Node, PUT,
-    REFUSED, ROWS, joined,
+use crate::session::{ASK, DONE, HELLO_C2, Node, PUT, REFUSED, ROWS, joined};
+use crate::wire::{
+    BYE, DELTA_B, DELTA_NONE, DIGEST_A, DIGEST_B, HELLO_A, HELLO_B, Pieces, greatest_frame,
 };
-use crate::{Ended, Session, dial, serve};
 use sb_frames::{LastWrite, Steps};
+use sb_session::{Ended, Session, dial, serve};
 use sb_types::{Fault, Name};
-use std::alloc::{AllocError, Global};
-use std::io::{self, ErrorKind, Read, Write};
+use std::alloc::Global;
+use std::io::{self, ErrorKind, Write};
 use std::marker::Brand;
 use std::sync::ledger::{Blank, Ledger};
 use std::test::Fail;
-
-/// Gives so many bytes a read, and fails at the end or not. Every other read is interrupted.
-#[derive(Drop)]
-struct Pieces<'a> {
-    bytes: &'a [u8],
-    piece: usize,
-    breaks: bool,
-    interrupts: bool,
-}
-
-impl Read for Pieces<'_> {
-    fn read(&mut self, buf: &mut [u8]) -> io::Result<usize> {
-        self.interrupts = !self.interrupts;
-        if self.interrupts {
-            return Err(ErrorKind::Interrupted.into());
-        }
-        if self.bytes.is_empty() && self.breaks {
-            return Err(ErrorKind::ConnectionReset.into());
-        }
-        let count = self.piece.min(buf.len()).min(self.bytes.len());
-        let (front, rest) = self.bytes.split_at(count);
-        buf[..count].copy_from_slice(front);
-        self.bytes = rest;
-        Ok(count)
-    }
-}
 
 /// Takes one byte in each write, and fails once it has no room. Every other write is interrupted.
 #[derive(Drop)]
@@ -145,7 +120,8 @@ fn talk_on<L: Ledger>(
         bytes: terms.bytes,
         piece: terms.piece,
         breaks: terms.breaks,
-        interrupts: false,
+        is_interrupted: false,
+        interrupts: true,
     };
     match terms.rounds {
         None => serve(
@@ -453,21 +429,6 @@ fn a_flood_before_hello_is_not_taken(rt: HostRuntime) -> Result<(), Fail> {
         assert_eq!(rt; node.upto(b"b")?, 0);
     }
     Ok(())
-}
-
-/// A frame of 65,536 bytes: a delta of 1,310 entries of 50 bytes and one of 15, behind 15 of its payload.
-fn greatest_frame(alloc: Global) -> Result<Vec<u8>, AllocError> {
-    let mut frame = Vec::new(alloc);
-    frame.extend_from_slice(b"\xa7\x01\x00\x00\xff\xfa\x03\x00\x01\x01a")?;
-    frame.extend_from_slice(b"\x00\x00\x00\x00\x00\x00\x00\x00\x05\x1f")?;
-    for version in 1..=1_310u64 {
-        frame.push(b'\x20')?;
-        frame.extend_from_slice(format!(in alloc; "{version:032}")?.as_bytes())?;
-        frame.extend_from_slice(&version.to_be_bytes())?;
-        frame.extend_from_slice(b"\x02\x00\x00\x00\x00\x00\x00\x00\x05")?;
-    }
-    frame.extend_from_slice(b"\x05zzzzz\x00\x00\x00\x00\x00\x00\x05\x1f\x00")?;
-    Ok(frame)
 }
 
 #[test]

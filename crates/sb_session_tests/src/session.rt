@@ -1,42 +1,20 @@
+//! A session: what it takes, what it refuses, and what stays as it was.
 ghost use Rattle.std.specs.Prelude.{IfErr};
 ghost use Rattle.sb_session.specs.Handlers.{IsRefusal};
 
-use super::*;
+use crate::wire::{BYE, DELTA_B, DELTA_NONE, DIGEST_A, DIGEST_B, HELLO_A, HELLO_B};
 use sb_codec::Message;
 use sb_digest::{Digest, build};
 use sb_frames::{Frames, frame_of};
 use sb_holdings::{Holdings, Report};
+use sb_session::{Handler, Replies, Session};
 use sb_table::Table;
 use sb_types::{BUDGET_LEAST, Block, Delta, Entry, Fault, Key, Name, Slot, Value};
 use std::alloc::Global;
 use std::test::Fail;
 
-/// Hello of the nodes a and b of the cluster c1.
-pub(crate) const HELLO_A: &[u8] = b"\xa7\x01\x00\x00\x00\x06\x01\x02c1\x01a";
-
-pub(crate) const HELLO_B: &[u8] = b"\xa7\x01\x00\x00\x00\x06\x01\x02c1\x01b";
-
 /// Hello of a node a of the cluster c2.
 pub(crate) const HELLO_C2: &[u8] = b"\xa7\x01\x00\x00\x00\x06\x01\x02c2\x01a";
-
-/// The digest of a node a that holds only itself with nothing written; an answer is wanted.
-pub(crate) const DIGEST_A: &[u8] = b"\xa7\x01\x00\x00\x00\x10\x02\x01\x00\x00\
-    \x00\x01\x01a\x00\x00\x00\x00\x00\x00\x00\x00";
-
-/// The delta of the flag true that b wrote under w as its version 1.
-pub(crate) const DELTA_B: &[u8] =
-    b"\xa7\x01\x00\x00\x00\x1b\x03\x00\x01\x01b\x00\x00\x00\x00\x00\x00\x00\x00\
-    \x00\x01\x01w\x00\x00\x00\x00\x00\x00\x00\x01\x03\x01";
-
-/// The digest of b, which holds itself up to 1; none is wanted in answer.
-pub(crate) const DIGEST_B: &[u8] = b"\xa7\x01\x00\x00\x00\x10\x02\x00\x00\x00\
-    \x00\x01\x01b\x00\x00\x00\x00\x00\x00\x00\x01";
-
-/// A delta of no block.
-pub(crate) const DELTA_NONE: &[u8] = b"\xa7\x01\x00\x00\x00\x03\x03\x00\x00";
-
-/// Bye, since the rounds are done.
-pub(crate) const BYE: &[u8] = b"\xa7\x01\x00\x00\x00\x02\x04\x01";
 
 /// An Ask, Rows, a Put, a Done and a Refused, which have no place in a session.
 pub(crate) const ASK: &[u8] = b"\xa7\x01\x00\x00\x00\x05\x10\x00\x00\x00\x00";

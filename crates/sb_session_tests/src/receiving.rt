@@ -1,43 +1,17 @@
+//! Messages out of readers.
 ghost use Rattle.std.specs.Prelude.{◌≡◌, ◌<◌};
 
-use super::*;
+use crate::wire::Pieces;
 use sb_codec::Message;
+use sb_frames::{Frames, Steps, receive};
 use sb_types::Fault;
 use std::alloc::Global;
-use std::io::{self, ErrorKind, Read};
 use std::marker::Brand;
 use std::sync::ledger::{Blank, Ledger};
 use std::test::Fail;
 
 /// Bye, since the rounds are done, twice.
 const BYES: &[u8] = b"\xa7\x01\x00\x00\x00\x02\x04\x01\xa7\x01\x00\x00\x00\x02\x04\x01";
-
-/// Gives so many bytes a read, and fails at the end or not. Every other read is interrupted where any is.
-#[derive(Drop)]
-struct Pieces<'a> {
-    bytes: &'a [u8],
-    piece: usize,
-    breaks: bool,
-    is_interrupted: bool,
-    interrupts: bool,
-}
-
-impl Read for Pieces<'_> {
-    fn read(&mut self, buf: &mut [u8]) -> io::Result<usize> {
-        self.is_interrupted = self.interrupts && !self.is_interrupted;
-        if self.is_interrupted {
-            return Err(ErrorKind::Interrupted.into());
-        }
-        if self.bytes.is_empty() && self.breaks {
-            return Err(ErrorKind::ConnectionReset.into());
-        }
-        let count = self.piece.min(buf.len()).min(self.bytes.len());
-        let (front, rest) = self.bytes.split_at(count);
-        buf[..count].copy_from_slice(front);
-        self.bytes = rest;
-        Ok(count)
-    }
-}
 
 /// How many Byes come, and what comes then.
 fn receive_on<L: Ledger>(
