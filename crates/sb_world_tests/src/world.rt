@@ -1,6 +1,7 @@
-use super::*;
+//! A run of a world over logs in memory.
 use sb_log::PlainLog;
 use sb_types::{Fault, Key, Name, Order, RawSettings, Settings, Slot, Value};
+use sb_world::{Answer, Event, World, run_in_memory};
 use std::alloc::Global;
 use std::test::Fail;
 
@@ -20,29 +21,6 @@ fn world(alloc: Global) -> Result<World<PlainLog>, Fault> {
         logs.push(PlainLog::new(alloc, Name::read(name)?, cluster, 2))?;
     }
     World::new(alloc, settings, logs)
-}
-
-/// The frame of a delta of one weight.
-const FRAME: &[u8] =
-    b"\xa7\x01\x00\x00\x00\x22\x03\x00\x01\x01a\x00\x00\x00\x00\x00\x00\x00\x00\x00\x01\x01w\x00\x00\x00\x00\x00\x00\x00\x01\x02\x00\x00\x00\x00\x00\x00\x00\x05";
-
-#[test]
-fn a_write_is_committed_taken_and_offered(rt: HostRuntime) -> Result<(), Fail> {
-    let alloc = rt.alloc();
-    let mut world = world(alloc)?;
-    let a = Name::read(b"a")?;
-    let w = Key::read(b"w")?;
-    let write = Event::Commit(a, w, Slot::Set(Value::weight(5)?));
-    assert!(rt; matches!(world.step(&write), Ok(Answer::Committed(1))));
-    assert!(rt; matches!(world.step(&Event::Take(a)), Ok(Answer::Took(1))));
-    assert!(rt; matches!(world.step(&Event::Offer(a, a, 0)), Ok(Answer::Sent(1))));
-    let read = world.step(&Event::Read(a, a, w));
-    assert!(rt;
-        matches!(read, Ok(Answer::Shown(Some((ref value, 1)))) if value.as_weight() == Some(5))
-    );
-    assert_eq!(rt; world.frame(1), Some(FRAME));
-    assert_eq!(rt; world.frame(2), None);
-    Ok(())
 }
 
 /// The answers of a whole run: a crash behind a write, and a restart.
