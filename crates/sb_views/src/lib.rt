@@ -18,7 +18,9 @@ mod writer;
 
 pub use batch::Batch;
 pub use event::Event;
-pub use laws::{new_entries_lead, own_writes_lead, rows_ascend, tables_grow, views_show_what_is_held};
+pub use laws::{
+    new_entries_lead, own_writes_lead, rows_ascend, tables_grow, views_show_what_is_held,
+};
 pub use live::Live;
 pub use opening::views;
 pub use reader::{Entered, Reader};
@@ -28,6 +30,3 @@ pub use shown::{Op, Shown};
 pub use snapshot::Snapshot;
 pub use story::{Front, Mark, Opened, Site, Story};
 pub use writer::ViewWriter;
-
-#[cfg(test)]
-mod tests;

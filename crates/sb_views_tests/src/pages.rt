@@ -1,18 +1,14 @@
 //! Pages at exact budgets and behind places, and the lines of a page.
-ghost use Rattle.std.specs.Prelude.{◌≡◌};
-
-use super::*;
+use crate::making::{ClosingWriter, apply, entry, holdings_of_a};
+use crate::reading::{Look, read};
 use sb_codec::{Ask, Row, Rows};
-use sb_holdings::{BlockEnd, Holdings};
-use sb_table::Table;
-use sb_types::{BUDGET_LEAST, BUDGET_MOST, Block, Entry, Fault, Key, Name, Prefix, Slot, Value};
-use sb_views::{Opened, Site, Snapshot, views};
+use sb_holdings::Holdings;
+use sb_query::{answer, print_rows};
+use sb_types::{BUDGET_LEAST, BUDGET_MOST, Block, Fault, Key, Name, Prefix, Value};
+use sb_views::{Opened, Snapshot};
 use std::alloc::Global;
-use std::io;
-use std::io::{ErrorKind, Write};
 use std::marker::Brand;
 use std::process::Abort;
-use std::sync::Wait;
 use std::test::Fail;
 
 type Place = (&'static [u8], &'static [u8]);
@@ -31,30 +27,12 @@ const ROWS: [Told; 5] = [
     (b"b", b"y", 2),
 ];
 
-fn entry(key: &[u8], version: u64, value: Option<Value>) -> Result<Entry, Fault> {
-    if version == 0 {
-        return Err(Fault::BadValue);
-    }
-    let slot = match value {
-        Some(value) => Slot::Set(value),
-        None => Slot::Removed,
-    };
-    Ok(Entry::new(Key::read(key)?, version, slot))
-}
-
 fn long_address(alloc: Global) -> Result<Value, Fault> {
     Value::addr(alloc, &[b'p'; 100])
 }
 
-fn apply(holdings: &mut Holdings, block: &Block) -> Result<(), Fault> {
-    match holdings.apply_block(block) {
-        BlockEnd::NoMemory(_) => Err(Fault::NoMemory),
-        _ => Ok(()),
-    }
-}
-
 fn holdings_of_two(alloc: Global) -> Result<Holdings, Fault> {
-    let mut holdings = Holdings::new(alloc, Name::read(b"a")?, Table::new(alloc))?;
+    let mut holdings = holdings_of_a(alloc)?;
     holdings.push_own(entry(b"net/a", 1, Some(long_address(alloc)?))?)?;
     holdings.push_own(entry(b"net/b", 2, Some(Value::weight(5)?))?)?;
     holdings.push_own(entry(b"w", 3, Some(long_address(alloc)?))?)?;
@@ -184,25 +162,17 @@ fn is_told(row: &Row, told: Told) -> bool {
 fn pages_answer_what_is_asked(rt: HostRuntime) -> Result<(), Fail> {
     let alloc = rt.alloc();
     let holdings = holdings_of_two(alloc)?;
-    answer_each::<Brand, _>(&rt, alloc, Opened::new(), &holdings)
+    read::<Brand, _>(&rt, alloc, Opened::new(), &holdings, Look::Pages)
 }
 
-fn answer_each<S: Site, R: Wait + Abort>(
+/// Each page that is asked has its rows.
+pub(crate) fn rows_are_told<R: Abort>(
     rt: &R,
     alloc: Global,
-    opened: Opened,
-    holdings: &Holdings,
-) -> Result<(), Fail>
-    requires story { opened.seen.book ≡ S.story }
-    requires opening { S.opening.held ≡ holdings.now }
-{
-    let (_story, start) = opened.named::<S>();
-    let (_writer, mut readers) = views::<S, &R>(alloc, rt, start, holdings, 1)?;
-    let reader = readers.pop().ok_or("a reader")?;
-    let entered = reader.enter().ok().ok_or("it enters")?;
-    let snapshot = entered.snapshot();
+    snapshot: &Snapshot<'_>,
+) -> Result<(), Fail> {
     for (number, case) in cases(alloc)?.iter().enumerate() {
-        let page = page_of(alloc, &snapshot, &ask_of(*case)?, case.budget)?;
+        let page = page_of(alloc, snapshot, &ask_of(*case)?, case.budget)?;
         assert_eq!(rt; page.more(), case.more, "case {number}");
         assert_eq!(rt; page.rows().len(), case.rows.len(), "case {number}");
         for (row, at) in page.rows().iter().zip(case.rows) {
@@ -215,7 +185,7 @@ fn answer_each<S: Site, R: Wait + Abort>(
 
 /// A flag under each of 300 keys of three letters.
 fn holdings_of_300(alloc: Global) -> Result<Holdings, Fault> {
-    let mut holdings = Holdings::new(alloc, Name::read(b"a")?, Table::new(alloc))?;
+    let mut holdings = holdings_of_a(alloc)?;
     for number in 0..300u64 {
         let key = [b'k', b'a' + (number / 26) as u8, b'a' + (number % 26) as u8];
         holdings.push_own(entry(&key, number + 1, Some(Value::flag(true)))?)?;
@@ -227,31 +197,22 @@ fn holdings_of_300(alloc: Global) -> Result<Holdings, Fault> {
 fn pages_follow_one_another(rt: HostRuntime) -> Result<(), Fail> {
     let alloc = rt.alloc();
     let holdings = holdings_of_300(alloc)?;
-    follow::<Brand, _>(&rt, alloc, Opened::new(), &holdings)
+    read::<Brand, _>(&rt, alloc, Opened::new(), &holdings, Look::Following)
 }
 
 /// At 16 bytes a row a frame of 256 has 15, and so 300 rows make 20 pages.
-fn follow<S: Site, R: Wait + Abort>(
+pub(crate) fn pages_follow<R: Abort>(
     rt: &R,
     alloc: Global,
-    opened: Opened,
-    holdings: &Holdings,
-) -> Result<(), Fail>
-    requires story { opened.seen.book ≡ S.story }
-    requires opening { S.opening.held ≡ holdings.now }
-{
-    let (_story, start) = opened.named::<S>();
-    let (_writer, mut readers) = views::<S, &R>(alloc, rt, start, holdings, 1)?;
-    let reader = readers.pop().ok_or("a reader")?;
-    let entered = reader.enter().ok().ok_or("it enters")?;
-    let snapshot = entered.snapshot();
+    snapshot: &Snapshot<'_>,
+) -> Result<(), Fail> {
     let mut ask = Ask {
         owner: None,
         prefix: Prefix::read(b"")?,
         after: None,
     };
     for number in 1..21u64 {
-        let page = page_of(alloc, &snapshot, &ask, 256)?;
+        let page = page_of(alloc, snapshot, &ask, 256)?;
         assert_eq!(rt; page.rows().len(), 15, "page {number}");
         assert_eq!(rt; page.more(), number < 20, "page {number}");
         let first = page.rows().first().ok_or("a row")?;
@@ -259,30 +220,9 @@ fn follow<S: Site, R: Wait + Abort>(
         let last = page.rows().last().ok_or("a row")?;
         ask.after = Some((*last.owner(), *last.key()));
     }
-    let page = page_of(alloc, &snapshot, &ask, 256)?;
+    let page = page_of(alloc, snapshot, &ask, 256)?;
     assert!(rt; page.rows().is_empty() && !page.more());
     Ok(())
-}
-
-/// A writer that takes so many bytes, and then closes.
-#[derive(Drop)]
-struct ClosingWriter {
-    left: usize,
-}
-
-impl Write for ClosingWriter {
-    fn write(&mut self, bytes: &[u8]) -> io::Result<usize> {
-        if self.left == 0 {
-            return Err(io::Error::from(ErrorKind::BrokenPipe));
-        }
-        let taken = bytes.len().min(self.left);
-        self.left -= taken;
-        Ok(taken)
-    }
-
-    fn flush(&mut self) -> io::Result<()> {
-        Ok(())
-    }
 }
 
 /// A page of a weight, an address and a flag: lines of 19, 16 and 16 bytes.

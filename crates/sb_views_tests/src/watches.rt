@@ -1,7 +1,7 @@
 //! Watches by tables of cases.
 
-use super::*;
 use sb_types::{Fault, Key, Name, Prefix};
+use sb_watch::{Filter, Hub, Note, Polled, WatchId};
 use std::alloc::Global;
 use std::process::Abort;
 use std::test::Fail;
@@ -209,18 +209,6 @@ fn at_most_64_watches_stand(rt: HostRuntime) -> Result<(), Fail> {
     assert_eq!(rt; hub.take(last), Ok(Polled::Note(note(b"a", b"x", 7)?)));
     assert_eq!(rt; hub.take(first), Err(Fault::NoWatch));
     assert_eq!(rt; hub.drop_watch(first), Err(Fault::NoWatch));
-    Ok(())
-}
-
-// The greatest number of 64 bits is no id.
-#[test]
-fn ids_end_with_the_numbers(rt: HostRuntime) -> Result<(), Fail> {
-    let mut hub = Hub::beginning_at(rt.alloc(), u64::MAX - 1);
-    let id = watch_all(&mut hub, 1)?;
-    assert_eq!(rt; watch_all(&mut hub, 1), Err(Fault::WatchesFull));
-    assert_eq!(rt; hub.drop_watch(id), Ok(()));
-    assert_eq!(rt; watch_all(&mut hub, 1), Err(Fault::WatchesFull));
-    assert!(rt; !hub.has(id));
     Ok(())
 }
 

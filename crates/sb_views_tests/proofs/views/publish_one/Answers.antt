@@ -4,7 +4,7 @@ use Rattle.sb_views.specs.declared.event.Event.{Event}
 use Rattle.sb_views.specs.declared.event.Event.TheVariants.{TookOwn}
 use Rattle.sb_views.specs.Views.{Views}
 use Rattle.sb_views.proofs.Leading.{first-leads}
-use Rattle.sb_views.proofs.tests.publish_one.Goals as goal
+use Rattle.sb_views_tests.proofs.views.publish_one.Goals as goal
 
 pub append-requires-clause-leads : goal.append-requires-clause-leads
 append-requires-clause-leads g c =

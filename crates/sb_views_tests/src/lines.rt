@@ -1,32 +1,10 @@
 //! What no clause says: the lines of a log, and a write that fails.
-use crate::log_run;
+use crate::making::ClosingWriter;
+use sb_lines::log_run;
 use sb_log::{PlainLog, WriteLog};
 use sb_types::{Fault, Key, Name, Slot, Value};
 use std::alloc::Global;
-use std::io;
-use std::io::{ErrorKind, Write};
 use std::test::Fail;
-
-/// A writer that takes so many bytes, and then closes.
-#[derive(Drop)]
-struct ClosingWriter {
-    left: usize,
-}
-
-impl Write for ClosingWriter {
-    fn write(&mut self, bytes: &[u8]) -> io::Result<usize> {
-        if self.left == 0 {
-            return Err(io::Error::from(ErrorKind::BrokenPipe));
-        }
-        let taken = bytes.len().min(self.left);
-        self.left -= taken;
-        Ok(taken)
-    }
-
-    fn flush(&mut self) -> io::Result<()> {
-        Ok(())
-    }
-}
 
 fn log_of_nothing(alloc: Global) -> Result<PlainLog, Fault> {
     let (owner, cluster) = (Name::read(b"a")?, Name::read(b"c")?);

@@ -3,11 +3,11 @@
 ghost use Rattle.std.specs.Prelude.{◌≡◌, ◌+◌};
 ghost use Rattle.sb_holdings.specs.Held.{shown_of};
 
-use super::*;
-use crate::page::Page;
+use crate::making::{apply, entry, holdings_of_a};
+use crate::reading::{Look, read};
 use sb_holdings::{BlockEnd, Holdings, Report};
-use sb_table::Table;
-use sb_types::{Block, Delta, Entry, Fault, Key, Name, Prefix, Slot, Value, ValueRef};
+use sb_types::{Block, Delta, Entry, Fault, Key, Name, Prefix, Value, ValueRef};
+use sb_views::{Batch, Opened, Site, Snapshot, views};
 use std::alloc::Global;
 use std::marker::Brand;
 use std::process::Abort;
@@ -57,23 +57,26 @@ const WRITES: [Case; 5] = [
 ];
 
 fn entry_of(case: Case) -> Result<Entry, Fault> {
-    let slot = match case.weight {
-        Some(weight) => Slot::Set(Value::weight(weight)?),
-        None => Slot::Removed,
+    let value = match case.weight {
+        Some(weight) => Some(Value::weight(weight)?),
+        None => None,
     };
-    if case.version == 0 {
-        return Err(Fault::BadValue);
-    }
-    Ok(Entry::new(Key::read(case.key)?, case.version, slot))
+    entry(case.key, case.version, value)
 }
 
-fn written_page(alloc: Global) -> Result<Page, Fail> {
-    let mut page = Page::new(alloc);
-    for case in WRITES {
-        let entry = entry_of(case)?;
-        page.enter(&Name::read(case.owner)?, &entry)?;
+/// What the node a holds once it wrote what is its own of the first so many, and took the others.
+fn written(alloc: Global, count: usize) -> Result<Holdings, Fault> {
+    let mut holdings = holdings_of_a(alloc)?;
+    for case in WRITES.iter().take(count) {
+        let entry = entry_of(*case)?;
+        if case.owner == b"a".as_slice() {
+            holdings.push_own(entry)?;
+        } else {
+            let block = Block::new(Name::read(case.owner)?, 0, vec![in alloc; entry]?)?;
+            apply(&mut holdings, &block)?;
+        }
     }
-    Ok(page)
+    Ok(holdings)
 }
 
 fn weight_of(found: Option<(&Value, u64)>) -> Option<(u64, u64)> {
@@ -86,20 +89,26 @@ fn weight_of(found: Option<(&Value, u64)>) -> Option<(u64, u64)> {
     }
 }
 
-#[test]
-fn pages_show_what_is_live(rt: HostRuntime) -> Result<(), Fail> {
-    let page = written_page(rt.alloc())?;
+/// How far an owner is shown, and a weight under its key.
+type Shown = (u64, Option<(u64, u64)>);
+
+fn shown_under(snapshot: &Snapshot<'_>, owner: &Name, key: &Key) -> Shown {
+    (snapshot.upto(owner), weight_of(snapshot.get(owner, key)))
+}
+
+/// How far each owner is shown, and what stands under keys.
+fn keys_are_shown<R: Abort>(rt: &R, snapshot: &Snapshot<'_>) -> Result<(), Fail> {
     let (a, b, c) = (Name::read(b"a")?, Name::read(b"b")?, Name::read(b"c")?);
-    let snapshot = Snapshot::of(&page);
-    assert_eq!(rt; snapshot.upto(&a), 4);
-    assert_eq!(rt; snapshot.upto(&b), 1);
-    assert_eq!(rt; snapshot.upto(&c), 0);
-    assert_eq!(rt;
-        weight_of(snapshot.get(&a, &Key::read(b"net/a")?)),
-        Some((2, 2))
-    );
-    assert_eq!(rt; weight_of(snapshot.get(&a, &Key::read(b"net/b")?)), None);
-    assert_eq!(rt; weight_of(snapshot.get(&c, &Key::read(b"w")?)), None);
+    for (owner, upto) in [(a, 4), (b, 1), (c, 0)] {
+        assert_eq!(rt; snapshot.upto(&owner), upto);
+    }
+    for (owner, key, found) in [
+        (a, b"net/a".as_slice(), Some((2, 2))),
+        (a, b"net/b", None),
+        (c, b"w", None),
+    ] {
+        assert_eq!(rt; weight_of(snapshot.get(&owner, &Key::read(key)?)), found);
+    }
     Ok(())
 }
 
@@ -139,10 +148,8 @@ const ASKED: [Asked; 5] = [
     },
 ];
 
-#[test]
-fn rows_come_in_order(rt: HostRuntime) -> Result<(), Fail> {
-    let page = written_page(rt.alloc())?;
-    let snapshot = Snapshot::of(&page);
+/// The rows of each that is asked.
+fn rows_come_in_order<R: Abort>(rt: &R, snapshot: &Snapshot<'_>) -> Result<(), Fail> {
     for asked in ASKED {
         let wanted = if asked.wanted.is_empty() {
             None
@@ -163,16 +170,42 @@ fn rows_come_in_order(rt: HostRuntime) -> Result<(), Fail> {
     Ok(())
 }
 
+pub(crate) fn live_is_shown<R: Abort>(rt: &R, snapshot: &Snapshot<'_>) -> Result<(), Fail> {
+    keys_are_shown(rt, snapshot)?;
+    rows_come_in_order(rt, snapshot)
+}
+
+#[test]
+fn snapshots_show_what_is_live(rt: HostRuntime) -> Result<(), Fail> {
+    let holdings = written(rt.alloc(), WRITES.len())?;
+    read::<Brand, _>(&rt, rt.alloc(), Opened::new(), &holdings, Look::Live)
+}
+
 #[test]
 fn a_write_is_shown_once_published(rt: HostRuntime) -> Result<(), Fail> {
     let alloc = rt.alloc();
-    let holdings = Holdings::new(alloc, Name::read(b"a")?, Table::new(alloc))?;
+    let holdings = holdings_of_a(alloc)?;
     let entry = entry_of(WRITES[1])?;
     if holdings.upto(holdings.me()) != 0 || entry.version() != 1 {
         return Err("the first write".into());
     }
-    publish_one::<Brand, _>(&rt, alloc, Opened::new(), &holdings, entry)
+    let shown = [(0, None), (1, Some((1, 1)))];
+    publish_one::<Brand, _>(&rt, alloc, Opened::new(), &holdings, entry, shown)
 }
+
+#[test]
+fn a_removal_is_shown_once_published(rt: HostRuntime) -> Result<(), Fail> {
+    let alloc = rt.alloc();
+    let holdings = written(alloc, 4)?;
+    let entry = entry_of(WRITES[4])?;
+    if holdings.upto(holdings.me()) != 3 || entry.version() != 4 {
+        return Err("the write behind those".into());
+    }
+    let shown = [(3, Some((1, 1))), (4, None)];
+    publish_one::<Brand, _>(&rt, alloc, Opened::new(), &holdings, entry, shown)
+}
+
+/// Under the key of the entry stands the first of these before it is published, and the second then.
 
 fn publish_one<S: Site, R: Wait + Abort>(
     rt: &R,
@@ -180,6 +213,7 @@ fn publish_one<S: Site, R: Wait + Abort>(
     opened: Opened,
     holdings: &Holdings,
     entry: Entry,
+    shown: [Shown; 2],
 ) -> Result<(), Fail>
     requires story { opened.seen.book ≡ S.story }
     requires opening { S.opening.held ≡ holdings.now }
@@ -200,14 +234,15 @@ fn publish_one<S: Site, R: Wait + Abort>(
         Err(_) => return Err("a write is appended".into()),
     }
     let reader = readers.pop().ok_or("a reader")?;
+    let [before, after] = shown;
     let entered = reader.enter().ok().ok_or("it enters")?;
-    assert_eq!(rt; (entered.snapshot().upto(&a), entered.told().len()), (0, 0));
+    assert_eq!(rt; shown_under(&entered.snapshot(), &a, &key), before);
+    assert_eq!(rt; entered.told().len(), 0);
     let reader = entered.leave();
     writer.publish()?;
     let entered = reader.enter().ok().ok_or("it enters again")?;
-    let snapshot = entered.snapshot();
-    assert_eq!(rt; (snapshot.upto(&a), entered.told().len()), (1, 1));
-    assert_eq!(rt; weight_of(snapshot.get(&a, &key)), Some((1, 1)));
+    assert_eq!(rt; shown_under(&entered.snapshot(), &a, &key), after);
+    assert_eq!(rt; entered.told().len(), 1);
     Ok(())
 }
 
