@@ -206,7 +206,6 @@ fn a_removal_is_shown_once_published(rt: HostRuntime) -> Result<(), Fail> {
 }
 
 /// Under the key of the entry stands the first of these before it is published, and the second then.
-
 fn publish_one<S: Site, R: Wait + Abort>(
     rt: &R,
     alloc: Global,
