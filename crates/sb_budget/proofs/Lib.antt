@@ -11,3 +11,4 @@ pub mod AvailableLemmas
 pub mod HeldLemmas
 pub mod PartLemmas
 pub mod TurnLemmas
+pub mod ListingLemmas

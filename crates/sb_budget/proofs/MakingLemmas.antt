@@ -1,8 +1,9 @@
 -- A delta in the making, as what is gathered of a front.
-use Rattle.std.proofs.Common.{◌≡◌, ℕ, ◌+◌, ◌<◌, ◌≤◌, true, List, [], ◌∷◌, ◌++◌, length, take, refl, sym, ap, subst, ◌∙◌, arith, append-nil, append_assoc, Result}
+use Rattle.std.proofs.Common.{◌≡◌, ℕ, ◌+◌, ◌<◌, ◌≤◌, suc, Bool, true, List, [], ◌∷◌, ◌++◌, length, map, take, drop, get_or, refl, sym, ap, subst, ◌∙◌, arith, append-nil, append_assoc, take-append-drop, Result}
 use Rattle.std.specs.Prelude.{sum_by, All}
 use Rattle.std.specs.List.Sorted.{IsSearchInRange, IsBinarySearchResult}
-use Rattle.std.proofs.Math.Seq.{take-append_seam}
+use Rattle.std.proofs.Math.Seq.{take-append_seam, drop-cons}
+use Rattle.std.proofs.lemmas.List.{map-id}
 use Rattle.std.proofs.lemmas.Bool.{and_from, le-leb}
 use Rattle.sb_types.specs.declared.limits.TheConstants.{PAYLOAD_MOST, BUDGET_LEAST, BUDGET_MOST}
 use Rattle.sb_types.specs.Records.{Entry, Block}
@@ -14,7 +15,7 @@ use Rattle.sb_budget.specs.BlocksByOwner.{placed, cost_of}
 use Rattle.sb_budget.specs.Making.{Making, IsOf, IsFrontOf, AfterNext}
 use Rattle.sb_budget.proofs.PlaceLemmas.{text_cmp}
 use Rattle.sb_budget.proofs.GatherLemmas.{gathered, after_of, delta_is_gathered}
-use Rattle.sb_budget.proofs.CutLemmas.{IsGathering, gathering_more, blocks_good, cut_of_all, cut_here, so_far_delta}
+use Rattle.sb_budget.proofs.CutLemmas.{IsGathering, gathering_more, blocks_good, cut_of_all, cut_here, so_far_delta, at_turn}
 
 pub front_none : (budget room : ℕ) (rest : List Offered) → BUDGET_LEAST ≤ budget → budget ≤ BUDGET_MOST → 9 + room ≡ budget → IsFrontOf budget [] rest (record { blocks = []; room = room })
 front_none budget room rest least most e = record { least = least; most = most; blocks = refl; room = omega (arith, e); begun = λ none. absurd (omega arith) }
@@ -92,3 +93,19 @@ module _ (budget : ℕ) (front rest : List Offered) (next : Offered) (old : Maki
           room = omega (arith, longer.total);
           begun = longer.begun;
         }
+
+-- ---- at an item of a list
+
+pub whole_at : (items front : List Offered) → map (λ (y : Offered). y) front ≡ take (length front) items → front ++ drop (length front) items ≡ items
+whole_at items front taken = ap (λ a. a ++ drop (length front) items) (sym (map-id front) ∙ taken) ∙ take-append-drop (length front) items
+
+pub next_at : (items front : List Offered) (x : Offered) → (length front < length items) × (x ≡ get_or items (length front) x) → x ∷ drop (suc (length front)) items ≡ drop (length front) items
+next_at items front x turn = ap (λ y. y ∷ drop (suc (length front)) items) turn.1 ∙ sym (drop-cons items (length front) x turn.0)
+
+pub item_next : (budget : ℕ) (items front : List Offered) (x : Offered) (making new : Making) (took : Bool) → CanCut items → map (λ (y : Offered). y) front ≡ take (length front) items →
+    (length front < length items) × (x ≡ get_or items (length front) x) → IsFrontOf budget front (drop (length front) items) making →
+    ((rest : List Offered) → CanCut (front ++ x ∷ rest) → IsFrontOf budget front (x ∷ rest) making → AfterNext budget front x rest took new) →
+    AfterNext budget front x (drop (suc (length front)) items) took new
+item_next budget items front x making new took can taken turn is next =
+    next (drop (suc (length front)) items) (subst CanCut (sym (at_turn items front x taken turn)) can)
+    (subst (λ (r : List Offered). IsFrontOf budget front r making) (sym (next_at items front x turn)) is)

@@ -4,7 +4,7 @@ use Rattle.std.specs.Prelude.{All, AllPairs}
 use Rattle.std.specs.List.{AllByRecursion, filter_map, cons_option}
 use Rattle.std.specs.List.Sorted.{IsStrictlySortedBy}
 use Rattle.std.specs.Map.{keys_of}
-use Rattle.std.proofs.lemmas.Bool.{and_parts, ltb-true}
+use Rattle.std.proofs.lemmas.Bool.{and_parts, ltb-true, lt-ltb, cond-true}
 use Rattle.std.proofs.lemmas.List.Elements.{All-nil, All-cons}
 use Rattle.std.proofs.lemmas.List.Kept.{AllPairs-cons}
 use Rattle.sb_types.specs.Records.{Entry, Table}
@@ -23,11 +23,7 @@ above_zero before [] up = refl
 above_zero before (e ∷ es) up =
     let p = and_parts (nat_lt before e.version) (are_ascending e.version es) up in
     let more = ltb-true before e.version p.0 in
-    rw (positive e.version (omega (arith, more))) (ap (λ r. e ∷ r) (above_zero e.version es p.1))
-  where
-    positive : (n : ℕ) → 0 < n → nat_lt 0 n ≡ true
-    positive zero l = absurd (omega arith)
-    positive (suc n) l = refl
+    cond-true _ _ _ (lt-ltb 0 e.version (omega (arith, more))) ∙ ap (λ r. e ∷ r) (above_zero e.version es p.1)
 
 -- the part of the first item and those behind it, with other parts
 pub parts_of_items : (os : List Offered) (rest : List Part) → all_of (cons_option (part_of os) rest) ≡ os ++ all_of rest
@@ -35,8 +31,8 @@ parts_of_items [] rest = refl
 parts_of_items (o ∷ os) rest = refl
 
 -- what a part of an owner's items is
-pub record IsPartOf (owner : List ℕ) (part : Part) : Type 0 where
-  pub owner : part.next.owner ≡ owner
+pub record IsPartOf (name : List ℕ) (part : Part) : Type 0 where
+  pub owner : part.next.owner ≡ name
   pub rank : part.next.rank ≡ 0
   pub chain : IsChain part.next part.later
 
@@ -63,11 +59,11 @@ module _ (reaches : List ℕ → Bool) (known : List ℕ → ℕ) where
   -- together they are all that is offered
   pub items_of_pieces : (ps : List (List ℕ × Table)) → all_of (all_pieces ps) ≡ all_parts reaches known ps
   items_of_pieces [] = refl
-  items_of_pieces (p ∷ ps) = go (reaches p.0)
+  items_of_pieces (p ∷ ps) = go (reaches p.0) (items_of_pieces ps)
     where
-      go : (b : Bool) → all_of (cons_option (if b then part_of (ranked_of p.0 p.1 (known p.0)) else None) (all_pieces ps)) ≡ (if b then ranked_of p.0 p.1 (known p.0) else []) ++ all_parts reaches known ps
-      go true = parts_of_items (ranked_of p.0 p.1 (known p.0)) (all_pieces ps) ∙ ap (λ r. ranked_of p.0 p.1 (known p.0) ++ r) (items_of_pieces ps)
-      go false = items_of_pieces ps
+      go : (b : Bool) → all_of (all_pieces ps) ≡ all_parts reaches known ps → all_of (cons_option (if b then part_of (ranked_of p.0 p.1 (known p.0)) else None) (all_pieces ps)) ≡ (if b then ranked_of p.0 p.1 (known p.0) else []) ++ all_parts reaches known ps
+      go true rest = parts_of_items (ranked_of p.0 p.1 (known p.0)) (all_pieces ps) ∙ ap (λ r. ranked_of p.0 p.1 (known p.0) ++ r) rest
+      go false rest = rest
 
   -- what holds of each owner's part holds of each
   each_piece : (P : Part → Type 0) (ps : List (List ℕ × Table)) → ((p : List ℕ × Table) → Stands ps p → IfSome (part_of (ranked_of p.0 p.1 (known p.0))) P) → All P (all_pieces ps)

@@ -1,5 +1,5 @@
 //! Entries gathered by owner, as the blocks that they are to make.
-ghost use Rattle.std.specs.Prelude.{◌≡◌, ◌≤◌, ◌+◌, true, length, OnOk, IfOk, IfErr, if◌then◌else◌, Ok, Err};
+ghost use Rattle.std.specs.Prelude.{◌≡◌, ◌≤◌, ◌+◌, true, length, OnOk, OnErr, IfOk, IfErr, if◌then◌else◌, Ok, Err};
 ghost use Rattle.std.specs.Ordering.{nat_cmp};
 ghost use Rattle.std.specs.Cmp.Lexicographic.{slice_cmp};
 ghost use Rattle.std.specs.List.Sorted.{IsSearchInRange, IsBinarySearchResult};
@@ -57,6 +57,7 @@ impl BlockBuilder {
 
     fn push(&mut self, entry: Entry) -> Result<(), Fault>
         ensures grown { OnOk result (self.new ≡ grown self.old entry) }
+        ensures left { OnErr result (self.new ≡ self.old) }
         ensures memory { IfErr result (λ fault. fault ≡ Fault.NoMemory) }
     {
         self.entries.push(entry)?;
@@ -110,6 +111,7 @@ pub(crate) fn put(
 ) -> Result<(), Fault>
     requires { IsSearchInRange place (length gathered.old.items) }
     ensures placed { OnOk result (gathered.new.items ≡ placed place owner after entry gathered.old.items) }
+    ensures left { OnErr result (gathered.new.items ≡ gathered.old.items) }
     ensures memory { IfErr result (λ fault. fault ≡ Fault.NoMemory) }
 {
     match place {

@@ -91,7 +91,7 @@ impl<'a> Cursor<'a> {
 
     /// What is to be sent behind the next entry, where there is something.
     pub fn advance(mut self) -> Option<Cursor<'a>>
-        ensures later { result ≡ part_of self.later }
+        ensures later { result ≡ part_of self.entry.later }
     {
         self.entry = self.later.next()?;
         self.rank += 1;

@@ -1,5 +1,5 @@
 //! A delta in the making, within a budget.
-ghost use Rattle.std.specs.Prelude.{◌≡◌, ◌≤◌, ◌<◌, ℕ, List, [], ◌∷◌, ◌++◌, true, false, length, All, OnOk, IfOk, IfErr, if◌then◌else◌};
+ghost use Rattle.std.specs.Prelude.{◌≡◌, ◌≤◌, ℕ, List, [], ◌∷◌, ◌++◌, true, false, All, OnErr, IfOk, IfErr};
 ghost use Rattle.sb_types.specs.Limits.{are_block_entries};
 ghost use Rattle.sb_budget.specs.declared.offered.Offered.{Offered};
 ghost use Rattle.sb_budget.specs.Cut.{items_of_all, IsCut, CanCut};
@@ -52,11 +52,12 @@ impl DeltaBuilder {
 
     /// Takes the next entry of what is sent, an owner's behind what the peer holds up to the version `after`, where
     /// the frame has room for it, and tells whether it had. The first entry always has room. `NoMemory`. An entry
-    /// that is not taken leaves the delta as it was, and is dropped.
+    /// that is not taken is dropped, and leaves the delta as it was.
     pub fn push(&mut self, owner: Name, after: u64, entry: Entry) -> Result<bool, Fault>
         ensures next { IfOk result (λ taken. (budget : ℕ) (front rest : List Offered) (next : Offered) → IsOf owner after entry next → CanCut (front ++ next ∷ rest) →
             IsFrontOf budget front (next ∷ rest) self.old → AfterNext budget front next rest taken self.new) }
         ensures left { IfOk result (λ taken. taken ≡ false → self.new ≡ self.old) }
+        ensures err { OnErr result (self.new ≡ self.old) }
         ensures memory { IfErr result (λ fault. fault ≡ Fault.NoMemory) }
     {
         let place = place_of(&self.gathered, owner);
@@ -73,6 +74,7 @@ impl DeltaBuilder {
     pub fn finish(self) -> Result<Delta, Fault>
         requires { (budget : ℕ) × (front : List Offered) × (rest : List Offered) × CanCut (front ++ rest) × IsFrontOf budget front rest self }
         ensures blocks { IfOk result (λ delta. delta ≡ self.blocks) }
+        ensures whole { IfOk result (λ delta. (budget : ℕ) (listed : List Offered) → CanCut listed → IsFrontOf budget listed [] self → IsCut budget (items_of_all listed) delta) }
         ensures memory { IfErr result (λ fault. fault ≡ Fault.NoMemory) }
     {
         Delta::new(blocks_from(self.alloc, self.gathered)?)

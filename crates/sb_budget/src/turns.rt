@@ -30,8 +30,8 @@ pub fn cut_in_turns(
     requires least { BUDGET_LEAST ≤ budget }
     requires most { budget ≤ BUDGET_MOST }
     requires items { CanCut (in_turns turns owners.items) }
-    ensures cut { IfOk result (λ delta. IsCut budget (items_of_all (in_turns turns owners.items)) delta) }
-    ensures some { IfOk result (λ delta. 0 < length (in_turns turns owners.items) → 0 < length delta) }
+    ensures cut { IfOk result (λ delta. IsCut budget (items_of_all (in_turns turns owners.entry.items)) delta) }
+    ensures some { IfOk result (λ delta. 0 < length (in_turns turns owners.entry.items) → 0 < length delta) }
     ensures memory { IfErr result (λ fault. fault ≡ Fault.NoMemory) }
 {
     let mut making = DeltaBuilder::new(alloc, budget);
