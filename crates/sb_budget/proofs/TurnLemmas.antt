@@ -109,22 +109,22 @@ module _ (budget : ℕ) (turn : Turns) (all : List Offered) (p : Part) (others :
   rest : List Offered
   rest = in_turns turn (rejoined turn others p.later)
 
-  whole : is.0 ++ p.next ∷ rest ≡ all
+  all_again : is.0 ++ p.next ∷ rest ≡ all
   unfolding rest
-  whole = ap (λ r. is.0 ++ r) (sym (in_turns_step turn p others)) ∙ is.1
+  all_again = ap (λ r. is.0 ++ r) (sym (in_turns_step turn p others)) ∙ is.1
 
   after : AfterNext budget is.0 p.next rest took new
   unfolding rest
-  after = next is.0 rest (subst CanCut (sym whole) can) (subst (λ (r : List Offered). IsFrontOf budget is.0 r making) (in_turns_step turn p others) is.2)
+  after = next is.0 rest (subst CanCut (sym all_again) can) (subst (λ (r : List Offered). IsFrontOf budget is.0 r making) (in_turns_step turn p others) is.2)
 
   pub turn_taken : took ≡ true → IsTurn budget turn all (rejoined turn others p.later) new
   unfolding rest
-  turn_taken e = (is.0 ++ p.next ∷ [], append_assoc is.0 (p.next ∷ []) rest ∙ whole, subst (λ (b : Bool). AfterNext budget is.0 p.next rest b new) e after)
+  turn_taken e = (is.0 ++ p.next ∷ [], append_assoc is.0 (p.next ∷ []) rest ∙ all_again, subst (λ (b : Bool). AfterNext budget is.0 p.next rest b new) e after)
 
   pub turn_left : took ≡ false → IsCut budget (items_of_all all) new.blocks × (0 < length new.blocks)
   turn_left e =
       let made : IsCut budget (items_of_all (is.0 ++ p.next ∷ rest)) new.blocks × (0 < length new.blocks) = subst (λ (b : Bool). AfterNext budget is.0 p.next rest b new) e after in
-      (subst (λ (l : List Offered). IsCut budget (items_of_all l) new.blocks) whole made.0, made.1)
+      (subst (λ (l : List Offered). IsCut budget (items_of_all l) new.blocks) all_again made.0, made.1)
 
 -- who stands where after a turn
 none_some : (q : Part) → None ≡ Some q → ⊥

@@ -25,7 +25,7 @@ pub struct Cursor<'a> {
 }
 
 impl<'a> Model for Cursor<'a> {
-    ghost use Rattle.std.specs.Prelude.{◌≡◌, ◌+◌, ◌∷◌, length};
+    ghost use Rattle.std.specs.Prelude.{◌≡◌, ◌+◌, ◌<◌, ◌^◌, ◌∷◌, length};
     ghost use Rattle.sb_types.specs.Runs.{above};
     ghost use Rattle.sb_budget.specs.Available.{ranked_from};
     ghost use Rattle.sb_budget.specs.Parts.{Part};
@@ -37,7 +37,7 @@ impl<'a> Model for Cursor<'a> {
         later = ranked_from (c.rank + 1) c.owner c.after c.table.now.held (length (above c.after c.table.now.entries)) c.later;
     } };
 
-    ghost invariant = { λ c. c.rank + length (c.entry.now ∷ c.later) ≡ length (above c.after c.table.now.entries) };
+    ghost invariant = { λ c. (c.rank + length (c.entry.now ∷ c.later) ≡ length (above c.after c.table.now.entries)) × (length (above c.after c.table.now.entries) < 2 ^ 63) };
 }
 
 impl<'a> Cursor<'a> {

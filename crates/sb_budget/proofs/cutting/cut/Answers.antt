@@ -35,7 +35,8 @@ loop-item-preserved c =
     (λ rest can is. c.in_ok-push.ensures.next c.args.budget y rest x (refl, refl, refl) can is) in
     let longer : IsFrontOf c.args.budget (y ++ x ∷ []) (drop (suc (length y)) items) c.push.new.self =
     subst (λ (b : Bool). AfterNext c.args.budget y x (drop (suc (length y)) items) b c.push.new.self) c.if-not-branch.false after in
-    (tt, tt, subst (λ (n : ℕ). IsFrontOf c.args.budget (y ++ x ∷ []) (drop n items) c.push.new.self) (omega (arith, length_push y x)) longer)
+    let count : suc (length y) ≡ length (y ++ x ∷ []) = omega (arith, length_push y x) in
+    (tt, tt, subst (λ (n : ℕ). IsFrontOf c.args.budget (y ++ x ∷ []) (drop n items) c.push.new.self) count longer)
 
 pub finish-requires-2 : goal.finish-requires-2
 finish-requires-2 c =
