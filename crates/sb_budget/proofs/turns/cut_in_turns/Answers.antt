@@ -1,6 +1,7 @@
-use Rattle.std.proofs.Common.{◌≡◌, ◌<◌, ◌++◌, ◌∷◌, [], ℕ, List, length, refl, sym, subst, ap, ◌∙◌, arith, append-nil}
+use Rattle.std.proofs.Common.{◌≡◌, ◌<◌, ◌++◌, ◌∷◌, [], ℕ, List, length, refl, sym, subst, ap, ◌∙◌, arith, Result, IfOk}
 use Rattle.std.proofs.lemmas.Result.{IfOk-weaker}
-use Rattle.sb_types.specs.Records.{Block}
+use Rattle.sb_types.specs.declared.fault.Fault.{Fault}
+use Rattle.sb_types.specs.Records.{Entry, Block}
 use Rattle.sb_budget.specs.declared.offered.Offered.{Offered}
 use Rattle.sb_budget.specs.declared.turns.Turns.{Turns}
 use Rattle.sb_budget.specs.Cut.{items_of_all, IsCut, CanCut}
@@ -21,8 +22,9 @@ finish-requires c =
     let others = c.pop_front.new.self.items in
     let can : CanCut all = subst (λ (ps : List Part). CanCut (in_turns t ps)) (sym c.from-queue.ensures.0) c.requires.items in
     let stands : IsTurn c.args.budget t all (p ∷ others) c.loop-cursor.making = subst (λ (ps : List Part). IsTurn c.args.budget t all ps c.loop-cursor.making) c.in-Some.ensures.items c.loop-cursor.invariant in
+    let entry : c.in_ok-entry.entry ≡ c.entry.result.now = sym (subst (λ (r : Result Entry Fault). IfOk r (λ z. c.entry.result.now ≡ z)) c.in_ok-entry.ensures refl) in
     let next : (front rest : List Offered) → CanCut (front ++ p.next ∷ rest) → IsFrontOf c.args.budget front (p.next ∷ rest) c.loop-cursor.making → AfterNext c.args.budget front p.next rest c.in_ok-push.field-0 c.push.new.self =
-    λ front rest can is. c.in_ok-push.ensures.next c.args.budget front rest p.next (sym c.owner.ensures.owner, sym c.after.ensures.after, sym (c.in_ok-entry.ensures ∙ c.entry.ensures.entry)) can is in
+    λ front rest can is. c.in_ok-push.ensures.next c.args.budget front rest p.next (sym c.owner.ensures.owner, sym c.after.ensures.after, sym (entry ∙ c.entry.ensures.entry)) can is in
     let is = c.loop-cursor.invariant in
     (c.args.budget, is.0, in_turns t c.loop-cursor.queue.items, subst CanCut (sym is.1) can,
     subst (IsFrontOf c.args.budget is.0 (in_turns t c.loop-cursor.queue.items)) (sym (c.in_ok-push.ensures.left c.if-not-branch.true)) is.2)
@@ -35,8 +37,9 @@ returns-then-not-branch-clause-cut c =
     let others = c.pop_front.new.self.items in
     let can : CanCut all = subst (λ (ps : List Part). CanCut (in_turns t ps)) (sym c.from-queue.ensures.0) c.requires.items in
     let stands : IsTurn c.args.budget t all (p ∷ others) c.loop-cursor.making = subst (λ (ps : List Part). IsTurn c.args.budget t all ps c.loop-cursor.making) c.in-Some.ensures.items c.loop-cursor.invariant in
+    let entry : c.in_ok-entry.entry ≡ c.entry.result.now = sym (subst (λ (r : Result Entry Fault). IfOk r (λ z. c.entry.result.now ≡ z)) c.in_ok-entry.ensures refl) in
     let next : (front rest : List Offered) → CanCut (front ++ p.next ∷ rest) → IsFrontOf c.args.budget front (p.next ∷ rest) c.loop-cursor.making → AfterNext c.args.budget front p.next rest c.in_ok-push.field-0 c.push.new.self =
-    λ front rest can is. c.in_ok-push.ensures.next c.args.budget front rest p.next (sym c.owner.ensures.owner, sym c.after.ensures.after, sym (c.in_ok-entry.ensures ∙ c.entry.ensures.entry)) can is in
+    λ front rest can is. c.in_ok-push.ensures.next c.args.budget front rest p.next (sym c.owner.ensures.owner, sym c.after.ensures.after, sym (entry ∙ c.entry.ensures.entry)) can is in
     let made = turn_left c.args.budget t all p others c.loop-cursor.making c.push.new.self can stands c.in_ok-push.field-0 next c.if-not-branch.true in
     IfOk-weaker c.finish.result _ _
     (λ delta same. subst (IsCut c.args.budget (items_of_all (in_turns t c.args.owners.items))) (sym same)
@@ -51,8 +54,9 @@ returns-then-not-branch-clause-some c =
     let others = c.pop_front.new.self.items in
     let can : CanCut all = subst (λ (ps : List Part). CanCut (in_turns t ps)) (sym c.from-queue.ensures.0) c.requires.items in
     let stands : IsTurn c.args.budget t all (p ∷ others) c.loop-cursor.making = subst (λ (ps : List Part). IsTurn c.args.budget t all ps c.loop-cursor.making) c.in-Some.ensures.items c.loop-cursor.invariant in
+    let entry : c.in_ok-entry.entry ≡ c.entry.result.now = sym (subst (λ (r : Result Entry Fault). IfOk r (λ z. c.entry.result.now ≡ z)) c.in_ok-entry.ensures refl) in
     let next : (front rest : List Offered) → CanCut (front ++ p.next ∷ rest) → IsFrontOf c.args.budget front (p.next ∷ rest) c.loop-cursor.making → AfterNext c.args.budget front p.next rest c.in_ok-push.field-0 c.push.new.self =
-    λ front rest can is. c.in_ok-push.ensures.next c.args.budget front rest p.next (sym c.owner.ensures.owner, sym c.after.ensures.after, sym (c.in_ok-entry.ensures ∙ c.entry.ensures.entry)) can is in
+    λ front rest can is. c.in_ok-push.ensures.next c.args.budget front rest p.next (sym c.owner.ensures.owner, sym c.after.ensures.after, sym (entry ∙ c.entry.ensures.entry)) can is in
     let made = turn_left c.args.budget t all p others c.loop-cursor.making c.push.new.self can stands c.in_ok-push.field-0 next c.if-not-branch.true in
     IfOk-weaker c.finish.result _ _ (λ delta same some. subst (λ (bs : List Block). 0 < length bs) (sym same) made.1) c.finish.ensures.blocks
 
@@ -64,8 +68,9 @@ loop-cursor-preserved-in_default-advance c =
     let others = c.pop_front.new.self.items in
     let can : CanCut all = subst (λ (ps : List Part). CanCut (in_turns t ps)) (sym c.from-queue.ensures.0) c.requires.items in
     let stands : IsTurn c.args.budget t all (p ∷ others) c.loop-cursor.making = subst (λ (ps : List Part). IsTurn c.args.budget t all ps c.loop-cursor.making) c.in-Some.ensures.items c.loop-cursor.invariant in
+    let entry : c.in_ok-entry.entry ≡ c.entry.result.now = sym (subst (λ (r : Result Entry Fault). IfOk r (λ z. c.entry.result.now ≡ z)) c.in_ok-entry.ensures refl) in
     let next : (front rest : List Offered) → CanCut (front ++ p.next ∷ rest) → IsFrontOf c.args.budget front (p.next ∷ rest) c.loop-cursor.making → AfterNext c.args.budget front p.next rest c.in_ok-push.field-0 c.push.new.self =
-    λ front rest can is. c.in_ok-push.ensures.next c.args.budget front rest p.next (sym c.owner.ensures.owner, sym c.after.ensures.after, sym (c.in_ok-entry.ensures ∙ c.entry.ensures.entry)) can is in
+    λ front rest can is. c.in_ok-push.ensures.next c.args.budget front rest p.next (sym c.owner.ensures.owner, sym c.after.ensures.after, sym (entry ∙ c.entry.ensures.entry)) can is in
     subst (λ (ps : List Part). IsTurn c.args.budget t all ps c.push.new.self)
     (none_later t others p.later (λ q e. c.in_default-advance.not-Some q (c.advance.ensures.later ∙ e)))
     (turn_taken c.args.budget t all p others c.loop-cursor.making c.push.new.self can stands c.in_ok-push.field-0 next c.if-not-branch.false)
@@ -78,8 +83,9 @@ loop-cursor-preserved-in_ok-push_front-in-First c =
     let others = c.pop_front.new.self.items in
     let can : CanCut all = subst (λ (ps : List Part). CanCut (in_turns t ps)) (sym c.from-queue.ensures.0) c.requires.items in
     let stands : IsTurn c.args.budget t all (p ∷ others) c.loop-cursor.making = subst (λ (ps : List Part). IsTurn c.args.budget t all ps c.loop-cursor.making) c.in-Some.ensures.items c.loop-cursor.invariant in
+    let entry : c.in_ok-entry.entry ≡ c.entry.result.now = sym (subst (λ (r : Result Entry Fault). IfOk r (λ z. c.entry.result.now ≡ z)) c.in_ok-entry.ensures refl) in
     let next : (front rest : List Offered) → CanCut (front ++ p.next ∷ rest) → IsFrontOf c.args.budget front (p.next ∷ rest) c.loop-cursor.making → AfterNext c.args.budget front p.next rest c.in_ok-push.field-0 c.push.new.self =
-    λ front rest can is. c.in_ok-push.ensures.next c.args.budget front rest p.next (sym c.owner.ensures.owner, sym c.after.ensures.after, sym (c.in_ok-entry.ensures ∙ c.entry.ensures.entry)) can is in
+    λ front rest can is. c.in_ok-push.ensures.next c.args.budget front rest p.next (sym c.owner.ensures.owner, sym c.after.ensures.after, sym (entry ∙ c.entry.ensures.entry)) can is in
     let stood : rejoined t others p.later ≡ c.push_front.new.self.items =
     ap (λ u. rejoined u others p.later) c.in-First.is ∙ later_first others p.later c.in-Some-advance.later (sym c.advance.ensures.later ∙ c.in-Some-advance.is) ∙ sym c.in_ok-push_front-in-First.ensures.items in
     subst (λ (ps : List Part). IsTurn c.args.budget t all ps c.push.new.self) stood
@@ -93,8 +99,9 @@ loop-cursor-preserved c =
     let others = c.pop_front.new.self.items in
     let can : CanCut all = subst (λ (ps : List Part). CanCut (in_turns t ps)) (sym c.from-queue.ensures.0) c.requires.items in
     let stands : IsTurn c.args.budget t all (p ∷ others) c.loop-cursor.making = subst (λ (ps : List Part). IsTurn c.args.budget t all ps c.loop-cursor.making) c.in-Some.ensures.items c.loop-cursor.invariant in
+    let entry : c.in_ok-entry.entry ≡ c.entry.result.now = sym (subst (λ (r : Result Entry Fault). IfOk r (λ z. c.entry.result.now ≡ z)) c.in_ok-entry.ensures refl) in
     let next : (front rest : List Offered) → CanCut (front ++ p.next ∷ rest) → IsFrontOf c.args.budget front (p.next ∷ rest) c.loop-cursor.making → AfterNext c.args.budget front p.next rest c.in_ok-push.field-0 c.push.new.self =
-    λ front rest can is. c.in_ok-push.ensures.next c.args.budget front rest p.next (sym c.owner.ensures.owner, sym c.after.ensures.after, sym (c.in_ok-entry.ensures ∙ c.entry.ensures.entry)) can is in
+    λ front rest can is. c.in_ok-push.ensures.next c.args.budget front rest p.next (sym c.owner.ensures.owner, sym c.after.ensures.after, sym (entry ∙ c.entry.ensures.entry)) can is in
     let stood : rejoined t others p.later ≡ c.push_back.new.self.items =
     ap (λ u. rejoined u others p.later) c.in-Last.is ∙ later_last others p.later c.in-Some-advance.later (sym c.advance.ensures.later ∙ c.in-Some-advance.is) ∙ sym c.in_ok-push_back-in-Last.ensures.items in
     subst (λ (ps : List Part). IsTurn c.args.budget t all ps c.push.new.self) stood
