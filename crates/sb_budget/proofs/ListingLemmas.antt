@@ -2,6 +2,8 @@
 use Rattle.std.proofs.Common.{◌≡◌, ℕ, zero, suc, ◌+◌, ◌<◌, ◌≤◌, Bool, false, List, [], ◌∷◌, ◌++◌, length, get_or, sym, ap, subst, ◌∙◌, arith, add-one, IsPermutation}
 use Rattle.std.specs.Prelude.{All, AllPairs}
 use Rattle.std.specs.List.Sorted.{IsSortedBy}
+use Rattle.std.proofs.lemmas.List.{length-map}
+use Rattle.std.proofs.lemmas.List.Sorted.{length_permutation}
 use Rattle.std.proofs.lemmas.List.Elements.{All-push}
 use Rattle.std.proofs.lemmas.List.Kept.{AllPairs-cons}
 use Rattle.sb_types.specs.Records.{Block}
@@ -10,7 +12,8 @@ use Rattle.sb_digest.specs.Digests.{Digest}
 use Rattle.sb_budget.specs.declared.offered.Offered.{Offered}
 use Rattle.sb_budget.specs.Offers.{of_owner}
 use Rattle.sb_budget.specs.Orders.{AscendsByOwner}
-use Rattle.sb_budget.specs.Cut.{items_of_all, IsPart, IsCut, CanCut}
+use Rattle.sb_budget.specs.Available.{available_for}
+use Rattle.sb_budget.specs.Cut.{item_of, items_of_all, IsPart, IsCut, CanCut}
 use Rattle.sb_budget.specs.Parts.{Part, all_of, AreParts, IsDeltaBy}
 use Rattle.sb_budget.proofs.OrderLemmas.{owner_kept}
 use Rattle.sb_budget.proofs.GatherLemmas.{of_owner_items}
@@ -32,6 +35,9 @@ module _ {held : Held} {digest : Digest} {parts : List Part} (are : AreParts hel
         ∙ sym (of_owner_items owner (all_of parts)) ∙ ap (of_owner owner) are.items;
     cut = cut;
   }
+
+  pub listing_length : length listed ≡ length (available_for held digest)
+  listing_length = length_permutation (all_of parts) listed moved ∙ sym (length-map (all_of parts) item_of) ∙ ap length are.items
 
 -- one more in front
 pub sorted_cons : {X : Type 0} (lt : X → X → Bool) (x : X) (ys : List X) → ((d : X) → 0 < length ys → lt (get_or ys 0 d) x ≡ false) → IsSortedBy lt ys → IsSortedBy lt (x ∷ ys)

@@ -10,13 +10,20 @@ use Rattle.std.proofs.lemmas.Cmp.{nat_cmp_total, nat_list_cmp_total, on_total, t
 use Rattle.std.proofs.lemmas.List.Sorted.{All-permutation, ranks_by, sorted_far}
 use Rattle.std.proofs.lemmas.Map.Keys.{IsDistinct-IsPermutation, IsDistinct-from_apart, apart_from_distinct}
 use Rattle.sb_types.proofs.Texts.{same_text, text_same}
+use Rattle.sb_types.specs.Records.{Block}
 use Rattle.sb_holdings.specs.Held.{Held}
 use Rattle.sb_digest.specs.Digests.{Digest}
 use Rattle.sb_budget.specs.declared.offered.Offered.{Offered}
-use Rattle.sb_budget.specs.Parts.{Part, all_of, IsNextAfter, IsChain, AreParts}
-use Rattle.sb_budget.proofs.OrderLemmas.{Before}
+use Rattle.sb_budget.specs.declared.turns.Turns.TheVariants as turns
+use Rattle.sb_budget.specs.Orders.{AscendsByOwner}
+use Rattle.sb_budget.specs.Available.{available_for}
+use Rattle.sb_budget.specs.Cut.{items_of_all, IsCut, CanCut}
+use Rattle.sb_budget.specs.Parts.{Part, all_of, IsNextAfter, IsChain, AreParts, IsDeltaBy}
+use Rattle.sb_budget.specs.Turns.{in_turns}
+use Rattle.sb_budget.proofs.OrderLemmas.{Before, sorted_ascends}
 use Rattle.sb_budget.proofs.PlaceLemmas.{same_from_Equal}
-use Rattle.sb_budget.proofs.ListingLemmas.{sorted_cons}
+use Rattle.sb_budget.proofs.ListingLemmas.{sorted_cons, listing_can_cut, listing_delta, listing_length}
+use Rattle.sb_budget.proofs.TurnLemmas.{in_turns_first, parts_moved}
 use Rattle.sb_depth.specs.Depth.{by_count}
 
 pub by_count_total : IsTotalOrder by_count
@@ -109,3 +116,24 @@ module _ {held : Held} {digest : Digest} {parts sorted : List Part} (are : ArePa
 
   pub sorted_by_count : IsSorted by_count (all_of sorted)
   sorted_by_count = parts_sorted sorted keys_apart (λ k d l. (All-permutation (λ (p : Part). (p.next.rank ≡ 0) × IsChain p.next p.later) parts sorted moved are.chains k d l).1)
+
+  moved_turns : IsPermutation (all_of parts) (in_turns turns.First sorted)
+  moved_turns = subst (IsPermutation (all_of parts)) (sym (in_turns_first sorted)) (parts_moved parts sorted moved)
+
+  turns_sorted : IsSorted by_count (in_turns turns.First sorted)
+  turns_sorted = subst (IsSorted by_count) (sym (in_turns_first sorted)) sorted_by_count
+
+  turns_ascend : AscendsByOwner (in_turns turns.First sorted)
+  turns_ascend = sorted_ascends by_count_total follows (all_of parts) (in_turns turns.First sorted) are.offer moved_turns turns_sorted
+
+  pub turns_can_cut : CanCut (in_turns turns.First sorted)
+  turns_can_cut = listing_can_cut are (in_turns turns.First sorted) moved_turns turns_ascend
+
+  pub sorted_delta : (budget : ℕ) (delta : List Block) → IsCut budget (items_of_all (in_turns turns.First sorted)) delta → IsDeltaBy (IsSorted by_count) budget held digest delta
+  sorted_delta budget delta cut = listing_delta are (in_turns turns.First sorted) moved_turns turns_ascend (IsSorted by_count) budget delta turns_sorted cut
+
+  pub ascending_delta : (budget : ℕ) (delta : List Block) → IsCut budget (items_of_all (in_turns turns.First sorted)) delta → IsDeltaBy AscendsByOwner budget held digest delta
+  ascending_delta budget delta cut = listing_delta are (in_turns turns.First sorted) moved_turns turns_ascend AscendsByOwner budget delta turns_ascend cut
+
+  pub turns_length : length (in_turns turns.First sorted) ≡ length (available_for held digest)
+  turns_length = listing_length are (in_turns turns.First sorted) moved_turns turns_ascend

@@ -1,9 +1,10 @@
-use Rattle.std.proofs.Common.{IsSorted}
+use Rattle.std.proofs.Common.{◌<◌, ℕ, List, length, IfOk, IsSorted, subst}
 use Rattle.std.proofs.lemmas.Result.{IfOk-weaker}
+use Rattle.sb_types.specs.Records.{Block}
 use Rattle.sb_budget.specs.declared.turns.Turns.TheVariants as turns
 use Rattle.sb_budget.specs.Orders.{AscendsByOwner}
 use Rattle.sb_budget.specs.Turns.{in_turns}
-use Rattle.sb_budget.proofs.ListingLemmas.{listing_can_cut, listing_delta}
+use Rattle.sb_budget.proofs.ListingLemmas.{listing_can_cut, listing_delta, listing_length}
 use Rattle.sb_budget.proofs.TurnLemmas.{in_turns_all}
 use Rattle.sb_breadth.specs.Breadth.{by_rank}
 use Rattle.sb_breadth.proofs.Ranks.{in_turns_sorted, in_turns_ascends}
@@ -27,3 +28,8 @@ returns-clause-delta c =
     IfOk-weaker c.cut_in_turns.result _ _
     (λ delta cut. listing_delta are _ (in_turns_all turns.Last _) (in_turns_ascends are) AscendsByOwner c.args.budget delta (in_turns_ascends are) cut)
     c.cut_in_turns.ensures.cut
+
+pub returns-clause-goes : goal.returns-clause-goes
+returns-clause-goes c =
+    let are = c.in_ok-owners.ensures.parts in
+    subst (λ (n : ℕ). IfOk c.cut_in_turns.result (λ (delta : List Block). 0 < n → 0 < length delta)) (listing_length are _ (in_turns_all turns.Last _) (in_turns_ascends are)) c.cut_in_turns.ensures.some

@@ -1,19 +1,40 @@
-use Rattle.std.proofs.Common.{◌≡◌, List, IsSorted, IsPermutation, rules, sym, subst}
+use Rattle.std.proofs.Common.{◌<◌, ℕ, List, length, IfOk, subst, rules}
 use Rattle.std.specs.List.Sorted.{IsSortedByKey}
 use Rattle.std.proofs.lemmas.Result.{IfOk-weaker}
 use Rattle.std.proofs.lemmas.List.Sorted.{answers_always}
-use Rattle.sb_budget.specs.declared.offered.Offered.{Offered}
-use Rattle.sb_budget.specs.declared.turns.Turns.TheVariants as turns
-use Rattle.sb_budget.specs.Orders.{AscendsByOwner}
-use Rattle.sb_budget.specs.Parts.{Part, all_of}
-use Rattle.sb_budget.specs.Turns.{in_turns}
-use Rattle.sb_budget.proofs.OrderLemmas.{sorted_ascends}
-use Rattle.sb_budget.proofs.ListingLemmas.{listing_can_cut, listing_delta}
-use Rattle.sb_budget.proofs.TurnLemmas.{in_turns_first, parts_moved}
-use Rattle.sb_depth.specs.Depth.{by_count}
-use Rattle.sb_depth.proofs.Counts.{by_key, by_count_total, follows, sorted_by_count}
+use Rattle.sb_types.specs.Records.{Block}
+use Rattle.sb_budget.specs.Parts.{Part}
+use Rattle.sb_depth.proofs.Counts.{by_key, turns_can_cut, sorted_delta, ascending_delta, turns_length}
 use Rattle.sb_depth.proofs.DepthDeltaOrder.delta.Goals as goal
 
--- what the owners offer in turns is in order
-listed : (c : goal.After-cut_in_turns) → IsSorted by_count (in_turns turns.First c.in_ok.new.owners.items)
-listed c = ?
+pub cut_in_turns-requires-clause-items : goal.cut_in_turns-requires-clause-items
+cut_in_turns-requires-clause-items c =
+    let are = c.in_ok-owners.ensures.parts in
+    let moved = c.in_ok-sort_by_cached_key.ensures.permutation in
+    let up : IsSortedByKey (λ (p : Part). p.next) by_key c.sort_by_cached_key.new.self.items =
+    c.in_ok-sort_by_cached_key.ensures.sorted (λ (p : Part). (record { 0 = p.next.count }, p.next.owner)) (answers_always _ _ _ (λ f a r g h. search rules)) in
+    turns_can_cut are moved up
+
+pub returns-clause-order : goal.returns-clause-order
+returns-clause-order c =
+    let are = c.in_ok-owners.ensures.parts in
+    let moved = c.in_ok-sort_by_cached_key.ensures.permutation in
+    let up : IsSortedByKey (λ (p : Part). p.next) by_key c.sort_by_cached_key.new.self.items =
+    c.in_ok-sort_by_cached_key.ensures.sorted (λ (p : Part). (record { 0 = p.next.count }, p.next.owner)) (answers_always _ _ _ (λ f a r g h. search rules)) in
+    IfOk-weaker c.cut_in_turns.result _ _ (λ delta cut. sorted_delta are moved up c.args.budget delta cut) c.cut_in_turns.ensures.cut
+
+pub returns-clause-delta : goal.returns-clause-delta
+returns-clause-delta c =
+    let are = c.in_ok-owners.ensures.parts in
+    let moved = c.in_ok-sort_by_cached_key.ensures.permutation in
+    let up : IsSortedByKey (λ (p : Part). p.next) by_key c.sort_by_cached_key.new.self.items =
+    c.in_ok-sort_by_cached_key.ensures.sorted (λ (p : Part). (record { 0 = p.next.count }, p.next.owner)) (answers_always _ _ _ (λ f a r g h. search rules)) in
+    IfOk-weaker c.cut_in_turns.result _ _ (λ delta cut. ascending_delta are moved up c.args.budget delta cut) c.cut_in_turns.ensures.cut
+
+pub returns-clause-goes : goal.returns-clause-goes
+returns-clause-goes c =
+    let are = c.in_ok-owners.ensures.parts in
+    let moved = c.in_ok-sort_by_cached_key.ensures.permutation in
+    let up : IsSortedByKey (λ (p : Part). p.next) by_key c.sort_by_cached_key.new.self.items =
+    c.in_ok-sort_by_cached_key.ensures.sorted (λ (p : Part). (record { 0 = p.next.count }, p.next.owner)) (answers_always _ _ _ (λ f a r g h. search rules)) in
+    subst (λ (n : ℕ). IfOk c.cut_in_turns.result (λ (delta : List Block). 0 < n → 0 < length delta)) (turns_length are moved up) c.cut_in_turns.ensures.some
