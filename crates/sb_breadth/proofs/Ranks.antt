@@ -94,8 +94,8 @@ module _ {held : Held} {digest : Digest} {parts : List Part} (are : AreParts hel
   parts_near : AreNear parts
   parts_near = record {
     near = λ i j d l k. (
-        inr (omega (arith, (are.chains i d (omega arith)).0, (are.chains j d k).0), are.names i j d l k),
-        inl (omega (arith, (are.chains i d (omega arith)).0, (are.chains j d k).0)),
+      inr (omega (arith, (are.chains i d (omega arith)).0, (are.chains j d k).0), are.names i j d l k),
+      inl (omega (arith, (are.chains i d (omega arith)).0, (are.chains j d k).0)),
     );
     chains = λ k d l. (are.chains k d l).1;
   }

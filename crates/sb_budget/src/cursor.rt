@@ -33,8 +33,8 @@ impl<'a> Model for Cursor<'a> {
     ghost Value = { Part };
 
     ghost view = { λ c. record {
-        next = record { owner = c.owner; after = c.after; upto = c.table.now.held; rank = c.rank; count = length (above c.after c.table.now.entries); entry = c.entry.now };
-        later = ranked_from (c.rank + 1) c.owner c.after c.table.now.held (length (above c.after c.table.now.entries)) c.later;
+      next = record { owner = c.owner; after = c.after; upto = c.table.now.held; rank = c.rank; count = length (above c.after c.table.now.entries); entry = c.entry.now };
+      later = ranked_from (c.rank + 1) c.owner c.after c.table.now.held (length (above c.after c.table.now.entries)) c.later;
     } };
 
     ghost invariant = { λ c. (c.rank + length (c.entry.now ∷ c.later) ≡ length (above c.after c.table.now.entries)) × (length (above c.after c.table.now.entries) < 2 ^ 63) };

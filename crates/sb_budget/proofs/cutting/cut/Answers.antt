@@ -19,9 +19,13 @@ finish-requires c =
     let items = c.args.items.items in
     let y = c.loop-item.yielded in
     let source = YieldsList-from_vec items c.into_iter-item-iterator.ensures.into_iter_gives.0 (c.into_iter-item-iterator.ensures.into_iter_gives.1 ∙ c.args.items.ok.0) in
-    let front = YieldsList-so_far source y _ c.loop-item.yielded_by in
-    (c.args.budget, y, drop (length y) items, subst CanCut (sym (whole_at items y front)) c.requires.items,
-    subst (IsFrontOf c.args.budget y (drop (length y) items)) (sym (c.in_ok-push.ensures.left c.if-not-branch.true)) c.loop-item.invariant.2)
+    let front = YieldsList-so_far source y _ c.loop-item.yielded_by in (
+      c.args.budget,
+      y,
+      drop (length y) items,
+      subst CanCut (sym (whole_at items y front)) c.requires.items,
+      subst (IsFrontOf c.args.budget y (drop (length y) items)) (sym (c.in_ok-push.ensures.left c.if-not-branch.true)) c.loop-item.invariant.2,
+    )
 
 pub loop-item-preserved : goal.loop-item-preserved
 loop-item-preserved c =

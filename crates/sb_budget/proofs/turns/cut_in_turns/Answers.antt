@@ -25,9 +25,13 @@ finish-requires c =
     let entry : c.in_ok-entry.entry ≡ c.entry.result.now = sym (subst (λ (r : Result Entry Fault). IfOk r (λ z. c.entry.result.now ≡ z)) c.in_ok-entry.ensures refl) in
     let next : (front rest : List Offered) → CanCut (front ++ p.next ∷ rest) → IsFrontOf c.args.budget front (p.next ∷ rest) c.loop-cursor.making → AfterNext c.args.budget front p.next rest c.in_ok-push.field-0 c.push.new.self =
     λ front rest can is. c.in_ok-push.ensures.next c.args.budget front rest p.next (sym c.owner.ensures.owner, sym c.after.ensures.after, sym (entry ∙ c.entry.ensures.entry)) can is in
-    let is = c.loop-cursor.invariant in
-    (c.args.budget, is.0, in_turns t c.loop-cursor.queue.items, subst CanCut (sym is.1) can,
-    subst (IsFrontOf c.args.budget is.0 (in_turns t c.loop-cursor.queue.items)) (sym (c.in_ok-push.ensures.left c.if-not-branch.true)) is.2)
+    let is = c.loop-cursor.invariant in (
+      c.args.budget,
+      is.0,
+      in_turns t c.loop-cursor.queue.items,
+      subst CanCut (sym is.1) can,
+      subst (IsFrontOf c.args.budget is.0 (in_turns t c.loop-cursor.queue.items)) (sym (c.in_ok-push.ensures.left c.if-not-branch.true)) is.2,
+    )
 
 pub returns-then-not-branch-clause-cut : goal.returns-then-not-branch-clause-cut
 returns-then-not-branch-clause-cut c =
