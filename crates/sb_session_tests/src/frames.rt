@@ -9,7 +9,7 @@ use std::io::{self, ErrorKind, Write};
 use std::test::Fail;
 
 /// One block of the owner a, after 0, with the weight 5 under w as version 1.
-const FRAME: &[u8] = b"\xa7\x01\x00\x00\x00\x22\x03\x00\x01\x01a\x00\x00\x00\x00\x00\x00\x00\x00\
+pub(crate) const FRAME: &[u8] = b"\xa7\x01\x00\x00\x00\x22\x03\x00\x01\x01a\x00\x00\x00\x00\x00\x00\x00\x00\
     \x00\x01\x01w\x00\x00\x00\x00\x00\x00\x00\x01\x02\x00\x00\x00\x00\x00\x00\x00\x05";
 
 /// A block of b, and then one of a.
@@ -72,14 +72,14 @@ impl Write for Narrow {
 
 // Each call is made once more where memory was refused: nothing may have changed.
 
-fn fed(frames: &mut Frames, piece: &[u8]) -> Result<(), Fault> {
+pub(crate) fn fed(frames: &mut Frames, piece: &[u8]) -> Result<(), Fault> {
     match frames.feed(piece) {
         Err(Fault::NoMemory) => frames.feed(piece),
         answer => answer,
     }
 }
 
-fn taken(frames: &mut Frames) -> Result<Option<Message>, Fault> {
+pub(crate) fn taken(frames: &mut Frames) -> Result<Option<Message>, Fault> {
     match frames.next() {
         Err(Fault::NoMemory) => frames.next(),
         answer => answer,

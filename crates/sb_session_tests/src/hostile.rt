@@ -1,0 +1,264 @@
+//! Damaged frames, and made-up bytes, of which each answer is known: `tools/oracle/hostile_bytes.py` works the numbers out.
+ghost use Rattle.std.specs.Prelude.{◌<◌};
+
+use crate::frames::{FRAME, fed, taken};
+use crate::wire::{BYE, HELLO_A};
+use rand_core::utils::NextWord;
+use rand_pcg::Pcg32;
+use sb_frames::{Frames, frame_of};
+use sb_types::Fault;
+use std::alloc::Global;
+use std::test::Fail;
+
+/// The digest of the names from a up to c, of which a is held up to 0 and b up to 7.
+const DIGEST: &[u8] = b"\xa7\x01\x00\x00\x00\x1c\x02\x01\x01a\x01c\x00\x02\
+    \x01a\x00\x00\x00\x00\x00\x00\x00\x00\x01b\x00\x00\x00\x00\x00\x00\x00\x07";
+
+/// Of a a weight and a removal, of b an address and a flag.
+const DELTA: &[u8] = b"\xa7\x01\x00\x00\x00\x5c\x03\x00\x02\x01a\x00\x00\x00\x00\x00\x00\x00\x00\x00\x02\
+    \x01w\x00\x00\x00\x00\x00\x00\x00\x01\x02\x00\x00\x00\x00\x00\x00\x00\x05\
+    \x01x\x00\x00\x00\x00\x00\x00\x00\x02\x00\
+    \x01b\x00\x00\x00\x00\x00\x00\x00\x01\x00\x02\
+    \x01k\x00\x00\x00\x00\x00\x00\x00\x02\x01\x03p:1\
+    \x01l\x00\x00\x00\x00\x00\x00\x00\x03\x03\x01";
+
+/// What a wrote under keys that begin with w/, behind the row of w/x.
+const ASK: &[u8] = b"\xa7\x01\x00\x00\x00\x0c\x10\x01a\x02w/\x01a\x03w/x";
+
+/// A row of a and one of b, and more follow.
+const ROWS: &[u8] = b"\xa7\x01\x00\x00\x00\x2d\x11\x01\x00\x02\
+    \x01a\x01w\x00\x00\x00\x00\x00\x00\x00\x01\x02\x00\x00\x00\x00\x00\x00\x00\x05\
+    \x01b\x01k\x00\x00\x00\x00\x00\x00\x00\x02\x01\x03p:1";
+
+/// The weight 5 under w.
+const PUT: &[u8] = b"\xa7\x01\x00\x00\x00\x0c\x12\x01w\x02\x00\x00\x00\x00\x00\x00\x00\x05";
+
+/// The write has version 7.
+const DONE: &[u8] = b"\xa7\x01\x00\x00\x00\x09\x13\x00\x00\x00\x00\x00\x00\x00\x07";
+
+/// The table is full.
+const REFUSED: &[u8] = b"\xa7\x01\x00\x00\x00\x02\x14\x06";
+
+/// A frame of each kind.
+const FRAMES: [&[u8]; 9] = [HELLO_A, DIGEST, DELTA, BYE, ASK, ROWS, PUT, DONE, REFUSED];
+
+/// How many streams are made up.
+const STREAMS: u32 = 100_000;
+
+/// What a reader of frames answers.
+#[derive(Clone, Copy, Debug, PartialEq, Eq)]
+enum Answer {
+    /// A message, whose frame has so many bytes.
+    Message(usize),
+    /// More bytes have to come.
+    Waiting,
+    Faulty(Fault),
+}
+
+/// How often each answer was given.
+#[derive(Clone, Copy, Debug, PartialEq, Eq)]
+struct Counts {
+    messages: u64,
+    waiting: u64,
+    marks: u64,
+    versions: u64,
+    lengths: u64,
+    kinds: u64,
+    malformed: u64,
+    others: u64,
+}
+
+impl Counts {
+    fn new(counts: [u64; 7]) -> Counts {
+        let [messages, waiting, marks, versions, lengths, kinds, malformed] = counts;
+        Counts {
+            messages,
+            waiting,
+            marks,
+            versions,
+            lengths,
+            kinds,
+            malformed,
+            others: 0,
+        }
+    }
+
+    fn count(&mut self, answer: Answer) {
+        let place = match answer {
+            Answer::Message(_) => &mut self.messages,
+            Answer::Waiting => &mut self.waiting,
+            Answer::Faulty(Fault::BadMark) => &mut self.marks,
+            Answer::Faulty(Fault::BadVersion) => &mut self.versions,
+            Answer::Faulty(Fault::BadLength) => &mut self.lengths,
+            Answer::Faulty(Fault::UnknownKind(_)) => &mut self.kinds,
+            Answer::Faulty(Fault::Malformed(_)) => &mut self.malformed,
+            Answer::Faulty(_) => &mut self.others,
+        };
+        *place = place.wrapping_add(1);
+    }
+}
+
+/// What comes of the next frame; a message has to go out as it came, and a fault of a kind has to name it.
+fn answer_of(alloc: Global, frames: &mut Frames, stream: &[u8]) -> Result<Answer, Fault> {
+    match taken(frames) {
+        Ok(Some(message)) => {
+            let frame = frame_of(alloc, &message)?;
+            match stream.starts_with(&frame) {
+                true => Ok(Answer::Message(frame.len())),
+                false => Ok(Answer::Faulty(Fault::Closed)),
+            }
+        }
+        Ok(None) => Ok(Answer::Waiting),
+        Err(Fault::NoMemory) => Err(Fault::NoMemory),
+        Err(Fault::UnknownKind(kind) | Fault::Malformed(kind)) if stream.get(6) != Some(&kind) => {
+            Ok(Answer::Faulty(Fault::Closed))
+        }
+        Err(fault) => Ok(Answer::Faulty(fault)),
+    }
+}
+
+/// What comes of a stream that begins with these bytes.
+fn first_of(alloc: Global, stream: &[u8]) -> Result<Answer, Fault> {
+    let mut frames = Frames::new(alloc);
+    fed(&mut frames, stream)?;
+    answer_of(alloc, &mut frames, stream)
+}
+
+/// What has to come of a delta of 40 bytes of which one of the first seven is another.
+fn wanted(place: usize, value: u8) -> Option<Answer> {
+    match (place, value) {
+        (0, _) => Some(Answer::Faulty(Fault::BadMark)),
+        (1, _) => Some(Answer::Faulty(Fault::BadVersion)),
+        (2 | 3, _) => Some(Answer::Faulty(Fault::BadLength)),
+        (4, _) => Some(Answer::Waiting),
+        (5, 0) => Some(Answer::Faulty(Fault::BadLength)),
+        (5, 1..=0x21) => Some(Answer::Faulty(Fault::Malformed(3))),
+        (5, _) => Some(Answer::Waiting),
+        (6, 1 | 2 | 4 | 0x10..=0x14) => Some(Answer::Faulty(Fault::Malformed(value))),
+        (6, _) => Some(Answer::Faulty(Fault::UnknownKind(value))),
+        _ => None,
+    }
+}
+
+#[test]
+fn the_head_of_a_frame_is_damaged(rt: HostRuntime) -> Result<(), Fail> {
+    for place in 0..7 {
+        for value in 0..=255_u8 {
+            let mut frame = Vec::from_slice(rt.alloc(), FRAME)?;
+            if frame[place] == value {
+                continue;
+            }
+            frame[place] = value;
+            let answer = first_of(rt.alloc(), &frame)?;
+            assert_eq!(rt; Some(answer), wanted(place, value), "{place} {value}");
+        }
+    }
+    Ok(())
+}
+
+/// What comes of a frame of which one byte is another, each byte in turn and each other value.
+fn damaged(alloc: Global, frame: &[u8]) -> Result<Counts, Fault> {
+    let mut counts = Counts::new([0; 7]);
+    let mut changed = Vec::from_slice(alloc, frame)?;
+    for (place, byte) in frame.iter().enumerate() {
+        for value in 0..=255_u8 {
+            if value != *byte {
+                changed[place] = value;
+                counts.count(first_of(alloc, &changed)?);
+            }
+        }
+        changed[place] = *byte;
+    }
+    Ok(counts)
+}
+
+#[test]
+fn each_byte_is_damaged(rt: HostRuntime) -> Result<(), Fail> {
+    for (frame, counts) in [
+        (HELLO_A, [108, 504, 255, 255, 511, 247, 1_180]),
+        (DIGEST, [4_115, 482, 255, 255, 511, 247, 2_805]),
+        (DELTA, [6_455, 426, 255, 255, 511, 247, 14_801]),
+        (BYE, [5, 508, 255, 255, 511, 247, 259]),
+        (ASK, [268, 498, 255, 255, 511, 247, 2_556]),
+        (ROWS, [6_383, 468, 255, 255, 511, 247, 4_121]),
+        (PUT, [1_951, 498, 255, 255, 511, 247, 873]),
+        (DONE, [2_039, 501, 255, 255, 511, 247, 17]),
+        (REFUSED, [30, 508, 255, 255, 511, 247, 234]),
+    ] {
+        assert_eq!(rt; damaged(rt.alloc(), frame)?, Counts::new(counts), "{frame:?}");
+    }
+    Ok(())
+}
+
+/// A number below another.
+fn below(random: &mut Pcg32, limit: usize) -> usize
+    requires { 0 < limit }
+    ensures { result < limit }
+{
+    random.next_word() as usize % limit
+}
+
+/// Changes a byte, to any value, where there is one.
+fn change(random: &mut Pcg32, stream: &mut Vec<u8>) {
+    if !stream.is_empty() {
+        let place = below(random, stream.len());
+        stream[place] = below(random, 256) as u8;
+    }
+}
+
+/// Any bytes; or up to three frames, of which up to three bytes are changed and the end may be cut off.
+fn made_up(alloc: Global, random: &mut Pcg32) -> Result<Vec<u8>, Fault> {
+    let mut stream = Vec::new(alloc);
+    let form = below(random, 4);
+    if form == 0 {
+        for _ in 0..below(random, 80) {
+            stream.push(below(random, 256) as u8)?;
+        }
+        return Ok(stream);
+    }
+    for _ in 0..=below(random, 3) {
+        stream.extend_from_slice(FRAMES[below(random, 9)])?;
+    }
+    for _ in 0..below(random, 4) {
+        change(random, &mut stream);
+    }
+    if form == 1 && !stream.is_empty() {
+        let length = below(random, stream.len());
+        stream.truncate(length);
+    }
+    Ok(stream)
+}
+
+/// Counts the messages of a stream and what comes behind them, and tells whether nothing does.
+fn read_all(alloc: Global, counts: &mut Counts, stream: &[u8]) -> Result<bool, Fault> {
+    let mut frames = Frames::new(alloc);
+    fed(&mut frames, stream)?;
+    let mut rest = stream;
+    for _ in 0..=stream.len() {
+        let answer = answer_of(alloc, &mut frames, rest)?;
+        if answer == Answer::Waiting && frames.end().is_ok() {
+            return Ok(true);
+        }
+        counts.count(answer);
+        let Answer::Message(length) = answer else {
+            return Ok(false);
+        };
+        rest = rest.get(length..).unwrap_or(&[]);
+    }
+    Ok(false)
+}
+
+#[test]
+fn made_up_streams(rt: HostRuntime) -> Result<(), Fail> {
+    let mut random = Pcg32::new(42, 54);
+    let mut counts = Counts::new([0; 7]);
+    let mut whole = 0_u64;
+    for _ in 0..STREAMS {
+        let stream = made_up(rt.alloc(), &mut random)?;
+        let is_whole = read_all(rt.alloc(), &mut counts, &stream)?;
+        whole = whole.wrapping_add(u64::from(is_whole));
+    }
+    let wanted = [57_513, 22_885, 29_130, 4_412, 7_083, 2_329, 14_454];
+    assert_eq!(rt; (counts, whole), (Counts::new(wanted), 19_707));
+    Ok(())
+}
