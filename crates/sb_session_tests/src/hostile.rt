@@ -1,5 +1,5 @@
 //! Damaged frames, and made-up bytes, of which each answer is known: `tools/oracle/hostile_bytes.py` works the numbers out.
-ghost use Rattle.std.specs.Prelude.{◌<◌};
+ghost use Rattle.std.specs.Prelude.{◌≡◌, ◌<◌, IfOk};
 
 use crate::frames::{FRAME, fed, taken};
 use crate::wire::{BYE, HELLO_A};
@@ -124,6 +124,15 @@ fn first_of(alloc: Global, stream: &[u8]) -> Result<Answer, Fault> {
     answer_of(alloc, &mut frames, stream)
 }
 
+/// These bytes, to be changed.
+fn copy_of(alloc: Global, bytes: &[u8]) -> Result<Vec<u8>, Fault>
+    ensures { IfOk result (λ copy. copy.items ≡ bytes.now) }
+{
+    let mut copy = Vec::new(alloc);
+    copy.extend_from_slice(bytes)?;
+    Ok(copy)
+}
+
 /// What has to come of a delta of 40 bytes of which one of the first seven is another.
 fn wanted(place: usize, value: u8) -> Option<Answer> {
     match (place, value) {
@@ -144,7 +153,7 @@ fn wanted(place: usize, value: u8) -> Option<Answer> {
 fn the_head_of_a_frame_is_damaged(rt: HostRuntime) -> Result<(), Fail> {
     for place in 0..7 {
         for value in 0..=255_u8 {
-            let mut frame = Vec::from_slice(rt.alloc(), FRAME)?;
+            let mut frame = copy_of(rt.alloc(), FRAME)?;
             if frame[place] == value {
                 continue;
             }
@@ -159,7 +168,7 @@ fn the_head_of_a_frame_is_damaged(rt: HostRuntime) -> Result<(), Fail> {
 /// What comes of a frame of which one byte is another, each byte in turn and each other value.
 fn damaged(alloc: Global, frame: &[u8]) -> Result<Counts, Fault> {
     let mut counts = Counts::new([0; 7]);
-    let mut changed = Vec::from_slice(alloc, frame)?;
+    let mut changed = copy_of(alloc, frame)?;
     for (place, byte) in frame.iter().enumerate() {
         for value in 0..=255_u8 {
             if value != *byte {
