@@ -1,5 +1,5 @@
 //! Damaged frames, and made-up bytes, of which each answer is known: `tools/oracle/hostile_bytes.py` works the numbers out.
-ghost use Rattle.std.specs.Prelude.{◌≡◌, ◌<◌, IfOk};
+ghost use Rattle.std.specs.Prelude.{◌<◌};
 
 use crate::frames::{FRAME, fed, taken};
 use crate::wire::{BYE, HELLO_A};
@@ -124,13 +124,14 @@ fn first_of(alloc: Global, stream: &[u8]) -> Result<Answer, Fault> {
     answer_of(alloc, &mut frames, stream)
 }
 
-/// These bytes, to be changed.
-fn copy_of(alloc: Global, bytes: &[u8]) -> Result<Vec<u8>, Fault>
-    ensures { IfOk result (λ copy. copy.items ≡ bytes.now) }
-{
-    let mut copy = Vec::new(alloc);
-    copy.extend_from_slice(bytes)?;
-    Ok(copy)
+/// The frame with another byte at a place.
+fn changed(alloc: Global, frame: &[u8], place: usize, value: u8) -> Result<Vec<u8>, Fault> {
+    let mut changed = Vec::new(alloc);
+    changed.extend_from_slice(frame)?;
+    if let Some(byte) = changed.get_mut(place) {
+        *byte = value;
+    }
+    Ok(changed)
 }
 
 /// What has to come of a delta of 40 bytes of which one of the first seven is another.
@@ -151,15 +152,13 @@ fn wanted(place: usize, value: u8) -> Option<Answer> {
 
 #[test]
 fn the_head_of_a_frame_is_damaged(rt: HostRuntime) -> Result<(), Fail> {
-    for place in 0..7 {
+    for (place, byte) in FRAME[..7].iter().enumerate() {
         for value in 0..=255_u8 {
-            let mut frame = copy_of(rt.alloc(), FRAME)?;
-            if frame[place] == value {
-                continue;
+            if value != *byte {
+                let frame = changed(rt.alloc(), FRAME, place, value)?;
+                let answer = first_of(rt.alloc(), &frame)?;
+                assert_eq!(rt; Some(answer), wanted(place, value), "{place} {value}");
             }
-            frame[place] = value;
-            let answer = first_of(rt.alloc(), &frame)?;
-            assert_eq!(rt; Some(answer), wanted(place, value), "{place} {value}");
         }
     }
     Ok(())
@@ -168,15 +167,13 @@ fn the_head_of_a_frame_is_damaged(rt: HostRuntime) -> Result<(), Fail> {
 /// What comes of a frame of which one byte is another, each byte in turn and each other value.
 fn damaged(alloc: Global, frame: &[u8]) -> Result<Counts, Fault> {
     let mut counts = Counts::new([0; 7]);
-    let mut changed = copy_of(alloc, frame)?;
     for (place, byte) in frame.iter().enumerate() {
         for value in 0..=255_u8 {
             if value != *byte {
-                changed[place] = value;
-                counts.count(first_of(alloc, &changed)?);
+                let stream = changed(alloc, frame, place, value)?;
+                counts.count(first_of(alloc, &stream)?);
             }
         }
-        changed[place] = *byte;
     }
     Ok(counts)
 }
