@@ -1,0 +1,75 @@
+# Completes attrdir's command line in bash: source this file, or lay it where bash looks for completions under the name attrdir, as in
+# /usr/share/bash-completion/completions/. tools/check-help compares it with what the program takes.
+
+_attrdir() {
+  local word=${COMP_WORDS[COMP_CWORD]} command='' value_of='' place=0 kind='' it at
+  COMPREPLY=()
+
+  # The command, the option whose value comes next, and how many words have stood by themselves.
+  for ((at = 1; at < COMP_CWORD; at++)); do
+    it=${COMP_WORDS[at]}
+    if [[ $it == = ]]; then
+      continue
+    elif [[ $value_of ]]; then
+      value_of=''
+    elif [[ $it == --explain || $it == --help || $it == --version || $it == -h || $it == -V || $it == -- ]]; then
+      :
+    elif [[ $it == --* ]]; then
+      value_of=$it
+    elif [[ -z $command ]]; then
+      command=$it
+    else
+      place=$((place + 1))
+      [[ $place == 2 ]] && kind=$it
+    fi
+  done
+  [[ $word == = ]] && word=''
+
+  case $value_of in
+    '') ;;
+    --log | --sock | --control)
+      compopt -o filenames 2>/dev/null
+      mapfile -t COMPREPLY < <(compgen -f -- "$word")
+      return
+      ;;
+    --order)
+      mapfile -t COMPREPLY < <(compgen -W 'breadth depth' -- "$word")
+      return
+      ;;
+    --format)
+      mapfile -t COMPREPLY < <(compgen -W 'text json' -- "$word")
+      return
+      ;;
+    *) return ;;
+  esac
+
+  local options=''
+  case $command in
+    '') options='serve set del get watch log sim --help --version' ;;
+    serve)
+      options='--name --cluster --log --sock --control --budget --order --max-version --seats --workers --rounds --pause --idle --max-reads --help'
+      ;;
+    set | del) options='--control --help' ;;
+    get) options='--control --owner --prefix --format --help' ;;
+    watch) options='--control --owner --prefix --every --count --help' ;;
+    log) options='--log --name --cluster --help' ;;
+    sim) options='--explain --help' ;;
+  esac
+
+  if [[ $word != -* ]]; then
+    case $command:$place:$kind in
+      set:1:*) options='addr weight flag' ;;
+      set:2:flag) options='true false' ;;
+      set:2:* | set:0:* | del:*) options='' ;;
+      serve:*)
+        # the sockets of other nodes
+        compopt -o filenames 2>/dev/null
+        mapfile -t COMPREPLY < <(compgen -f -- "$word")
+        return
+        ;;
+    esac
+  fi
+  mapfile -t COMPREPLY < <(compgen -W "$options" -- "$word")
+}
+
+complete -F _attrdir attrdir
