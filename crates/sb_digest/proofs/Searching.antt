@@ -1,5 +1,5 @@
 -- A binary search among pairs whose owners ascend.
-use Rattle.std.proofs.Common.{◌≡◌, ℕ, zero, suc, ◌+◌, ◌<◌, true, false, List, [], ◌∷◌, length, get_or, Some, None, Ok, Err, refl, sym, ap, subst, ◌∙◌, arith, Less, Equal, is_lt, nat_cmp, nat_eq, inl, inr}
+use Rattle.std.proofs.Common.{◌≡◌, ℕ, zero, suc, ◌+◌, ◌<◌, ◌≤◌, Bool, true, false, cond, List, [], ◌∷◌, length, get_or, count_by, Some, None, Ok, Err, refl, sym, ap, ap₂, subst, ◌∙◌, arith, Less, Equal, is_lt, is_le, nat_cmp, nat_eq, inl, inr}
 use Rattle.std.specs.Option.{option_map_or}
 use Rattle.std.specs.Ordering.{ordering_index, ordering_reverse}
 use Rattle.std.specs.Cmp.Lexicographic.{slice_cmp, pointwise}
@@ -8,8 +8,9 @@ use Rattle.std.specs.FinMap.{slice_cmp-IsAntisymmetric, nat_cmp-IsAntisymmetric}
 use Rattle.std.proofs.lemmas.Bool.{cond-true, cond-false, cases_lt, and_parts}
 use Rattle.std.proofs.lemmas.Cmp.{nat_list_cmp_total, tied_itself}
 use Rattle.std.proofs.lemmas.List.Sorted.{searchable_from_sorted}
+use Rattle.std.proofs.lemmas.List.Sums.{sum_by-cons}
 use Rattle.std.proofs.lemmas.Map.Keys.{Less-from_sorted, sorted_tail}
-use Rattle.sb_digest.specs.Digests.{Pair, Digest, pair_at, held_in}
+use Rattle.sb_digest.specs.Digests.{Pair, Digest, pair_at, held_in, at_or_below}
 use Rattle.sb_digest.specs.Limits.{are_pairs_above, is_range, are_digest_parts, is_digest}
 use Rattle.sb_types.proofs.Texts.{apart-from_Less, apart-from_Greater, same-from_Equal, same_text}
 use Rattle.sb_digest.proofs.Ascending.{by_owner, by_owner_total, rises_from_above}
@@ -44,6 +45,36 @@ not_found name ps i up l parted =
       | inr above ↦ apart-from_Greater _ name (parts.1 k d above in_range)
     ])
 
+-- of as many pairs as pass, and then none, so many are counted
+counted : (p : Pair → Bool) (ps : List Pair) (m : ℕ) → m ≤ length ps → ((k : ℕ) (d : Pair) → k < m → p (get_or ps k d) ≡ true) → ((k : ℕ) (d : Pair) → m ≤ k → k < length ps → p (get_or ps k d) ≡ false) → count_by p ps ≡ m
+counted p [] m l pass fail = omega arith
+counted p (x ∷ ps) zero l pass fail =
+    let more = sum_by-cons (λ (y : Pair). cond (p y) 1 0) x ps in
+    let rest = counted p ps zero (omega arith) (λ k d b. absurd (omega (arith, b))) (λ k d a b. fail (suc k) d (omega arith) (omega arith)) in
+    more ∙ ap₂ (λ b n. cond b 1 0 + n) (fail 0 x (omega arith) (omega arith)) rest
+counted p (x ∷ ps) (suc m) l pass fail =
+    let more = sum_by-cons (λ (y : Pair). cond (p y) 1 0) x ps in
+    let rest = counted p ps m (omega arith) (λ k d b. pass (suc k) d (omega arith)) (λ k d a b. fail (suc k) d (omega arith) (omega arith)) in
+    more ∙ ap₂ (λ b n. cond b 1 0 + n) (pass 0 x (omega arith)) rest ∙ omega arith
+
+-- as many pairs are at or below a name as stand up to its own
+behind-found : (name : List ℕ) (ps : List Pair) (i : ℕ) → are_pairs_above [] ps ≡ true → i < length ps → ((d : Pair) → slice_cmp nat_cmp (get_or ps i d).owner name ≡ Equal) → at_or_below name ps ≡ i + 1
+behind-found name ps i up l same =
+    let rises = rises_from_above [] ps up in
+    let is : (d : Pair) → (get_or ps i d).owner ≡ name = λ d. slice_cmp-IsAntisymmetric nat_cmp-IsAntisymmetric (get_or ps i d).owner name (same d) in
+    counted (λ (p : Pair). is_le (slice_cmp nat_cmp p.owner name)) ps (i + 1) (omega arith)
+    (λ k d b. elim (cases_lt k i) [
+      | inl below ↦ ap is_le (ap (slice_cmp nat_cmp (get_or ps k d).owner) (sym (is d)) ∙ Less-from_sorted by_owner ps k i d rises below l)
+      | inr above ↦ let at : k ≡ i = omega arith in ap (λ n. is_le (slice_cmp nat_cmp (get_or ps n d).owner name)) at ∙ ap is_le (same d)
+    ])
+    (λ k d a b. ap is_le (ap (slice_cmp nat_cmp (get_or ps k d).owner) (sym (is d)) ∙ by_owner_total.antisymm (get_or ps k d) (get_or ps i d) ∙ ap ordering_reverse (Less-from_sorted by_owner ps i k d rises (omega arith) b)))
+
+-- and where it has none, as many as stand before the place of insertion
+before-missing : (name : List ℕ) (ps : List Pair) (i : ℕ) → are_pairs_above [] ps ≡ true → IsSearchInRange (Err i) (length ps) → IsBinarySearchResult (λ p. slice_cmp nat_cmp p.owner name) ps (Err i) → at_or_below name ps ≡ i
+before-missing name ps i up l parted =
+    let parts = parted (searchable name ps (rises_from_above [] ps up)) in
+    counted (λ (p : Pair). is_le (slice_cmp nat_cmp p.owner name)) ps i l (λ k d b. ap is_le (parts.0 k d (omega (arith, l)) b)) (λ k d a b. ap is_le (parts.1 k d a b))
+
 pub above-from_is_digest : (d : Digest) → is_digest d ≡ true → are_pairs_above [] d.pairs ≡ true
 above-from_is_digest d is =
     let parts = (and_parts _ (are_digest_parts d) is).1 in
@@ -55,8 +86,20 @@ number-found d name i p is l same at = ap (λ o. option_map_or (λ (p : Pair). p
 pub number-missing : (d : Digest) (name : List ℕ) (i : ℕ) → is_digest d ≡ true → IsSearchInRange (Err i) (length d.pairs) → IsBinarySearchResult (λ p. slice_cmp nat_cmp p.owner name) d.pairs (Err i) → held_in d name ≡ 0
 number-missing d name i is l parted = ap (λ o. option_map_or (λ (p : Pair). p.held) o 0) (not_found name d.pairs i (above-from_is_digest d is) l parted)
 
+equal-at : (ps : List Pair) (name : List ℕ) (i : ℕ) (p : Pair) → ((e : Pair) → p ≡ get_or ps i e) → pointwise nat_eq p.owner name ≡ true → (e : Pair) → slice_cmp nat_cmp (get_or ps i e).owner name ≡ Equal
+equal-at ps name i p at same e =
+    let equal : slice_cmp nat_cmp p.owner name ≡ Equal = subst (λ n. slice_cmp nat_cmp p.owner n ≡ Equal) (same_text p.owner name same) (tied_itself nat_list_cmp_total p.owner) in
+    subst (λ q. slice_cmp nat_cmp q.owner name ≡ Equal) (at e) equal
+
 -- the pair at a place is the name's
 pub number-at : (d : Digest) (name : List ℕ) (i : ℕ) (p : Pair) → is_digest d ≡ true → i < length d.pairs → ((e : Pair) → p ≡ get_or d.pairs i e) → pointwise nat_eq p.owner name ≡ true → held_in d name ≡ p.held
-number-at d name i p is l at same =
-    let equal : slice_cmp nat_cmp p.owner name ≡ Equal = subst (λ n. slice_cmp nat_cmp p.owner n ≡ Equal) (same_text p.owner name same) (tied_itself nat_list_cmp_total p.owner) in
-    number-found d name i p is l (λ e. subst (λ q. slice_cmp nat_cmp q.owner name ≡ Equal) (at e) equal) (at p)
+number-at d name i p is l at same = number-found d name i p is l (equal-at d.pairs name i p at same) (at p)
+
+pub place-found : (d : Digest) (name : List ℕ) (i : ℕ) → is_digest d ≡ true → IsSearchInRange (Ok i) (length d.pairs) → IsBinarySearchResult (λ p. slice_cmp nat_cmp p.owner name) d.pairs (Ok i) → at_or_below name d.pairs ≡ i + 1
+place-found d name i is l same = behind-found name d.pairs i (above-from_is_digest d is) l same
+
+pub place-missing : (d : Digest) (name : List ℕ) (i : ℕ) → is_digest d ≡ true → IsSearchInRange (Err i) (length d.pairs) → IsBinarySearchResult (λ p. slice_cmp nat_cmp p.owner name) d.pairs (Err i) → at_or_below name d.pairs ≡ i
+place-missing d name i is l parted = before-missing name d.pairs i (above-from_is_digest d is) l parted
+
+pub place-at : (d : Digest) (name : List ℕ) (i : ℕ) (p : Pair) → is_digest d ≡ true → i < length d.pairs → ((e : Pair) → p ≡ get_or d.pairs i e) → pointwise nat_eq p.owner name ≡ true → at_or_below name d.pairs ≡ i + 1
+place-at d name i p is l at same = behind-found name d.pairs i (above-from_is_digest d is) l (equal-at d.pairs name i p at same)

@@ -1,7 +1,8 @@
 -- Digests as plain data, and how they are read.
-use Rattle.std.specs.Prelude.{ℕ, Bool, true, ◌&&◌, List, find, nat_eq, Option, Some, None}
+use Rattle.std.specs.Prelude.{ℕ, Bool, true, ◌&&◌, List, find, count_by, nat_eq, Option, Some, None}
 use Rattle.std.specs.Option.{option_map_or}
-use Rattle.std.specs.Cmp.Lexicographic.{pointwise}
+use Rattle.std.specs.Ordering.{nat_cmp, is_le}
+use Rattle.std.specs.Cmp.Lexicographic.{slice_cmp, pointwise}
 use Rattle.sb_types.specs.Limits.{text_lt}
 use Rattle.sb_holdings.specs.Plain.{is_from}
 
@@ -42,3 +43,7 @@ pair_at owner pairs = find (λ pair. pointwise nat_eq pair.owner owner) pairs
 -- the version up to which an owner's writes are held, 0 where the digest does not name it
 abbrev pub held_in : Digest → List ℕ → ℕ
 held_in d owner = option_map_or (λ pair. pair.held) (pair_at owner d.pairs) 0
+
+-- how many pairs' owners are the owner or before it
+abbrev pub at_or_below : List ℕ → List Pair → ℕ
+at_or_below owner pairs = count_by (λ pair. is_le (slice_cmp nat_cmp pair.owner owner)) pairs

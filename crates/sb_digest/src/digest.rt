@@ -3,7 +3,7 @@ ghost use Rattle.std.specs.Prelude.{◌≡◌, ◌≤◌, ◌+◌, ◌&&◌, [],
 ghost use Rattle.std.specs.List.{list_all};
 ghost use Rattle.std.specs.Option.{option_copied};
 ghost use Rattle.sb_holdings.specs.Plain.{is_from};
-ghost use Rattle.sb_digest.specs.Digests.{digest_of, is_below, covers, held_in};
+ghost use Rattle.sb_digest.specs.Digests.{digest_of, is_below, covers, held_in, at_or_below};
 ghost use Rattle.sb_digest.specs.Lengths.{bound_length, pair_length, digest_length};
 ghost use Rattle.sb_digest.specs.Limits.{are_pairs_above, is_range, are_digest_parts, is_bound, is_pair, is_digest};
 
@@ -302,10 +302,12 @@ impl Digest {
         number
     }
 
-    /// The same number, and the place of the next pair, at which to look for the next owner's. It takes a step where the
-    /// owner's pair is at `place`, as it is where all owners in turn have one, and else a search.
+    /// The same number, and the place of the next pair, at which to look for the next owner's: as many as there are pairs of
+    /// owners at or below this one. It takes a step where the owner's pair is at `place`, as it is where all owners in turn
+    /// have one, and else a search.
     pub fn number_from(&self, owner: &Name, place: usize) -> (u64, usize)
         ensures number { result.0 ≡ held_in self.now owner.now }
+        ensures place { result.1 ≡ at_or_below owner.now self.now.pairs }
     {
         if let Some(pair) = self.pairs.get(place) {
             if pair.owner == *owner {
