@@ -11,14 +11,14 @@ use sb_types::{Entry, Fault, Name};
 use std::alloc::Global;
 use std::marker::Model;
 
-/// What is still to be sent of one owner: its next entry, and those behind it.
+/// What is still to be sent of one owner: its next entry, and those after it.
 #[derive(Drop)]
 pub struct Cursor<'a> {
     owner: Name,
     table: &'a Table,
     /// The version up to which the peer holds the owner's writes.
     after: u64,
-    /// How many of the owner's offered entries are behind the cursor.
+    /// How many of the owner's offered entries it has passed.
     rank: u64,
     entry: &'a Entry,
     later: After<'a>,
@@ -41,7 +41,7 @@ impl<'a> Model for Cursor<'a> {
 }
 
 impl<'a> Cursor<'a> {
-    /// The first entry of a table above a version, and those behind it, where there is one.
+    /// The first entry of a table above a version, and those after it, where there is one.
     fn new(owner: Name, table: &'a Table, after: u64) -> Option<Cursor<'a>>
         ensures part { result ≡ part_of (ranked_of owner table.now after) }
     {
@@ -71,7 +71,7 @@ impl<'a> Cursor<'a> {
         self.after
     }
 
-    /// How many entries of the owner are offered, those behind the cursor too. It takes a step for each, but where the
+    /// How many entries of the owner are offered, those that it has passed too. It takes a step for each, but where the
     /// peer holds nothing of the owner.
     pub fn count(&self) -> u64
         ensures count { result ≡ self.now.next.count }
@@ -89,7 +89,7 @@ impl<'a> Cursor<'a> {
         self.entry
     }
 
-    /// What is to be sent behind the next entry, where there is something.
+    /// What is to be sent after the next entry, where there is something.
     pub fn advance(mut self) -> Option<Cursor<'a>>
         ensures later { result ≡ part_of self.entry.later }
     {
