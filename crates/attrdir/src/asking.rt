@@ -119,7 +119,11 @@ fn going_on<'a>(
 }
 
 /// One page of a node's rows.
-fn page_of<'a>(rt: &HostRuntime, control: &'a str, ask: Ask) -> Result<Rows, Failure<'a>> {
+pub(crate) fn page_of<'a>(
+    rt: &HostRuntime,
+    control: &'a str,
+    ask: Ask,
+) -> Result<Rows, Failure<'a>> {
     let after = ask.after;
     let request = Message::Ask(ask);
     match answer_of(rt, control, &request)? {
@@ -129,7 +133,7 @@ fn page_of<'a>(rt: &HostRuntime, control: &'a str, ask: Ask) -> Result<Rows, Fai
 }
 
 /// The place of the last row of a page, where more follow.
-fn place_behind(page: &Rows) -> Option<(Name, Key)> {
+pub(crate) fn place_behind(page: &Rows) -> Option<(Name, Key)> {
     if !page.more() {
         return None;
     }
@@ -144,25 +148,6 @@ pub(crate) enum Form {
     Text,
     /// A JSON object of a row.
     Json,
-}
-
-/// The page that answers a question, and the question for what is behind it, where more rows follow.
-pub(crate) fn ask_page<'a>(
-    rt: &HostRuntime,
-    control: &'a str,
-    ask: Ask,
-) -> Result<(Rows, Option<Ask>), Failure<'a>> {
-    let page = page_of(rt, control, ask)?;
-    let after = place_behind(&page);
-    let behind = match after {
-        Some(_) => Some(Ask {
-            owner: ask.owner,
-            prefix: ask.prefix,
-            after,
-        }),
-        None => None,
-    };
-    Ok((page, behind))
 }
 
 fn print_page(rt: &HostRuntime, page: &Rows, form: Form) -> Result<(), Fault> {
@@ -183,11 +168,11 @@ pub(crate) fn print_all<'a>(
 ) -> Result<(), Failure<'a>> {
     let mut ask = asked;
     for _ in 0..u64::MAX {
-        let (page, behind) = ask_page(rt, control, ask)?;
+        let page = page_of(rt, control, ask)?;
         print_page(rt, &page, form)?;
-        match behind {
-            Some(next) => ask = next,
-            None => return Ok(()),
+        ask.after = place_behind(&page);
+        if ask.after.is_none() {
+            return Ok(());
         }
     }
     Err(Failure::at(Place::Control(control), Fault::TurnsSpent))

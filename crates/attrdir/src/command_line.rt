@@ -193,7 +193,7 @@ fn run_watch<'a>(rt: &HostRuntime, given: &ArgMatches<'a>) -> Result<u8, Failure
         every: given.get_one::<u64>("every").unwrap_or(0),
         count: given.get_one::<u64>("count").unwrap_or(0),
     };
-    watch(rt, value(given, "control"), watched)?;
+    watch(rt, value(given, "control"), &watched)?;
     Ok(0)
 }
 

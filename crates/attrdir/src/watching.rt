@@ -1,5 +1,5 @@
 //! What changes at a node that runs, which is asked again and again.
-use crate::asking::ask_page;
+use crate::asking::{page_of, place_behind};
 use crate::failure::{Failure, Place};
 use sb_codec::{Ask, Row, Rows};
 use sb_listing::{changes, print_changes};
@@ -27,15 +27,15 @@ fn add_rows(rt: &HostRuntime, rows: &mut Vec<Row>, page: &Rows) -> Result<(), Fa
 }
 
 /// All rows that are asked for, page after page.
-fn listing<'a>(rt: &HostRuntime, control: &'a str, asked: Ask) -> Result<Vec<Row>, Failure<'a>> {
+fn listing<'a>(rt: &HostRuntime, control: &'a str, asked: &Ask) -> Result<Vec<Row>, Failure<'a>> {
     let mut rows = Vec::new(rt.alloc());
-    let mut ask = asked;
+    let mut ask = *asked;
     for _ in 0..u64::MAX {
-        let (page, behind) = ask_page(rt, control, ask)?;
+        let page = page_of(rt, control, ask)?;
         add_rows(rt, &mut rows, &page)?;
-        match behind {
-            Some(next) => ask = next,
-            None => return Ok(rows),
+        ask.after = place_behind(&page);
+        if ask.after.is_none() {
+            return Ok(rows);
         }
     }
     Err(Failure::at(Place::Control(control), Fault::TurnsSpent))
@@ -53,7 +53,7 @@ fn print_difference(rt: &HostRuntime, earlier: &[Row], later: &[Row]) -> Result<
 pub(crate) fn watch<'a>(
     rt: &HostRuntime,
     control: &'a str,
-    watched: Watched,
+    watched: &Watched,
 ) -> Result<(), Failure<'a>> {
     let turns = match watched.count {
         0 => u64::MAX,
@@ -64,7 +64,7 @@ pub(crate) fn watch<'a>(
         if turn > 0 {
             thread::sleep(rt, Duration::from_millis(watched.every));
         }
-        let rows = listing(rt, control, watched.asked)?;
+        let rows = listing(rt, control, &watched.asked)?;
         print_difference(rt, &last, &rows)?;
         last = rows;
     }

@@ -15,7 +15,8 @@ const DIGEST: &[u8] = b"\xa7\x01\x00\x00\x00\x1c\x02\x01\x01a\x01c\x00\x02\
     \x01a\x00\x00\x00\x00\x00\x00\x00\x00\x01b\x00\x00\x00\x00\x00\x00\x00\x07";
 
 /// Of a a weight and a removal, of b an address and a flag.
-const DELTA: &[u8] = b"\xa7\x01\x00\x00\x00\x54\x03\x00\x02\x01a\x00\x00\x00\x00\x00\x00\x00\x00\x00\x02\
+const DELTA: &[u8] =
+    b"\xa7\x01\x00\x00\x00\x54\x03\x00\x02\x01a\x00\x00\x00\x00\x00\x00\x00\x00\x00\x02\
     \x01w\x00\x00\x00\x00\x00\x00\x00\x01\x02\x00\x00\x00\x00\x00\x00\x00\x05\
     \x01x\x00\x00\x00\x00\x00\x00\x00\x02\x00\
     \x01b\x00\x00\x00\x00\x00\x00\x00\x01\x00\x02\
@@ -70,7 +71,15 @@ struct Counts {
 
 impl Counts {
     fn new(counts: [u64; 7]) -> Counts {
-        let [messages, waiting, marks, versions, lengths, kinds, malformed] = counts;
+        let [
+            messages,
+            waiting,
+            marks,
+            versions,
+            lengths,
+            kinds,
+            malformed,
+        ] = counts;
         Counts {
             messages,
             waiting,
@@ -191,7 +200,11 @@ fn each_byte_is_damaged(rt: HostRuntime) -> Result<(), Fail> {
         (DONE, [2_039, 501, 255, 255, 511, 247, 17]),
         (REFUSED, [30, 508, 255, 255, 511, 247, 234]),
     ] {
-        assert_eq!(rt; damaged(rt.alloc(), frame)?, Counts::new(counts), "{frame:?}");
+        assert_eq!(rt;
+            damaged(rt.alloc(), frame)?,
+            Counts::new(counts),
+            "{frame:?}"
+        );
     }
     Ok(())
 }
