@@ -1,8 +1,8 @@
 //! What a crash leaves of a log in files, on disks that stop after so many calls.
-use crate::disks::{Calls, ENDLESS, Store, connect, new_disks};
+use crate::disks::{Calls, ENDLESS, Visit, new_disks, on_disks};
 use sb_log::{SqlLog, WriteLog};
 use sb_types::{Fault, Key, Name, Slot, Value};
-use sqlite::Files;
+use sqlite::{Alter, Connection, Files};
 use sqlite_disk::{Crash, Disk, Memory};
 use std::alloc::Global;
 use std::io;
@@ -27,24 +27,24 @@ struct Progress {
     begun: usize,
 }
 
-fn open<'a>(
-    alloc: Global,
-    disks: &'a mut Files<Memory>,
-    calls: Calls,
-) -> Option<SqlLog<Store<'a>>> {
-    let conn = connect(alloc, disks, calls)?;
+const NOTHING: Progress = Progress {
+    acknowledged: 0,
+    begun: 0,
+};
+
+fn open<S: Alter + Drop>(alloc: Global, conn: Connection<S>) -> Option<SqlLog<S>> {
     let owner = Name::read(b"a").ok()?;
     let cluster = Name::read(b"c").ok()?;
     SqlLog::open(alloc, conn, owner, cluster, 9).ok()
 }
 
-fn put(log: &mut SqlLog<Store<'_>>, key: &[u8], weight: u64) -> Result<u64, Fault> {
+fn put<S: Alter + Drop>(log: &mut SqlLog<S>, key: &[u8], weight: u64) -> Result<u64, Fault> {
     let committed = log.put(&Key::read(key)?, &Slot::Set(Value::weight(weight)?))?;
     Ok(committed.entry().version())
 }
 
 /// Writes until a write fails.
-fn put_three(log: &mut SqlLog<Store<'_>>) -> Progress {
+fn put_three<S: Alter + Drop>(log: &mut SqlLog<S>) -> Progress {
     let mut acknowledged = 0;
     for (begun, key, weight) in [(1, b"x", 5), (2, b"y", 6), (3, b"x", 7)] {
         if put(log, key, weight).is_err() {
@@ -62,13 +62,10 @@ fn put_three(log: &mut SqlLog<Store<'_>>) -> Progress {
 }
 
 /// Opens a log over disks that stop, and writes.
-fn run(alloc: Global, disks: &mut Files<Memory>, calls: Calls) -> Progress {
-    match open(alloc, disks, calls) {
+fn run<S: Alter + Drop>(alloc: Global, conn: Connection<S>) -> Progress {
+    match open(alloc, conn) {
         Some(mut log) => put_three(&mut log),
-        None => Progress {
-            acknowledged: 0,
-            begun: 0,
-        },
+        None => NOTHING,
     }
 }
 
@@ -80,7 +77,7 @@ fn left_whole(alloc: Global, disk: &Memory) -> io::Result<Memory> {
     Ok(whole)
 }
 
-fn held(alloc: Global, log: &mut SqlLog<Store<'_>>) -> Result<Content, Fault> {
+fn held<S: Alter + Drop>(alloc: Global, log: &mut SqlLog<S>) -> Result<Content, Fault> {
     let table = log.load(alloc)?;
     let weight = match table.get(&Key::read(b"x")?) {
         Some((_, Slot::Set(value))) => value.as_weight(),
@@ -89,37 +86,61 @@ fn held(alloc: Global, log: &mut SqlLog<Store<'_>>) -> Result<Content, Fault> {
     Ok((table.len(), table.upto(), weight))
 }
 
+/// What a log holds that is opened again, and the version of its next write.
+fn reopened<S: Alter + Drop>(alloc: Global, conn: Connection<S>) -> Option<(Content, u64)> {
+    let mut log = open(alloc, conn)?;
+    let found = held(alloc, &mut log).ok()?;
+    let next = put(&mut log, b"z", 1).ok()?;
+    Some((found, next))
+}
+
+#[derive(Drop)]
+struct Writing;
+
+impl Visit for Writing {
+    type Told = Progress;
+
+    fn visit<S: Alter + Drop>(self, alloc: Global, conn: Connection<S>) -> Progress {
+        run(alloc, conn)
+    }
+}
+
+#[derive(Drop)]
+struct Reopening;
+
+impl Visit for Reopening {
+    type Told = Option<(Content, u64)>;
+
+    fn visit<S: Alter + Drop>(self, alloc: Global, conn: Connection<S>) -> Option<(Content, u64)> {
+        reopened(alloc, conn)
+    }
+}
+
 /// A log that is opened again holds what was acknowledged, or what was begun, and the next write has the next version.
-fn recovers(
-    rt: &impl Abort,
-    alloc: Global,
-    disks: &mut Files<Memory>,
-    progress: Progress,
-) -> Result<(), Fail> {
-    let mut log = open(alloc, disks, ENDLESS).ok_or("it opens again")?;
-    let found = held(alloc, &mut log)?;
+fn recovers(rt: &impl Abort, told: Option<Option<(Content, u64)>>, progress: Progress) {
     let before = CONTENTS.get(progress.acknowledged).copied();
     let with = CONTENTS.get(progress.begun).copied();
-    assert!(rt;
-        before == Some(found) || with == Some(found),
-        "{found:?} after {progress:?}"
-    );
-    assert_eq!(rt; put(&mut log, b"z", 1), Ok(found.1.saturating_add(1)));
-    Ok(())
+    let is_kept = match told.flatten() {
+        Some((found, next)) => {
+            (before == Some(found) || with == Some(found)) && next == found.1.saturating_add(1)
+        }
+        None => false,
+    };
+    assert!(rt; is_kept, "{told:?} after {progress:?}");
 }
 
 /// Stops the disks, and lets what was not synced stay, and then be lost.
 fn stop(rt: &impl Abort, alloc: Global, calls: Calls) -> Result<Progress, Fail> {
     let mut disks = new_disks(alloc);
-    let progress = run(alloc, &mut disks, calls);
+    let progress = on_disks(alloc, &mut disks, calls, Writing).unwrap_or(NOTHING);
     let mut whole = Files {
         log: left_whole(alloc, &disks.log)?,
         db: left_whole(alloc, &disks.db)?,
     };
-    recovers(rt, alloc, &mut whole, progress)?;
+    recovers(rt, on_disks(alloc, &mut whole, ENDLESS, Reopening), progress);
     disks.log.crash();
     disks.db.crash();
-    recovers(rt, alloc, &mut disks, progress)?;
+    recovers(rt, on_disks(alloc, &mut disks, ENDLESS, Reopening), progress);
     Ok(progress)
 }
 

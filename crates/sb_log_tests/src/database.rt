@@ -1,11 +1,9 @@
 //! A log in a database: what it keeps, also when it is opened again, and the damage that it tells.
-use crate::disks::{ENDLESS, connect, new_disks};
+use crate::disks::{ENDLESS, Visit, new_disks, on_disks};
 use sb_log::{SqlLog, WriteLog};
 use sb_types::{Fault, Key, Name, Slot, Value};
-use sqlite::{Alter, Connection, Error, Files};
-use sqlite_disk::Memory;
+use sqlite::{Alter, Connection, Error};
 use std::alloc::Global;
-use std::process::Abort;
 use std::test::Fail;
 
 const META: &str =
@@ -50,79 +48,137 @@ fn held<S: Alter + Drop>(alloc: Global, log: &mut SqlLog<S>) -> Result<(usize, u
     Ok((table.len(), table.upto()))
 }
 
+// The fault of opening, 0 where it opens.
+fn fault_of_opening<S: Alter + Drop>(alloc: Global, conn: Connection<S>, owner: &[u8]) -> u8 {
+    match open(alloc, conn, owner, 9) {
+        Ok(_) => 0,
+        Err(fault) => fault.number(),
+    }
+}
+
 // The fault of opening after these statements, 0 where it opens.
 fn fault_after(alloc: Global, statements: &[&str]) -> Result<u8, Error> {
     let mut conn = Connection::open_in_memory(alloc)?;
     for sql in statements {
         run(&mut conn, sql)?;
     }
-    match open(alloc, conn, b"a", 9) {
-        Ok(_) => Ok(0),
-        Err(fault) => Ok(fault.number()),
+    Ok(fault_of_opening(alloc, conn, b"a"))
+}
+
+// What it holds at first, what each write is answered, and what it holds then.
+type Kept = ((usize, u64), [Result<u64, Fault>; 6], (usize, u64));
+
+const KEPT: Kept = (
+    (0, 0),
+    [
+        Ok(1),
+        Ok(2),
+        Err(Fault::NothingThere),
+        Ok(3),
+        Ok(4),
+        Err(Fault::VersionsSpent),
+    ],
+    (2, 4),
+);
+
+fn keeps_writes<S: Alter + Drop>(alloc: Global, conn: Connection<S>) -> Result<Kept, Fault> {
+    let mut log = open(alloc, conn, b"a", 4)?;
+    let empty = held(alloc, &mut log)?;
+    let answers = [
+        put(&mut log, b"x", 5),
+        put(&mut log, b"y", 6),
+        remove(&mut log, b"z"),
+        remove(&mut log, b"x"),
+        put(&mut log, b"x", 7),
+        put(&mut log, b"x", 8),
+    ];
+    Ok((empty, answers, held(alloc, &mut log)?))
+}
+
+// Opened again: what it holds, and what the next write is answered, with a lesser greatest version.
+fn reopened<S: Alter + Drop>(
+    alloc: Global,
+    conn: Connection<S>,
+) -> Result<((usize, u64), Result<u64, Fault>), Fault> {
+    let mut log = open(alloc, conn, b"a", 2)?;
+    let found = held(alloc, &mut log)?;
+    Ok((found, put(&mut log, b"x", 8)))
+}
+
+#[derive(Drop)]
+struct Keeping;
+
+impl Visit for Keeping {
+    type Told = Result<Kept, Fault>;
+
+    fn visit<S: Alter + Drop>(self, alloc: Global, conn: Connection<S>) -> Result<Kept, Fault> {
+        keeps_writes(alloc, conn)
     }
 }
 
-fn keeps_writes<S: Alter + Drop>(
-    rt: &impl Abort,
-    alloc: Global,
-    conn: Connection<S>,
-) -> Result<(), Fail> {
-    let mut log = open(alloc, conn, b"a", 4)?;
-    assert_eq!(rt; held(alloc, &mut log), Ok((0, 0)));
-    assert_eq!(rt; put(&mut log, b"x", 5), Ok(1));
-    assert_eq!(rt; put(&mut log, b"y", 6), Ok(2));
-    assert_eq!(rt; remove(&mut log, b"z"), Err(Fault::NothingThere));
-    assert_eq!(rt; remove(&mut log, b"x"), Ok(3));
-    assert_eq!(rt; put(&mut log, b"x", 7), Ok(4));
-    assert_eq!(rt; put(&mut log, b"x", 8), Err(Fault::VersionsSpent));
-    assert_eq!(rt; held(alloc, &mut log), Ok((2, 4)));
-    Ok(())
+#[derive(Drop)]
+struct Reopening;
+
+impl Visit for Reopening {
+    type Told = Result<((usize, u64), Result<u64, Fault>), Fault>;
+
+    fn visit<S: Alter + Drop>(
+        self,
+        alloc: Global,
+        conn: Connection<S>,
+    ) -> Result<((usize, u64), Result<u64, Fault>), Fault> {
+        reopened(alloc, conn)
+    }
 }
 
-// Opened again it holds the same, also with a lesser greatest version.
-fn reopens(rt: &impl Abort, alloc: Global, disks: &mut Files<Memory>) -> Result<(), Fail> {
-    let conn = connect(alloc, disks, ENDLESS).ok_or("it opens again")?;
-    let mut log = open(alloc, conn, b"a", 2)?;
-    assert_eq!(rt; held(alloc, &mut log), Ok((2, 4)));
-    assert_eq!(rt; put(&mut log, b"x", 8), Err(Fault::VersionsSpent));
-    Ok(())
-}
+#[derive(Drop)]
+struct Another;
 
-// Under another name it is another's.
-fn is_anothers(rt: &impl Abort, alloc: Global, disks: &mut Files<Memory>) -> Result<(), Fail> {
-    let conn = connect(alloc, disks, ENDLESS).ok_or("it opens again")?;
-    let fault = match open(alloc, conn, b"b", 9) {
-        Ok(_) => 0,
-        Err(fault) => fault.number(),
-    };
-    assert_eq!(rt; fault, 20);
-    Ok(())
+impl Visit for Another {
+    type Told = u8;
+
+    fn visit<S: Alter + Drop>(self, alloc: Global, conn: Connection<S>) -> u8 {
+        fault_of_opening(alloc, conn, b"b")
+    }
 }
 
 #[test]
 fn a_log_in_memory_keeps_writes(rt: HostRuntime) -> Result<(), Fail> {
     let alloc = rt.alloc();
-    keeps_writes(&rt, alloc, Connection::open_in_memory(alloc)?)
+    let kept = keeps_writes(alloc, Connection::open_in_memory(alloc)?);
+    assert_eq!(rt; kept, Ok(KEPT));
+    Ok(())
 }
 
+// Opened again it holds the same, and under another name it is another's.
 #[test]
-fn a_log_in_files_keeps_writes(rt: HostRuntime) -> Result<(), Fail> {
+fn a_log_in_files_keeps_writes(rt: HostRuntime) {
     let alloc = rt.alloc();
     let mut disks = new_disks(alloc);
-    let conn = connect(alloc, &mut disks, ENDLESS).ok_or("it opens")?;
-    keeps_writes(&rt, alloc, conn)?;
-    reopens(&rt, alloc, &mut disks)?;
-    is_anothers(&rt, alloc, &mut disks)
+    assert_eq!(rt; on_disks(alloc, &mut disks, ENDLESS, Keeping), Some(Ok(KEPT)));
+    let again = Ok(((2, 4), Err(Fault::VersionsSpent)));
+    assert_eq!(rt; on_disks(alloc, &mut disks, ENDLESS, Reopening), Some(again));
+    assert_eq!(rt; on_disks(alloc, &mut disks, ENDLESS, Another), Some(20));
 }
 
 // The third write of a log of two versions.
+fn three_writes<S: Alter + Drop>(
+    alloc: Global,
+    conn: Connection<S>,
+) -> Result<[Result<u64, Fault>; 3], Fault> {
+    let mut log = open(alloc, conn, b"a", 2)?;
+    Ok([
+        put(&mut log, b"x", 1),
+        put(&mut log, b"x", 2),
+        put(&mut log, b"x", 3),
+    ])
+}
+
 #[test]
 fn versions_are_spent(rt: HostRuntime) -> Result<(), Fail> {
     let alloc = rt.alloc();
-    let mut log = open(alloc, Connection::open_in_memory(alloc)?, b"a", 2)?;
-    assert_eq!(rt; put(&mut log, b"x", 1), Ok(1));
-    assert_eq!(rt; put(&mut log, b"x", 2), Ok(2));
-    assert_eq!(rt; put(&mut log, b"x", 3), Err(Fault::VersionsSpent));
+    let answers = three_writes(alloc, Connection::open_in_memory(alloc)?);
+    assert_eq!(rt; answers, Ok([Ok(1), Ok(2), Err(Fault::VersionsSpent)]));
     Ok(())
 }
 

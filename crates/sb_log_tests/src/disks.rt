@@ -1,6 +1,6 @@
 //! Two disks in memory, and a database over them that stops after so many calls.
 use crate::lent::Lent;
-use sqlite::{Connection, FileStore, Files, Options};
+use sqlite::{Alter, Connection, Files, Options};
 use sqlite_disk::{Disk, Fuse, Memory};
 use std::alloc::Global;
 
@@ -16,8 +16,6 @@ pub const ENDLESS: Calls = Calls {
     db: u64::MAX,
 };
 
-pub type Store<'a> = FileStore<Fuse<Lent<'a, Memory>>>;
-
 /// Two empty files.
 pub fn new_disks(alloc: Global) -> Files<Memory> {
     Files {
@@ -26,12 +24,21 @@ pub fn new_disks(alloc: Global) -> Files<Memory> {
     }
 }
 
-/// A database over both files, where it can be opened.
-pub fn connect<'a>(
+/// What is done with a database, whatever store it is over.
+pub trait Visit {
+    type Told;
+
+    fn visit<S: Alter + Drop>(self, alloc: Global, conn: Connection<S>) -> Self::Told;
+}
+
+/// What comes of a visit to a database over both files, where it can be opened. It is the one place that names the store: each function
+/// that does is dear to prove.
+pub fn on_disks<V: Visit + Drop>(
     alloc: Global,
-    disks: &'a mut Files<Memory>,
+    disks: &mut Files<Memory>,
     calls: Calls,
-) -> Option<Connection<Store<'a>>> {
+    visitor: V,
+) -> Option<V::Told> {
     let files = Files {
         log: Fuse::new(Lent::new(&mut disks.log), calls.log),
         db: Fuse::new(Lent::new(&mut disks.db), calls.db),
@@ -42,5 +49,6 @@ pub fn connect<'a>(
     if !files.db.may_be_used() {
         return None;
     }
-    Connection::open_files(alloc, files, Options::new(7)).ok()
+    let conn = Connection::open_files(alloc, files, Options::new(7)).ok()?;
+    Some(visitor.visit(alloc, conn))
 }
