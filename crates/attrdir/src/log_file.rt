@@ -18,6 +18,17 @@ fn failure(path: &str, fault: Fault) -> Failure<'_> {
     }
 }
 
+/// Why a file was not opened.
+fn fault_of(error: &Error) -> Fault {
+    match error {
+        Error::SqliteFailure(ErrorCode::OutOfMemory) => Fault::NoMemory,
+        Error::SqliteFailure(ErrorCode::NotADatabase | ErrorCode::DatabaseCorrupt) => {
+            Fault::LogDamaged
+        }
+        _ => Fault::StoreFailed,
+    }
+}
+
 /// A connection to a file that is there. `StoreFailed` where it is not there, or where it can't be opened or another has
 /// it open; `LogDamaged` where it is no database; `NoMemory`.
 fn connect<'a>(
@@ -27,15 +38,10 @@ fn connect<'a>(
     if fs::File::open(rt, path).is_err() {
         return Err(Failure::at(Place::NoLog(path), Fault::StoreFailed));
     }
-    let fault = match Connection::open(rt, path) {
-        Ok(conn) => return Ok(conn),
-        Err(Error::SqliteFailure(ErrorCode::OutOfMemory)) => Fault::NoMemory,
-        Err(Error::SqliteFailure(ErrorCode::NotADatabase | ErrorCode::DatabaseCorrupt)) => {
-            Fault::LogDamaged
-        }
-        Err(_) => Fault::StoreFailed,
-    };
-    Err(failure(path, fault))
+    match Connection::open(rt, path) {
+        Ok(conn) => Ok(conn),
+        Err(error) => Err(failure(path, fault_of(&error))),
+    }
 }
 
 /// The log of an owner of a cluster, in a file that is there; an empty one becomes a new log. It gives versions up to
@@ -54,6 +60,13 @@ pub(crate) fn open_log<'a>(
     }
 }
 
+/// Prints what a log holds, and ends it. The faults of `log_run`, then those of `close`.
+fn print_lines<L: WriteLog>(rt: &HostRuntime, log: L) -> Result<(), Fault> {
+    let mut log = log;
+    let (printed, _) = log_run(rt.alloc(), &mut log, &mut rt.stdout());
+    printed.and(log.close())
+}
+
 /// Prints what the log of an owner of a cluster holds. `BadName` of either name, before the file is looked for; then the
 /// faults of `open_log` and of `log_run`.
 pub(crate) fn print_log<'a>(
@@ -64,9 +77,8 @@ pub(crate) fn print_log<'a>(
 ) -> Result<(), Failure<'a>> {
     let owner = name_of("--name", owner)?;
     let cluster = name_of("--cluster", cluster)?;
-    let mut log = open_log(rt, path, owner, cluster, VERSION_MOST)?;
-    let (printed, _) = log_run(rt.alloc(), &mut log, &mut rt.stdout());
-    match printed.and(log.close()) {
+    let log = open_log(rt, path, owner, cluster, VERSION_MOST)?;
+    match print_lines(rt, log) {
         Ok(()) => Ok(()),
         Err(fault) => Err(failure(path, fault)),
     }

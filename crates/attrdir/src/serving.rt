@@ -2,6 +2,7 @@
 use crate::failure::{Failure, Place, Setting};
 use crate::log_file::open_log;
 use crate::words::name_of;
+use sb_log::WriteLog;
 use sb_run::{Pace, Paths, Ran, run_node};
 use sb_types::{
     BUDGET_LEAST, BUDGET_MOST, Fault, Name, RawSettings, Settings, VERSION_MOST, WORKERS_MOST,
@@ -86,6 +87,44 @@ fn place_of<'a>(rt: &HostRuntime, fault: &Fault, given: &Given<'a>) -> Place<'a>
     }
 }
 
+/// Runs a node over a log. The faults of `run_node`.
+fn run<
+    'a,
+    L: WriteLog + Drop,
+    R: Threads
+        + Wait
+        + Clock
+        + Files
+        + Net<Listener = TcpListener, Stream = TcpStream>
+        + Send
+        + Sync,
+>(
+    rt: &HostRuntime,
+    runtime: &R,
+    given: &Given<'a>,
+    settings: Settings,
+    log: L,
+) -> Result<(), Failure<'a>> {
+    let paths = Paths {
+        sock: given.sock,
+        control: given.control,
+        peers: given.peers.as_slice(),
+    };
+    let ran = run_node(
+        runtime,
+        rt.alloc(),
+        settings,
+        log,
+        &paths,
+        given.pace,
+        &|| tell_listening(rt, given),
+    );
+    match ran {
+        Ok(ran) => print_ran(rt, given, ran),
+        Err(fault) => Err(Failure::at(place_of(rt, &fault, given), fault)),
+    }
+}
+
 /// Runs a node. `BadName` of its name, and then `BadSetting`, before the log is opened; then the faults of `open_log` and
 /// of `run_node`.
 pub(crate) fn serve<
@@ -105,22 +144,5 @@ pub(crate) fn serve<
     };
     let (cluster, max_version) = (settings.cluster(), settings.max_version());
     let log = open_log(rt, given.log, name, cluster, max_version)?;
-    let paths = Paths {
-        sock: given.sock,
-        control: given.control,
-        peers: given.peers.as_slice(),
-    };
-    let ran = run_node(
-        runtime,
-        rt.alloc(),
-        settings,
-        log,
-        &paths,
-        given.pace,
-        &|| tell_listening(rt, given),
-    );
-    match ran {
-        Ok(ran) => print_ran(rt, given, ran),
-        Err(fault) => Err(Failure::at(place_of(rt, &fault, given), fault)),
-    }
+    run(rt, runtime, given, settings, log)
 }

@@ -3,7 +3,7 @@ use crate::layers::{self, WholeDelta};
 use crate::problem::Problem;
 use crate::report::Telling;
 use crate::sample::{Sizes, blocks, full_node};
-use crate::{catch_up, logs};
+use crate::{catch_up, logs, memory};
 use clap::error::ErrorKind;
 use clap::{Arg, ArgAction, ArgMatches, Command, value_parser};
 use sb_breadth::Breadth;
@@ -180,6 +180,7 @@ fn measure(
     telling: Telling,
     log: Option<&str>,
 ) -> Result<(), Problem> {
+    memory::hold(rt, sizes, telling)?;
     let blocks = blocks(rt.alloc(), sizes)?;
     let node = full_node(rt.alloc(), &blocks)?;
     measure_node(rt, sizes, telling, &blocks, &node)?;

@@ -4,10 +4,10 @@ use crate::report::{Measured, Telling};
 use crate::sample::key_at;
 use sb_log::{PlainLog, SqlLog, WriteLog};
 use sb_types::{Fault, KEYS_MOST, Name, Slot, VERSION_MOST, Value};
-use sqlite::{Connection, File, FileStore};
+use sqlite::{Alter, Connection, File, FileStore};
 use std::fs;
 use std::io::Write;
-use std::time::{CpuClock, Instant};
+use std::time::{CpuClock, Duration, Instant};
 
 /// The bytes of a page, which a bare write is compared with.
 const PAGE: [u8; 4096] = [0; 4096];
@@ -41,16 +41,26 @@ pub(crate) fn put_in_memory(rt: &HostRuntime, puts: u64) -> Result<Measured, Pro
     Ok(measured)
 }
 
-/// A log in the file, which is made where it is not there.
-fn open(rt: &HostRuntime, path: &str) -> Result<SqlLog<FileStore<File>>, Problem> {
-    let conn = Connection::open(rt, path).map_err(|_| Fault::StoreFailed)?;
-    Ok(SqlLog::open(rt.alloc(), conn, owner()?, cluster()?, VERSION_MOST)?)
+/// A database in the file, which is made where it is not there.
+fn connect(rt: &HostRuntime, path: &str) -> Result<Connection<FileStore<File>>, Problem> {
+    match Connection::open(rt, path) {
+        Ok(conn) => Ok(conn),
+        Err(_) => Err(Problem::Fault(Fault::StoreFailed)),
+    }
+}
+
+fn log_in<S: Alter + Drop>(rt: &HostRuntime, conn: Connection<S>) -> Result<SqlLog<S>, Fault> {
+    SqlLog::open(rt.alloc(), conn, owner()?, cluster()?, VERSION_MOST)
 }
 
 /// Writes into a log in a file, by the write: the time that passed, for each waits until the disk has it.
-fn put_in_file(rt: &HostRuntime, path: &str, puts: u64) -> Result<Measured, Problem> {
+fn put_in_file<S: Alter + Drop>(
+    rt: &HostRuntime,
+    conn: Connection<S>,
+    puts: u64,
+) -> Result<Measured, Problem> {
     let mut measured = Measured::new();
-    let mut log = open(rt, path)?;
+    let mut log = log_in(rt, conn)?;
     let start = Instant::now(rt)?;
     put_all(rt, &mut log, puts)?;
     measured.add(start.elapsed(rt)?);
@@ -73,11 +83,14 @@ fn write_pages(rt: &HostRuntime, path: &str, pages: u64) -> Result<Measured, Pro
     Ok(measured)
 }
 
-/// The opening of the log in the file, by the key that it has: the time of the processor.
-fn open_file(rt: &HostRuntime, path: &str) -> Result<Measured, Problem> {
+/// The opening of the log in a file that was begun to be opened at `start`, by the key that it has: the time of the processor.
+fn open_file<S: Alter + Drop>(
+    rt: &HostRuntime,
+    conn: Connection<S>,
+    start: Duration,
+) -> Result<Measured, Problem> {
     let mut measured = Measured::new();
-    let start = rt.process_cpu_time()?;
-    let mut log = open(rt, path)?;
+    let mut log = log_in(rt, conn)?;
     measured.stop(rt, start)?;
     measured.count(log.load(rt.alloc())?.len() as u64);
     log.close()?;
@@ -93,7 +106,8 @@ pub(crate) fn measure_file(
 ) -> Result<(), Problem> {
     let bare = format!(in rt.alloc(); "{path}.bare")?;
     write_pages(rt, bare.as_str(), puts)?.print(rt, telling, "bare", "write")?;
-    put_in_file(rt, path, puts)?.print(rt, telling, "put-file", "write")?;
-    open_file(rt, path)?.print(rt, telling, "open", "key")?;
+    put_in_file(rt, connect(rt, path)?, puts)?.print(rt, telling, "put-file", "write")?;
+    let start = rt.process_cpu_time()?;
+    open_file(rt, connect(rt, path)?, start)?.print(rt, telling, "open", "key")?;
     Ok(())
 }

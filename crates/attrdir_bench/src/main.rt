@@ -5,6 +5,7 @@ mod catch_up;
 mod command_line;
 mod layers;
 mod logs;
+mod memory;
 mod problem;
 mod report;
 mod sample;

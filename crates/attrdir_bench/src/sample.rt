@@ -12,29 +12,56 @@ pub(crate) struct Sizes {
     pub(crate) rounds: u64,
 }
 
+/// Nine bytes.
 fn owner_at(alloc: Global, index: u64) -> Result<Name, Fault> {
-    Name::read(format!(in alloc; "owner-{index:04}")?.as_bytes())
+    Name::read(format!(in alloc; "node-{index:04}")?.as_bytes())
 }
 
+/// Sixteen bytes, in groups of sixteen keys.
 pub(crate) fn key_at(alloc: Global, index: u64) -> Result<Key, Fault> {
-    Key::read(format!(in alloc; "weight/{index:04}")?.as_bytes())
+    let (group, place) = (index / 16, index % 16);
+    Key::read(format!(in alloc; "grp-{group:03}/attr-{place:02}x")?.as_bytes())
 }
 
-/// An owner's writes of a weight under each of its keys.
-fn block_of(alloc: Global, owner: Name, keys: u64) -> Result<Block, Fault> {
-    let mut entries = Vec::new(alloc);
-    for index in 0..keys {
-        let slot = Slot::Set(Value::weight(index)?);
-        entries.push(Entry::new(key_at(alloc, index)?, index + 1, slot))?;
+/// Half addresses of about sixteen bytes, four tenths weights, a tenth flags.
+fn value_at(alloc: Global, index: u64) -> Result<Value, Fault> {
+    match index % 10 {
+        0..=4 => {
+            let (second, third, fourth) = (index % 7, index % 251, index % 13);
+            let port = 30_000 + index % 9_999;
+            let address = format!(in alloc; "10.{second}.{third}.{fourth}:{port}")?;
+            Value::addr(alloc, address.as_bytes())
+        }
+        5..=8 => Value::weight(index.wrapping_mul(2_654_435_761) % 1_000),
+        _ => Ok(Value::flag(index % 3 == 0)),
     }
-    Block::new(owner, 0, entries)
+}
+
+/// Which key an owner writes in its turn: each once, and not in their order, as after some life.
+fn scattered(owner: u64, turn: u64, keys: u64) -> u64 {
+    if keys % 37 == 0 {
+        return turn;
+    }
+    let at = turn.wrapping_mul(37).wrapping_add(owner);
+    at.checked_rem(keys).unwrap_or(0)
+}
+
+/// An owner's first writes, one under each of its keys.
+fn block_of(alloc: Global, owner: u64, keys: u64) -> Result<Block, Fault> {
+    let mut entries = Vec::new(alloc);
+    for turn in 0..keys {
+        let key = key_at(alloc, scattered(owner, turn, keys))?;
+        let value = value_at(alloc, turn.wrapping_mul(31).wrapping_add(owner))?;
+        entries.push(Entry::new(key, turn + 1, Slot::Set(value)))?;
+    }
+    Block::new(owner_at(alloc, owner)?, 0, entries)
 }
 
 /// A block of each owner.
 pub(crate) fn blocks(alloc: Global, sizes: Sizes) -> Result<Vec<Block>, Fault> {
     let mut blocks = Vec::new(alloc);
-    for index in 0..sizes.owners {
-        blocks.push(block_of(alloc, owner_at(alloc, index)?, sizes.keys)?)?;
+    for owner in 0..sizes.owners {
+        blocks.push(block_of(alloc, owner, sizes.keys)?)?;
     }
     Ok(blocks)
 }
@@ -49,6 +76,15 @@ pub(crate) fn full_node(alloc: Global, blocks: &[Block]) -> Result<Holdings, Fau
     let mut holdings = fresh_node(alloc)?;
     for block in blocks {
         holdings.apply_block(block);
+    }
+    Ok(holdings)
+}
+
+/// A node that holds a block of each owner, with no block beside it.
+pub(crate) fn lone_node(alloc: Global, sizes: Sizes) -> Result<Holdings, Fault> {
+    let mut holdings = fresh_node(alloc)?;
+    for owner in 0..sizes.owners {
+        holdings.apply_block(&block_of(alloc, owner, sizes.keys)?);
     }
     Ok(holdings)
 }

@@ -1,5 +1,6 @@
 //! What a crash leaves of a log in files, on disks that stop after so many calls.
 use crate::disks::{Calls, ENDLESS, Visit, new_disks, on_disks};
+use crate::same;
 use sb_log::{SqlLog, WriteLog};
 use sb_types::{Fault, Key, Name, Slot, Value};
 use sqlite::{Alter, Connection, Files};
@@ -137,10 +138,18 @@ fn stop(rt: &impl Abort, alloc: Global, calls: Calls) -> Result<Progress, Fail> 
         log: left_whole(alloc, &disks.log)?,
         db: left_whole(alloc, &disks.db)?,
     };
-    recovers(rt, on_disks(alloc, &mut whole, ENDLESS, Reopening), progress);
+    recovers(
+        rt,
+        on_disks(alloc, &mut whole, ENDLESS, Reopening),
+        progress,
+    );
     disks.log.crash();
     disks.db.crash();
-    recovers(rt, on_disks(alloc, &mut disks, ENDLESS, Reopening), progress);
+    recovers(
+        rt,
+        on_disks(alloc, &mut disks, ENDLESS, Reopening),
+        progress,
+    );
     Ok(progress)
 }
 
@@ -165,7 +174,11 @@ fn no_call_is_left_out(rt: HostRuntime) -> Result<(), Fail> {
         acknowledged: 3,
         begun: 3,
     };
-    assert_eq!(rt; stop(&rt, rt.alloc(), Calls { log: 50, db: 14 })?, whole);
+    same(
+        &rt,
+        &stop(&rt, rt.alloc(), Calls { log: 50, db: 14 })?,
+        &whole,
+    );
     Ok(())
 }
 

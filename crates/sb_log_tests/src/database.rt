@@ -1,5 +1,6 @@
 //! A log in a database: what it keeps, also when it is opened again, and the damage that it tells.
 use crate::disks::{ENDLESS, Visit, new_disks, on_disks};
+use crate::same;
 use sb_log::{SqlLog, WriteLog};
 use sb_types::{Fault, Key, Name, Slot, Value};
 use sqlite::{Alter, Connection, Error};
@@ -146,7 +147,7 @@ impl Visit for Another {
 fn a_log_in_memory_keeps_writes(rt: HostRuntime) -> Result<(), Fail> {
     let alloc = rt.alloc();
     let kept = keeps_writes(alloc, Connection::open_in_memory(alloc)?);
-    assert_eq!(rt; kept, Ok(KEPT));
+    same(&rt, &kept, &Ok(KEPT));
     Ok(())
 }
 
@@ -155,10 +156,22 @@ fn a_log_in_memory_keeps_writes(rt: HostRuntime) -> Result<(), Fail> {
 fn a_log_in_files_keeps_writes(rt: HostRuntime) {
     let alloc = rt.alloc();
     let mut disks = new_disks(alloc);
-    assert_eq!(rt; on_disks(alloc, &mut disks, ENDLESS, Keeping), Some(Ok(KEPT)));
+    same(
+        &rt,
+        &on_disks(alloc, &mut disks, ENDLESS, Keeping),
+        &Some(Ok(KEPT)),
+    );
     let again = Ok(((2, 4), Err(Fault::VersionsSpent)));
-    assert_eq!(rt; on_disks(alloc, &mut disks, ENDLESS, Reopening), Some(again));
-    assert_eq!(rt; on_disks(alloc, &mut disks, ENDLESS, Another), Some(20));
+    same(
+        &rt,
+        &on_disks(alloc, &mut disks, ENDLESS, Reopening),
+        &Some(again),
+    );
+    same(
+        &rt,
+        &on_disks(alloc, &mut disks, ENDLESS, Another),
+        &Some(20),
+    );
 }
 
 // The third write of a log of two versions.
@@ -178,7 +191,11 @@ fn three_writes<S: Alter + Drop>(
 fn versions_are_spent(rt: HostRuntime) -> Result<(), Fail> {
     let alloc = rt.alloc();
     let answers = three_writes(alloc, Connection::open_in_memory(alloc)?);
-    assert_eq!(rt; answers, Ok([Ok(1), Ok(2), Err(Fault::VersionsSpent)]));
+    same(
+        &rt,
+        &answers,
+        &Ok([Ok(1), Ok(2), Err(Fault::VersionsSpent)]),
+    );
     Ok(())
 }
 
@@ -284,7 +301,7 @@ fn damage_is_told(rt: HostRuntime) -> Result<(), Fail> {
         ),
     ];
     for (fault, statements) in cases {
-        assert_eq!(rt; fault_after(alloc, statements), Ok(fault));
+        same(&rt, &fault_after(alloc, statements)?, &fault);
     }
     Ok(())
 }

@@ -1,9 +1,9 @@
 //! A log in memory: what it keeps, and what it refuses.
+use crate::same;
 use sb_log::{Committed, PlainLog, WriteLog};
 use sb_table::Table;
 use sb_types::{Entry, Fault, KEYS_MOST, Key, Name, Slot, Value};
 use std::alloc::Global;
-use std::process::Abort;
 use std::test::Fail;
 
 const NAMES: (&[u8], &[u8]) = (b"a", b"sim");
@@ -13,22 +13,28 @@ fn plain_log(alloc: Global, max_version: u64) -> Result<PlainLog, Fault> {
     Ok(PlainLog::new(alloc, Name::read(owner)?, Name::read(cluster)?, max_version))
 }
 
-// The version that a put gave, once the write that it names is the one that was put.
-fn put<L: WriteLog>(rt: &impl Abort, log: &mut L, key: &[u8], slot: Slot) -> Result<u64, Fault> {
+// The version that a put gave; 0, which is none, where the write that it names is not the one that was put.
+fn put<L: WriteLog>(log: &mut L, key: &[u8], slot: Slot) -> Result<u64, Fault> {
     let key = Key::read(key)?;
     let committed: Committed = log.put(&key, &slot)?;
-    assert_eq!(rt; committed.owner().bytes(), NAMES.0);
-    assert_eq!(rt; committed.entry().key().bytes(), key.bytes());
-    assert_eq!(rt; shown(committed.entry().slot()), shown(&slot));
-    Ok(committed.entry().version())
+    let version = committed.entry().version();
+    let is_own = committed.owner().bytes() == NAMES.0;
+    let is_put = is_entry(committed.entry(), key.bytes(), version, shown(&slot));
+    Ok(if is_own && is_put { version } else { 0 })
 }
 
-fn set<L: WriteLog>(rt: &impl Abort, log: &mut L, key: &[u8], weight: u64) -> Result<u64, Fault> {
-    put(rt, log, key, Slot::Set(Value::weight(weight)?))
+fn set<L: WriteLog>(log: &mut L, key: &[u8], weight: u64) -> Result<u64, Fault> {
+    put(log, key, Slot::Set(Value::weight(weight)?))
 }
 
-fn remove<L: WriteLog>(rt: &impl Abort, log: &mut L, key: &[u8]) -> Result<u64, Fault> {
-    put(rt, log, key, Slot::Removed)
+fn remove<L: WriteLog>(log: &mut L, key: &[u8]) -> Result<u64, Fault> {
+    put(log, key, Slot::Removed)
+}
+
+// How many keys a log holds, and its last version.
+fn held<L: WriteLog>(alloc: Global, log: &mut L) -> Result<(usize, u64), Fault> {
+    let table = log.load(alloc)?;
+    Ok((table.len(), table.upto()))
 }
 
 // A removal, a weight or a flag.
@@ -48,113 +54,145 @@ fn is_entry(
     entry.key().bytes() == key && entry.version() == version && shown(entry.slot()) == slot
 }
 
-// x gets weight 5 and is removed, y gets a flag: two entries, and the last version is 3.
-fn keeps_each_last_write<L: WriteLog>(
-    rt: &impl Abort,
-    alloc: Global,
-    log: &mut L,
-) -> Result<(), Fail> {
-    assert_eq!(rt; log.owner().bytes(), NAMES.0);
-    assert_eq!(rt; log.cluster().bytes(), NAMES.1);
-    let empty = log.load(alloc)?;
-    assert_eq!(rt; (empty.len(), empty.upto()), (0, 0));
-    assert_eq!(rt; set(rt, log, b"x", 5), Ok(1));
-    assert_eq!(rt; remove(rt, log, b"x"), Ok(2));
-    assert_eq!(rt; put(rt, log, b"y", Slot::Set(Value::flag(true))), Ok(3));
-    let table = log.load(alloc)?;
-    assert_eq!(rt; (table.len(), table.upto()), (2, 3));
+// Whether the two entries are x, removed at 2, and y, a flag at 3.
+fn are_the_last(table: &Table) -> bool {
     let mut entries = table.after(0);
     match (entries.next(), entries.next()) {
         (Some(first), Some(second)) => {
-            assert!(rt; is_entry(first, b"x", 2, (false, None, None)));
-            assert!(rt; is_entry(second, b"y", 3, (true, None, Some(true))));
+            is_entry(first, b"x", 2, (false, None, None))
+                && is_entry(second, b"y", 3, (true, None, Some(true)))
         }
-        _ => assert!(rt; false),
+        _ => false,
     }
-    Ok(())
 }
 
-// What is refused spends no version and changes nothing.
-fn refuses_idle_removals<L: WriteLog>(
-    rt: &impl Abort,
+// x gets weight 5 and is removed, y gets a flag: what each write is answered, and whether the log then holds each key's last.
+fn each_last_write<L: WriteLog>(
     alloc: Global,
     log: &mut L,
-) -> Result<(), Fail> {
-    assert_eq!(rt; remove(rt, log, b"x"), Err(Fault::NothingThere));
-    assert_eq!(rt; set(rt, log, b"x", 1), Ok(1));
-    assert_eq!(rt; remove(rt, log, b"x"), Ok(2));
-    assert_eq!(rt; remove(rt, log, b"x"), Err(Fault::NothingThere));
-    assert_eq!(rt; remove(rt, log, b"z"), Err(Fault::NothingThere));
-    assert_eq!(rt; set(rt, log, b"x", 7), Ok(3));
-    let table = log.load(alloc)?;
-    assert_eq!(rt; (table.len(), table.upto()), (1, 3));
-    Ok(())
+) -> Result<([Result<u64, Fault>; 3], bool), Fault> {
+    let answers = [
+        set(log, b"x", 5),
+        remove(log, b"x"),
+        put(log, b"y", Slot::Set(Value::flag(true))),
+    ];
+    Ok((answers, are_the_last(&log.load(alloc)?)))
+}
+
+// Removals of what is there and of what is not.
+fn removals<L: WriteLog>(log: &mut L) -> [Result<u64, Fault>; 6] {
+    [
+        remove(log, b"x"),
+        set(log, b"x", 1),
+        remove(log, b"x"),
+        remove(log, b"x"),
+        remove(log, b"z"),
+        set(log, b"x", 7),
+    ]
 }
 
 // With versions up to 2: the third write is refused, and an idle removal for its own reason.
-fn refuses_past_the_greatest<L: WriteLog>(
-    rt: &impl Abort,
-    alloc: Global,
-    log: &mut L,
-) -> Result<(), Fail> {
-    assert_eq!(rt; set(rt, log, b"x", 1), Ok(1));
-    assert_eq!(rt; set(rt, log, b"x", 2), Ok(2));
-    assert_eq!(rt; set(rt, log, b"x", 3), Err(Fault::VersionsSpent));
-    assert_eq!(rt; remove(rt, log, b"x"), Err(Fault::VersionsSpent));
-    assert_eq!(rt; remove(rt, log, b"z"), Err(Fault::NothingThere));
-    let table = log.load(alloc)?;
-    assert_eq!(rt; (table.len(), table.upto()), (1, 2));
-    Ok(())
+fn past_the_greatest<L: WriteLog>(log: &mut L) -> [Result<u64, Fault>; 5] {
+    [
+        set(log, b"x", 1),
+        set(log, b"x", 2),
+        set(log, b"x", 3),
+        remove(log, b"x"),
+        remove(log, b"z"),
+    ]
 }
 
-// With versions up to 4,097: a new key finds no room, one that is there does, and then the versions are spent.
-fn refuses_a_key_too_many<L: WriteLog>(
-    rt: &impl Abort,
-    alloc: Global,
-    log: &mut L,
-) -> Result<(), Fail> {
+// How many of the writes of as many keys as there may be are answered in their turn.
+fn filled<L: WriteLog>(alloc: Global, log: &mut L) -> Result<u64, Fail> {
+    let mut in_turn: u64 = 0;
     for at in 1..=KEYS_MOST as u64 {
         let key = format!(in alloc; "k{at}")?;
-        assert_eq!(rt; set(rt, log, key.as_bytes(), at), Ok(at));
+        if set(log, key.as_bytes(), at) == Ok(at) {
+            in_turn = in_turn.saturating_add(1);
+        }
     }
-    assert_eq!(rt; set(rt, log, b"new", 1), Err(Fault::TableFull));
-    assert_eq!(rt; remove(rt, log, b"new"), Err(Fault::NothingThere));
-    assert_eq!(rt; remove(rt, log, b"k7"), Ok(4097));
-    assert_eq!(rt; set(rt, log, b"new", 1), Err(Fault::TableFull));
-    assert_eq!(rt; set(rt, log, b"k7", 1), Err(Fault::VersionsSpent));
-    let table = log.load(alloc)?;
-    assert_eq!(rt; (table.len(), table.upto()), (4096, 4097));
-    Ok(())
+    Ok(in_turn)
 }
 
-// 10,000 writes over ten keys leave ten entries, the last ten.
-fn keeps_ten_of_many<L: WriteLog>(
-    rt: &impl Abort,
-    alloc: Global,
-    log: &mut L,
-) -> Result<Table, Fail> {
+// Behind those, with versions up to 4,097: a new key finds no room, one that is there does, and then the versions are spent.
+fn a_key_too_many<L: WriteLog>(log: &mut L) -> [Result<u64, Fault>; 5] {
+    [
+        set(log, b"new", 1),
+        remove(log, b"new"),
+        remove(log, b"k7"),
+        set(log, b"new", 1),
+        set(log, b"k7", 1),
+    ]
+}
+
+// How many of 10,000 writes over ten keys are answered in their turn.
+fn many<L: WriteLog>(log: &mut L) -> u64 {
+    let mut in_turn: u64 = 0;
     for round in 0..1000u64 {
         for key in 0..10u8 {
             let version = round * 10 + key as u64 + 1;
-            assert_eq!(rt; set(rt, log, &[b'k', b'0' + key], round), Ok(version));
+            if set(log, &[b'k', b'0' + key], round) == Ok(version) {
+                in_turn = in_turn.saturating_add(1);
+            }
         }
     }
-    let table = log.load(alloc)?;
-    assert_eq!(rt;
-        (table.len(), table.upto(), table.after(9990).count()),
-        (10, 10_000, 10)
-    );
-    Ok(table)
+    in_turn
 }
+
+const SPENT: Result<u64, Fault> = Err(Fault::VersionsSpent);
+
+const FULL: Result<u64, Fault> = Err(Fault::TableFull);
+
+const NOTHING: Result<u64, Fault> = Err(Fault::NothingThere);
 
 #[test]
 fn a_plain_log_keeps_writes(rt: HostRuntime) -> Result<(), Fail> {
     let alloc = rt.alloc();
-    keeps_each_last_write(&rt, alloc, &mut plain_log(alloc, 9)?)?;
-    refuses_idle_removals(&rt, alloc, &mut plain_log(alloc, 9)?)?;
-    refuses_past_the_greatest(&rt, alloc, &mut plain_log(alloc, 2)?)?;
-    refuses_a_key_too_many(&rt, alloc, &mut plain_log(alloc, 4097)?)?;
-    let _ = keeps_ten_of_many(&rt, alloc, &mut plain_log(alloc, 10_000)?)?;
-    assert_eq!(rt; plain_log(alloc, 9)?.close(), Ok(()));
+    let mut log = plain_log(alloc, 9)?;
+    same(&rt, &log.owner().bytes(), &NAMES.0);
+    same(&rt, &log.cluster().bytes(), &NAMES.1);
+    same(&rt, &held(alloc, &mut log), &Ok((0, 0)));
+    let kept = each_last_write(alloc, &mut log);
+    same(&rt, &kept, &Ok(([Ok(1), Ok(2), Ok(3)], true)));
+    same(&rt, &held(alloc, &mut log), &Ok((2, 3)));
+    same(&rt, &log.close(), &Ok(()));
+    Ok(())
+}
+
+// What is refused spends no version and changes nothing.
+#[test]
+fn a_plain_log_refuses(rt: HostRuntime) -> Result<(), Fail> {
+    let alloc = rt.alloc();
+    let mut log = plain_log(alloc, 9)?;
+    let removed = [NOTHING, Ok(1), Ok(2), NOTHING, NOTHING, Ok(3)];
+    same(&rt, &removals(&mut log), &removed);
+    same(&rt, &held(alloc, &mut log), &Ok((1, 3)));
+    let mut short = plain_log(alloc, 2)?;
+    let spent = [Ok(1), Ok(2), SPENT, SPENT, NOTHING];
+    same(&rt, &past_the_greatest(&mut short), &spent);
+    same(&rt, &held(alloc, &mut short), &Ok((1, 2)));
+    Ok(())
+}
+
+#[test]
+fn a_plain_log_is_filled(rt: HostRuntime) -> Result<(), Fail> {
+    let alloc = rt.alloc();
+    let mut log = plain_log(alloc, 4097)?;
+    same(&rt, &filled(alloc, &mut log)?, &4096);
+    let refused = [FULL, NOTHING, Ok(4097), FULL, SPENT];
+    same(&rt, &a_key_too_many(&mut log), &refused);
+    same(&rt, &held(alloc, &mut log), &Ok((4096, 4097)));
+    Ok(())
+}
+
+// 10,000 writes over ten keys leave ten entries, the last ten.
+#[test]
+fn a_plain_log_keeps_ten_of_many(rt: HostRuntime) -> Result<(), Fail> {
+    let alloc = rt.alloc();
+    let mut log = plain_log(alloc, 10_000)?;
+    same(&rt, &many(&mut log), &10_000);
+    same(&rt, &held(alloc, &mut log), &Ok((10, 10_000)));
+    let last = log.load(alloc)?.after(9990).count();
+    same(&rt, &last, &10);
     Ok(())
 }
