@@ -33,10 +33,8 @@ const NOTHING: Progress = Progress {
     begun: 0,
 };
 
-fn open<S: Alter + Drop>(alloc: Global, conn: Connection<S>) -> Option<SqlLog<S>> {
-    let owner = Name::read(b"a").ok()?;
-    let cluster = Name::read(b"c").ok()?;
-    SqlLog::open(alloc, conn, owner, cluster, 9).ok()
+fn open<S: Alter + Drop>(alloc: Global, conn: Connection<S>) -> Result<SqlLog<S>, Fault> {
+    SqlLog::open(alloc, conn, Name::read(b"a")?, Name::read(b"c")?, 9)
 }
 
 fn put<S: Alter + Drop>(log: &mut SqlLog<S>, key: &[u8], weight: u64) -> Result<u64, Fault> {
@@ -65,8 +63,8 @@ fn put_three<S: Alter + Drop>(log: &mut SqlLog<S>) -> Progress {
 /// Opens a log over disks that stop, and writes.
 fn run<S: Alter + Drop>(alloc: Global, conn: Connection<S>) -> Progress {
     match open(alloc, conn) {
-        Some(mut log) => put_three(&mut log),
-        None => NOTHING,
+        Ok(mut log) => put_three(&mut log),
+        Err(_) => NOTHING,
     }
 }
 
@@ -88,11 +86,11 @@ fn held<S: Alter + Drop>(alloc: Global, log: &mut SqlLog<S>) -> Result<Content, 
 }
 
 /// What a log holds that is opened again, and the version of its next write.
-fn reopened<S: Alter + Drop>(alloc: Global, conn: Connection<S>) -> Option<(Content, u64)> {
+fn reopened<S: Alter + Drop>(alloc: Global, conn: Connection<S>) -> Result<(Content, u64), Fault> {
     let mut log = open(alloc, conn)?;
-    let found = held(alloc, &mut log).ok()?;
-    let next = put(&mut log, b"z", 1).ok()?;
-    Some((found, next))
+    let found = held(alloc, &mut log)?;
+    let next = put(&mut log, b"z", 1)?;
+    Ok((found, next))
 }
 
 #[derive(Drop)]
@@ -110,24 +108,25 @@ impl Visit for Writing {
 struct Reopening;
 
 impl Visit for Reopening {
-    type Told = Option<(Content, u64)>;
+    type Told = Result<(Content, u64), Fault>;
 
-    fn visit<S: Alter + Drop>(self, alloc: Global, conn: Connection<S>) -> Option<(Content, u64)> {
+    fn visit<S: Alter + Drop>(
+        self,
+        alloc: Global,
+        conn: Connection<S>,
+    ) -> Result<(Content, u64), Fault> {
         reopened(alloc, conn)
     }
 }
 
 /// A log that is opened again holds what was acknowledged, or what was begun, and the next write has the next version.
-fn recovers(rt: &impl Abort, told: Option<Option<(Content, u64)>>, progress: Progress) {
+fn recovers(rt: &impl Abort, told: (Content, u64), progress: Progress) {
+    let (found, next) = told;
     let before = CONTENTS.get(progress.acknowledged).copied();
     let with = CONTENTS.get(progress.begun).copied();
-    let is_kept = match told.flatten() {
-        Some((found, next)) => {
-            (before == Some(found) || with == Some(found)) && next == found.1.saturating_add(1)
-        }
-        None => false,
-    };
-    assert!(rt; is_kept, "{told:?} after {progress:?}");
+    let is_kept = before == Some(found) || with == Some(found);
+    let is_next = next == found.1.saturating_add(1);
+    assert!(rt; is_kept && is_next, "{told:?} after {progress:?}");
 }
 
 /// Stops the disks, and lets what was not synced stay, and then be lost.
@@ -138,18 +137,12 @@ fn stop(rt: &impl Abort, alloc: Global, calls: Calls) -> Result<Progress, Fail> 
         log: left_whole(alloc, &disks.log)?,
         db: left_whole(alloc, &disks.db)?,
     };
-    recovers(
-        rt,
-        on_disks(alloc, &mut whole, ENDLESS, Reopening),
-        progress,
-    );
+    let kept = on_disks(alloc, &mut whole, ENDLESS, Reopening)??;
+    recovers(rt, kept, progress);
     disks.log.crash();
     disks.db.crash();
-    recovers(
-        rt,
-        on_disks(alloc, &mut disks, ENDLESS, Reopening),
-        progress,
-    );
+    let lost = on_disks(alloc, &mut disks, ENDLESS, Reopening)??;
+    recovers(rt, lost, progress);
     Ok(progress)
 }
 

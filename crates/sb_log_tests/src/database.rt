@@ -1,6 +1,6 @@
 //! A log in a database: what it keeps, also when it is opened again, and the damage that it tells.
 use crate::disks::{ENDLESS, Visit, new_disks, on_disks};
-use crate::same;
+use crate::{same, settled};
 use sb_log::{SqlLog, WriteLog};
 use sb_types::{Fault, Key, Name, Slot, Value};
 use sqlite::{Alter, Connection, Error};
@@ -49,21 +49,26 @@ fn held<S: Alter + Drop>(alloc: Global, log: &mut SqlLog<S>) -> Result<(usize, u
     Ok((table.len(), table.upto()))
 }
 
-// The fault of opening, 0 where it opens.
-fn fault_of_opening<S: Alter + Drop>(alloc: Global, conn: Connection<S>, owner: &[u8]) -> u8 {
+// The number of the fault of opening, 0 where it opens. `NoMemory`.
+fn fault_of_opening<S: Alter + Drop>(
+    alloc: Global,
+    conn: Connection<S>,
+    owner: &[u8],
+) -> Result<u8, Fault> {
     match open(alloc, conn, owner, 9) {
-        Ok(_) => 0,
-        Err(fault) => fault.number(),
+        Ok(_) => Ok(0),
+        Err(Fault::NoMemory) => Err(Fault::NoMemory),
+        Err(fault) => Ok(fault.number()),
     }
 }
 
 // The fault of opening after these statements, 0 where it opens.
-fn fault_after(alloc: Global, statements: &[&str]) -> Result<u8, Error> {
+fn fault_after(alloc: Global, statements: &[&str]) -> Result<u8, Fail> {
     let mut conn = Connection::open_in_memory(alloc)?;
     for sql in statements {
         run(&mut conn, sql)?;
     }
-    Ok(fault_of_opening(alloc, conn, b"a"))
+    Ok(fault_of_opening(alloc, conn, b"a")?)
 }
 
 // What it holds at first, what each write is answered, and what it holds then.
@@ -93,7 +98,7 @@ fn keeps_writes<S: Alter + Drop>(alloc: Global, conn: Connection<S>) -> Result<K
         put(&mut log, b"x", 7),
         put(&mut log, b"x", 8),
     ];
-    Ok((empty, answers, held(alloc, &mut log)?))
+    Ok((empty, settled(answers)?, held(alloc, &mut log)?))
 }
 
 // Opened again: what it holds, and what the next write is answered, with a lesser greatest version.
@@ -103,7 +108,8 @@ fn reopened<S: Alter + Drop>(
 ) -> Result<((usize, u64), Result<u64, Fault>), Fault> {
     let mut log = open(alloc, conn, b"a", 2)?;
     let found = held(alloc, &mut log)?;
-    Ok((found, put(&mut log, b"x", 8)))
+    let [next] = settled([put(&mut log, b"x", 8)])?;
+    Ok((found, next))
 }
 
 #[derive(Drop)]
@@ -136,9 +142,9 @@ impl Visit for Reopening {
 struct Another;
 
 impl Visit for Another {
-    type Told = u8;
+    type Told = Result<u8, Fault>;
 
-    fn visit<S: Alter + Drop>(self, alloc: Global, conn: Connection<S>) -> u8 {
+    fn visit<S: Alter + Drop>(self, alloc: Global, conn: Connection<S>) -> Result<u8, Fault> {
         fault_of_opening(alloc, conn, b"b")
     }
 }
@@ -146,32 +152,23 @@ impl Visit for Another {
 #[test]
 fn a_log_in_memory_keeps_writes(rt: HostRuntime) -> Result<(), Fail> {
     let alloc = rt.alloc();
-    let kept = keeps_writes(alloc, Connection::open_in_memory(alloc)?);
-    same(&rt, &kept, &Ok(KEPT));
+    let kept = keeps_writes(alloc, Connection::open_in_memory(alloc)?)?;
+    same(&rt, &kept, &KEPT);
     Ok(())
 }
 
 // Opened again it holds the same, and under another name it is another's.
 #[test]
-fn a_log_in_files_keeps_writes(rt: HostRuntime) {
+fn a_log_in_files_keeps_writes(rt: HostRuntime) -> Result<(), Fail> {
     let alloc = rt.alloc();
     let mut disks = new_disks(alloc);
-    same(
-        &rt,
-        &on_disks(alloc, &mut disks, ENDLESS, Keeping),
-        &Some(Ok(KEPT)),
-    );
-    let again = Ok(((2, 4), Err(Fault::VersionsSpent)));
-    same(
-        &rt,
-        &on_disks(alloc, &mut disks, ENDLESS, Reopening),
-        &Some(again),
-    );
-    same(
-        &rt,
-        &on_disks(alloc, &mut disks, ENDLESS, Another),
-        &Some(20),
-    );
+    let kept = on_disks(alloc, &mut disks, ENDLESS, Keeping)??;
+    same(&rt, &kept, &KEPT);
+    let again = on_disks(alloc, &mut disks, ENDLESS, Reopening)??;
+    same(&rt, &again, &((2, 4), Err(Fault::VersionsSpent)));
+    let another = on_disks(alloc, &mut disks, ENDLESS, Another)??;
+    same(&rt, &another, &20);
+    Ok(())
 }
 
 // The third write of a log of two versions.
@@ -180,7 +177,7 @@ fn three_writes<S: Alter + Drop>(
     conn: Connection<S>,
 ) -> Result<[Result<u64, Fault>; 3], Fault> {
     let mut log = open(alloc, conn, b"a", 2)?;
-    Ok([
+    settled([
         put(&mut log, b"x", 1),
         put(&mut log, b"x", 2),
         put(&mut log, b"x", 3),
@@ -190,12 +187,8 @@ fn three_writes<S: Alter + Drop>(
 #[test]
 fn versions_are_spent(rt: HostRuntime) -> Result<(), Fail> {
     let alloc = rt.alloc();
-    let answers = three_writes(alloc, Connection::open_in_memory(alloc)?);
-    same(
-        &rt,
-        &answers,
-        &Ok([Ok(1), Ok(2), Err(Fault::VersionsSpent)]),
-    );
+    let answers = three_writes(alloc, Connection::open_in_memory(alloc)?)?;
+    same(&rt, &answers, &[Ok(1), Ok(2), Err(Fault::VersionsSpent)]);
     Ok(())
 }
 

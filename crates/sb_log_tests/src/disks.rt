@@ -1,5 +1,6 @@
 //! Two disks in memory, and a database over them that stops after so many calls.
 use crate::lent::Lent;
+use sb_types::Fault;
 use sqlite::{Alter, Connection, Files, Options};
 use sqlite_disk::{Disk, Fuse, Memory};
 use std::alloc::Global;
@@ -31,24 +32,24 @@ pub trait Visit {
     fn visit<S: Alter + Drop>(self, alloc: Global, conn: Connection<S>) -> Self::Told;
 }
 
-/// What comes of a visit to a database over both files, where it can be opened. It is the one place that names the store: each function
+/// What comes of a visit to a database over both files. `StoreFailed` where it can't be opened. It is the one place that names the store: each function
 /// that does is dear to prove.
 pub fn on_disks<V: Visit + Drop>(
     alloc: Global,
     disks: &mut Files<Memory>,
     calls: Calls,
     visitor: V,
-) -> Option<V::Told> {
+) -> Result<V::Told, Fault> {
     let files = Files {
         log: Fuse::new(Lent::new(&mut disks.log), calls.log),
         db: Fuse::new(Lent::new(&mut disks.db), calls.db),
     };
     if !files.log.may_be_used() {
-        return None;
+        return Err(Fault::StoreFailed);
     }
     if !files.db.may_be_used() {
-        return None;
+        return Err(Fault::StoreFailed);
     }
-    let conn = Connection::open_files(alloc, files, Options::new(7)).ok()?;
-    Some(visitor.visit(alloc, conn))
+    let conn = Connection::open_files(alloc, files, Options::new(7)).ok();
+    Ok(visitor.visit(alloc, conn.ok_or(Fault::StoreFailed)?))
 }

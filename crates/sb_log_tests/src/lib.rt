@@ -14,6 +14,8 @@ mod lent;
 mod plain;
 
 #[cfg(test)]
+use sb_types::Fault;
+#[cfg(test)]
 use std::fmt::Debug;
 #[cfg(test)]
 use std::process::Abort;
@@ -22,4 +24,15 @@ use std::process::Abort;
 #[cfg(test)]
 fn same<T: PartialEq + Debug>(rt: &impl Abort, found: &T, wanted: &T) {
     assert_eq!(rt; found, wanted);
+}
+
+/// The answers, unless memory ran out at one of them.
+#[cfg(test)]
+fn settled<const N: usize>(
+    answers: [Result<u64, Fault>; N],
+) -> Result<[Result<u64, Fault>; N], Fault> {
+    match answers.contains(&Err(Fault::NoMemory)) {
+        true => Err(Fault::NoMemory),
+        false => Ok(answers),
+    }
 }

@@ -1,5 +1,5 @@
 //! A log in memory: what it keeps, and what it refuses.
-use crate::same;
+use crate::{same, settled};
 use sb_log::{Committed, PlainLog, WriteLog};
 use sb_table::Table;
 use sb_types::{Entry, Fault, KEYS_MOST, Key, Name, Slot, Value};
@@ -76,7 +76,7 @@ fn each_last_write<L: WriteLog>(
         remove(log, b"x"),
         put(log, b"y", Slot::Set(Value::flag(true))),
     ];
-    Ok((answers, are_the_last(&log.load(alloc)?)))
+    Ok((settled(answers)?, are_the_last(&log.load(alloc)?)))
 }
 
 // Removals of what is there and of what is not.
@@ -107,7 +107,7 @@ fn filled<L: WriteLog>(alloc: Global, log: &mut L) -> Result<u64, Fail> {
     let mut in_turn: u64 = 0;
     for at in 1..=KEYS_MOST as u64 {
         let key = format!(in alloc; "k{at}")?;
-        if set(log, key.as_bytes(), at) == Ok(at) {
+        if set(log, key.as_bytes(), at)? == at {
             in_turn = in_turn.saturating_add(1);
         }
     }
@@ -126,17 +126,17 @@ fn a_key_too_many<L: WriteLog>(log: &mut L) -> [Result<u64, Fault>; 5] {
 }
 
 // How many of 10,000 writes over ten keys are answered in their turn.
-fn many<L: WriteLog>(log: &mut L) -> u64 {
+fn many<L: WriteLog>(log: &mut L) -> Result<u64, Fault> {
     let mut in_turn: u64 = 0;
     for round in 0..1000u64 {
         for key in 0..10u8 {
             let version = round * 10 + key as u64 + 1;
-            if set(log, &[b'k', b'0' + key], round) == Ok(version) {
+            if set(log, &[b'k', b'0' + key], round)? == version {
                 in_turn = in_turn.saturating_add(1);
             }
         }
     }
-    in_turn
+    Ok(in_turn)
 }
 
 const SPENT: Result<u64, Fault> = Err(Fault::VersionsSpent);
@@ -151,10 +151,10 @@ fn a_plain_log_keeps_writes(rt: HostRuntime) -> Result<(), Fail> {
     let mut log = plain_log(alloc, 9)?;
     same(&rt, &log.owner().bytes(), &NAMES.0);
     same(&rt, &log.cluster().bytes(), &NAMES.1);
-    same(&rt, &held(alloc, &mut log), &Ok((0, 0)));
-    let kept = each_last_write(alloc, &mut log);
-    same(&rt, &kept, &Ok(([Ok(1), Ok(2), Ok(3)], true)));
-    same(&rt, &held(alloc, &mut log), &Ok((2, 3)));
+    same(&rt, &held(alloc, &mut log)?, &(0, 0));
+    let kept = each_last_write(alloc, &mut log)?;
+    same(&rt, &kept, &([Ok(1), Ok(2), Ok(3)], true));
+    same(&rt, &held(alloc, &mut log)?, &(2, 3));
     same(&rt, &log.close(), &Ok(()));
     Ok(())
 }
@@ -165,12 +165,12 @@ fn a_plain_log_refuses(rt: HostRuntime) -> Result<(), Fail> {
     let alloc = rt.alloc();
     let mut log = plain_log(alloc, 9)?;
     let removed = [NOTHING, Ok(1), Ok(2), NOTHING, NOTHING, Ok(3)];
-    same(&rt, &removals(&mut log), &removed);
-    same(&rt, &held(alloc, &mut log), &Ok((1, 3)));
+    same(&rt, &settled(removals(&mut log))?, &removed);
+    same(&rt, &held(alloc, &mut log)?, &(1, 3));
     let mut short = plain_log(alloc, 2)?;
     let spent = [Ok(1), Ok(2), SPENT, SPENT, NOTHING];
-    same(&rt, &past_the_greatest(&mut short), &spent);
-    same(&rt, &held(alloc, &mut short), &Ok((1, 2)));
+    same(&rt, &settled(past_the_greatest(&mut short))?, &spent);
+    same(&rt, &held(alloc, &mut short)?, &(1, 2));
     Ok(())
 }
 
@@ -180,8 +180,8 @@ fn a_plain_log_is_filled(rt: HostRuntime) -> Result<(), Fail> {
     let mut log = plain_log(alloc, 4097)?;
     same(&rt, &filled(alloc, &mut log)?, &4096);
     let refused = [FULL, NOTHING, Ok(4097), FULL, SPENT];
-    same(&rt, &a_key_too_many(&mut log), &refused);
-    same(&rt, &held(alloc, &mut log), &Ok((4096, 4097)));
+    same(&rt, &settled(a_key_too_many(&mut log))?, &refused);
+    same(&rt, &held(alloc, &mut log)?, &(4096, 4097));
     Ok(())
 }
 
@@ -190,8 +190,8 @@ fn a_plain_log_is_filled(rt: HostRuntime) -> Result<(), Fail> {
 fn a_plain_log_keeps_ten_of_many(rt: HostRuntime) -> Result<(), Fail> {
     let alloc = rt.alloc();
     let mut log = plain_log(alloc, 10_000)?;
-    same(&rt, &many(&mut log), &10_000);
-    same(&rt, &held(alloc, &mut log), &Ok((10, 10_000)));
+    same(&rt, &many(&mut log)?, &10_000);
+    same(&rt, &held(alloc, &mut log)?, &(10, 10_000));
     let last = log.load(alloc)?.after(9990).count();
     same(&rt, &last, &10);
     Ok(())
