@@ -1,6 +1,7 @@
 //! Frames by hand, in any pieces and through any writer.
 
 use crate::wire::{BYE, DIGEST_A, HELLO_A, greatest_frame};
+use crate::{same, same_at};
 use sb_codec::{Bye, Hello, Message};
 use sb_frames::{Frames, send, send_telling};
 use sb_types::{Block, Delta, Entry, Fault, Key, Name, Slot, Value};
@@ -122,47 +123,81 @@ fn count_messages(alloc: Global, frames: &mut Frames) -> Result<usize, Fault> {
     Ok(4)
 }
 
-#[test]
-fn a_frame_in_any_pieces(rt: HostRuntime) -> Result<(), Fail> {
-    let alloc = rt.alloc();
-    assert_eq!(rt; FRAME.len(), 40);
-    let mut frames = Frames::new(alloc);
+/// How many messages come before the last byte of `FRAME`, which comes byte by byte, and then.
+fn count_in_bytes(alloc: Global, frames: &mut Frames) -> Result<[usize; 2], Fault> {
+    let mut early = 0_usize;
     for byte in FRAME {
-        assert_eq!(rt; count_messages(alloc, &mut frames)?, 0);
-        fed(&mut frames, &[*byte])?;
+        early = early.saturating_add(count_messages(alloc, frames)?);
+        fed(frames, &[*byte])?;
     }
-    assert_eq!(rt; count_messages(alloc, &mut frames)?, 1);
+    Ok([early, count_messages(alloc, frames)?])
+}
 
-    let (front, last) = FRAME.split_at(39);
-    fed(&mut frames, front)?;
-    assert_eq!(rt; count_messages(alloc, &mut frames)?, 0);
-    fed(&mut frames, last)?;
-    assert_eq!(rt; count_messages(alloc, &mut frames)?, 1);
+/// How many messages come behind each of these pieces.
+fn count_behind(
+    alloc: Global,
+    frames: &mut Frames,
+    pieces: [&[u8]; 4],
+) -> Result<[usize; 4], Fault> {
+    let mut counts = [0; 4];
+    for (count, piece) in counts.iter_mut().zip(pieces) {
+        fed(frames, piece)?;
+        *count = count_messages(alloc, frames)?;
+    }
+    Ok(counts)
+}
 
+/// `FRAME` twice.
+fn twice() -> [u8; 80] {
     let mut twice = [0; 80];
     twice[..40].copy_from_slice(FRAME);
     twice[40..].copy_from_slice(FRAME);
-    fed(&mut frames, &twice)?;
-    assert_eq!(rt; count_messages(alloc, &mut frames)?, 2);
-    assert_eq!(rt; count_messages(alloc, &mut frames)?, 0);
+    twice
+}
+
+#[test]
+fn a_frame_in_any_pieces(rt: HostRuntime) -> Result<(), Fail> {
+    let alloc = rt.alloc();
+    same(&rt, &FRAME.len(), &40);
+    let (front, last) = FRAME.split_at(39);
+    let pieces = [front, last, &twice(), b""];
+    let mut frames = Frames::new(alloc);
+    let in_bytes = count_in_bytes(alloc, &mut frames)?;
+    let counts = count_behind(alloc, &mut frames, pieces)?;
+    same(&rt, &(in_bytes, counts), &([0, 1], [0, 1, 2, 0]));
     Ok(())
+}
+
+/// How many bytes are held before a message is asked for, and whether one comes.
+fn held(frames: &mut Frames) -> Result<(usize, bool), Fault> {
+    let held = frames.held();
+    Ok((held, taken(frames)?.is_some()))
+}
+
+/// What is held of two frames and the front of a third, each time that a message is asked for.
+fn held_in_turn(frames: &mut Frames) -> Result<[(usize, bool); 3], Fault> {
+    fed(frames, FRAME)?;
+    fed(frames, FRAME)?;
+    fed(frames, &FRAME[..17])?;
+    Ok([held(frames)?, held(frames)?, held(frames)?])
+}
+
+/// What the end would be there, the fault where a frame comes in its place, and what is then held.
+fn broken_off(frames: &mut Frames) -> Result<(Result<(), Fault>, Option<Fault>, usize), Fault> {
+    let end = frames.end();
+    fed(frames, FRAME)?;
+    let fault = taken(frames).err();
+    Ok((end, fault, frames.held()))
 }
 
 #[test]
 fn what_was_not_handed_out_is_held(rt: HostRuntime) -> Result<(), Fail> {
     let mut frames = Frames::new(rt.alloc());
-    fed(&mut frames, FRAME)?;
-    fed(&mut frames, FRAME)?;
-    fed(&mut frames, &FRAME[..17])?;
-    for held in [97usize, 57, 17] {
-        assert_eq!(rt; frames.held(), held);
-        let is_whole = taken(&mut frames)?.is_some();
-        assert_eq!(rt; is_whole, held > 17);
-    }
-    assert_eq!(rt; frames.end(), Err(Fault::Truncated));
-    fed(&mut frames, FRAME)?;
-    assert!(rt; matches!(taken(&mut frames), Err(Fault::Malformed(3))));
-    assert_eq!(rt; frames.held(), 0);
+    let turns = held_in_turn(&mut frames)?;
+    let found = (turns, broken_off(&mut frames)?);
+    let wanted = [(97, true), (57, true), (17, false)];
+    let last = (Err(Fault::Truncated), Some(Fault::Malformed(3)), 0);
+    same(&rt, &found, &(wanted, last));
     Ok(())
 }
 
@@ -204,31 +239,62 @@ fn is_digest(message: &Message) -> bool {
     digest.want() && is_whole && pair.owner.bytes() == b"a".as_slice() && pair.upto == 0
 }
 
+/// Whether it is the Bye that `BYE` spells.
+fn is_bye(message: &Message) -> bool {
+    matches!(message, Message::Bye(bye) if bye.reason() == 1)
+}
+
+/// Whether the Hello goes out as `HELLO_A`, and that is read as it.
+fn hello_both_ways(alloc: Global) -> Result<(bool, bool), Fault> {
+    let (cluster, node) = (Name::read(b"c1")?, Name::read(b"a")?);
+    let hello = Message::Hello(Hello { cluster, node });
+    let is_sent = goes_out_as(alloc, &hello, HELLO_A)?;
+    match read(alloc, HELLO_A)? {
+        Some(message) => Ok((is_sent, is_hello(&message))),
+        None => Ok((is_sent, false)),
+    }
+}
+
+/// Whether what `DIGEST_A` is read as goes out as it, and is the digest.
+fn digest_both_ways(alloc: Global) -> Result<(bool, bool), Fault> {
+    match read(alloc, DIGEST_A)? {
+        Some(message) => Ok((goes_out_as(alloc, &message, DIGEST_A)?, is_digest(&message))),
+        None => Ok((false, false)),
+    }
+}
+
+/// Whether the Bye goes out as `BYE`, and that is read as it.
+fn bye_both_ways(alloc: Global) -> Result<(bool, bool), Fault> {
+    let is_sent = goes_out_as(alloc, &Message::Bye(Bye::new(1)?), BYE)?;
+    match read(alloc, BYE)? {
+        Some(message) => Ok((is_sent, is_bye(&message))),
+        None => Ok((is_sent, false)),
+    }
+}
+
 #[test]
 fn frames_of_other_kinds(rt: HostRuntime) -> Result<(), Fail> {
     let alloc = rt.alloc();
-    let (cluster, node) = (Name::read(b"c1")?, Name::read(b"a")?);
-    let hello = Message::Hello(Hello { cluster, node });
-    assert!(rt; goes_out_as(alloc, &hello, HELLO_A)?);
-    let Some(message) = read(alloc, HELLO_A)? else {
-        return Err("no message".into());
-    };
-    assert!(rt; is_hello(&message));
-
-    assert_eq!(rt; DIGEST_A.len(), 22);
-    let Some(message) = read(alloc, DIGEST_A)? else {
-        return Err("no message".into());
-    };
-    assert!(rt; goes_out_as(alloc, &message, DIGEST_A)?);
-    assert!(rt; is_digest(&message));
-
-    let bye = Message::Bye(Bye::new(1)?);
-    assert!(rt; goes_out_as(alloc, &bye, BYE)?);
-    let Some(message) = read(alloc, BYE)? else {
-        return Err("no message".into());
-    };
-    assert!(rt; matches!(&message, Message::Bye(bye) if bye.reason() == 1));
+    same(&rt, &DIGEST_A.len(), &22);
+    let found = [
+        hello_both_ways(alloc)?,
+        digest_both_ways(alloc)?,
+        bye_both_ways(alloc)?,
+    ];
+    same(&rt, &found, &[(true, true), (true, true), (true, true)]);
     Ok(())
+}
+
+/// The fault of these bytes, and how bytes and the asking for a message are answered then.
+fn faults(
+    alloc: Global,
+    bytes: &[u8],
+) -> Result<(Option<Fault>, Result<(), Fault>, Option<Fault>), Fault> {
+    let mut frames = Frames::new(alloc);
+    fed(&mut frames, bytes)?;
+    let fault = taken(&mut frames).err();
+    let answer = frames.feed(FRAME);
+    Ok((fault, answer, frames.next().err()))
 }
 
 #[test]
@@ -243,37 +309,42 @@ fn faulty_frames_close(rt: HostRuntime) -> Result<(), Fail> {
         (DESCENDING, Fault::Malformed(3)),
         (LONG_CLUSTER, Fault::Malformed(1)),
     ] {
-        let mut frames = Frames::new(alloc);
-        fed(&mut frames, bytes)?;
-        let answer = taken(&mut frames);
-        assert!(rt; matches!(answer, Err(found) if found == fault), "{bytes:?}");
-        assert_eq!(rt; frames.feed(FRAME), Err(Fault::Closed));
-        assert!(rt; matches!(frames.next(), Err(Fault::Closed)));
+        let wanted = (Some(fault), Err(Fault::Closed), Some(Fault::Closed));
+        same_at(&rt, &bytes, &faults(alloc, bytes)?, &wanted);
     }
     Ok(())
+}
+
+/// What a writer gives a message that takes so many bytes in a write and has room for so many, and whether it has
+/// then written these.
+fn sent_to(
+    alloc: Global,
+    message: &Message,
+    most: usize,
+    room: usize,
+    written: &[u8],
+) -> (Result<(), Fault>, bool) {
+    let mut narrow = Narrow::new(alloc, most, room);
+    let answer = sent(alloc, &mut narrow, message);
+    (answer, narrow.has_written(written))
 }
 
 #[test]
 fn frames_go_out_whole(rt: HostRuntime) -> Result<(), Fail> {
     let alloc = rt.alloc();
     let message = message(alloc)?;
-    let mut narrow = Narrow::new(alloc, 1, 64);
-    sent(alloc, &mut narrow, &message)?;
-    assert!(rt; narrow.has_written(FRAME));
-
-    let mut narrow = Narrow::new(alloc, 1, 17);
-    assert_eq!(rt;
-        sent(alloc, &mut narrow, &message),
-        Err(Fault::WriteFailed(17))
-    );
-    assert!(rt; narrow.has_written(&FRAME[..17]));
-
-    // It takes no byte, and says so.
-    let mut full = Narrow::new(alloc, 0, 64);
-    assert_eq!(rt;
-        sent(alloc, &mut full, &message),
-        Err(Fault::WriteFailed(0))
-    );
+    let found = [
+        sent_to(alloc, &message, 1, 64, FRAME),
+        sent_to(alloc, &message, 1, 17, &FRAME[..17]),
+        // It takes no byte, and says so.
+        sent_to(alloc, &message, 0, 64, b""),
+    ];
+    let wanted = [
+        (Ok(()), true),
+        (Err(Fault::WriteFailed(17)), true),
+        (Err(Fault::WriteFailed(0)), true),
+    ];
+    same(&rt, &found, &wanted);
     Ok(())
 }
 
@@ -289,19 +360,29 @@ fn read_in_pieces(alloc: Global, frame: &[u8], most: usize) -> Result<Option<Mes
     taken(&mut frames)
 }
 
+/// What three writers, which take 1, 7 and 4,096 bytes in a write, give the message of a frame that comes in pieces, and
+/// whether each has written the frame; nothing where there is no message.
+fn read_and_sent(
+    alloc: Global,
+    frame: &[u8],
+) -> Result<Option<[(Result<(), Fault>, bool); 3]>, Fault> {
+    match read_in_pieces(alloc, frame, 4_099)? {
+        Some(message) => Ok(Some([
+            sent_to(alloc, &message, 1, 65_536, frame),
+            sent_to(alloc, &message, 7, 65_536, frame),
+            sent_to(alloc, &message, 4_096, 65_536, frame),
+        ])),
+        None => Ok(None),
+    }
+}
+
 #[test]
 fn the_greatest_frame(rt: HostRuntime) -> Result<(), Fail> {
     let alloc = rt.alloc();
     let frame = greatest_frame(alloc)?;
-    assert_eq!(rt; frame.len(), 65_536);
-    let Some(message) = read_in_pieces(alloc, &frame, 4_099)? else {
-        return Err("no message".into());
-    };
-    for most in [1, 7, 4_096] {
-        let mut narrow = Narrow::new(alloc, most, 65_536);
-        sent(alloc, &mut narrow, &message)?;
-        assert!(rt; narrow.has_written(&frame), "{most}");
-    }
+    let found = (frame.len(), read_and_sent(alloc, &frame)?);
+    let whole = (Ok(()), true);
+    same(&rt, &found, &(65_536, Some([whole, whole, whole])));
     Ok(())
 }
 
@@ -321,9 +402,19 @@ fn what_the_last_write_answered(rt: HostRuntime) -> Result<(), Fail> {
         (39, (Err(Fault::WriteFailed(39)), true)),
         (0, (Err(Fault::WriteFailed(0)), true)),
     ] {
-        assert_eq!(rt; told(alloc, room, &message), expected);
+        same_at(&rt, &room, &told(alloc, room, &message), &expected);
     }
     Ok(())
+}
+
+/// What a writer gives a message that is so often interrupted before each write, and whether it has written `FRAME`.
+fn interrupted(alloc: Global, message: &Message, interruptions: u32) -> (Result<(), Fault>, bool) {
+    let mut narrow = Narrow {
+        interruptions,
+        ..Narrow::new(alloc, 20, 64)
+    };
+    let answer = sent(alloc, &mut narrow, message);
+    (answer, narrow.has_written(FRAME))
 }
 
 #[test]
@@ -335,24 +426,27 @@ fn interrupted_writes_go_on(rt: HostRuntime) -> Result<(), Fail> {
         (1_000, Ok(())),
         (1_001, Err(Fault::WriteFailed(0))),
     ] {
-        let mut narrow = Narrow {
-            interruptions,
-            ..Narrow::new(alloc, 20, 64)
-        };
-        assert_eq!(rt; sent(alloc, &mut narrow, &message), expected);
-        assert_eq!(rt; narrow.has_written(FRAME), expected.is_ok());
+        let found = interrupted(alloc, &message, interruptions);
+        same_at(&rt, &interruptions, &found, &(expected, expected.is_ok()));
     }
     Ok(())
 }
 
-/// The lines of the example that stands at `Frames`.
+/// Whether no message comes of the front of a Bye, and then that Bye.
+fn come_in_turn(frames: &mut Frames) -> Result<(bool, bool), Fault> {
+    frames.feed(b"\xa7\x01\x00\x00\x00")?;
+    let is_none = frames.next()?.is_none();
+    frames.feed(b"\x02\x04\x01")?;
+    match frames.next()? {
+        Some(message) => Ok((is_none, is_bye(&message))),
+        None => Ok((is_none, false)),
+    }
+}
+
+/// The example that stands at `Frames`.
 #[test]
 fn the_example_of_frames(rt: HostRuntime) -> Result<(), Fail> {
     let mut frames = Frames::new(rt.alloc());
-    frames.feed(b"\xa7\x01\x00\x00\x00")?;
-    assert!(rt; frames.next()?.is_none());
-    frames.feed(b"\x02\x04\x01")?;
-    let message = frames.next()?;
-    assert!(rt; matches!(&message, Some(Message::Bye(bye)) if bye.reason() == 1));
+    same(&rt, &come_in_turn(&mut frames)?, &(true, true));
     Ok(())
 }

@@ -3,6 +3,7 @@ ghost use Rattle.std.specs.Prelude.{◌<◌};
 
 use crate::frames::{FRAME, fed, taken};
 use crate::wire::{BYE, HELLO_A};
+use crate::{same, same_at};
 use rand_core::utils::NextWord;
 use rand_pcg::Pcg32;
 use sb_frames::{Frames, frame_of};
@@ -166,7 +167,8 @@ fn the_head_of_a_frame_is_damaged(rt: HostRuntime) -> Result<(), Fail> {
             if value != *byte {
                 let frame = changed(rt.alloc(), FRAME, place, value)?;
                 let answer = first_of(rt.alloc(), &frame)?;
-                assert_eq!(rt; Some(answer), wanted(place, value), "{place} {value}");
+                let wanted = wanted(place, value);
+                same_at(&rt, &(place, value), &Some(answer), &wanted);
             }
         }
     }
@@ -200,11 +202,8 @@ fn each_byte_is_damaged(rt: HostRuntime) -> Result<(), Fail> {
         (DONE, [2_039, 501, 255, 255, 511, 247, 17]),
         (REFUSED, [30, 508, 255, 255, 511, 247, 234]),
     ] {
-        assert_eq!(rt;
-            damaged(rt.alloc(), frame)?,
-            Counts::new(counts),
-            "{frame:?}"
-        );
+        let found = damaged(rt.alloc(), frame)?;
+        same_at(&rt, &frame, &found, &Counts::new(counts));
     }
     Ok(())
 }
@@ -278,6 +277,6 @@ fn made_up_streams(rt: HostRuntime) -> Result<(), Fail> {
         whole = whole.wrapping_add(u64::from(is_whole));
     }
     let wanted = [57_513, 22_885, 29_130, 4_412, 7_083, 2_329, 14_454];
-    assert_eq!(rt; (counts, whole), (Counts::new(wanted), 19_707));
+    same(&rt, &(counts, whole), &(Counts::new(wanted), 19_707));
     Ok(())
 }

@@ -2,6 +2,7 @@
 ghost use Rattle.std.specs.Prelude.{◌≡◌, ◌<◌};
 
 use crate::wire::Pieces;
+use crate::{same, same_at};
 use sb_codec::Message;
 use sb_frames::{Frames, Steps, receive};
 use sb_types::Fault;
@@ -46,6 +47,20 @@ fn received(
     receive_on::<Brand>(alloc, reader, held, max_reads, Blank::new(1))
 }
 
+/// How many Byes come, and whether the end comes then, or a fault.
+fn told(
+    alloc: Global,
+    reader: &mut Pieces<'_>,
+    held: &[u8],
+    max_reads: u64,
+) -> Result<(usize, Result<bool, Fault>), Fault> {
+    let (count, last) = received(alloc, reader, held, max_reads)?;
+    match last {
+        Ok(message) => Ok((count, Ok(message.is_none()))),
+        Err(fault) => Ok((count, Err(fault))),
+    }
+}
+
 /// A reader that gives all at once.
 fn whole(bytes: &[u8]) -> Pieces<'_> {
     Pieces {
@@ -71,14 +86,12 @@ fn messages_out_of_a_reader(rt: HostRuntime) -> Result<(), Fail> {
             interrupts,
             ..whole(BYES)
         };
-        let (count, last) = received(alloc, &mut reader, b"", max_reads)?;
-        assert_eq!(rt; count, 2);
-        assert!(rt; matches!(last, Ok(None)));
+        let found = told(alloc, &mut reader, b"", max_reads)?;
+        same_at(&rt, &piece, &found, &(2, Ok(true)));
     }
     // What is held comes without a read.
-    let (count, last) = received(alloc, &mut whole(b""), BYES, 0)?;
-    assert_eq!(rt; count, 2);
-    assert!(rt; matches!(last, Err(Fault::TurnsSpent)));
+    let found = told(alloc, &mut whole(b""), BYES, 0)?;
+    same(&rt, &found, &(2, Err(Fault::TurnsSpent)));
     Ok(())
 }
 
@@ -96,17 +109,15 @@ fn readers_that_give_out(rt: HostRuntime) -> Result<(), Fail> {
             breaks,
             ..whole(BYES.get(..length).unwrap_or(&[]))
         };
-        let (count, last) = received(alloc, &mut reader, b"", max_reads)?;
-        assert_eq!(rt; count, expected);
-        assert!(rt; matches!(last, Err(found) if found == fault));
+        let found = told(alloc, &mut reader, b"", max_reads)?;
+        same_at(&rt, &length, &found, &(expected, Err(fault)));
     }
     for (bytes, fault) in [
         (b"\xa6".as_slice(), Fault::BadMark),
         (b"\xa7\x01\x00\x00\x00\x01\x55", Fault::UnknownKind(0x55)),
     ] {
-        let (count, last) = received(alloc, &mut whole(bytes), b"", 9)?;
-        assert_eq!(rt; count, 0);
-        assert!(rt; matches!(last, Err(found) if found == fault));
+        let found = told(alloc, &mut whole(bytes), b"", 9)?;
+        same_at(&rt, &bytes, &found, &(0, Err(fault)));
     }
     Ok(())
 }

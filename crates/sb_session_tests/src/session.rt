@@ -3,6 +3,7 @@ ghost use Rattle.std.specs.Prelude.{IfErr};
 ghost use Rattle.sb_session.specs.Handlers.{IsRefusal};
 
 use crate::wire::{BYE, DELTA_B, DELTA_NONE, DIGEST_A, DIGEST_B, HELLO_A, HELLO_B};
+use crate::{same, same_at};
 use sb_codec::Message;
 use sb_digest::{Digest, build};
 use sb_frames::{Frames, frame_of};
@@ -168,59 +169,101 @@ fn reason_of(replies: &Replies) -> Option<u8> {
     }
 }
 
+/// A session of a node of the cluster c1.
+fn session_of(name: &[u8]) -> Result<Session, Fault> {
+    Ok(Session::new(Name::read(b"c1")?, Name::read(name)?))
+}
+
+/// Whether the session says Hello as b does, and takes that of a.
+fn greet(alloc: Global, session: &mut Session, node: &mut Node) -> Result<[bool; 2], Fault> {
+    let is_hello = is_spelled(alloc, &session.hello(), HELLO_B)?;
+    let greeted = session.take(read(alloc, HELLO_A)?, node);
+    Ok([is_hello, matches!(greeted, Ok(Replies::Greeted))])
+}
+
+/// Whether the digest of a is answered with the delta and the digest of b.
+fn exchange(alloc: Global, session: &mut Session, node: &mut Node) -> Result<[bool; 2], Fault> {
+    match session.take(read(alloc, DIGEST_A)?, node) {
+        Ok(Replies::Exchanged(delta, digest)) => Ok([
+            is_spelled(alloc, &Message::Delta(delta), DELTA_B)?,
+            is_spelled(alloc, &Message::Digest(digest), DIGEST_B)?,
+        ]),
+        _ => Ok([false, false]),
+    }
+}
+
+/// Whether the digest of b is answered with a delta of no block.
+fn answer(alloc: Global, session: &mut Session, node: &mut Node) -> Result<bool, Fault> {
+    match session.take(read(alloc, DIGEST_B)?, node) {
+        Ok(Replies::Answered(delta)) => is_spelled(alloc, &Message::Delta(delta), DELTA_NONE),
+        _ => Ok(false),
+    }
+}
+
+/// Why a Bye ends the session, and the faults of another Bye, and of asking, then.
+fn end(
+    alloc: Global,
+    session: &mut Session,
+    node: &mut Node,
+) -> Result<(Option<u8>, [Option<Fault>; 2]), Fault> {
+    let ended = session.take(read(alloc, BYE)?, node)?;
+    let again = session.take(read(alloc, BYE)?, node).err();
+    Ok((reason_of(&ended), [again, session.ask(node).err()]))
+}
+
 #[test]
 fn a_session_takes_what_comes(rt: HostRuntime) -> Result<(), Fail> {
     let alloc = rt.alloc();
+    let mut session = session_of(b"b")?;
     let mut node = Node::new(alloc, b"b", true)?;
-    let mut session = Session::new(Name::read(b"c1")?, Name::read(b"b")?);
-    assert!(rt; is_spelled(alloc, &session.hello(), HELLO_B)?);
-    let greeted = session.take(read(alloc, HELLO_A)?, &mut node);
-    assert!(rt; matches!(greeted, Ok(Replies::Greeted)));
-
-    let Ok(Replies::Exchanged(delta, digest)) = session.take(read(alloc, DIGEST_A)?, &mut node)
-    else {
-        return Err("no delta and digest".into());
-    };
-    assert!(rt; is_spelled(alloc, &Message::Delta(delta), DELTA_B)?);
-    assert!(rt; is_spelled(alloc, &Message::Digest(digest), DIGEST_B)?);
-
-    let Ok(Replies::Answered(delta)) = session.take(read(alloc, DIGEST_B)?, &mut node) else {
-        return Err("no delta".into());
-    };
-    assert!(rt; is_spelled(alloc, &Message::Delta(delta), DELTA_NONE)?);
-
-    let ended = session.take(read(alloc, BYE)?, &mut node)?;
-    assert_eq!(rt; reason_of(&ended), Some(1));
-    assert!(rt;
-        matches!(
-            session.take(read(alloc, BYE)?, &mut node),
-            Err(Fault::Closed)
-        )
+    let greeted = greet(alloc, &mut session, &mut node)?;
+    let exchanged = exchange(alloc, &mut session, &mut node)?;
+    let is_answered = answer(alloc, &mut session, &mut node)?;
+    let ended = end(alloc, &mut session, &mut node)?;
+    same(
+        &rt,
+        &(greeted, exchanged, is_answered),
+        &([true, true], [true, true], true),
     );
-    assert!(rt; matches!(session.ask(&mut node), Err(Fault::Closed)));
+    same(
+        &rt,
+        &ended,
+        &(Some(1), [Some(Fault::Closed), Some(Fault::Closed)]),
+    );
+    Ok(())
+}
 
+/// Whether the session asks as a does, and how many blocks of the delta of b it then applies, where it does.
+fn ask(
+    alloc: Global,
+    session: &mut Session,
+    node: &mut Node,
+) -> Result<(bool, Option<usize>), Fault> {
+    let is_asked = is_spelled(alloc, &session.ask(node)?, DIGEST_A)?;
+    session.take(read(alloc, HELLO_B)?, node)?;
+    match session.take(read(alloc, DELTA_B)?, node) {
+        Ok(Replies::Applied(report)) => Ok((is_asked, Some(report.len()))),
+        _ => Ok((is_asked, None)),
+    }
+}
+
+#[test]
+fn a_session_asks(rt: HostRuntime) -> Result<(), Fail> {
+    let alloc = rt.alloc();
+    let mut session = session_of(b"a")?;
     let mut node = Node::new(alloc, b"a", false)?;
-    let mut session = Session::new(Name::read(b"c1")?, Name::read(b"a")?);
-    assert!(rt; is_spelled(alloc, &session.ask(&mut node)?, DIGEST_A)?);
-    session.take(read(alloc, HELLO_B)?, &mut node)?;
-    let Ok(Replies::Applied(report)) = session.take(read(alloc, DELTA_B)?, &mut node) else {
-        return Err("no ends".into());
-    };
-    assert_eq!(rt; report.len(), 1);
-    assert_eq!(rt; node.upto(b"b")?, 1);
+    let asked = ask(alloc, &mut session, &mut node)?;
+    same(&rt, &(asked, node.upto(b"b")?), &((true, Some(1)), 1));
     Ok(())
 }
 
 /// The fault of the last of these messages, after which the session is closed.
 fn fault_of(alloc: Global, frames: &[&[u8]]) -> Result<Option<Fault>, Fault> {
+    let mut session = session_of(b"b")?;
     let mut node = Node::new(alloc, b"b", false)?;
-    let mut session = Session::new(Name::read(b"c1")?, Name::read(b"b")?);
     let mut last = None;
     for frame in frames {
-        last = match session.take(read(alloc, frame)?, &mut node) {
-            Ok(_) => None,
-            Err(fault) => Some(fault),
-        };
+        last = session.take(read(alloc, frame)?, &mut node).err();
     }
     match session.take(read(alloc, HELLO_A)?, &mut node) {
         Err(Fault::Closed) => Ok(last),
@@ -242,7 +285,7 @@ fn messages_out_of_place_close(rt: HostRuntime) -> Result<(), Fail> {
         (&[HELLO_A, HELLO_B], Fault::SecondHello),
     ];
     for (frames, fault) in cases {
-        assert_eq!(rt; fault_of(alloc, frames)?, Some(fault), "{frames:?}");
+        same_at(&rt, &frames, &fault_of(alloc, frames)?, &Some(fault));
     }
     for (control, kind) in [
         (ASK, 0x10u8),
@@ -251,27 +294,60 @@ fn messages_out_of_place_close(rt: HostRuntime) -> Result<(), Fail> {
         (DONE, 0x13),
         (REFUSED, 0x14),
     ] {
-        let fault = Fault::UnknownKind(kind);
-        assert_eq!(rt; fault_of(alloc, &[control])?, Some(fault));
-        assert_eq!(rt; fault_of(alloc, &[HELLO_A, control])?, Some(fault));
+        let fault = Some(Fault::UnknownKind(kind));
+        same_at(&rt, &kind, &fault_of(alloc, &[control])?, &fault);
+        same_at(&rt, &kind, &fault_of(alloc, &[HELLO_A, control])?, &fault);
     }
     Ok(())
+}
+
+/// The fault of a message where so many calls of the handler are granted.
+fn refusal(
+    alloc: Global,
+    session: &mut Session,
+    node: &mut Node,
+    frame: &[u8],
+    grants: u64,
+) -> Result<Option<Fault>, Fault> {
+    let message = read(alloc, frame)?;
+    node.grants = grants;
+    Ok(session.take(message, node).err())
+}
+
+/// The faults behind Hello of messages, and then of asking, where too few calls are granted.
+fn refusals(
+    alloc: Global,
+    session: &mut Session,
+    node: &mut Node,
+) -> Result<[Option<Fault>; 5], Fault> {
+    session.take(read(alloc, HELLO_A)?, node)?;
+    Ok([
+        refusal(alloc, session, node, DIGEST_A, 0)?,
+        refusal(alloc, session, node, DIGEST_A, 1)?,
+        refusal(alloc, session, node, DIGEST_B, 0)?,
+        refusal(alloc, session, node, DELTA_B, 0)?,
+        session.ask(node).err(),
+    ])
+}
+
+/// Whether a digest is answered with a delta and a digest where two calls are granted.
+fn is_exchanged(alloc: Global, session: &mut Session, node: &mut Node) -> Result<bool, Fault> {
+    node.grants = 2;
+    let answer = session.take(read(alloc, DIGEST_A)?, node);
+    Ok(matches!(answer, Ok(Replies::Exchanged(_, _))))
 }
 
 #[test]
 fn refusals_leave_the_session(rt: HostRuntime) -> Result<(), Fail> {
     let alloc = rt.alloc();
+    let mut session = session_of(b"b")?;
     let mut node = Node::new(alloc, b"b", true)?;
-    let mut session = Session::new(Name::read(b"c1")?, Name::read(b"b")?);
-    session.take(read(alloc, HELLO_A)?, &mut node)?;
-    for (message, grants) in [(DIGEST_A, 0u64), (DIGEST_A, 1), (DIGEST_B, 0), (DELTA_B, 0)] {
-        node.grants = grants;
-        let answer = session.take(read(alloc, message)?, &mut node);
-        assert!(rt; matches!(answer, Err(Fault::TurnsSpent)));
-    }
-    assert!(rt; matches!(session.ask(&mut node), Err(Fault::TurnsSpent)));
-    node.grants = 2;
-    let answer = session.take(read(alloc, DIGEST_A)?, &mut node);
-    assert!(rt; matches!(answer, Ok(Replies::Exchanged(_, _))));
+    let found = refusals(alloc, &mut session, &mut node)?;
+    let is_exchanged = is_exchanged(alloc, &mut session, &mut node)?;
+    same(
+        &rt,
+        &(found, is_exchanged),
+        &([Some(Fault::TurnsSpent); 5], true),
+    );
     Ok(())
 }

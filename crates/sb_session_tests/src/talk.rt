@@ -5,6 +5,7 @@ use crate::session::{ASK, DONE, HELLO_C2, Node, PUT, REFUSED, ROWS, joined};
 use crate::wire::{
     BYE, DELTA_B, DELTA_NONE, DIGEST_A, DIGEST_B, HELLO_A, HELLO_B, Pieces, greatest_frame,
 };
+use crate::{same, same_at};
 use sb_frames::{LastWrite, Steps};
 use sb_session::{Ended, Session, dial, serve};
 use sb_types::{Fault, Name};
@@ -157,12 +158,6 @@ fn talk_telling(
     Ok((ended, last.has_failed()))
 }
 
-/// A whole talk of a node of the cluster c1.
-fn talk(node: &mut Node, writer: &mut Room, terms: Terms<'_>) -> Result<Ended, Fault> {
-    let (ended, _) = talk_telling(node, writer, terms)?;
-    ended
-}
-
 /// A talk that goes well: who speaks, in how many rounds if it dials, what it hears and what it writes; how many
 /// bytes it has written before it has heard so many, and then; and how it ends.
 #[derive(Clone, Copy)]
@@ -203,23 +198,48 @@ const DIALED: Course<'static> = Course {
     ended: Ended::RoundsDone,
 };
 
+/// What comes of a talk: how it ends, whether its last write is said to have failed, whether just the pieces were written
+/// up to the room, and how many bytes that is.
+type Outcome = (Result<Ended, Fault>, bool, bool, usize);
+
+/// What comes of a talk of a node that is to write these pieces.
+fn outcome(node: &mut Node, terms: Terms<'_>, pieces: &[&[u8]]) -> Result<Outcome, Fault> {
+    let mut writer = Room::new(terms.room);
+    let (ended, has_failed) = talk_telling(node, &mut writer, terms)?;
+    let is_written = writer.has_written(pieces);
+    Ok((ended, has_failed, is_written, writer.written))
+}
+
+/// What comes of a course under these terms, where so many calls of the handler are allowed.
+fn follow(
+    alloc: Global,
+    course: &Course<'_>,
+    terms: Terms<'_>,
+    grants: u64,
+) -> Result<Outcome, Fault> {
+    let mut node = Node::new(alloc, course.name, course.has_written)?;
+    node.grants = grants;
+    outcome(&mut node, terms, course.written)
+}
+
 #[test]
 fn bytes_come_in_any_pieces(rt: HostRuntime) -> Result<(), Fail> {
     let alloc = rt.alloc();
     for course in [SERVED, DIALED] {
         let input = joined(alloc, &course.heard)?;
         for piece in [1usize, 7, 42, 4_096] {
-            let mut node = Node::new(alloc, course.name, course.has_written)?;
-            let mut writer = Room::new(128);
             let terms = Terms {
                 piece,
                 rounds: course.rounds,
                 ..serving(&input)
             };
-            let told = talk_telling(&mut node, &mut writer, terms)?;
-            assert_eq!(rt; told, (Ok(course.ended), false));
-            assert!(rt; writer.has_written(course.written));
-            assert_eq!(rt; writer.written, course.late);
+            let found = follow(alloc, &course, terms, 1_000)?;
+            same_at(
+                &rt,
+                &piece,
+                &found,
+                &(Ok(course.ended), false, true, course.late),
+            );
         }
     }
     Ok(())
@@ -241,15 +261,14 @@ fn within(pieces: &[&[u8]], place: usize) -> usize {
 fn wrong_room(alloc: Global, course: Course<'_>) -> Result<Option<usize>, Fault> {
     let input = joined(alloc, &course.heard)?;
     for room in 0..course.late {
-        let mut node = Node::new(alloc, course.name, course.has_written)?;
-        let mut writer = Room::new(room);
         let terms = Terms {
+            room,
             rounds: course.rounds,
             ..serving(&input)
         };
-        let (answer, has_failed) = talk_telling(&mut node, &mut writer, terms)?;
+        let (answer, has_failed, is_written, _) = follow(alloc, &course, terms, 1_000)?;
         let fault = Fault::WriteFailed(within(course.written, room) as u64);
-        if answer != Err(fault) || !writer.has_written(course.written) || !has_failed {
+        if answer != Err(fault) || !is_written || !has_failed {
             return Ok(Some(room));
         }
     }
@@ -260,14 +279,12 @@ fn wrong_room(alloc: Global, course: Course<'_>) -> Result<Option<usize>, Fault>
 fn wrong_length(alloc: Global, course: Course<'_>, breaks: bool) -> Result<Option<usize>, Fault> {
     let input = joined(alloc, &course.heard)?;
     for length in 0..input.len() {
-        let mut node = Node::new(alloc, course.name, course.has_written)?;
-        let mut writer = Room::new(128);
         let terms = Terms {
             rounds: course.rounds,
             breaks,
             ..serving(input.get(..length).unwrap_or(&[]))
         };
-        let answer = talk(&mut node, &mut writer, terms);
+        let (answer, _, _, written) = follow(alloc, &course, terms, 1_000)?;
         let expected = match (breaks, within(&course.heard, length)) {
             (true, _) => Err(Fault::ReadFailed),
             (false, 0) => Ok(Ended::End),
@@ -275,7 +292,7 @@ fn wrong_length(alloc: Global, course: Course<'_>, breaks: bool) -> Result<Optio
         };
         let is_early = length < course.turn;
         let count = if is_early { course.early } else { course.late };
-        if answer != expected || writer.written != count {
+        if answer != expected || written != count {
             return Ok(Some(length));
         }
     }
@@ -290,24 +307,22 @@ fn spent(
     grants: u64,
 ) -> Result<(Result<Ended, Fault>, usize), Fault> {
     let input = joined(alloc, &course.heard)?;
-    let mut node = Node::new(alloc, course.name, course.has_written)?;
-    node.grants = grants;
-    let mut writer = Room::new(128);
     let terms = Terms {
         rounds: course.rounds,
         reads,
         ..serving(&input)
     };
-    Ok((talk(&mut node, &mut writer, terms), writer.written))
+    let (ended, _, _, written) = follow(alloc, &course, terms, grants)?;
+    Ok((ended, written))
 }
 
 #[test]
 fn writers_and_readers_fail(rt: HostRuntime) -> Result<(), Fail> {
     let alloc = rt.alloc();
     for course in [SERVED, DIALED] {
-        assert_eq!(rt; wrong_room(alloc, course)?, None);
-        assert_eq!(rt; wrong_length(alloc, course, true)?, None);
-        assert_eq!(rt; wrong_length(alloc, course, false)?, None);
+        same(&rt, &wrong_room(alloc, course)?, &None);
+        same(&rt, &wrong_length(alloc, course, true)?, &None);
+        same(&rt, &wrong_length(alloc, course, false)?, &None);
     }
     for (course, reads, grants, count) in [
         (SERVED, 0, 9, 12usize),
@@ -320,43 +335,79 @@ fn writers_and_readers_fail(rt: HostRuntime) -> Result<(), Fail> {
         (DIALED, 99, 2, 34),
     ] {
         let ended = spent(alloc, course, reads, grants)?;
-        assert_eq!(rt; ended, (Err(Fault::TurnsSpent), count));
+        same(&rt, &ended, &(Err(Fault::TurnsSpent), count));
     }
     Ok(())
 }
 
+/// How a talk of a node that wrote nothing ends, whether it wrote just these pieces, how many bytes it wrote, and how far
+/// it then holds another owner.
+type Learned = (Result<Ended, Fault>, bool, usize, u64);
+
+fn learn(
+    alloc: Global,
+    name: &[u8],
+    terms: Terms<'_>,
+    pieces: &[&[u8]],
+    owner: &[u8],
+) -> Result<Learned, Fault> {
+    let mut node = Node::new(alloc, name, false)?;
+    let (ended, _, is_written, written) = outcome(&mut node, terms, pieces)?;
+    Ok((ended, is_written, written, node.upto(owner)?))
+}
+
+/// Of one that wrote something and dials for no round.
+const NO_ROUND: Course<'static> = Course {
+    written: &[HELLO_B, BYE],
+    ..SERVED
+};
+
 #[test]
 fn the_other_end_asks(rt: HostRuntime) -> Result<(), Fail> {
     let alloc = rt.alloc();
-    let mut node = Node::new(alloc, b"b", true)?;
-    let mut writer = Room::new(128);
-    assert_eq!(rt;
-        talk(&mut node, &mut writer, dialing(&[], 0)),
-        Ok(Ended::RoundsDone)
+    let (ended, _, is_written, written) = follow(alloc, &NO_ROUND, dialing(&[], 0), 1_000)?;
+    same(
+        &rt,
+        &(ended, is_written, written),
+        &(Ok(Ended::RoundsDone), true, 20),
     );
-    assert!(rt; writer.has_written(&[HELLO_B, BYE]));
-    assert_eq!(rt; writer.written, 20);
 
     let input = joined(alloc, &[HELLO_B, DELTA_B, DIGEST_B])?;
-    let mut node = Node::new(alloc, b"a", false)?;
-    let mut writer = Room::new(128);
-    assert_eq!(rt;
-        talk(&mut node, &mut writer, dialing(&input, 1)),
-        Ok(Ended::RoundsDone)
-    );
-    assert!(rt; writer.has_written(&[HELLO_A, DIGEST_A, DELTA_NONE, BYE]));
-    assert_eq!(rt; writer.written, 51);
-    assert_eq!(rt; node.upto(b"b")?, 1);
+    let pieces = [HELLO_A, DIGEST_A, DELTA_NONE, BYE];
+    let found = learn(alloc, b"a", dialing(&input, 1), &pieces, b"b")?;
+    same(&rt, &found, &(Ok(Ended::RoundsDone), true, 51, 1));
 
     // A second round asks again, and the peer's bytes end.
-    let mut node = Node::new(alloc, b"a", false)?;
-    let mut writer = Room::new(128);
-    assert_eq!(rt;
-        talk(&mut node, &mut writer, dialing(&input, 2)),
-        Ok(Ended::End)
-    );
-    assert_eq!(rt; writer.written, 12 + 22 + 9 + 32);
+    let (ended, _, written, _) = learn(alloc, b"a", dialing(&input, 2), &[], b"b")?;
+    same(&rt, &(ended, written), &(Ok(Ended::End), 12 + 22 + 9 + 32));
     Ok(())
+}
+
+/// How a talk ends, how many bytes it wrote, and how far the other owner is then held.
+type Ending = (Result<Ended, Fault>, usize, u64);
+
+/// How a talk of a node that wrote nothing ends with one that says this, so many bytes in a read, where it serves and
+/// where it dials.
+fn endings(
+    alloc: Global,
+    name: &[u8],
+    said: &[u8],
+    piece: usize,
+    owner: &[u8],
+) -> Result<[Ending; 2], Fault> {
+    let mut endings = [(Ok(Ended::End), 0, 0); 2];
+    for (ending, terms) in endings.iter_mut().zip([serving(said), dialing(said, 1)]) {
+        let terms = Terms { piece, ..terms };
+        let (ended, _, written, held) = learn(alloc, name, terms, &[], owner)?;
+        *ending = (ended, written, held);
+    }
+    Ok(endings)
+}
+
+/// How the talks of a node b with one a end that says these pieces.
+fn endings_of(alloc: Global, pieces: &[&[u8]]) -> Result<[Ending; 2], Fault> {
+    let input = joined(alloc, pieces)?;
+    endings(alloc, b"b", &input, 7, b"a")
 }
 
 #[test]
@@ -380,17 +431,8 @@ fn faulty_talks_end(rt: HostRuntime) -> Result<(), Fail> {
         ),
     ];
     for (pieces, fault) in cases {
-        let input = joined(alloc, pieces)?;
-        for (terms, length) in [(serving(&input), 12usize), (dialing(&input, 1), 34)] {
-            let mut node = Node::new(alloc, b"b", false)?;
-            let mut writer = Room::new(128);
-            assert_eq!(rt;
-                talk(&mut node, &mut writer, terms),
-                Err(fault),
-                "{pieces:?}"
-            );
-            assert_eq!(rt; writer.written, length);
-        }
+        let wanted = [(Err(fault), 12, 0), (Err(fault), 34, 0)];
+        same_at(&rt, &pieces, &endings_of(alloc, pieces)?, &wanted);
     }
     for (control, kind) in [
         (ASK, 0x10u8),
@@ -399,35 +441,32 @@ fn faulty_talks_end(rt: HostRuntime) -> Result<(), Fail> {
         (DONE, 0x13),
         (REFUSED, 0x14),
     ] {
+        let fault = Err(Fault::UnknownKind(kind));
         for greeting in [b"".as_slice(), HELLO_A] {
-            let input = joined(alloc, &[greeting, control])?;
-            for terms in [serving(&input), dialing(&input, 1)] {
-                let mut node = Node::new(alloc, b"b", false)?;
-                let mut writer = Room::new(128);
-                let answer = talk(&mut node, &mut writer, terms);
-                assert_eq!(rt; answer, Err(Fault::UnknownKind(kind)));
-            }
+            let [served, dialed] = endings_of(alloc, &[greeting, control])?;
+            same_at(&rt, &kind, &[served.0, dialed.0], &[fault, fault]);
         }
     }
     Ok(())
 }
 
+/// A thousand deltas of b, and then its Hello.
+fn flood(alloc: Global) -> Result<Vec<u8>, Fault> {
+    let mut flood = Vec::new(alloc);
+    for _ in 0..1_000u32 {
+        flood.extend_from_slice(DELTA_B)?;
+    }
+    flood.extend_from_slice(HELLO_B)?;
+    Ok(flood)
+}
+
 #[test]
 fn a_flood_before_hello_is_not_taken(rt: HostRuntime) -> Result<(), Fail> {
     let alloc = rt.alloc();
-    let mut input = Vec::new(alloc);
-    for _ in 0..1_000u32 {
-        input.extend_from_slice(DELTA_B)?;
-    }
-    input.extend_from_slice(HELLO_B)?;
-    for (terms, length) in [(serving(&input), 12usize), (dialing(&input, 1), 34)] {
-        let mut node = Node::new(alloc, b"a", false)?;
-        let mut writer = Room::new(128);
-        let answer = talk(&mut node, &mut writer, terms);
-        assert_eq!(rt; answer, Err(Fault::NoHello));
-        assert_eq!(rt; writer.written, length);
-        assert_eq!(rt; node.upto(b"b")?, 0);
-    }
+    let input = flood(alloc)?;
+    let fault = Err(Fault::NoHello);
+    let found = endings(alloc, b"a", &input, 7, b"b")?;
+    same(&rt, &found, &[(fault, 12, 0), (fault, 34, 0)]);
     Ok(())
 }
 
@@ -436,16 +475,13 @@ fn the_greatest_frame_is_taken(rt: HostRuntime) -> Result<(), Fail> {
     let alloc = rt.alloc();
     let frame = greatest_frame(alloc)?;
     let input = joined(alloc, &[HELLO_A, &frame, BYE])?;
-    assert_eq!(rt; input.len(), 12 + 65_536 + 8);
-    for terms in [serving(&input), dialing(&input, 1)] {
-        let terms = Terms {
-            piece: 4_099,
-            ..terms
-        };
-        let mut node = Node::new(alloc, b"b", false)?;
-        let mut writer = Room::new(128);
-        assert_eq!(rt; talk(&mut node, &mut writer, terms), Ok(Ended::Bye(1)));
-        assert_eq!(rt; node.upto(b"a")?, 1_311);
-    }
+    same(&rt, &input.len(), &(12 + 65_536 + 8));
+    let [served, dialed] = endings(alloc, b"b", &input, 4_099, b"a")?;
+    let found = [(served.0, served.2), (dialed.0, dialed.2)];
+    same(
+        &rt,
+        &found,
+        &[(Ok(Ended::Bye(1)), 1_311), (Ok(Ended::Bye(1)), 1_311)],
+    );
     Ok(())
 }
