@@ -1,5 +1,6 @@
 //! Payloads by hand, the greatest of each kind, and what is no payload.
 
+use crate::{holds, same, same_at};
 use sb_codec::{
     Ask, Bye, Done, Hello, Message, Refused, Row, Rows, append_payload, decode_payload,
     encode_payload, length,
@@ -290,24 +291,36 @@ fn made(alloc: Global, number: usize) -> Result<(Message, &'static str), Fault> 
     })
 }
 
+/// Whether a message by its number has its payload, and which that is.
+fn is_made(alloc: Global, number: usize) -> Result<(bool, &'static str), Fault> {
+    let (message, words) = made(alloc, number)?;
+    Ok((is_payload(alloc, &message, words)?, words))
+}
+
 #[test]
 fn the_payload_of_each_message(rt: HostRuntime) -> Result<(), Fail> {
-    let alloc = rt.alloc();
     for number in 0..=12 {
-        let (message, words) = made(alloc, number)?;
-        assert!(rt; is_payload(alloc, &message, words)?, "{words}");
+        let (is_right, words) = is_made(rt.alloc(), number)?;
+        holds(&rt, words, is_right);
     }
     Ok(())
 }
 
-/// The lines of the example that stands at `Message`.
+/// The reason of a bye that is read; nothing of another message.
+fn reason_of(alloc: Global, payload: &[u8]) -> Result<Option<u8>, Fault> {
+    match decode_payload(alloc, payload)? {
+        Message::Bye(bye) => Ok(Some(bye.reason())),
+        _ => Ok(None),
+    }
+}
+
+/// The example that stands at `Message`.
 #[test]
 fn the_example_of_a_message(rt: HostRuntime) -> Result<(), Fail> {
     let alloc = rt.alloc();
     let payload = encode_payload(alloc, &Message::Bye(Bye::new(1)?))?;
-    assert_eq!(rt; payload.as_slice(), b"\x04\x01".as_slice());
-    let message = decode_payload(alloc, &payload)?;
-    assert!(rt; matches!(&message, Message::Bye(bye) if bye.reason() == 1));
+    let found = (payload.as_slice(), reason_of(alloc, &payload)?);
+    same(&rt, &found, &(b"\x04\x01".as_slice(), Some(1)));
     Ok(())
 }
 
@@ -334,13 +347,21 @@ fn said(alloc: Global, words: &str) -> Result<Vec<(Name, u64, Key, u64, Option<u
     Ok(said)
 }
 
+/// How many blocks a delta has; nothing of another message.
+fn block_count(alloc: Global, words: &str) -> Result<Option<usize>, Fault> {
+    match decode_payload(alloc, &bytes(alloc, words)?)? {
+        Message::Delta(delta) => Ok(Some(delta.blocks().len())),
+        _ => Ok(None),
+    }
+}
+
 #[test]
 fn what_a_delta_says(rt: HostRuntime) -> Result<(), Fail> {
     let alloc = rt.alloc();
     let entry = (Name::read(b"a")?, 0, Key::read(b"w")?, 1, Some(5));
-    assert_eq!(rt; said(alloc, ONE_ENTRY)?.as_slice(), [entry].as_slice());
-    let message = decode_payload(alloc, &bytes(alloc, NO_BLOCK)?)?;
-    assert!(rt; matches!(&message, Message::Delta(delta) if delta.blocks().is_empty()));
+    same(&rt, &block_count(alloc, NO_BLOCK)?, &Some(0));
+    let said = said(alloc, ONE_ENTRY)?;
+    same(&rt, &said.as_slice(), &[entry].as_slice());
     Ok(())
 }
 
@@ -351,7 +372,7 @@ fn payloads_one_behind_the_other(rt: HostRuntime) -> Result<(), Fail> {
     append_payload(&mut out, &Message::Done(Done::new(1)?))?;
     append_payload(&mut out, &Message::Refused(Refused::new(13)?))?;
     let expected = bytes(alloc, "04 01 13 0000000000000001 14 0d")?;
-    assert_eq!(rt; out.as_slice(), expected.as_slice());
+    same(&rt, &out.as_slice(), &expected.as_slice());
     Ok(())
 }
 
@@ -379,8 +400,12 @@ fn the_length_of_each_frame(rt: HostRuntime) -> Result<(), Fail> {
         (LONGEST_PUT, 202),
         (LONGEST_ENTRY, 255),
     ] {
-        let payload = bytes(alloc, words)?;
-        assert_eq!(rt; frame_length(alloc, &payload)?, Some(expected), "{words}");
+        same_at(
+            &rt,
+            &words,
+            &frame_length_of(alloc, words)?,
+            &Some(expected),
+        );
     }
     Ok(())
 }
@@ -447,17 +472,21 @@ fn payload_of(alloc: Global, parts: &Long) -> Result<Vec<u8>, Fault> {
     Ok(out)
 }
 
+/// How long the payload is, and the frame of what it is read as.
+fn lengths_of(alloc: Global, parts: &Long) -> Result<(usize, Option<u32>), Fault> {
+    let payload = payload_of(alloc, parts)?;
+    Ok((payload.len(), frame_length(alloc, &payload)?))
+}
+
 #[test]
 fn the_greatest_payloads(rt: HostRuntime) -> Result<(), Fail> {
-    let alloc = rt.alloc();
     for (parts, payload_length, expected) in [
         (&GREATEST_DELTA, 65_530, 65_536),
         (&GREATEST_ROWS, 65_530, 65_536),
         (&GREATEST_DIGEST, 41_990, 41_996),
     ] {
-        let payload = payload_of(alloc, parts)?;
-        let lengths = (payload.len(), frame_length(alloc, &payload)?);
-        assert_eq!(rt; lengths, (payload_length, Some(expected)));
+        let lengths = lengths_of(rt.alloc(), parts)?;
+        same(&rt, &lengths, &(payload_length, Some(expected)));
     }
     Ok(())
 }
@@ -484,22 +513,30 @@ fn page(alloc: Global) -> Result<Page, Fault> {
 #[test]
 fn what_messages_say(rt: HostRuntime) -> Result<(), Fail> {
     let said = (Bye::new(5)?.reason(), Done::new(7)?.version());
-    assert_eq!(rt; said, (5, 7));
+    same(&rt, &said, &(5, 7));
     for number in [30, 31] {
-        assert_eq!(rt; Refused::new(number)?.number(), number);
+        same(&rt, &Refused::new(number)?.number(), &number);
     }
     let first = (Name::read(b"a")?, Key::read(b"w")?, 3, Some(5), 21);
-    assert_eq!(rt; page(rt.alloc())?, (true, 46, 2, Some(first)));
+    same(&rt, &page(rt.alloc())?, &(true, 46, 2, Some(first)));
     Ok(())
+}
+
+/// Why the words are no payload, and the fault of what is malformed of their kind.
+fn refusal_of(alloc: Global, words: &str) -> Result<(Option<Fault>, Option<Fault>), Fault> {
+    let payload = bytes(alloc, words)?;
+    let expected = match payload.first() {
+        Some(kind) => Some(Fault::Malformed(*kind)),
+        None => None,
+    };
+    Ok((refusal(alloc, &payload)?, expected))
 }
 
 #[test]
 fn payloads_that_break_the_format(rt: HostRuntime) -> Result<(), Fail> {
-    let alloc = rt.alloc();
     for words in WRONG {
-        let payload = bytes(alloc, words)?;
-        let expected = payload.first().map(|kind| Fault::Malformed(*kind));
-        assert_eq!(rt; refusal(alloc, &payload)?, expected, "{words}");
+        let (found, expected) = refusal_of(rt.alloc(), words)?;
+        same_at(&rt, words, &found, &expected);
     }
     Ok(())
 }
@@ -510,11 +547,8 @@ fn parts_of_a_delta(rt: HostRuntime) -> Result<(), Fail> {
     let whole = bytes(alloc, ONE_ENTRY)?;
     for len in 1..whole.len() {
         let front = whole.get(..len).unwrap_or(&[]);
-        assert_eq!(rt;
-            refusal(alloc, front)?,
-            Some(Fault::Malformed(KIND_DELTA)),
-            "{front:?}"
-        );
+        let found = refusal(alloc, front)?;
+        same_at(&rt, &front, &found, &Some(Fault::Malformed(KIND_DELTA)));
     }
     Ok(())
 }
@@ -532,11 +566,8 @@ fn payloads_of_unknown_kinds(rt: HostRuntime) {
         (0x55, b"\x55"),
         (0xff, b"\xff"),
     ] {
-        let answer = decode_payload(alloc, payload);
-        assert!(rt;
-            matches!(answer, Err(Fault::UnknownKind(told)) if told == kind),
-            "{payload:?}"
-        );
+        let found = decode_payload(alloc, payload).err();
+        same_at(&rt, &payload, &found, &Some(Fault::UnknownKind(kind)));
     }
 }
 
@@ -550,12 +581,19 @@ fn is_one_written(alloc: Global) -> Result<bool, Fault> {
     is_payload(alloc, &one_entry(alloc)?, ONE_ENTRY)
 }
 
+/// Whether this was found, or memory ran out.
+fn is_found<T: Copy + PartialEq>(found: Result<T, Fault>, expected: T) -> bool {
+    match found {
+        Ok(found) => found == expected,
+        Err(fault) => fault == Fault::NoMemory,
+    }
+}
+
 /// Passes with any one allocation refused: each call then gives `NoMemory`, or what it gives with memory.
 #[test]
 fn refused_allocations(rt: HostRuntime) {
     let alloc = rt.alloc();
-    let is_written = is_one_written(alloc);
-    assert!(rt; is_written == Ok(true) || is_written == Err(Fault::NoMemory));
+    holds(&rt, ONE_ENTRY, is_found(is_one_written(alloc), true));
     for (words, expected) in [
         (ONE_ENTRY, 40),
         (HELLO, 12),
@@ -568,9 +606,6 @@ fn refused_allocations(rt: HostRuntime) {
         (REFUSED, 8),
     ] {
         let found = frame_length_of(alloc, words);
-        assert!(rt;
-            found == Ok(Some(expected)) || found == Err(Fault::NoMemory),
-            "{words}"
-        );
+        holds(&rt, words, is_found(found, Some(expected)));
     }
 }

@@ -1,6 +1,7 @@
 //! Digests that are made, refused, read and built, also of all owners that a node may hold.
 ghost use Rattle.std.specs.Prelude.{◌≤◌};
 
+use crate::{same, same_at};
 use sb_digest::{Digest, Pair, build};
 use sb_holdings::Holdings;
 use sb_table::Table;
@@ -39,17 +40,21 @@ fn six_owners() -> Result<[Name; 6], Fault> {
     ])
 }
 
-/// The lines of the example of `Digest`.
-#[test]
-fn example_of_digest(rt: HostRuntime) -> Result<(), Fail> {
-    let alloc = rt.alloc();
-    let a = Name::read(b"a")?;
-    let b = Name::read(b"b")?;
+/// Of a digest up to b, which tells that a is held up to 3: whether it covers a and b, how far it tells that a is held,
+/// and where the next one begins.
+fn example(alloc: Global, a: Name, b: Name) -> Result<([bool; 2], u64, Option<Name>), Fault> {
     let pairs = vec![in alloc; Pair { owner: a, upto: 3 }]?;
     let digest = Digest::new(true, None, Some(b), pairs)?;
-    assert!(rt; digest.covers(&a) && !digest.covers(&b));
-    assert_eq!(rt; digest.number(&a), 3);
-    assert_eq!(rt; digest.next_from(), Some(b));
+    let are_covered = [digest.covers(&a), digest.covers(&b)];
+    Ok((are_covered, digest.number(&a), digest.next_from()))
+}
+
+/// The example of `Digest`.
+#[test]
+fn example_of_digest(rt: HostRuntime) -> Result<(), Fail> {
+    let [a, b] = [Name::read(b"a")?, Name::read(b"b")?];
+    let found = example(rt.alloc(), a, b)?;
+    same(&rt, &found, &([true, false], 3, Some(b)));
     Ok(())
 }
 
@@ -71,13 +76,14 @@ fn length(
 fn lengths_of_payloads(rt: HostRuntime) -> Result<(), Fail> {
     let owners = six_owners()?;
     let (five, sixth) = owners.split_at(5);
-    let last = Some(owners[5]);
+    let last = owners[5];
     for (from, until, owners, wanted) in [
-        (None, last, five, 243),
-        (last, None, sixth, 79),
+        (None, Some(last), five, 243),
+        (Some(last), None, sixth, 79),
         (None, None, owners.as_slice(), 252),
     ] {
-        assert_eq!(rt; length(rt.alloc(), from, until, owners)?, Ok(wanted));
+        let found = length(rt.alloc(), from, until, owners)?;
+        same(&rt, &found, &Ok(wanted));
     }
     Ok(())
 }
@@ -96,7 +102,7 @@ fn parts_that_make_no_digest(rt: HostRuntime) -> Result<(), Fail> {
         (None, None, &[b, a], none),
         (Some(a), Some(c), &[a, b], Ok(28)),
     ] {
-        assert_eq!(rt; length(rt.alloc(), from, until, owners)?, wanted);
+        same(&rt, &length(rt.alloc(), from, until, owners)?, &wanted);
     }
     Ok(())
 }
@@ -141,9 +147,10 @@ fn a_digest_is_read(rt: HostRuntime) -> Result<(), Fail> {
     ];
     let pairs = pairs(rt.alloc(), &[b, c])?;
     let digest = Digest::new(false, Some(b), Some(d), pairs)?;
-    assert_eq!(rt; extent(&digest), (false, Some(b), Some(d), Some(d), 2, 28));
     let told = [(false, 0), (true, 1), (true, 2), (false, 0)];
-    assert!(rt; are_told(&digest, &[a, b, c, d], &told));
+    let found = (extent(&digest), are_told(&digest, &[a, b, c, d], &told));
+    let wanted = (false, Some(b), Some(d), Some(d), 2, 28);
+    same(&rt, &found, &(wanted, true));
     Ok(())
 }
 
@@ -163,6 +170,23 @@ fn asked(
     }
 }
 
+/// The extent of the digest that is asked for, and whether it covers just those of the owners that are said, and tells
+/// that each is held so far.
+fn told(
+    alloc: Global,
+    holdings: &Holdings,
+    from: Option<&Name>,
+    budget: u64,
+    owners: &[Name],
+    wanted: &[(bool, u64)],
+) -> Result<(Extent, bool), Fault>
+    requires least { BUDGET_LEAST ≤ budget }
+    requires most { budget ≤ BUDGET_MOST }
+{
+    let digest = asked(alloc, holdings, from, budget)?;
+    Ok((extent(&digest), are_told(&digest, owners, wanted)))
+}
+
 /// What a node holds that knows of no other.
 fn alone(alloc: Global, me: Name) -> Result<Holdings, Fault> {
     match Holdings::new(alloc, me, Table::new(alloc)) {
@@ -180,18 +204,26 @@ fn are_pairs(digest: &Digest, wanted: &[(Name, u64)]) -> bool {
     are_equal
 }
 
+/// The extent of the digest that is asked for from a name on, and whether these are its pairs.
+fn paired(
+    alloc: Global,
+    holdings: &Holdings,
+    from: Option<Name>,
+    pairs: &[(Name, u64)],
+) -> Result<(Extent, bool), Fault> {
+    let digest = asked(alloc, holdings, from.as_ref(), 256)?;
+    Ok((extent(&digest), are_pairs(&digest, pairs)))
+}
+
 #[test]
 fn a_new_node_tells_of_itself(rt: HostRuntime) -> Result<(), Fail> {
     let alloc = rt.alloc();
     let [a, b] = [Name::read(b"a")?, Name::read(b"b")?];
     let holdings = alone(alloc, a)?;
     for (from, pairs, length) in [(None, [(a, 0)].as_slice(), 16), (Some(b), &[], 7)] {
-        let digest = asked(alloc, &holdings, from.as_ref(), 256)?;
+        let found = paired(alloc, &holdings, from, pairs)?;
         let wanted = wanting(from, None, pairs.len(), length);
-        assert_eq!(rt;
-            (extent(&digest), are_pairs(&digest, pairs)),
-            (wanted, true)
-        );
+        same(&rt, &found, &(wanted, true));
     }
     Ok(())
 }
@@ -235,9 +267,9 @@ fn a_digest_tells_how_far_blocks_are_held(rt: HostRuntime) -> Result<(), Fail> {
         (3, 2, 26, 3),
     ] {
         hold(alloc, &mut holdings, &a, version);
-        let digest = asked(alloc, &holdings, None, 256)?;
-        assert_eq!(rt; extent(&digest), wanting(None, None, pairs, length));
-        assert!(rt; are_told(&digest, &[a, b], &[(true, held), (true, 0)]));
+        let numbers = [(true, held), (true, 0)];
+        let found = told(alloc, &holdings, None, 256, &[a, b], &numbers)?;
+        same(&rt, &found, &(wanting(None, None, pairs, length), true));
     }
     Ok(())
 }
@@ -253,17 +285,21 @@ fn with_a_write(alloc: Global, b: Name) -> Result<Holdings, Fault> {
     Ok(holdings)
 }
 
+/// The digest that answers another, asked for once more where memory was refused.
+fn answer(alloc: Global, holdings: &Holdings) -> Result<Digest, Fault> {
+    match build(alloc, holdings, None, false, 256) {
+        Err(Fault::NoMemory) => build(alloc, holdings, None, false, 256),
+        built => built,
+    }
+}
+
 #[test]
 fn a_node_with_a_write_answers(rt: HostRuntime) -> Result<(), Fail> {
-    let alloc = rt.alloc();
     let b = Name::read(b"b")?;
-    let holdings = with_a_write(alloc, b)?;
-    let digest = match build(alloc, &holdings, None, false, 256) {
-        Err(Fault::NoMemory) => build(alloc, &holdings, None, false, 256)?,
-        built => built?,
-    };
-    assert_eq!(rt; extent(&digest), (false, None, None, None, 1, 16));
-    assert!(rt; are_pairs(&digest, &[(b, 1)]));
+    let holdings = with_a_write(rt.alloc(), b)?;
+    let digest = answer(rt.alloc(), &holdings)?;
+    let found = (extent(&digest), are_pairs(&digest, &[(b, 1)]));
+    same(&rt, &found, &((false, None, None, None, 1, 16), true));
     Ok(())
 }
 
@@ -283,14 +319,15 @@ fn a_range_begins_at_any_name(rt: HostRuntime) -> Result<(), Fail> {
     let [ab, ca] = [Name::read(b"ab")?, Name::read(b"ca")?];
     let holdings = holding(alloc, a, &[b, c])?;
     let (below, at_0, at_1) = ((false, 0), (true, 0), (true, 1));
+    let owners = [a, ab, b, c, ca];
     for (from, pairs, length, numbers) in [
         (ab, 2, 28, [below, at_0, at_1, at_1, at_0]),
         (c, 1, 17, [below, below, below, at_1, at_0]),
         (ca, 0, 8, [below, below, below, below, at_0]),
     ] {
-        let digest = asked(alloc, &holdings, Some(&from), 256)?;
-        assert_eq!(rt; extent(&digest), wanting(Some(from), None, pairs, length));
-        assert!(rt; are_told(&digest, &[a, ab, b, c, ca], &numbers), "{from:?}");
+        let found = told(alloc, &holdings, Some(&from), 256, &owners, &numbers)?;
+        let wanted = (wanting(Some(from), None, pairs, length), true);
+        same_at(&rt, &from, &found, &wanted);
     }
     Ok(())
 }
@@ -307,16 +344,16 @@ fn six_owners_take_two_digests(rt: HostRuntime) -> Result<(), Fail> {
     let holdings = holding(alloc, owners[0], &owners)?;
     let (out, new) = ((false, 0), (true, 0));
     let held = (true, 1);
-    for (budget, from, until, pairs, length, told) in [
+    for (budget, from, until, pairs, length, numbers) in [
         (256, 9, 5, 5, 243, [new, held, held, held, held, out]),
         (256, 5, 9, 1, 79, [out, out, out, out, out, held]),
         (257, 9, 5, 5, 243, [new, held, held, held, held, out]),
         (258, 9, 9, 6, 252, [new, held, held, held, held, held]),
     ] {
         let (from, until) = (name_at(&owners, from), name_at(&owners, until));
-        let digest = asked(alloc, &holdings, from.as_ref(), budget)?;
-        assert_eq!(rt; extent(&digest), wanting(from, until, pairs, length));
-        assert!(rt; are_told(&digest, &owners, &told), "{budget}");
+        let found = told(alloc, &holdings, from.as_ref(), budget, &owners, &numbers)?;
+        let wanted = (wanting(from, until, pairs, length), true);
+        same_at(&rt, &budget, &found, &wanted);
     }
     Ok(())
 }
@@ -328,15 +365,14 @@ fn seven_owners_take_two_digests(rt: HostRuntime) -> Result<(), Fail> {
     let owners = six_owners()?;
     let seventh = Name::read(&[b'g'; 32])?;
     let holdings = holding(alloc, seventh, &owners)?;
+    let ends = [owners[4], owners[5], seventh];
     for (from, until, pairs, length, numbers) in [
         (9, 5, 5, 243, [(true, 1), (false, 0), (false, 0)]),
         (5, 9, 2, 120, [(false, 0), (true, 1), (true, 0)]),
     ] {
         let (from, until) = (name_at(&owners, from), name_at(&owners, until));
-        let digest = asked(alloc, &holdings, from.as_ref(), 256)?;
-        assert_eq!(rt; extent(&digest), wanting(from, until, pairs, length));
-        let ends = [owners[4], owners[5], seventh];
-        assert!(rt; are_told(&digest, &ends, &numbers));
+        let found = told(alloc, &holdings, from.as_ref(), 256, &ends, &numbers)?;
+        same(&rt, &found, &(wanting(from, until, pairs, length), true));
     }
     Ok(())
 }
@@ -365,35 +401,33 @@ fn holdings_of_all_owners(alloc: Global) -> Result<Holdings, Fault> {
 #[test]
 fn all_owners_are_told_of(rt: HostRuntime) -> Result<(), Fail> {
     let alloc = rt.alloc();
-    let holdings = holdings_of_all_owners(alloc)?;
-    let all = asked(alloc, &holdings, None, 65_536)?;
-    assert_eq!(rt; extent(&all), wanting(None, None, 1_024, 41_990));
     let ends = [numbered_name(0)?, numbered_name(1_023)?];
-    assert!(rt; are_told(&all, &ends, &[(true, 0), (true, 1)]));
+    let numbers = [(true, 0), (true, 1)];
+    let holdings = holdings_of_all_owners(alloc)?;
+    let all = told(alloc, &holdings, None, 65_536, &ends, &numbers)?;
+    same(&rt, &all, &(wanting(None, None, 1_024, 41_990), true));
     let mut from = None;
     for turn in 0..256_u32 {
-        let digest = asked(alloc, &holdings, from.as_ref(), 256)?;
+        let (found, _) = told(alloc, &holdings, from.as_ref(), 256, &[], &[])?;
         let (pairs, length) = match turn {
             0 => (5, 243),
             255 => (3, 161),
             _ => (4, 234),
         };
-        assert_eq!(rt;
-            extent(&digest),
-            wanting(from, digest.until(), pairs, length)
-        );
-        from = digest.next_from();
+        let (_, _, until, next_from, _, _) = found;
+        same_at(&rt, &turn, &found, &wanting(from, until, pairs, length));
+        from = next_from;
     }
-    assert_eq!(rt; from, None);
+    same(&rt, &from, &None);
     Ok(())
 }
 
-/// The digest of a new node from its own name on, and the one behind all names.
-fn first_and_rest(alloc: Global, me: Name) -> Result<(Digest, Digest), Fault> {
+/// The extents of the digest of a new node from its own name on, and of the one from z on, behind all names.
+fn first_and_rest(alloc: Global, me: Name, z: Name) -> Result<(Extent, Extent), Fault> {
     let holdings = Holdings::new(alloc, me, Table::new(alloc))?;
     let first = build(alloc, &holdings, Some(me), true, 256)?;
-    let rest = build(alloc, &holdings, Some(Name::read(b"z")?), false, 256)?;
-    Ok((first, rest))
+    let rest = build(alloc, &holdings, Some(z), false, 256)?;
+    Ok((extent(&first), extent(&rest)))
 }
 
 /// Whichever allocation is refused, a digest is whole, or there is none and the fault tells why.
@@ -401,12 +435,13 @@ fn first_and_rest(alloc: Global, me: Name) -> Result<(Digest, Digest), Fault> {
 fn a_digest_is_whole_or_not_there(rt: HostRuntime) -> Result<(), Fail> {
     let a = Name::read(b"a")?;
     let z = Name::read(b"z")?;
-    match first_and_rest(rt.alloc(), a) {
-        Ok((first, rest)) => {
-            assert_eq!(rt; extent(&first), wanting(Some(a), None, 1, 17));
-            assert_eq!(rt; extent(&rest), (false, Some(z), None, None, 0, 7));
+    match first_and_rest(rt.alloc(), a, z) {
+        Ok(found) => {
+            let first = wanting(Some(a), None, 1, 17);
+            let rest = (false, Some(z), None, None, 0, 7);
+            same(&rt, &found, &(first, rest));
         }
-        Err(fault) => assert_eq!(rt; fault, Fault::NoMemory),
+        Err(fault) => same(&rt, &fault, &Fault::NoMemory),
     }
     Ok(())
 }

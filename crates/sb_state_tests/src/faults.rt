@@ -1,4 +1,5 @@
 //! The number and the text of each fault, as they are printed.
+use crate::same;
 use sb_types::Fault;
 use std::test::Fail;
 
@@ -116,7 +117,7 @@ const FAULTS: &[(Fault, u8, &str)] = &[
 fn each_fault_has_its_number_and_its_text(rt: HostRuntime) -> Result<(), Fail> {
     for (fault, number, text) in FAULTS.iter() {
         let printed = fault.to_string(rt.alloc())?;
-        assert_eq!(rt; (fault.number(), printed.as_str()), (*number, *text));
+        same(&rt, &(fault.number(), printed.as_str()), &(*number, *text));
     }
     Ok(())
 }

@@ -1,5 +1,6 @@
 //! Holdings: what is taken of blocks and of own writes, by tables of cases, also at the greatest sizes.
 
+use crate::{holds, same, same_at};
 use sb_holdings::{BlockEnd, Holdings, Report};
 use sb_table::Table;
 use sb_types::{Block, Entry, Fault, Key, Name, Slot, Value};
@@ -94,6 +95,23 @@ fn block_case(
     }
 }
 
+/// The case of a block that is taken whole, whose keys are numbered from 1 on and are all that there may be.
+fn again(after: u64, first: u32, count: u32, upto: u64) -> Case {
+    let end = BlockEnd::Taken(u64::from(count));
+    Case {
+        key: 1,
+        ..block_case(after, first, count, end, upto, Some(4_096))
+    }
+}
+
+/// How many keys an owner has, where it is known.
+fn key_count(holdings: &Holdings, owner: &Name) -> Option<usize> {
+    match holdings.table(owner) {
+        Some(table) => Some(table.len()),
+        None => None,
+    }
+}
+
 /// How the case's block ends, how far the owner is then held, and how many keys it has where it is known.
 fn take(
     alloc: Global,
@@ -103,39 +121,46 @@ fn take(
 ) -> Result<(BlockEnd, u64, Option<usize>), Fault> {
     let entries = entries(alloc, case.first, case.count, case.key)?;
     let end = applied(holdings, &Block::new(*owner, case.after, entries)?)?;
-    let keys = match holdings.table(owner) {
-        Some(table) => Some(table.len()),
-        None => None,
-    };
-    Ok((end, holdings.upto(owner), keys))
+    Ok((end, holdings.upto(owner), key_count(holdings, owner)))
 }
 
-/// The blocks come in turn, and each is ended and held as its case says.
+/// The blocks of an owner come in turn, and each is ended and held as its case says.
 fn assert_cases(
     rt: &impl Abort,
     alloc: Global,
     holdings: &mut Holdings,
-    owner: &Name,
+    owner: &[u8],
     cases: &[Case],
 ) -> Result<(), Fault> {
+    let owner = Name::read(owner)?;
     for case in cases {
-        let held = take(alloc, holdings, owner, case)?;
-        assert_eq!(rt; held, (case.end, case.upto, case.keys), "{}", case.first);
+        let held = take(alloc, holdings, &owner, case)?;
+        same_at(rt, &case.first, &held, &(case.end, case.upto, case.keys));
     }
     Ok(())
 }
 
-/// The lines of the example of `Holdings`.
+/// A block of a's first write, a flag.
+fn first_flag(alloc: Global, a: Name) -> Result<Block, Fault> {
+    let entry = Entry::new(Key::read(b"up")?, 1, Slot::Set(Value::flag(true)));
+    Block::new(a, 0, vec![in alloc; entry]?)
+}
+
+/// How a block ends, how it ends once more, and how far its owner is then held.
+fn ends_of(holdings: &mut Holdings, block: &Block) -> (BlockEnd, BlockEnd, u64) {
+    let end = holdings.apply_block(block);
+    let again = holdings.apply_block(block);
+    (end, again, holdings.upto(block.owner()))
+}
+
+/// The example of `Holdings`.
 #[test]
 fn example_of_holdings(rt: HostRuntime) -> Result<(), Fail> {
     let alloc = rt.alloc();
-    let a = Name::read(b"a")?;
-    let mut holdings = Holdings::new(alloc, Name::read(b"b")?, Table::new(alloc))?;
-    let entry = Entry::new(Key::read(b"up")?, 1, Slot::Set(Value::flag(true)));
-    let block = Block::new(a, 0, vec![in alloc; entry]?)?;
-    assert_eq!(rt; holdings.apply_block(&block), BlockEnd::Taken(1));
-    assert_eq!(rt; holdings.apply_block(&block), BlockEnd::Stale);
-    assert_eq!(rt; holdings.upto(&a), 1);
+    let block = first_flag(alloc, Name::read(b"a")?)?;
+    let mut holdings = holdings_of(alloc, b"b")?;
+    let found = ends_of(&mut holdings, &block);
+    same(&rt, &found, &(BlockEnd::Taken(1), BlockEnd::Stale, 1));
     Ok(())
 }
 
@@ -150,20 +175,26 @@ fn blocks_join_on_or_change_nothing(rt: HostRuntime) -> Result<(), Fail> {
         block_case(2, 3, 1, BlockEnd::Stale, 3, Some(3)),
         block_case(0, 1, 4, BlockEnd::Taken(1), 4, Some(4)),
     ];
-    assert_cases(&rt, alloc, &mut holdings, &Name::read(b"a")?, &cases)?;
+    assert_cases(&rt, alloc, &mut holdings, b"a", &cases)?;
     Ok(())
 }
 
-/// How the block of an entry ends, and what is then shown of its owner under x and y.
+/// A block of one entry.
+fn block_of(alloc: Global, owner: Name, after: u64, entry: Entry) -> Result<Block, Fault> {
+    Block::new(owner, after, vec![in alloc; entry]?)
+}
+
+/// How the block of a write ends, and what is then shown of its owner under x and y.
 fn take_entry(
     alloc: Global,
     holdings: &mut Holdings,
     owner: &[u8],
     after: u64,
-    entry: Entry,
+    write: (&[u8], u64, bool),
 ) -> Result<(BlockEnd, Shown, Shown), Fault> {
     let owner = Name::read(owner)?;
-    let block = Block::new(owner, after, vec![in alloc; entry]?)?;
+    let (key, version, is_set) = write;
+    let block = block_of(alloc, owner, after, entry(key, version, is_set)?)?;
     let end = applied(holdings, &block)?;
     let [x, y] = [
         weight_at(holdings, &owner, b"x"),
@@ -177,45 +208,20 @@ fn take_entry(
 fn keys_show_their_last_write(rt: HostRuntime) -> Result<(), Fail> {
     let alloc = rt.alloc();
     let mut holdings = holdings_of(alloc, b"n")?;
-    let second = Some((2, Some(2)));
+    let taken = BlockEnd::Taken(1);
+    let (second, third, gone) = (Some((2, Some(2))), Some((3, Some(3))), Some((3, None)));
     for (owner, key, after, is_set, end, x, y) in [
         (b"a", b"y", 1, true, BlockEnd::Gap, None, None),
-        (b"a", b"y", 0, true, BlockEnd::Taken(1), None, second),
-        (
-            b"a",
-            b"x",
-            2,
-            true,
-            BlockEnd::Taken(1),
-            Some((3, Some(3))),
-            second,
-        ),
-        (
-            b"b",
-            b"x",
-            0,
-            true,
-            BlockEnd::Taken(1),
-            Some((2, Some(2))),
-            None,
-        ),
-        (
-            b"b",
-            b"x",
-            2,
-            false,
-            BlockEnd::Taken(1),
-            Some((3, None)),
-            None,
-        ),
-        (b"b", b"x", 0, true, BlockEnd::Stale, Some((3, None)), None),
+        (b"a", b"y", 0, true, taken, None, second),
+        (b"a", b"x", 2, true, taken, third, second),
+        (b"b", b"x", 0, true, taken, second, None),
+        (b"b", b"x", 2, false, taken, gone, None),
+        (b"b", b"x", 0, true, BlockEnd::Stale, gone, None),
     ] {
         let version = if after == 0 { 2 } else { 3 };
-        let entry = entry(key, version, is_set)?;
-        assert_eq!(rt;
-            take_entry(alloc, &mut holdings, owner, after, entry)?,
-            (end, x, y)
-        );
+        let write = (key.as_slice(), version, is_set);
+        let found = take_entry(alloc, &mut holdings, owner, after, write)?;
+        same(&rt, &found, &(end, x, y));
     }
     Ok(())
 }
@@ -231,12 +237,15 @@ fn assert_own(
     let (key, version, is_set) = write;
     let found = crate::settled(holdings.push_own(entry(key, version, is_set)?))?;
     let me = *holdings.me();
-    assert_eq!(rt;
-        (found, weight_at(holdings, &me, key)),
-        (answer, shown),
-        "{version}"
-    );
+    let held = (found, weight_at(holdings, &me, key));
+    same_at(rt, &version, &held, &(answer, shown));
     Ok(())
+}
+
+/// The own name, how far it is held, and how many keys it has.
+fn own(holdings: &Holdings) -> (Name, u64, Option<usize>) {
+    let me = *holdings.me();
+    (me, holdings.upto(&me), key_count(holdings, &me))
 }
 
 #[test]
@@ -244,8 +253,7 @@ fn own_writes_come_in_turn(rt: HostRuntime) -> Result<(), Fail> {
     let alloc = rt.alloc();
     let me = Name::read(b"m")?;
     let mut holdings = holdings_of(alloc, b"m")?;
-    let own = holdings.table(&me).map(|table| table.len());
-    assert_eq!(rt; (*holdings.me(), holdings.upto(&me), own), (me, 0, Some(0)));
+    same(&rt, &own(&holdings), &(me, 0, Some(0)));
     let first = Some((1, Some(1)));
     for (version, answer, shown) in [
         (2, Err(Fault::OutOfTurn(1)), None),
@@ -258,7 +266,7 @@ fn own_writes_come_in_turn(rt: HostRuntime) -> Result<(), Fail> {
         block_case(0, 1, 1, BlockEnd::Own, 1, Some(1)),
         block_case(1, 2, 1, BlockEnd::OwnAhead(2), 1, Some(1)),
     ];
-    assert_cases(&rt, alloc, &mut holdings, &me, &cases)?;
+    assert_cases(&rt, alloc, &mut holdings, b"m", &cases)?;
     Ok(())
 }
 
@@ -282,18 +290,16 @@ fn owners_have_a_limit(rt: HostRuntime) -> Result<(), Fail> {
     let mut holdings = holdings_of(alloc, b"m")?;
     let first = [block_case(0, 1, 1, BlockEnd::Taken(1), 1, Some(1))];
     for number in 1..1_024 {
-        let owner = Name::read(&text_of(number))?;
-        assert_cases(&rt, alloc, &mut holdings, &owner, &first)?;
+        assert_cases(&rt, alloc, &mut holdings, &text_of(number), &first)?;
     }
     let refused = [
         block_case(0, 1, 1, BlockEnd::OwnersFull, 0, None),
         block_case(2, 3, 1, BlockEnd::Gap, 0, None),
     ];
-    assert_cases(&rt, alloc, &mut holdings, &Name::read(b"zz")?, &refused)?;
-    assert_eq!(rt; holdings.owners().count(), 1_024);
-    let known = Name::read(&text_of(1))?;
+    assert_cases(&rt, alloc, &mut holdings, b"zz", &refused)?;
+    same(&rt, &holdings.owners().count(), &1_024);
     let second = [block_case(1, 2, 1, BlockEnd::Taken(1), 2, Some(2))];
-    assert_cases(&rt, alloc, &mut holdings, &known, &second)?;
+    assert_cases(&rt, alloc, &mut holdings, &text_of(1), &second)?;
     Ok(())
 }
 
@@ -304,17 +310,6 @@ fn keys_have_a_limit(rt: HostRuntime) -> Result<(), Fail> {
     let a = Name::read(b"a")?;
     let mut holdings = holdings_of(alloc, b"b")?;
     let all = Some(4_096);
-    let again = |after, first, count, upto| Case {
-        key: 1,
-        ..block_case(
-            after,
-            first,
-            count,
-            BlockEnd::Taken(u64::from(count)),
-            upto,
-            all,
-        )
-    };
     let cases = [
         block_case(0, 1, 4_094, BlockEnd::Taken(4_094), 4_094, Some(4_094)),
         block_case(4_092, 4_093, 7, BlockEnd::TooManyKeys(2), 4_096, all),
@@ -323,10 +318,10 @@ fn keys_have_a_limit(rt: HostRuntime) -> Result<(), Fail> {
         again(4_098, 4_099, 4_096, 8_194),
         again(8_194, 8_195, 4_096, 12_290),
     ];
-    assert_cases(&rt, alloc, &mut holdings, &a, &cases)?;
+    assert_cases(&rt, alloc, &mut holdings, b"a", &cases)?;
     for (key, version) in [(1, 8_195), (2, 8_196), (4_096, 12_290)] {
         let shown = weight_at(&holdings, &a, &text_of(key));
-        assert_eq!(rt; shown, Some((version, Some(version))));
+        same_at(&rt, &key, &shown, &Some((version, Some(version))));
     }
     Ok(())
 }
@@ -344,7 +339,7 @@ fn the_greatest_block_is_taken(rt: HostRuntime) -> Result<(), Fail> {
         4_096,
         Some(4_096),
     )];
-    assert_cases(&rt, alloc, &mut holdings, &Name::read(b"a")?, &greatest)?;
+    assert_cases(&rt, alloc, &mut holdings, b"a", &greatest)?;
     Ok(())
 }
 
@@ -376,15 +371,16 @@ fn owners_are(
 
 #[test]
 fn owners_come_in_the_order_of_their_names(rt: HostRuntime) -> Result<(), Fail> {
+    let first = Name::read(b"ma")?;
     let mut holdings = holdings_of(rt.alloc(), b"m")?;
     let two = [block_case(0, 1, 2, BlockEnd::Taken(2), 2, Some(2))];
     for name in [b"z".as_slice(), b"a", b"ma"] {
-        assert_cases(&rt, rt.alloc(), &mut holdings, &Name::read(name)?, &two)?;
+        assert_cases(&rt, rt.alloc(), &mut holdings, name, &two)?;
     }
     let owners = [b"a".as_slice(), b"m", b"ma", b"z"];
     let later = [(b"ma".as_slice(), 2), (b"z", 2)];
-    let found = owners_are(&holdings, &owners, &Name::read(b"ma")?, &later);
-    assert_eq!(rt; found, (true, true, 4));
+    let found = owners_are(&holdings, &owners, &first, &later);
+    same(&rt, &found, &(true, true, 4));
     Ok(())
 }
 
@@ -414,9 +410,9 @@ fn a_front_stays_where_memory_runs_out(rt: HostRuntime) -> Result<(), Fail> {
             } else {
                 (BlockEnd::NoMemory(held), BlockEnd::Taken(rest))
             };
-            assert_eq!(rt; (end, again, upto), (ends.0, ends.1, 3));
+            same(&rt, &(end, again, upto), &(ends.0, ends.1, 3));
         }
-        Err(fault) => assert_eq!(rt; fault, Fault::NoMemory),
+        Err(fault) => same(&rt, &fault, &Fault::NoMemory),
     }
     Ok(())
 }
@@ -434,18 +430,23 @@ fn is_pushed_or_left(holdings: &mut Holdings, key: &[u8]) -> Result<bool, Fault>
     })
 }
 
+/// Whether each of nine own writes is entered, or leaves what was held for want of memory.
+fn are_pushed_or_left(alloc: Global) -> Result<bool, Fault> {
+    let mut holdings = holdings_of(alloc, b"m")?;
+    let mut are_right = true;
+    for number in 1..10 {
+        are_right &= is_pushed_or_left(&mut holdings, &text_of(number))?;
+    }
+    Ok(are_right)
+}
+
 /// Whichever allocation is refused.
 #[test]
-fn own_writes_without_memory_change_nothing(rt: HostRuntime) -> Result<(), Fail> {
-    match holdings_of(rt.alloc(), b"m") {
-        Ok(mut holdings) => {
-            for number in 1..10 {
-                assert!(rt; is_pushed_or_left(&mut holdings, &text_of(number))?);
-            }
-        }
-        Err(fault) => assert_eq!(rt; fault, Fault::NoMemory),
+fn own_writes_without_memory_change_nothing(rt: HostRuntime) {
+    match are_pushed_or_left(rt.alloc()) {
+        Ok(are_right) => holds(&rt, "each is entered or left", are_right),
+        Err(fault) => same(&rt, &fault, &Fault::NoMemory),
     }
-    Ok(())
 }
 
 #[test]
@@ -453,6 +454,6 @@ fn reports_list_the_ends(rt: HostRuntime) -> Result<(), Fail> {
     let ends = [BlockEnd::Taken(2), BlockEnd::Gap];
     let report = Report::new(Vec::from_array(rt.alloc(), ends)?);
     let read = (report.len(), report.is_empty(), report.ends());
-    assert_eq!(rt; read, (2, false, ends.as_slice()));
+    same(&rt, &read, &(2, false, ends.as_slice()));
     Ok(())
 }

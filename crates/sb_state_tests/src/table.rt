@@ -3,6 +3,7 @@ ghost use Rattle.std.specs.Prelude.{◌≡◌, IfOk, map};
 ghost use Rattle.sb_types.specs.Runs.{above};
 ghost use Rattle.sb_table.specs.Order.{by_key, under};
 
+use crate::{same, same_at};
 use sb_table::Table;
 use sb_types::{Entry, Fault, KEYS_MOST, Key, Prefix, Slot, Value};
 use std::alloc::{AllocError, Global};
@@ -42,12 +43,25 @@ fn table_of(alloc: Global, writes: &[Write<'_>]) -> Result<Table, Fault> {
 }
 
 /// The version and the weight under a key.
+type Shown = Option<(u64, Option<u64>)>;
+
 pub fn shown(table: &Table, key: &[u8]) -> Option<(u64, Option<u64>)> {
     match table.get(&Key::read(key).ok()?) {
         Some((version, Slot::Set(value))) => Some((version, value.as_weight())),
         Some((version, Slot::Removed)) => Some((version, None)),
         None => None,
     }
+}
+
+/// How many keys there are, the last version, and what is shown under each of these keys.
+fn shown_under(table: &Table, keys: [&[u8]; 3]) -> (usize, u64, [Shown; 3]) {
+    let [first, second, third] = keys;
+    let found = [
+        shown(table, first),
+        shown(table, second),
+        shown(table, third),
+    ];
+    (table.len(), table.upto(), found)
 }
 
 // What the iterators say reaches their callers.
@@ -81,19 +95,23 @@ fn are_under(alloc: Global, table: &Table, text: &[u8], wanted: &[u64]) -> Resul
 }
 
 #[test]
+fn a_new_table_is_empty(rt: HostRuntime) {
+    let none = Table::new(rt.alloc());
+    same(&rt, &(none.is_empty(), none.upto()), &(true, 0));
+}
+
+#[test]
 fn later_writes_take_the_place_of_earlier(rt: HostRuntime) -> Result<(), Fail> {
     let alloc = rt.alloc();
-    let none = Table::new(alloc);
-    assert_eq!(rt; (none.is_empty(), none.upto()), (true, 0));
     let writes = [
         (b"a".as_slice(), 1, Some(7)),
         (b"b", 2, None),
         (b"a", 4, Some(9)),
     ];
     let table = table_of(alloc, &writes)?;
-    assert_eq!(rt; (table.len(), table.upto()), (2, 4));
-    let found = [b"a", b"b", b"c"].map(|key| shown(&table, key));
-    assert_eq!(rt; found, [Some((4, Some(9))), Some((2, None)), None]);
+    let found = shown_under(&table, [b"a", b"b", b"c"]);
+    let wanted = [Some((4, Some(9))), Some((2, None)), None];
+    same(&rt, &found, &(2, 4, wanted));
     for (version, above) in [
         (0, [2, 4].as_slice()),
         (1, &[2, 4]),
@@ -101,7 +119,8 @@ fn later_writes_take_the_place_of_earlier(rt: HostRuntime) -> Result<(), Fail> {
         (3, &[4]),
         (4, &[]),
     ] {
-        assert!(rt; are_above(alloc, &table, version, above)?, "{version}");
+        let are_right = are_above(alloc, &table, version, above)?;
+        same_at(&rt, &version, &are_right, &true);
     }
     Ok(())
 }
@@ -124,23 +143,27 @@ fn a_prefix_gives_its_keys_in_order(rt: HostRuntime) -> Result<(), Fail> {
         (b"net/b", &[1]),
         (b"x", &[]),
     ] {
-        assert!(rt; are_under(rt.alloc(), &table, text, wanted)?, "{text:?}");
+        let are_right = are_under(rt.alloc(), &table, text, wanted)?;
+        same_at(&rt, &text, &are_right, &true);
     }
     Ok(())
+}
+
+/// How many keys a table has, its last version, and whether the write of that removed the key.
+fn ends_removed(table: &Table, key: &Key) -> (usize, u64, bool) {
+    let is_removed = matches!(table.get(key), Some((2, Slot::Removed)));
+    (table.len(), table.upto(), is_removed)
 }
 
 /// The example of `Table`.
 #[test]
 fn example_of_a_table(rt: HostRuntime) -> Result<(), Fail> {
-    let mut table = Table::new(rt.alloc());
     let key = Key::read(b"port")?;
-    push(
-        &mut table,
-        Entry::new(key, 1, Slot::Set(Value::weight(80)?)),
-    )?;
+    let port = Value::weight(80)?;
+    let mut table = Table::new(rt.alloc());
+    push(&mut table, Entry::new(key, 1, Slot::Set(port)))?;
     push(&mut table, Entry::new(key, 2, Slot::Removed))?;
-    assert_eq!(rt; (table.len(), table.upto()), (1, 2));
-    assert!(rt; matches!(table.get(&key), Some((2, Slot::Removed))));
+    same(&rt, &ends_removed(&table, &key), &(1, 2, true));
     Ok(())
 }
 
@@ -178,19 +201,31 @@ fn a_full_table_takes_no_new_key(rt: HostRuntime) -> Result<(), Fail> {
         ),
         (b"new", 12_291, (full, 4096, 12_290, None)),
     ] {
-        assert_eq!(rt; write_one(&mut table, key, version)?, answered);
-        assert_eq!(rt; shown(&table, b"k4096"), Some((8193, Some(8193))));
+        let found = write_one(&mut table, key, version)?;
+        let kept = shown(&table, b"k4096");
+        let wanted = (answered, Some((8193, Some(8193))));
+        same_at(&rt, &version, &(found, kept), &wanted);
     }
     Ok(())
 }
 
-/// The first and the last of these, and how many there are.
-fn ends(versions: &[u64]) -> (Option<u64>, Option<u64>, usize) {
+/// The first and the last of versions, and how many there are.
+type Ends = (Option<u64>, Option<u64>, usize);
+
+fn ends(versions: &[u64]) -> Ends {
     (
         versions.first().copied(),
         versions.last().copied(),
         versions.len(),
     )
+}
+
+fn ends_above(alloc: Global, table: &Table, version: u64) -> Result<Ends, Fault> {
+    Ok(ends(&versions_after(alloc, table, version)?))
+}
+
+fn ends_under(alloc: Global, table: &Table, text: &[u8]) -> Result<Ends, Fault> {
+    Ok(ends(&versions_under(alloc, table, &Prefix::read(text)?)?))
 }
 
 #[test]
@@ -203,7 +238,7 @@ fn a_full_table_gives_all_that_it_has(rt: HostRuntime) -> Result<(), Fail> {
         (12_287, (Some(12_288), Some(12_288), 1)),
         (12_288, (None, None, 0)),
     ] {
-        assert_eq!(rt; ends(&versions_after(alloc, &table, version)?), wanted);
+        same(&rt, &ends_above(alloc, &table, version)?, &wanted);
     }
     for (text, wanted) in [
         (b"".as_slice(), (Some(12_288), Some(8193), 4096)),
@@ -212,8 +247,7 @@ fn a_full_table_gives_all_that_it_has(rt: HostRuntime) -> Result<(), Fail> {
         (b"k4096", (Some(8193), Some(8193), 1)),
         (b"k4097", (None, None, 0)),
     ] {
-        let versions = versions_under(alloc, &table, &Prefix::read(text)?)?;
-        assert_eq!(rt; ends(&versions), wanted);
+        same(&rt, &ends_under(alloc, &table, text)?, &wanted);
     }
     Ok(())
 }
@@ -231,7 +265,7 @@ fn the_greatest_version_is_entered(rt: HostRuntime) -> Result<(), Fail> {
         table.after(greatest).count(),
     );
     let found = (table.upto(), shown(&table, b"a"), counts);
-    assert_eq!(rt; found, (greatest, Some((greatest, Some(2))), (1, 0)));
+    same(&rt, &found, &(greatest, Some((greatest, Some(2))), (1, 0)));
     Ok(())
 }
 
@@ -269,7 +303,8 @@ fn many_keys_come_in_order(rt: HostRuntime) -> Result<(), Fail> {
     let alloc = rt.alloc();
     let table = many_keys(alloc)?;
     for (version, wanted) in [(0, ABOVE_0), (25, [26, 27, 28, 29, 30].as_slice())] {
-        assert!(rt; are_above(alloc, &table, version, wanted)?, "{version}");
+        let are_right = are_above(alloc, &table, version, wanted)?;
+        same_at(&rt, &version, &are_right, &true);
     }
     for (text, wanted) in [
         (b"k".as_slice(), UNDER_K),
@@ -278,7 +313,8 @@ fn many_keys_come_in_order(rt: HostRuntime) -> Result<(), Fail> {
         (b"j", &[27]),
         (b"m", &[]),
     ] {
-        assert!(rt; are_under(alloc, &table, text, wanted)?, "{text:?}");
+        let are_right = are_under(alloc, &table, text, wanted)?;
+        same_at(&rt, &text, &are_right, &true);
     }
     Ok(())
 }
@@ -286,9 +322,9 @@ fn many_keys_come_in_order(rt: HostRuntime) -> Result<(), Fail> {
 #[test]
 fn many_keys_are_found(rt: HostRuntime) -> Result<(), Fail> {
     let table = many_keys(rt.alloc())?;
-    assert_eq!(rt; table.len(), 28);
-    let found = [b"kz".as_slice(), b"kq", b"k"].map(|key| shown(&table, key));
-    assert_eq!(rt; found, [Some((20, Some(1))), Some((30, None)), None]);
+    let found = shown_under(&table, [b"kz", b"kq", b"k"]);
+    let wanted = [Some((20, Some(1))), Some((30, None)), None];
+    same(&rt, &found, &(28, 30, wanted));
     Ok(())
 }
 
@@ -331,7 +367,10 @@ fn a_write_without_memory_leaves_the_table(rt: HostRuntime) {
     for place in 0..LETTERS.len() {
         let version = place as u64 * 2 + 1;
         let [key, again] = [[LETTERS[place]], [LETTERS[place / 2]]];
-        assert!(rt; is_written_or_left(&mut table, &key, version));
-        assert!(rt; is_written_or_left(&mut table, &again, version + 1));
+        let answers = [
+            is_written_or_left(&mut table, &key, version),
+            is_written_or_left(&mut table, &again, version + 1),
+        ];
+        same_at(&rt, &place, &answers, &[true, true]);
     }
 }

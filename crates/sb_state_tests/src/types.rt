@@ -1,7 +1,7 @@
 //! Values, blocks, deltas and settings: what no clause says, and each limit at its full size.
 ghost use Rattle.std.specs.Prelude.{◌≤◌};
 
-use crate::settled;
+use crate::{holds, same, same_at, settled};
 use sb_types::{
     Block, Delta, Entry, Fault, Key, Name, Order, Prefix, RawSettings, Settings, Slot, Value,
     ValueRef,
@@ -13,12 +13,24 @@ const MAX_32: &[u8] = b"abcdefghijklmnopqrstuvwxyz-01234";
 
 const MAX_64: &[u8] = b"abcdefghijklmnopqrstuvwxyz012345.bcdefghijklmnopqrstuvwxyz_/-789";
 
+fn is_read_as_name(text: &[u8]) -> Result<bool, Fault> {
+    Ok(Name::read(text)?.bytes() == text)
+}
+
+fn is_read_as_key(text: &[u8]) -> Result<bool, Fault> {
+    Ok(Key::read(text)?.bytes() == text)
+}
+
+fn is_read_as_prefix(text: &[u8]) -> Result<bool, Fault> {
+    Ok(Prefix::read(text)?.bytes() == text)
+}
+
 /// Whether a text is read with its bytes: as a name, as a key and as a prefix.
 fn read_text(text: &[u8]) -> [Result<bool, Fault>; 3] {
     [
-        Name::read(text).map(|name| name.bytes() == text),
-        Key::read(text).map(|key| key.bytes() == text),
-        Prefix::read(text).map(|prefix| prefix.bytes() == text),
+        is_read_as_name(text),
+        is_read_as_key(text),
+        is_read_as_prefix(text),
     ]
 }
 
@@ -39,7 +51,7 @@ fn texts_within_their_limits(rt: HostRuntime) {
         (b"a:b", [no_name, no_key, no_key]),
         (b"\xc3\xa4", [no_name, no_key, no_key]),
     ] {
-        assert_eq!(rt; read_text(text), read, "{text:?}");
+        same_at(&rt, &text, &read_text(text), &read);
     }
 }
 
@@ -52,9 +64,10 @@ fn are_ascending(first: &[u8], second: &[u8]) -> Result<(bool, bool), Fault> {
 #[test]
 fn texts_have_an_order(rt: HostRuntime) -> Result<(), Fail> {
     for [first, second] in [[b"a".as_slice(), b"a-"], [b"a9", b"b"], [b"net", b"net-a"]] {
-        assert_eq!(rt; are_ascending(first, second), Ok((true, true)));
+        same(&rt, &are_ascending(first, second), &Ok((true, true)));
     }
-    assert!(rt; Key::read(b"net")? < Key::read(b"net/a")?);
+    let is_below = Key::read(b"net")? < Key::read(b"net/a")?;
+    holds(&rt, "net is below net/a", is_below);
     Ok(())
 }
 
@@ -90,7 +103,8 @@ fn addresses_within_their_limits(rt: HostRuntime) -> Result<(), Fail> {
         (b"\x7f", no_value),
         (b"\x20", no_value),
     ] {
-        assert_eq!(rt; settled(address(rt.alloc(), text))?, read, "{text:?}");
+        let found = settled(address(rt.alloc(), text))?;
+        same_at(&rt, &text, &found, &read);
     }
     Ok(())
 }
@@ -104,8 +118,8 @@ fn weight(weight: u64) -> Result<Option<u64>, Fault> {
 fn weights_and_flags_within_their_limits(rt: HostRuntime) {
     let greatest = 9_223_372_036_854_775_807;
     let weights = [weight(greatest), weight(greatest + 1)];
-    assert_eq!(rt; weights, [Ok(Some(greatest)), Err(Fault::BadValue)]);
-    assert_eq!(rt; Value::flag(true).as_flag(), Some(true));
+    same(&rt, &weights, &[Ok(Some(greatest)), Err(Fault::BadValue)]);
+    same(&rt, &Value::flag(true).as_flag(), &Some(true));
 }
 
 /// Whether the words are this value, whose copy is the same, and which prints this line.
@@ -143,7 +157,8 @@ fn values_from_words(rt: HostRuntime) -> Result<(), Fail> {
         ("flag", "true", ValueRef::Flag(true), "flag true"),
         ("flag", "false", ValueRef::Flag(false), "flag false"),
     ] {
-        assert!(rt; is_value(rt.alloc(), (kind, word), seen, line)?, "{line}");
+        let is_right = is_value(rt.alloc(), (kind, word), seen, line)?;
+        holds(&rt, line, is_right);
     }
     Ok(())
 }
@@ -153,8 +168,9 @@ fn values_from_words(rt: HostRuntime) -> Result<(), Fail> {
 fn example_of_values(rt: HostRuntime) -> Result<(), Fail> {
     let alloc = rt.alloc();
     let value = Value::from_words(alloc, b"weight", b"7")?;
-    assert_eq!(rt; value.view(), ValueRef::Weight(7));
-    assert_eq!(rt; value.to_string(alloc)?.as_str(), "weight 7");
+    let line = value.to_string(alloc)?;
+    let found = (value.view(), line.as_str());
+    same(&rt, &found, &(ValueRef::Weight(7), "weight 7"));
     Ok(())
 }
 
@@ -162,8 +178,8 @@ fn example_of_values(rt: HostRuntime) -> Result<(), Fail> {
 #[test]
 fn example_of_names(rt: HostRuntime) -> Result<(), Fail> {
     let name = Name::read(b"node-7")?;
-    assert_eq!(rt; name.bytes(), b"node-7".as_slice());
-    assert!(rt; matches!(Name::read(b"Node 7"), Err(Fault::BadName)));
+    same(&rt, &name.bytes(), &b"node-7".as_slice());
+    same(&rt, &Name::read(b"Node 7").err(), &Some(Fault::BadName));
     Ok(())
 }
 
@@ -183,8 +199,8 @@ fn words_that_are_no_value(rt: HostRuntime) {
         (b"text", b"x"),
         (b"removed", b""),
     ] {
-        let read = Value::from_words(rt.alloc(), kind, word);
-        assert!(rt; matches!(read, Err(Fault::BadValue)), "{kind:?} {word:?}");
+        let found = Value::from_words(rt.alloc(), kind, word).err();
+        same_at(&rt, &(kind, word), &found, &Some(Fault::BadValue));
     }
 }
 
@@ -207,8 +223,9 @@ fn copied(alloc: Global) -> Result<(Key, u64, bool, u64), Fault> {
 #[test]
 fn copies_are_equal(rt: HostRuntime) -> Result<(), Fail> {
     let parts = copied(rt.alloc())?;
-    assert_eq!(rt; parts, (Key::read(b"net/a")?, 7, true, 10 + 5 + 7));
-    assert!(rt; matches!(Slot::Removed.copy(rt.alloc())?, Slot::Removed));
+    same(&rt, &parts, &(Key::read(b"net/a")?, 7, true, 10 + 5 + 7));
+    let is_removed = matches!(Slot::Removed.copy(rt.alloc())?, Slot::Removed);
+    holds(&rt, "a removal is copied", is_removed);
     Ok(())
 }
 
@@ -272,7 +289,7 @@ fn blocks_within_their_limits(rt: HostRuntime) -> Result<(), Fail> {
         (0, &[], no_block),
     ] {
         let parts = settled(block_parts(rt.alloc(), after, writes))?;
-        assert_eq!(rt; parts, made);
+        same(&rt, &parts, &made);
     }
     Ok(())
 }
@@ -292,7 +309,7 @@ fn long_block(alloc: Global, count: u32) -> Result<Parts, Fault> {
 fn the_longest_block(rt: HostRuntime) -> Result<(), Fail> {
     let longest = (true, 0, 65_535, 65_535, 12 + 65_535 * 23);
     for (count, made) in [(65_535, Ok(longest)), (65_536, Err(Fault::Malformed(3)))] {
-        assert_eq!(rt; settled(long_block(rt.alloc(), count))?, made);
+        same(&rt, &settled(long_block(rt.alloc(), count))?, &made);
     }
     Ok(())
 }
@@ -305,8 +322,10 @@ fn delta_of(alloc: Global, owners: &[&str]) -> Result<(u64, bool), Fault> {
         blocks.push(block_of(alloc, owner, 0, &[("w", 1)])?)?;
     }
     let delta = Delta::new(blocks)?;
-    let lent = delta.blocks().iter().map(|block| block.owner().bytes());
-    let is_lent = lent.eq(owners.iter().map(|owner| owner.as_bytes()));
+    let mut is_lent = delta.blocks().len() == owners.len();
+    for (block, owner) in delta.blocks().iter().zip(owners) {
+        is_lent &= block.owner().bytes() == owner.as_bytes();
+    }
     Ok((delta.encoded_length(), is_lent))
 }
 
@@ -318,7 +337,7 @@ fn deltas_within_their_limits(rt: HostRuntime) -> Result<(), Fail> {
         (&["b", "a"], Err(Fault::Malformed(3))),
         (&["a", "a"], Err(Fault::Malformed(3))),
     ] {
-        assert_eq!(rt; settled(delta_of(rt.alloc(), owners))?, made);
+        same(&rt, &settled(delta_of(rt.alloc(), owners))?, &made);
     }
     Ok(())
 }
@@ -351,7 +370,7 @@ fn long_delta(alloc: Global, last: usize) -> Result<u64, Fault> {
 #[test]
 fn the_longest_delta(rt: HostRuntime) -> Result<(), Fail> {
     for (last, made) in [(71, Ok(65_530)), (72, Err(Fault::Malformed(3)))] {
-        assert_eq!(rt; settled(long_delta(rt.alloc(), last))?, made);
+        same(&rt, &settled(long_delta(rt.alloc(), last))?, &made);
     }
     Ok(())
 }
@@ -378,7 +397,11 @@ fn settings_within_their_limits(rt: HostRuntime) -> Result<(), Fail> {
         settings.workers(),
     );
     let c1 = Name::read(b"c1")?;
-    assert_eq!(rt; read, (c1, 256, Order::Depth, 1_099_511_627_775, 64, 62));
+    same(
+        &rt,
+        &read,
+        &(c1, 256, Order::Depth, 1_099_511_627_775, 64, 62),
+    );
     Settings::check(RawSettings {
         budget: 65_536,
         max_version: 1,
@@ -420,6 +443,6 @@ fn settings_past_their_limits(rt: HostRuntime) {
         RawSettings { workers: 63, ..raw },
     ];
     for raw in wrong {
-        assert!(rt; matches!(Settings::check(raw), Err(Fault::BadSetting)));
+        same(&rt, &Settings::check(raw).err(), &Some(Fault::BadSetting));
     }
 }
