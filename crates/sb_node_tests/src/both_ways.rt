@@ -2,6 +2,7 @@
 ghost use Rattle.std.specs.Prelude.{◌≤◌, ◌<◌};
 
 use crate::making::arranged;
+use crate::same_at;
 use rand_core::utils::NextWord;
 use rand_pcg::Pcg32;
 use sb_breadth::Breadth;
@@ -147,21 +148,27 @@ fn compare<O: DeltaOrder>(
     Ok((are_equal, is_cut_short))
 }
 
+/// Whether both ways make the same delta of holdings that are made up, by breadth and by depth; and whether it leaves
+/// something out by breadth.
+fn compare_made(alloc: Global, random: &mut Pcg32) -> Result<([bool; 2], bool), Fault> {
+    let holdings = made_holdings(alloc, random)?;
+    let digest = made_digest(alloc, random)?;
+    let budget = made_budget(random);
+    let (wide, is_short) = compare(alloc, &Breadth, &holdings, &digest, budget)?;
+    let (deep, _) = compare(alloc, &Depth, &holdings, &digest, budget)?;
+    Ok(([wide, deep], is_short))
+}
+
 #[test]
 fn both_ways_make_one_delta(rt: HostRuntime) -> Result<(), Fail> {
-    let alloc = rt.alloc();
     let mut random = Pcg32::new(42, 54);
     let mut cut_short = 0_u64;
     for number in 0..HOLDINGS {
-        let holdings = made_holdings(alloc, &mut random)?;
-        let digest = made_digest(alloc, &mut random)?;
-        let budget = made_budget(&mut random);
-        let (wide, is_short) = compare(alloc, &Breadth, &holdings, &digest, budget)?;
-        let (deep, _) = compare(alloc, &Depth, &holdings, &digest, budget)?;
-        assert!(rt; wide && deep, "the holdings {number}");
+        let (are_equal, is_short) = compare_made(rt.alloc(), &mut random)?;
+        same_at(&rt, &number, &are_equal, &[true, true]);
         cut_short = cut_short.wrapping_add(u64::from(is_short));
     }
     // Not of holdings alone that fit a frame.
-    assert!(rt; cut_short > HOLDINGS / 8, "{cut_short}");
+    same_at(&rt, &cut_short, &(cut_short > HOLDINGS / 8), &true);
     Ok(())
 }

@@ -2,6 +2,7 @@
 ghost use Rattle.std.specs.Prelude.{◌≡◌, ◌≤◌, IfOk};
 
 use crate::making::letters_of;
+use crate::{same, same_at};
 use sb_budget::{Offered, available, cut};
 use sb_digest::{Digest, Pair};
 use sb_holdings::{BlockEnd, Holdings};
@@ -146,34 +147,42 @@ fn all_keys_of_an_owner_are_cut(rt: HostRuntime) -> Result<(), Fail> {
     ] {
         let (frame, blocks) = cut_to(alloc, &holdings, budget)?;
         let wanted = (a, 0, count, count as usize);
-        assert_eq!(rt; (frame, blocks.as_slice()), (length, [wanted].as_slice()));
+        let found = (frame, blocks.as_slice());
+        same(&rt, &found, &(length, [wanted].as_slice()));
     }
     Ok(())
 }
 
-/// The lines of the example of `cut`.
-#[test]
-fn example_of_cut(rt: HostRuntime) -> Result<(), Fail> {
-    let alloc = rt.alloc();
+/// The owner a, which wrote a flag.
+fn one_flag(alloc: Global) -> Result<Holdings, Fault> {
     let mut table = Table::new(alloc);
     let slot = Slot::Set(Value::flag(true));
     table.push(Entry::new(Key::read(b"up")?, 1, slot))?;
-    let holdings = Holdings::new(alloc, Name::read(b"a")?, table)?;
+    Holdings::new(alloc, Name::read(b"a")?, table)
+}
+
+/// How many blocks are in a cut of what a digest leaves, and its length.
+fn cut_after(alloc: Global, holdings: &Holdings, digest: &Digest) -> Result<(usize, u64), Fault> {
+    let delta = cut(alloc, available(alloc, holdings, digest)?, 256)?;
+    Ok((delta.blocks().len(), delta.encoded_length()))
+}
+
+/// The example of `cut`.
+#[test]
+fn example_of_cut(rt: HostRuntime) -> Result<(), Fail> {
+    let alloc = rt.alloc();
     let digest = Digest::new(true, None, None, Vec::new(alloc))?;
-    let offered = available(alloc, &holdings, &digest)?;
-    let delta = cut(alloc, offered, 256)?;
-    assert_eq!(rt; delta.blocks().len(), 1);
+    let found = cut_after(alloc, &one_flag(alloc)?, &digest)?;
     // 3 bytes, the block's 12, and the entry's 13.
-    assert_eq!(rt; delta.encoded_length(), 28);
+    same(&rt, &found, &(1, 28));
     Ok(())
 }
 
-/// What a peer makes of a delta of one block and one entry: how the block ends, how far its owner is then held, and the
-/// versions under the keys y and x.
-fn taken(
-    alloc: Global,
-    delta: &Delta,
-) -> Result<Option<(BlockEnd, u64, Option<u64>, Option<u64>)>, Fault> {
+/// How a block ends, how far its owner is then held, and the versions under the keys y and x.
+type Taken = (BlockEnd, u64, Option<u64>, Option<u64>);
+
+/// What a peer makes of a delta of one block and one entry.
+fn taken(alloc: Global, delta: &Delta) -> Result<Option<Taken>, Fault> {
     let mut peer = Holdings::new(alloc, Name::read(b"b")?, Table::new(alloc))?;
     let Some(block) = delta.blocks().first() else {
         return Ok(None);
@@ -187,6 +196,16 @@ fn taken(
     Ok(Some((end, peer.upto(owner), y, x)))
 }
 
+/// What a cut of all tells, and what a peer makes of it.
+fn told_and_taken(
+    alloc: Global,
+    holdings: &Holdings,
+) -> Result<(Vec<(Name, u64)>, Option<Taken>), Fault> {
+    let delta = cut_of_all(alloc, holdings, 256)?;
+    let taken = taken(alloc, &delta)?;
+    Ok((told(alloc, &delta)?, taken))
+}
+
 #[test]
 fn an_entry_that_does_not_fit_waits(rt: HostRuntime) -> Result<(), Fail> {
     let alloc = rt.alloc();
@@ -196,14 +215,13 @@ fn an_entry_that_does_not_fit_waits(rt: HostRuntime) -> Result<(), Fail> {
     for (budget, length, upto, count) in [(256, 161, 2, 1), (300, 161, 2, 1), (301, 301, 3, 2)] {
         let (frame, blocks) = cut_to(alloc, &holdings, budget)?;
         let wanted = [(a, 0, upto, count)];
-        assert_eq!(rt; (frame, blocks.as_slice()), (length, wanted.as_slice()));
+        let found = (frame, blocks.as_slice());
+        same(&rt, &found, &(length, wanted.as_slice()));
     }
-    let delta = cut_of_all(alloc, &holdings, 256)?;
-    assert_eq!(rt; told(alloc, &delta)?.as_slice(), [(a, 2)].as_slice());
-    assert_eq!(rt;
-        taken(alloc, &delta)?,
-        Some((BlockEnd::Taken(1), 2, Some(2), None))
-    );
+    let (told, taken) = told_and_taken(alloc, &holdings)?;
+    let wanted = (BlockEnd::Taken(1), 2, Some(2), None);
+    let found = (told.as_slice(), taken);
+    same(&rt, &found, &([(a, 2)].as_slice(), Some(wanted)));
     Ok(())
 }
 
@@ -217,10 +235,24 @@ fn longest_of_all(alloc: Global) -> Result<Holdings, Fault> {
 #[test]
 fn the_longest_entry_fits_the_least_budget(rt: HostRuntime) -> Result<(), Fail> {
     let alloc = rt.alloc();
-    let (frame, blocks) = cut_to(alloc, &longest_of_all(alloc)?, 256)?;
     let wanted = [(Name::read(LONGEST_NAME)?, 0, 1, 1)];
-    assert_eq!(rt; (frame, blocks.as_slice()), (255, wanted.as_slice()));
+    let (frame, blocks) = cut_to(alloc, &longest_of_all(alloc)?, 256)?;
+    same(&rt, &(frame, blocks.as_slice()), &(255, wanted.as_slice()));
     Ok(())
+}
+
+/// How long the frame of a cut of all is, and what it tells.
+fn told_to(
+    alloc: Global,
+    holdings: &Holdings,
+    budget: u64,
+) -> Result<(u64, Vec<(Name, u64)>), Fault>
+    requires least { BUDGET_LEAST ≤ budget }
+    requires most { budget ≤ BUDGET_MOST }
+{
+    let delta = cut_of_all(alloc, holdings, budget)?;
+    let frame = delta.encoded_length() + HEADER_LENGTH;
+    Ok((frame, told(alloc, &delta)?))
 }
 
 #[test]
@@ -240,11 +272,10 @@ fn owners_follow_one_another(rt: HostRuntime) -> Result<(), Fail> {
         (844, 3, 630),
         (845, 4, 845),
     ] {
-        let delta = cut_of_all(alloc, &holdings, budget)?;
         let (front, _) = all.split_at(count);
-        let found = told(alloc, &delta)?;
-        let frame = delta.encoded_length() + HEADER_LENGTH;
-        assert_eq!(rt; (frame, found.as_slice()), (length, front), "{budget}");
+        let (frame, told) = told_to(alloc, &holdings, budget)?;
+        let found = (frame, told.as_slice());
+        same_at(&rt, &budget, &found, &(length, front));
     }
     Ok(())
 }
@@ -263,14 +294,17 @@ fn place(item: &Offered) -> Place {
     )
 }
 
-/// Whether these items are what a digest leaves.
+/// Whether these items are what a digest leaves of a range of names, with these owners held up to these versions.
 fn are_left(
     alloc: Global,
     holdings: &Holdings,
-    digest: &Digest,
+    from: Option<Name>,
+    until: Option<Name>,
+    held: &[(Name, u64)],
     wanted: &[Place],
 ) -> Result<bool, Fault> {
-    let offered = available(alloc, holdings, digest)?;
+    let digest = digest_of(alloc, from, until, held)?;
+    let offered = available(alloc, holdings, &digest)?;
     let mut are_equal = offered.len() == wanted.len();
     for (item, wanted) in offered.iter().zip(wanted) {
         are_equal &= place(item) == *wanted;
@@ -281,8 +315,8 @@ fn are_left(
 #[test]
 fn what_a_digest_leaves(rt: HostRuntime) -> Result<(), Fail> {
     let alloc = rt.alloc();
-    let holdings = two_owners(alloc)?;
     let [a, b] = [Name::read(b"a")?, Name::read(b"b")?];
+    let holdings = two_owners(alloc)?;
     let of_a = [(a, 0, 3, 0, 3, 1), (a, 0, 3, 1, 3, 2), (a, 0, 3, 2, 3, 3)];
     let of_b = [(b, 0, 1, 0, 1, 1)];
     let rest = [(a, 1, 3, 0, 2, 2), (a, 1, 3, 1, 2, 3), (b, 0, 1, 0, 1, 1)];
@@ -292,8 +326,8 @@ fn what_a_digest_leaves(rt: HostRuntime) -> Result<(), Fail> {
         (None, Some(b), &[], &of_a),
         (None, None, &[(a, 3), (b, 1)], &[]),
     ] {
-        let digest = digest_of(alloc, from, until, held)?;
-        assert!(rt; are_left(alloc, &holdings, &digest, wanted)?, "{held:?}");
+        let are_right = are_left(alloc, &holdings, from, until, held, wanted)?;
+        same_at(&rt, &held, &are_right, &true);
     }
     Ok(())
 }
@@ -303,11 +337,18 @@ fn nothing_is_cut_of_nothing(rt: HostRuntime) -> Result<(), Fail> {
     let alloc = rt.alloc();
     let held = [(Name::read(b"a")?, 3), (Name::read(b"b")?, 1)];
     let digest = digest_of(alloc, None, None, &held)?;
-    let offered = available(alloc, &two_owners(alloc)?, &digest)?;
-    let delta = cut(alloc, offered, 256)?;
+    let found = cut_after(alloc, &two_owners(alloc)?, &digest)?;
     // A frame of 9 bytes.
-    assert_eq!(rt; (delta.blocks().len(), delta.encoded_length()), (0, 3));
+    same(&rt, &found, &(0, 3));
     Ok(())
+}
+
+/// A cut of all within 845 bytes, made once more where memory was refused.
+fn cut_again(alloc: Global, holdings: &Holdings) -> Result<Cut, Fault> {
+    match cut_to(alloc, holdings, 845) {
+        Err(Fault::NoMemory) => cut_to(alloc, holdings, 845),
+        made => made,
+    }
 }
 
 /// Whichever allocation is refused, what is held stays, and the next call answers.
@@ -319,11 +360,8 @@ fn a_refused_cut_is_made_again(rt: HostRuntime) -> Result<(), Fail> {
         Err(Fault::NoMemory) => two_owners(alloc)?,
         made => made?,
     };
-    let (frame, blocks) = match cut_to(alloc, &holdings, 845) {
-        Err(Fault::NoMemory) => cut_to(alloc, &holdings, 845)?,
-        made => made?,
-    };
+    let (frame, blocks) = cut_again(alloc, &holdings)?;
     let wanted = [(a, 0, 3, 3), (b, 0, 1, 1)];
-    assert_eq!(rt; (frame, blocks.as_slice()), (845, wanted.as_slice()));
+    same(&rt, &(frame, blocks.as_slice()), &(845, wanted.as_slice()));
     Ok(())
 }

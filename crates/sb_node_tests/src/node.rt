@@ -1,6 +1,7 @@
 //! The node: own writes, blocks of others, digests and answers.
 ghost use Rattle.std.specs.Prelude.{◌≤◌};
 
+use crate::{holds, same};
 use sb_digest::Digest;
 use sb_holdings::{BlockEnd, Report};
 use sb_log::{Committed, PlainLog, WriteLog};
@@ -138,12 +139,32 @@ fn write_again(alloc: Global) -> Result<[Result<(), Fault>; 2], Fault> {
 #[test]
 fn own_writes_come_once(rt: HostRuntime) -> Result<(), Fail> {
     let answers = write_again(rt.alloc())?;
-    assert_eq!(rt; answers, [Err(Fault::OutOfTurn(2)), Err(Fault::WrongOwner)]);
+    let wanted = [Err(Fault::OutOfTurn(2)), Err(Fault::WrongOwner)];
+    same(&rt, &answers, &wanted);
     Ok(())
 }
 
-/// A node that wrote x takes a block of its own name: whether the block ends so, the conflict, and the answer to
-/// its next write.
+/// Of a node that writes x, takes a block, and writes y: whether the block ends so, the conflict, and the answer to the
+/// second write.
+fn write_around(
+    alloc: Global,
+    core: &mut NodeCore,
+    log: &mut PlainLog,
+    block: Block,
+    end: BlockEnd,
+) -> Result<(bool, Option<u64>, Result<(), Fault>), Fault> {
+    let first = weight(5)?;
+    let second = weight(6)?;
+    write(core, log, b"x", &first)?;
+    let ended = take_one(core, alloc, block, end)?;
+    let conflict = core.conflict();
+    match write(core, log, b"y", &second) {
+        Err(Fault::NoMemory) => Err(Fault::NoMemory),
+        answer => Ok((ended, conflict, answer)),
+    }
+}
+
+/// The same of a node a.
 fn write_beside(
     alloc: Global,
     block: Block,
@@ -152,13 +173,7 @@ fn write_beside(
     let a = Name::read(b"a")?;
     let mut log = log_of(alloc, a)?;
     let mut core = node(alloc, a, 256, Order::Breadth)?;
-    write(&mut core, &mut log, b"x", &weight(5)?)?;
-    let ended = take_one(&mut core, alloc, block, end)?;
-    let conflict = core.conflict();
-    match write(&mut core, &mut log, b"y", &weight(6)?) {
-        Err(Fault::NoMemory) => Err(Fault::NoMemory),
-        answer => Ok((ended, conflict, answer)),
-    }
+    write_around(alloc, &mut core, &mut log, block, end)
 }
 
 #[test]
@@ -183,7 +198,7 @@ fn another_writes_under_the_name(rt: HostRuntime) -> Result<(), Fail> {
         ),
     ] {
         let found = write_beside(alloc, block(alloc, a, after, letters)?, end)?;
-        assert_eq!(rt; found, (true, conflict, answer));
+        same(&rt, &found, &(true, conflict, answer));
     }
     Ok(())
 }
@@ -197,11 +212,35 @@ fn three_blocks(alloc: Global, owners: &[Name; 3]) -> Result<Delta, Fault> {
     Delta::new(blocks)
 }
 
+/// Whether a delta of this block ends so, and how far its owner is then held.
+fn take_block(
+    alloc: Global,
+    core: &mut NodeCore,
+    block: Block,
+    end: BlockEnd,
+) -> Result<(bool, u64), Fault> {
+    let owner = *block.owner();
+    let ended = take_one(core, alloc, block, end)?;
+    Ok((ended, core.upto(&owner)))
+}
+
+/// Whether a delta of three blocks ends so, how far the first and the last of its owners are then held, and the conflict.
+fn take_three_blocks(
+    alloc: Global,
+    core: &mut NodeCore,
+    owners: &[Name; 3],
+    ends: &[BlockEnd],
+) -> Result<(bool, u64, u64, Option<u64>), Fault> {
+    let ended = take(core, &three_blocks(alloc, owners)?, ends)?;
+    let [first, _, last] = owners;
+    Ok((ended, core.upto(first), core.upto(last), core.conflict()))
+}
+
 #[test]
 fn blocks_end_in_turn(rt: HostRuntime) -> Result<(), Fail> {
     let alloc = rt.alloc();
     let owners = [Name::read(b"a")?, Name::read(b"b")?, Name::read(b"c")?];
-    let [a, b, c] = owners;
+    let [a, b, _] = owners;
     let mut core = node(alloc, b, 256, Order::Breadth)?;
     for (after, letters, end, upto) in [
         (2, b"z".as_slice(), BlockEnd::Gap, 0),
@@ -209,15 +248,13 @@ fn blocks_end_in_turn(rt: HostRuntime) -> Result<(), Fail> {
         (2, b"z", BlockEnd::Taken(1), 3),
         (2, b"z", BlockEnd::Stale, 3),
     ] {
-        let ended = take_one(&mut core, alloc, block(alloc, a, after, letters)?, end)?;
-        assert_eq!(rt; (ended, core.upto(&a)), (true, upto));
+        let block = block(alloc, a, after, letters)?;
+        let found = take_block(alloc, &mut core, block, end)?;
+        same(&rt, &found, &(true, upto));
     }
     let ends = [BlockEnd::Stale, BlockEnd::OwnAhead(1), BlockEnd::Taken(2)];
-    let ended = take(&mut core, &three_blocks(alloc, &owners)?, &ends)?;
-    assert_eq!(rt;
-        (ended, core.upto(&a), core.upto(&c), core.conflict()),
-        (true, 3, 2, Some(1))
-    );
+    let found = take_three_blocks(alloc, &mut core, &owners, &ends)?;
+    same(&rt, &found, &(true, 3, 2, Some(1)));
     Ok(())
 }
 
@@ -250,10 +287,8 @@ fn has_marker(core: &NodeCore, owner: &Name) -> Result<bool, Fault> {
 fn removals_are_told(rt: HostRuntime) -> Result<(), Fail> {
     let told = tell_of_a_removal(rt.alloc())?;
     let again = Err(Fault::NothingThere);
-    assert_eq!(rt;
-        told,
-        (again, (32, 2, None, None), true, (40, 3, Some(3), None))
-    );
+    let wanted = (again, (32, 2, None, None), true, (40, 3, Some(3), None));
+    same(&rt, &told, &wanted);
     Ok(())
 }
 
@@ -271,7 +306,7 @@ fn a_peer_learns_what_fits(rt: HostRuntime) -> Result<(), Fail> {
     let told = tell_until_all_is_held(rt.alloc())?;
     let first = (161, 2, None, Some(2));
     let second = (161, 3, Some(3), Some(2));
-    assert_eq!(rt; told, [first, second, (9, 3, Some(3), Some(2))]);
+    same(&rt, &told, &[first, second, (9, 3, Some(3), Some(2))]);
     Ok(())
 }
 
@@ -302,17 +337,15 @@ fn deltas_come_in_the_order_of_the_settings(rt: HostRuntime) -> Result<(), Fail>
         (Order::Depth, 438, (427, 2, 0)),
         (Order::Breadth, 438, (224, 1, 0)),
     ] {
-        assert_eq!(rt; tell_of_two(rt.alloc(), budget, order)?, told);
+        same(&rt, &tell_of_two(rt.alloc(), budget, order)?, &told);
     }
     Ok(())
 }
 
 /// Of a digest: whether it wants one in answer, its bytes, its pairs, and how far it tells that a and b are held.
-fn read_digest(
-    core: &NodeCore,
-    from: Option<Name>,
-    want: bool,
-) -> Result<(bool, u64, usize, u64, u64), Fault> {
+type Read = (bool, u64, usize, u64, u64);
+
+fn read_digest(core: &NodeCore, from: Option<Name>, want: bool) -> Result<Read, Fault> {
     let [a, b] = [Name::read(b"a")?, Name::read(b"b")?];
     let digest = core.digest(from, want)?;
     let held = (digest.number(&a), digest.number(&b));
@@ -325,24 +358,24 @@ fn read_digest(
     ))
 }
 
+/// The digest of a node that holds nothing of b; then whether a block of b is taken, and the digests of all and from b on.
+fn digests(alloc: Global, core: &mut NodeCore, b: Name) -> Result<(Read, bool, [Read; 2]), Fault> {
+    let before = read_digest(core, None, true)?;
+    let block = block(alloc, b, 0, b"xy")?;
+    let ended = take_one(core, alloc, block, BlockEnd::Taken(2))?;
+    let all = read_digest(core, None, false)?;
+    Ok((before, ended, [all, read_digest(core, Some(b), false)?]))
+}
+
 #[test]
 fn digests_tell_what_is_held(rt: HostRuntime) -> Result<(), Fail> {
     let alloc = rt.alloc();
     let [a, b] = [Name::read(b"a")?, Name::read(b"b")?];
     let mut core = node(alloc, a, 256, Order::Breadth)?;
-    assert_eq!(rt; (*core.name(), core.settings().budget()), (a, 256));
-    assert_eq!(rt; read_digest(&core, None, true)?, (true, 16, 1, 0, 0));
-    let ended = take_one(
-        &mut core,
-        alloc,
-        block(alloc, b, 0, b"xy")?,
-        BlockEnd::Taken(2),
-    )?;
-    assert_eq!(rt;
-        (ended, read_digest(&core, None, false)?),
-        (true, (false, 26, 2, 0, 2))
-    );
-    assert_eq!(rt; read_digest(&core, Some(b), false)?, (false, 17, 1, 0, 2));
+    same(&rt, &(*core.name(), core.settings().budget()), &(a, 256));
+    let found = digests(alloc, &mut core, b)?;
+    let after = [(false, 26, 2, 0, 2), (false, 17, 1, 0, 2)];
+    same(&rt, &found, &((true, 16, 1, 0, 0), true, after));
     Ok(())
 }
 
@@ -366,6 +399,7 @@ fn what_finds_no_memory_is_told(rt: HostRuntime) -> Result<(), Fail> {
         3 => BlockEnd::Taken(3),
         _ => BlockEnd::NoMemory(held),
     };
-    assert!(rt; end == Some(told) || (end, held) == (None, 0));
+    let is_told = end == Some(told) || (end, held) == (None, 0);
+    holds(&rt, "the answer tells what is held", is_told);
     Ok(())
 }

@@ -3,6 +3,7 @@ ghost use Rattle.std.specs.Prelude.{◌≤◌, IfOk};
 ghost use Rattle.sb_budget.specs.Cut.{CanCut};
 
 use crate::making::{arranged, block_of, letters_of};
+use crate::{same, same_at};
 use sb_breadth::Breadth;
 use sb_budget::{DeltaOrder, Offered, available, cut};
 use sb_depth::Depth;
@@ -111,7 +112,7 @@ fn items_come_in_their_order(rt: HostRuntime) -> Result<(), Fail> {
         (Order::Depth, b, &two, &deep_of_three),
     ] {
         let are_right = are_in_order(rt.alloc(), order, first, others, wanted)?;
-        assert!(rt; are_right, "{order:?}");
+        same_at(&rt, &order, &are_right, &true);
     }
     Ok(())
 }
@@ -129,6 +130,23 @@ fn tells(delta: &Delta, wanted: &[(Name, u64)]) -> (u64, bool) {
     (delta.encoded_length() + HEADER_LENGTH, are_equal && is_all)
 }
 
+/// How long a frame the delta has that is cut of a list, and the one made without it, and whether each tells just these
+/// writes.
+fn tell_both(
+    alloc: Global,
+    holdings: &Holdings,
+    order: Order,
+    budget: u64,
+    wanted: &[(Name, u64)],
+) -> Result<[(u64, bool); 2], Fault>
+    requires least { BUDGET_LEAST ≤ budget }
+    requires most { budget ≤ BUDGET_MOST }
+{
+    let listed = cut_by(alloc, holdings, order, budget)?;
+    let walked = delta_by(alloc, holdings, order, budget)?;
+    Ok([tells(&listed, wanted), tells(&walked, wanted)])
+}
+
 #[test]
 fn what_fits_is_told_of(rt: HostRuntime) -> Result<(), Fail> {
     let alloc = rt.alloc();
@@ -141,11 +159,8 @@ fn what_fits_is_told_of(rt: HostRuntime) -> Result<(), Fail> {
         (Order::Depth, 440, 427, &deep),
         (Order::Depth, 438, 427, &deep),
     ] {
-        let listed = cut_by(alloc, &holdings, order, budget)?;
-        let walked = delta_by(alloc, &holdings, order, budget)?;
-        for delta in [&listed, &walked] {
-            assert_eq!(rt; tells(delta, wanted), (length, true), "{budget}");
-        }
+        let found = tell_both(alloc, &holdings, order, budget, wanted)?;
+        same_at(&rt, &budget, &found, &[(length, true), (length, true)]);
     }
     Ok(())
 }
@@ -158,6 +173,21 @@ fn extent(delta: &Delta) -> (usize, usize, u64) {
     }
     let length = delta.encoded_length() + HEADER_LENGTH;
     (delta.blocks().len(), entries, length)
+}
+
+/// The extents of the delta that is cut of a list, and of the one made without it.
+fn both_extents(
+    alloc: Global,
+    holdings: &Holdings,
+    order: Order,
+    budget: u64,
+) -> Result<[(usize, usize, u64); 2], Fault>
+    requires least { BUDGET_LEAST ≤ budget }
+    requires most { budget ≤ BUDGET_MOST }
+{
+    let listed = cut_by(alloc, holdings, order, budget)?;
+    let walked = delta_by(alloc, holdings, order, budget)?;
+    Ok([extent(&listed), extent(&walked)])
 }
 
 #[test]
@@ -173,11 +203,8 @@ fn a_thousand_owners_are_cut(rt: HostRuntime) -> Result<(), Fail> {
         (Order::Depth, 29_999, (769, 1_537, 29_988)),
         (Order::Depth, 256, (6, 12, 243)),
     ] {
-        let listed = cut_by(alloc, &holdings, order, budget)?;
-        let walked = delta_by(alloc, &holdings, order, budget)?;
-        for delta in [&listed, &walked] {
-            assert_eq!(rt; extent(delta), wanted, "{budget}");
-        }
+        let found = both_extents(alloc, &holdings, order, budget)?;
+        same_at(&rt, &budget, &found, &[wanted, wanted]);
     }
     Ok(())
 }
@@ -190,30 +217,31 @@ fn two_and_one(alloc: Global) -> Result<Holdings, Fault> {
     Ok(holdings)
 }
 
-/// The lines of the example of `Breadth`.
-#[test]
-fn example_of_breadth(rt: HostRuntime) -> Result<(), Fail> {
-    let alloc = rt.alloc();
+/// The versions of what a and b wrote, in an order.
+fn versions_by<O: DeltaOrder>(alloc: Global, order: &O) -> Result<Vec<u64>, Fault> {
     let holdings = two_and_one(alloc)?;
     let digest = Digest::new(true, None, None, Vec::new(alloc))?;
     let offered = available(alloc, &holdings, &digest)?;
-    let ordered = Breadth.arrange(alloc, offered)?;
-    for (item, version) in ordered.iter().zip([1, 1, 2]) {
-        assert_eq!(rt; item.entry.version(), version);
+    let ordered = order.arrange(alloc, offered)?;
+    let mut versions = Vec::new(alloc);
+    for item in ordered.iter() {
+        versions.push(item.entry.version())?;
     }
+    Ok(versions)
+}
+
+/// The example of `Breadth`.
+#[test]
+fn example_of_breadth(rt: HostRuntime) -> Result<(), Fail> {
+    let versions = versions_by(rt.alloc(), &Breadth)?;
+    same(&rt, &versions.as_slice(), &[1, 1, 2].as_slice());
     Ok(())
 }
 
-/// The lines of the example of `Depth`.
+/// The example of `Depth`.
 #[test]
 fn example_of_depth(rt: HostRuntime) -> Result<(), Fail> {
-    let alloc = rt.alloc();
-    let holdings = two_and_one(alloc)?;
-    let digest = Digest::new(true, None, None, Vec::new(alloc))?;
-    let offered = available(alloc, &holdings, &digest)?;
-    let ordered = Depth.arrange(alloc, offered)?;
-    for (item, version) in ordered.iter().zip([1, 2, 1]) {
-        assert_eq!(rt; item.entry.version(), version);
-    }
+    let versions = versions_by(rt.alloc(), &Depth)?;
+    same(&rt, &versions.as_slice(), &[1, 2, 1].as_slice());
     Ok(())
 }

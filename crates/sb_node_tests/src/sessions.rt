@@ -2,6 +2,7 @@
 ghost use Rattle.std.specs.Prelude.{◌≡◌, ◌<◌};
 
 use crate::node::{applied, log_of, node, write};
+use crate::{same, same_at};
 use sb_codec::Message;
 use sb_frames::Steps;
 use sb_node::NodeCore;
@@ -181,32 +182,39 @@ fn node_b(alloc: Global) -> Result<NodeCore, Fault> {
     Ok(core)
 }
 
+/// How a talk of b ends, and whether it wrote just these bytes.
+fn talk_of_b(
+    alloc: Global,
+    terms: Terms<'_>,
+    said: &[u8],
+) -> Result<(Result<Ended, Fault>, bool), Fault> {
+    let mut core = node_b(alloc)?;
+    talk(&mut core, alloc, terms, said)
+}
+
+/// The same of a that asks b, and how far it then holds b.
+fn talk_of_a(alloc: Global) -> Result<((Result<Ended, Fault>, bool), u64), Fault> {
+    let [a, b] = [Name::read(b"a")?, Name::read(b"b")?];
+    let mut core = node(alloc, a, 256, Order::Breadth)?;
+    let terms = peer_terms(SAID_BY_B, Some(1));
+    let dialed = talk(&mut core, alloc, terms, DIALED_BY_A)?;
+    Ok((dialed, core.upto(&b)))
+}
+
 #[test]
 fn two_nodes_talk(rt: HostRuntime) -> Result<(), Fail> {
     let alloc = rt.alloc();
-    let [a, b] = [Name::read(b"a")?, Name::read(b"b")?];
     for piece in [1usize, 7, 42] {
-        let mut asked = node_b(alloc)?;
         let terms = Terms {
             piece,
             ..peer_terms(SAID_BY_A, None)
         };
-        let served = talk(&mut asked, alloc, terms, SAID_BY_B)?;
-        assert_eq!(rt; served, (Ok(Ended::Bye(1)), true));
+        let served = talk_of_b(alloc, terms, SAID_BY_B)?;
+        same_at(&rt, &piece, &served, &(Ok(Ended::Bye(1)), true));
     }
-    let mut asked = node_b(alloc)?;
-    let told = talk(&mut asked, alloc, peer_terms(b"", Some(0)), DIALED_BY_B)?;
-    assert_eq!(rt; told, (Ok(Ended::RoundsDone), true));
-
-    let mut asks = node(alloc, a, 256, Order::Breadth)?;
-    let dialed = talk(
-        &mut asks,
-        alloc,
-        peer_terms(SAID_BY_B, Some(1)),
-        DIALED_BY_A,
-    )?;
-    assert_eq!(rt; dialed, (Ok(Ended::RoundsDone), true));
-    assert_eq!(rt; asks.upto(&b), 1);
+    let told = talk_of_b(alloc, peer_terms(b"", Some(0)), DIALED_BY_B)?;
+    same(&rt, &told, &(Ok(Ended::RoundsDone), true));
+    same(&rt, &talk_of_a(alloc)?, &((Ok(Ended::RoundsDone), true), 1));
     Ok(())
 }
 
@@ -214,23 +222,21 @@ fn two_nodes_talk(rt: HostRuntime) -> Result<(), Fail> {
 fn peers_that_give_out(rt: HostRuntime) -> Result<(), Fail> {
     let alloc = rt.alloc();
     for (room, count) in [(20usize, 8u64), (12, 0), (45, 0)] {
-        let mut asked = node_b(alloc)?;
         let terms = Terms {
             room,
             ..peer_terms(SAID_BY_A, None)
         };
         let written = SAID_BY_B.get(..room).unwrap_or(&[]);
-        let served = talk(&mut asked, alloc, terms, written)?;
-        assert_eq!(rt; served, (Err(Fault::WriteFailed(count)), true));
+        let served = talk_of_b(alloc, terms, written)?;
+        same_at(&rt, &room, &served, &(Err(Fault::WriteFailed(count)), true));
     }
-    let mut asked = node_b(alloc)?;
     let terms = Terms {
         breaks: true,
         ..peer_terms(HELLO_A, None)
     };
     let written = SAID_BY_B.get(..12).unwrap_or(&[]);
-    let served = talk(&mut asked, alloc, terms, written)?;
-    assert_eq!(rt; served, (Err(Fault::ReadFailed), true));
+    let served = talk_of_b(alloc, terms, written)?;
+    same(&rt, &served, &(Err(Fault::ReadFailed), true));
     Ok(())
 }
 
@@ -260,17 +266,16 @@ fn a_delta_in_any_pieces(rt: HostRuntime) -> Result<(), Fail> {
     let alloc = rt.alloc();
     let whole = (Ok(Ended::End), 1);
     let front = FRAME.get(..17).unwrap_or(&[]);
-    assert_eq!(rt; heard(alloc, &[FRAME], 1, 99)?, whole);
-    assert_eq!(rt; heard(alloc, &[FRAME], 51, 99)?, whole);
-    assert_eq!(rt; heard(alloc, &[FRAME, FRAME], 4_096, 99)?, whole);
-    assert_eq!(rt;
+    let found = [
+        heard(alloc, &[FRAME], 1, 99)?,
+        heard(alloc, &[FRAME], 51, 99)?,
+        heard(alloc, &[FRAME, FRAME], 4_096, 99)?,
         heard(alloc, &[front], 4_096, 99)?,
-        (Err(Fault::Truncated), 0)
-    );
-    assert_eq!(rt;
         heard(alloc, &[FRAME], 4_096, 0)?,
-        (Err(Fault::TurnsSpent), 0)
-    );
+    ];
+    let part = (Err(Fault::Truncated), 0);
+    let spent = (Err(Fault::TurnsSpent), 0);
+    same(&rt, &found, &[whole, whole, whole, part, spent]);
     Ok(())
 }
 
@@ -285,7 +290,8 @@ fn faulty_frames_enter_nothing(rt: HostRuntime) -> Result<(), Fail> {
         (b"\xa7\x01\x00\x00\x00\x01\x55", Fault::UnknownKind(0x55)),
         (DESCENDING, Fault::Malformed(3)),
     ] {
-        assert_eq!(rt; heard(alloc, &[frame, FRAME], 4_096, 99)?, (Err(fault), 0));
+        let found = heard(alloc, &[frame, FRAME], 4_096, 99)?;
+        same_at(&rt, &frame, &found, &(Err(fault), 0));
     }
     Ok(())
 }
@@ -325,17 +331,23 @@ fn asked_in_turn(
     Ok(None)
 }
 
+/// A node a that holds one write of each of as many other owners.
+fn node_of_writes(alloc: Global, owners: u64) -> Result<NodeCore, Fault> {
+    let writes = writes_of(alloc, owners)?;
+    let mut core = node(alloc, Name::read(b"a")?, 256, Order::Breadth)?;
+    applied(&mut core, &writes)?;
+    Ok(core)
+}
+
 #[test]
 fn each_owner_is_told_of_in_turn(rt: HostRuntime) -> Result<(), Fail> {
-    let alloc = rt.alloc();
-    let a = Name::read(b"a")?;
-    let mut core = node(alloc, a, 256, Order::Breadth)?;
-    applied(&mut core, &writes_of(alloc, 1_023)?)?;
-    let mut session = Session::new(Name::read(b"c1")?, a);
+    let mut session = Session::new(Name::read(b"c1")?, Name::read(b"a")?);
+    let mut core = node_of_writes(rt.alloc(), 1_023)?;
     // 17 owners in the first digest, 16 in each of the next 62, and 15 in the last; then all once more.
-    for _ in 0..2 {
-        let asked = asked_in_turn(&mut core, &mut session)?;
-        assert_eq!(rt; asked, Some((64, 1_024)));
-    }
+    let found = [
+        asked_in_turn(&mut core, &mut session)?,
+        asked_in_turn(&mut core, &mut session)?,
+    ];
+    same(&rt, &found, &[Some((64, 1_024)), Some((64, 1_024))]);
     Ok(())
 }
