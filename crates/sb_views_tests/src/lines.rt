@@ -1,5 +1,6 @@
 //! What no clause says: the lines of a log, and a write that fails.
-use crate::making::ClosingWriter;
+use crate::making::{ClosingWriter, Ended, settled, whole};
+use crate::same;
 use sb_lines::log_run;
 use sb_log::{PlainLog, WriteLog};
 use sb_types::{Fault, Key, Name, Slot, Value};
@@ -40,44 +41,43 @@ fn log_of_five(alloc: Global) -> Result<PlainLog, Fault> {
 }
 
 /// What is printed of a log, by writes of which none is said to have failed.
-fn printed(alloc: Global, log: &mut PlainLog) -> Result<Vec<u8>, Fault> {
+fn printed(alloc: Global, mut log: PlainLog) -> Result<Vec<u8>, Fault> {
     let mut lines = Vec::new(alloc);
-    let (ended, last) = log_run(alloc, log, &mut lines);
-    match (ended, last.has_failed()) {
-        (Ok(()), false) => Ok(lines),
-        (Ok(()), true) => Err(Fault::WriteFailed(lines.len() as u64)),
-        (Err(fault), _) => Err(fault),
-    }
+    let printed = log_run(alloc, &mut log, &mut lines);
+    whole(printed, lines)
 }
 
 #[test]
 fn a_log_is_printed_in_ascending_key(rt: HostRuntime) -> Result<(), Fail> {
     let alloc = rt.alloc();
-    let empty = printed(alloc, &mut log_of_nothing(alloc)?)?;
-    assert_eq!(rt; empty.as_slice(), b"last 0\n".as_slice());
-    let three = printed(alloc, &mut log_of_three(alloc)?)?;
-    assert_eq!(rt;
-        three.as_slice(),
-        b"a x 2 removed -\na y 3 flag true\nlast 3\n".as_slice()
+    let empty = printed(alloc, log_of_nothing(alloc)?)?;
+    same(&rt, &empty.as_slice(), &b"last 0\n".as_slice());
+    let three = printed(alloc, log_of_three(alloc)?)?;
+    same(
+        &rt,
+        &three.as_slice(),
+        &b"a x 2 removed -\na y 3 flag true\nlast 3\n".as_slice(),
     );
-    let five = printed(alloc, &mut log_of_five(alloc)?)?;
-    assert_eq!(rt;
-        five.as_slice(),
-        b"a w 4 weight 0\na x 5 removed -\na y/a 3 flag true\na y/b 2 addr 10.0.0.1:80\nlast 5\n".as_slice()
+    let five = printed(alloc, log_of_five(alloc)?)?;
+    same(
+        &rt,
+        &five.as_slice(),
+        &b"a w 4 weight 0\na x 5 removed -\na y/a 3 flag true\na y/b 2 addr 10.0.0.1:80\nlast 5\n".as_slice(),
     );
     Ok(())
 }
 
+/// How the printing of that log ends at a writer that closes behind so many bytes.
+fn ended_behind(alloc: Global, left: usize) -> Result<Ended, Fault> {
+    let mut log = log_of_five(alloc)?;
+    settled(log_run(alloc, &mut log, &mut ClosingWriter { left }))
+}
+
 #[test]
 fn a_failed_write_is_counted(rt: HostRuntime) -> Result<(), Fail> {
-    let alloc = rt.alloc();
     for left in [0, 17, 79] {
-        let (ended, last) = log_run(alloc, &mut log_of_five(alloc)?, &mut ClosingWriter { left });
-        match ended {
-            Err(Fault::NoMemory) => return Err(Fault::NoMemory)?,
-            ended => assert_eq!(rt; ended, Err(Fault::WriteFailed(left as u64))),
-        }
-        assert!(rt; last.has_failed());
+        let ended = ended_behind(rt.alloc(), left)?;
+        same(&rt, &ended, &(Err(Fault::WriteFailed(left as u64)), true));
     }
     Ok(())
 }

@@ -1,5 +1,6 @@
 //! What changed between listings and its lines, and rows as JSON.
-use crate::making::ClosingWriter;
+use crate::making::{ClosingWriter, Ended, settled, whole};
+use crate::{holds, same};
 use sb_codec::{Row, Rows};
 use sb_listing::{changes, print_changes, print_json_rows};
 use sb_types::{Fault, Key, Name, Value};
@@ -77,19 +78,15 @@ fn lines_between(alloc: Global, earlier: &[Told], later: &[Told]) -> Result<Vec<
     let (earlier, later) = (rows_of(alloc, earlier)?, rows_of(alloc, later)?);
     let told = changes(alloc, &earlier, &later)?;
     let mut lines = Vec::new(alloc);
-    let (printed, last) = print_changes(alloc, &mut lines, &told);
-    match (printed, last.has_failed()) {
-        (Ok(()), false) => Ok(lines),
-        (Ok(()), true) => Err(Fault::WriteFailed(lines.len() as u64)),
-        (Err(fault), _) => Err(fault),
-    }
+    let printed = print_changes(alloc, &mut lines, &told);
+    whole(printed, lines)
 }
 
 #[test]
 fn what_changed_is_printed(rt: HostRuntime) -> Result<(), Fail> {
     for (earlier, later, wanted) in CASES {
         let lines = lines_between(rt.alloc(), earlier, later)?;
-        assert_eq!(rt; lines.as_slice(), wanted);
+        same(&rt, &lines.as_slice(), &wanted);
     }
     Ok(())
 }
@@ -117,41 +114,44 @@ const AS_JSON: &[u8] =
 {\"key\":\"up\",\"kind\":\"flag\",\"owner\":\"b-1\",\"value\":true,\"version\":3}
 ";
 
+/// A page as JSON.
+fn json_of(alloc: Global, page: &Rows) -> Result<Vec<u8>, Fault> {
+    let mut lines = Vec::new(alloc);
+    let printed = print_json_rows(alloc, &mut lines, page);
+    whole(printed, lines)
+}
+
 #[test]
 fn a_page_is_printed_as_json(rt: HostRuntime) -> Result<(), Fail> {
     let alloc = rt.alloc();
-    let mut lines = Vec::new(alloc);
-    let (ended, last) = print_json_rows(alloc, &mut lines, &page_of_kinds(alloc)?);
-    ended?;
-    assert!(rt; !last.has_failed());
-    assert_eq!(rt; lines.as_slice(), AS_JSON);
-    let mut none = Vec::new(alloc);
-    let (ended, _) = print_json_rows(alloc, &mut none, &Rows::new(false, Vec::new(alloc))?);
-    ended?;
-    assert!(rt; none.is_empty());
+    let lines = json_of(alloc, &page_of_kinds(alloc)?)?;
+    same(&rt, &lines.as_slice(), &AS_JSON);
+    let none = json_of(alloc, &Rows::new(false, Vec::new(alloc))?)?;
+    holds(&rt, "no rows make no lines", none.is_empty());
     Ok(())
+}
+
+/// How the printing of a change ends at a writer that closes behind so many bytes.
+fn changes_behind(alloc: Global, left: usize) -> Result<Ended, Fault> {
+    let rows = rows_of(alloc, &[A_V])?;
+    let told = changes(alloc, &[], &rows)?;
+    settled(print_changes(alloc, &mut ClosingWriter { left }, &told))
+}
+
+/// The same of that page as JSON.
+fn json_behind(alloc: Global, left: usize) -> Result<Ended, Fault> {
+    let page = page_of_kinds(alloc)?;
+    settled(print_json_rows(alloc, &mut ClosingWriter { left }, &page))
 }
 
 #[test]
 fn a_failed_write_of_lines_is_counted(rt: HostRuntime) -> Result<(), Fail> {
     let alloc = rt.alloc();
-    let rows = rows_of(alloc, &[A_V])?;
-    let told = changes(alloc, &[], &rows)?;
-    let page = page_of_kinds(alloc)?;
     for left in [0, 19] {
-        for (ended, last) in [
-            print_changes(alloc, &mut ClosingWriter { left }, &told),
-            print_json_rows(alloc, &mut ClosingWriter { left }, &page),
-        ] {
-            match ended {
-                Err(Fault::NoMemory) => return Err(Fault::NoMemory)?,
-                ended => assert_eq!(rt; ended, Err(Fault::WriteFailed(left as u64))),
-            }
-            assert!(rt; last.has_failed());
-        }
+        let wanted = (Err(Fault::WriteFailed(left as u64)), true);
+        same(&rt, &changes_behind(alloc, left)?, &wanted);
+        same(&rt, &json_behind(alloc, left)?, &wanted);
     }
-    let (ended, last) = print_changes(alloc, &mut ClosingWriter { left: 20 }, &told);
-    ended?;
-    assert!(rt; !last.has_failed());
+    same(&rt, &changes_behind(alloc, 20)?, &(Ok(()), false));
     Ok(())
 }

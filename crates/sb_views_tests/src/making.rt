@@ -1,4 +1,5 @@
 //! Entries, holdings and a writer for the tests.
+use sb_frames::LastWrite;
 use sb_holdings::{BlockEnd, Holdings};
 use sb_table::Table;
 use sb_types::{Block, Entry, Fault, Key, Name, Slot, Value};
@@ -28,6 +29,31 @@ pub(crate) fn apply(holdings: &mut Holdings, block: &Block) -> Result<(), Fault>
     match holdings.apply_block(block) {
         BlockEnd::NoMemory(_) => Err(Fault::NoMemory),
         _ => Ok(()),
+    }
+}
+
+/// How a printing ended, and whether its last write failed.
+pub(crate) type Ended = (Result<(), Fault>, bool);
+
+/// The end of a printing, unless memory ran out.
+pub(crate) fn settled(printed: (Result<(), Fault>, LastWrite)) -> Result<Ended, Fault> {
+    let (ended, last) = printed;
+    match ended {
+        Err(Fault::NoMemory) => Err(Fault::NoMemory),
+        ended => Ok((ended, last.has_failed())),
+    }
+}
+
+/// The lines of a printing that ended so, by writes of which none is said to have failed.
+pub(crate) fn whole(
+    printed: (Result<(), Fault>, LastWrite),
+    lines: Vec<u8>,
+) -> Result<Vec<u8>, Fault> {
+    let (ended, last) = printed;
+    match (ended, last.has_failed()) {
+        (Ok(()), false) => Ok(lines),
+        (Ok(()), true) => Err(Fault::WriteFailed(lines.len() as u64)),
+        (Err(fault), _) => Err(fault),
     }
 }
 

@@ -1,6 +1,7 @@
 //! Pages at exact budgets and behind places, and the lines of a page.
-use crate::making::{ClosingWriter, apply, entry, holdings_of_a};
+use crate::making::{ClosingWriter, Ended, apply, entry, holdings_of_a, settled, whole};
 use crate::reading::{Look, read};
+use crate::{holds, same, same_at};
 use sb_codec::{Ask, Row, Rows};
 use sb_holdings::Holdings;
 use sb_query::{answer, print_rows};
@@ -165,6 +166,31 @@ fn pages_answer_what_is_asked(rt: HostRuntime) -> Result<(), Fail> {
     read::<Brand, _>(&rt, alloc, Opened::new(), &holdings, Look::Pages)
 }
 
+/// Whether just these rows are told, in order.
+fn are_told(rows: &[Row], wanted: &[usize]) -> bool {
+    for (row, at) in rows.iter().zip(wanted) {
+        match ROWS.get(*at) {
+            Some(told) if is_told(row, *told) => {}
+            _ => return false,
+        }
+    }
+    rows.len() == wanted.len()
+}
+
+/// Whether more follow on the page of a case, how many rows it has, and whether they are those that are wanted.
+fn told_of(
+    alloc: Global,
+    snapshot: &Snapshot<'_>,
+    case: &Case,
+) -> Result<(bool, usize, bool), Fault> {
+    let page = page_of(alloc, snapshot, &ask_of(*case)?, case.budget)?;
+    Ok((
+        page.more(),
+        page.rows().len(),
+        are_told(page.rows(), case.rows),
+    ))
+}
+
 /// Each page that is asked has its rows.
 pub(crate) fn rows_are_told<R: Abort>(
     rt: &R,
@@ -172,13 +198,8 @@ pub(crate) fn rows_are_told<R: Abort>(
     snapshot: &Snapshot<'_>,
 ) -> Result<(), Fail> {
     for (number, case) in cases(alloc)?.iter().enumerate() {
-        let page = page_of(alloc, snapshot, &ask_of(*case)?, case.budget)?;
-        assert_eq!(rt; page.more(), case.more, "case {number}");
-        assert_eq!(rt; page.rows().len(), case.rows.len(), "case {number}");
-        for (row, at) in page.rows().iter().zip(case.rows) {
-            let told = ROWS.get(*at).ok_or("a row")?;
-            assert!(rt; is_told(row, *told), "case {number}");
-        }
+        let told = told_of(alloc, snapshot, case)?;
+        same_at(rt, &number, &told, &(case.more, case.rows.len(), true));
     }
     Ok(())
 }
@@ -200,6 +221,23 @@ fn pages_follow_one_another(rt: HostRuntime) -> Result<(), Fail> {
     read::<Brand, _>(&rt, alloc, Opened::new(), &holdings, Look::Following)
 }
 
+/// How many rows a page has, whether more follow, and the version of its first, 0 where there is none. Then the next is asked.
+fn turn(
+    alloc: Global,
+    snapshot: &Snapshot<'_>,
+    ask: &mut Ask,
+) -> Result<(usize, bool, u64), Fault> {
+    let page = page_of(alloc, snapshot, ask, 256)?;
+    let first = match page.rows().first() {
+        Some(row) => row.version(),
+        None => 0,
+    };
+    if let Some(last) = page.rows().last() {
+        ask.after = Some((*last.owner(), *last.key()));
+    }
+    Ok((page.rows().len(), page.more(), first))
+}
+
 /// At 16 bytes a row a frame of 256 has 15, and so 300 rows make 20 pages.
 pub(crate) fn pages_follow<R: Abort>(
     rt: &R,
@@ -212,16 +250,10 @@ pub(crate) fn pages_follow<R: Abort>(
         after: None,
     };
     for number in 1..21u64 {
-        let page = page_of(alloc, snapshot, &ask, 256)?;
-        assert_eq!(rt; page.rows().len(), 15, "page {number}");
-        assert_eq!(rt; page.more(), number < 20, "page {number}");
-        let first = page.rows().first().ok_or("a row")?;
-        assert_eq!(rt; first.version(), number * 15 - 14, "page {number}");
-        let last = page.rows().last().ok_or("a row")?;
-        ask.after = Some((*last.owner(), *last.key()));
+        let told = turn(alloc, snapshot, &mut ask)?;
+        same_at(rt, &number, &told, &(15, number < 20, number * 15 - 14));
     }
-    let page = page_of(alloc, snapshot, &ask, 256)?;
-    assert!(rt; page.rows().is_empty() && !page.more());
+    same(rt, &turn(alloc, snapshot, &mut ask)?, &(0, false, 0));
     Ok(())
 }
 
@@ -234,39 +266,40 @@ fn page_of_three(alloc: Global) -> Result<Rows, Fault> {
     Rows::new(true, vec![in alloc; first, second, third]?)
 }
 
+/// The lines of a page.
+fn printed(alloc: Global, page: &Rows) -> Result<Vec<u8>, Fault> {
+    let mut lines = Vec::new(alloc);
+    let printed = print_rows(alloc, &mut lines, page);
+    whole(printed, lines)
+}
+
 #[test]
 fn a_page_is_printed(rt: HostRuntime) -> Result<(), Fail> {
     let alloc = rt.alloc();
-    let mut lines = Vec::new(alloc);
-    let (ended, last) = print_rows(alloc, &mut lines, &page_of_three(alloc)?);
-    ended?;
-    assert!(rt; !last.has_failed());
-    assert_eq!(rt;
-        lines.as_slice(),
-        b"a net/a 1 weight 5\nb y 2 addr h:80\nb z 3 flag true\n".as_slice()
+    let lines = printed(alloc, &page_of_three(alloc)?)?;
+    same(
+        &rt,
+        &lines.as_slice(),
+        &b"a net/a 1 weight 5\nb y 2 addr h:80\nb z 3 flag true\n".as_slice(),
     );
-    let mut none = Vec::new(alloc);
-    let (ended, last) = print_rows(alloc, &mut none, &Rows::new(false, Vec::new(alloc))?);
-    ended?;
-    assert!(rt; none.is_empty() && !last.has_failed());
+    let none = printed(alloc, &Rows::new(false, Vec::new(alloc))?)?;
+    holds(&rt, "no rows make no lines", none.is_empty());
     Ok(())
+}
+
+/// How the printing of three rows ends at a writer that closes behind so many bytes.
+fn ended_behind(alloc: Global, left: usize) -> Result<Ended, Fault> {
+    let page = page_of_three(alloc)?;
+    settled(print_rows(alloc, &mut ClosingWriter { left }, &page))
 }
 
 #[test]
 fn a_failed_write_is_counted(rt: HostRuntime) -> Result<(), Fail> {
     let alloc = rt.alloc();
     for left in [0, 19, 50] {
-        let page = page_of_three(alloc)?;
-        let (ended, last) = print_rows(alloc, &mut ClosingWriter { left }, &page);
-        match ended {
-            Err(Fault::NoMemory) => return Err(Fault::NoMemory)?,
-            ended => assert_eq!(rt; ended, Err(Fault::WriteFailed(left as u64))),
-        }
-        assert!(rt; last.has_failed());
+        let ended = ended_behind(alloc, left)?;
+        same(&rt, &ended, &(Err(Fault::WriteFailed(left as u64)), true));
     }
-    let page = page_of_three(alloc)?;
-    let (ended, last) = print_rows(alloc, &mut ClosingWriter { left: 51 }, &page);
-    ended?;
-    assert!(rt; !last.has_failed());
+    same(&rt, &ended_behind(alloc, 51)?, &(Ok(()), false));
     Ok(())
 }

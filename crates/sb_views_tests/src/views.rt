@@ -5,6 +5,7 @@ ghost use Rattle.sb_holdings.specs.Held.{shown_of};
 
 use crate::making::{apply, entry, holdings_of_a};
 use crate::reading::{Look, read};
+use crate::{holds, same};
 use sb_holdings::{BlockEnd, Holdings, Report};
 use sb_types::{Block, Delta, Entry, Fault, Key, Name, Prefix, Value, ValueRef};
 use sb_views::{Batch, Opened, Site, Snapshot, views};
@@ -100,14 +101,15 @@ fn shown_under(snapshot: &Snapshot<'_>, owner: &Name, key: &Key) -> Shown {
 fn keys_are_shown<R: Abort>(rt: &R, snapshot: &Snapshot<'_>) -> Result<(), Fail> {
     let (a, b, c) = (Name::read(b"a")?, Name::read(b"b")?, Name::read(b"c")?);
     for (owner, upto) in [(a, 4), (b, 1), (c, 0)] {
-        assert_eq!(rt; snapshot.upto(&owner), upto);
+        same(rt, &snapshot.upto(&owner), &upto);
     }
     for (owner, key, found) in [
         (a, b"net/a".as_slice(), Some((2, 2))),
         (a, b"net/b", None),
         (c, b"w", None),
     ] {
-        assert_eq!(rt; weight_of(snapshot.get(&owner, &Key::read(key)?)), found);
+        let key = Key::read(key)?;
+        same(rt, &weight_of(snapshot.get(&owner, &key)), &found);
     }
     Ok(())
 }
@@ -148,24 +150,34 @@ const ASKED: [Asked; 5] = [
     },
 ];
 
-/// The rows of each that is asked.
-fn rows_come_in_order<R: Abort>(rt: &R, snapshot: &Snapshot<'_>) -> Result<(), Fail> {
-    for asked in ASKED {
-        let wanted = if asked.wanted.is_empty() {
-            None
-        } else {
-            Some(Name::read(asked.wanted)?)
-        };
-        let mut rows = snapshot.rows(wanted, Prefix::read(asked.prefix)?);
-        for (owner, key, version) in asked.rows {
-            let row = rows.next().ok_or("a row")?;
-            assert!(rt;
+/// Whether just its rows come where this is asked.
+fn are_rows_of(snapshot: &Snapshot<'_>, asked: &Asked) -> Result<bool, Fault> {
+    let wanted = if asked.wanted.is_empty() {
+        None
+    } else {
+        Some(Name::read(asked.wanted)?)
+    };
+    let mut rows = snapshot.rows(wanted, Prefix::read(asked.prefix)?);
+    for (owner, key, version) in asked.rows {
+        let is_next = match rows.next() {
+            Some(row) => {
                 row.owner.bytes() == *owner
                     && row.key.bytes() == *key
                     && row.live.version() == *version
-            );
+            }
+            None => false,
+        };
+        if !is_next {
+            return Ok(false);
         }
-        assert!(rt; rows.next().is_none());
+    }
+    Ok(rows.next().is_none())
+}
+
+/// The rows of each that is asked.
+fn rows_come_in_order<R: Abort>(rt: &R, snapshot: &Snapshot<'_>) -> Result<(), Fail> {
+    for asked in ASKED {
+        holds(rt, "its rows come in order", are_rows_of(snapshot, &asked)?);
     }
     Ok(())
 }
@@ -259,12 +271,19 @@ fn add_events<S: Site, R: Abort>(rt: &R, alloc: Global, opened: Opened) -> Resul
     let ends = Report::new(vec![in alloc; BlockEnd::Taken(1)]?);
     let (story, start) = opened.named::<S>();
     let (mut one, mut two) = (start.again(), start.again());
-    assert!(rt; one.add_own(&story, &entry) && !one.is_same(&start));
-    assert!(rt; !two.add_own(&story, &entry) && two.is_same(&one));
+    // Whether each was added, and then whether the front is that which stood before it, or that of the other.
+    let first = (one.add_own(&story, &entry), one.is_same(&start));
+    let again = (two.add_own(&story, &entry), two.is_same(&one));
     if two.len() != 1 {
         return Err("one event".into());
     }
-    assert!(rt; two.add_applied(&story, &delta, &ends) && !two.is_same(&one));
-    assert_eq!(rt; (start.len(), one.len(), two.len()), (0, 1, 2));
+    let applied = (two.add_applied(&story, &delta, &ends), two.is_same(&one));
+    let counts = (start.len(), one.len(), two.len());
+    same(
+        rt,
+        &[first, again, applied],
+        &[(true, false), (false, true), (true, false)],
+    );
+    same(rt, &counts, &(0, 1, 2));
     Ok(())
 }

@@ -1,5 +1,6 @@
 //! Watches by tables of cases.
 
+use crate::{holds, same, same_at};
 use sb_types::{Fault, Key, Name, Prefix};
 use sb_watch::{Filter, Hub, Note, Polled, WatchId};
 use std::alloc::Global;
@@ -131,27 +132,39 @@ fn read_notes(alloc: Global) -> Result<Vec<Note>, Fail> {
     Ok(notes)
 }
 
+/// The note at this place, as a watch hands it out.
+fn note_at(notes: &[Note], place: usize) -> Option<Polled> {
+    match notes.get(place) {
+        Some(note) => Some(Polled::Note(*note)),
+        None => None,
+    }
+}
+
 // Lagged once where some were lost, then the notes, then none.
 fn answers_are(rt: &impl Abort, hub: &mut Hub, id: WatchId, case: &Case, notes: &[Note]) {
     if case.lost > 0 {
-        assert_eq!(rt; hub.take(id), Ok(Polled::Lagged(case.lost)));
+        same(rt, &hub.take(id), &Ok(Polled::Lagged(case.lost)));
     }
     for place in case.given.iter() {
-        let wanted = notes.get(*place).copied();
-        assert_eq!(rt; hub.take(id).ok(), wanted.map(|note| Polled::Note(note)));
+        same(rt, &hub.take(id).ok(), &note_at(notes, *place));
     }
-    assert_eq!(rt; hub.take(id), Ok(Polled::Empty));
-    assert_eq!(rt; hub.take(id), Ok(Polled::Empty));
+    same(rt, &[hub.take(id), hub.take(id)], &[Ok(Polled::Empty); 2]);
+}
+
+/// A watch for each case.
+fn watch_each(alloc: Global, hub: &mut Hub) -> Result<Vec<WatchId>, Fail> {
+    let mut ids = Vec::with_capacity(alloc, CASES.len())?;
+    for case in CASES.iter() {
+        ids.push(hub.add(filter(case.owner, case.prefix)?, case.capacity)?)?;
+    }
+    Ok(ids)
 }
 
 #[test]
 fn watches_keep_the_last_notes(rt: HostRuntime) -> Result<(), Fail> {
     let notes = read_notes(rt.alloc())?;
     let mut hub = Hub::new(rt.alloc());
-    let mut ids = Vec::with_capacity(rt.alloc(), CASES.len())?;
-    for case in CASES.iter() {
-        ids.push(hub.add(filter(case.owner, case.prefix)?, case.capacity)?)?;
-    }
+    let ids = watch_each(rt.alloc(), &mut hub)?;
     for note in notes.iter() {
         hub.push(note);
     }
@@ -161,74 +174,122 @@ fn watches_keep_the_last_notes(rt: HostRuntime) -> Result<(), Fail> {
     Ok(())
 }
 
+// What a watch with room for two notes answers behind the third, and behind the last.
+fn answers_between(hub: &mut Hub, notes: &[Note]) -> Result<[Result<Polled, Fault>; 5], Fault> {
+    let id = watch_all(hub, 2)?;
+    for note in notes.iter().take(3) {
+        hub.push(note);
+    }
+    let early = hub.take(id);
+    for note in notes.iter().skip(3) {
+        hub.push(note);
+    }
+    Ok([
+        early,
+        hub.take(id),
+        hub.take(id),
+        hub.take(id),
+        hub.take(id),
+    ])
+}
+
 // The fourth note pushes out the second after the first was told as lost, and so on.
 #[test]
 fn lost_notes_are_told_once(rt: HostRuntime) -> Result<(), Fail> {
     let notes = read_notes(rt.alloc())?;
-    let mut hub = Hub::new(rt.alloc());
-    let id = watch_all(&mut hub, 2)?;
-    for note in notes.iter().take(3) {
-        hub.push(note);
-    }
-    assert_eq!(rt; hub.take(id), Ok(Polled::Lagged(1)));
-    for note in notes.iter().skip(3) {
-        hub.push(note);
-    }
-    assert_eq!(rt; hub.take(id), Ok(Polled::Lagged(2)));
-    assert_eq!(rt; hub.take(id), Ok(Polled::Note(note(b"a", b"net/c", 4)?)));
-    assert_eq!(rt; hub.take(id), Ok(Polled::Note(note(b"b", b"net/a", 1)?)));
-    assert_eq!(rt; hub.take(id), Ok(Polled::Empty));
+    let [fourth, last] = [note(b"a", b"net/c", 4)?, note(b"b", b"net/a", 1)?];
+    let found = answers_between(&mut Hub::new(rt.alloc()), &notes)?;
+    let wanted = [
+        Ok(Polled::Lagged(1)),
+        Ok(Polled::Lagged(2)),
+        Ok(Polled::Note(fourth)),
+        Ok(Polled::Note(last)),
+        Ok(Polled::Empty),
+    ];
+    same(&rt, &found, &wanted);
     Ok(())
+}
+
+fn add_least_and_greatest(hub: &mut Hub) -> Result<[WatchId; 2], Fault> {
+    Ok([watch_all(hub, 1)?, watch_all(hub, 1024)?])
 }
 
 #[test]
 fn capacities_are_1_to_1024(rt: HostRuntime) -> Result<(), Fail> {
     let mut hub = Hub::new(rt.alloc());
     for capacity in [0, 1025, usize::MAX] {
-        assert_eq!(rt; watch_all(&mut hub, capacity), Err(Fault::BadSetting));
+        same_at(
+            &rt,
+            &capacity,
+            &watch_all(&mut hub, capacity),
+            &Err(Fault::BadSetting),
+        );
     }
-    let least = watch_all(&mut hub, 1)?;
-    let greatest = watch_all(&mut hub, 1024)?;
-    assert!(rt; hub.has(least) && hub.has(greatest));
+    let [least, greatest] = add_least_and_greatest(&mut hub)?;
+    holds(&rt, "both stand", hub.has(least) && hub.has(greatest));
     Ok(())
+}
+
+/// What two more are answered where 64 stand; whether one is dropped, first and once more; what the one that was added then and the one
+/// that was dropped are told; and whether that one is another, and stands.
+type Full = (
+    [Result<WatchId, Fault>; 2],
+    [Result<(), Fault>; 2],
+    Told,
+    bool,
+);
+
+type Told = [Result<Polled, Fault>; 2];
+
+// The note comes once the other was added.
+fn fill(hub: &mut Hub, note: &Note) -> Result<Full, Fault> {
+    let first = watch_all(hub, 1)?;
+    for _ in 1..64 {
+        watch_all(hub, 1)?;
+    }
+    let refused = [watch_all(hub, 1), watch_all(hub, 0)];
+    let dropped = hub.drop_watch(first);
+    let last = watch_all(hub, 1)?;
+    let is_added = last != first && hub.has(last);
+    hub.push(note);
+    let told = [hub.take(last), hub.take(first)];
+    Ok((refused, [dropped, hub.drop_watch(first)], told, is_added))
 }
 
 #[test]
 fn at_most_64_watches_stand(rt: HostRuntime) -> Result<(), Fail> {
-    let mut hub = Hub::new(rt.alloc());
-    let first = watch_all(&mut hub, 1)?;
-    for _ in 1..64 {
-        watch_all(&mut hub, 1)?;
-    }
-    assert_eq!(rt; watch_all(&mut hub, 1), Err(Fault::WatchesFull));
-    assert_eq!(rt; watch_all(&mut hub, 0), Err(Fault::BadSetting));
-    assert_eq!(rt; hub.drop_watch(first), Ok(()));
-    let last = watch_all(&mut hub, 1)?;
-    assert!(rt; last != first && hub.has(last));
-    hub.push(&note(b"a", b"x", 7)?);
-    assert_eq!(rt; hub.take(last), Ok(Polled::Note(note(b"a", b"x", 7)?)));
-    assert_eq!(rt; hub.take(first), Err(Fault::NoWatch));
-    assert_eq!(rt; hub.drop_watch(first), Err(Fault::NoWatch));
+    let note = note(b"a", b"x", 7)?;
+    let found = fill(&mut Hub::new(rt.alloc()), &note)?;
+    let wanted = (
+        [Err(Fault::WatchesFull), Err(Fault::BadSetting)],
+        [Ok(()), Err(Fault::NoWatch)],
+        [Ok(Polled::Note(note)), Err(Fault::NoWatch)],
+        true,
+    );
+    same(&rt, &found, &wanted);
     Ok(())
 }
 
 #[test]
 fn example_of_watches(rt: HostRuntime) -> Result<(), Fail> {
-    let alloc = rt.alloc();
-    let mut hub = Hub::new(alloc);
-    let id = hub.add(
-        Filter {
-            owner: None,
-            prefix: Prefix::read(b"net/")?,
-        },
-        2,
-    )?;
-    hub.push(&Note {
+    let filter = Filter {
+        owner: None,
+        prefix: Prefix::read(b"net/")?,
+    };
+    let note = Note {
         owner: Name::read(b"a")?,
         key: Key::read(b"net/b")?,
         version: 2,
-    });
-    assert!(rt; matches!(hub.take(id), Ok(Polled::Note(note)) if note.version == 2));
-    assert_eq!(rt; hub.take(id), Ok(Polled::Empty));
+    };
+    let mut hub = Hub::new(rt.alloc());
+    let id = hub.add(filter, 2)?;
+    hub.push(&note);
+    let told = hub.take(id);
+    holds(
+        &rt,
+        "it is told",
+        matches!(told, Ok(Polled::Note(note)) if note.version == 2),
+    );
+    same(&rt, &hub.take(id), &Ok(Polled::Empty));
     Ok(())
 }
