@@ -3,6 +3,7 @@
 ghost use Rattle.std.specs.Prelude.{◌≡◌};
 
 use crate::making::{commit, delta_of, log_of};
+use crate::same_at;
 use sb_digest::Digest;
 use sb_directory::Locked;
 use sb_holdings::BlockEnd;
@@ -230,7 +231,7 @@ pub(crate) fn play<S: Site, H: Wait + Drop, R: Wait + Abort>(
         if found == Answer::Refused(Fault::NoMemory) {
             return Err(Fault::NoMemory);
         }
-        assert_eq!(rt; found, *wanted, "at call {index}");
+        same_at(rt, &("at call", index), &found, wanted);
     }
     Ok(())
 }

@@ -71,6 +71,21 @@ fn take_late<S: Site, H: Wait + Drop, R: Wait + Abort>(
     }
 }
 
+/// The desk of a node that did nothing yet is watched, writes, and then answers these calls so.
+fn play_late<S: Site, H: Wait + Drop, R: Wait + Abort>(
+    rt: &R,
+    desk: &mut Desk<S, H>,
+    cases: &[Case],
+) -> Result<(), Fault> {
+    let before = [
+        (Call::Watch(b"", 4), Answer::Done),
+        (Call::Commit(b"x"), Answer::Done),
+    ];
+    play(rt, desk, &before)?;
+    write_late(rt, desk)?;
+    play(rt, desk, cases)
+}
+
 /// A node writes, and then answers these calls so.
 fn write_then<S: Site, R: Wait + Abort>(
     rt: &R,
@@ -83,13 +98,7 @@ fn write_then<S: Site, R: Wait + Abort>(
     requires opening { S.opening ≡ core.node }
 {
     let mut desk = desk_of::<S, R>(rt, opened, core, log_of(alloc, b"a")?, alloc)?;
-    let before = [
-        (Call::Watch(b"", 4), Answer::Done),
-        (Call::Commit(b"x"), Answer::Done),
-    ];
-    play(rt, &mut desk, &before)?;
-    write_late(rt, &mut desk)?;
-    play(rt, &mut desk, cases)
+    play_late(rt, &mut desk, cases)
 }
 
 /// A new node writes, and then answers this call so, after which the reader sees this.
@@ -124,6 +133,19 @@ fn the_next_call_shows_a_write(rt: HostRuntime) -> Result<(), Fail> {
     Ok(())
 }
 
+/// A desk takes a delta, and shows it at last.
+fn show_late<S: Site, H: Wait + Drop, R: Wait + Abort>(
+    rt: &R,
+    desk: &mut Desk<S, H>,
+) -> Result<(), Fault> {
+    let events = take_late(rt, desk)?;
+    let after = [
+        (Call::Refresh, Answer::Shown),
+        (Call::Read, Answer::Read(events, 0, 1)),
+    ];
+    play(rt, desk, &after)
+}
+
 /// A node takes a delta, and shows it at last.
 fn take_then_show<S: Site, R: Wait + Abort>(
     rt: &R,
@@ -135,12 +157,7 @@ fn take_then_show<S: Site, R: Wait + Abort>(
     requires opening { S.opening ≡ core.node }
 {
     let mut desk = desk_of::<S, R>(rt, opened, core, log_of(alloc, b"a")?, alloc)?;
-    let events = take_late(rt, &mut desk)?;
-    let after = [
-        (Call::Refresh, Answer::Shown),
-        (Call::Read, Answer::Read(events, 0, 1)),
-    ];
-    play(rt, &mut desk, &after)
+    show_late(rt, &mut desk)
 }
 
 #[test]

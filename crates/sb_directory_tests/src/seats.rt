@@ -2,6 +2,7 @@
 ghost use Rattle.std.specs.Prelude.{◌≡◌};
 
 use crate::making::{commit, log_of, node_of};
+use crate::{same, same_at};
 use sb_directory::{Configured, Directory, ReaderSeat, Receipt};
 use sb_node::NodeCore;
 use sb_table::Table;
@@ -59,9 +60,9 @@ fn a_directory_has_1_to_64_seats(rt: HostRuntime) -> Result<(), Fail> {
         if found == Err(Fault::NoMemory) {
             return Err(Fault::NoMemory.into());
         }
-        assert_eq!(rt; found, wanted, "of {seats} seats");
+        same_at(&rt, &("seats", seats), &found, &wanted);
     }
-    assert_eq!(rt; Fault::BadSetting.number(), 5);
+    same(&rt, &Fault::BadSetting.number(), &5);
     Ok(())
 }
 

@@ -3,6 +3,7 @@ ghost use Rattle.std.specs.Prelude.{◌≡◌};
 
 use crate::making::node_of;
 use crate::peers::{SAID_BY_B, talk};
+use crate::{same, same_at};
 use sb_directory::{Configured, Directory, ReaderSeat, Served};
 use sb_node::NodeCore;
 use sb_session::Ended;
@@ -70,12 +71,10 @@ fn serve_new<R: Wait>(rt: &R, alloc: Global, piece: usize) -> Result<Talked, Fau
 #[test]
 fn a_peer_is_served(rt: HostRuntime) -> Result<(), Fail> {
     for piece in [1usize, 7, 42] {
-        assert_eq!(rt;
-            serve_new(&rt, rt.alloc(), piece)?,
-            (Ended::Bye(1), true, 0)
-        );
+        let talked = serve_new(&rt, rt.alloc(), piece)?;
+        same_at(&rt, &piece, &talked, &(Ended::Bye(1), true, 0));
     }
     // Hello, the delta and the digest.
-    assert_eq!(rt; SAID_BY_B.len(), 67);
+    same(&rt, &SAID_BY_B.len(), &67);
     Ok(())
 }

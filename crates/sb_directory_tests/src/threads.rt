@@ -4,6 +4,7 @@ ghost use Rattle.std.specs.Prelude.{◌≡◌};
 use crate::making::{commit, delta_under, log_of, node_of};
 use sb_directory::{Configured, Directory, ReaderSeat};
 use sb_holdings::BlockEnd;
+use sb_log::PlainLog;
 use sb_node::NodeCore;
 use sb_table::Table;
 use sb_types::{Delta, Fault, Name, Prefix};
@@ -107,6 +108,22 @@ fn take_of_b<S: Configured, H: Wait + Drop, R: Wait>(
     }
 }
 
+/// The next write of the node a, and that of b behind this version, each shown at once.
+fn write_both<S: Configured, H: Wait + Drop, R: Wait>(
+    rt: &R,
+    alloc: Global,
+    directory: &Directory<S, H>,
+    seat: &mut ReaderSeat<S>,
+    log: &mut PlainLog,
+    version: u64,
+) -> Result<(), Fault> {
+    let key = key_behind(version);
+    let delta = delta_under(alloc, b"b", version, &key)?;
+    let committed = commit(log, &key)?;
+    all_shown(directory.take_own(rt, seat, &committed)?.shown)?;
+    take_of_b(rt, directory, seat, &delta)
+}
+
 /// Writes of the node a and of b, in turn, each shown at once.
 fn write_along<S: Configured, H: Wait + Drop, R: Wait>(
     rt: &R,
@@ -116,15 +133,7 @@ fn write_along<S: Configured, H: Wait + Drop, R: Wait>(
 ) -> Result<(), Fault> {
     let mut log = log_of(alloc, b"a")?;
     for version in 0..WRITES {
-        let key = key_behind(version);
-        let committed = commit(&mut log, &key)?;
-        all_shown(directory.take_own(rt, seat, &committed)?.shown)?;
-        take_of_b(
-            rt,
-            directory,
-            seat,
-            &delta_under(alloc, b"b", version, &key)?,
-        )?;
+        write_both(rt, alloc, directory, seat, &mut log, version)?;
     }
     Ok(())
 }
