@@ -1,6 +1,7 @@
 //! Requests over a reader that holds the answers, against frames that are written out by hand.
 ghost use Rattle.std.specs.Prelude.{◌≡◌, ◌<◌};
 
+use crate::{holds, same};
 use sb_codec::{Ask, Message};
 use sb_frames::Steps;
 use sb_query::print_rows;
@@ -86,35 +87,73 @@ fn asked<W: io::Write>(
     ask_on::<Brand, W>(alloc, held, writer, request, max_reads, Blank::new(1))
 }
 
+/// The version with which a put is answered, and what was sent.
+fn put_answered(alloc: Global) -> Result<(Option<u64>, Vec<u8>), Fault> {
+    let request = put_of_w()?;
+    let mut sent = Vec::new(alloc);
+    let answer = asked(alloc, DONE, &mut sent, &request, 1)?;
+    let version = match &answer {
+        Message::Done(done) => Some(done.version()),
+        _ => None,
+    };
+    Ok((version, sent))
+}
+
 #[test]
 fn a_put_is_answered_by_its_version(rt: HostRuntime) -> Result<(), Fail> {
-    let mut sent = Vec::new(rt.alloc());
-    let answer = asked(rt.alloc(), DONE, &mut sent, &put_of_w()?, 1)?;
-    assert!(rt; matches!(&answer, Message::Done(done) if done.version() == 1));
-    assert_eq!(rt; sent.as_slice(), PUT);
+    let (version, sent) = put_answered(rt.alloc())?;
+    same(&rt, &version, &Some(1));
+    same(&rt, &sent.as_slice(), &PUT);
     Ok(())
+}
+
+/// The lines of an answer by rows, and whether more follow.
+fn lines_of(alloc: Global, answer: &Message) -> Result<(Vec<u8>, bool), Fail> {
+    let Message::Rows(page) = answer else {
+        return Err("rows")?;
+    };
+    let mut lines = Vec::new(alloc);
+    let (printed, _) = print_rows(alloc, &mut lines, page);
+    printed?;
+    Ok((lines, page.more()))
+}
+
+/// The answer to an ask for all rows, and what was sent.
+fn ask_answered(alloc: Global) -> Result<(Message, Vec<u8>), Fault> {
+    let request = ask_for_all()?;
+    let mut sent = Vec::new(alloc);
+    let answer = asked(alloc, ROWS, &mut sent, &request, 1)?;
+    Ok((answer, sent))
 }
 
 #[test]
 fn an_ask_is_answered_by_rows(rt: HostRuntime) -> Result<(), Fail> {
-    let mut sent = Vec::new(rt.alloc());
-    let answer = asked(rt.alloc(), ROWS, &mut sent, &ask_for_all()?, 1)?;
-    assert_eq!(rt; sent.as_slice(), ASK);
-    let Message::Rows(page) = &answer else {
-        return Err("rows")?;
-    };
-    let mut lines = Vec::new(rt.alloc());
-    let (printed, _) = print_rows(rt.alloc(), &mut lines, page);
-    printed?;
-    assert!(rt; !page.more());
-    assert_eq!(rt; lines.as_slice(), b"a w 1 weight 5\n".as_slice());
+    let (answer, sent) = ask_answered(rt.alloc())?;
+    same(&rt, &sent.as_slice(), &ASK);
+    let (lines, more) = lines_of(rt.alloc(), &answer)?;
+    holds(&rt, "no more rows", !more);
+    same(&rt, &lines.as_slice(), &b"a w 1 weight 5\n".as_slice());
     Ok(())
+}
+
+/// The fault with which a put ends over a reader of these bytes. Want of memory is the fault of the test, as an answer is.
+fn fault_of<W: io::Write>(
+    alloc: Global,
+    held: &[u8],
+    writer: &mut W,
+    max_reads: u64,
+) -> Result<Fault, Fail> {
+    let request = put_of_w()?;
+    match asked(alloc, held, writer, &request, max_reads) {
+        Err(Fault::NoMemory) => Err(Fault::NoMemory)?,
+        Err(met) => Ok(met),
+        Ok(_) => Err("a fault")?,
+    }
 }
 
 #[test]
 fn no_whole_answer_is_a_fault(rt: HostRuntime) -> Result<(), Fail> {
     let alloc = rt.alloc();
-    let request = put_of_w()?;
     for (held, max_reads, fault) in [
         (b"".as_slice(), 1, Fault::Truncated),
         (&DONE[..14], 2, Fault::Truncated),
@@ -126,24 +165,17 @@ fn no_whole_answer_is_a_fault(rt: HostRuntime) -> Result<(), Fail> {
             Fault::UnknownKind(0x55),
         ),
     ] {
-        match asked(alloc, held, &mut Vec::new(alloc), &request, max_reads) {
-            Err(Fault::NoMemory) => return Err(Fault::NoMemory)?,
-            Err(met) => assert_eq!(rt; met, fault),
-            Ok(_) => return Err("a fault")?,
-        }
+        let met = fault_of(alloc, held, &mut Vec::new(alloc), max_reads)?;
+        same(&rt, &met, &fault);
     }
     Ok(())
 }
 
 #[test]
 fn a_request_that_is_cut_short_is_counted(rt: HostRuntime) -> Result<(), Fail> {
-    let request = put_of_w()?;
     for left in [0, 1, 17] {
-        match asked(rt.alloc(), DONE, &mut ShortWriter { left }, &request, 1) {
-            Err(Fault::NoMemory) => return Err(Fault::NoMemory)?,
-            Err(met) => assert_eq!(rt; met, Fault::WriteFailed(left as u64)),
-            Ok(_) => return Err("a fault")?,
-        }
+        let met = fault_of(rt.alloc(), DONE, &mut ShortWriter { left }, 1)?;
+        same(&rt, &met, &Fault::WriteFailed(left as u64));
     }
     Ok(())
 }

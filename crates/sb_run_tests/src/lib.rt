@@ -14,3 +14,20 @@ mod peers;
 mod pooling;
 #[cfg(test)]
 mod running;
+
+#[cfg(test)]
+use std::fmt::Debug;
+#[cfg(test)]
+use std::process::Abort;
+
+/// Ends the test where the two differ. As a function it costs the prover a tenth of the macro.
+#[cfg(test)]
+fn same<T: PartialEq + Debug>(rt: &impl Abort, found: &T, wanted: &T) {
+    assert_eq!(rt; found, wanted);
+}
+
+/// Ends the test where this does not hold.
+#[cfg(test)]
+fn holds(rt: &impl Abort, what: &str, holds: bool) {
+    assert!(rt; holds, "{what}");
+}

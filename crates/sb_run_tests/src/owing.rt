@@ -4,8 +4,9 @@ ghost use Rattle.std.specs.Prelude.{◌≡◌};
 
 use crate::owning::{PUT, new_node, new_owner, serve_one};
 use sb_directory::{Configured, Directory, ReaderSeat};
+use sb_log::PlainLog;
 use sb_node::NodeCore;
-use sb_run::Stored;
+use sb_run::{Owner, Stored};
 use sb_types::{Fault, Key, Name, Slot, Value};
 use sb_views::Opened;
 use std::alloc::Global;
@@ -99,17 +100,26 @@ fn put_each<S: Configured, R: Wait + Abort>(
     requires parts { blank.parts ≡ S.parts }
     requires seats { (1 ≡ S.seats) × (1 ≡ S.parts) }
 {
-    let (directory, mut seats) = Directory::<S, &R>::make(rt, alloc, opened, blank, core, 1)?;
     let mut owner = new_owner(alloc)?;
-    let mut seat = seats.pop().ok_or("a seat")?;
+    let (directory, mut seats) = Directory::<S, &R>::make(rt, alloc, opened, blank, core, 1)?;
+    put_from(rt, &directory, &mut owner, seats.pop().ok_or("a seat")?)
+}
+
+/// Puts the weight 5 under some keys, one after the other, from a seat of a new directory.
+fn put_from<S: Configured, R: Wait>(
+    rt: &R,
+    directory: &Directory<S, &R>,
+    owner: &mut Owner<PlainLog>,
+    mut seat: ReaderSeat<S>,
+) -> Result<(), Fail> {
     let slot = Slot::Set(Value::weight(5)?);
     let mut versions = Versions {
         kept: 0,
         entered: 0,
     };
     for key in [b"x", b"y", b"x", b"z"] {
-        let ended = owner.put(rt, &directory, &mut seat, &Key::read(key)?, &slot);
-        let (back, shown) = shown_upto(rt, &directory, seat);
+        let ended = owner.put(rt, directory, &mut seat, &Key::read(key)?, &slot);
+        let (back, shown) = shown_upto(rt, directory, seat);
         versions = versions.after(ended, shown?).ok_or("no put ends so")?;
         seat = back;
     }

@@ -1,6 +1,7 @@
 //! An owner and a control socket over a directory: what is kept, what is shared, and what is answered.
 ghost use Rattle.std.specs.Prelude.{◌≡◌, ◌<◌};
 
+use crate::same;
 use sb_directory::{Configured, Directory, ReaderSeat};
 use sb_frames::Steps;
 use sb_log::PlainLog;
@@ -154,15 +155,32 @@ fn meet_another<S: Configured, R: Wait + Abort>(
     requires parts { blank.parts ≡ S.parts }
     requires seats { (1 ≡ S.seats) × (1 ≡ S.parts) }
 {
-    let (directory, mut seats) = Directory::<S, &R>::make(rt, alloc, opened, blank, core, 1)?;
+    let delta = delta_of_a(alloc)?;
     let mut owner = new_owner(alloc)?;
-    let mut seat = seats.pop().ok_or("a seat")?;
+    let (directory, mut seats) = Directory::<S, &R>::make(rt, alloc, opened, blank, core, 1)?;
+    let seat = seats.pop().ok_or("a seat")?;
+    let put = put_around(rt, &directory, &mut owner, seat, &delta)?;
+    same(rt, &put, &(true, 1, Err(Fault::OwnerConflict(2))));
+    Ok(())
+}
+
+/// Puts from a seat, before and after the directory takes a delta: whether the first is shared, its version, and what the second
+/// is answered.
+fn put_around<S: Configured, R: Wait>(
+    rt: &R,
+    directory: &Directory<S, &R>,
+    owner: &mut Owner<PlainLog>,
+    mut seat: ReaderSeat<S>,
+    delta: &Delta,
+) -> Result<(bool, u64, Result<Stored, Fault>), Fault> {
     let key = Key::read(b"x")?;
     let slot = Slot::Set(Value::weight(5)?);
-    let stored = owner.put(rt, &directory, &mut seat, &key, &slot)?;
-    assert!(rt; matches!(stored, Stored::Shared(_)) && stored.version() == 1);
-    directory.apply(rt, &mut seat, &delta_of_a(alloc)?)?;
-    let refused = owner.put(rt, &directory, &mut seat, &key, &slot);
-    assert_eq!(rt; refused, Err(Fault::OwnerConflict(2)));
-    Ok(())
+    let stored = owner.put(rt, directory, &mut seat, &key, &slot)?;
+    directory.apply(rt, &mut seat, delta)?;
+    let refused = owner.put(rt, directory, &mut seat, &key, &slot);
+    Ok((
+        matches!(stored, Stored::Shared(_)),
+        stored.version(),
+        refused,
+    ))
 }

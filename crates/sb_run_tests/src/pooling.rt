@@ -1,6 +1,7 @@
 //! Workers of a pool, whose sessions wait for each other at a gate.
 ghost use Rattle.std.specs.Prelude.{◌≡◌};
 
+use crate::same;
 use sb_directory::{Configured, Directory};
 use sb_node::NodeCore;
 use sb_run::{Gate, Source, Step, serve_pool};
@@ -146,9 +147,9 @@ fn pool_new<R: Threads + Wait + Clock + Send + Sync>(
 #[test]
 fn a_session_waits_for_another(rt: HostRuntime) -> Result<(), Fail> {
     let two = pool_new(&rt, rt.alloc(), 2, 5_000)?;
-    assert_eq!(rt; two, (2, 0, 1));
+    same(&rt, &two, &(2, 0, 1));
     // The only worker would wait for itself: the gate turns session 1 away before its delta is entered.
     let one = pool_new(&rt, rt.alloc(), 1, 20)?;
-    assert_eq!(rt; one, (2, 1, 0));
+    same(&rt, &one, &(2, 1, 0));
     Ok(())
 }

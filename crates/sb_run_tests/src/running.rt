@@ -1,11 +1,13 @@
 //! A node that runs on its sockets.
 
 use crate::peers::{hears_only, new_log, next_of, node_with, put_is_done, reach, settings, talk};
+use crate::same;
 use sb_run::{Pace, Paths, Ran, run_node};
 use sb_session::Ended;
 use sb_types::{Fault, Name};
 use std::alloc::Global;
 use std::cell::Cell;
+use std::fs::File;
 use std::net::{Net, TcpListener, TcpStream};
 use std::os::unix::net::{UnixListener, UnixStream};
 use std::rt::Files;
@@ -13,7 +15,7 @@ use std::sync::Wait;
 use std::test::Fail;
 use std::thread::Threads;
 use std::time::Clock;
-use std::{fs, thread};
+use std::{fs, io, thread};
 
 /// The length of the Hello that a says.
 const HELLO: usize = 12;
@@ -25,6 +27,10 @@ fn pace(rounds: u64, idle: u64) -> Pace {
         idle,
         max_reads: 99,
     }
+}
+
+fn is_there(files: &impl Files, path: &str) -> bool {
+    fs::metadata(files, path).is_ok()
 }
 
 /// Runs the node a with a new log.
@@ -66,11 +72,34 @@ fn rounds_without_peers(rt: HostRuntime) -> Result<(), Fail> {
         faults: 0,
         events: 0,
     };
-    assert_eq!(rt; ran, whole);
-    assert!(rt; bound.get());
-    assert!(rt; fs::metadata(&rt, paths.sock).is_err());
-    assert!(rt; fs::metadata(&rt, paths.control).is_err());
+    same(&rt, &ran, &whole);
+    let are_left = [is_there(&rt, paths.sock), is_there(&rt, paths.control)];
+    same(&rt, &(bound.get(), are_left), &(true, [false, false]));
     Ok(())
+}
+
+/// What a node answers where there is a file at one of its paths, whether there is one at the other then, and whether the first is as
+/// it was.
+fn run_over_taken<
+    R: Threads
+        + Wait
+        + Clock
+        + Files
+        + Net<Listener = TcpListener, Stream = TcpStream>
+        + Send
+        + Sync,
+>(
+    rt: &R,
+    alloc: Global,
+    paths: &Paths,
+    free: &str,
+) -> Result<(Result<Ran, Fault>, bool, bool), Fail> {
+    fs::write(rt, "taken", "kept")?;
+    let ran = run_a(rt, alloc, paths, pace(1, 0));
+    let is_made = is_there(rt, free);
+    let kept = io::read_to_string(alloc, File::open(rt, "taken")?)?;
+    fs::remove_file(rt, "taken")?;
+    Ok((ran, is_made, kept.as_str() == "kept"))
 }
 
 #[test]
@@ -79,19 +108,13 @@ fn a_path_that_is_taken_is_left(rt: HostRuntime) -> Result<(), Fail> {
         ("taken", "free.control", "free.control"),
         ("free.sock", "taken", "free.sock"),
     ] {
-        fs::write(&rt, "taken", "kept")?;
         let paths = Paths {
             sock,
             control,
             peers: &[],
         };
-        assert_eq!(rt;
-            run_a(&rt, rt.alloc(), &paths, pace(1, 0)),
-            Err(Fault::ReadFailed)
-        );
-        assert!(rt; fs::metadata(&rt, free).is_err());
-        assert_eq!(rt; fs::read_to_string(&rt, "taken")?.as_str(), "kept");
-        fs::remove_file(&rt, "taken")?;
+        let met = run_over_taken(&rt, rt.alloc(), &paths, free)?;
+        same(&rt, &met, &(Err(Fault::ReadFailed), false, true));
     }
     Ok(())
 }
@@ -150,13 +173,13 @@ fn a_node_beside_its_owner_and_its_peers(rt: HostRuntime) -> Result<(), Fail> {
         ends: [Ended::RoundsDone, Ended::Bye(1)],
         held: [1, 1, 1],
     };
-    assert_eq!(rt; seen?, all);
+    same(&rt, &seen?, &all);
     let whole = Ran {
         rounds: 2,
         faults: 1,
         events: 4,
     };
-    assert_eq!(rt; ran?, whole);
+    same(&rt, &ran?, &whole);
     Ok(())
 }
 
@@ -201,12 +224,12 @@ fn a_connection_that_says_nothing_ends(rt: HostRuntime) -> Result<(), Fail> {
         || stay_silent(&rt, rt.alloc(), &listener, &paths),
     );
     fs::remove_file(&rt, "idle.peer")?;
-    assert_eq!(rt; seen?, (true, true, Ended::Bye(1), 1));
+    same(&rt, &seen?, &(true, true, Ended::Bye(1), 1));
     let whole = Ran {
         rounds: 2,
         faults: 3,
         events: 2,
     };
-    assert_eq!(rt; ran?, whole);
+    same(&rt, &ran?, &whole);
     Ok(())
 }
