@@ -10,3 +10,26 @@ mod story;
 mod transcripts;
 #[cfg(test)]
 mod world;
+
+#[cfg(test)]
+use std::fmt::Debug;
+#[cfg(test)]
+use std::process::Abort;
+
+/// Ends the test where the two differ. As a function it costs the prover a tenth of the macro.
+#[cfg(test)]
+fn same<T: PartialEq + Debug>(rt: &impl Abort, found: &T, wanted: &T) {
+    assert_eq!(rt; found, wanted);
+}
+
+/// The same of one of many cases, which is named where the two differ.
+#[cfg(test)]
+fn same_at<N: Debug, T: PartialEq + Debug>(rt: &impl Abort, at: &N, found: &T, wanted: &T) {
+    assert_eq!(rt; found, wanted, "{at:?}");
+}
+
+/// Ends the test where this does not hold.
+#[cfg(test)]
+fn holds(rt: &impl Abort, what: &str, holds: bool) {
+    assert!(rt; holds, "{what}");
+}

@@ -1,5 +1,6 @@
 //! What no clause says: what scripts print, and the ends of a run.
 use crate::transcripts::TRANSCRIPTS;
+use crate::{holds, same, same_at};
 use sb_script::{Detail, Ending, Output, sim_run_uncounted};
 use sb_types::Fault;
 use std::alloc::Global;
@@ -188,14 +189,19 @@ fn prints(alloc: Global, detail: Detail, lines: &str) -> Result<bool, Fault> {
 #[test]
 fn lines_print_what_stands_below_them(rt: HostRuntime) -> Result<(), Fail> {
     for (title, detail, lines) in TRANSCRIPTS {
-        assert!(rt; prints(rt.alloc(), detail, lines)?, "{title}");
+        holds(&rt, title, prints(rt.alloc(), detail, lines)?);
     }
     Ok(())
 }
 
+/// The status of a run, and whether it printed just this.
+fn status_of(alloc: Global, script: &str, wanted: &str) -> Result<(u8, bool), Fault> {
+    let (ending, page) = run(alloc, script.as_bytes(), Detail::Plain)?;
+    Ok((ending.status(), page.printed() == wanted.as_bytes()))
+}
+
 #[test]
 fn a_wrong_line_ends_the_run(rt: HostRuntime) -> Result<(), Fail> {
-    let alloc = rt.alloc();
     for (script, status, wanted) in [
         ("", 0, ""),
         (
@@ -205,23 +211,42 @@ fn a_wrong_line_ends_the_run(rt: HostRuntime) -> Result<(), Fail> {
         ),
         ("world 255 breadth 100 a", 3, "fault 5\n"),
     ] {
-        let (ending, page) = run(alloc, script.as_bytes(), Detail::Plain)?;
-        assert_eq!(rt; ending.status(), status);
-        assert_eq!(rt; page.printed(), wanted.as_bytes());
+        let found = status_of(rt.alloc(), script, wanted)?;
+        same_at(&rt, &script, &found, &(status, true));
     }
     Ok(())
+}
+
+/// How the example ends in so many reads.
+fn ended_within(alloc: Global, max_reads: u64) -> Result<Result<Ending, Fault>, Fault> {
+    with_memory(run_to(alloc, EXAMPLE.as_bytes(), io::sink(), max_reads))
 }
 
 #[test]
 fn reads_are_counted(rt: HostRuntime) -> Result<(), Fail> {
     let alloc = rt.alloc();
     for max_reads in 0..2 {
-        let ended = run_to(alloc, EXAMPLE.as_bytes(), io::sink(), max_reads);
-        assert_eq!(rt; with_memory(ended)?, Err(Fault::TurnsSpent));
+        let ended = ended_within(alloc, max_reads)?;
+        same_at(&rt, &max_reads, &ended, &Err(Fault::TurnsSpent));
     }
-    let ended = run_to(alloc, EXAMPLE.as_bytes(), io::sink(), 2);
-    assert_eq!(rt; with_memory(ended)?, Ok(Ending::Whole));
+    same(&rt, &ended_within(alloc, 2)?, &Ok(Ending::Whole));
     Ok(())
+}
+
+/// How a script ends whose reader is at its end so many times before it fails, and whether just this was printed.
+fn ended_at_breaks(
+    alloc: Global,
+    script: &str,
+    ends: u64,
+    printed: &str,
+) -> Result<(Result<Ending, Fault>, bool), Fault> {
+    let mut page = Page::new();
+    let bytes = script.as_bytes();
+    let ended = run_to(alloc, BreakingReader { bytes, ends }, &mut page, 100);
+    if !page.had_memory() {
+        return Err(Fault::NoMemory);
+    }
+    Ok((with_memory(ended)?, page.printed() == printed.as_bytes()))
 }
 
 #[test]
@@ -231,16 +256,25 @@ fn a_failed_read_is_no_end_and_the_end_is_read_once(rt: HostRuntime) -> Result<(
         (EXAMPLE, 0, Err(Fault::ReadFailed), PRINTED),
         (EXAMPLE, 1, Ok(Ending::Whole), PRINTED),
     ] {
-        let mut page = Page::new();
-        let bytes = script.as_bytes();
-        let run = run_to(rt.alloc(), BreakingReader { bytes, ends }, &mut page, 100);
-        if !page.had_memory() {
-            return Err(Fault::NoMemory.into());
-        }
-        assert_eq!(rt; with_memory(run)?, ended);
-        assert_eq!(rt; page.printed(), printed.as_bytes());
+        let found = ended_at_breaks(rt.alloc(), script, ends, printed)?;
+        same_at(&rt, &(script, ends), &found, &(ended, true));
     }
     Ok(())
+}
+
+/// How the example ends over such a writer, and how many writes failed.
+fn ended_at_writer(
+    alloc: Global,
+    left: usize,
+    is_flushed: bool,
+) -> Result<(Result<Ending, Fault>, u32), Fault> {
+    let mut writer = ClosingWriter {
+        left,
+        is_flushed,
+        failed: 0,
+    };
+    let ended = run_to(alloc, EXAMPLE.as_bytes(), &mut writer, 100);
+    Ok((with_memory(ended)?, writer.failed))
 }
 
 #[test]
@@ -250,14 +284,8 @@ fn a_failed_write_says_how_much_was_written(rt: HostRuntime) -> Result<(), Fail>
         (500, false, 0, Err(Fault::WriteFailed(114))),
         (114, true, 0, Ok(Ending::Whole)),
     ] {
-        let mut writer = ClosingWriter {
-            left,
-            is_flushed,
-            failed: 0,
-        };
-        let ended = run_to(rt.alloc(), EXAMPLE.as_bytes(), &mut writer, 100);
-        assert_eq!(rt; with_memory(ended)?, wanted);
-        assert_eq!(rt; writer.failed, failed);
+        let found = ended_at_writer(rt.alloc(), left, is_flushed)?;
+        same_at(&rt, &left, &found, &(wanted, failed));
     }
     Ok(())
 }
@@ -273,29 +301,43 @@ fn are_lines(printed: &[u8], lines: &[&str]) -> bool {
     rest.is_empty()
 }
 
+/// What a whole run of the example prints, as far as there is memory.
+const WHOLE: [&[&str]; 6] = [
+    &["version 1", FRAME, "taken 1", "a w 1 weight 5"],
+    &["fault 1", EMPTY_FRAME, "nothing", "none"],
+    &["version 1", "fault 1", "none"],
+    &["version 1", FRAME, "fault 1", "none"],
+    &["version 1", FRAME, "no-memory 0", "none"],
+    &["version 1", FRAME, "taken 1", "fault 1"],
+];
+
+/// What one prints that is not told, for want of memory.
+const UNTOLD: [&[&str]; 3] = [&[], &["version 1"], &["version 1", FRAME, "taken 1"]];
+
+/// Whether these are the lines of one of them.
+fn are_lines_of_one(printed: &[u8], all: &[&[&str]]) -> bool {
+    for lines in all {
+        if are_lines(printed, lines) {
+            return true;
+        }
+    }
+    false
+}
+
+/// Whether a run of the example may end so where any memory may be refused.
+fn may_end(ended: Result<Ending, Fault>, printed: &[u8]) -> bool {
+    match ended {
+        Ok(Ending::Whole) => are_lines_of_one(printed, &WHOLE),
+        Ok(Ending::NoWorld) => are_lines(printed, &["fault 1"]),
+        Err(Fault::NoMemory) => are_lines_of_one(printed, &UNTOLD),
+        _ => false,
+    }
+}
+
 #[test]
-fn any_memory_may_be_refused(rt: HostRuntime) -> Result<(), Fail> {
+fn any_memory_may_be_refused(rt: HostRuntime) {
     let mut page = Page::new();
     let ended = run_to(rt.alloc(), EXAMPLE.as_bytes(), &mut page, 100);
-    let printed = page.printed();
-    let whole = ["version 1", FRAME, "taken 1", "a w 1 weight 5"];
-    let allowed = match ended {
-        Ok(Ending::Whole) => [
-            whole.as_slice(),
-            &["fault 1", EMPTY_FRAME, "nothing", "none"],
-            &["version 1", "fault 1", "none"],
-            &["version 1", FRAME, "fault 1", "none"],
-            &["version 1", FRAME, "no-memory 0", "none"],
-            &["version 1", FRAME, "taken 1", "fault 1"],
-        ]
-        .iter()
-        .any(|lines| are_lines(printed, lines)),
-        Ok(Ending::NoWorld) => are_lines(printed, &["fault 1"]),
-        Err(Fault::NoMemory) => {
-            [0, 1, 3].iter().any(|count| are_lines(printed, whole.get(..*count).unwrap_or(&[])))
-        }
-        _ => false,
-    };
-    assert!(rt; allowed, "{ended:?}");
-    Ok(())
+    let is_allowed = may_end(ended, page.printed());
+    same_at(&rt, &ended, &is_allowed, &true);
 }

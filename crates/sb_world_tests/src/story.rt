@@ -1,6 +1,7 @@
 //! The way of a write, from put to read, over two nodes in memory: one test, written to be read.
 ghost use Rattle.std.specs.Prelude.{◌≤◌};
 
+use crate::{holds, same};
 use sb_breadth::Breadth;
 use sb_budget::{DeltaOrder, available, cut, orders_keep_owners};
 use sb_codec::Message;
@@ -10,6 +11,7 @@ use sb_holdings::{BlockEnd, Holdings};
 use sb_table::Table;
 use sb_types::{Block, Delta, Entry, Fault, Key, Name, Slot, Value};
 use std::alloc::Global;
+use std::process::Abort;
 use std::test::Fail;
 
 /// The greatest frame that a node sends, in bytes.
@@ -86,44 +88,72 @@ fn read(node: &Holdings, owner: &Name, key: &[u8]) -> Result<Option<u64>, Fault>
     })
 }
 
+/// In a round b tells how far it holds a, and a answers with the next write above that.
+fn go_a_round(
+    rt: &impl Abort,
+    alloc: Global,
+    a: &Name,
+    giver: &Holdings,
+    taker: &mut Holdings,
+    version: u64,
+) -> Result<(), Fail>
+    requires { 1 ≤ version }
+{
+    let digest = digest_from(alloc, taker)?;
+    holds(rt, "the digest covers a", digest.covers(a));
+    same(rt, &digest.number(a), &(version - 1));
+    let delta = answer_from(alloc, giver, &digest)?;
+    let [block] = delta.blocks() else {
+        return Err("one block".into());
+    };
+    same(rt, block.owner(), a);
+    same(rt, &(block.after(), block.upto()), &(version - 1, version));
+    // The same block once more tells b nothing.
+    let ends = [take(taker, block)?, take(taker, block)?];
+    same(rt, &ends, &[BlockEnd::Taken(1), BlockEnd::Stale]);
+    Ok(())
+}
+
+/// How far the node holds an owner, and the versions of what a reader at it sees of the owner under x and y.
+fn seen(node: &Holdings, owner: &Name) -> Result<(u64, Option<u64>, Option<u64>), Fault> {
+    Ok((
+        node.upto(owner),
+        read(node, owner, b"x")?,
+        read(node, owner, b"y")?,
+    ))
+}
+
+/// How many blocks are left to send.
+fn left(alloc: Global, giver: &Holdings, taker: &Holdings) -> Result<usize, Fault> {
+    let digest = digest_from(alloc, taker)?;
+    let delta = answer_from(alloc, giver, &digest)?;
+    Ok(delta.blocks().len())
+}
+
+/// Node a puts two addresses. One makes a frame of 161 bytes and both would make one of 301, so that a budget of 256
+/// carries one of them at a time.
+fn giver_of_two(alloc: Global) -> Result<Holdings, Fault> {
+    let mut giver = node(alloc, b"a")?;
+    put(alloc, &mut giver, b"x", 1)?;
+    put(alloc, &mut giver, b"y", 2)?;
+    Ok(giver)
+}
+
 #[test]
 fn two_writes_go_from_put_to_read(rt: HostRuntime) -> Result<(), Fail> {
     let alloc = rt.alloc();
     let [a, b] = [Name::read(b"a")?, Name::read(b"b")?];
-    let mut giver = node(alloc, b"a")?;
+    let giver = giver_of_two(alloc)?;
     let mut taker = node(alloc, b"b")?;
-
-    // Node a puts two addresses. One makes a frame of 161 bytes and both would make one of 301, so that a budget of 256
-    // carries one of them at a time.
-    put(alloc, &mut giver, b"x", 1)?;
-    put(alloc, &mut giver, b"y", 2)?;
-
-    // In each round b tells how far it holds a, and a answers with the next write above that.
     for version in 1..3 {
-        let digest = digest_from(alloc, &taker)?;
-        assert!(rt; digest.covers(&a));
-        assert_eq!(rt; digest.number(&a), version - 1);
-        let delta = answer_from(alloc, &giver, &digest)?;
-        assert_eq!(rt; delta.blocks().len(), 1);
-        for block in delta.blocks() {
-            assert_eq!(rt; *block.owner(), a);
-            assert_eq!(rt; (block.after(), block.upto()), (version - 1, version));
-            assert_eq!(rt; take(&mut taker, block)?, BlockEnd::Taken(1));
-            // The same block once more tells b nothing.
-            assert_eq!(rt; take(&mut taker, block)?, BlockEnd::Stale);
-        }
+        go_a_round(&rt, alloc, &a, &giver, &mut taker, version)?;
         // Now a reader at b sees all that a wrote up to this version, and nothing of what a wrote later.
-        assert_eq!(rt; taker.upto(&a), version);
-        assert_eq!(rt; read(&taker, &a, b"x")?, Some(1));
-        assert_eq!(rt;
-            read(&taker, &a, b"y")?,
-            if version == 2 { Some(2) } else { None }
-        );
+        let later = if version == 2 { Some(2) } else { None };
+        same(&rt, &seen(&taker, &a)?, &(version, Some(1), later));
     }
 
     // Nothing is left to send, and b has written nothing itself.
-    let digest = digest_from(alloc, &taker)?;
-    assert_eq!(rt; answer_from(alloc, &giver, &digest)?.blocks().len(), 0);
-    assert_eq!(rt; taker.upto(&b), 0);
+    same(&rt, &left(alloc, &giver, &taker)?, &0);
+    same(&rt, &taker.upto(&b), &0);
     Ok(())
 }

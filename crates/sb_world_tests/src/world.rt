@@ -1,4 +1,5 @@
 //! A run of a world over logs in memory.
+use crate::same;
 use sb_log::PlainLog;
 use sb_types::{Fault, Key, Name, Order, RawSettings, Settings, Slot, Value};
 use sb_world::{Answer, Event, World, run_in_memory};
@@ -23,25 +24,57 @@ fn world(alloc: Global) -> Result<World<PlainLog>, Fault> {
     World::new(alloc, settings, logs)
 }
 
-/// The answers of a whole run: a crash behind a write, and a restart.
-#[test]
-fn a_run_answers_each_event(rt: HostRuntime) -> Result<(), Fail> {
-    let alloc = rt.alloc();
-    let mut world = world(alloc)?;
-    let a = Name::read(b"a")?;
-    let b = Name::read(b"b")?;
+/// A crash behind a write, and a restart.
+fn crash_and_restart() -> Result<[Event; 4], Fault> {
+    let [a, b] = [Name::read(b"a")?, Name::read(b"b")?];
+    let key = Key::read(b"x")?;
     let slot = Slot::Set(Value::weight(1)?);
-    let events = [
-        Event::CrashInCommit(a, Key::read(b"x")?, slot, true),
+    Ok([
+        Event::CrashInCommit(a, key, slot, true),
         Event::Upto(b, a),
         Event::Restart(a),
         Event::Upto(a, a),
+    ])
+}
+
+/// What is told of an answer.
+#[derive(Clone, Copy, Debug, PartialEq, Eq)]
+enum Told {
+    Crashed,
+    Restarted(u64),
+    Number(u64),
+    Other,
+}
+
+fn told_by(answer: &Result<Answer, Fault>) -> Told {
+    match answer {
+        Ok(Answer::Crashed) => Told::Crashed,
+        Ok(Answer::Restarted(version)) => Told::Restarted(*version),
+        Ok(Answer::Number(version)) => Told::Number(*version),
+        _ => Told::Other,
+    }
+}
+
+/// What a whole run answers.
+fn told_of_run(alloc: Global, events: &[Event]) -> Result<Vec<Told>, Fault> {
+    let mut world = world(alloc)?;
+    let answers = run_in_memory(&mut world, events)?;
+    let mut all = Vec::new(alloc);
+    for answer in answers.iter() {
+        all.push(told_by(answer))?;
+    }
+    Ok(all)
+}
+
+#[test]
+fn a_run_answers_each_event(rt: HostRuntime) -> Result<(), Fail> {
+    let found = told_of_run(rt.alloc(), &crash_and_restart()?)?;
+    let wanted = [
+        Told::Crashed,
+        Told::Number(0),
+        Told::Restarted(1),
+        Told::Number(1),
     ];
-    let answers = run_in_memory(&mut world, &events)?;
-    assert_eq!(rt; answers.len(), 4);
-    assert!(rt; matches!(answers[0], Ok(Answer::Crashed)));
-    assert!(rt; matches!(answers[1], Ok(Answer::Number(0))));
-    assert!(rt; matches!(answers[2], Ok(Answer::Restarted(1))));
-    assert!(rt; matches!(answers[3], Ok(Answer::Number(1))));
+    same(&rt, &found.as_slice(), &wanted.as_slice());
     Ok(())
 }
