@@ -1,5 +1,5 @@
 //! The directory: a node that threads share.
-ghost use Rattle.std.specs.Prelude.{◌≡◌, ◌≢◌, ◌≤◌, ◌+◌, ◌++◌, ◌∷◌, List, [], true, length, replicate, if◌then◌else◌, Ok, Err, MatchResult, IfOk, IfErr};
+ghost use Rattle.std.specs.Prelude.{◌≡◌, ◌≢◌, ◌≤◌, ◌+◌, ◌++◌, ◌∷◌, List, [], true, length, replicate, if◌then◌else◌, Ok, Err, MatchResult, IfOk, IfErr, OnOk};
 ghost use mathlib.Core.List.{IsPrefix};
 ghost use Rattle.sb_types.specs.Faults.{Gives};
 ghost use Rattle.sb_holdings.specs.Held.{shown_of};
@@ -197,8 +197,10 @@ impl<S: Configured, R: Wait + Drop> Directory<S, R> {
         self.under.lock(rt).unwatch(id)
     }
 
-    /// Shows readers all that happened, and says whether the seat saw it. Where it did not, what is shown stays.
+    /// Shows readers all that happened, and says whether the seat saw it, with all that its own calls made. Where it did not, what is
+    /// shown stays.
     pub fn refresh<Q: Wait>(&self, rt: &Q, seat: &mut ReaderSeat<S>) -> bool
+        ensures made { result ≡ true → seat.new.events ≤ length seat.new.told }
         ensures grows { IsPrefix seat.old.told seat.new.told }
         ensures count { seat.new.events ≡ seat.old.events }
     {
@@ -217,6 +219,7 @@ impl<S: Configured, R: Wait + Drop> Directory<S, R> {
     ) -> Result<Polled, Fault>
         ensures answer { (hub : Hub) × Gives result (answer_at hub id) × IfErr (answer_at hub id) (λ fault. result ≡ Err fault) }
         ensures held { (note : Note) → result ≡ Ok (answers.Note note) → note.version ≤ (shown_of (node_after S.opening seat.new.told).held note.owner).held }
+        ensures made { OnOk result (seat.new.events ≤ length seat.new.told) }
         ensures grows { IsPrefix seat.old.told seat.new.told }
         ensures count { seat.new.events ≡ seat.old.events }
     {

@@ -1,5 +1,5 @@
 //! Seats: the places from which threads use a directory.
-ghost use Rattle.std.specs.Prelude.{◌≡◌, ◌+◌, MatchBool, MatchResult};
+ghost use Rattle.std.specs.Prelude.{◌≡◌, ◌≤◌, ◌+◌, MatchBool, MatchResult};
 ghost use mathlib.Core.List.{IsPrefix};
 ghost use Rattle.sb_views.specs.Stories.{node_after};
 ghost use Rattle.sb_views.specs.Views.{IsView};
@@ -118,6 +118,15 @@ impl<S: Site> ReaderSeat<S> {
             share,
         } = self;
         share
+    }
+
+    /// Tells that there are at least as many events as its calls made.
+    pub(crate) fn audit(&mut self, book: &mut Book<S>)
+        ensures made { self.old.events ≤ book.old.total }
+        ensures total { book.new.total ≡ book.old.total }
+        ensures seat { self.new ≡ self.old }
+    {
+        book.audit(&mut self.share);
     }
 
     /// Counts an event that a call of it made.

@@ -214,11 +214,13 @@ impl<S: Configured, R: Wait + Drop> Under<S, R> {
         ensures grows { IsPrefix seat.old.told seat.new.told }
         ensures count { seat.new.events ≡ seat.old.events }
         ensures told { result ≡ true → seat.new.told ≡ self.new.story }
+        ensures made { result ≡ true → seat.new.events ≤ length seat.new.told }
     {
         seat.know(rt, self.locked.front());
         if !self.locked.refresh() {
             return false;
         }
+        seat.audit(&mut self.book);
         seat.look(self.locked.front())
     }
 
@@ -239,6 +241,7 @@ impl<S: Configured, R: Wait + Drop> Under<S, R> {
         ensures grows { IsPrefix seat.old.told seat.new.told }
         ensures count { seat.new.events ≡ seat.old.events }
         ensures told { OnOk result (seat.new.told ≡ self.new.story) }
+        ensures made { OnOk result (seat.new.events ≤ length seat.new.told) }
     {
         seat.know(rt, self.locked.front());
         if !self.locked.has_watch(id) {
