@@ -46,10 +46,10 @@ Sends old event sent new = (answer : Result Answer Fault) × Happens old event a
 
 -- the connections of a give, which no line of a script can name
 abbrev pub giving : ℕ
-giving = 1000001
+giving = 1000000
 
 abbrev pub taking : ℕ
-taking = 1000002
+taking = 1000001
 
 -- the giver connects, and offers what it wrote above a version; what it sent is the Hello and the delta
 abbrev pub given_with : Option ℕ → Result (Option ℕ) Fault → Result Given Fault

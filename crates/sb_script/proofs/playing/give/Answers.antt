@@ -1,11 +1,12 @@
-use Rattle.std.proofs.Common.{Err}
-use Rattle.sb_world.specs.declared.event.Event.TheVariants as events
-use Rattle.sb_script.proofs.Gives.{gives_lines, gives_frame}
+use Rattle.sb_script.proofs.Gives.{gives_fault, gives_all}
+use Rattle.sb_script.specs.Giving.{all_comes}
 use Rattle.sb_script.proofs.playing.give.Goals as goal
 
-pub returns-in-Err-clause-printed : goal.returns-in-Err-clause-printed
-returns-in-Err-clause-printed g c = gives_lines c.tell.result _ _ (events.Piece 1000001 18446744073709551615) (Err c.in-Err.fault) c.tell.ensures.printed
+pub returns-in-Err-clause-played : goal.returns-in-Err-clause-played
+returns-in-Err-clause-played g c =
+    gives_fault c.tell.result _ c.offer.new.world _ _ _ _ c.in-Err.fault _ _ all_comes c.in-Err.ensures.offered c.close.ensures.closed c.tell.ensures.printed
 
-pub returns-clause-printed : goal.returns-clause-printed
-returns-clause-printed g c =
-    gives_frame c.tell-2.result _ _ _ _ _ (events.Piece 1000001 18446744073709551615) c.take_up-answer.result c.in-Ok-show_sent.ensures.printed c.tell-2.ensures.printed
+pub returns-clause-played : goal.returns-clause-played
+returns-clause-played g c =
+    gives_all c.tell-2.result _ c.offer.new.world c.take_up-answer.new.world _ _ _ _ c.in-Ok.given c.take_up-answer.result _ _ _ c.in-Ok.ensures.offered
+    c.in-Ok-show_sent.ensures.printed c.take_up-answer.ensures.taken c.close-2.ensures.closed c.tell-2.ensures.printed
