@@ -39,7 +39,7 @@ Each other line is a command, and prints its answer:
 VALUE is addr TEXT, weight NUMBER or flag true|false.
 
 A fault of a line below the first is printed as `fault N`, and the script goes on: 1 no memory, 2 a name, 3 a key, 4 a value that
-is none, 6 a key too many, 8 no version is left, 9 nothing to remove, 15 the node is down or the session over, 21 another writes under
+is none, 6 a key too many, 8 no version is left, 9 nothing to remove, 15 the node is down, 21 another writes under
 the node's name, 22 to 25 a Hello that is missing, of another cluster, of the same name or the second. Where a node, a
 connection or a frame is not there, the answer is `nothing`. A fault of the first line is printed too (1, 2, 5 a setting, 24 two
 nodes of one name) and ends the run.
