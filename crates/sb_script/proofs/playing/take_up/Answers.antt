@@ -12,18 +12,24 @@ returns-in_err-_hello c =
 pub returns-in_err-line_up : goal.returns-in_err-line_up
 returns-in_err-line_up c =
     let p = err_from_is_err_and c.from_residual-in_err-line_up.result c.from_residual-in_err-line_up.ensures.1 in
-    record { taken = rw (p.1, p.2) (first_sends c.args.world.now c.send.new.world _ (events.Connect c.args.taker taking) _ _ c.in_ok-_hello._hello _
-        c.in_ok-_hello.ensures.sent (lining_fails _ _ _ _ _ c.in_err-line_up.field-0.0 c.in_err-line_up.ensures.lined)) }
+    record {
+      taken = rw (p.1, p.2) (first_sends c.args.world.now c.send.new.world _ (events.Connect c.args.taker taking) _ _ c.in_ok-_hello._hello _
+          c.in_ok-_hello.ensures.sent (lining_fails _ _ _ _ _ c.in_err-line_up.field-0.0 c.in_err-line_up.ensures.lined));
+    }
 
 pub returns-in_err-line_up-2 : goal.returns-in_err-line_up-2
 returns-in_err-line_up-2 c =
     let p = err_from_is_err_and c.from_residual-in_err-line_up-2.result c.from_residual-in_err-line_up-2.ensures.1 in
-    record { taken = rw (p.1, p.2) (first_sends c.args.world.now c.send.new.world _ (events.Connect c.args.taker taking) _ _ c.in_ok-_hello._hello _
-        c.in_ok-_hello.ensures.sent (lining_goes _ c.line_up.new.world _ _ _ _ c.in_ok-line_up.field-0 _ c.in_ok-line_up.ensures.lined
-        (last_fails _ _ _ _ c.in_err-line_up-2.field-0.0 c.in_err-line_up-2.ensures.lined))) }
+    record {
+      taken = rw (p.1, p.2) (first_sends c.args.world.now c.send.new.world _ (events.Connect c.args.taker taking) _ _ c.in_ok-_hello._hello _
+          c.in_ok-_hello.ensures.sent (lining_goes _ c.line_up.new.world _ _ _ _ c.in_ok-line_up.field-0 _ c.in_ok-line_up.ensures.lined
+          (last_fails _ _ _ _ c.in_err-line_up-2.field-0.0 c.in_err-line_up-2.ensures.lined)));
+    }
 
 pub returns : goal.returns
 returns c =
-    record { taken = first_sends c.args.world.now c.send.new.world _ (events.Connect c.args.taker taking) _ _ c.in_ok-_hello._hello _
-        c.in_ok-_hello.ensures.sent (lining_goes _ c.line_up.new.world _ _ _ _ c.in_ok-line_up.field-0 _ c.in_ok-line_up.ensures.lined
-        (last_goes _ c.line_up-2.new.world _ _ _ c.in_ok-line_up-2.field-0 _ c.in_ok-line_up-2.ensures.lined c.step.ensures.step)) }
+    record {
+      taken = first_sends c.args.world.now c.send.new.world _ (events.Connect c.args.taker taking) _ _ c.in_ok-_hello._hello _
+          c.in_ok-_hello.ensures.sent (lining_goes _ c.line_up.new.world _ _ _ _ c.in_ok-line_up.field-0 _ c.in_ok-line_up.ensures.lined
+          (last_goes _ c.line_up-2.new.world _ _ _ c.in_ok-line_up-2.field-0 _ c.in_ok-line_up-2.ensures.lined c.step.ensures.step));
+    }
