@@ -177,20 +177,6 @@ fn are_told(rows: &[Row], wanted: &[usize]) -> bool {
     rows.len() == wanted.len()
 }
 
-/// Whether more follow on the page of a case, how many rows it has, and whether they are those that are wanted.
-fn told_of(
-    alloc: Global,
-    snapshot: &Snapshot<'_>,
-    case: &Case,
-) -> Result<(bool, usize, bool), Fault> {
-    let page = page_of(alloc, snapshot, &ask_of(*case)?, case.budget)?;
-    Ok((
-        page.more(),
-        page.rows().len(),
-        are_told(page.rows(), case.rows),
-    ))
-}
-
 /// Each page that is asked has its rows.
 pub(crate) fn rows_are_told<R: Abort>(
     rt: &R,
@@ -198,7 +184,9 @@ pub(crate) fn rows_are_told<R: Abort>(
     snapshot: &Snapshot<'_>,
 ) -> Result<(), Fail> {
     for (number, case) in cases(alloc)?.iter().enumerate() {
-        let told = told_of(alloc, snapshot, case)?;
+        let page = page_of(alloc, snapshot, &ask_of(*case)?, case.budget)?;
+        let are_right = are_told(page.rows(), case.rows);
+        let told = (page.more(), page.rows().len(), are_right);
         same_at(rt, &number, &told, &(case.more, case.rows.len(), true));
     }
     Ok(())

@@ -151,20 +151,14 @@ fn answers_are(rt: &impl Abort, hub: &mut Hub, id: WatchId, case: &Case, notes: 
     same(rt, &[hub.take(id), hub.take(id)], &[Ok(Polled::Empty); 2]);
 }
 
-/// A watch for each case.
-fn watch_each(alloc: Global, hub: &mut Hub) -> Result<Vec<WatchId>, Fail> {
-    let mut ids = Vec::with_capacity(alloc, CASES.len())?;
-    for case in CASES.iter() {
-        ids.push(hub.add(filter(case.owner, case.prefix)?, case.capacity)?)?;
-    }
-    Ok(ids)
-}
-
 #[test]
 fn watches_keep_the_last_notes(rt: HostRuntime) -> Result<(), Fail> {
     let notes = read_notes(rt.alloc())?;
     let mut hub = Hub::new(rt.alloc());
-    let ids = watch_each(rt.alloc(), &mut hub)?;
+    let mut ids = Vec::with_capacity(rt.alloc(), CASES.len())?;
+    for case in CASES.iter() {
+        ids.push(hub.add(filter(case.owner, case.prefix)?, case.capacity)?)?;
+    }
     for note in notes.iter() {
         hub.push(note);
     }
