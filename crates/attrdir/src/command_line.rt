@@ -4,12 +4,13 @@ use crate::commands::command;
 use crate::failure::Failure;
 use crate::log_file::print_log;
 use crate::serving::Given;
+use crate::words::{key_of, name_of, prefix_of, value_of};
 use clap::ArgMatches;
 use clap::error::ErrorKind;
 use sb_codec::Ask;
 use sb_run::Pace;
 use sb_script::{Detail, Output, sim_run_uncounted};
-use sb_types::{Fault, Key, Name, Order, Prefix, RawSettings, Slot, Value};
+use sb_types::{Fault, Key, Order, RawSettings, Slot};
 use std::{env, io};
 
 /// How many reads a script may take.
@@ -146,23 +147,22 @@ fn write<'a>(rt: &HostRuntime, control: &'a str, key: Key, slot: Slot) -> Result
 }
 
 fn run_set<'a>(rt: &HostRuntime, given: &ArgMatches<'a>) -> Result<u8, Failure<'a>> {
-    let key = Key::read(value(given, "KEY").as_bytes())?;
-    let (kind, word) = (value(given, "KIND"), value(given, "VALUE"));
-    let written = Value::from_words(rt.alloc(), kind.as_bytes(), word.as_bytes())?;
+    let key = key_of(value(given, "KEY"))?;
+    let written = value_of(rt.alloc(), value(given, "KIND"), value(given, "VALUE"))?;
     write(rt, value(given, "control"), key, Slot::Set(written))
 }
 
 fn run_del<'a>(rt: &HostRuntime, given: &ArgMatches<'a>) -> Result<u8, Failure<'a>> {
-    let key = Key::read(value(given, "KEY").as_bytes())?;
+    let key = key_of(value(given, "KEY"))?;
     write(rt, value(given, "control"), key, Slot::Removed)
 }
 
 fn run_get<'a>(rt: &HostRuntime, given: &ArgMatches<'a>) -> Result<u8, Failure<'a>> {
     let owner = match given.get_str("owner") {
-        Some(name) => Some(Name::read(name.as_bytes())?),
+        Some(name) => Some(name_of("--owner", name)?),
         None => None,
     };
-    let prefix = Prefix::read(value(given, "prefix").as_bytes())?;
+    let prefix = prefix_of(value(given, "prefix"))?;
     let asked = Ask {
         owner,
         prefix,

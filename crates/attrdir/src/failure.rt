@@ -8,6 +8,12 @@ use std::fmt;
 pub(crate) enum Place<'a> {
     /// In what the command line gives, or at standard input or output.
     Line,
+    /// In a word of the command line: what it is given for, and the word.
+    Word(&'a str, &'a str),
+    /// In the kind and the word of a value.
+    Value(&'a str, &'a str),
+    /// In a setting: its option, and what that takes.
+    Setting(&'static str, &'static str),
     /// At the file of a log.
     Log(&'a str),
     /// At the file of a log, which is not there.
@@ -18,7 +24,11 @@ pub(crate) enum Place<'a> {
     Control(&'a str),
     /// In the node behind a control socket, which answered so.
     Node(&'a str),
-    /// At the two sockets that a node makes.
+    /// At the path of a socket that a node makes, where a file is.
+    Taken(&'a str),
+    /// At the path of a socket that a node makes, which is too long for one.
+    TooLong(&'a str),
+    /// At one of the two sockets that a node makes.
     Sockets(&'a str, &'a str),
 }
 
@@ -89,6 +99,26 @@ fn numbered(number: u8) -> Fault {
     }
 }
 
+/// The text of a fault, by where it was met.
+fn write_text<W: fmt::Write>(
+    fault: &Fault,
+    place: Place<'_>,
+    f: &mut fmt::Formatter<W>,
+) -> fmt::Result {
+    match (fault, place) {
+        (fault, Place::Node(_)) => write_told(fault, f),
+        (Fault::ReadFailed, Place::Unreached(_)) => f.write_str("no node could be reached"),
+        (Fault::ReadFailed, Place::Taken(_) | Place::TooLong(_) | Place::Sockets(..)) => {
+            f.write_str("a socket could not be made")
+        }
+        (Fault::StoreFailed, Place::NoLog(_)) => f.write_str("there is no such log"),
+        (Fault::LogDamaged, _) => f.write_str(
+            "the file is no log that this release reads, or a damaged one",
+        ),
+        (fault, _) => write!(f, "{fault}"),
+    }
+}
+
 /// The text of a fault that a node told by its number: without what the number does not carry.
 fn write_told<W: fmt::Write>(fault: &Fault, f: &mut fmt::Formatter<W>) -> fmt::Result {
     match fault {
@@ -107,16 +137,22 @@ fn write_told<W: fmt::Write>(fault: &Fault, f: &mut fmt::Formatter<W>) -> fmt::R
 fn about_reading(place: Place<'_>) -> &'static str {
     match place {
         Place::Unreached(_) => {
-            "no node answers at this path: start one there with --control, give its path, or ask for leave to open the socket"
+            "no node answers at this path: start one there with --control, give its path, of at most 107 bytes, or ask for leave to \
+open the socket"
         }
         Place::Control(_) | Place::Node(_) => {
             "the node fell silent, or ended: see whether it runs; a write may have been made, so ask for it with get"
         }
-        Place::Sockets(..) => {
-            "a socket could not be made: where a node that was killed left its files, and none runs, remove them; else give other \
-paths, of at most 107 bytes, in a folder that you may write to"
+        Place::Taken(_) => {
+            "a file is at this path: where a node that was killed left it, and none runs there, remove it; else give another path"
         }
-        Place::Line | Place::Log(_) | Place::NoLog(_) => "see where standard input comes from",
+        Place::TooLong(_) => {
+            "the path of a socket has at most 107 bytes: give a shorter one, as from the folder in which the node is started"
+        }
+        Place::Sockets(..) => {
+            "see that these are two paths, that the folder of each is there, and that you may write to it"
+        }
+        _ => "see where standard input comes from",
     }
 }
 
@@ -129,8 +165,8 @@ fn about_store(place: Place<'_>) -> &'static str {
             "the node could not write its log, and takes no more writes: see that its disk has room and works, and start it again"
         }
         _ => {
-            "another process may have the log open, as a node that runs; else see that you may read and write it, that it has one \
-name, that no -journal file lies beside it, and that its disk has room"
+            "another process may have the log open, as a node that runs; else see that it is a file that you may read and write, that \
+it has one name, that no -journal file lies beside it, and that its disk has room"
         }
     }
 }
@@ -169,18 +205,26 @@ fn about_exchange(fault: &Fault, place: Place<'_>) -> &'static str {
     }
 }
 
+/// What to do about a setting that is outside its limits.
+fn about_setting(place: Place<'_>) -> &'static str {
+    match place {
+        Place::Setting(_, limits) => limits,
+        _ => {
+            "--cluster is a name, --budget 256 to 65536, --max-version 1 to 1099511627775, --workers 1 to 62, and --seats from the \
+workers and 2 more up to 64"
+        }
+    }
+}
+
 /// What to do about a fault, in one line.
 fn advice(fault: &Fault, place: Place<'_>) -> &'static str {
     match fault {
         Fault::NoMemory =>
             "end other programs, or give the machine or the process more memory, and try again",
-        Fault::BadName => "give --name, --owner and --cluster in lower-case letters, digits and -",
-        Fault::BadKey => "give the key or the prefix in lower-case letters, digits and these signs",
+        Fault::BadName => "give 1 to 32 lower-case letters, digits and -",
+        Fault::BadKey => "give at most 64 lower-case letters, digits and the signs . _ / -",
         Fault::BadValue => "give a kind and a word, as: addr 10.0.0.1:80, weight 5, flag true",
-        Fault::BadSetting => {
-            "--cluster is a name, --budget 256 to 65536, --max-version 1 to 1099511627775, --workers 1 to 62, and --seats from the \
-workers and 2 more up to 64"
-        }
+        Fault::BadSetting => about_setting(place),
         Fault::TableFull => "no key comes free again; a new name begins with none",
         Fault::OwnersFull => "start the node again without owners that are gone",
         Fault::VersionsSpent => {
@@ -189,10 +233,11 @@ workers and 2 more up to 64"
         Fault::NothingThere => "get prints the keys that the node has",
         Fault::StoreFailed => about_store(place),
         Fault::LogDamaged => {
-            "keep the file, and put its newest copy in its place; an older copy would give versions a second time"
+            "see that this is the log; one of a later release wants that release; where it is damaged keep it, and put its newest copy \
+in its place, since an older one would give versions a second time"
         }
         Fault::WrongOwner =>
-            "give --name and --cluster as the log has them, or give the log of this node",
+            "give --name and --cluster as the log has them (sqlite3 FILE 'SELECT owner, cluster FROM meta'), or give this node's log",
         Fault::OwnerConflict(_) => {
             "end the other node of this name, or give this one a new name and a new log; an older copy of a log leads here too"
         }
@@ -213,10 +258,14 @@ impl fmt::Display for Place<'_> {
     fn fmt<W: fmt::Write>(&self, f: &mut fmt::Formatter<W>) -> fmt::Result {
         match self {
             Place::Line => Ok(()),
+            Place::Word(what, word) => write!(f, "{what} '{word}': "),
+            Place::Value(kind, word) => write!(f, "value '{kind} {word}': "),
+            Place::Setting(option, _) => write!(f, "{option}: "),
             Place::Log(path) | Place::NoLog(path) => write!(f, "log {path}: "),
             Place::Unreached(path) | Place::Control(path) | Place::Node(path) => {
                 write!(f, "control socket {path}: ")
             }
+            Place::Taken(path) | Place::TooLong(path) => write!(f, "socket {path}: "),
             Place::Sockets(sock, control) => write!(f, "sockets {sock} and {control}: "),
         }
     }
@@ -226,10 +275,7 @@ impl fmt::Display for Place<'_> {
 impl fmt::Display for Failure<'_> {
     fn fmt<W: fmt::Write>(&self, f: &mut fmt::Formatter<W>) -> fmt::Result {
         writeln!(f, "fault {}", self.fault.number())?;
-        match self.place {
-            Place::Node(_) => write_told(&self.fault, f)?,
-            _ => write!(f, "{}", self.fault)?,
-        }
+        write_text(&self.fault, self.place, f)?;
         write!(f, "\n{}{}", self.place, advice(&self.fault, self.place))
     }
 }

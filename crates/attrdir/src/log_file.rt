@@ -1,5 +1,6 @@
 //! An owner's log in a file.
 use crate::failure::{Failure, Place};
+use crate::words::name_of;
 use sb_lines::log_run;
 use sb_log::{SqlLog, WriteLog};
 use sb_types::{Fault, Name, VERSION_MOST};
@@ -58,11 +59,11 @@ pub(crate) fn open_log<'a>(
 pub(crate) fn print_log<'a>(
     rt: &HostRuntime,
     path: &'a str,
-    owner: &str,
-    cluster: &str,
+    owner: &'a str,
+    cluster: &'a str,
 ) -> Result<(), Failure<'a>> {
-    let owner = Name::read(owner.as_bytes())?;
-    let cluster = Name::read(cluster.as_bytes())?;
+    let owner = name_of("--name", owner)?;
+    let cluster = name_of("--cluster", cluster)?;
     let mut log = open_log(rt, path, owner, cluster, VERSION_MOST)?;
     let (printed, _) = log_run(rt.alloc(), &mut log, &mut rt.stdout());
     match printed.and(log.close()) {

@@ -1,13 +1,20 @@
 //! A node that runs.
 use crate::failure::{Failure, Place};
 use crate::log_file::open_log;
+use crate::words::name_of;
 use sb_run::{Pace, Paths, Ran, run_node};
-use sb_types::{Fault, Name, RawSettings, Settings};
+use sb_types::{
+    BUDGET_LEAST, BUDGET_MOST, Fault, Name, RawSettings, Settings, VERSION_MOST, WORKERS_MOST,
+};
+use std::fs::symlink_metadata;
 use std::net::{Net, TcpListener, TcpStream};
 use std::rt::Files;
 use std::sync::Wait;
 use std::thread::Threads;
 use std::time::Clock;
+
+/// The most bytes of the path of a socket.
+const SOCKET_PATH_MOST: usize = 107;
 
 /// What the command line says of a node.
 #[derive(Debug, Drop)]
@@ -41,10 +48,44 @@ fn print_ran(rt: &HostRuntime, given: &Given<'_>, ran: Ran) -> Result<(), Failur
     }
 }
 
+/// Which of the settings is outside its limits: the seats, where no other is.
+fn setting_of<'a>(raw: &RawSettings<'_>) -> Place<'a> {
+    if Name::read(raw.cluster).is_err() {
+        return Place::Setting("--cluster", "give 1 to 32 lower-case letters, digits and -");
+    }
+    if raw.budget < BUDGET_LEAST || raw.budget > BUDGET_MOST {
+        return Place::Setting("--budget", "give 256 to 65536");
+    }
+    if raw.max_version < 1 || raw.max_version > VERSION_MOST {
+        return Place::Setting("--max-version", "give 1 to 1099511627775");
+    }
+    if raw.workers < 1 || raw.workers > WORKERS_MOST {
+        return Place::Setting("--workers", "give 1 to 62");
+    }
+    Place::Setting(
+        "--seats",
+        "give at least the workers and 2 more, and at most 64",
+    )
+}
+
+/// Which of its sockets a node could not make, as far as their paths show it.
+fn socket_of<'a>(rt: &HostRuntime, given: &Given<'a>) -> Place<'a> {
+    for path in [given.sock, given.control] {
+        if path.len() > SOCKET_PATH_MOST {
+            return Place::TooLong(path);
+        }
+        if symlink_metadata(rt, path).is_ok() {
+            return Place::Taken(path);
+        }
+    }
+    Place::Sockets(given.sock, given.control)
+}
+
 /// Where a node that does not run met its fault.
-fn place_of<'a>(fault: &Fault, given: &Given<'a>) -> Place<'a> {
+fn place_of<'a>(rt: &HostRuntime, fault: &Fault, given: &Given<'a>) -> Place<'a> {
     match fault {
-        Fault::ReadFailed => Place::Sockets(given.sock, given.control),
+        Fault::BadSetting => setting_of(&given.settings),
+        Fault::ReadFailed => socket_of(rt, given),
         Fault::Closed | Fault::StoreFailed | Fault::LogDamaged => Place::Log(given.log),
         _ => Place::Line,
     }
@@ -62,8 +103,11 @@ pub(crate) fn serve<
         + Send
         + Sync,
 >(rt: &HostRuntime, runtime: &R, given: &Given<'a>) -> Result<(), Failure<'a>> {
-    let name = Name::read(given.name.as_bytes())?;
-    let settings = Settings::check(given.settings)?;
+    let name = name_of("--name", given.name)?;
+    let settings = match Settings::check(given.settings) {
+        Ok(settings) => settings,
+        Err(fault) => return Err(Failure::at(place_of(rt, &fault, given), fault)),
+    };
     let (cluster, max_version) = (settings.cluster(), settings.max_version());
     let log = open_log(rt, given.log, name, cluster, max_version)?;
     let paths = Paths {
@@ -82,6 +126,6 @@ pub(crate) fn serve<
     );
     match ran {
         Ok(ran) => print_ran(rt, given, ran),
-        Err(fault) => Err(Failure::at(place_of(&fault, given), fault)),
+        Err(fault) => Err(Failure::at(place_of(rt, &fault, given), fault)),
     }
 }

@@ -1,0 +1,40 @@
+//! Words of the command line, read as what they stand for. A failure names the word.
+use crate::failure::{Failure, Place};
+use sb_types::{Key, Name, Prefix, Value};
+use std::alloc::Global;
+
+/// The name that is given by an option. `BadName`.
+pub(crate) fn name_of<'a>(option: &'a str, word: &'a str) -> Result<Name, Failure<'a>> {
+    match Name::read(word.as_bytes()) {
+        Ok(name) => Ok(name),
+        Err(fault) => Err(Failure::at(Place::Word(option, word), fault)),
+    }
+}
+
+/// A key. `BadKey`.
+pub(crate) fn key_of(word: &str) -> Result<Key, Failure<'_>> {
+    match Key::read(word.as_bytes()) {
+        Ok(key) => Ok(key),
+        Err(fault) => Err(Failure::at(Place::Word("key", word), fault)),
+    }
+}
+
+/// What keys begin with. `BadKey`.
+pub(crate) fn prefix_of(word: &str) -> Result<Prefix, Failure<'_>> {
+    match Prefix::read(word.as_bytes()) {
+        Ok(prefix) => Ok(prefix),
+        Err(fault) => Err(Failure::at(Place::Word("--prefix", word), fault)),
+    }
+}
+
+/// A value, by its kind and its word. The faults of `Value::from_words`.
+pub(crate) fn value_of<'a>(
+    alloc: Global,
+    kind: &'a str,
+    word: &'a str,
+) -> Result<Value, Failure<'a>> {
+    match Value::from_words(alloc, kind.as_bytes(), word.as_bytes()) {
+        Ok(value) => Ok(value),
+        Err(fault) => Err(Failure::at(Place::Value(kind, word), fault)),
+    }
+}
