@@ -1,21 +1,23 @@
 // Preloaded into a program: refuses its allocation number REFUSE_ALLOCATION, counted from 1 over the calls of malloc and
-// realloc, and says so on standard error.
+// realloc, with those behind it as far as REFUSE_IN_A_ROW says, and says so on standard error.
 #define _GNU_SOURCE
 #include <dlfcn.h>
 #include <stdlib.h>
 #include <string.h>
 #include <unistd.h>
 
-static long wanted, count;
+static long wanted, row, count;
 
 __attribute__((constructor)) static void begin(void) {
   const char *text = getenv("REFUSE_ALLOCATION");
   wanted = text ? atol(text) : 0;
+  text = getenv("REFUSE_IN_A_ROW");
+  row = text ? atol(text) : 1;
 }
 
 static int is_refused(void) {
   static const char line[] = "allocation refused\n";
-  if (++count != wanted) return 0;
+  if (++count < wanted || count - wanted >= row) return 0;
   return write(STDERR_FILENO, line, strlen(line)) > 0;
 }
 

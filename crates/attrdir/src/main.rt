@@ -1,20 +1,31 @@
 //! The node attribute directory as a program.
 #![tactic(auto)]
 
+mod asking;
 mod command_line;
+mod commands;
+mod failure;
+mod help;
 mod log_file;
+mod serving;
 
+use crate::command_line::{Next, USAGE_STATUS, follow, print_failure, words};
+use crate::failure::Failure;
+use crate::serving::serve;
 use std::process::ExitCode;
 
-/// The exit status of a run that had a fault.
-const FAULT_STATUS: u8 = 3;
-
 fn main(rt: HostRuntime) -> ExitCode {
-    match command_line::run(&rt) {
-        Ok(status) => ExitCode::from(status),
-        Err(fault) => {
-            let _ = eprintln!(rt; "fault {}\n{fault}", fault.number());
-            ExitCode::from(FAULT_STATUS)
-        }
-    }
+    let status = match words(&rt) {
+        Ok(Some(words)) => match follow(&rt, words.as_slice()) {
+            Ok(Next::Ended(status)) => status,
+            Ok(Next::Serve(node)) => match serve(&rt, &rt, &node) {
+                Ok(()) => 0,
+                Err(failure) => print_failure(&rt, failure),
+            },
+            Err(failure) => print_failure(&rt, failure),
+        },
+        Ok(None) => USAGE_STATUS,
+        Err(fault) => print_failure(&rt, Failure::from(fault)),
+    };
+    ExitCode::from(status)
 }

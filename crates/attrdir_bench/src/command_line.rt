@@ -1,9 +1,9 @@
 //! The command line of the program, and the layers in turn.
-use crate::catch_up;
 use crate::layers::{self, WholeDelta};
 use crate::problem::Problem;
 use crate::report::Telling;
 use crate::sample::{Sizes, blocks, full_node};
+use crate::{catch_up, logs};
 use clap::error::ErrorKind;
 use clap::{Arg, ArgAction, ArgMatches, Command, value_parser};
 use sb_breadth::Breadth;
@@ -22,9 +22,12 @@ const SMOKE_SIZES: Sizes = Sizes {
 
 const EXAMPLE: &str = "Each line has a name, a value and a unit. The times are of the processor.
 
+With --log the times of writes to files are those that passed, since each waits until the disk has it.
+
 Example:
   $ attrdir_bench 1 4096 5        one owner of 4,096 keys, each layer five times
-  $ attrdir_bench 1023 1 100      1,023 owners of one key each";
+  $ attrdir_bench 1023 1 100      1,023 owners of one key each
+  $ attrdir_bench 1 4096 1 --log /tmp/new.log";
 
 fn owners<'a>(alloc: Global) -> Arg<'a> {
     Arg::new(alloc, "OWNERS")
@@ -47,6 +50,14 @@ fn rounds<'a>(alloc: Global) -> Arg<'a> {
         .help("How often each layer is run")
 }
 
+fn log<'a>(alloc: Global) -> Arg<'a> {
+    Arg::new(alloc, "log")
+        .long("log")
+        .value_name("FILE")
+        .action(ArgAction::Set)
+        .help("Measures a log too, in this file, which is made, and bare writes beside it")
+}
+
 fn smoke<'a>(alloc: Global) -> Arg<'a> {
     Arg::new(alloc, "smoke")
         .long("smoke")
@@ -61,6 +72,7 @@ fn command<'a>(alloc: Global) -> Result<Command<'a>, AllocError> {
         .arg(owners(alloc))?
         .arg(keys(alloc))?
         .arg(rounds(alloc))?
+        .arg(log(alloc))?
         .arg(smoke(alloc))
 }
 
@@ -144,15 +156,36 @@ fn measure_session(
     Ok(())
 }
 
+/// How a log takes writes, each of the keys once a round, and how it opens where a file is given.
+fn measure_log(
+    rt: &HostRuntime,
+    sizes: Sizes,
+    telling: Telling,
+    path: Option<&str>,
+) -> Result<(), Problem> {
+    let puts = sizes.keys.saturating_mul(sizes.rounds);
+    logs::put_in_memory(rt, puts)?.print(rt, telling, "put", "write")?;
+    match path {
+        Some(path) => logs::measure_file(rt, telling, path, puts),
+        None => Ok(()),
+    }
+}
+
 /// Measures each layer and prints a line for it.
-fn measure(rt: &HostRuntime, sizes: Sizes, telling: Telling) -> Result<(), Problem> {
+fn measure(
+    rt: &HostRuntime,
+    sizes: Sizes,
+    telling: Telling,
+    log: Option<&str>,
+) -> Result<(), Problem> {
     let blocks = blocks(rt.alloc(), sizes)?;
     let node = full_node(rt.alloc(), &blocks)?;
     measure_node(rt, sizes, telling, &blocks, &node)?;
     measure_delta(rt, sizes, telling, &node)?;
     let delta = layers::greatest_delta(rt.alloc(), &node)?;
     measure_bytes(rt, sizes, telling, &delta)?;
-    measure_session(rt, sizes, telling, &blocks)
+    measure_session(rt, sizes, telling, &blocks)?;
+    measure_log(rt, sizes, telling, log)
 }
 
 fn words(rt: &HostRuntime) -> Result<Vec<String>, Problem> {
@@ -164,7 +197,8 @@ pub(crate) fn run(rt: &HostRuntime) -> Result<u8, Problem> {
     let words = words(rt)?;
     match command(rt.alloc())?.try_get_matches_from(words.as_slice()) {
         Ok(matches) => {
-            measure(rt, sizes_of(&matches), telling_of(&matches))?;
+            let log = matches.get_str("log");
+            measure(rt, sizes_of(&matches), telling_of(&matches), log)?;
             Ok(0)
         }
         Err(error) if error.kind() == ErrorKind::OutOfMemory => Err(AllocError.into()),

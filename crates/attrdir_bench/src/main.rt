@@ -4,6 +4,7 @@
 mod catch_up;
 mod command_line;
 mod layers;
+mod logs;
 mod problem;
 mod report;
 mod sample;

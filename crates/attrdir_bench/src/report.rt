@@ -29,8 +29,13 @@ impl Measured {
     /// Adds the processor time since `start`.
     pub(crate) fn stop(&mut self, rt: &HostRuntime, start: Duration) -> io::Result<()> {
         let spent = rt.process_cpu_time()?.saturating_sub(start);
-        self.spent = self.spent.saturating_add(spent);
+        self.add(spent);
         Ok(())
+    }
+
+    /// Adds a time.
+    pub(crate) fn add(&mut self, spent: Duration) {
+        self.spent = self.spent.saturating_add(spent);
     }
 
     /// Adds units that were done.

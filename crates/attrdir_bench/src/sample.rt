@@ -16,7 +16,7 @@ fn owner_at(alloc: Global, index: u64) -> Result<Name, Fault> {
     Name::read(format!(in alloc; "owner-{index:04}")?.as_bytes())
 }
 
-fn key_at(alloc: Global, index: u64) -> Result<Key, Fault> {
+pub(crate) fn key_at(alloc: Global, index: u64) -> Result<Key, Fault> {
     Key::read(format!(in alloc; "weight/{index:04}")?.as_bytes())
 }
 

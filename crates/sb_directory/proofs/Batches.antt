@@ -1,11 +1,11 @@
 -- A batch that is filled entry by entry, and owner by owner.
-use Rattle.std.proofs.Common.{◌≡◌, ℕ, List, [], ◌∷◌, ◌++◌, map, flat_map, None, refl, sym, ap, ◌∙◌, append_assoc, append-nil}
+use Rattle.std.proofs.Common.{◌≡◌, ℕ, List, [], ◌∷◌, ◌++◌, map, Some, None, sym, ap, ◌∙◌, append_assoc, append-nil}
+use Rattle.std.specs.FinMap.{get}
 use Rattle.sb_types.specs.Records.{Entry, Table}
-use Rattle.sb_types.specs.Runs.{above}
 use Rattle.sb_holdings.specs.Held.{Held, shown_of}
-use Rattle.sb_holdings.specs.Plain.{tables_from}
-use Rattle.sb_views.specs.Growing.{new_entries}
-use Rattle.sb_directory.specs.Reached.{Reached, version_in, owned_above, all_above}
+use Rattle.sb_holdings.specs.Plain.{table_of}
+use Rattle.sb_directory.specs.Behind.{owned_above, entries_since}
+use Rattle.sb_directory.proofs.Noting.{held-table, no-table}
 
 pub record IsPushing (owner : List ℕ) (from : List (List ℕ × Entry)) (all : List Entry) (batch : List (List ℕ × Entry)) (rest : List Entry) : Type 0 where
   pub left : batch ++ map (λ e. (owner, e)) rest ≡ from ++ map (λ e. (owner, e)) all
@@ -25,29 +25,31 @@ pub pushing-ends : (owner : List ℕ) (from : List (List ℕ × Entry)) (all : L
 pushing-ends owner from all batch rest done is =
     sym (append-nil batch) ∙ sym (ap (λ (es : List Entry). batch ++ map (λ e. (owner, e)) es) done) ∙ is.left
 
-pub record IsGathering (reached : Reached) (held : Held) (batch : List (List ℕ × Entry)) (rest : List (List ℕ × Table)) : Type 0 where
-  pub left : batch ++ all_above reached rest ≡ all_above reached (tables_from None held)
+pub record IsGathering (held : Held) (all : List (List ℕ × ℕ)) (batch : List (List ℕ × Entry)) (rest : List (List ℕ × ℕ)) : Type 0 where
+  pub left : batch ++ entries_since rest held ≡ entries_since all held
 
-pub gathering-begins : (reached : Reached) (held : Held) (batch : List (List ℕ × Entry)) (rest : List (List ℕ × Table))
-    → batch ≡ [] → rest ≡ tables_from None held → IsGathering reached held batch rest
-gathering-begins reached held batch rest none is =
-    record { left = ap (λ (b : List (List ℕ × Entry)). b ++ all_above reached rest) none ∙ ap (all_above reached) is }
+pub gathering-begins : (held : Held) (all : List (List ℕ × ℕ)) (batch : List (List ℕ × Entry)) (rest : List (List ℕ × ℕ))
+    → batch ≡ [] → rest ≡ all → IsGathering held all batch rest
+gathering-begins held all batch rest none is =
+    record { left = ap (λ (b : List (List ℕ × Entry)). b ++ entries_since rest held) none ∙ ap (λ (vs : List (List ℕ × ℕ)). entries_since vs held) is }
 
-pub gathering-goes_on : (reached : Reached) (held : Held) (batch new : List (List ℕ × Entry)) (owner : List ℕ) (t : Table) (rest : List (List ℕ × Table))
-    → IsGathering reached held batch ((owner, t) ∷ rest) → new ≡ batch ++ owned_above (version_in reached owner) owner t → IsGathering reached held new rest
-gathering-goes_on reached held batch new owner t rest is step =
+pub gathering-goes_on : (held : Held) (all : List (List ℕ × ℕ)) (batch new : List (List ℕ × Entry)) (p : List ℕ × ℕ) (rest : List (List ℕ × ℕ)) (t : Table)
+    → IsGathering held all batch (p ∷ rest) → Some t ≡ table_of held p.0 → new ≡ batch ++ owned_above p.1 p.0 t → IsGathering held all new rest
+gathering-goes_on held all batch new p rest t is found step =
+    let same : t ≡ shown_of held p.0 = held-table (get held.owners p.0) t found in
     record {
-      left = ap (λ (b : List (List ℕ × Entry)). b ++ all_above reached rest) step
-          ∙ append_assoc batch (owned_above (version_in reached owner) owner t) (all_above reached rest) ∙ is.left;
+      left = ap (λ (b : List (List ℕ × Entry)). b ++ entries_since rest held) (step ∙ ap (λ (u : Table). batch ++ owned_above p.1 p.0 u) same)
+          ∙ append_assoc batch (owned_above p.1 p.0 (shown_of held p.0)) (entries_since rest held) ∙ is.left;
     }
 
-pub gathering-ends : (reached : Reached) (held : Held) (batch : List (List ℕ × Entry)) (rest : List (List ℕ × Table))
-    → rest ≡ [] → IsGathering reached held batch rest → batch ≡ all_above reached (tables_from None held)
-gathering-ends reached held batch rest done is =
-    sym (append-nil batch) ∙ sym (ap (λ (ts : List (List ℕ × Table)). batch ++ all_above reached ts) done) ∙ is.left
+pub gathering-passes : (held : Held) (all : List (List ℕ × ℕ)) (batch : List (List ℕ × Entry)) (p : List ℕ × ℕ) (rest : List (List ℕ × ℕ))
+    → IsGathering held all batch (p ∷ rest) → None ≡ table_of held p.0 → IsGathering held all batch rest
+gathering-passes held all batch p rest is none =
+    record {
+      left = sym (ap (λ (es : List Entry). batch ++ (map (λ e. (p.0, e)) es ++ entries_since rest held)) (no-table p.1 (get held.owners p.0) none)) ∙ is.left;
+    }
 
--- where the versions are those of the old tables, what is above them is what is new
-pub gathered-new : (reached : Reached) (old held : Held) → ((o : List ℕ) → version_in reached o ≡ (shown_of old o).held)
-    → all_above reached (tables_from None held) ≡ new_entries old held
-gathered-new reached old held is =
-    λ i. flat_map (λ (p : List ℕ × Table). map (λ (e : Entry). (p.0, e)) (above (is p.0 i) p.1.entries)) (tables_from None held)
+pub gathering-ends : (held : Held) (all : List (List ℕ × ℕ)) (batch : List (List ℕ × Entry)) (rest : List (List ℕ × ℕ))
+    → rest ≡ [] → IsGathering held all batch rest → batch ≡ entries_since all held
+gathering-ends held all batch rest done is =
+    sym (append-nil batch) ∙ sym (ap (λ (vs : List (List ℕ × ℕ)). batch ++ entries_since vs held) done) ∙ is.left

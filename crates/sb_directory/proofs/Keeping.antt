@@ -1,14 +1,13 @@
 -- What lies under the lock stays a replay of its story.
-use Rattle.std.proofs.Common.{◌≡◌, ℕ, ◌+◌, ◌≤◌, ◌<◌, ◌^◌, ◌==◌, Bool, true, false, cond, not, List, [], ◌∷◌, ◌++◌, filter, map, flat_map, Result, Ok, Err, nat_eq, nat_le, le-leb, leb-true, eqb-true, refl, sym, ap, subst, ◌∙◌, arith, append-nil}
+use Rattle.std.proofs.Common.{◌≡◌, ℕ, ◌+◌, ◌≤◌, ◌<◌, ◌^◌, ◌==◌, Bool, true, false, cond, not, List, [], ◌∷◌, ◌++◌, map, flat_map, Result, Ok, Err, le-leb, leb-true, eqb-true, refl, sym, ap, subst, ◌∙◌, arith, append-nil}
 use Rattle.std.proofs.lemmas.Grind.{flat_map-append}
-use Rattle.std.specs.Cmp.Lexicographic.{pointwise}
+use Rattle.std.specs.FinMap.{contains_key}
 use mathlib.Core.List.{IsPrefix}
 use Rattle.sb_types.specs.declared.fault.Fault.{Fault}
-use Rattle.sb_types.specs.declared.fault.Fault.TheVariants.{OutOfTurn, TableFull}
+use Rattle.sb_types.specs.declared.fault.Fault.TheVariants.{OutOfTurn}
 use Rattle.sb_types.specs.Limits.{is_entry, is_delta}
 use Rattle.sb_types.specs.Records.{Entry, Table, Block}
 use Rattle.sb_types.proofs.Texts.{text_same}
-use Rattle.sb_table.specs.Plain.{with_entry, is_full_for}
 use Rattle.sb_holdings.specs.declared.ends.BlockEnd.{BlockEnd}
 use Rattle.sb_holdings.specs.Held.{Held, shown_of, written}
 use Rattle.sb_holdings.specs.Plain.{IsHoldings, next_version, own_answer}
@@ -31,8 +30,10 @@ use Rattle.sb_views.proofs.Fronts.{prefix_trans}
 use Rattle.sb_views.proofs.Grown.{grown-held}
 use Rattle.sb_views.proofs.Growing.{grown-on, own-grown, delta-grown}
 use Rattle.sb_views.proofs.Leading.{own-leads}
+use Rattle.sb_directory.specs.Behind.{Behind, with_owner, HasOwners, AreSince}
 use Rattle.sb_directory.specs.Notes.{note_of, with_notes, entered_of, versions_of, is_held}
 use Rattle.sb_directory.specs.Locks.{Locked, IsLocked, after_own, after_delta, with_shown, with_hub}
+use Rattle.sb_directory.proofs.Lacking.{add-has, added-since, own-since, delta-since}
 use Rattle.sb_directory.proofs.Noting.{told-held, since-held}
 
 -- ---- the story
@@ -62,6 +63,22 @@ pub notes-raised : (old new : Held) (hub : Hub) → AreGrown old new → IsHoldi
 notes-raised old new hub grown is notes =
     weaker_keeps (λ note. is_held old note ≡ true) (λ note. is_held new note ≡ true) hub (λ note held. raised note old new grown is held) notes
 
+-- ---- what is lacked, before more comes
+
+-- with what is lacked known otherwise
+pub noted : (opening : Node) (ready : List Event) (behind more : Behind) (l : Locked) → IsLocked opening ready behind l
+    → AreSince (node_after opening ready).held l.core.node.held more → IsLocked opening ready more l
+noted opening ready behind more l is since = record { node = is.node; begins = is.begins; grown = is.grown; since = since; notes = is.notes }
+
+pub added-locked : (opening : Node) (ready : List Event) (behind more : Behind) (l : Locked) (owner : List ℕ) (version : ℕ) → IsLocked opening ready behind l
+    → more ≡ with_owner behind owner version → version ≡ (shown_of l.core.node.held owner).held → IsLocked opening ready more l
+added-locked opening ready behind more l owner version is step at =
+    noted opening ready behind more l is (added-since behind owner version (node_after opening ready).held l.core.node.held more step at is.since)
+
+pub added-there : (behind more : Behind) (owner me : List ℕ) (version : ℕ) → more ≡ with_owner behind owner version → owner ≡ me → contains_key more me ≡ true
+added-there behind more owner me version step same =
+    subst (λ (o : List ℕ). contains_key more o ≡ true) same (subst (λ (m : Behind). contains_key m owner ≡ true) (sym step) (add-has behind owner version))
+
 -- ---- an own write
 
 turn-case : (e : Entry) (next : ℕ) (b : Bool) (other : Result (Unit {0}) Fault) → (e.version == next) ≡ b → cond (not b) (Err (OutOfTurn next)) other ≡ Ok tt → e.version ≡ next
@@ -80,17 +97,18 @@ own-held held e next =
 own-noted : (held : Held) (e : Entry) → e.version ≡ (shown_of held held.me).held + 1 → is_held (written held e) (note_of (held.me, e)) ≡ true
 own-noted held e next = le-leb e.version (shown_of (written held e) held.me).held (omega (arith, own-held held e next))
 
-module _ (opening : Node) (ready : List Event) (old : Locked) (is : IsLocked opening ready old) (holds : IsHoldings old.core.node.held) where
+module _ (opening : Node) (ready : List Event) (behind : Behind) (old : Locked) (is : IsLocked opening ready behind old) (holds : IsHoldings old.core.node.held) where
   module _ (e : Entry) (turn : own_answer old.core.node.held e ≡ Ok tt) (entry : is_entry e ≡ true) (few : (shown_of old.core.node.held old.core.node.held.me).held < 2 ^ 64)
-      (after : IsHoldings (written old.core.node.held e)) where
+      (after : IsHoldings (written old.core.node.held e)) (has : contains_key behind old.core.node.held.me ≡ true) where
     next : e.version ≡ (shown_of old.core.node.held old.core.node.held.me).held + 1
     next = entry-next e _ entry few (own-turn old.core.node.held e turn)
 
-    pub own-locked : (shown : List Event) → IsLocked opening ready (after_own old e shown)
+    pub own-locked : (shown : List Event) → IsLocked opening ready behind (after_own old e shown)
     own-locked shown = record {
       node = ap (λ (n : Node). node_after_event n (Wrote e)) is.node ∙ sym (node-own opening old.story e);
       begins = begins-longer ready old.story (TookOwn e) is.begins;
       grown = grown-on (node_after opening ready).held old.core.node.held (written old.core.node.held e) holds is.grown (own-grown old.core.node.held e holds);
+      since = own-since behind (node_after opening ready).held old.core.node.held e has is.since;
       notes = told-held (written old.core.node.held e) old.hub ((old.core.node.held.me, e) ∷ [])
           (notes-raised old.core.node.held (written old.core.node.held e) old.hub (own-grown old.core.node.held e holds) after is.notes)
           (own-noted old.core.node.held e next, tt);
@@ -99,13 +117,13 @@ module _ (opening : Node) (ready : List Event) (old : Locked) (is : IsLocked ope
     -- so it is wherever the core, the story and the watches are these
     pub own-there : (core : Core) (front : List Event) (hub : Hub) (shown : List Event) → core ≡ with_node old.core (node_after_event old.core.node (Wrote e))
         → front ≡ old.story ++ TookOwn e ∷ [] → hub ≡ with_notes old.hub ((old.core.node.held.me, e) ∷ [])
-        → IsLocked opening ready (record { core = core; hub = hub; story = front; shown = shown })
+        → IsLocked opening ready behind (record { core = core; hub = hub; story = front; shown = shown })
     own-there core front hub shown taken longer told =
-        subst (IsLocked opening ready) (λ i. record { core = sym taken i; hub = sym told i; story = sym longer i; shown = shown }) (own-locked shown)
+        subst (IsLocked opening ready behind) (λ i. record { core = sym taken i; hub = sym told i; story = sym longer i; shown = shown }) (own-locked shown)
 
   module _ (blocks : List Block) (ends : List BlockEnd) (delta : is_delta blocks ≡ true) (treats : Treats old.core.node blocks ends)
-      (after : IsHoldings (replay_node old.core.node (took_each blocks ends)).held) where
-    pub delta-locked : (shown : List Event) → IsLocked opening ready (after_delta old blocks ends shown)
+      (after : IsHoldings (replay_node old.core.node (took_each blocks ends)).held) (has : HasOwners behind blocks) where
+    pub delta-locked : (shown : List Event) → IsLocked opening ready behind (after_delta old blocks ends shown)
     delta-locked shown =
         let new = replay_node old.core.node (took_each blocks ends) in
         let grown = delta-grown old.core.node blocks ends holds delta treats in
@@ -113,6 +131,7 @@ module _ (opening : Node) (ready : List Event) (old : Locked) (is : IsLocked ope
           node = ap (λ (n : Node). replay_node n (took_each blocks ends)) is.node ∙ sym (node-delta opening old.story blocks ends);
           begins = begins-longer ready old.story (Applied blocks ends) is.begins;
           grown = grown-on (node_after opening ready).held old.core.node.held new.held holds is.grown grown;
+          since = delta-since behind (node_after opening ready).held old.core.node blocks ends has is.since;
           notes = told-held new.held old.hub (entered_of blocks old.core.node.held new.held)
               (notes-raised old.core.node.held new.held old.hub grown after is.notes)
               (since-held new.held (versions_of old.core.node.held blocks) after);
@@ -121,15 +140,16 @@ module _ (opening : Node) (ready : List Event) (old : Locked) (is : IsLocked ope
     pub delta-there : (core : Core) (front : List Event) (hub : Hub) (shown : List Event) → core ≡ with_node old.core (replay_node old.core.node (took_each blocks ends))
         → front ≡ old.story ++ Applied blocks ends ∷ []
         → hub ≡ with_notes old.hub (entered_of blocks old.core.node.held (replay_node old.core.node (took_each blocks ends)).held)
-        → IsLocked opening ready (record { core = core; hub = hub; story = front; shown = shown })
+        → IsLocked opening ready behind (record { core = core; hub = hub; story = front; shown = shown })
     delta-there core front hub shown taken longer told =
-        subst (IsLocked opening ready) (λ i. record { core = sym taken i; hub = sym told i; story = sym longer i; shown = shown }) (delta-locked shown)
+        subst (IsLocked opening ready behind) (λ i. record { core = sym taken i; hub = sym told i; story = sym longer i; shown = shown }) (delta-locked shown)
 
 -- ---- what changes nothing of the node
 
-pub moved : (opening : Node) (ready later : List Event) (l : Locked) (shown : List Event) → IsLocked opening ready l → IsPrefix later l.story
-    → AreGrown (node_after opening later).held l.core.node.held → IsLocked opening later (with_shown l shown)
-moved opening ready later l shown is begins grown = record { node = is.node; begins = begins; grown = grown; notes = is.notes }
+pub moved : (opening : Node) (ready later : List Event) (behind left : Behind) (l : Locked) (shown : List Event) → IsLocked opening ready behind l → IsPrefix later l.story
+    → AreGrown (node_after opening later).held l.core.node.held → AreSince (node_after opening later).held l.core.node.held left → IsLocked opening later left (with_shown l shown)
+moved opening ready later behind left l shown is begins grown since = record { node = is.node; begins = begins; grown = grown; since = since; notes = is.notes }
 
-pub hub-locked : (opening : Node) (ready : List Event) (l : Locked) (hub : Hub) → IsLocked opening ready l → AllNotes (is_held l.core.node.held) hub → IsLocked opening ready (with_hub l hub)
-hub-locked opening ready l hub is notes = record { node = is.node; begins = is.begins; grown = is.grown; notes = notes }
+pub hub-locked : (opening : Node) (ready : List Event) (behind : Behind) (l : Locked) (hub : Hub) → IsLocked opening ready behind l → AllNotes (is_held l.core.node.held) hub
+    → IsLocked opening ready behind (with_hub l hub)
+hub-locked opening ready behind l hub is notes = record { node = is.node; begins = is.begins; grown = is.grown; since = is.since; notes = notes }

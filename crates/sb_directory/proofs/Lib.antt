@@ -1,9 +1,9 @@
-pub mod Reaching
-pub mod Batches
 pub mod Noting
+pub mod Batches
+pub mod Rising
+pub mod Lacking
 pub mod Following
 pub mod Keeping
 pub mod Polling
 pub mod Sharing
-pub mod Rising
 pub mod Showing

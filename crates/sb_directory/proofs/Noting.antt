@@ -1,5 +1,5 @@
 -- Watches that are told entry by entry, and owner by owner.
-use Rattle.std.proofs.Common.{◌≡◌, ℕ, ◌≤◌, Bool, true, List, [], ◌∷◌, ◌++◌, map, flat_map, Option, Some, None, unwrap_or, inl, inr, refl, sym, ap, subst, ◌∙◌, arith, append_assoc, append-nil, nat_le, le-leb}
+use Rattle.std.proofs.Common.{◌≡◌, ℕ, ◌≤◌, true, List, [], ◌∷◌, ◌++◌, map, Option, Some, None, unwrap_or, inl, inr, refl, sym, ap, ◌∙◌, append_assoc, append-nil, le-leb}
 use Rattle.std.specs.List.{AllByRecursion}
 use Rattle.std.specs.Option.{option_map}
 use Rattle.std.specs.FinMap.{get}
@@ -10,12 +10,11 @@ use Rattle.sb_holdings.specs.Held.{Held, nothing, shown_of}
 use Rattle.sb_holdings.specs.Plain.{IsHoldings, table_of}
 use Rattle.sb_holdings.proofs.Changed.{shown-plain}
 use Rattle.sb_holdings.proofs.Order.{run_upto}
-use Rattle.sb_watch.specs.declared.note.Note.{Note}
 use Rattle.sb_watch.specs.Records.{Hub}
 use Rattle.sb_watch.specs.Hubs.{AllNotes, with_push}
 use Rattle.sb_watch.proofs.KeptNotes.{pushed_keeps}
-use Rattle.sb_directory.specs.Reached.{owned_above}
-use Rattle.sb_directory.specs.Notes.{note_of, with_notes, entries_since, is_held}
+use Rattle.sb_directory.specs.Behind.{owned_above, entries_since}
+use Rattle.sb_directory.specs.Notes.{note_of, with_notes, is_held}
 
 pub notes-append : (hub : Hub) (xs ys : List (List ℕ × Entry)) → with_notes hub (xs ++ ys) ≡ with_notes (with_notes hub xs) ys
 notes-append hub [] ys = refl
@@ -46,11 +45,11 @@ pub record IsTellingAll (held : Held) (from : Hub) (all : List (List ℕ × ℕ)
 pub telling_all-begins : (held : Held) (from : Hub) (all rest : List (List ℕ × ℕ)) → rest ≡ all → IsTellingAll held from all from rest
 telling_all-begins held from all rest is = record { left = ap (λ (vs : List (List ℕ × ℕ)). with_notes from (entries_since vs held)) is }
 
-held-table : (o : Option Holder) (t : Table) → Some t ≡ option_map (λ (h : Holder). h.shown) o → t ≡ (unwrap_or o nothing).shown
+pub held-table : (o : Option Holder) (t : Table) → Some t ≡ option_map (λ (h : Holder). h.shown) o → t ≡ (unwrap_or o nothing).shown
 held-table None t is = absurd (cc)
 held-table (Some h) t is = cc
 
-no-table : (v : ℕ) (o : Option Holder) → None ≡ option_map (λ (h : Holder). h.shown) o → above v (unwrap_or o nothing).shown.entries ≡ []
+pub no-table : (v : ℕ) (o : Option Holder) → None ≡ option_map (λ (h : Holder). h.shown) o → above v (unwrap_or o nothing).shown.entries ≡ []
 no-table v None is = refl
 no-table v (Some h) is = absurd (cc)
 

@@ -112,7 +112,7 @@ module _ (owners : FinMap (slice_cmp nat_cmp) Holder) (owner : List ℕ) (h : Ho
   put true o = refl
   put false o = refl
 
-  put-owner : Put owners owner h (insert owners owner h)
+  pub put-owner : Put owners owner h (insert owners owner h)
   put-owner q = rw (get-insert nat_list_cmp_total owners owner h q, same_test owners owner h q) (put (pointwise nat_eq q owner) (get owners q))
 
 put-rises : (owners new : FinMap (slice_cmp nat_cmp) Holder) (owner : List ℕ) (h : Holder) → Put owners owner h new → (holder_of owners owner).shown.held ≤ h.shown.held

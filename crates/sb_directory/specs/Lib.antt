@@ -1,4 +1,4 @@
-pub mod Reached
+pub mod Behind
 pub mod Notes
 pub mod Locks
 pub mod Seats

@@ -1,11 +1,10 @@
 -- What lies under the lock, and what its calls leave.
-use Rattle.std.specs.Prelude.{◌≡◌, ℕ, ◌-◌, ◌^◌, ◌==◌, Bool, true, false, MatchBool, if◌then◌else◌, List, [], ◌∷◌, ◌++◌, length, Result, Ok, Err}
+use Rattle.std.specs.Prelude.{◌≡◌, ◌-◌, ◌^◌, ◌==◌, Bool, MatchBool, if◌then◌else◌, List, [], ◌∷◌, ◌++◌, length, Result, Ok, Err}
 use mathlib.Core.List.{IsPrefix}
 use Rattle.sb_types.specs.declared.fault.Fault.{Fault}
 use Rattle.sb_types.specs.declared.fault.Fault.TheVariants.{TurnsSpent}
 use Rattle.sb_types.specs.Records.{Entry, Block}
 use Rattle.sb_holdings.specs.declared.ends.BlockEnd.{BlockEnd}
-use Rattle.sb_holdings.specs.Held.{shown_of}
 use Rattle.sb_holdings.specs.Nodes.{Node, Wrote, node_after_event, replay_node}
 use Rattle.sb_holdings.specs.Treats.{took_each}
 use Rattle.sb_log.specs.Records.{Committed}
@@ -16,6 +15,7 @@ use Rattle.sb_views.specs.declared.event.Event.{Event}
 use Rattle.sb_views.specs.declared.event.Event.TheVariants.{TookOwn, Applied}
 use Rattle.sb_views.specs.Growing.{AreGrown}
 use Rattle.sb_views.specs.Stories.{node_after}
+use Rattle.sb_directory.specs.Behind.{Behind, AreSince}
 use Rattle.sb_directory.specs.Notes.{with_notes, entered_of, is_held}
 
 pub record Locked : Type 0 where
@@ -73,10 +73,11 @@ with_hub l hub = record { core = l.core; hub = hub; story = l.story; shown = l.s
 abbrev pub Shows : Bool → Locked → Locked → Type 0
 Shows shown old new = MatchBool shown (new.shown ≡ new.story) (new.shown ≡ old.shown)
 
--- the node is the replay of the story, of which the views have a beginning that its tables have grown from; and what
--- watches are told of is held
-pub record IsLocked (opening : Node) (ready : List Event) (l : Locked) : Type 0 where
+-- the node is the replay of the story, of which the views have a beginning that its tables have grown from; what they lack
+-- since is known; and what watches are told of is held
+pub record IsLocked (opening : Node) (ready : List Event) (behind : Behind) (l : Locked) : Type 0 where
   pub node : l.core.node ≡ node_after opening l.story
   pub begins : IsPrefix ready l.story
   pub grown : AreGrown (node_after opening ready).held l.core.node.held
+  pub since : AreSince (node_after opening ready).held l.core.node.held behind
   pub notes : AllNotes (is_held l.core.node.held) l.hub

@@ -1,11 +1,11 @@
 -- What watches are told.
-use Rattle.std.specs.Prelude.{◌≡◌, ℕ, ◌≤◌, Bool, nat_le, List, [], ◌∷◌, map, flat_map}
+use Rattle.std.specs.Prelude.{ℕ, Bool, nat_le, List, [], ◌∷◌, map}
 use Rattle.sb_types.specs.Records.{Entry, Block}
 use Rattle.sb_holdings.specs.Held.{Held, shown_of}
 use Rattle.sb_watch.specs.declared.note.Note.{Note}
 use Rattle.sb_watch.specs.Records.{Hub}
 use Rattle.sb_watch.specs.Hubs.{with_push}
-use Rattle.sb_directory.specs.Reached.{owned_above}
+use Rattle.sb_directory.specs.Behind.{entries_since}
 
 -- whose write it is, under which key, and its version
 abbrev pub note_of : List ℕ × Entry → Note
@@ -19,10 +19,6 @@ with_notes hub (p ∷ ps) = with_notes (with_push hub (note_of p)) ps
 -- the owners of these blocks, each with the version up to which it is held
 abbrev pub versions_of : Held → List Block → List (List ℕ × ℕ)
 versions_of held blocks = map (λ b. (b.owner, (shown_of held b.owner).held)) blocks
-
--- what is held of these owners above these versions
-abbrev pub entries_since : List (List ℕ × ℕ) → Held → List (List ℕ × Entry)
-entries_since versions held = flat_map (λ p. owned_above p.1 p.0 (shown_of held p.0)) versions
 
 -- what was entered of these blocks: of the owner of each what is held now and was not before
 abbrev pub entered_of : List Block → Held → Held → List (List ℕ × Entry)

@@ -1,12 +1,12 @@
 //! The directory: one node that threads share.
 #![tactic(auto)]
 
+mod behind;
 mod directory;
 mod laws;
 mod locked;
 mod notes;
 mod pending;
-mod reached;
 mod receipt;
 mod seat;
 mod served;

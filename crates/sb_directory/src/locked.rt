@@ -14,6 +14,7 @@ ghost use Rattle.sb_watch.specs.Hubs.{new_hub, next_id, has_watch, answer_at, wi
 ghost use Rattle.sb_views.specs.Stories.{node_after};
 ghost use Rattle.sb_directory.specs.Locks as spec;
 
+use crate::behind::Behind;
 use crate::notes::{tell, tell_since, versions_of};
 use crate::telling::{add_applied, add_own};
 use crate::views::Views;
@@ -37,6 +38,7 @@ pub struct Locked<S: Site, R: Wait + Drop> {
     story: Story<S>,
     front: Front<S>,
     views: Views<S, R>,
+    behind: Behind,
     alloc: Global,
 }
 
@@ -51,7 +53,7 @@ impl<S: Site, R: Wait + Drop> Model for Locked<S, R> {
 
     ghost view = { λ l. record { core = l.core; hub = l.hub; story = l.front; shown = l.views.shown } };
 
-    ghost invariant = { λ l. spec.IsLocked S.opening l.views.ready (record { core = l.core; hub = l.hub; story = l.front; shown = l.views.shown }) };
+    ghost invariant = { λ l. spec.IsLocked S.opening l.views.ready l.behind (record { core = l.core; hub = l.hub; story = l.front; shown = l.views.shown }) };
 }
 
 impl<S: Site, R: Wait + Drop> Locked<S, R> {
@@ -78,6 +80,7 @@ impl<S: Site, R: Wait + Drop> Locked<S, R> {
             story,
             front: start,
             views,
+            behind: Behind::new(alloc),
             alloc,
         };
         Ok((locked, readers))
@@ -103,12 +106,11 @@ impl<S: Site, R: Wait + Drop> Locked<S, R> {
         }
         let me = *self.core.name();
         let entry = committed.entry();
-        // Does nothing: the call tells the prover that versions keep their limits.
-        let _before = self.core.upto(&me);
+        self.behind.add(me, self.core.upto(&me))?;
         self.core.take_own(committed)?;
         add_own(rt, &self.story, &mut self.front, entry);
         tell(&mut self.hub, &me, entry);
-        Ok(self.views.show(&self.core, &self.front))
+        Ok(self.views.show(&self.core, &self.front, &mut self.behind))
     }
 
     /// Takes each block of a delta in turn, tells watches of each entry that it entered, and shows readers all that
@@ -130,10 +132,11 @@ impl<S: Site, R: Wait + Drop> Locked<S, R> {
         }
         let blocks = delta.blocks();
         let versions = versions_of(self.alloc, self.core.holdings(), blocks)?;
+        self.behind.add_owners(self.core.holdings(), blocks)?;
         let ends = self.core.apply(delta)?;
         add_applied(rt, &self.story, &mut self.front, delta, &ends);
         tell_since(&mut self.hub, self.core.holdings(), versions);
-        let shown = self.views.show(&self.core, &self.front);
+        let shown = self.views.show(&self.core, &self.front, &mut self.behind);
         Ok((ends, shown))
     }
 
@@ -198,7 +201,7 @@ impl<S: Site, R: Wait + Drop> Locked<S, R> {
         ensures left { self.new ≡ spec.with_shown self.old self.new.shown }
         ensures shown { spec.Shows result self.old self.new }
     {
-        self.views.show(&self.core, &self.front)
+        self.views.show(&self.core, &self.front, &mut self.behind)
     }
 
     /// Shows readers all that happened, and gives what the watch answers, so that a note is handed out once its write
@@ -214,7 +217,7 @@ impl<S: Site, R: Wait + Drop> Locked<S, R> {
         if !self.hub.has(id) {
             return Err(Fault::NoWatch);
         }
-        if !self.views.show(&self.core, &self.front) {
+        if !self.views.show(&self.core, &self.front, &mut self.behind) {
             return Err(Fault::NoMemory);
         }
         self.hub.take(id)
@@ -245,6 +248,7 @@ impl<S: Site, R: Wait + Drop> Locked<S, R> {
             story: _story,
             front: _front,
             views: _views,
+            behind: _behind,
             alloc: _,
         } = self;
         core

@@ -1,7 +1,7 @@
 //! Telling watches of what was entered.
 ghost use Rattle.std.specs.Prelude.{◌≡◌, ◌∷◌, [], IfOk, IfErr};
 ghost use Rattle.sb_directory.specs.Notes as spec;
-ghost use Rattle.sb_directory.specs.Reached.{owned_above};
+ghost use Rattle.sb_directory.specs.Behind.{owned_above, entries_since};
 
 use sb_holdings::Holdings;
 use sb_table::Table;
@@ -31,7 +31,7 @@ fn tell_above(hub: &mut Hub, owner: &Name, table: &Table, version: u64)
 
 /// Tells watches of what is held of these owners above these versions.
 pub(crate) fn tell_since(hub: &mut Hub, holdings: &Holdings, versions: Vec<(Name, u64)>)
-    ensures { hub.new ≡ spec.with_notes hub.old (spec.entries_since versions.items holdings.now) }
+    ensures { hub.new ≡ spec.with_notes hub.old (entries_since versions.items holdings.now) }
 {
     for (owner, version) in versions {
         if let Some(table) = holdings.table(&owner) {

@@ -1,9 +1,8 @@
 //! What views lack.
-ghost use Rattle.std.specs.Prelude.{◌≡◌, ◌++◌, None, IfOk, IfErr, OnOk};
-ghost use Rattle.sb_holdings.specs.Plain.{tables_from};
-ghost use Rattle.sb_directory.specs.Reached as spec;
+ghost use Rattle.std.specs.Prelude.{◌≡◌, ◌++◌, IfOk, IfErr, OnOk};
+ghost use Rattle.sb_directory.specs.Behind as spec;
 
-use crate::reached::Reached;
+use crate::behind::Behind;
 use sb_holdings::Holdings;
 use sb_table::Table;
 use sb_types::{Fault, Name};
@@ -27,14 +26,16 @@ fn push_above(
     Ok(())
 }
 
-/// All that is held and has not come to the views, owner by owner. `NoMemory`.
-pub(crate) fn pending(alloc: Global, holdings: &Holdings, reached: &Reached) -> Result<Batch, Fault>
-    ensures batch { IfOk result (λ batch. batch ≡ spec.all_above reached.now (tables_from None holdings.now)) }
+/// All that views lack, owner by owner. `NoMemory`.
+pub(crate) fn pending(alloc: Global, holdings: &Holdings, behind: &Behind) -> Result<Batch, Fault>
+    ensures batch { IfOk result (λ batch. batch ≡ spec.all_lacked behind.now holdings.now) }
     ensures memory { IfErr result (λ fault. fault ≡ Fault.NoMemory) }
 {
     let mut batch = Batch::new(alloc);
-    for (owner, table) in holdings.tables_from(None) {
-        push_above(alloc, &mut batch, owner, table, reached.version(owner))?;
+    for (owner, version) in behind.owners() {
+        if let Some(table) = holdings.table(owner) {
+            push_above(alloc, &mut batch, owner, table, *version)?;
+        }
     }
     Ok(batch)
 }

@@ -4,9 +4,10 @@ ghost use mathlib.Core.List.{IsPrefix};
 ghost use Rattle.sb_holdings.specs.Plain.{IsHoldings};
 ghost use Rattle.sb_views.specs.Growing.{AreGrown};
 ghost use Rattle.sb_views.specs.Stories.{node_after};
+ghost use Rattle.sb_directory.specs.Behind.{AreSince};
 
+use crate::behind::Behind;
 use crate::pending::pending;
-use crate::reached::Reached;
 use crate::telling::lose;
 use sb_node::NodeCore;
 use sb_types::Fault;
@@ -22,23 +23,18 @@ pub(crate) struct Views<S: Site, R: Wait + Drop> {
     writer: ViewWriter<S, R>,
     shown: Front<S>,
     ready: Front<S>,
-    reached: Reached,
     alloc: Global,
 }
 
 impl<S: Site, R: Wait + Drop> Model for Views<S, R> {
-    ghost use Rattle.std.specs.Prelude.{◌≡◌, ℕ, List};
-    ghost use Rattle.sb_holdings.specs.Held.{shown_of};
-    ghost use Rattle.sb_views.specs.Stories.{node_after};
+    ghost use Rattle.std.specs.Prelude.{◌≡◌};
     ghost use Rattle.sb_views.specs.Views as spec;
-    ghost use Rattle.sb_directory.specs.Reached.{version_in};
 
     ghost Value = { spec.Views };
 
     ghost view = { λ v. v.writer };
 
-    ghost invariant = { λ v. (v.writer ≡ record { shown = v.shown; ready = v.ready })
-        × ((owner : List ℕ) → version_in v.reached owner ≡ (shown_of (node_after S.opening v.ready).held owner).held) };
+    ghost invariant = { λ v. v.writer ≡ record { shown = v.shown; ready = v.ready } };
 }
 
 impl<S: Site, R: Wait + Drop> Views<S, R> {
@@ -58,35 +54,32 @@ impl<S: Site, R: Wait + Drop> Views<S, R> {
         ensures memory { IfErr result (λ fault. fault ≡ Fault.NoMemory) }
     {
         let holdings = core.holdings();
-        let reached = Reached::of(alloc, holdings)?;
         let (writer, readers) = views::<S, R>(alloc, rt, start.again(), holdings, seats)?;
         let views = Views {
             writer,
             shown: start.again(),
             ready: start.again(),
-            reached,
             alloc,
         };
         Ok((views, readers))
     }
 
-    /// Appends all that is held and has not come yet. `NoMemory`, which changes nothing.
-    fn append(&mut self, core: &NodeCore, front: &Front<S>) -> Result<(), Fault>
+    /// Appends all that is lacked. `NoMemory`, which changes nothing.
+    fn append(&mut self, core: &NodeCore, front: &Front<S>, behind: &Behind) -> Result<(), Fault>
         requires node { core.now.node ≡ node_after S.opening front.now }
         requires begins { IsPrefix self.old.ready front.now }
         requires grown { AreGrown (node_after S.opening self.old.ready).held core.now.node.held }
+        requires since { AreSince (node_after S.opening self.old.ready).held core.now.node.held behind.now }
         ensures ok { OnOk result (self.new ≡ record { shown = self.old.shown; ready = front.now }) }
         ensures err { OnErr result (self.new ≡ self.old) }
         ensures memory { IfErr result (λ fault. fault ≡ Fault.NoMemory) }
         ensures holdings { IsHoldings core.now.node.held }
     {
         let holdings = core.holdings();
-        let batch = pending(self.alloc, holdings, &self.reached)?;
-        let reached = Reached::of(self.alloc, holdings)?;
+        let batch = pending(self.alloc, holdings, behind)?;
         match self.writer.append(batch, front) {
             Ok(()) => {
                 self.ready = front.again();
-                self.reached = reached;
                 Ok(())
             }
             Err(batch) => {
@@ -112,18 +105,20 @@ impl<S: Site, R: Wait + Drop> Views<S, R> {
 
     /// Shows readers the node as it stands, after these events, and says whether there was memory for it. Where there
     /// was none, what is shown stays, and what could not be appended is appended by the next call.
-    pub(crate) fn show(&mut self, core: &NodeCore, front: &Front<S>) -> bool
+    pub(crate) fn show(&mut self, core: &NodeCore, front: &Front<S>, behind: &mut Behind) -> bool
         requires node { core.now.node ≡ node_after S.opening front.now }
         requires begins { IsPrefix self.old.ready front.now }
         requires grown { AreGrown (node_after S.opening self.old.ready).held core.now.node.held }
+        requires since { AreSince (node_after S.opening self.old.ready).held core.now.node.held behind.old }
         ensures shown { MatchBool result (self.new.shown ≡ front.now) (self.new.shown ≡ self.old.shown) }
         ensures begins { IsPrefix self.new.ready front.now }
         ensures grown { AreGrown (node_after S.opening self.new.ready).held core.now.node.held }
+        ensures since { AreSince (node_after S.opening self.new.ready).held core.now.node.held behind.new }
     {
         if self.shown.is_same(front) {
             return true;
         }
-        if !self.bring(core, front) {
+        if !self.bring(core, front, behind) {
             return false;
         }
         match self.publish() {
@@ -133,18 +128,23 @@ impl<S: Site, R: Wait + Drop> Views<S, R> {
     }
 
     /// Appends what is not appended, and says whether nothing is left.
-    fn bring(&mut self, core: &NodeCore, front: &Front<S>) -> bool
+    fn bring(&mut self, core: &NodeCore, front: &Front<S>, behind: &mut Behind) -> bool
         requires node { core.now.node ≡ node_after S.opening front.now }
         requires begins { IsPrefix self.old.ready front.now }
         requires grown { AreGrown (node_after S.opening self.old.ready).held core.now.node.held }
+        requires since { AreSince (node_after S.opening self.old.ready).held core.now.node.held behind.old }
         ensures ready { MatchBool result (self.new ≡ record { shown = self.old.shown; ready = front.now }) (self.new ≡ self.old) }
         ensures grown { AreGrown (node_after S.opening self.new.ready).held core.now.node.held }
+        ensures since { AreSince (node_after S.opening self.new.ready).held core.now.node.held behind.new }
     {
         if self.ready.is_same(front) {
             return true;
         }
-        match self.append(core, front) {
-            Ok(()) => true,
+        match self.append(core, front, behind) {
+            Ok(()) => {
+                behind.clear();
+                true
+            }
             Err(_) => false,
         }
     }

@@ -18,8 +18,3 @@ pub use laws::{
 pub use receiving::{receive, receive_within};
 pub use sending::{frame_of, send, send_from, send_telling, write_counted};
 pub use steps::{Steps, read_within};
-
-#[cfg(test)]
-mod receiving_tests;
-#[cfg(test)]
-mod tests;

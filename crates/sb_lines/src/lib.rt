@@ -4,6 +4,3 @@
 mod log_lines;
 
 pub use log_lines::log_run;
-
-#[cfg(test)]
-mod tests;

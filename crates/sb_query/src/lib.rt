@@ -8,6 +8,3 @@ mod printing;
 pub use answering::answer;
 pub use laws::pages_follow;
 pub use printing::print_rows;
-
-#[cfg(test)]
-mod tests;

@@ -1,3 +1,6 @@
 pub mod Owners
 pub mod Hearing
 pub mod Control
+pub mod Gates
+pub mod Pools
+pub mod Running

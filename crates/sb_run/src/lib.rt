@@ -1,11 +1,28 @@
-//! The running node: writes that are kept before they are shared, and the control socket.
+//! The running node: writes that are kept before they are shared, the control socket, workers for peers, and the threads and
+//! sockets of all that.
 #![tactic(auto)]
 
+mod accepting;
 mod asking;
+mod attending;
 mod control;
+mod dialing;
+mod ending;
+mod gate;
 mod hearing;
+mod node;
 mod owner;
+mod pool;
+mod rounds;
+mod seats;
+mod shared;
+mod site;
+mod sockets;
+mod threads;
 
 pub use asking::ask_control;
 pub use control::serve_control;
+pub use gate::{Gate, Open, Step};
+pub use node::{Pace, Paths, Ran, run_node};
 pub use owner::{Owner, Stored};
+pub use pool::{Pooled, Source, serve_pool};

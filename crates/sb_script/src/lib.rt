@@ -15,8 +15,3 @@ mod words;
 pub use output::Output;
 pub use sb_frames::Steps;
 pub use sim::{Detail, Ending, sim_run, sim_run_uncounted};
-
-#[cfg(test)]
-mod story;
-#[cfg(test)]
-mod tests;

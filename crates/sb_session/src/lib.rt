@@ -10,8 +10,3 @@ pub use handler::Handler;
 pub use replies::Replies;
 pub use session::{Phase, Session};
 pub use talk::{Ended, dial, serve};
-
-#[cfg(test)]
-mod talk_tests;
-#[cfg(test)]
-mod tests;

@@ -30,6 +30,3 @@ pub use shown::{Op, Shown};
 pub use snapshot::Snapshot;
 pub use story::{Front, Mark, Opened, Site, Story};
 pub use writer::ViewWriter;
-
-#[cfg(test)]
-mod tests;

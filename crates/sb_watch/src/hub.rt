@@ -47,16 +47,9 @@ impl Hub {
     pub fn new(alloc: Global) -> Hub
         ensures { result ≡ spec.new_hub }
     {
-        Hub::beginning_at(alloc, 0)
-    }
-
-    /// A hub without watches, whose first id is this one.
-    pub(crate) fn beginning_at(alloc: Global, next: u64) -> Hub
-        ensures { result ≡ record { watches = []; next = next } }
-    {
         Hub {
             watches: Vec::new(alloc),
-            next,
+            next: 0,
             alloc,
         }
     }

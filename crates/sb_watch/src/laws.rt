@@ -1,13 +1,14 @@
 //! What follows from the definitions alone. The functions do nothing: each clause is a law.
 
-ghost use Rattle.std.specs.Prelude.{◌≡◌, ◌≢◌, ℕ, ◌<◌, ◌^◌, Bool, true, false, List, length, Some, None, Ok};
+ghost use Rattle.std.specs.Prelude.{◌≡◌, ◌≢◌, ℕ, ◌<◌, ◌-◌, ◌^◌, Bool, true, false, List, [], length, Some, None, Ok, Err};
 ghost use Rattle.std.specs.Option.{option_map};
+ghost use Rattle.sb_types.specs.declared.fault.Fault.TheVariants.{WatchesFull};
 ghost use Rattle.sb_watch.specs.declared.note.Filter.{Filter};
 ghost use Rattle.sb_watch.specs.declared.note.Note.{Note};
 ghost use Rattle.sb_watch.specs.declared.note.Polled.TheVariants as answers;
 ghost use Rattle.sb_watch.specs.Records.{Hub};
 ghost use Rattle.sb_watch.specs.Watches.{new_watch, told, answered};
-ghost use Rattle.sb_watch.specs.Hubs.{AllNotes, IsHub, new_hub, has_watch, watch_at, answer_at};
+ghost use Rattle.sb_watch.specs.Hubs.{AllNotes, IsHub, new_hub, has_watch, next_id, watch_at, answer_at};
 ghost use Rattle.sb_watch.specs.Hubs.{with_watch, with_push, with_answer, without_watch};
 ghost use Rattle.sb_watch.specs.Calls.{Call, hub_after};
 ghost use Rattle.sb_watch.specs.Owed.{Deed, came, answers_after, watch_after, Account, Keeps};
@@ -63,4 +64,13 @@ pub fn watches_stand_alone()
 pub fn ids_are_not_used_again()
     ensures { (calls : List Call) (hub : Hub) (id : ℕ) → id < hub.next →
         has_watch hub id ≡ false → has_watch (hub_after calls hub) id ≡ false }
+{}
+
+/// The greatest number of 64 bits is no id: a hub whose next number is the one before it gives that one, and none any more, whether
+/// its watch stands or was dropped.
+pub fn ids_end_with_the_numbers()
+    ensures last { next_id (record { watches = []; next = 2 ^ 64 - 2 }) 1 ≡ Ok (2 ^ 64 - 2) }
+    ensures full { (filter : Filter) → next_id (with_watch (record { watches = []; next = 2 ^ 64 - 2 }) filter 1) 1 ≡ Err WatchesFull }
+    ensures dropped { (filter : Filter) → let hub = without_watch (with_watch (record { watches = []; next = 2 ^ 64 - 2 }) filter 1) (2 ^ 64 - 2) in
+        (next_id hub 1 ≡ Err WatchesFull) × (has_watch hub (2 ^ 64 - 2) ≡ false) }
 {}

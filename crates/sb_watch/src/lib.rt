@@ -11,11 +11,8 @@ mod watch;
 
 pub use hub::Hub;
 pub use laws::{
-    answers_account_for_notes, ids_are_not_used_again, limits_are_these_numbers,
-    notes_keep_what_holds, watches_stand_alone,
+    answers_account_for_notes, ids_are_not_used_again, ids_end_with_the_numbers,
+    limits_are_these_numbers, notes_keep_what_holds, watches_stand_alone,
 };
 pub use limits::{RING_MOST, WATCHES_MOST};
 pub use note::{Filter, Note, Polled, WatchId};
-
-#[cfg(test)]
-mod tests;

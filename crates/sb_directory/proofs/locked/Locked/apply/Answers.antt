@@ -1,53 +1,130 @@
-use Rattle.std.proofs.Common.{◌≡◌, ℕ, List, refl, ap, subst, ◌∙◌}
-use Rattle.sb_types.specs.Records.{Block}
+use Rattle.std.proofs.Common.{◌≡◌, refl, sym, ap, subst, ◌∙◌}
 use Rattle.sb_holdings.specs.Held.{Held}
-use Rattle.sb_holdings.specs.Nodes.{Node, replay_node}
+use Rattle.sb_holdings.specs.Nodes.{replay_node}
 use Rattle.sb_holdings.specs.Plain.{IsHoldings}
 use Rattle.sb_holdings.specs.Treats.{took_each}
 use Rattle.sb_node.specs.Cores.{Core}
-use Rattle.sb_directory.specs.Notes.{with_notes, versions_of, entries_since, entered_of}
-use Rattle.sb_directory.specs.Locks.{Locked}
-use Rattle.sb_directory.proofs.Keeping.{delta-there, moved}
+use Rattle.sb_views.specs.Stories.{node_after}
+use Rattle.sb_directory.specs.Behind.{HasOwners, entries_since, AreSince}
+use Rattle.sb_directory.specs.Notes.{with_notes, versions_of, entered_of}
+use Rattle.sb_directory.specs.Locks.{Locked, IsLocked}
+use Rattle.sb_directory.proofs.Keeping.{noted, delta-there, moved}
 use Rattle.sb_directory.proofs.locked.Locked.apply.Goals as goal
 
 pub show-shown-requires-clause-node : goal.show-shown-requires-clause-node
 show-shown-requires-clause-node g c =
+    let opening = g.S.Site.opening in
     let inside = c.self.inside in
+    let ready = inside.views.ready in
+    let node = inside.core.node in
     let old : Locked = record { core = inside.core; hub = inside.hub; story = inside.front; shown = inside.views.shown } in
+    let blocks = c.args.delta.now in
     let ends = c.in_ok-ends.ends in
     let taken = c.in_ok-ends.ensures.ok in
-    let after : IsHoldings (replay_node inside.core.node (took_each c.args.delta.now ends)).held =
-    subst (λ (k : Core). IsHoldings k.node.held) taken c.in_ok-ends.ensures.holdings in
-    (delta-there g.S.Site.opening inside.views.ready old c.self.invariant c.holdings.ensures.holdings c.args.delta.now ends c.in_ok-ends.ensures.delta c.in_ok-ends.ensures.ends after
+    let more = c.add_owners.new.self in
+    let after : IsHoldings (replay_node node (took_each blocks ends)).held = subst (λ (k : Core). IsHoldings k.node.held) taken c.in_ok-ends.ensures.holdings in
+    let since : AreSince (node_after opening ready).held node.held more =
+    subst (λ (h : Held). AreSince (node_after opening ready).held h more) c.holdings-2.ensures.held
+    (c.in_ok-add_owners.ensures.since (node_after opening ready).held
+    (subst (λ (h : Held). AreSince (node_after opening ready).held h inside.behind) (sym c.holdings-2.ensures.held) c.self.invariant.since)) in
+    let is = noted opening ready inside.behind more old c.self.invariant since in
+    let has : HasOwners more blocks = subst (HasOwners more) c.blocks-blocks.ensures.blocks c.in_ok-add_owners.ensures.owners in
+    (delta-there opening ready more old is c.holdings.ensures.holdings blocks ends c.in_ok-ends.ensures.delta c.in_ok-ends.ensures.ends after has
     c.apply.new.self c.add_applied.new.front _ inside.views.shown taken c.add_applied.ensures refl).node
 
 pub show-shown-requires-clause-grown : goal.show-shown-requires-clause-grown
 show-shown-requires-clause-grown g c =
+    let opening = g.S.Site.opening in
     let inside = c.self.inside in
+    let ready = inside.views.ready in
+    let node = inside.core.node in
     let old : Locked = record { core = inside.core; hub = inside.hub; story = inside.front; shown = inside.views.shown } in
+    let blocks = c.args.delta.now in
     let ends = c.in_ok-ends.ends in
     let taken = c.in_ok-ends.ensures.ok in
-    let after : IsHoldings (replay_node inside.core.node (took_each c.args.delta.now ends)).held =
-    subst (λ (k : Core). IsHoldings k.node.held) taken c.in_ok-ends.ensures.holdings in
-    (delta-there g.S.Site.opening inside.views.ready old c.self.invariant c.holdings.ensures.holdings c.args.delta.now ends c.in_ok-ends.ensures.delta c.in_ok-ends.ensures.ends after
+    let more = c.add_owners.new.self in
+    let after : IsHoldings (replay_node node (took_each blocks ends)).held = subst (λ (k : Core). IsHoldings k.node.held) taken c.in_ok-ends.ensures.holdings in
+    let since : AreSince (node_after opening ready).held node.held more =
+    subst (λ (h : Held). AreSince (node_after opening ready).held h more) c.holdings-2.ensures.held
+    (c.in_ok-add_owners.ensures.since (node_after opening ready).held
+    (subst (λ (h : Held). AreSince (node_after opening ready).held h inside.behind) (sym c.holdings-2.ensures.held) c.self.invariant.since)) in
+    let is = noted opening ready inside.behind more old c.self.invariant since in
+    let has : HasOwners more blocks = subst (HasOwners more) c.blocks-blocks.ensures.blocks c.in_ok-add_owners.ensures.owners in
+    (delta-there opening ready more old is c.holdings.ensures.holdings blocks ends c.in_ok-ends.ensures.delta c.in_ok-ends.ensures.ends after has
     c.apply.new.self c.add_applied.new.front _ inside.views.shown taken c.add_applied.ensures refl).grown
+
+pub show-shown-requires-clause-since : goal.show-shown-requires-clause-since
+show-shown-requires-clause-since g c =
+    let opening = g.S.Site.opening in
+    let inside = c.self.inside in
+    let ready = inside.views.ready in
+    let node = inside.core.node in
+    let old : Locked = record { core = inside.core; hub = inside.hub; story = inside.front; shown = inside.views.shown } in
+    let blocks = c.args.delta.now in
+    let ends = c.in_ok-ends.ends in
+    let taken = c.in_ok-ends.ensures.ok in
+    let more = c.add_owners.new.self in
+    let after : IsHoldings (replay_node node (took_each blocks ends)).held = subst (λ (k : Core). IsHoldings k.node.held) taken c.in_ok-ends.ensures.holdings in
+    let since : AreSince (node_after opening ready).held node.held more =
+    subst (λ (h : Held). AreSince (node_after opening ready).held h more) c.holdings-2.ensures.held
+    (c.in_ok-add_owners.ensures.since (node_after opening ready).held
+    (subst (λ (h : Held). AreSince (node_after opening ready).held h inside.behind) (sym c.holdings-2.ensures.held) c.self.invariant.since)) in
+    let is = noted opening ready inside.behind more old c.self.invariant since in
+    let has : HasOwners more blocks = subst (HasOwners more) c.blocks-blocks.ensures.blocks c.in_ok-add_owners.ensures.owners in
+    (delta-there opening ready more old is c.holdings.ensures.holdings blocks ends c.in_ok-ends.ensures.delta c.in_ok-ends.ensures.ends after has
+    c.apply.new.self c.add_applied.new.front _ inside.views.shown taken c.add_applied.ensures refl).since
 
 pub invariant_of-self-2 : goal.invariant_of-self-2
 invariant_of-self-2 g c =
+    let opening = g.S.Site.opening in
     let inside = c.self.inside in
+    let ready = inside.views.ready in
+    let node = inside.core.node in
     let old : Locked = record { core = inside.core; hub = inside.hub; story = inside.front; shown = inside.views.shown } in
+    let blocks = c.args.delta.now in
     let ends = c.in_ok-ends.ends in
     let taken = c.in_ok-ends.ensures.ok in
-    let after : IsHoldings (replay_node inside.core.node (took_each c.args.delta.now ends)).held =
-    subst (λ (k : Core). IsHoldings k.node.held) taken c.in_ok-ends.ensures.holdings in
-    let versions : c.in_ok-versions.versions.items ≡ versions_of inside.core.node.held c.args.delta.now =
+    let more = c.add_owners.new.self in
+    let after : IsHoldings (replay_node node (took_each blocks ends)).held = subst (λ (k : Core). IsHoldings k.node.held) taken c.in_ok-ends.ensures.holdings in
+    let since : AreSince (node_after opening ready).held node.held more =
+    subst (λ (h : Held). AreSince (node_after opening ready).held h more) c.holdings-2.ensures.held
+    (c.in_ok-add_owners.ensures.since (node_after opening ready).held
+    (subst (λ (h : Held). AreSince (node_after opening ready).held h inside.behind) (sym c.holdings-2.ensures.held) c.self.invariant.since)) in
+    let is = noted opening ready inside.behind more old c.self.invariant since in
+    let has : HasOwners more blocks = subst (HasOwners more) c.blocks-blocks.ensures.blocks c.in_ok-add_owners.ensures.owners in
+    let versions : c.in_ok-versions.versions.items ≡ versions_of node.held blocks =
     c.in_ok-versions.ensures.versions ∙ (λ i. versions_of (c.holdings.ensures.held i) (c.blocks-blocks.ensures.blocks i)) in
-    let held : c.holdings-2.result.now ≡ (replay_node inside.core.node (took_each c.args.delta.now ends)).held =
-    c.holdings-2.ensures.held ∙ ap (λ (k : Core). k.node.held) taken in
-    let told : c.tell_since.new.hub ≡ with_notes inside.hub (entered_of c.args.delta.now inside.core.node.held (replay_node inside.core.node (took_each c.args.delta.now ends)).held) =
+    let held : c.holdings-3.result.now ≡ (replay_node node (took_each blocks ends)).held = c.holdings-3.ensures.held ∙ ap (λ (k : Core). k.node.held) taken in
+    let told : c.tell_since.new.hub ≡ with_notes inside.hub (entered_of blocks node.held (replay_node node (took_each blocks ends)).held) =
     c.tell_since.ensures ∙ (λ i. with_notes inside.hub (entries_since (versions i) (held i))) in
     let now : Locked = record { core = c.apply.new.self; hub = c.tell_since.new.hub; story = c.add_applied.new.front; shown = inside.views.shown } in
-    moved g.S.Site.opening inside.views.ready c.show-shown.new.self.ready now c.show-shown.new.self.shown
-    (delta-there g.S.Site.opening inside.views.ready old c.self.invariant c.holdings.ensures.holdings c.args.delta.now ends c.in_ok-ends.ensures.delta c.in_ok-ends.ensures.ends after
+    moved opening ready c.show-shown.new.self.ready more c.show-shown.new.behind now c.show-shown.new.self.shown
+    (delta-there opening ready more old is c.holdings.ensures.holdings blocks ends c.in_ok-ends.ensures.delta c.in_ok-ends.ensures.ends after has
     c.apply.new.self c.add_applied.new.front c.tell_since.new.hub inside.views.shown taken c.add_applied.ensures told)
-    c.show-shown.ensures.begins c.show-shown.ensures.grown
+    c.show-shown.ensures.begins c.show-shown.ensures.grown c.show-shown.ensures.since
+
+-- owners are noted as lacking, whether all could be or not
+pub invariant_of-self : goal.invariant_of-self
+invariant_of-self g c =
+    let opening = g.S.Site.opening in
+    let inside = c.self.inside in
+    let ready = inside.views.ready in
+    let more = c.add_owners.new.self in
+    let old : Locked = record { core = inside.core; hub = inside.hub; story = inside.front; shown = inside.views.shown } in
+    noted opening ready inside.behind more old c.self.invariant
+    (subst (λ (h : Held). AreSince (node_after opening ready).held h more) c.holdings-2.ensures.held
+    (c.add_owners.ensures.since (node_after opening ready).held
+    (subst (λ (h : Held). AreSince (node_after opening ready).held h inside.behind) (sym c.holdings-2.ensures.held) c.self.invariant.since)))
+
+pub invariant_of-self-in_err-ends : goal.invariant_of-self-in_err-ends
+invariant_of-self-in_err-ends g c =
+    let opening = g.S.Site.opening in
+    let inside = c.self.inside in
+    let ready = inside.views.ready in
+    let more = c.add_owners.new.self in
+    let old : Locked = record { core = inside.core; hub = inside.hub; story = inside.front; shown = inside.views.shown } in
+    subst (λ (core : Core). IsLocked opening ready more (record { core = core; hub = inside.hub; story = inside.front; shown = inside.views.shown })) (sym c.in_err-ends.ensures.err)
+    (noted opening ready inside.behind more old c.self.invariant
+    (subst (λ (h : Held). AreSince (node_after opening ready).held h more) c.holdings-2.ensures.held
+    (c.in_ok-add_owners.ensures.since (node_after opening ready).held
+    (subst (λ (h : Held). AreSince (node_after opening ready).held h inside.behind) (sym c.holdings-2.ensures.held) c.self.invariant.since))))

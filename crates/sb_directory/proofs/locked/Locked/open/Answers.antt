@@ -1,16 +1,14 @@
 use Rattle.std.proofs.Common.{◌≡◌, List, [], refl, sym, ap, subst, ◌∙◌}
 use mathlib.Core.List.{IsPrefix}
-use Rattle.sb_holdings.specs.Nodes.{Node}
 use Rattle.sb_holdings.specs.Plain.{IsHoldings}
 use Rattle.sb_node.specs.Cores.{Core}
-use Rattle.sb_watch.specs.Records.{Hub}
 use Rattle.sb_watch.specs.Hubs.{AllNotes}
 use Rattle.sb_views.specs.declared.event.Event.{Event}
-use Rattle.sb_views.specs.Growing.{AreGrown}
 use Rattle.sb_views.specs.Stories.{node_after}
 use Rattle.sb_views.specs.Views.{Views}
 use Rattle.sb_directory.specs.Notes.{is_held}
-use Rattle.sb_directory.proofs.Following.{grown-there}
+use Rattle.sb_directory.specs.Behind.{AreSince}
+use Rattle.sb_directory.proofs.Following.{grown-there, since-there}
 use Rattle.sb_directory.proofs.locked.Locked.open.Goals as goal
 
 pub invariant_of-locked : goal.invariant_of-locked
@@ -23,5 +21,7 @@ invariant_of-locked g c =
       node = sym c.requires.opening ∙ sym (ap (node_after opening) c.requires.start);
       begins = subst (λ (r : List Event). IsPrefix r c.args.start) (sym ready) (c.args.start, refl);
       grown = grown-there opening c.args.core.node c.in_ok-views.views.ready (sym c.requires.opening ∙ sym (ap (node_after opening) ready)) is;
+      since = subst (AreSince (node_after opening c.in_ok-views.views.ready).held held) (sym c.new-2.ensures)
+          (since-there opening c.args.core.node c.in_ok-views.views.ready (sym c.requires.opening ∙ sym (ap (node_after opening) ready)));
       notes = subst (AllNotes (is_held held)) (sym c.new.ensures) tt;
     }

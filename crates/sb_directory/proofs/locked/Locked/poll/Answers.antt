@@ -1,11 +1,10 @@
-use Rattle.std.proofs.Common.{◌≡◌, ℕ, true, leb-true, Result, Err, IfErr, sym, ap, subst, ◌∙◌}
-use Rattle.sb_holdings.specs.Held.{Held, shown_of}
+use Rattle.std.proofs.Common.{◌≡◌, true, leb-true, Result, Err, IfErr, sym, subst, ◌∙◌}
+use Rattle.sb_holdings.specs.Held.{shown_of}
 use Rattle.sb_types.specs.declared.fault.Fault.{Fault}
 use Rattle.sb_types.specs.declared.fault.Fault.TheVariants.{NoWatch}
 use Rattle.sb_watch.specs.declared.note.Note.{Note}
 use Rattle.sb_watch.specs.declared.note.Polled.{Polled}
-use Rattle.sb_watch.specs.Records.{Hub}
-use Rattle.sb_watch.specs.Hubs.{AllNotes, answer_at, has_watch}
+use Rattle.sb_watch.specs.Hubs.{AllNotes, answer_at}
 use Rattle.sb_watch.proofs.KeptNotes.{taken_keeps, given_holds}
 use Rattle.sb_directory.specs.Notes.{is_held}
 use Rattle.sb_directory.specs.Locks.{Locked, with_shown}
@@ -30,8 +29,8 @@ invariant_of-self-2 g c =
     let old : Locked = record { core = inside.core; hub = inside.hub; story = inside.front; shown = inside.views.shown } in
     let notes : AllNotes (is_held held) c.take.new.self =
     subst (AllNotes (is_held held)) (sym c.take.ensures.left) (taken_keeps (λ (note : Note). is_held held note ≡ true) inside.hub c.args.id c.self.invariant.notes) in
-    hub-locked opening c.show.new.self.ready (with_shown old c.show.new.self.shown) c.take.new.self
-    (moved opening inside.views.ready c.show.new.self.ready old c.show.new.self.shown c.self.invariant c.show.ensures.begins c.show.ensures.grown) notes
+    hub-locked opening c.show.new.self.ready c.show.new.behind (with_shown old c.show.new.self.shown) c.take.new.self
+    (moved opening inside.views.ready c.show.new.self.ready inside.behind c.show.new.behind old c.show.new.self.shown c.self.invariant c.show.ensures.begins c.show.ensures.grown c.show.ensures.since) notes
 
 pub returns-clause-held : goal.returns-clause-held
 returns-clause-held g c note given =

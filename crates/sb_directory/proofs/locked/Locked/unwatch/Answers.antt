@@ -1,6 +1,5 @@
 use Rattle.std.proofs.Common.{◌≡◌, true, sym, subst}
 use Rattle.sb_watch.specs.declared.note.Note.{Note}
-use Rattle.sb_watch.specs.Records.{Hub}
 use Rattle.sb_watch.specs.Hubs.{AllNotes}
 use Rattle.sb_watch.proofs.KeptNotes.{dropped_keeps}
 use Rattle.sb_directory.specs.Notes.{is_held}
@@ -13,5 +12,5 @@ invariant_of-self g c =
     let inside = c.self.inside in
     let held = inside.core.node.held in
     let old : Locked = record { core = inside.core; hub = inside.hub; story = inside.front; shown = inside.views.shown } in
-    hub-locked g.S.Site.opening inside.views.ready old c.drop_watch.new.self c.self.invariant
+    hub-locked g.S.Site.opening inside.views.ready inside.behind old c.drop_watch.new.self c.self.invariant
     (subst (AllNotes (is_held held)) (sym c.drop_watch.ensures.left) (dropped_keeps (λ (note : Note). is_held held note ≡ true) inside.hub c.args.id c.self.invariant.notes))

@@ -1,0 +1,160 @@
+//! Requests to a node that runs, over its control socket.
+ghost use Rattle.std.specs.Prelude.{◌≡◌, ◌<◌};
+
+use crate::failure::{Failure, Place};
+use sb_codec::{Ask, Message, Rows};
+use sb_frames::Steps;
+use sb_query::print_rows;
+use sb_run::ask_control;
+use sb_types::{
+    Fault, KIND_ASK, KIND_BYE, KIND_DELTA, KIND_DIGEST, KIND_DONE, KIND_HELLO, KIND_PUT,
+    KIND_REFUSED, KIND_ROWS, Key, Name, Slot, Write,
+};
+use std::alloc::Global;
+use std::marker::Brand;
+use std::os::unix::net::UnixStream;
+use std::sync::ledger::{Blank, Ledger};
+
+/// How many reads one answer may take.
+const MAX_READS: u64 = 65_536;
+
+/// One request and its answer over a connection.
+fn exchange<K: Ledger>(
+    alloc: Global,
+    stream: &UnixStream,
+    request: &Message,
+    blank: Blank,
+) -> Result<Message, Fault>
+    requires name { blank.name ≡ K.name }
+    requires parts { blank.parts ≡ K.parts }
+    requires some { 0 < blank.parts }
+{
+    let mut steps = Steps::<K>::new(blank);
+    let (mut reader, mut writer) = (stream, stream);
+    ask_control(
+        alloc,
+        &mut reader,
+        &mut writer,
+        request,
+        MAX_READS,
+        &mut steps,
+    )
+}
+
+/// The answer of the node behind a control socket. `ReadFailed` where it can't be reached; then the faults of `ask_control`.
+fn answer_of<'a>(
+    rt: &HostRuntime,
+    control: &'a str,
+    request: &Message,
+) -> Result<Message, Failure<'a>> {
+    let Ok(stream) = UnixStream::connect(rt, control) else {
+        return Err(Failure::at(Place::Unreached(control), Fault::ReadFailed));
+    };
+    match exchange::<Brand>(rt.alloc(), &stream, request, Blank::new(1)) {
+        Ok(answer) => Ok(answer),
+        Err(fault) => Err(Failure::at(Place::Control(control), fault)),
+    }
+}
+
+fn kind_of(message: &Message) -> u8 {
+    match message {
+        Message::Hello(_) => KIND_HELLO,
+        Message::Digest(_) => KIND_DIGEST,
+        Message::Delta(_) => KIND_DELTA,
+        Message::Bye(_) => KIND_BYE,
+        Message::Ask(_) => KIND_ASK,
+        Message::Rows(_) => KIND_ROWS,
+        Message::Put(_) => KIND_PUT,
+        Message::Done(_) => KIND_DONE,
+        Message::Refused(_) => KIND_REFUSED,
+    }
+}
+
+/// Why an answer is not the one that was asked for.
+fn refusal<'a>(control: &'a str, answer: &Message) -> Failure<'a> {
+    match answer {
+        Message::Refused(refused) => Failure::told(control, refused.number()),
+        other => Failure::at(Place::Control(control), Fault::UnknownKind(kind_of(other))),
+    }
+}
+
+/// Has a node write, and answers the version of the write.
+pub(crate) fn put<'a>(
+    rt: &HostRuntime,
+    control: &'a str,
+    key: Key,
+    slot: Slot,
+) -> Result<u64, Failure<'a>> {
+    let request = Message::Put(Write { key, slot });
+    match answer_of(rt, control, &request)? {
+        Message::Done(done) => Ok(done.version()),
+        other => Err(refusal(control, &other)),
+    }
+}
+
+/// Whether a page goes on: each of its rows lies behind the place that was asked for, and where more follow it has one.
+fn goes_on(page: &Rows, after: Option<(Name, Key)>) -> bool {
+    match (page.rows().first(), after) {
+        (None, _) => !page.more(),
+        (Some(_), None) => true,
+        (Some(row), Some((owner, key))) => owner
+            .bytes()
+            .cmp(row.owner().bytes())
+            .then(key.bytes().cmp(row.key().bytes()))
+            .is_lt(),
+    }
+}
+
+/// The page, where it goes on. `Malformed(KIND_ROWS)` where it does not.
+fn going_on<'a>(
+    control: &'a str,
+    page: Rows,
+    after: Option<(Name, Key)>,
+) -> Result<Rows, Failure<'a>> {
+    if goes_on(&page, after) {
+        return Ok(page);
+    }
+    Err(Failure::at(Place::Control(control), Fault::Malformed(KIND_ROWS)))
+}
+
+/// One page of a node's rows.
+fn page_of<'a>(rt: &HostRuntime, control: &'a str, ask: Ask) -> Result<Rows, Failure<'a>> {
+    let after = ask.after;
+    let request = Message::Ask(ask);
+    match answer_of(rt, control, &request)? {
+        Message::Rows(page) => going_on(control, page, after),
+        other => Err(refusal(control, &other)),
+    }
+}
+
+/// The place of the last row of a page, where more follow.
+fn place_behind(page: &Rows) -> Option<(Name, Key)> {
+    if !page.more() {
+        return None;
+    }
+    let row = page.rows().last()?;
+    Some((*row.owner(), *row.key()))
+}
+
+fn print_page(rt: &HostRuntime, page: &Rows) -> Result<(), Fault> {
+    let (printed, _) = print_rows(rt.alloc(), &mut rt.stdout(), page);
+    printed
+}
+
+/// Prints the rows that a node has, page after page: those that are asked for, from their first on.
+pub(crate) fn print_all<'a>(
+    rt: &HostRuntime,
+    control: &'a str,
+    asked: Ask,
+) -> Result<(), Failure<'a>> {
+    let mut ask = asked;
+    for _ in 0..u64::MAX {
+        let page = page_of(rt, control, ask)?;
+        print_page(rt, &page)?;
+        ask.after = place_behind(&page);
+        if ask.after.is_none() {
+            return Ok(());
+        }
+    }
+    Err(Failure::at(Place::Control(control), Fault::TurnsSpent))
+}

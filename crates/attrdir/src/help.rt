@@ -1,0 +1,178 @@
+//! What `--help` says behind the options.
+
+pub(crate) const EXAMPLE: &str =
+    "A node runs by `serve`; `set`, `del` and `get` talk to one that runs. `sim` plays many nodes in memory, and `log` reads the log
+of a node that does not run. `attrdir COMMAND --help` says more of each.
+
+Example of a node, which is then asked from a second terminal:
+  $ touch a.log
+  $ attrdir serve --name a --cluster c --log a.log --sock a.sock --control a.ctl
+
+  $ attrdir set --control a.ctl web/addr addr 10.0.0.1:80
+  version 1
+  $ attrdir get --control a.ctl
+  a web/addr 1 addr 10.0.0.1:80
+
+Example of a script:
+  $ printf 'world 256 breadth 100 a b\\nput a w weight 5\\ngive a b 0\\nread b a w\\n' | attrdir sim
+  version 1
+  a7010000002203000101610000000000000000000101770000000000000001020000000000000005
+  taken 1
+  a w 1 weight 5";
+
+pub(crate) const SCRIPT: &str = "The first line of a script makes the nodes, each with an empty log:
+  world BUDGET ORDER MAX NAME..   frames of at most BUDGET bytes, ORDER breadth or depth, versions up to MAX
+
+Each other line is a command, and prints its answer:
+  put N K VALUE, del N K          node N writes under the key K, or removes what stands there: `version V`
+  commit N K VALUE, take N        the two halves of a put: the log takes it, the oldest that waits is entered
+  commit N K removed              the first half of a del
+  crash N K VALUE kept|lost       node N goes down, behind the commit or before it
+  restart N                       node N opens anew with what its log has
+  give A B V                      node A sends node B what it wrote above the version V, as far as a frame has room
+  offer N O V                     node N sends what it holds of owner O above the version V: `frame I`
+  connect N C, close C            a connection of the number C begins at node N, and its Hello is sent; it ends
+  ask C                           it sends its next digest
+  line C I, piece C n             frame I is lined up towards it; the next n bytes of its line come
+  read N O K, upto N O            what node N has of owner O under the key K; up to which version it holds O
+  show I                          the frame of the number I, in hexadecimal
+VALUE is addr TEXT, weight NUMBER or flag true|false.
+
+A fault of a line below the first is printed as `fault N`, and the script goes on: 1 no memory, 2 a name, 3 a key, 4 a value that
+is none, 6 a key too many, 8 no version is left, 9 nothing to remove, 15 the node is down or the session over, 21 another writes under
+the node's name, 22 to 25 a Hello that is missing, of another cluster, of the same name or the second. Where a node, a
+connection or a frame is not there, the answer is `nothing`. A fault of the first line is printed too (1, 2, 5 a setting, 24 two
+nodes of one name) and ends the run.
+
+A fault of the run ends it, after what was answered, with `fault N`, its text and what to do about it on standard error: 1 no
+memory, 16 the script cannot be read, 17 the answers cannot be written, 29 the script takes more than 1,000,000 reads.
+
+The exit status is 0 after a whole script, 2 after a line that is none of these, and 3 after a fault that ended the run.
+
+Example:
+  $ printf 'world 256 breadth 100 a b\\nput a w weight 5\\ngive a b 0\\nread b a w\\n' | attrdir sim
+  version 1
+  a7010000002203000101610000000000000000000101770000000000000001020000000000000005
+  taken 1
+  a w 1 weight 5
+
+With --explain each frame that a line sent or shows is said in words behind what the line prints:
+  $ printf 'world 256 breadth 100 a b\\nput a w weight 5\\ngive a b 0\\nread b a w\\n' | attrdir sim --explain
+  version 1
+  a7010000002203000101610000000000000000000101770000000000000001020000000000000005
+  taken 1
+    frame 1: hello, cluster sim, node a
+    frame 2: delta, blocks 1
+      block of a, after 0, upto 1, entries 1
+        a w 1 weight 5
+    frame 3: hello, cluster sim, node b
+  a w 1 weight 5
+
+The same in single events, with the frame in two pieces:
+  $ printf 'world 256 breadth 100 a b\\nput a w weight 5\\nconnect a 1\\noffer a a 0\\nconnect b 2\\nline 2 1\\nline 2 2\\n\
+piece 2 20\\npiece 2 33\\n' | attrdir sim
+  version 1
+  frame 1
+  frame 2
+  frame 3
+  lined
+  lined
+  nothing
+  taken 1";
+
+pub(crate) const LOG: &str =
+    "Each write that still stands is a line of the owner, the key, the version, the kind and the value, in ascending key, or
+`removed -` where the key was removed. The last line is the last version.
+
+The file has to be there; an empty one becomes a new log. A fault ends the run, with `fault N`, its text and what to do about it on
+standard error: 1 no memory, 2 a name, 17 the lines cannot be written, 18 the file is not there, cannot be read or written, or is open elsewhere, 19
+the log is damaged, 20 it belongs to another owner or cluster.
+
+The exit status is 0, 2 after a command line that is wrong, and 3 after a fault.
+
+Example:
+  $ attrdir log --log a.log --name a --cluster c
+  a x 2 removed -
+  a y 3 flag true
+  last 3";
+
+pub(crate) const SERVE: &str =
+    "The log is a file that is there; an empty one becomes a new log. The node makes both sockets, each at a path where no file is, and
+removes them when it ends. On --sock it serves other nodes, and each PEER is the path of the --sock of another node, which it
+asks in its turn, one a round, for what it lacks. On --control it answers `set`, `del` and `get`. Peers and callers are not
+authenticated: whoever may open a socket may use it.
+
+One line on standard error says that the node listens. With --rounds it ends after the last one, prints
+`rounds R faults F events E` on standard output, and says so in one more line on standard error: R rounds were made, F of them and
+of the connections that came had a fault, and E events were entered, its own writes and what it took from peers. Without --rounds
+it runs until it is killed. Then the files of its sockets stay, and have to be removed before it starts again; each write that was
+answered by a version is in the log.
+
+A fault ends the node, with `fault N`, its text and what to do about it on standard error: 1 no memory, 2 the name, 5 a setting, 16 a
+socket cannot be made, as where a file is at its path, 18 the log is not there, cannot be read or written, or is open elsewhere, 19
+the log is damaged, 20 it belongs to another owner or cluster. A fault of a connection ends that connection alone, and is counted.
+
+The exit status is 0 after the last round, 2 after a command line that is wrong, and 3 after a fault.
+
+Examples:
+  $ touch a.log b.log
+  $ attrdir serve --name a --cluster c --log a.log --sock a.sock --control a.ctl b.sock &
+  $ attrdir serve --name b --cluster c --log b.log --sock b.sock --control b.ctl a.sock &
+  $ attrdir set --control a.ctl web/addr addr 10.0.0.1:80
+  version 1
+  $ sleep 2; attrdir get --control b.ctl
+  a web/addr 1 addr 10.0.0.1:80
+
+  $ touch one.log; attrdir serve --name one --cluster c --log one.log --sock one.sock --control one.ctl --rounds 1 --pause 0
+  rounds 1 faults 0 events 0";
+
+pub(crate) const SET: &str =
+    "KIND and VALUE are addr TEXT, weight NUMBER or flag true|false. Where KEY or VALUE begins with -, put -- before KEY. The node answers
+when its log has the write, and this prints `version V`. Other nodes have it once they asked, as is seen by `get` there.
+
+A fault ends the command, with `fault N`, its text and what to do about it on standard error: 1 no memory, 3 the key, 4 the value, 6
+the node has 4,096 keys, removed ones counted, 8 it has no version left, 10 to 14 what answers is no control socket, 15 its log met
+a fault before, 16 no node answers, 17 the request or the answer cannot be written, 18 its log cannot be written, 21 another node
+writes under its name, 28 it ended before it answered, 29 the answer takes more than 65,536 reads.
+
+The exit status is 0, 2 after a command line that is wrong, and 3 after a fault.
+
+Examples:
+  $ attrdir set --control a.ctl web/addr addr 10.0.0.1:80
+  version 1
+  $ attrdir set --control a.ctl web/weight weight 5
+  version 2
+  $ attrdir set --control a.ctl web/up flag true
+  version 3";
+
+pub(crate) const DEL: &str =
+    "The node answers when its log has the removal, which is a write of its own, and this prints `version V`. Where KEY begins with -,
+put -- before it.
+
+A fault ends the command, with `fault N`, its text and what to do about it on standard error: those of `attrdir set`, and 9 where
+nothing stands under the key.
+
+The exit status is 0, 2 after a command line that is wrong, and 3 after a fault.
+
+Example:
+  $ attrdir del --control a.ctl web/up
+  version 4";
+
+pub(crate) const GET: &str =
+    "Each row is a line of the owner, the key, the version, the kind and the value, in ascending owner and then key; removed keys have
+none. What others wrote stands as far as the node has heard of it. The rows come page by page: each page is what the node has
+at one time, and a later page is never older.
+
+A fault ends the command, with `fault N`, its text and what to do about it on standard error: 1 no memory, 2 the owner, 3 the
+prefix, 10 to 14 what answers is no control socket, 15 the node cannot read, 16 no node answers, 17 the request or the rows cannot
+be written, 28 the node ended before it answered, 29 a page takes more than 65,536 reads.
+
+The exit status is 0, also where there is no row, 2 after a command line that is wrong, and 3 after a fault.
+
+Examples:
+  $ attrdir get --control a.ctl
+  a web/addr 1 addr 10.0.0.1:80
+  a web/weight 2 weight 5
+  b web/addr 1 addr 10.0.0.2:80
+  $ attrdir get --control a.ctl --owner a --prefix web/w
+  a web/weight 2 weight 5";

@@ -1,0 +1,14 @@
+-- What a pool leaves of its seats.
+use Rattle.std.specs.Prelude.{◌≡◌, ℕ, ◌<◌, List, length, slice_index_or}
+use Rattle.sb_directory.specs.Seats.{Seat}
+use Rattle.sb_directory.specs.Serving.{IsLater}
+
+-- the seat was told no less and made no fewer events; where the gate is shut it is as it was
+pub record IsKept (shut : Type 0) (old new : Seat) : Type 0 where
+  pub later : IsLater old new
+  pub same : shut → new ≡ old
+
+-- the same seats, each of them so kept
+pub record AreKept (shut : Type 0) (old new : List Seat) : Type 0 where
+  pub as_many : length new ≡ length old
+  pub each : (k : ℕ) (d : Seat) → k < length old → IsKept shut (slice_index_or old k d) (slice_index_or new k d)

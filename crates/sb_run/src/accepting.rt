@@ -1,0 +1,72 @@
+//! The connections that come to a socket of the node.
+
+use crate::ending::Ending;
+use crate::pool::Source;
+use crate::sockets::{Door, limit};
+use sb_types::Fault;
+use std::os::unix::net::UnixStream;
+use std::sync::atomic::{AtomicU64, Ordering};
+use std::time::{Clock, Duration};
+use std::{io, thread};
+
+/// How long an accept that failed waits before the next, in milliseconds: out of descriptors, each fails at once.
+const RESPITE: u64 = 20;
+
+/// The connections that come to a socket, until the node is to end.
+#[derive(Drop)]
+pub(crate) struct Acceptor<'a, R> {
+    rt: &'a R,
+    door: &'a Door<'a>,
+    ending: &'a Ending,
+    idle: u64,
+    accepted: AtomicU64,
+}
+
+/// A connection that was accepted, as a reader and a writer, with a limit on how long it may be idle.
+fn both_ways(accepted: io::Result<UnixStream>, idle: u64) -> io::Result<(UnixStream, UnixStream)> {
+    let stream = accepted?;
+    limit(&stream, idle)?;
+    let other = stream.try_clone()?;
+    Ok((stream, other))
+}
+
+impl<'a, R> Acceptor<'a, R> {
+    /// What accepts at a socket. A connection that is idle for so many milliseconds fails; 0 for no limit.
+    pub(crate) fn new(
+        rt: &'a R,
+        door: &'a Door<'a>,
+        ending: &'a Ending,
+        idle: u64,
+    ) -> Acceptor<'a, R> {
+        Acceptor {
+            rt,
+            door,
+            ending,
+            idle,
+            accepted: AtomicU64::new(0),
+        }
+    }
+}
+
+impl<R: Clock> Source for Acceptor<'_, R> {
+    type In = UnixStream;
+
+    type Out = UnixStream;
+
+    fn next(&self) -> Option<Result<(u64, UnixStream, UnixStream), Fault>> {
+        let accepted = self.door.accept();
+        if self.ending.has_come() {
+            return None;
+        }
+        match both_ways(accepted, self.idle) {
+            Ok((input, output)) => {
+                let before = self.accepted.fetch_add(1, Ordering::SeqCst);
+                Some(Ok((before.wrapping_add(1), input, output)))
+            }
+            Err(_) => {
+                thread::sleep(self.rt, Duration::from_millis(RESPITE));
+                Some(Err(Fault::ReadFailed))
+            }
+        }
+    }
+}

@@ -1,0 +1,138 @@
+//! Gates: what a session of a pool passes before it applies a delta and after it answers a digest.
+ghost use Rattle.std.specs.Prelude.{◌≡◌, ◌⊎◌, MatchBool};
+
+use sb_digest::Digest;
+use sb_holdings::Report;
+use sb_session::Handler;
+use sb_types::{Delta, Fault, Name};
+
+/// Where a session stands.
+#[derive(Clone, Copy, Debug, PartialEq, Eq)]
+pub enum Step {
+    /// It is about to apply a delta.
+    BeforeApply,
+    /// It has made the answer to a digest.
+    AfterAnswer,
+}
+
+/// Which steps sessions may take. It is asked outside of any lock, and may take its time.
+pub trait Gate {
+    ghost use Rattle.std.specs.Prelude.{ℕ};
+    ghost use Rattle.sb_run.specs.declared.gate.Step.{Step};
+
+    /// What is known where it lets the session of this number take the step: nothing need be.
+    ghost lets: { Self → ℕ → Step → Type 0 };
+
+    /// Whether the session may go on. Where it may not, it ends with `TurnsSpent`.
+    fn pass(&self, session: u64, step: Step) -> bool
+        ensures { MatchBool result (lets self.now session step) (Unit {0}) };
+}
+
+/// A gate that every session passes.
+#[derive(Clone, Copy, Debug)]
+pub struct Open;
+
+impl Gate for Open {
+    ghost lets = { λ gate session step. Unit {0} };
+
+    fn pass(&self, _session: u64, _step: Step) -> bool {
+        true
+    }
+}
+
+/// A handler behind a gate, for the session of this number.
+#[derive(Drop)]
+pub(crate) struct Gated<'a, H, G> {
+    inner: H,
+    gate: &'a G,
+    session: u64,
+}
+
+impl<'a, H: Handler, G: Gate> Gated<'a, H, G> {
+    pub(crate) fn new(inner: H, gate: &'a G, session: u64) -> Gated<'a, H, G>
+        ensures inner { result.inner ≡ inner }
+        ensures gate { result.gate.now ≡ gate.now }
+        ensures session { result.session ≡ session }
+    {
+        Gated {
+            inner,
+            gate,
+            session,
+        }
+    }
+
+    pub(crate) fn into_inner(self) -> H
+        ensures { result ≡ self.entry.inner }
+    {
+        let Gated {
+            inner,
+            gate: _,
+            session: _,
+        } = self;
+        inner
+    }
+}
+
+impl<H: Handler, G: Gate> Handler for Gated<'_, H, G> {
+    ghost use Rattle.std.proofs.Common.{◌≡◌, refl, ◌∙◌, ⊎_elim, subst, sym};
+    ghost use Rattle.sb_run.specs.declared.gate.Step.TheVariants.{BeforeApply};
+    ghost use Rattle.sb_run.specs.Gates.{GatedStep, IsShut, let-enters};
+
+    ghost step = { λ old act new. (new.gate.now ≡ old.gate.now) × (new.session ≡ old.session)
+        × GatedStep (G.lets old.gate.now old.session) H.step H.stays H.grows old.inner act new.inner };
+
+    ghost stays = { λ old new. (new.gate.now ≡ old.gate.now) × (new.session ≡ old.session) × H.stays old.inner new.inner };
+
+    // A gate that lets no delta through has entered nothing.
+    ghost grows = { λ old new. (new.gate.now ≡ old.gate.now) × (new.session ≡ old.session) × H.grows old.inner new.inner
+        × (IsShut (G.lets old.gate.now old.session) → H.stays old.inner new.inner) };
+
+    fn digest(&mut self, from: Option<Name>, want: bool) -> Result<Digest, Fault> {
+        self.inner.digest(from, want)
+    }
+
+    fn deltas(&mut self, told: &Digest) -> Result<Delta, Fault> {
+        let delta = self.inner.deltas(told)?;
+        if !self.gate.pass(self.session, Step::AfterAnswer) {
+            return Err(Fault::TurnsSpent);
+        }
+        Ok(delta)
+    }
+
+    fn apply(&mut self, delta: &Delta) -> Result<Report, Fault> {
+        if !self.gate.pass(self.session, Step::BeforeApply) {
+            return Err(Fault::TurnsSpent);
+        }
+        self.inner.apply(delta)
+    }
+
+    ghost enters_nothing = { λ old new act none step. (
+      step.0,
+      step.1,
+      ⊎_elim (λ own. H.enters_nothing old.inner new.inner act none own.1) (λ turned. turned.1.0) step.2,
+    ) };
+
+    ghost stays_still = { λ state. (refl, refl, H.stays_still state.inner) };
+
+    ghost stays_on = { λ old mid new first then. (then.0 ∙ first.0, then.1 ∙ first.1, H.stays_on old.inner mid.inner new.inner first.2 then.2) };
+
+    ghost step_grows = { λ old new act step. (
+      step.0,
+      step.1,
+      ⊎_elim (λ own. H.step_grows old.inner new.inner act own.1) (λ turned. turned.1.1) step.2,
+      ⊎_elim
+          (λ own shut. H.enters_nothing old.inner new.inner act (let-enters (G.lets old.gate.now old.session) act own.0 shut) own.1)
+          (λ turned shut. turned.1.0) step.2,
+    ) };
+
+    ghost grows_still = { λ state. (refl, refl, H.grows_still state.inner, λ shut. H.stays_still state.inner) };
+
+    ghost grows_on = { λ old mid new first then. (
+      then.0 ∙ first.0,
+      then.1 ∙ first.1,
+      H.grows_on old.inner mid.inner new.inner first.2 then.2,
+      λ shut. H.stays_on old.inner mid.inner new.inner (first.3 shut)
+          (then.3 (subst (λ session. IsShut (G.lets mid.gate.now session)) (sym first.1)
+          (subst (λ gate. IsShut (G.lets gate old.session)) (sym first.0) shut))),
+    ) };
+}

@@ -1,0 +1,233 @@
+//! Workers that serve the connections of a source, each from a seat of its own.
+ghost use Rattle.std.specs.Prelude.{◌≡◌, ◌<◌, IfOk, IsOk};
+ghost use Rattle.std.specs.Thread.{IsSend};
+ghost use Rattle.sb_run.specs.Gates.{IsShut, AreShut};
+ghost use Rattle.sb_run.specs.Pools.{IsKept, AreKept};
+
+use crate::gate::{Gate, Gated};
+use core::mem::replace_with;
+use sb_directory::{Configured, Directory, ReaderSeat, Served};
+use sb_frames::Steps;
+use sb_session::{Session, serve};
+use sb_types::Fault;
+use std::alloc::Global;
+use std::io::{Read, Write};
+use std::marker::Brand;
+use std::sync::Wait;
+use std::sync::atomic::{AtomicU64, Ordering};
+use std::sync::ledger::{Blank, Ledger};
+use std::thread;
+use std::thread::Threads;
+
+/// Where workers get their connections.
+pub trait Source {
+    type In: Read + Drop + Send;
+
+    type Out: Write + Drop + Send;
+
+    /// The next connection, with the number of its session, from 1. `None` where there are no more; a fault where one
+    /// could not be had, after which the next may be asked for.
+    fn next(&self) -> Option<Result<(u64, Self::In, Self::Out), Fault>>;
+}
+
+/// What the workers of a pool did.
+#[derive(Drop)]
+pub struct Pooled<S: Configured> {
+    /// How many connections were taken.
+    pub sessions: u64,
+    /// How many of them ended with a fault, and how many could not be had.
+    pub faults: u64,
+    /// The seats that were given, in their order.
+    pub seats: Vec<ReaderSeat<S>>,
+}
+
+/// What workers count.
+#[derive(Drop)]
+struct Tally {
+    sessions: AtomicU64,
+    faults: AtomicU64,
+}
+
+/// Serves one connection from a seat, and says whether it ended with a fault.
+fn meet<S: Configured, H: Wait + Drop, Q: Wait, I: Read, O: Write, G: Gate, K: Ledger>(
+    rt: &Q,
+    alloc: Global,
+    directory: &Directory<S, H>,
+    session: Session,
+    gate: &G,
+    max_reads: u64,
+    number: u64,
+    input: &mut I,
+    output: &mut O,
+    seat: ReaderSeat<S>,
+    blank: Blank,
+) -> (ReaderSeat<S>, bool)
+    requires name { blank.name ≡ K.name }
+    requires parts { blank.parts ≡ K.parts }
+    requires some { 0 < blank.parts }
+    ensures { IsKept (IsShut (G.lets gate.now number)) seat result.0 }
+{
+    let mut steps = Steps::<K>::new(blank);
+    let mut handler = Gated::new(Served::new(rt, directory, seat), gate, number);
+    let (ended, _) = serve(
+        alloc,
+        input,
+        output,
+        session,
+        &mut handler,
+        max_reads,
+        &mut steps,
+    );
+    (handler.into_inner().into_seat(), ended.is_err())
+}
+
+/// Serves connections from a seat until the source has no more.
+#[tactic(auto, using(crate::proofs::Pooling::kept_same, crate::proofs::Pooling::kept_on))]
+fn tend<S: Configured, H: Wait + Drop, Q: Wait, X: Source, G: Gate>(
+    rt: &Q,
+    alloc: Global,
+    directory: &Directory<S, H>,
+    session: Session,
+    source: &X,
+    gate: &G,
+    max_reads: u64,
+    tally: &Tally,
+    seat: ReaderSeat<S>,
+) -> (ReaderSeat<S>, ())
+    ensures { IsKept (AreShut (G.lets gate.now)) seat result.0 }
+{
+    let mut sitting = seat;
+    for _ in rt.forever() {
+        match source.next() {
+            None => return (sitting, ()),
+            Some(Err(_)) => {
+                tally.faults.fetch_add(1, Ordering::SeqCst);
+            }
+            Some(Ok((number, mut input, mut output))) => {
+                tally.sessions.fetch_add(1, Ordering::SeqCst);
+                let (seat, failed) = meet::<S, H, Q, X::In, X::Out, G, Brand>(
+                    rt,
+                    alloc,
+                    directory,
+                    session,
+                    gate,
+                    max_reads,
+                    number,
+                    &mut input,
+                    &mut output,
+                    sitting,
+                    Blank::new(1),
+                );
+                sitting = seat;
+                if failed {
+                    tally.faults.fetch_add(1, Ordering::SeqCst);
+                }
+            }
+        }
+    }
+    unreachable!()
+}
+
+/// The same from a seat that stays in its place.
+fn tend_in_place<S: Configured, H: Wait + Drop, Q: Wait, X: Source, G: Gate>(
+    rt: &Q,
+    alloc: Global,
+    directory: &Directory<S, H>,
+    session: Session,
+    source: &X,
+    gate: &G,
+    max_reads: u64,
+    tally: &Tally,
+    seat: &mut ReaderSeat<S>,
+)
+    ensures { IsKept (AreShut (G.lets gate.now)) seat.old seat.new }
+{
+    replace_with(
+        seat,
+        (),
+        |seat, _| -> (ReaderSeat<S>, ())
+            requires { IsSend X.In.row × IsSend X.Out.row }
+            ensures { IsKept (AreShut (G.lets gate.entry.now)) seat result.0 }
+        {
+            tend(
+                rt, alloc, directory, session, source, gate, max_reads, tally, seat,
+            )
+        },
+    );
+}
+
+/// Serves the connections of a source until it has no more, with a worker for each seat, each in a thread of its own. The
+/// caller is one of them, and runs those whose thread can't be made. A session that the gate turns away ends with
+/// `TurnsSpent`; each makes at most `max_reads` reads. The seats come back in their order; where
+/// the gate lets no session apply a delta, each as it was. It never refuses.
+pub fn serve_pool<
+    S: Configured + Send + Sync,
+    H: Wait + Drop + Send + Sync,
+    Q: Threads + Wait + Sync,
+    X: Source + Sync,
+    G: Gate + Sync,
+>(
+    rt: &Q,
+    alloc: Global,
+    directory: &Directory<S, H>,
+    session: Session,
+    seats: Vec<ReaderSeat<S>>,
+    source: &X,
+    gate: &G,
+    max_reads: u64,
+) -> Result<Pooled<S>, (Fault, Vec<ReaderSeat<S>>)>
+    ensures ok { IsOk result }
+    ensures kept { IfOk result (λ pooled. AreKept (AreShut (G.lets gate.now)) seats.items pooled.seats.items) }
+{
+    let tally = Tally {
+        sessions: AtomicU64::new(0),
+        faults: AtomicU64::new(0),
+    };
+    let mut seats = seats;
+    tend_all(
+        rt, alloc, directory, session, source, gate, max_reads, &tally, &mut seats,
+    );
+    Ok(Pooled {
+        sessions: tally.sessions.load(Ordering::SeqCst),
+        faults: tally.faults.load(Ordering::SeqCst),
+        seats,
+    })
+}
+
+fn tend_all<
+    S: Configured + Send + Sync,
+    H: Wait + Drop + Send + Sync,
+    Q: Threads + Wait + Sync,
+    X: Source + Sync,
+    G: Gate + Sync,
+>(
+    rt: &Q,
+    alloc: Global,
+    directory: &Directory<S, H>,
+    session: Session,
+    source: &X,
+    gate: &G,
+    max_reads: u64,
+    tally: &Tally,
+    seats: &mut [ReaderSeat<S>],
+)
+    ensures { AreKept (AreShut (G.lets gate.now)) seats.old seats.new }
+{
+    if seats.is_empty() {
+        return;
+    }
+    let workers = seats.len();
+    thread::for_each_mut(
+        rt,
+        seats,
+        workers,
+        &|_, seat| -> ()
+            requires { IsSend X.In.row × IsSend X.Out.row }
+            ensures { IsKept (AreShut (G.lets gate.entry.now)) seat.entry.now seat.exit.now }
+        {
+            tend_in_place(
+                rt, alloc, directory, session, source, gate, max_reads, tally, seat,
+            )
+        },
+    );
+}

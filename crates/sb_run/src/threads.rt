@@ -1,0 +1,156 @@
+//! The threads of a running node.
+ghost use Rattle.std.specs.Prelude.{◌≡◌, vec_len, IfOk, IfErr};
+ghost use Rattle.std.specs.Thread.{IsSend, IsSync};
+
+use crate::accepting::Acceptor;
+use crate::attending::attend;
+use crate::dialing::dial_peers;
+use crate::gate::Open;
+use crate::owner::Owner;
+use crate::pool::{Pooled, serve_pool};
+use crate::rounds::{Hearer, Paced, Rounds, Teller};
+use crate::seats::Crew;
+use crate::shared::Shared;
+use sb_directory::{Configured, ReaderSeat};
+use sb_log::WriteLog;
+use sb_types::Fault;
+use std::net::{Net, TcpListener, TcpStream};
+use std::sync::Wait;
+use std::thread;
+use std::thread::{Promise, Threads};
+use std::time::Clock;
+
+/// What the threads of a node left.
+#[derive(Drop)]
+pub(crate) struct Finished<S: Paced> {
+    pub(crate) crew: Crew<S>,
+    pub(crate) rounds: Rounds<S>,
+    /// How many connections and rounds had a fault.
+    pub(crate) faults: u64,
+}
+
+/// That a pool gives so many seats back.
+#[derive(Clone, Copy)]
+struct AsMany(usize);
+
+impl<S: Configured> Promise<Pooled<S>> for AsMany {
+    ghost use Rattle.std.specs.Prelude.{◌≡◌, vec_len};
+
+    ghost kept_by = { λ p r. vec_len r.seats ≡ p.0 };
+}
+
+/// Serves peers on the socket of the node until it is to end, with a worker for each seat.
+fn tend_sock<
+    S: Paced + Send + Sync,
+    H: Wait + Drop + Send + Sync,
+    Q: Threads + Wait + Clock + Sync,
+>(node: &Shared<S, H, Q>, seats: Vec<ReaderSeat<S>>) -> Pooled<S>
+    ensures { vec_len result.seats ≡ vec_len seats }
+{
+    let door = &node.doors.sock;
+    let source = Acceptor::new(node.rt, door, node.ending, node.pace.idle);
+    let pooled = serve_pool(
+        node.rt,
+        node.alloc,
+        node.directory,
+        node.session,
+        seats,
+        &source,
+        &Open,
+        node.pace.max_reads,
+    );
+    match pooled {
+        Ok(pooled) => pooled,
+        Err(_) => unreachable!(),
+    }
+}
+
+/// Makes all rounds, tells of them, and ends the node.
+fn dial_to_the_end<S: Paced, H: Wait + Drop, Q: Wait + Net + Clock>(
+    node: &Shared<S, H, Q>,
+    seat: ReaderSeat<S>,
+    teller: Teller<S>,
+) -> ReaderSeat<S> {
+    let (seat, rounds) = dial_peers(node, seat);
+    teller.tell(node.rt, rounds);
+    node.end();
+    seat
+}
+
+/// Runs the threads of a node to their end: its workers, the one that dials, and the calling one at the control socket.
+/// `NoMemory` where a thread can't be made.
+pub(crate) fn run_threads<
+    S: Paced + Send + Sync,
+    L: WriteLog + Drop,
+    H: Wait + Drop + Send + Sync,
+    Q: Threads + Wait + Clock + Net<Listener = TcpListener, Stream = TcpStream> + Send + Sync,
+>(
+    node: &Shared<S, H, Q>,
+    owner: Owner<L>,
+    crew: Crew<S>,
+    teller: Teller<S>,
+    hearer: Hearer<S>,
+) -> Result<Finished<S>, Fault>
+    ensures crew { IfOk result (λ finished. vec_len finished.crew.workers ≡ vec_len crew.workers) }
+    ensures memory { IfErr result (λ fault. fault ≡ Fault.NoMemory) }
+{
+    let Crew {
+        workers,
+        dialing,
+        control,
+    } = crew;
+    let count = workers.len();
+    thread::scope(
+        thread::scope_env(),
+        node.rt,
+        move |scope| -> Result<Finished<S>, Fault>
+            requires { IsSend S.row × IsSync S.row × IsSend H.row × IsSync H.row × IsSend Q.row × IsSync Q.row × (vec_len workers ≡ count) }
+            ensures crew { IfOk result (λ finished. vec_len finished.crew.workers ≡ count) }
+            ensures memory { IfErr result (λ fault. fault ≡ Fault.NoMemory) }
+        {
+            let Ok(pool) = scope.spawn_with(AsMany(count), move || tend_sock(node, workers)) else {
+                return Err(Fault::NoMemory);
+            };
+            let Ok(line) = scope.spawn(move || dial_to_the_end(node, dialing, teller)) else {
+                node.end();
+                pool.join(node.rt);
+                return Err(Fault::NoMemory);
+            };
+            let (control, faults) = attend(node, owner, control);
+            let rounds = hearer.hear(node.rt);
+            let dialing = line.join(node.rt);
+            let pooled = pool.join(node.rt);
+            Ok(finish(pooled, dialing, control, rounds?, faults))
+        },
+    )
+}
+
+/// What is left, put together.
+fn finish<S: Paced>(
+    pooled: Pooled<S>,
+    dialing: ReaderSeat<S>,
+    control: ReaderSeat<S>,
+    rounds: Rounds<S>,
+    faults: u64,
+) -> Finished<S>
+    ensures { result.crew.workers ≡ pooled.seats }
+{
+    let Pooled {
+        sessions: _,
+        faults: of_workers,
+        seats: workers,
+    } = pooled;
+    let faults = faults
+        .saturating_add(of_workers)
+        .saturating_add(rounds.faults);
+    let crew = Crew {
+        workers,
+        dialing,
+        control,
+    };
+    Finished {
+        crew,
+        rounds,
+        faults,
+    }
+}

@@ -1,0 +1,11 @@
+use Rattle.sb_run_tests.proofs.owing.an_owed_write_enters_before_the_next.Given as goal
+
+abbrev pub ghosts-put_each-S-Ledger : goal.ghosts-put_each-S-Ledger
+ghosts-put_each-S-Ledger g a = record { name = a.blank.name; parts = a.blank.parts }
+
+-- the story that was just opened, of this node, with one seat
+abbrev pub ghosts-put_each-S-Site : goal.ghosts-put_each-S-Site
+ghosts-put_each-S-Site g a = record { opening = a.core.node; story = a.opened.seen.book; seats = 1 }
+
+abbrev pub ghosts-put_each-S-Configured : goal.ghosts-put_each-S-Configured
+ghosts-put_each-S-Configured g a = record { settings = a.core.settings }

@@ -1,0 +1,11 @@
+use Rattle.sb_run_tests.proofs.owing.an_owed_write_is_answered_by_its_version.Given as goal
+
+abbrev pub ghosts-request_each-S-Ledger : goal.ghosts-request_each-S-Ledger
+ghosts-request_each-S-Ledger g a = record { name = a.blank.name; parts = a.blank.parts }
+
+-- the story that was just opened, of this node, with one seat
+abbrev pub ghosts-request_each-S-Site : goal.ghosts-request_each-S-Site
+ghosts-request_each-S-Site g a = record { opening = a.core.node; story = a.opened.seen.book; seats = 1 }
+
+abbrev pub ghosts-request_each-S-Configured : goal.ghosts-request_each-S-Configured
+ghosts-request_each-S-Configured g a = record { settings = a.core.settings }

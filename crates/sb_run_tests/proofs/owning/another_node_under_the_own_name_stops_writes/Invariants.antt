@@ -1,0 +1,11 @@
+use Rattle.sb_run_tests.proofs.owning.another_node_under_the_own_name_stops_writes.Given as goal
+
+abbrev pub ghosts-meet_another-S-Ledger : goal.ghosts-meet_another-S-Ledger
+ghosts-meet_another-S-Ledger g a = record { name = a.blank.name; parts = a.blank.parts }
+
+-- the story that was just opened, of this node, with one seat
+abbrev pub ghosts-meet_another-S-Site : goal.ghosts-meet_another-S-Site
+ghosts-meet_another-S-Site g a = record { opening = a.core.node; story = a.opened.seen.book; seats = 1 }
+
+abbrev pub ghosts-meet_another-S-Configured : goal.ghosts-meet_another-S-Configured
+ghosts-meet_another-S-Configured g a = record { settings = a.core.settings }

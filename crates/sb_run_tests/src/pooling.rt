@@ -1,0 +1,154 @@
+//! Workers of a pool, whose sessions wait for each other at a gate.
+ghost use Rattle.std.specs.Prelude.{◌≡◌};
+
+use sb_directory::{Configured, Directory};
+use sb_node::NodeCore;
+use sb_run::{Gate, Source, Step, serve_pool};
+use sb_session::Session;
+use sb_table::Table;
+use sb_types::{Fault, Name, Order, RawSettings, Settings};
+use sb_views::Opened;
+use std::alloc::Global;
+use std::marker::Brand;
+use std::sync::Wait;
+use std::sync::atomic::{AtomicBool, AtomicUsize, Ordering};
+use std::sync::ledger::Blank;
+use std::test::Fail;
+use std::thread::{Threads, sleep};
+use std::time::{Clock, Duration};
+
+/// Hello of a node b of the cluster c1, the delta of the flag true that it wrote under w as its version 1, and its Bye.
+const TELLING: &[u8] = b"\xa7\x01\x00\x00\x00\x06\x01\x02c1\x01b\
+    \xa7\x01\x00\x00\x00\x1b\x03\x00\x01\x01b\x00\x00\x00\x00\x00\x00\x00\x00\
+    \x00\x01\x01w\x00\x00\x00\x00\x00\x00\x00\x01\x03\x01\
+    \xa7\x01\x00\x00\x00\x02\x04\x01";
+
+/// Hello of a node c, its digest, which holds only itself with nothing written, and its Bye.
+const ASKING: &[u8] = b"\xa7\x01\x00\x00\x00\x06\x01\x02c1\x01c\
+    \xa7\x01\x00\x00\x00\x10\x02\x01\x00\x00\x00\x01\x01c\x00\x00\x00\x00\x00\x00\x00\x00\
+    \xa7\x01\x00\x00\x00\x02\x04\x01";
+
+/// The peers of the sessions 1 and 2.
+#[derive(Drop)]
+struct Peers {
+    alloc: Global,
+    taken: AtomicUsize,
+}
+
+impl Source for Peers {
+    type In = &'static [u8];
+
+    type Out = Vec<u8>;
+
+    fn next(&self) -> Option<Result<(u64, &'static [u8], Vec<u8>), Fault>> {
+        let writer = Vec::new(self.alloc);
+        match self.taken.fetch_add(1, Ordering::SeqCst) {
+            0 => Some(Ok((1, TELLING, writer))),
+            1 => Some(Ok((2, ASKING, writer))),
+            _ => None,
+        }
+    }
+}
+
+/// A gate that holds session 1 before it applies a delta, until session 2 has answered a digest, for at most so many
+/// turns of a millisecond.
+#[derive(Drop)]
+struct Holding<'a, R> {
+    rt: &'a R,
+    has_answered: AtomicBool,
+    turns: u64,
+}
+
+impl<R: Clock> Gate for Holding<'_, R> {
+    ghost lets = { λ gate session step. Unit {0} };
+
+    fn pass(&self, session: u64, step: Step) -> bool {
+        match (session, step) {
+            (1, Step::BeforeApply) => {
+                for _ in 0..self.turns {
+                    if self.has_answered.load(Ordering::SeqCst) {
+                        return true;
+                    }
+                    sleep(self.rt, Duration::from_millis(1));
+                }
+                false
+            }
+            (2, Step::AfterAnswer) => {
+                self.has_answered.store(true, Ordering::SeqCst);
+                true
+            }
+            _ => true,
+        }
+    }
+}
+
+/// How many sessions there were, how many faults, and how many events.
+type Met = (u64, u64, u64);
+
+fn pool_of<S: Configured + Send + Sync, R: Threads + Wait + Clock + Send + Sync>(
+    rt: &R,
+    alloc: Global,
+    opened: Opened,
+    blank: Blank,
+    core: NodeCore,
+    workers: usize,
+    turns: u64,
+) -> Result<Met, Fault>
+    requires story { opened.seen.book ≡ S.story }
+    requires opening { S.opening ≡ core.node }
+    requires settings { S.settings ≡ core.settings }
+    requires name { blank.name ≡ S.name }
+    requires parts { blank.parts ≡ S.parts }
+    requires all { (workers ≡ S.seats) × (workers ≡ S.parts) }
+{
+    let (directory, seats) = Directory::<S, &R>::make(rt, alloc, opened, blank, core, workers)?;
+    let session = Session::new(Name::read(b"c1")?, Name::read(b"a")?);
+    let peers = Peers {
+        alloc,
+        taken: AtomicUsize::new(0),
+    };
+    let gate = Holding {
+        rt,
+        has_answered: AtomicBool::new(false),
+        turns,
+    };
+    let pooled = match serve_pool(rt, alloc, &directory, session, seats, &peers, &gate, 99) {
+        Ok(pooled) => pooled,
+        Err((fault, _)) => return Err(fault),
+    };
+    match directory.close(rt, pooled.seats) {
+        Ok(closing) => Ok((pooled.sessions, pooled.faults, closing.events)),
+        Err((fault, _, _)) => Err(fault),
+    }
+}
+
+/// What so many workers met, from a new directory of a node a.
+fn pool_new<R: Threads + Wait + Clock + Send + Sync>(
+    rt: &R,
+    alloc: Global,
+    workers: u8,
+    turns: u64,
+) -> Result<Met, Fault> {
+    let settings = Settings::check(RawSettings {
+        cluster: b"c1",
+        budget: 256,
+        order: Order::Breadth,
+        max_version: 100,
+        seats: 2,
+        workers: 1,
+    })?;
+    let core = NodeCore::open(alloc, settings, Name::read(b"a")?, Table::new(alloc))?;
+    let blank = Blank::new(u64::from(workers));
+    let workers = usize::from(workers);
+    pool_of::<Brand, _>(rt, alloc, Opened::new(), blank, core, workers, turns)
+}
+
+#[test]
+fn a_session_waits_for_another(rt: HostRuntime) -> Result<(), Fail> {
+    let two = pool_new(&rt, rt.alloc(), 2, 5_000)?;
+    assert_eq!(rt; two, (2, 0, 1));
+    // The only worker would wait for itself: the gate turns session 1 away before its delta is entered.
+    let one = pool_new(&rt, rt.alloc(), 1, 20)?;
+    assert_eq!(rt; one, (2, 1, 0));
+    Ok(())
+}

@@ -1,4 +1,0 @@
-use Rattle.sb_session.proofs.talk_tests.talk_telling.Given as goal
-
-abbrev pub ghosts-talk_on : goal.ghosts-talk_on
-ghosts-talk_on a = record { name = a.blank.name; parts = a.blank.parts }

@@ -1,0 +1,69 @@
+//! Frames by hand, and a reader that gives them in pieces.
+use std::alloc::{AllocError, Global};
+use std::io::{self, ErrorKind, Read};
+
+/// Hello of the nodes a and b of the cluster c1.
+pub(crate) const HELLO_A: &[u8] = b"\xa7\x01\x00\x00\x00\x06\x01\x02c1\x01a";
+
+pub(crate) const HELLO_B: &[u8] = b"\xa7\x01\x00\x00\x00\x06\x01\x02c1\x01b";
+
+/// The digest of a node a that holds only itself with nothing written; an answer is wanted.
+pub(crate) const DIGEST_A: &[u8] = b"\xa7\x01\x00\x00\x00\x10\x02\x01\x00\x00\
+    \x00\x01\x01a\x00\x00\x00\x00\x00\x00\x00\x00";
+
+/// The delta of the flag true that b wrote under w as its version 1.
+pub(crate) const DELTA_B: &[u8] =
+    b"\xa7\x01\x00\x00\x00\x1b\x03\x00\x01\x01b\x00\x00\x00\x00\x00\x00\x00\x00\
+    \x00\x01\x01w\x00\x00\x00\x00\x00\x00\x00\x01\x03\x01";
+
+/// The digest of b, which holds itself up to 1; none is wanted in answer.
+pub(crate) const DIGEST_B: &[u8] = b"\xa7\x01\x00\x00\x00\x10\x02\x00\x00\x00\
+    \x00\x01\x01b\x00\x00\x00\x00\x00\x00\x00\x01";
+
+/// A delta of no block.
+pub(crate) const DELTA_NONE: &[u8] = b"\xa7\x01\x00\x00\x00\x03\x03\x00\x00";
+
+/// Bye, since the rounds are done.
+pub(crate) const BYE: &[u8] = b"\xa7\x01\x00\x00\x00\x02\x04\x01";
+
+/// Gives so many bytes a read, and fails at the end or not. Every other read is interrupted where any is.
+#[derive(Drop)]
+pub(crate) struct Pieces<'a> {
+    pub(crate) bytes: &'a [u8],
+    pub(crate) piece: usize,
+    pub(crate) breaks: bool,
+    pub(crate) is_interrupted: bool,
+    pub(crate) interrupts: bool,
+}
+
+impl Read for Pieces<'_> {
+    fn read(&mut self, buf: &mut [u8]) -> io::Result<usize> {
+        self.is_interrupted = self.interrupts && !self.is_interrupted;
+        if self.is_interrupted {
+            return Err(ErrorKind::Interrupted.into());
+        }
+        if self.bytes.is_empty() && self.breaks {
+            return Err(ErrorKind::ConnectionReset.into());
+        }
+        let count = self.piece.min(buf.len()).min(self.bytes.len());
+        let (front, rest) = self.bytes.split_at(count);
+        buf[..count].copy_from_slice(front);
+        self.bytes = rest;
+        Ok(count)
+    }
+}
+
+/// A frame of 65,536 bytes: a delta of 1,310 entries of 50 bytes and one of 15, behind 15 of its payload.
+pub(crate) fn greatest_frame(alloc: Global) -> Result<Vec<u8>, AllocError> {
+    let mut frame = Vec::new(alloc);
+    frame.extend_from_slice(b"\xa7\x01\x00\x00\xff\xfa\x03\x00\x01\x01a")?;
+    frame.extend_from_slice(b"\x00\x00\x00\x00\x00\x00\x00\x00\x05\x1f")?;
+    for version in 1..=1_310u64 {
+        frame.push(b'\x20')?;
+        frame.extend_from_slice(format!(in alloc; "{version:032}")?.as_bytes())?;
+        frame.extend_from_slice(&version.to_be_bytes())?;
+        frame.extend_from_slice(b"\x02\x00\x00\x00\x00\x00\x00\x00\x05")?;
+    }
+    frame.extend_from_slice(b"\x05zzzzz\x00\x00\x00\x00\x00\x00\x05\x1f\x00")?;
+    Ok(frame)
+}

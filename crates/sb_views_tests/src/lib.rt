@@ -1,0 +1,16 @@
+//! The tests of views, pages, watches and lines. They stand in a crate of their own, since a crate with tests is proved twice: with
+//! them and without.
+#![tactic(auto)]
+
+#[cfg(test)]
+mod lines;
+#[cfg(test)]
+mod making;
+#[cfg(test)]
+mod pages;
+#[cfg(test)]
+mod reading;
+#[cfg(test)]
+mod views;
+#[cfg(test)]
+mod watches;

@@ -1,0 +1,45 @@
+//! A reader of a node whose views were just made, and what it is to find.
+ghost use Rattle.std.specs.Prelude.{◌≡◌};
+
+use crate::pages::{pages_follow, rows_are_told};
+use crate::views::live_is_shown;
+use sb_holdings::Holdings;
+use sb_views::{Opened, Site, views};
+use std::alloc::Global;
+use std::process::Abort;
+use std::sync::Wait;
+use std::test::Fail;
+
+/// What a reader looks at.
+#[derive(Clone, Copy)]
+pub(crate) enum Look {
+    /// What stands under keys, and rows in order.
+    Live,
+    /// Pages at exact budgets and behind places.
+    Pages,
+    /// Pages that follow one another.
+    Following,
+}
+
+/// Makes the views of what is held, and has a reader look at them.
+pub(crate) fn read<S: Site, R: Wait + Abort>(
+    rt: &R,
+    alloc: Global,
+    opened: Opened,
+    holdings: &Holdings,
+    look: Look,
+) -> Result<(), Fail>
+    requires story { opened.seen.book ≡ S.story }
+    requires opening { S.opening.held ≡ holdings.now }
+{
+    let (_story, start) = opened.named::<S>();
+    let (_writer, mut readers) = views::<S, &R>(alloc, rt, start, holdings, 1)?;
+    let reader = readers.pop().ok_or("a reader")?;
+    let entered = reader.enter().ok().ok_or("it enters")?;
+    let snapshot = entered.snapshot();
+    match look {
+        Look::Live => live_is_shown(rt, &snapshot),
+        Look::Pages => rows_are_told(rt, alloc, &snapshot),
+        Look::Following => pages_follow(rt, alloc, &snapshot),
+    }
+}

@@ -1,0 +1,453 @@
+//! What lines of scripts print: each transcript is a script, and below each line what it prints, behind a sign.
+use sb_script::Detail;
+
+/// What a run is about, whether words are asked for, and its lines. Of the words of a line P stands for 128 letters, Q for 127 of
+/// them, FRAME for the frame of a delta of one weight, and EMPTY for that of an empty delta.
+pub(crate) type Transcript = (&'static str, Detail, &'static str);
+
+pub(crate) const TRANSCRIPTS: [Transcript; 13] = [
+    (
+        "a write is committed, taken and offered",
+        Detail::Plain,
+        "world 256 breadth 2 a b
+commit a w weight 5
+> committed 1
+take a
+> took 1
+offer a a 0
+> frame 1
+read a a w
+> a w 1 weight 5
+show 1
+> FRAME
+show 2
+> nothing
+",
+    ),
+    (
+        "a write goes from node to node",
+        Detail::Plain,
+        "world 256 breadth 100 a b
+put a w weight 5
+> version 1
+connect a 1
+> frame 1
+offer a a 0
+> frame 2
+show 2
+> FRAME
+connect b 2
+> frame 3
+line 2 1
+> lined
+line 2 2
+> lined
+piece 2 53
+> taken 1
+read b a w
+> a w 1 weight 5
+give a b 1
+> EMPTY
+> nothing
+give a b 0
+> FRAME
+> stale
+show 10
+> nothing
+",
+    ),
+    (
+        "a value that is overwritten waits for the write in its place",
+        Detail::Plain,
+        "world 256 breadth 100 a b
+put a x addr P
+> version 1
+put a y addr P
+> version 2
+put a x addr P
+> version 3
+connect a 1
+> frame 1
+offer a a 0
+> frame 2
+connect b 2
+> frame 3
+line 2 1
+> lined
+line 2 2
+> lined
+piece 2 173
+> nothing
+piece 2 1
+> taken 1
+upto b a
+> 2
+read b a y
+> a y 2 addr P
+read b a x
+> none
+read a a x
+> a x 3 addr P
+",
+    ),
+    (
+        "a removal is a write",
+        Detail::Plain,
+        "world 256 depth 100 a b
+put a x weight 1
+> version 1
+commit a x removed
+> committed 2
+take a
+> took 2
+del a x
+> fault 9
+offer a a 0
+> frame 1
+show 1
+> a7010000001a0300010161000000000000000000010178000000000000000200
+put a x weight 2
+> version 3
+connect a 1
+> frame 2
+connect b 2
+> frame 3
+line 2 2
+> lined
+line 2 1
+> lined
+piece 2 99
+> taken 1
+close 2
+> closed
+upto b a
+> 2
+read b a x
+> none
+",
+    ),
+    (
+        "a crash keeps a write",
+        Detail::Plain,
+        "world 256 breadth 2 a b
+crash a x weight 1 kept
+> crashed
+upto b a
+> 0
+read a a x
+> fault 15
+restart a
+> restarted 1
+read a a x
+> a x 1 weight 1
+put a y weight 2
+> version 2
+take a
+> nothing
+put a z weight 3
+> fault 8
+upto a a
+> 2
+upto c a
+> nothing
+",
+    ),
+    (
+        "a crash loses a write",
+        Detail::Plain,
+        "world 256 breadth 100 a b
+crash a x weight 1 lost
+> crashed
+read a a x
+> fault 15
+give b a 0
+> EMPTY
+> fault 15
+restart a
+> restarted 0
+put a x weight 2
+> version 1
+",
+    ),
+    (
+        "what waited goes with a restart",
+        Detail::Plain,
+        "world 256 breadth 100 a b
+commit a x weight 2
+> committed 1
+upto a a
+> 0
+restart a
+> restarted 1
+take a
+> nothing
+read a a x
+> a x 1 weight 2
+",
+    ),
+    (
+        "a frame is lost and another comes twice",
+        Detail::Plain,
+        "world 256 breadth 100 a b
+put a w weight 5
+> version 1
+connect a 1
+> frame 1
+offer a a 0
+> frame 2
+show 2
+> FRAME
+put a x weight 6
+> version 2
+offer a a 1
+> frame 3
+connect b 2
+> frame 4
+connect a 2
+> nothing
+line 2 1
+> lined
+line 2 3
+> lined
+piece 2 1000
+> gap
+line 2 9
+> nothing
+line 2 0
+> nothing
+line 2 2
+> lined
+piece 2 40
+> taken 1
+line 2 2
+> lined
+piece 2 40
+> stale
+line 2 3
+> lined
+piece 2 40
+> taken 1
+upto b a
+> 2
+close 2
+> closed
+close 2
+> nothing
+piece 2 1
+> nothing
+ask 2
+> nothing
+show 5
+> nothing
+",
+    ),
+    (
+        "a session asks and is answered",
+        Detail::Plain,
+        "world 256 breadth 100 a b
+put a w weight 5
+> version 1
+connect a 1
+> frame 1
+connect b 2
+> frame 2
+ask 2
+> frame 3
+line 1 2
+> lined
+line 1 3
+> lined
+piece 1 1000
+> frame 4
+> frame 5
+show 4
+> FRAME
+line 2 1
+> lined
+line 2 4
+> lined
+line 2 5
+> lined
+piece 2 13
+> nothing
+piece 2 39
+> nothing
+piece 2 1
+> taken 1
+piece 2 1000
+> frame 6
+read b a w
+> a w 1 weight 5
+crash b w weight 1 lost
+> crashed
+ask 2
+> nothing
+connect b 2
+> fault 15
+",
+    ),
+    (
+        "a node restarts inside a frame",
+        Detail::Plain,
+        "world 512 breadth 100 a b
+put a x addr P
+> version 1
+put a y addr Q
+> version 2
+connect a 1
+> frame 1
+offer a a 0
+> frame 2
+connect b 2
+> frame 3
+line 2 1
+> lined
+line 2 2
+> lined
+piece 2 163
+> nothing
+restart b
+> restarted 0
+piece 2 10
+> nothing
+connect b 3
+> frame 4
+line 3 2
+> lined
+piece 3 300
+> fault 22
+piece 3 1
+> nothing
+connect b 4
+> frame 5
+line 4 1
+> lined
+line 4 2
+> lined
+piece 4 313
+> taken 2
+upto b a
+> 2
+",
+    ),
+    (
+        "nodes that are not there and words that are none",
+        Detail::Plain,
+        "world 256 breadth 100 a b
+put c x weight 1
+> nothing
+give c b 0
+> nothing
+give a c 0
+> EMPTY
+> nothing
+give a a 0
+> EMPTY
+> fault 24
+read a c x
+> none
+upto a c
+> 0
+commit A X size 5
+> fault 2
+crash a X size 5 kept
+> fault 3
+put a x weight 05
+> fault 4
+take a
+> nothing
+connect a 1
+> frame 7
+connect b 1
+> nothing
+ask 1
+> frame 8
+show 8
+> a7010000001002010000000101610000000000000000
+",
+    ),
+    (
+        "frames are said in words",
+        Detail::Explained,
+        "world 256 breadth 100 a b
+put a w weight 5
+> version 1
+put a x flag true
+> version 2
+del a x
+> version 3
+put a y addr h:1
+> version 4
+connect a 1
+> frame 1
+>   frame 1: hello, cluster sim, node a
+ask 1
+> frame 2
+>   frame 2: digest, wants an answer, from the first name, to the last name, pairs 1
+>     a upto 4
+offer a a 0
+> frame 3
+>   frame 3: delta, blocks 1
+>     block of a, after 0, upto 4, entries 3
+>       a w 1 weight 5
+>       a x 3 removed -
+>       a y 4 addr h:1
+offer a a 3
+> frame 4
+>   frame 4: delta, blocks 1
+>     block of a, after 3, upto 4, entries 1
+>       a y 4 addr h:1
+offer a a 4
+> frame 5
+>   frame 5: delta, blocks 0
+show 5
+> a70100000003030000
+>   frame 5: delta, blocks 0
+show 6
+> nothing
+offer c a 0
+> nothing
+read a a x
+> none
+commit a X flag true
+> fault 3
+",
+    ),
+    (
+        "frames of a give and replies are said in words",
+        Detail::Explained,
+        "world 256 breadth 100 a b
+put a w weight 5
+> version 1
+give a b 0
+> FRAME
+> taken 1
+>   frame 1: hello, cluster sim, node a
+>   frame 2: delta, blocks 1
+>     block of a, after 0, upto 1, entries 1
+>       a w 1 weight 5
+>   frame 3: hello, cluster sim, node b
+connect b 2
+> frame 4
+>   frame 4: hello, cluster sim, node b
+ask 2
+> frame 5
+>   frame 5: digest, wants an answer, from the first name, to the last name, pairs 2
+>     a upto 1
+>     b upto 0
+connect a 1
+> frame 6
+>   frame 6: hello, cluster sim, node a
+line 1 4
+> lined
+line 1 5
+> lined
+piece 1 999
+> frame 7
+> frame 8
+>   frame 7: delta, blocks 0
+>   frame 8: digest, wants no answer, from the first name, to the last name, pairs 1
+>     a upto 1
+",
+    ),
+];

@@ -1,0 +1,203 @@
+"""What the tools that run real nodes share: frames of both sockets, made and read by hand as docs/FORMATS.md has them, and nodes of the program
+as processes, each with its log and its sockets in a folder."""
+import os
+import socket
+import subprocess
+import sys
+import tempfile
+import time
+from pathlib import Path
+
+ROOT = Path(__file__).resolve().parent.parent
+PROGRAM = ROOT / "crates/attrdir/out/attrdir"
+SECONDS = 30
+DONE, ROWS = 0x13, 0x11
+
+
+class Difference(Exception):
+    """What was found that is not as it should be."""
+
+
+def want(what, found, wanted):
+    if found != wanted:
+        raise Difference(f"{what}: {repr(found)[:300]} in place of {repr(wanted)[:300]}")
+
+
+# ---- frames
+
+
+def text(word):
+    return bytes([len(word)]) + word.encode()
+
+
+def number(value, size=8):
+    return value.to_bytes(size, "big")
+
+
+def frame(kind, body):
+    return b"\xa7\x01" + number(1 + len(body), 4) + bytes([kind]) + body
+
+
+def weight(value):
+    return b"\x02" + number(value)
+
+
+def hello(name, cluster="c"):
+    return frame(1, text(cluster) + text(name))
+
+
+def digest(want_one, pairs=()):
+    told = b"".join(text(name) + number(upto) for name, upto in pairs)
+    return frame(2, bytes([want_one]) + text("") + text("") + number(len(pairs), 2) + told)
+
+
+def delta(owner, after, entries):
+    told = b"".join(text(key) + number(version) + slot for key, version, slot in entries)
+    return frame(3, number(1, 2) + text(owner) + number(after) + number(len(entries), 2) + told)
+
+
+BYE = frame(4, b"\x01")
+
+
+def put(key, slot):
+    return frame(0x12, text(key) + slot)
+
+
+def ask(owner="", prefix=""):
+    return frame(0x10, text(owner) + text(prefix) + text("") + text(""))
+
+
+def page(rows, more=0):
+    """The kind and the body of Rows: owner, key, version and value of each."""
+    told = b"".join(text(owner) + text(key) + number(version) + slot for owner, key, version, slot in rows)
+    return ROWS, bytes([more]) + number(len(rows), 2) + told
+
+
+def connect(path):
+    stream = socket.socket(socket.AF_UNIX, socket.SOCK_STREAM)
+    stream.settimeout(SECONDS)
+    stream.connect(str(path))
+    return stream
+
+
+def read_exactly(stream, count):
+    got = b""
+    while len(got) < count:
+        piece = stream.recv(count - len(got))
+        if not piece:
+            return None
+        got += piece
+    return got
+
+
+def read_frame(stream):
+    """The kind and the body of the next message; nothing at an end."""
+    head = read_exactly(stream, 6)
+    payload = head and read_exactly(stream, int.from_bytes(head[2:], "big"))
+    return (payload[0], payload[1:]) if payload else None
+
+
+def exchange(path, request):
+    with connect(path) as stream:
+        stream.sendall(request)
+        return read_frame(stream)
+
+
+def version_of(answer):
+    """The version of a Done."""
+    if answer is None or answer[0] != DONE:
+        raise Difference(f"a write was answered by {answer!r}")
+    return int.from_bytes(answer[1], "big")
+
+
+# ---- nodes
+
+
+def run(program, *words, seconds=SECONDS):
+    """The status of a command, what it printed and what it said."""
+    ran = subprocess.run([program, *words], stdin=subprocess.DEVNULL, capture_output=True, text=True, timeout=seconds)
+    return ran.returncode, ran.stdout, ran.stderr
+
+
+class Node:
+    """A node of the cluster c in a folder, which can be started again and again."""
+
+    def __init__(self, program, folder, name, *options, peers=()):
+        self.program, self.name, self.options, self.peers = program, name, options, peers
+        self.log, self.sock, self.control = (Path(folder) / f"{name}.{end}" for end in ("log", "sock", "ctl"))
+        self.log.touch()
+        self.ran = None
+
+    def words(self):
+        places = ["--log", self.log, "--sock", self.sock, "--control", self.control]
+        return [self.program, "serve", "--name", self.name, "--cluster", "c", *map(str, places), *self.options, *map(str, self.peers)]
+
+    def start(self):
+        """Starts it, without the sockets of an earlier run, and waits until it listens."""
+        for path in (self.sock, self.control):
+            path.unlink(missing_ok=True)
+        how = {"stdin": subprocess.DEVNULL, "stdout": subprocess.PIPE, "stderr": subprocess.PIPE, "text": True}
+        self.ran = subprocess.Popen(self.words(), **how)
+        self.first = self.ran.stderr.readline()
+        if "listens" not in self.first:
+            raise Difference(f"node {self.name} did not start: {self.first}{self.ran.communicate()[1]}")
+        return self
+
+    def kill(self):
+        self.ran.kill()
+        self.ran.communicate()
+
+    def ended(self):
+        """Its exit status, what it printed, and the lines that it said."""
+        printed, said = self.ran.communicate(timeout=SECONDS)
+        return self.ran.returncode, printed, (self.first + said).splitlines()
+
+    def put(self, key, value):
+        return version_of(exchange(self.control, put(key, weight(value))))
+
+    def command(self, name, *words):
+        """The status, what was printed and what was said by one of the program's commands to this node."""
+        return run(self.program, name, "--control", str(self.control), *words)
+
+    def get(self, *words):
+        status, printed, said = self.command("get", *words)
+        want(f"get {words} at {self.name}", (status, said), (0, ""))
+        return printed.splitlines()
+
+    def awaits(self, what, test):
+        """Asks until the rows are as they should be."""
+        end = time.monotonic() + SECONDS
+        while not test(rows := self.get()):
+            if time.monotonic() > end:
+                raise Difference(f"{what} did not come about at {self.name}: {rows}")
+            time.sleep(0.02)
+
+
+class Nodes:
+    """The nodes that a tool has made of a program, each in a folder within one room."""
+
+    def __init__(self, program, room):
+        self.program, self.room, self.nodes = program, Path(room), []
+
+    def folder(self):
+        return Path(tempfile.mkdtemp(dir=self.room))
+
+    def node(self, name, *options, folder=None, peers=()):
+        node = Node(self.program, folder or self.folder(), name, *options, peers=peers)
+        self.nodes.append(node)
+        return node
+
+    def stop(self):
+        """Kills those that run, and knows none of them any more."""
+        for node in self.nodes:
+            if node.ran and node.ran.poll() is None:
+                node.kill()
+        self.nodes = []
+
+
+def program_at(path, tool):
+    """The whole path of the program. Ends the tool where it is not there."""
+    program = os.path.abspath(path)
+    if not os.access(program, os.X_OK):
+        sys.exit(f"{tool}: {program} is not there; tools/build makes it")
+    return program
