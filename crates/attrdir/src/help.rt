@@ -85,8 +85,8 @@ pub(crate) const LOG: &str =
 `removed -` where the key was removed. The last line is the last version.
 
 The file has to be there; an empty one becomes a new log. A fault ends the run, with `fault N`, its text and what to do about it on
-standard error: 1 no memory, 2 a name, 17 the lines cannot be written, 18 the file is not there, cannot be read or written, or is open elsewhere, 19
-the log is damaged, 20 it belongs to another owner or cluster.
+standard error: 1 no memory, 2 a name, 17 the lines cannot be written, 18 the file is not there, cannot be read or written, or is open
+elsewhere, 19 the file is no log of this release, or a damaged one, 20 it belongs to another owner or cluster.
 
 The exit status is 0, 2 after a command line that is wrong, and 3 after a fault.
 
@@ -110,7 +110,8 @@ answered by a version is in the log.
 
 A fault ends the node, with `fault N`, its text and what to do about it on standard error: 1 no memory, 2 the name, 5 a setting, 16 a
 socket cannot be made, as where a file is at its path, 18 the log is not there, cannot be read or written, or is open elsewhere, 19
-the log is damaged, 20 it belongs to another owner or cluster. A fault of a connection ends that connection alone, and is counted.
+the file is no log of this release, or a damaged one, 20 it belongs to another owner or cluster. A fault of a connection ends that
+connection alone, and is counted.
 
 The exit status is 0 after the last round, 2 after a command line that is wrong, and 3 after a fault.
 
