@@ -3,6 +3,40 @@ use sb_types::Fault;
 use std::alloc::AllocError;
 use std::fmt;
 
+/// A setting of a node.
+#[derive(Clone, Copy, Debug)]
+pub(crate) enum Setting {
+    Cluster,
+    Budget,
+    MaxVersion,
+    Workers,
+    Seats,
+}
+
+impl Setting {
+    /// Its option.
+    fn option(self) -> &'static str {
+        match self {
+            Setting::Cluster => "--cluster",
+            Setting::Budget => "--budget",
+            Setting::MaxVersion => "--max-version",
+            Setting::Workers => "--workers",
+            Setting::Seats => "--seats",
+        }
+    }
+
+    /// What to give.
+    fn limits(self) -> &'static str {
+        match self {
+            Setting::Cluster => "give 1 to 32 lower-case letters, digits and -",
+            Setting::Budget => "give 256 to 65536",
+            Setting::MaxVersion => "give 1 to 1099511627775",
+            Setting::Workers => "give 1 to 62",
+            Setting::Seats => "give at least the workers and 2 more, and at most 64",
+        }
+    }
+}
+
 /// Where a fault was met.
 #[derive(Clone, Copy, Debug)]
 pub(crate) enum Place<'a> {
@@ -12,8 +46,8 @@ pub(crate) enum Place<'a> {
     Word(&'a str, &'a str),
     /// In the kind and the word of a value.
     Value(&'a str, &'a str),
-    /// In a setting: its option, and what that takes.
-    Setting(&'static str, &'static str),
+    /// In a setting.
+    Setting(Setting),
     /// At the file of a log.
     Log(&'a str),
     /// At the file of a log, which is not there.
@@ -208,7 +242,7 @@ fn about_exchange(fault: &Fault, place: Place<'_>) -> &'static str {
 /// What to do about a setting that is outside its limits.
 fn about_setting(place: Place<'_>) -> &'static str {
     match place {
-        Place::Setting(_, limits) => limits,
+        Place::Setting(setting) => setting.limits(),
         _ => {
             "--cluster is a name, --budget 256 to 65536, --max-version 1 to 1099511627775, --workers 1 to 62, and --seats from the \
 workers and 2 more up to 64"
@@ -260,7 +294,7 @@ impl fmt::Display for Place<'_> {
             Place::Line => Ok(()),
             Place::Word(what, word) => write!(f, "{what} '{word}': "),
             Place::Value(kind, word) => write!(f, "value '{kind} {word}': "),
-            Place::Setting(option, _) => write!(f, "{option}: "),
+            Place::Setting(setting) => write!(f, "{}: ", setting.option()),
             Place::Log(path) | Place::NoLog(path) => write!(f, "log {path}: "),
             Place::Unreached(path) | Place::Control(path) | Place::Node(path) => {
                 write!(f, "control socket {path}: ")

@@ -1,5 +1,5 @@
 //! A node that runs.
-use crate::failure::{Failure, Place};
+use crate::failure::{Failure, Place, Setting};
 use crate::log_file::open_log;
 use crate::words::name_of;
 use sb_run::{Pace, Paths, Ran, run_node};
@@ -49,23 +49,18 @@ fn print_ran(rt: &HostRuntime, given: &Given<'_>, ran: Ran) -> Result<(), Failur
 }
 
 /// Which of the settings is outside its limits: the seats, where no other is.
-fn setting_of<'a>(raw: &RawSettings<'_>) -> Place<'a> {
+fn setting_of(raw: &RawSettings<'_>) -> Setting {
     if Name::read(raw.cluster).is_err() {
-        return Place::Setting("--cluster", "give 1 to 32 lower-case letters, digits and -");
+        Setting::Cluster
+    } else if raw.budget < BUDGET_LEAST || raw.budget > BUDGET_MOST {
+        Setting::Budget
+    } else if raw.max_version < 1 || raw.max_version > VERSION_MOST {
+        Setting::MaxVersion
+    } else if raw.workers < 1 || raw.workers > WORKERS_MOST {
+        Setting::Workers
+    } else {
+        Setting::Seats
     }
-    if raw.budget < BUDGET_LEAST || raw.budget > BUDGET_MOST {
-        return Place::Setting("--budget", "give 256 to 65536");
-    }
-    if raw.max_version < 1 || raw.max_version > VERSION_MOST {
-        return Place::Setting("--max-version", "give 1 to 1099511627775");
-    }
-    if raw.workers < 1 || raw.workers > WORKERS_MOST {
-        return Place::Setting("--workers", "give 1 to 62");
-    }
-    Place::Setting(
-        "--seats",
-        "give at least the workers and 2 more, and at most 64",
-    )
 }
 
 /// Which of its sockets a node could not make, as far as their paths show it.
@@ -84,7 +79,7 @@ fn socket_of<'a>(rt: &HostRuntime, given: &Given<'a>) -> Place<'a> {
 /// Where a node that does not run met its fault.
 fn place_of<'a>(rt: &HostRuntime, fault: &Fault, given: &Given<'a>) -> Place<'a> {
     match fault {
-        Fault::BadSetting => setting_of(&given.settings),
+        Fault::BadSetting => Place::Setting(setting_of(&given.settings)),
         Fault::ReadFailed => socket_of(rt, given),
         Fault::Closed | Fault::StoreFailed | Fault::LogDamaged => Place::Log(given.log),
         _ => Place::Line,
