@@ -4,6 +4,7 @@ ghost use Rattle.std.specs.Prelude.{◌≡◌, ◌<◌};
 use crate::failure::{Failure, Place};
 use sb_codec::{Ask, Message, Rows};
 use sb_frames::Steps;
+use sb_listing::print_json_rows;
 use sb_query::print_rows;
 use sb_run::ask_control;
 use sb_types::{
@@ -136,8 +137,53 @@ fn place_behind(page: &Rows) -> Option<(Name, Key)> {
     Some((*row.owner(), *row.key()))
 }
 
-fn print_page(rt: &HostRuntime, page: &Rows) -> Result<(), Fault> {
-    let (printed, _) = print_rows(rt.alloc(), &mut rt.stdout(), page);
+/// The form in which rows are printed.
+#[derive(Clone, Copy, Debug)]
+pub(crate) enum Form {
+    /// The words of a row.
+    Text,
+    /// A JSON object of a row.
+    Json,
+}
+
+/// The pages of a node's rows that are not asked for yet.
+#[derive(Drop)]
+pub(crate) struct Pages<'a> {
+    control: &'a str,
+    /// None behind the last page.
+    next: Option<Ask>,
+}
+
+impl<'a> Pages<'a> {
+    /// All pages of the rows that are asked for.
+    pub(crate) fn new(control: &'a str, asked: Ask) -> Pages<'a> {
+        Pages {
+            control,
+            next: Some(asked),
+        }
+    }
+
+    /// Asks for the next page; none behind the last. The faults of a page leave it to be asked for again.
+    pub(crate) fn ask_next(&mut self, rt: &HostRuntime) -> Result<Option<Rows>, Failure<'a>> {
+        let Some(mut ask) = self.next else {
+            return Ok(None);
+        };
+        let page = page_of(rt, self.control, ask)?;
+        ask.after = place_behind(&page);
+        self.next = match ask.after {
+            Some(_) => Some(ask),
+            None => None,
+        };
+        Ok(Some(page))
+    }
+}
+
+fn print_page(rt: &HostRuntime, page: &Rows, form: Form) -> Result<(), Fault> {
+    let mut output = rt.stdout();
+    let (printed, _) = match form {
+        Form::Text => print_rows(rt.alloc(), &mut output, page),
+        Form::Json => print_json_rows(rt.alloc(), &mut output, page),
+    };
     printed
 }
 
@@ -146,15 +192,14 @@ pub(crate) fn print_all<'a>(
     rt: &HostRuntime,
     control: &'a str,
     asked: Ask,
+    form: Form,
 ) -> Result<(), Failure<'a>> {
-    let mut ask = asked;
+    let mut pages = Pages::new(control, asked);
     for _ in 0..u64::MAX {
-        let page = page_of(rt, control, ask)?;
-        print_page(rt, &page)?;
-        ask.after = place_behind(&page);
-        if ask.after.is_none() {
+        let Some(page) = pages.ask_next(rt)? else {
             return Ok(());
-        }
+        };
+        print_page(rt, &page, form)?;
     }
     Err(Failure::at(Place::Control(control), Fault::TurnsSpent))
 }

@@ -1,9 +1,10 @@
 //! What the program does by its command line.
-use crate::asking::{print_all, put};
+use crate::asking::{Form, print_all, put};
 use crate::commands::command;
 use crate::failure::Failure;
 use crate::log_file::print_log;
 use crate::serving::Given;
+use crate::watching::{Watched, watch};
 use clap::ArgMatches;
 use clap::error::ErrorKind;
 use sb_codec::Ask;
@@ -32,6 +33,9 @@ const NUMBERS: [&str; 8] = [
     "idle",
     "max-reads",
 ];
+
+/// The options of `watch` that take a number.
+const WATCH_NUMBERS: [&str; 2] = ["every", "count"];
 
 /// What is left to do behind the command line.
 #[derive(Debug, Drop)]
@@ -75,16 +79,18 @@ fn value<'a>(given: &ArgMatches<'a>, name: &str) -> &'a str {
     given.get_str(name).unwrap_or("")
 }
 
-/// The first option whose number has something else than digits, as a sign.
-fn wrong_number<'a>(given: &ArgMatches<'a>) -> Option<(&'static str, &'a str)> {
-    for name in NUMBERS {
-        if let Some(text) = given.get_str(name) {
-            if !text.bytes().all(|byte| byte.is_ascii_digit()) {
-                return Some((name, text));
-            }
+/// Whether the number of one of these options has something else than digits, as a sign; the first that has is told.
+fn has_wrong_number(rt: &HostRuntime, given: &ArgMatches<'_>, names: &[&'static str]) -> bool {
+    for name in names {
+        let text = value(given, name);
+        if !text.bytes().all(|byte| byte.is_ascii_digit()) {
+            let _ = eprintln!(rt;
+                "error: invalid value '{text}' for '--{name}': a number has digits alone"
+            );
+            return true;
         }
     }
-    None
+    false
 }
 
 /// What `serve` has of settings. Seats that are not given are those of its workers and two more.
@@ -117,10 +123,7 @@ fn pace_of(given: &ArgMatches<'_>) -> Pace {
 
 /// The node that the command line says; none where a number is wrong, which is told.
 fn node_of<'a>(rt: &HostRuntime, given: &ArgMatches<'a>) -> Result<Next<'a>, Failure<'a>> {
-    if let Some((name, text)) = wrong_number(given) {
-        let _ = eprintln!(rt;
-            "error: invalid value '{text}' for '--{name}': a number has digits alone"
-        );
+    if has_wrong_number(rt, given, &NUMBERS) {
         return Ok(Next::Ended(USAGE_STATUS));
     }
     let mut peers = Vec::new(rt.alloc());
@@ -157,18 +160,40 @@ fn run_del<'a>(rt: &HostRuntime, given: &ArgMatches<'a>) -> Result<u8, Failure<'
     write(rt, value(given, "control"), key, Slot::Removed)
 }
 
-fn run_get<'a>(rt: &HostRuntime, given: &ArgMatches<'a>) -> Result<u8, Failure<'a>> {
+/// The rows that are asked for. `BadName` of the owner; then `BadKey` of the prefix.
+fn asked_of(given: &ArgMatches<'_>) -> Result<Ask, Fault> {
     let owner = match given.get_str("owner") {
         Some(name) => Some(Name::read(name.as_bytes())?),
         None => None,
     };
     let prefix = Prefix::read(value(given, "prefix").as_bytes())?;
-    let asked = Ask {
+    Ok(Ask {
         owner,
         prefix,
         after: None,
+    })
+}
+
+fn run_get<'a>(rt: &HostRuntime, given: &ArgMatches<'a>) -> Result<u8, Failure<'a>> {
+    let asked = asked_of(given)?;
+    let form = match value(given, "format") {
+        "json" => Form::Json,
+        _ => Form::Text,
     };
-    print_all(rt, value(given, "control"), asked)?;
+    print_all(rt, value(given, "control"), asked, form)?;
+    Ok(0)
+}
+
+fn run_watch<'a>(rt: &HostRuntime, given: &ArgMatches<'a>) -> Result<u8, Failure<'a>> {
+    if has_wrong_number(rt, given, &WATCH_NUMBERS) {
+        return Ok(USAGE_STATUS);
+    }
+    let watched = Watched {
+        asked: asked_of(given)?,
+        every: given.get_one::<u64>("every").unwrap_or(0),
+        count: given.get_one::<u64>("count").unwrap_or(0),
+    };
+    watch(rt, value(given, "control"), watched)?;
     Ok(0)
 }
 
@@ -185,6 +210,7 @@ fn carry_out<'a>(rt: &HostRuntime, matches: &ArgMatches<'a>) -> Result<Next<'a>,
         Some(("set", given)) => run_set(rt, given)?,
         Some(("del", given)) => run_del(rt, given)?,
         Some(("get", given)) => run_get(rt, given)?,
+        Some(("watch", given)) => run_watch(rt, given)?,
         Some(("log", given)) => run_log(rt, given)?,
         Some((_, given)) => play(rt, detail_of(given))?,
         None => USAGE_STATUS,

@@ -18,6 +18,9 @@ fn sim<'a>(alloc: Global) -> Result<Command<'a>, AllocError> {
         )
 }
 
+/// The words of `--format`.
+const FORMATS: [&str; 2] = ["text", "json"];
+
 /// An option with one value.
 fn option<'a>(alloc: Global, name: &'a str, value: &'a str, help: &'a str) -> Arg<'a> {
     Arg::new(alloc, name)
@@ -76,13 +79,49 @@ fn del<'a>(alloc: Global) -> Result<Command<'a>, AllocError> {
         .arg(word(alloc, "KEY", "What was written under"))
 }
 
-fn get<'a>(alloc: Global) -> Result<Command<'a>, AllocError> {
-    Command::new(alloc, "get")
-        .about("Prints what a node has, its own and what it heard of others")
-        .after_help(help::GET)
+/// Which rows are asked for, and where.
+fn with_question<'a>(alloc: Global, asking: Command<'a>) -> Result<Command<'a>, AllocError> {
+    asking
         .arg(control(alloc))?
         .arg(option(alloc, "owner", "O", "Only what this node wrote"))?
         .arg(option(alloc, "prefix", "P", "Only keys that begin so"))
+}
+
+fn get<'a>(alloc: Global) -> Result<Command<'a>, AllocError> {
+    let get = Command::new(alloc, "get")
+        .about("Prints what a node has, its own and what it heard of others")
+        .after_help(help::GET);
+    with_question(alloc, get)?.arg(
+        option(
+            alloc,
+            "format",
+            "FORMAT",
+            "Words of a row, or a JSON object of it",
+        )
+        .value_parser(FORMATS.as_slice())
+        .default_value("text"),
+    )
+}
+
+fn watch<'a>(alloc: Global) -> Result<Command<'a>, AllocError> {
+    let watch = Command::new(alloc, "watch")
+        .about("Asks a node again and again, and prints what changed")
+        .after_help(help::WATCH);
+    with_question(alloc, watch)?
+        .arg(number(
+            alloc,
+            "every",
+            "MS",
+            "How many milliseconds it waits before it asks again",
+        )
+        .default_value("1000"))?
+        .arg(number(
+            alloc,
+            "count",
+            "N",
+            "After how many times it ends, 0 for never",
+        )
+        .default_value("0"))
 }
 
 /// Where a node's log and sockets are, and whom it asks.
@@ -111,7 +150,7 @@ fn with_places<'a>(alloc: Global, serve: Command<'a>) -> Result<Command<'a>, All
             alloc,
             "control",
             "PATH",
-            "The socket that it makes for set, del and get",
+            "The socket that it makes for set, del, get and watch",
         ))?
         .arg(
             Arg::new(alloc, "PEER")
@@ -213,6 +252,7 @@ pub(crate) fn command<'a>(alloc: Global) -> Result<Command<'a>, AllocError> {
         .subcommand(set(alloc)?)?
         .subcommand(del(alloc)?)?
         .subcommand(get(alloc)?)?
+        .subcommand(watch(alloc)?)?
         .subcommand(log(alloc)?)?
         .subcommand(sim(alloc)?)
 }

@@ -1,7 +1,7 @@
 //! What `--help` says behind the options.
 
 pub(crate) const EXAMPLE: &str =
-    "A node runs by `serve`; `set`, `del` and `get` talk to one that runs. `sim` plays many nodes in memory, and `log` reads the log
+    "A node runs by `serve`; `set`, `del`, `get` and `watch` talk to one that runs. `sim` plays many nodes in memory, and `log` reads the log
 of a node that does not run. `attrdir COMMAND --help` says more of each.
 
 Example of a node, which is then asked from a second terminal:
@@ -99,7 +99,7 @@ Example:
 pub(crate) const SERVE: &str =
     "The log is a file that is there; an empty one becomes a new log. The node makes both sockets, each at a path where no file is, and
 removes them when it ends. On --sock it serves other nodes, and each PEER is the path of the --sock of another node, which it
-asks in its turn, one a round, for what it lacks. On --control it answers `set`, `del` and `get`. Peers and callers are not
+asks in its turn, one a round, for what it lacks. On --control it answers `set`, `del`, `get` and `watch`. Peers and callers are not
 authenticated: whoever may open a socket may use it.
 
 One line on standard error says that the node listens. With --rounds it ends after the last one, prints
@@ -160,8 +160,9 @@ Example:
 
 pub(crate) const GET: &str =
     "Each row is a line of the owner, the key, the version, the kind and the value, in ascending owner and then key; removed keys have
-none. What others wrote stands as far as the node has heard of it. The rows come page by page: each page is what the node has
-at one time, and a later page is never older.
+none. With --format json it is a JSON object of key, kind, owner, value and version, where the value of an addr is a text, that of a
+weight a number, and that of a flag true or false. What others wrote stands as far as the node has heard of it. The rows come page by
+page: each page is what the node has at one time, and a later page is never older.
 
 A fault ends the command, with `fault N`, its text and what to do about it on standard error: 1 no memory, 2 the owner, 3 the
 prefix, 10 to 14 what answers is no control socket, 15 the node cannot read, 16 no node answers, 17 the request or the rows cannot
@@ -175,4 +176,25 @@ Examples:
   a web/weight 2 weight 5
   b web/addr 1 addr 10.0.0.2:80
   $ attrdir get --control a.ctl --owner a --prefix web/w
-  a web/weight 2 weight 5";
+  a web/weight 2 weight 5
+  $ attrdir get --control a.ctl --owner b --format json
+  {\"key\":\"web/addr\",\"kind\":\"addr\",\"owner\":\"b\",\"value\":\"10.0.0.2:80\",\"version\":1}";
+
+pub(crate) const WATCH: &str =
+    "It asks as `attrdir get` does, page after page until it has all rows, waits, and asks again. Each time it prints what changed since it
+asked before, at first each row, in ascending owner and then key:
+  set OWNER KEY VERSION KIND VALUE   the row is new, or has another version or value
+  gone OWNER KEY                     there is no row any more
+Who enters each line in turn has the rows of the last asking. Of what changed between two askings only the last is seen. The lines of one
+asking are written at once, and where nothing changed nothing is printed.
+
+A fault ends the command, the first time that it asks and later, with `fault N`, its text and what to do about it on standard error: those of
+`attrdir get`. Of an asking that has a fault nothing is printed; what was printed before stands.
+
+The exit status is 0 after the last of --count, 2 after a command line that is wrong, and 3 after a fault.
+
+Example, where a second terminal writes and then removes a weight:
+  $ attrdir watch --control a.ctl --prefix web/ --every 500
+  set a web/addr 1 addr 10.0.0.1:80
+  set a web/weight 2 weight 5
+  gone a web/weight";

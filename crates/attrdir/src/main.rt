@@ -8,6 +8,7 @@ mod failure;
 mod help;
 mod log_file;
 mod serving;
+mod watching;
 
 use crate::command_line::{Next, USAGE_STATUS, follow, print_failure, words};
 use crate::failure::Failure;

@@ -24,7 +24,7 @@ pub(crate) struct Given<'a> {
 /// Tells that the node listens.
 fn tell_listening(rt: &HostRuntime, given: &Given<'_>) {
     let _ = eprintln!(rt;
-        "attrdir: node {} listens on {}, and for set, del and get on {}",
+        "attrdir: node {} listens on {}, and for set, del, get and watch on {}",
         given.name, given.sock, given.control
     );
 }

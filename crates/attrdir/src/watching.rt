@@ -1,0 +1,70 @@
+//! What changes at a node that runs, which is asked again and again.
+use crate::asking::Pages;
+use crate::failure::{Failure, Place};
+use sb_codec::{Ask, Row, Rows};
+use sb_listing::{changes, print_changes};
+use sb_types::Fault;
+use std::thread;
+use std::time::Duration;
+
+/// What is watched, and how often.
+#[derive(Clone, Copy, Debug)]
+pub(crate) struct Watched {
+    pub(crate) asked: Ask,
+    /// How many milliseconds it waits before it asks again.
+    pub(crate) every: u64,
+    /// How many times it asks; 0 for without end.
+    pub(crate) count: u64,
+}
+
+/// Adds the rows of a page. `NoMemory`.
+fn add_rows(rt: &HostRuntime, rows: &mut Vec<Row>, page: &Rows) -> Result<(), Fault> {
+    for row in page.rows() {
+        let value = row.value().copy(rt.alloc())?;
+        rows.push(Row::new(*row.owner(), *row.key(), row.version(), value)?)?;
+    }
+    Ok(())
+}
+
+/// All rows that are asked for, page after page.
+fn listing<'a>(rt: &HostRuntime, control: &'a str, asked: Ask) -> Result<Vec<Row>, Failure<'a>> {
+    let mut rows = Vec::new(rt.alloc());
+    let mut pages = Pages::new(control, asked);
+    for _ in 0..u64::MAX {
+        let Some(page) = pages.ask_next(rt)? else {
+            return Ok(rows);
+        };
+        add_rows(rt, &mut rows, &page)?;
+    }
+    Err(Failure::at(Place::Control(control), Fault::TurnsSpent))
+}
+
+/// Prints what changed from one listing to the next, in one piece. `NoMemory`; `WriteFailed`.
+fn print_difference(rt: &HostRuntime, earlier: &[Row], later: &[Row]) -> Result<(), Fault> {
+    let told = changes(rt.alloc(), earlier, later)?;
+    let (printed, _) = print_changes(rt.alloc(), &mut rt.stdout(), &told);
+    printed
+}
+
+/// Asks a node for rows, again and again, and prints what changed since it asked before; at first, each row. The faults of asking,
+/// the first time and later: nothing is printed of pages that are not all there.
+pub(crate) fn watch<'a>(
+    rt: &HostRuntime,
+    control: &'a str,
+    watched: Watched,
+) -> Result<(), Failure<'a>> {
+    let turns = match watched.count {
+        0 => u64::MAX,
+        count => count,
+    };
+    let mut last = Vec::new(rt.alloc());
+    for turn in 0..turns {
+        if turn > 0 {
+            thread::sleep(rt, Duration::from_millis(watched.every));
+        }
+        let rows = listing(rt, control, watched.asked)?;
+        print_difference(rt, &last, &rows)?;
+        last = rows;
+    }
+    Ok(())
+}

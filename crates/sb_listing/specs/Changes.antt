@@ -1,0 +1,68 @@
+-- What changed from one listing of rows to the next.
+use Rattle.std.specs.Prelude.{◌≡◌, ℕ, Bool, true, false, ◌&&◌, ◌==◌, not, nat_eq, if◌then◌else◌, List, [], ◌∷◌, ◌++◌, map, unwrap_or, option_map}
+use Rattle.std.specs.Bool.{beq}
+use Rattle.std.specs.List.{list_any, AllByRecursion}
+use Rattle.std.specs.Ordering.{nat_cmp, is_eq, ordering_then, match_ordering}
+use Rattle.std.specs.declared.cmp.Ordering.{Ordering}
+use Rattle.std.specs.declared.cmp.Ordering.TheVariants.{Less}
+use Rattle.std.specs.Cmp.Lexicographic.{pointwise, slice_cmp}
+use Rattle.sb_types.specs.Value.{Value, Addr, Weight, Flag, addr_of, weight_of, flag_of}
+use Rattle.sb_codec.specs.Records.{Row}
+
+pub data Change : Type 0 where
+  Set : Row → Change
+  Gone : Row → Change
+
+-- by owner and then by key
+abbrev pub place_order : Row → Row → Ordering
+place_order x y = ordering_then (slice_cmp nat_cmp x.owner y.owner) (slice_cmp nat_cmp x.key y.key)
+
+abbrev pub is_same_value : Value → Value → Bool
+is_same_value (Addr text) other = unwrap_or (option_map (λ it. pointwise nat_eq it text) (addr_of other)) false
+is_same_value (Weight weight) other = unwrap_or (option_map (λ it. it == weight) (weight_of other)) false
+is_same_value (Flag flag) other = unwrap_or (option_map (λ it. beq it flag) (flag_of other)) false
+
+-- one version and one value
+abbrev pub is_same : Row → Row → Bool
+is_same x y = (x.version == y.version) && is_same_value x.value y.value
+
+-- one owner and one key
+abbrev pub is_at : Row → Row → Bool
+is_at x y = is_eq (place_order x y)
+
+-- the earlier listing has no such row
+abbrev pub is_new : List Row → Row → Bool
+is_new earlier y = not (list_any (λ x. is_at x y && is_same x y) earlier)
+
+-- the later listing has no row of this owner and key
+abbrev pub is_gone : List Row → Row → Bool
+is_gone later x = not (list_any (is_at x) later)
+
+-- each row stands before all behind it
+abbrev pub AreAscending : List Row → Type 0
+AreAscending [] = Unit {0}
+AreAscending (x ∷ xs) = AllByRecursion (λ y. place_order x y ≡ Less) xs × AreAscending xs
+
+-- what is told where a row of the later listing stands at the place of one of the earlier
+abbrev pub told_at : Row → Row → List Change
+told_at x y = if is_same x y then [] else Set y ∷ []
+
+-- the rows of the earlier listing up to the place of y, then y, and then what comes of the rows behind
+abbrev pub passing : Row → (List Row → List Change) → List Row → List Change
+passing y next [] = Set y ∷ next []
+passing y next (x ∷ xs) = match_ordering (place_order x y) (Gone x ∷ passing y next xs) (told_at x y ++ next xs) (Set y ∷ next (x ∷ xs))
+
+-- both listings walked through once
+abbrev pub merged : List Row → List Row → List Change
+merged earlier [] = map Gone earlier
+merged earlier (y ∷ ys) = passing y (λ rest. merged rest ys) earlier
+
+abbrev pub set_rows : List Change → List Row
+set_rows [] = []
+set_rows (Set y ∷ cs) = y ∷ set_rows cs
+set_rows (Gone x ∷ cs) = set_rows cs
+
+abbrev pub gone_rows : List Change → List Row
+gone_rows [] = []
+gone_rows (Set y ∷ cs) = gone_rows cs
+gone_rows (Gone x ∷ cs) = x ∷ gone_rows cs

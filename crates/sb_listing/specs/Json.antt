@@ -1,0 +1,25 @@
+-- A row as JSON.
+use Rattle.std.specs.Prelude.{ℕ, List, [], ◌∷◌, ◌++◌, codes}
+use Rattle.std.specs.List.{flat_map}
+use Rattle.sb_types.specs.Value.{Value, Addr, Weight, Flag, words_of}
+use Rattle.sb_codec.specs.Records.{Row}
+use Rattle.serde_json.specs.Data.{Data, boolean, number, unsigned, string, object, member, no_members}
+use Rattle.serde_json.specs.Written.{compact_text}
+
+abbrev pub value_data : Value → Data
+value_data (Addr text) = string text
+value_data (Weight weight) = number (unsigned weight)
+value_data (Flag flag) = boolean flag
+
+-- the members stand in the order of their names
+unfoldable pub row_data : Row → Data
+row_data row =
+    object (member (codes "key") (string row.key) (member (codes "kind") (string (words_of row.value).0) (member (codes "owner") (string row.owner)
+    (member (codes "value") (value_data row.value) (member (codes "version") (number (unsigned row.version)) no_members)))))
+
+-- the text of the object without spaces, and the end of the line
+abbrev pub json_line : Row → List ℕ
+json_line row = compact_text (row_data row) ++ 10 ∷ []
+
+abbrev pub json_lines : List Row → List ℕ
+json_lines rows = flat_map json_line rows

@@ -1,0 +1,22 @@
+-- Changes as plain data, and what is printed of them.
+use Rattle.std.specs.Prelude.{ℕ, List, [], ◌∷◌, ◌++◌, codes}
+use Rattle.std.specs.List.{flat_map}
+use Rattle.sb_query.specs.Printed.{row_line}
+use Rattle.sb_listing.specs.declared.changing.Change as rust
+use Rattle.sb_listing.specs.declared.changing.Change.TheVariants as lent
+use Rattle.sb_listing.specs.Changes.{Change, Set, Gone}
+
+abbrev pub seen : rust.Change → Change
+seen (lent.Set row) = Set row.now
+seen (lent.Gone row) = Gone row.now
+
+-- a row that is set as its line, and of one that is gone the owner and the key
+abbrev pub change_line : Change → List ℕ
+change_line (Set row) = codes "set " ++ row_line row
+change_line (Gone row) = codes "gone " ++ (row.owner ++ 32 ∷ (row.key ++ 10 ∷ []))
+
+abbrev pub told_line : rust.Change → List ℕ
+told_line change = change_line (seen change)
+
+abbrev pub told_lines : List rust.Change → List ℕ
+told_lines changes = flat_map told_line changes

@@ -1,0 +1,116 @@
+//! What changed from one listing to the next.
+ghost use Rattle.std.specs.Prelude.{◌≡◌, ◌++◌, List, map, OnOk, IfOk, IfErr};
+ghost use Rattle.sb_codec.specs.Records as records;
+ghost use Rattle.sb_listing.specs.Changes as spec;
+ghost use Rattle.sb_listing.specs.Seen.{seen};
+
+use sb_codec::Row;
+use sb_types::{Fault, Value, ValueRef};
+use std::alloc::Global;
+use std::cmp::Ordering;
+
+/// A difference of two listings, with its row lent.
+#[derive(Clone, Copy, Debug)]
+pub enum Change<'a> {
+    /// A row of the later listing. The earlier one has none at its owner and key, or one of another version or value.
+    Set(&'a Row),
+    /// A row of the earlier listing. The later one has none at its owner and key.
+    Gone(&'a Row),
+}
+
+/// How two rows stand, by owner and then by key.
+fn place_order(one: &Row, other: &Row) -> Ordering
+    ensures { result ≡ spec.place_order one.now other.now }
+{
+    let owners = one.owner().bytes().cmp(other.owner().bytes());
+    owners.then(one.key().bytes().cmp(other.key().bytes()))
+}
+
+fn is_same_value(one: &Value, other: &Value) -> bool
+    ensures { result ≡ spec.is_same_value one.now other.now }
+{
+    match one.view() {
+        ValueRef::Addr(text) => match other.as_addr() {
+            Some(it) => it == text,
+            None => false,
+        },
+        ValueRef::Weight(weight) => match other.as_weight() {
+            Some(it) => it == weight,
+            None => false,
+        },
+        ValueRef::Flag(flag) => match other.as_flag() {
+            Some(it) => it == flag,
+            None => false,
+        },
+    }
+}
+
+/// Whether two rows of one owner and key have one version and value.
+fn is_same(one: &Row, other: &Row) -> bool
+    ensures { result ≡ spec.is_same one.now other.now }
+{
+    one.version() == other.version() && is_same_value(one.value(), other.value())
+}
+
+/// Tells the rows of an earlier listing up to the place of a row of the later one, and that row, and gives the rows behind it.
+fn tell<'a>(
+    told: &mut Vec<Change<'a>>,
+    earlier: &'a [Row],
+    row: &'a Row,
+) -> Result<&'a [Row], Fault>
+    ensures told { IfOk result (λ rest. (next : List records.Row → List spec.Change) →
+        map seen told.new.items ++ next rest.now ≡ map seen told.old.items ++ spec.passing row.now next earlier.now) }
+    ensures memory { IfErr result (λ fault. fault ≡ Fault.NoMemory) }
+{
+    let mut rest = earlier;
+    while let Some((one, others)) = rest.split_first() {
+        match place_order(one, row) {
+            Ordering::Less => {
+                told.push(Change::Gone(one))?;
+                rest = others;
+            }
+            Ordering::Equal => {
+                if !is_same(one, row) {
+                    told.push(Change::Set(row))?;
+                }
+                return Ok(others);
+            }
+            Ordering::Greater => {
+                told.push(Change::Set(row))?;
+                return Ok(rest);
+            }
+        }
+    }
+    told.push(Change::Set(row))?;
+    Ok(rest)
+}
+
+/// Tells that these rows are gone.
+fn tell_gone<'a>(told: &mut Vec<Change<'a>>, rows: &'a [Row]) -> Result<(), Fault>
+    ensures told { OnOk result (map seen told.new.items ≡ map seen told.old.items ++ map spec.Gone rows.now) }
+    ensures memory { IfErr result (λ fault. fault ≡ Fault.NoMemory) }
+{
+    for row in rows {
+        told.push(Change::Gone(row))?;
+    }
+    Ok(())
+}
+
+/// What changed from an earlier listing to a later one, in ascending owner and key, by one walk through both. Where both ascend by
+/// owner and key, each once, the law `changes_tell_all` says which rows are told. `NoMemory`.
+pub fn changes<'a>(
+    alloc: Global,
+    earlier: &'a [Row],
+    later: &'a [Row],
+) -> Result<Vec<Change<'a>>, Fault>
+    ensures told { IfOk result (λ told. map seen told.items ≡ spec.merged earlier.now later.now) }
+    ensures memory { IfErr result (λ fault. fault ≡ Fault.NoMemory) }
+{
+    let mut told = Vec::new(alloc);
+    let mut rest = earlier;
+    for row in later {
+        rest = tell(&mut told, rest, row)?;
+    }
+    tell_gone(&mut told, rest)?;
+    Ok(told)
+}

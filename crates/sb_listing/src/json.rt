@@ -1,0 +1,97 @@
+//! Rows as JSON.
+ghost use Rattle.std.specs.Prelude.{◌≡◌, ◌∷◌, ◌++◌, [], false, IsUtf8, OnOk, IfOk, IfErr};
+ghost use Rattle.sb_types.specs.Value.{words_of};
+ghost use Rattle.sb_frames.specs.Sending.{Sends, OnlyWhereFailed};
+ghost use Rattle.serde_json.specs.View.{view};
+ghost use Rattle.serde_json.specs.Written.{has_float};
+ghost use Rattle.sb_listing.specs.Json.{value_data, row_data, json_line, json_lines};
+
+use sb_codec::{Row, Rows};
+use sb_frames::{LastWrite, write_counted};
+use sb_types::{Fault, ValueRef};
+use serde_json::{Value, json};
+use std::alloc::{AllocError, Global};
+use std::io::Write;
+
+/// Bytes that are UTF-8, as text.
+fn text_of(bytes: &[u8]) -> &str
+    requires { IsUtf8 bytes.now }
+    ensures { result.now ≡ bytes.now }
+{
+    str::from_utf8(bytes).unwrap_or("")
+}
+
+/// The word for the kind of a value.
+fn kind_of(value: &sb_types::Value) -> &'static str
+    ensures { result.now ≡ (words_of value.now).0 }
+{
+    match value.view() {
+        ValueRef::Addr(_) => "addr",
+        ValueRef::Weight(_) => "weight",
+        ValueRef::Flag(_) => "flag",
+    }
+}
+
+/// What a value holds: a text, a number, or true or false.
+fn json_of(alloc: Global, value: &sb_types::Value) -> Result<Value, AllocError>
+    ensures { IfOk result (λ json. view json ≡ value_data value.now) }
+{
+    match value.view() {
+        ValueRef::Addr(text) => Value::try_from_str(alloc, text_of(text)),
+        ValueRef::Weight(weight) => Ok(Value::from(weight)),
+        ValueRef::Flag(flag) => Ok(Value::from(flag)),
+    }
+}
+
+/// The object of a row.
+fn object_of(alloc: Global, row: &Row) -> Result<Value, AllocError>
+    ensures object { IfOk result (λ json. view json ≡ row_data row.now) }
+    ensures plain { IfOk result (λ json. has_float (view json) ≡ false) }
+{
+    let key = text_of(row.key().bytes());
+    let kind = kind_of(row.value());
+    let owner = text_of(row.owner().bytes());
+    let value = json_of(alloc, row.value())?;
+    let version = row.version();
+    json!(in alloc; {"key": key, "kind": kind, "owner": owner, "value": &value, "version": version})
+}
+
+fn add_json(alloc: Global, out: &mut Vec<u8>, row: &Row) -> Result<(), Fault>
+    ensures added { OnOk result (out.new.items ≡ out.old.items ++ json_line row.now) }
+    ensures memory { IfErr result (λ fault. fault ≡ Fault.NoMemory) }
+{
+    let object = object_of(alloc, row)?;
+    let text = object.to_vec(alloc)?;
+    out.extend_from_slice(&text)?;
+    out.push(b'\n')?;
+    Ok(())
+}
+
+/// The lines of these rows.
+fn lines_of(alloc: Global, rows: &[Row]) -> Result<Vec<u8>, Fault>
+    ensures lines { IfOk result (λ lines. lines.items ≡ json_lines rows.now) }
+    ensures memory { IfErr result (λ fault. fault ≡ Fault.NoMemory) }
+{
+    let mut out = Vec::new(alloc);
+    for row in rows {
+        add_json(alloc, &mut out, row)?;
+    }
+    Ok(out)
+}
+
+/// Prints a page as JSON, a line for each row: an object of its key, kind, owner, value and version. Tells what the last write of the
+/// call answered. `NoMemory`, with nothing written; `WriteFailed` with how many bytes were written, always fewer than all.
+pub fn print_json_rows<W: Write>(
+    alloc: Global,
+    writer: &mut W,
+    page: &Rows,
+) -> (Result<(), Fault>, LastWrite)
+    ensures prints { Sends (W.contents writer.old) (W.contents writer.new) (json_lines page.now.rows) result.0 }
+    // A write that did not fail, or that was made before the call, is no reason to stop.
+    ensures failed { OnlyWhereFailed result.0 result.1 }
+{
+    match lines_of(alloc, page.rows()) {
+        Ok(lines) => write_counted(writer, &lines),
+        Err(fault) => (Err(fault), LastWrite::new()),
+    }
+}

@@ -1,0 +1,60 @@
+//! The lines of changes.
+ghost use Rattle.std.specs.Prelude.{◌≡◌, ◌++◌, OnOk, IfOk, IfErr};
+ghost use Rattle.sb_frames.specs.Sending.{Sends, OnlyWhereFailed};
+ghost use Rattle.sb_listing.specs.Seen.{told_line, told_lines};
+
+use crate::changing::Change;
+use sb_frames::{LastWrite, write_counted};
+use sb_query::add_row;
+use sb_types::Fault;
+use std::alloc::Global;
+use std::io::Write;
+
+fn add_change(out: &mut Vec<u8>, change: &Change<'_>) -> Result<(), Fault>
+    ensures added { OnOk result (out.new.items ≡ out.old.items ++ told_line change.now) }
+    ensures memory { IfErr result (λ fault. fault ≡ Fault.NoMemory) }
+{
+    match change {
+        Change::Set(row) => {
+            out.extend_from_slice(b"set ")?;
+            add_row(out, row)
+        }
+        Change::Gone(row) => {
+            out.extend_from_slice(b"gone ")?;
+            out.extend_from_slice(row.owner().bytes())?;
+            out.push(b' ')?;
+            out.extend_from_slice(row.key().bytes())?;
+            out.push(b'\n')?;
+            Ok(())
+        }
+    }
+}
+
+/// The lines of these changes.
+fn lines_of(alloc: Global, changes: &[Change<'_>]) -> Result<Vec<u8>, Fault>
+    ensures lines { IfOk result (λ lines. lines.items ≡ told_lines changes.now) }
+    ensures memory { IfErr result (λ fault. fault ≡ Fault.NoMemory) }
+{
+    let mut out = Vec::new(alloc);
+    for change in changes {
+        add_change(&mut out, change)?;
+    }
+    Ok(out)
+}
+
+/// Prints changes, a line `set owner key version kind value` or `gone owner key` for each, and tells what the last write of the
+/// call answered. `NoMemory`, with nothing written; `WriteFailed` with how many bytes were written, always fewer than all.
+pub fn print_changes<W: Write>(
+    alloc: Global,
+    writer: &mut W,
+    changes: &[Change<'_>],
+) -> (Result<(), Fault>, LastWrite)
+    ensures prints { Sends (W.contents writer.old) (W.contents writer.new) (told_lines changes.now) result.0 }
+    // A write that did not fail, or that was made before the call, is no reason to stop.
+    ensures failed { OnlyWhereFailed result.0 result.1 }
+{
+    match lines_of(alloc, changes) {
+        Ok(lines) => write_counted(writer, &lines),
+        Err(fault) => (Err(fault), LastWrite::new()),
+    }
+}
