@@ -1,8 +1,8 @@
 //! What `--help` says behind the options.
 
 pub(crate) const EXAMPLE: &str =
-    "A node runs by `serve`; `set`, `del`, `get` and `watch` talk to one that runs. `sim` plays many nodes in memory, and `log` reads the log
-of a node that does not run. `attrdir COMMAND --help` says more of each.
+    "A node runs by `serve`; `set`, `del`, `get` and `watch` talk to one that runs. `sim` plays many nodes in memory, and `log` reads the
+log of a node that does not run. `attrdir COMMAND --help` says more of each.
 
 Example of a node, which is then asked from a second terminal:
   $ touch a.log
@@ -188,8 +188,8 @@ asked before, at first each row, in ascending owner and then key:
 Who enters each line in turn has the rows of the last asking. Of what changed between two askings only the last is seen. The lines of one
 asking are written at once, and where nothing changed nothing is printed.
 
-A fault ends the command, the first time that it asks and later, with `fault N`, its text and what to do about it on standard error: those of
-`attrdir get`. Of an asking that has a fault nothing is printed; what was printed before stands.
+A fault ends the command, the first time that it asks and later, with `fault N`, its text and what to do about it on standard error:
+those of `attrdir get`. Of an asking that has a fault nothing is printed; what was printed before stands.
 
 The exit status is 0 after the last of --count, 2 after a command line that is wrong, and 3 after a fault.
 
