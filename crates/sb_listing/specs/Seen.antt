@@ -12,8 +12,8 @@ seen (lent.Gone row) = Gone row.now
 
 -- a row that is set as its line, and of one that is gone the owner and the key
 abbrev pub change_line : Change → List ℕ
-change_line (Set row) = codes "set " ++ row_line row
-change_line (Gone row) = codes "gone " ++ (row.owner ++ 32 ∷ (row.key ++ 10 ∷ []))
+change_line (Set row) = codes "set" ++ 32 ∷ row_line row
+change_line (Gone row) = codes "gone" ++ 32 ∷ (row.owner ++ 32 ∷ (row.key ++ 10 ∷ []))
 
 abbrev pub told_line : rust.Change → List ℕ
 told_line change = change_line (seen change)

@@ -7,4 +7,4 @@ mod printing;
 
 pub use answering::answer;
 pub use laws::pages_follow;
-pub use printing::{add_row, print_rows};
+pub use printing::print_rows;

@@ -40,8 +40,7 @@ fn add_value(out: &mut Vec<u8>, value: &Value) -> Result<(), Fault>
     }
 }
 
-/// Adds the line of a row, `owner key version kind value`. `NoMemory`, with a part of the line added.
-pub fn add_row(out: &mut Vec<u8>, row: &Row) -> Result<(), Fault>
+fn add_row(out: &mut Vec<u8>, row: &Row) -> Result<(), Fault>
     ensures added { OnOk result (out.new.items ≡ out.old.items ++ row_line row.now) }
     ensures fault { IfErr result (λ fault. fault ≡ Fault.NoMemory) }
 {
