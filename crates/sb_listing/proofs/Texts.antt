@@ -10,7 +10,10 @@ use Rattle.std.proofs.lemmas.Str.Ascii.{IsAscii-from_all}
 use Rattle.sb_types.specs.Text.{is_between, is_plain_byte, is_name_byte, is_key_byte, is_addr_byte, is_name, is_key, is_addr}
 use Rattle.sb_types.specs.Value.{Value, Addr, Weight, Flag}
 use Rattle.serde_json.specs.Written.{has_float}
-use Rattle.sb_listing.specs.Json.{value_data}
+use Rattle.sb_codec.specs.Records.{Row}
+use Rattle.serde_json.specs.Data.{Data}
+use Rattle.sb_types.specs.Value.{words_of}
+use Rattle.sb_listing.specs.Json.{value_data, object_data, row_data}
 
 between : (least most b : ℕ) → is_between least most b ≡ true → most < 128 → b < 128
 between least most b is low = let upto : b ≤ most = leb-true b most (and_parts (nat_le least b) (nat_le b most) is).1 in omega arith
@@ -56,3 +59,12 @@ pub value-plain : (value : Value) → has_float (value_data value) ≡ false
 value-plain (Addr text) = refl
 value-plain (Weight weight) = refl
 value-plain (Flag flag) = refl
+
+pub row-plain : (row : Row) → has_float (row_data row) ≡ false
+unfolding row_data
+row-plain row = let plain = value-plain row.value in rw plain refl
+
+pub object-row : (row : Row) (key kind owner : List ℕ) (value : Data) (version : ℕ) → key ≡ row.key → kind ≡ (words_of row.value).0 → owner ≡ row.owner → value ≡ value_data row.value → version ≡ row.version
+    → object_data key kind owner value version ≡ row_data row
+unfolding row_data
+object-row row key kind owner value version k d o v n = cc

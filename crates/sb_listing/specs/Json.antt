@@ -12,10 +12,14 @@ value_data (Weight weight) = number (unsigned weight)
 value_data (Flag flag) = boolean flag
 
 -- the members stand in the order of their names
+abbrev pub object_data : List ℕ → List ℕ → List ℕ → Data → ℕ → Data
+object_data key kind owner value version =
+    object (member (codes "key") (string key) (member (codes "kind") (string kind) (member (codes "owner") (string owner)
+    (member (codes "value") value (member (codes "version") (number (unsigned version)) no_members)))))
+
+-- a row as an object: its key, the word of its kind, its owner, what its value holds, and its version
 unfoldable pub row_data : Row → Data
-row_data row =
-    object (member (codes "key") (string row.key) (member (codes "kind") (string (words_of row.value).0) (member (codes "owner") (string row.owner)
-    (member (codes "value") (value_data row.value) (member (codes "version") (number (unsigned row.version)) no_members)))))
+row_data row = object_data row.key (words_of row.value).0 row.owner (value_data row.value) row.version
 
 -- the text of the object without spaces, and the end of the line
 abbrev pub json_line : Row → List ℕ

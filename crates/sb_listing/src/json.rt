@@ -4,7 +4,7 @@ ghost use Rattle.sb_types.specs.Value.{words_of};
 ghost use Rattle.sb_frames.specs.Sending.{Sends, OnlyWhereFailed};
 ghost use Rattle.serde_json.specs.View.{view};
 ghost use Rattle.serde_json.specs.Written.{has_float};
-ghost use Rattle.sb_listing.specs.Json.{value_data, row_data, json_line, json_lines};
+ghost use Rattle.sb_listing.specs.Json.{value_data, object_data, row_data, json_line, json_lines};
 
 use sb_codec::{Row, Rows};
 use sb_frames::{LastWrite, write_counted};
@@ -43,6 +43,20 @@ fn json_of(alloc: Global, value: &sb_types::Value) -> Result<Value, AllocError>
     }
 }
 
+/// The object of these members.
+fn object_with(
+    alloc: Global,
+    key: &str,
+    kind: &str,
+    owner: &str,
+    value: &Value,
+    version: u64,
+) -> Result<Value, AllocError>
+    ensures { IfOk result (λ json. view json ≡ object_data key.now kind.now owner.now (view value.now) version) }
+{
+    json!(in alloc; {"key": key, "kind": kind, "owner": owner, "value": value, "version": version})
+}
+
 /// The object of a row.
 fn object_of(alloc: Global, row: &Row) -> Result<Value, AllocError>
     ensures object { IfOk result (λ json. view json ≡ row_data row.now) }
@@ -52,8 +66,7 @@ fn object_of(alloc: Global, row: &Row) -> Result<Value, AllocError>
     let kind = kind_of(row.value());
     let owner = text_of(row.owner().bytes());
     let value = json_of(alloc, row.value())?;
-    let version = row.version();
-    json!(in alloc; {"key": key, "kind": kind, "owner": owner, "value": &value, "version": version})
+    object_with(alloc, key, kind, owner, &value, row.version())
 }
 
 fn add_json(alloc: Global, out: &mut Vec<u8>, row: &Row) -> Result<(), Fault>

@@ -1,0 +1,7 @@
+use Rattle.std.proofs.Common.{ap, ◌∙◌}
+use Rattle.sb_types.specs.Value.{is_value}
+use Rattle.sb_listing.proofs.Texts.{addr-utf8}
+use Rattle.sb_listing.proofs.json.json_of.Goals as goal
+
+pub text_of-requires : goal.text_of-requires
+text_of-requires c = addr-utf8 c.in-Addr.text.now (ap is_value c.in-Addr.ensures.content ∙ c.in-Addr.ensures.value)
