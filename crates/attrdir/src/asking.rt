@@ -146,36 +146,23 @@ pub(crate) enum Form {
     Json,
 }
 
-/// The pages of a node's rows that are not asked for yet.
-#[derive(Drop)]
-pub(crate) struct Pages<'a> {
+/// The page that answers a question, and the question for what is behind it, where more rows follow.
+pub(crate) fn ask_page<'a>(
+    rt: &HostRuntime,
     control: &'a str,
-    /// None behind the last page.
-    next: Option<Ask>,
-}
-
-impl<'a> Pages<'a> {
-    /// All pages of the rows that are asked for.
-    pub(crate) fn new(control: &'a str, asked: Ask) -> Pages<'a> {
-        Pages {
-            control,
-            next: Some(asked),
-        }
-    }
-
-    /// Asks for the next page; none behind the last. The faults of a page leave it to be asked for again.
-    pub(crate) fn ask_next(&mut self, rt: &HostRuntime) -> Result<Option<Rows>, Failure<'a>> {
-        let Some(mut ask) = self.next else {
-            return Ok(None);
-        };
-        let page = page_of(rt, self.control, ask)?;
-        ask.after = place_behind(&page);
-        self.next = match ask.after {
-            Some(_) => Some(ask),
-            None => None,
-        };
-        Ok(Some(page))
-    }
+    ask: Ask,
+) -> Result<(Rows, Option<Ask>), Failure<'a>> {
+    let page = page_of(rt, control, ask)?;
+    let after = place_behind(&page);
+    let behind = match after {
+        Some(_) => Some(Ask {
+            owner: ask.owner,
+            prefix: ask.prefix,
+            after,
+        }),
+        None => None,
+    };
+    Ok((page, behind))
 }
 
 fn print_page(rt: &HostRuntime, page: &Rows, form: Form) -> Result<(), Fault> {
@@ -194,12 +181,14 @@ pub(crate) fn print_all<'a>(
     asked: Ask,
     form: Form,
 ) -> Result<(), Failure<'a>> {
-    let mut pages = Pages::new(control, asked);
+    let mut ask = asked;
     for _ in 0..u64::MAX {
-        let Some(page) = pages.ask_next(rt)? else {
-            return Ok(());
-        };
+        let (page, behind) = ask_page(rt, control, ask)?;
         print_page(rt, &page, form)?;
+        match behind {
+            Some(next) => ask = next,
+            None => return Ok(()),
+        }
     }
     Err(Failure::at(Place::Control(control), Fault::TurnsSpent))
 }

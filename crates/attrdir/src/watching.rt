@@ -1,5 +1,5 @@
 //! What changes at a node that runs, which is asked again and again.
-use crate::asking::Pages;
+use crate::asking::ask_page;
 use crate::failure::{Failure, Place};
 use sb_codec::{Ask, Row, Rows};
 use sb_listing::{changes, print_changes};
@@ -29,12 +29,14 @@ fn add_rows(rt: &HostRuntime, rows: &mut Vec<Row>, page: &Rows) -> Result<(), Fa
 /// All rows that are asked for, page after page.
 fn listing<'a>(rt: &HostRuntime, control: &'a str, asked: Ask) -> Result<Vec<Row>, Failure<'a>> {
     let mut rows = Vec::new(rt.alloc());
-    let mut pages = Pages::new(control, asked);
+    let mut ask = asked;
     for _ in 0..u64::MAX {
-        let Some(page) = pages.ask_next(rt)? else {
-            return Ok(rows);
-        };
+        let (page, behind) = ask_page(rt, control, ask)?;
         add_rows(rt, &mut rows, &page)?;
+        match behind {
+            Some(next) => ask = next,
+            None => return Ok(rows),
+        }
     }
     Err(Failure::at(Place::Control(control), Fault::TurnsSpent))
 }
