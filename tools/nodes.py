@@ -73,6 +73,10 @@ def page(rows, more=0):
     return ROWS, bytes([more]) + number(len(rows), 2) + told
 
 
+def bytes_by(chance, count):
+    return chance.getrandbits(8 * count).to_bytes(count, "little")
+
+
 def connect(path):
     stream = socket.socket(socket.AF_UNIX, socket.SOCK_STREAM)
     stream.settimeout(SECONDS)
