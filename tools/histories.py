@@ -4,6 +4,7 @@ import zlib
 from array import array
 from bisect import bisect_left, bisect_right, insort
 from collections import namedtuple
+from math import log2
 
 # how many writers an owner has, and how many keys each of them
 WRITERS, KEYS = 2, 24
@@ -35,14 +36,15 @@ def could_be_disturbed(word, of):
 
 
 class Open:
-    """A write that was asked for, of which it is not known whether it was made, and as which version: it lies above `after`, and once a
-    reader has seen it, it is `seen`."""
+    """A write that was asked for, of which it is not known whether it was made, and as which version: it lies above `after`, below
+    `before` where that is known, and once a reader has seen it, it is `seen`."""
 
     def __init__(self, asked, after):
-        self.asked, self.after, self.seen = asked, after, 0
+        self.asked, self.after, self.before, self.seen = asked, after, 0, 0
 
     def may_be(self, version, words):
-        return f"{self.asked.kind} {self.asked.value}" == words and version > self.after and self.seen in (0, version)
+        is_between = version > self.after and (not self.before or version < self.before)
+        return f"{self.asked.kind} {self.asked.value}" == words and is_between and self.seen in (0, version)
 
 
 class History:
@@ -61,11 +63,11 @@ class History:
         self.open = {key: {} for key in self.keys}
 
     def asked(self, number):
-        """What write NUMBER is. Each number is of one writer, and each key of one writer too."""
+        """What write NUMBER is. Each number is of one writer, and each key of one writer too. Some keys are written often, some hardly."""
         mixed = zlib.crc32(f"{self.seed} {self.owner} {number}".encode())
-        key = key_of(number % WRITERS, mixed % KEYS)
-        kind = (REMOVED, "flag", "addr", "addr", "weight", "weight", "weight", "weight")[mixed >> 8 & 7]
-        values = {REMOVED: "-", "flag": ("false", "true")[mixed >> 16 & 1], "addr": f"10.0.0.1:{number}", "weight": str(number)}
+        key = key_of(number % WRITERS, int(2 * (16 - log2(1 + mixed % 65536))) % KEYS)
+        kind = (REMOVED, "flag", "addr", "addr", "weight", "weight", "weight", "weight")[mixed >> 16 & 7]
+        values = {REMOVED: "-", "flag": ("false", "true")[mixed >> 19 & 1], "addr": f"10.0.0.1:{number}", "weight": str(number)}
         return Asked(key, kind, values[kind])
 
     def begin(self, number):
@@ -95,6 +97,9 @@ class History:
                 return f"was acknowledged as version {version}, and so was write {self.numbers[version]}"
             self.numbers[version] = number
             insort(self.versions[it.asked.key], version)
+            # (the writer of a key asks for one write after the other)
+            for earlier in self.open[it.asked.key].values():
+                earlier.before = earlier.before or version
             self.last, self.count = max(self.last, version), self.count + 1
             return None
 
@@ -119,6 +124,12 @@ class History:
             at = bisect_right(versions, upto)
             return versions[at - 1] if at else 0
 
+    def may_be_above(self, key, upto):
+        """Whether the key may have been written above this version."""
+        with self.lock:
+            versions = self.versions[key]
+            return bool(versions) and versions[-1] > upto or any(not it.before or it.before > upto for it in self.open[key].values())
+
     def may_be_gone(self, key, version):
         """Whether nothing may stand under the key, of which this version is held."""
         with self.lock:
@@ -130,10 +141,11 @@ class History:
 
 
 class Sight:
-    """What one reader was given in one run of a node. What it is given next has to go on from there."""
+    """What one reader was given in one run of a node. What it is given next has to go on from there. Of some owners, as of the node's own
+    name, the node is known to have each write up to what is held; of others only those of keys that were not written above that."""
 
-    def __init__(self, histories):
-        self.histories = histories
+    def __init__(self, histories, whole):
+        self.histories, self.whole = histories, whole
         # of each owner a version that is held, and of each owner and key the version that was read last
         self.upto, self.seen = {}, {}
 
@@ -163,6 +175,8 @@ class Sight:
             version = versions.get(key)
             upto = max(upto, version or 0)
             newest = history.newest(key, upto)
+            if history.owner not in self.whole and history.may_be_above(key, upto):
+                continue
             if version is None:
                 if newest and not history.may_be_gone(key, newest):
                     yield f"{history.owner} {key} is gone, of which version {newest} was acknowledged, where {upto} is held"
