@@ -162,7 +162,10 @@ class Node:
         self.ran = subprocess.Popen(self.words(), **self.how)
         self.first = self.ran.stderr.readline()
         if "listens" not in self.first:
-            raise Difference(f"node {self.name} did not start: {self.first}{self.ran.communicate()[1]}")
+            # (what came with the first line is not communicated any more)
+            rest = self.ran.stderr.read()
+            self.ran.communicate()
+            raise Difference(f"node {self.name} did not start: {self.first}{rest}")
         return self
 
     def kill(self):
