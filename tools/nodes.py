@@ -11,7 +11,7 @@ from pathlib import Path
 ROOT = Path(__file__).resolve().parent.parent
 PROGRAM = ROOT / "crates/attrdir/out/attrdir"
 SECONDS = 30
-DONE, ROWS = 0x13, 0x11
+DONE, ROWS, REFUSED = 0x13, 0x11, 0x14
 
 
 class Difference(Exception):
@@ -73,6 +73,10 @@ def page(rows, more=0):
     return ROWS, bytes([more]) + number(len(rows), 2) + told
 
 
+def bytes_by(chance, count):
+    return chance.getrandbits(8 * count).to_bytes(count, "little")
+
+
 def connect(path):
     stream = socket.socket(socket.AF_UNIX, socket.SOCK_STREAM)
     stream.settimeout(SECONDS)
@@ -103,6 +107,23 @@ def exchange(path, request):
         return read_frame(stream)
 
 
+def throw(path, content):
+    """Sends these bytes to a socket, and takes what comes until the end. The other side may end it first. Whether there was one."""
+    is_there = False
+    try:
+        with connect(path) as stream:
+            is_there = True
+            stream.sendall(content)
+            stream.shutdown(socket.SHUT_WR)
+            while stream.recv(65536):
+                pass
+    except socket.timeout:
+        raise Difference(f"{path.name} let {content[:300].hex()} wait for {SECONDS} s") from None
+    except OSError:
+        pass
+    return is_there
+
+
 def version_of(answer):
     """The version of a Done."""
     if answer is None or answer[0] != DONE:
@@ -126,6 +147,8 @@ class Node:
         self.program, self.name, self.options, self.peers = program, name, options, peers
         self.log, self.sock, self.control = (Path(folder) / f"{name}.{end}" for end in ("log", "sock", "ctl"))
         self.log.touch()
+        # what Popen is given beside the words
+        self.how = {"stdin": subprocess.DEVNULL, "stdout": subprocess.PIPE, "stderr": subprocess.PIPE, "text": True}
         self.ran = None
 
     def words(self):
@@ -136,16 +159,23 @@ class Node:
         """Starts it, without the sockets of an earlier run, and waits until it listens."""
         for path in (self.sock, self.control):
             path.unlink(missing_ok=True)
-        how = {"stdin": subprocess.DEVNULL, "stdout": subprocess.PIPE, "stderr": subprocess.PIPE, "text": True}
-        self.ran = subprocess.Popen(self.words(), **how)
+        self.ran = subprocess.Popen(self.words(), **self.how)
         self.first = self.ran.stderr.readline()
         if "listens" not in self.first:
-            raise Difference(f"node {self.name} did not start: {self.first}{self.ran.communicate()[1]}")
+            # (what came with the first line is not communicated any more)
+            rest = self.ran.stderr.read()
+            self.ran.communicate()
+            raise Difference(f"node {self.name} did not start: {self.first}{rest}")
         return self
 
     def kill(self):
         self.ran.kill()
         self.ran.communicate()
+
+    def resident(self, name="VmRSS"):
+        """Bytes of memory of its process."""
+        with open(f"/proc/{self.ran.pid}/status") as lines:
+            return next(int(it.split()[1]) * 1024 for it in lines if it.startswith(f"{name}:"))
 
     def ended(self):
         """Its exit status, what it printed, and the lines that it said."""

@@ -1,0 +1,196 @@
+"""What owners were asked to write, and whether the rows that readers are given come of it. tools/storm writes and judges rows by it."""
+import threading
+import zlib
+from array import array
+from bisect import bisect_left, bisect_right, insort
+from collections import namedtuple
+from math import log2
+
+# how many writers an owner has, and how many keys each of them
+WRITERS, KEYS = 2, 24
+REMOVED = "removed"
+# a key of none of the writers, under which hostile callers have an owner write
+DISTURBED = "changed"
+# the name of hostile peers, who write as nobody else
+HOSTILE = "zz"
+
+Asked = namedtuple("Asked", "key kind value")
+Row = namedtuple("Row", "owner key version words")
+
+
+def key_of(writer, index):
+    return f"k/{writer}/{index:02}"
+
+
+def row_of(line):
+    """The row that a line of `get` is; none where it is no such line."""
+    words = line.split(" ")
+    if len(words) != 5 or not words[2].isdecimal():
+        return None
+    return Row(words[0], words[1], int(words[2]), f"{words[3]} {words[4]}")
+
+
+def could_be_disturbed(word, of):
+    """Whether a word is another one with at most one of its bytes changed."""
+    return len(word) == len(of) and sum(a != b for a, b in zip(word, of)) <= 1
+
+
+class Open:
+    """A write that was asked for, of which it is not known whether it was made, and as which version: it lies above `after`, below
+    `before` where that is known, and once a reader has seen it, it is `seen`."""
+
+    def __init__(self, asked, after):
+        self.asked, self.after, self.before, self.seen = asked, after, 0, 0
+
+    def may_be(self, version, words):
+        is_between = version > self.after and (not self.before or version < self.before)
+        return f"{self.asked.kind} {self.asked.value}" == words and is_between and self.seen in (0, version)
+
+
+class History:
+    """The writes of one owner: those that were acknowledged, with their versions, and those that are open. What a number asks for follows
+    from the seed and the owner, so no write has to be kept. Threads share it."""
+
+    def __init__(self, seed, owner):
+        self.seed, self.owner = seed, owner
+        self.keys = sorted(key_of(writer, index) for writer in range(WRITERS) for index in range(KEYS))
+        self.lock = threading.Lock()
+        # the greatest version that was acknowledged, and how many were
+        self.last, self.count = 0, 0
+        # the number of the write of each version, 0 where it is not known
+        self.numbers = array("Q", [0])
+        self.versions = {key: array("Q") for key in self.keys}
+        self.open = {key: {} for key in self.keys}
+
+    def asked(self, number):
+        """What write NUMBER is. Each number is of one writer, and each key of one writer too. Some keys are written often, some hardly."""
+        mixed = zlib.crc32(f"{self.seed} {self.owner} {number}".encode())
+        key = key_of(number % WRITERS, int(2 * (16 - log2(1 + mixed % 65536))) % KEYS)
+        kind = (REMOVED, "flag", "addr", "addr", "weight", "weight", "weight", "weight")[mixed >> 16 & 7]
+        values = {REMOVED: "-", "flag": ("false", "true")[mixed >> 19 & 1], "addr": f"10.0.0.1:{number}", "weight": str(number)}
+        return Asked(key, kind, values[kind])
+
+    def begin(self, number):
+        """Before it is asked for."""
+        asked = self.asked(number)
+        with self.lock:
+            self.open[asked.key][number] = Open(asked, self.last)
+        return asked
+
+    def refuse(self, number):
+        """It was not made; why that can't be, if it can't."""
+        with self.lock:
+            it = self.open[self.asked(number).key].pop(number)
+            return f"was refused, and was read as version {it.seen}" if it.seen else None
+
+    def acknowledge(self, number, version):
+        """It was made, as this version; why that can't be, if it can't."""
+        with self.lock:
+            it = self.open[self.asked(number).key].pop(number)
+            if version <= it.after:
+                return f"was acknowledged as version {version}, when {it.after} was the last one"
+            if it.seen not in (0, version):
+                return f"was acknowledged as version {version}, and was read as version {it.seen}"
+            if version >= len(self.numbers):
+                self.numbers.frombytes(bytes(self.numbers.itemsize * (version + 1 - len(self.numbers))))
+            if self.numbers[version]:
+                return f"was acknowledged as version {version}, and so was write {self.numbers[version]}"
+            self.numbers[version] = number
+            insort(self.versions[it.asked.key], version)
+            # (the writer of a key asks for one write after the other)
+            for earlier in self.open[it.asked.key].values():
+                earlier.before = earlier.before or version
+            self.last, self.count = max(self.last, version), self.count + 1
+            return None
+
+    def has(self, row):
+        """Whether the row is a write that the owner was asked for, at the version under which it was acknowledged."""
+        if row.key not in self.open:
+            return could_be_disturbed(row.key, DISTURBED)
+        with self.lock:
+            if row.version < len(self.numbers) and self.numbers[row.version]:
+                asked = self.asked(self.numbers[row.version])
+                return asked.key == row.key and f"{asked.kind} {asked.value}" == row.words
+            for it in self.open[row.key].values():
+                if it.may_be(row.version, row.words):
+                    it.seen = row.version
+                    return True
+            return False
+
+    def newest(self, key, upto):
+        """The last version up to this one that was acknowledged under the key; 0 where there is none."""
+        with self.lock:
+            versions = self.versions[key]
+            at = bisect_right(versions, upto)
+            return versions[at - 1] if at else 0
+
+    def may_be_above(self, key, upto):
+        """Whether the key may have been written above this version."""
+        with self.lock:
+            versions = self.versions[key]
+            return bool(versions) and versions[-1] > upto or any(not it.before or it.before > upto for it in self.open[key].values())
+
+    def may_be_gone(self, key, version):
+        """Whether nothing may stand under the key, of which this version is held."""
+        with self.lock:
+            versions = self.versions[key]
+            later = range(bisect_left(versions, version), len(versions))
+            return any(self.asked(self.numbers[versions[at]]).kind == REMOVED for at in later) or any(
+                it.asked.kind == REMOVED for it in self.open[key].values()
+            )
+
+
+class Sight:
+    """What one reader was given in one run of a node. What it is given next has to go on from there. Of some owners, as of the node's own
+    name, the node is known to have each write up to what is held; of others only those of keys that were not written above that."""
+
+    def __init__(self, histories, whole):
+        self.histories, self.whole = histories, whole
+        # of each owner a version that is held, and of each owner and key the version that was read last
+        self.upto, self.seen = {}, {}
+
+    def holds(self, owner, version):
+        """All of the owner's writes up to this version are held by now."""
+        self.upto[owner] = max(self.upto.get(owner, 0), version)
+
+    def look(self, rows):
+        """What is wrong with these rows, all that a node gave in their order."""
+        yield from wrong_rows(self.histories, rows)
+        yield from self.falls(rows)
+        for owner, history in self.histories.items():
+            yield from self.losses(history, {it.key: it.version for it in rows if it.owner == owner})
+
+    def falls(self, rows):
+        for it in rows:
+            before = self.seen.get((it.owner, it.key), 0)
+            if it.version < before:
+                yield f"{it.owner} {it.key} fell from version {before} to {it.version}"
+            self.seen[it.owner, it.key] = it.version
+
+    def losses(self, history, versions):
+        """Keys of an owner of which less is given than is held. A page is of one state, and none is older than the page before: so all that
+        was given so far, in ascending key, is held from there on."""
+        upto = self.upto.get(history.owner, 0)
+        for key in history.keys:
+            version = versions.get(key)
+            upto = max(upto, version or 0)
+            newest = history.newest(key, upto)
+            if history.owner not in self.whole and history.may_be_above(key, upto):
+                continue
+            if version is None:
+                if newest and not history.may_be_gone(key, newest):
+                    yield f"{history.owner} {key} is gone, of which version {newest} was acknowledged, where {upto} is held"
+            elif version < newest:
+                yield f"{history.owner} {key} is of version {version}, and {newest} was acknowledged, where {upto} is held"
+        self.holds(history.owner, max([upto, *versions.values()]))
+
+
+def wrong_rows(histories, rows):
+    """Rows that are out of order, or that nobody was asked for. Hostile peers write as HOSTILE, or as that with a byte changed."""
+    places = [(it.owner, it.key) for it in rows]
+    if places != sorted(set(places)):
+        yield f"rows do not ascend by owner and key: {places}"
+    for it in rows:
+        history = histories.get(it.owner)
+        if not (history.has(it) if history else could_be_disturbed(it.owner, HOSTILE)):
+            yield f"nobody was asked for {' '.join(map(str, it))}"
