@@ -110,9 +110,12 @@ pub fn cursors<'a>(
     ensures memory { IfErr result (λ fault. fault ≡ Fault.NoMemory) }
 {
     let mut cursors = Vec::new(alloc);
+    let mut place = 0;
     for (owner, table) in holdings.tables_from(None) {
         if digest.covers(owner) {
-            if let Some(cursor) = Cursor::new(*owner, table, digest.number(owner)) {
+            let (number, next) = digest.number_from(owner, place);
+            place = next;
+            if let Some(cursor) = Cursor::new(*owner, table, number) {
                 cursors.push(cursor)?;
             }
         }
