@@ -111,7 +111,7 @@ fn made_budget(random: &mut Pcg32) -> u64
     match below(random, 4) {
         0 => BUDGET_LEAST,
         1 => BUDGET_MOST,
-        _ => BUDGET_LEAST + below(random, 4_000),
+        _ => BUDGET_LEAST + below(random, 1_000),
     }
 }
 
@@ -162,6 +162,6 @@ fn both_ways_make_one_delta(rt: HostRuntime) -> Result<(), Fail> {
         cut_short = cut_short.wrapping_add(u64::from(is_short));
     }
     // Not of holdings alone that fit a frame.
-    assert!(rt; cut_short > HOLDINGS / 4, "{cut_short}");
+    assert!(rt; cut_short > HOLDINGS / 8, "{cut_short}");
     Ok(())
 }
