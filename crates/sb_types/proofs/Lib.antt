@@ -5,3 +5,4 @@ pub mod Words
 pub mod Live
 pub mod Texts
 pub mod Standing
+pub mod Padded

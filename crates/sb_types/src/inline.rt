@@ -1,11 +1,29 @@
 //! Short texts that lie in the value itself.
 
 ghost use Rattle.std.specs.Prelude.{◌≡◌, ◌≤◌, ◌<◌, length};
+ghost use Rattle.std.specs.Ordering.{nat_cmp};
+ghost use Rattle.std.specs.Cmp.Lexicographic.{slice_cmp};
 ghost use Rattle.std.proofs.Common.{rules};
 
 use std::cmp::Ordering;
 use std::fmt;
 use std::marker::Model;
+
+/// The order of two texts, of which eight bytes at a time are compared as one number.
+fn order(left: &[u8], right: &[u8]) -> Ordering
+    ensures { result ≡ slice_cmp nat_cmp left.now right.now }
+{
+    let (mut left, mut right) = (left, right);
+    while let (Some((front, behind)), Some((other, later))) =
+        (left.split_first_chunk::<8>(), right.split_first_chunk::<8>())
+    {
+        match u64::from_be_bytes(*front).cmp(&u64::from_be_bytes(*other)) {
+            Ordering::Equal => (left, right) = (behind, later),
+            unequal => return unequal,
+        }
+    }
+    left.cmp(right)
+}
 
 /// A short text that lies in the value itself. The bytes behind it are 0.
 #[derive(Clone, Copy)]
