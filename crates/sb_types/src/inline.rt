@@ -9,7 +9,7 @@ use std::cmp::Ordering;
 use std::fmt;
 use std::marker::Model;
 
-/// The order of two texts, of which eight bytes at a time are compared as one number.
+/// The order of two texts. Eight bytes at a time are compared as one number.
 fn order(left: &[u8], right: &[u8]) -> Ordering
     ensures { result ≡ slice_cmp nat_cmp left.now right.now }
 {
@@ -121,7 +121,7 @@ impl<const CAP: usize> Ord for InlineText<CAP> {
     ghost matches_eq = { Prim.search (comparing, rules) };
 
     fn cmp(&self, other: &Self) -> Ordering {
-        self.bytes().cmp(other.bytes())
+        order(&self.cells, &other.cells).then(self.len.cmp(&other.len))
     }
 }
 
