@@ -121,7 +121,10 @@ impl<const CAP: usize> Ord for InlineText<CAP> {
     ghost matches_eq = { Prim.search (comparing, rules) };
 
     fn cmp(&self, other: &Self) -> Ordering {
-        order(&self.cells, &other.cells).then(self.len.cmp(&other.len))
+        match order(&self.cells, &other.cells) {
+            Ordering::Equal => self.len.cmp(&other.len),
+            unequal => unequal,
+        }
     }
 }
 
