@@ -108,7 +108,7 @@ fn measure_node(
     Ok(())
 }
 
-/// How a delta is made, step by step.
+/// How a delta is made: step by step with a list of all that is lacking, and without it.
 fn measure_delta(
     rt: &HostRuntime,
     sizes: Sizes,
@@ -119,6 +119,8 @@ fn measure_delta(
     layers::arrange(rt, sizes, node, &Breadth)?.print(rt, telling, "breadth", "entry")?;
     layers::arrange(rt, sizes, node, &Depth)?.print(rt, telling, "depth", "entry")?;
     layers::cut_front(rt, sizes, node)?.print(rt, telling, "cut", "entry")?;
+    layers::delta(rt, sizes, node, &Breadth)?.print(rt, telling, "delta-breadth", "frame")?;
+    layers::delta(rt, sizes, node, &Depth)?.print(rt, telling, "delta-depth", "frame")?;
     Ok(())
 }
 

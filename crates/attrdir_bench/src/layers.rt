@@ -119,6 +119,25 @@ pub(crate) fn cut_front(
     Ok(measured)
 }
 
+/// The frame of the greatest budget for a peer that holds nothing, made without a list of the rest.
+pub(crate) fn delta<O: DeltaOrder>(
+    rt: &HostRuntime,
+    sizes: Sizes,
+    node: &Holdings,
+    order: &O,
+) -> Result<Measured, Problem> {
+    let alloc = rt.alloc();
+    let mut measured = Measured::new();
+    let digest = empty_digest(alloc)?;
+    for _ in 0..sizes.rounds {
+        let start = rt.process_cpu_time()?;
+        let _delta = order.delta(alloc, node, &digest, BUDGET_MOST)?;
+        measured.stop(rt, start)?;
+        measured.count(1);
+    }
+    Ok(measured)
+}
+
 /// A delta as a message, and how many entries it has.
 #[derive(Drop)]
 pub(crate) struct WholeDelta {

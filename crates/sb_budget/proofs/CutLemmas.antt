@@ -37,7 +37,7 @@ module _ (budget room : ℕ) (offered front : List Offered) (blocks : List Block
   count_is rest whole = ap (take (length front)) (sym whole) ∙ take-append_seam front rest
 
   -- the delta of what was gathered
-  so_far_delta : (rest : List Offered) → front ++ rest ≡ offered → blocks ≡ delta_at (length front) (items_of_all offered)
+  pub so_far_delta : (rest : List Offered) → front ++ rest ≡ offered → blocks ≡ delta_at (length front) (items_of_all offered)
   so_far_delta rest whole = so_far.items can ∙ ap (gathered (after_of offered can)) (sym (count_is rest whole)) ∙ sym (delta_is_gathered offered can (length front))
 
   front_within : (rest : List Offered) → front ++ rest ≡ offered → length front ≤ length (items_of_all offered)
@@ -59,13 +59,13 @@ module _ (budget room : ℕ) (offered front : List Offered) (blocks : List Block
   }
 
   module _ (x : Offered) (rest : List Offered) (whole : front ++ x ∷ rest ≡ offered) (place : Result ℕ ℕ) (in_range : IsSearchInRange place (length blocks)) (found : IsBinarySearchResult (λ (b : Block). text_cmp b.owner x.owner) blocks place) where
-    placed_joined : placed place x blocks ≡ joined x blocks
+    placed_joined : placed place x.owner x.after x.entry blocks ≡ joined x blocks
     placed_joined = placed_is_joined x blocks place so_far.ascending in_range found
 
     ordered : are_ordered (gathered (after_of offered can) front) ≡ true
     ordered = ap are_ordered (sym (so_far.items can)) ∙ ordered_above [] blocks so_far.ascending
 
-    next_gathered : gathered (after_of offered can) (front ++ x ∷ []) ≡ placed place x blocks
+    next_gathered : gathered (after_of offered can) (front ++ x ∷ []) ≡ placed place x.owner x.after x.entry blocks
     next_gathered =
         gathered_push (after_of offered can) front x (known_after (x ∷ rest) whole x (inl refl)) ordered
         ∙ ap (joined x) (sym (so_far.items can)) ∙ sym placed_joined
@@ -77,7 +77,7 @@ module _ (budget room : ℕ) (offered front : List Offered) (blocks : List Block
     next_ordered = ap are_ordered (next_gathered ∙ placed_joined) ∙ joined_ordered x blocks (ordered_above [] blocks so_far.ascending)
 
     -- every longer front takes as much as the next
-    longer : (n : ℕ) → length front < n → sum_by block_length (placed place x blocks) ≤ sum_by block_length (delta_at n (items_of_all offered))
+    longer : (n : ℕ) → length front < n → sum_by block_length (placed place x.owner x.after x.entry blocks) ≤ sum_by block_length (delta_at n (items_of_all offered))
     longer n l =
         let more = take (n - length (front ++ x ∷ [])) rest in
         let known : AreKnown (after_of offered can) more = λ o s. known_after (x ∷ rest) whole o (inr (taken (n - length (front ++ x ∷ [])) rest o s)) in
@@ -88,7 +88,7 @@ module _ (budget room : ℕ) (offered front : List Offered) (blocks : List Block
         omega (arith, grows, ap (sum_by block_length) next_gathered, ap (λ l. sum_by block_length (gathered (after_of offered can) l)) these, ap (sum_by block_length) (delta_is_gathered offered can n))
 
     -- where the next item does not fit
-    pub cut_here : room < cost_of x place → IsCut budget (items_of_all offered) blocks
+    pub cut_here : room < cost_of x.owner x.entry place → IsCut budget (items_of_all offered) blocks
     cut_here full = record {
       count = length front;
       within = front_within (x ∷ rest) whole;
@@ -99,7 +99,7 @@ module _ (budget room : ℕ) (offered front : List Offered) (blocks : List Block
 
 pub gathering_more : (budget room left : ℕ) (offered front : List Offered) (blocks : List Block) (x : Offered) (rest : List Offered) (place : Result ℕ ℕ) →
     IsGathering budget room offered front blocks → front ++ x ∷ rest ≡ offered → IsSearchInRange place (length blocks) → IsBinarySearchResult (λ (b : Block). text_cmp b.owner x.owner) blocks place →
-    left + cost_of x place ≡ room → text_lt [] x.owner ≡ true → IsGathering budget left offered (front ++ x ∷ []) (placed place x blocks)
+    left + cost_of x.owner x.entry place ≡ room → text_lt [] x.owner ≡ true → IsGathering budget left offered (front ++ x ∷ []) (placed place x.owner x.after x.entry blocks)
 gathering_more budget room left offered front blocks x rest place so_far whole in_range found takes named = record {
   items = λ can. sym (next_gathered budget room offered front blocks so_far can x rest whole place in_range found);
   ascending = ap (are_owners_above []) (placed_is_joined x blocks place so_far.ascending in_range found) ∙ joined_above x [] blocks named so_far.ascending;

@@ -80,7 +80,7 @@ module _ (after : List ℕ → ℕ) where
         (ap entries_in (by_push x.owner front x ∙ ap (λ r. offered_by x.owner front ++ r) (cond-true _ (x ∷ []) [] one)) ∙ map-append (λ (o : Offered). o.entry) (offered_by x.owner front) (x ∷ []))
 
     module _ (known : x.after ≡ after x.owner) where
-      part_new : offered_by x.owner front ≡ [] → part_of (front ++ x ∷ []) x.owner ≡ begun x
+      part_new : offered_by x.owner front ≡ [] → part_of (front ++ x ∷ []) x.owner ≡ begun x.owner x.after x.entry
       part_new none = part_own ∙ ap (λ p. block_of_entries x.owner (after x.owner) (entries_in p ++ x.entry ∷ [])) none ∙ ap (λ n. block_of_entries x.owner n (x.entry ∷ [])) (sym known)
 
       step : (ns : List (List ℕ)) → are_ordered (map (part_of front) ns) ≡ true → ((Stands ns x.owner → ⊥) → offered_by x.owner front ≡ []) →
@@ -90,7 +90,7 @@ module _ (after : List ℕ → ℕ) where
         where
           go : (r : Ordering) → text_cmp n x.owner ≡ r → (((Stands ns x.owner → ⊥) → offered_by x.owner front ≡ []) → map (part_of (front ++ x ∷ [])) (with_name x.owner ns) ≡ joined x (map (part_of front) ns)) →
               map (part_of (front ++ x ∷ [])) (match_ordering r (n ∷ with_name x.owner ns) (n ∷ ns) (x.owner ∷ n ∷ ns))
-              ≡ match_ordering r (part_of front n ∷ joined x (map (part_of front) ns)) (grown (part_of front n) x.entry ∷ map (part_of front) ns) (begun x ∷ part_of front n ∷ map (part_of front) ns)
+              ≡ match_ordering r (part_of front n ∷ joined x (map (part_of front) ns)) (grown (part_of front n) x.entry ∷ map (part_of front) ns) (begun x.owner x.after x.entry ∷ part_of front n ∷ map (part_of front) ns)
           go Less e rest =
               let other : n ≡ x.owner → ⊥ = less_apart n x.owner e in
               ap₂ (λ a b. a ∷ b) (part_other n other) (rest (λ missing. fresh (λ s. ⊎_elim other missing s)))

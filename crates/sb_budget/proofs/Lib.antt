@@ -4,7 +4,11 @@ pub mod PlaceLemmas
 pub mod NameLemmas
 pub mod GatherLemmas
 pub mod CutLemmas
+pub mod MakingLemmas
 pub mod HonestLemmas
 pub mod RankLemmas
 pub mod AvailableLemmas
 pub mod HeldLemmas
+pub mod PartLemmas
+pub mod TurnLemmas
+pub mod ListingLemmas

@@ -1,5 +1,5 @@
 //! Entries gathered by owner, as the blocks that they are to make.
-ghost use Rattle.std.specs.Prelude.{◌≡◌, ◌≤◌, ◌+◌, true, length, OnOk, IfOk, IfErr, if◌then◌else◌, Ok, Err};
+ghost use Rattle.std.specs.Prelude.{◌≡◌, ◌≤◌, ◌+◌, true, length, OnOk, OnErr, IfOk, IfErr, if◌then◌else◌, Ok, Err};
 ghost use Rattle.std.specs.Ordering.{nat_cmp};
 ghost use Rattle.std.specs.Cmp.Lexicographic.{slice_cmp};
 ghost use Rattle.std.specs.List.Sorted.{IsSearchInRange, IsBinarySearchResult};
@@ -7,7 +7,6 @@ ghost use Rattle.sb_types.specs.Text.{is_name};
 ghost use Rattle.sb_types.specs.Limits.{are_block_entries};
 ghost use Rattle.sb_budget.specs.BlocksByOwner.{grown, begun, placed, cost_of};
 
-use crate::offered::Offered;
 use sb_types::{
     BLOCK_HEAD_MOST, BYTE_LENGTH, Block, COUNT_LENGTH, ENTRY_LENGTH_MOST, Entry, Fault,
     NUMBER_LENGTH, Name,
@@ -37,15 +36,15 @@ impl Model for BlockBuilder {
 }
 
 impl BlockBuilder {
-    fn new(alloc: Global, item: Offered) -> Result<BlockBuilder, Fault>
-        ensures begun { IfOk result (λ g. g ≡ begun item) }
+    fn new(alloc: Global, owner: Name, after: u64, entry: Entry) -> Result<BlockBuilder, Fault>
+        ensures begun { IfOk result (λ g. g ≡ begun owner after entry) }
         ensures memory { IfErr result (λ fault. fault ≡ Fault.NoMemory) }
     {
         let mut entries = Vec::new(alloc);
-        entries.push(item.entry)?;
+        entries.push(entry)?;
         Ok(BlockBuilder {
-            owner: item.owner,
-            after: item.after,
+            owner,
+            after,
             entries,
         })
     }
@@ -58,6 +57,7 @@ impl BlockBuilder {
 
     fn push(&mut self, entry: Entry) -> Result<(), Fault>
         ensures grown { OnOk result (self.new ≡ grown self.old entry) }
+        ensures left { OnErr result (self.new ≡ self.old) }
         ensures memory { IfErr result (λ fault. fault ≡ Fault.NoMemory) }
     {
         self.entries.push(entry)?;
@@ -86,38 +86,41 @@ pub(crate) fn place_of(gathered: &[BlockBuilder], owner: Name) -> Result<usize, 
     gathered.binary_search_by_key(&owner, |group| group.owner())
 }
 
-/// How many bytes the item adds to a delta, by where its owner's entries stand in it.
-pub(crate) fn cost(item: &Offered, place: Result<usize, usize>) -> u64
-    ensures cost { result ≡ cost_of item.now place }
-    ensures owner { is_name item.now.owner ≡ true }
+/// How many bytes the entry adds to a delta, by where its owner's entries stand in it.
+pub(crate) fn cost(owner: &Name, entry: &Entry, place: Result<usize, usize>) -> u64
+    ensures cost { result ≡ cost_of owner.now entry.now place }
+    ensures owner { is_name owner.now ≡ true }
     ensures most { result ≤ BLOCK_HEAD_MOST + ENTRY_LENGTH_MOST }
 {
-    let name_length = item.owner.bytes().len() as u64;
-    let entry_length = item.entry.encoded_length();
+    let name_length = owner.bytes().len() as u64;
+    let entry_length = entry.encoded_length();
     match place {
         Ok(_) => entry_length,
         Err(_) => BLOCK_START + name_length + entry_length,
     }
 }
 
-/// Puts the item to its owner's entries. `NoMemory`.
+/// Puts the entry to its owner's. `NoMemory`.
 pub(crate) fn put(
     alloc: Global,
     gathered: &mut Vec<BlockBuilder>,
     place: Result<usize, usize>,
-    item: Offered,
+    owner: Name,
+    after: u64,
+    entry: Entry,
 ) -> Result<(), Fault>
     requires { IsSearchInRange place (length gathered.old.items) }
-    ensures placed { OnOk result (gathered.new.items ≡ placed place item gathered.old.items) }
+    ensures placed { OnOk result (gathered.new.items ≡ placed place owner after entry gathered.old.items) }
+    ensures left { OnErr result (gathered.new.items ≡ gathered.old.items) }
     ensures memory { IfErr result (λ fault. fault ≡ Fault.NoMemory) }
 {
     match place {
         Ok(index) => {
             let group = &mut gathered[index];
-            group.push(item.entry)
+            group.push(entry)
         }
         Err(index) => {
-            let group = BlockBuilder::new(alloc, item)?;
+            let group = BlockBuilder::new(alloc, owner, after, entry)?;
             gathered.insert(index, group)?;
             Ok(())
         }

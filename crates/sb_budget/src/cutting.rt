@@ -1,54 +1,11 @@
 //! The longest front of what is offered that fits a budget, as a delta.
-ghost use Rattle.std.specs.Prelude.{◌≡◌, ◌≤◌, ◌<◌, [], true, length, All, IfOk, IfErr};
-ghost use Rattle.sb_types.specs.Limits.{are_block_entries, are_owners_above};
+ghost use Rattle.std.specs.Prelude.{◌≡◌, ◌≤◌, ◌<◌, length, IfOk, IfErr};
 ghost use Rattle.sb_budget.specs.Cut.{items_of_all, IsCut, CanCut};
 
-use crate::block_builder::{BlockBuilder, cost, place_of, put};
+use crate::delta_builder::DeltaBuilder;
 use crate::offered::Offered;
-use sb_types::{
-    BUDGET_LEAST, BUDGET_MOST, BYTE_LENGTH, Block, COUNT_LENGTH, Delta, Fault, HEADER_LENGTH,
-};
+use sb_types::{BUDGET_LEAST, BUDGET_MOST, Delta, Fault};
 use std::alloc::Global;
-
-/// The length of the frame of a delta without blocks.
-const EMPTY_FRAME: u64 = HEADER_LENGTH + BYTE_LENGTH + COUNT_LENGTH;
-
-/// The longest front of the items whose delta fits the budget, by owner.
-fn gather(alloc: Global, items: Vec<Offered>, budget: u64) -> Result<Vec<BlockBuilder>, Fault>
-    requires least { BUDGET_LEAST ≤ budget }
-    requires most { budget ≤ BUDGET_MOST }
-    requires items { CanCut items.items }
-    ensures cut { IfOk result (λ gathered. IsCut budget (items_of_all items.items) gathered.items) }
-    ensures some { IfOk result (λ gathered. 0 < length items.items → 0 < length gathered.items) }
-    ensures ascending { IfOk result (λ gathered. are_owners_above [] gathered.items ≡ true) }
-    ensures blocks { IfOk result (λ gathered. All (λ b. are_block_entries b.after b.entries ≡ true) gathered.items) }
-    ensures memory { IfErr result (λ fault. fault ≡ Fault.NoMemory) }
-{
-    let mut gathered = Vec::new(alloc);
-    let mut room = budget - EMPTY_FRAME;
-    for item in items {
-        let place = place_of(&gathered, item.owner);
-        let Some(left) = room.checked_sub(cost(&item, place)) else {
-            return Ok(gathered);
-        };
-        put(alloc, &mut gathered, place, item)?;
-        room = left;
-    }
-    Ok(gathered)
-}
-
-/// A block of each owner's entries.
-fn blocks_from(alloc: Global, gathered: Vec<BlockBuilder>) -> Result<Vec<Block>, Fault>
-    requires { All (λ b. are_block_entries b.after b.entries ≡ true) gathered.items }
-    ensures blocks { IfOk result (λ blocks. blocks.items ≡ gathered.items) }
-    ensures memory { IfErr result (λ fault. fault ≡ Fault.NoMemory) }
-{
-    let mut blocks = Vec::with_capacity(alloc, gathered.len())?;
-    for group in gathered {
-        blocks.push(group.into_block()?)?;
-    }
-    Ok(blocks)
-}
 
 /// The longest front of the items whose delta has a frame of at most `budget` bytes, 256 to 65,536, as that
 /// delta. The items have to be as an order leaves them, each owner's in ascending version. The delta has at
@@ -71,7 +28,11 @@ pub fn cut(alloc: Global, items: Vec<Offered>, budget: u64) -> Result<Delta, Fau
     ensures some { IfOk result (λ delta. 0 < length items.items → 0 < length delta) }
     ensures memory { IfErr result (λ fault. fault ≡ Fault.NoMemory) }
 {
-    let gathered = gather(alloc, items, budget)?;
-    let blocks = blocks_from(alloc, gathered)?;
-    Delta::new(blocks)
+    let mut making = DeltaBuilder::new(alloc, budget);
+    for item in items {
+        if !making.push(item.owner, item.after, item.entry)? {
+            return making.finish();
+        }
+    }
+    making.finish()
 }

@@ -1,12 +1,16 @@
 //! The order that sends one owner whole before the next, the owner with most to send first.
 #![tactic(auto)]
 
-ghost use Rattle.std.specs.Prelude.{◌≡◌, IfOk, IfErr, IsOk, IsPermutation, IsSorted};
+ghost use Rattle.std.specs.Prelude.{◌≡◌, ◌≤◌, ◌<◌, length, IfOk, IfErr, IsOk, IsPermutation, IsSorted};
+ghost use Rattle.sb_budget.specs.Available.{available_for};
 ghost use Rattle.sb_budget.specs.Orders.{IsOffer, AscendsByOwner};
+ghost use Rattle.sb_budget.specs.Parts.{IsDeltaBy};
 ghost use Rattle.sb_depth.specs.Depth.{by_count};
 
-use sb_budget::{DeltaOrder, Offered};
-use sb_types::Fault;
+use sb_budget::{DeltaOrder, Offered, Turns, cursors, cut_in_turns};
+use sb_digest::Digest;
+use sb_holdings::Holdings;
+use sb_types::{BUDGET_LEAST, BUDGET_MOST, Delta, Fault};
 use std::alloc::Global;
 use std::cmp::Reverse;
 
@@ -35,5 +39,24 @@ impl DeltaOrder for Depth {
     {
         items.sort_unstable_by_key(|item| (Reverse(item.count), item.owner, item.entry.version()));
         Ok(items)
+    }
+
+    fn delta(
+        &self,
+        alloc: Global,
+        holdings: &Holdings,
+        digest: &Digest,
+        budget: u64,
+    ) -> Result<Delta, Fault>
+        requires least { BUDGET_LEAST ≤ budget }
+        requires most { budget ≤ BUDGET_MOST }
+        ensures order { IfOk result (IsDeltaBy (IsSorted by_count) budget holdings.now digest.now) }
+        ensures delta { IfOk result (IsDeltaBy AscendsByOwner budget holdings.now digest.now) }
+        ensures goes { IfOk result (λ delta. 0 < length (available_for holdings.now digest.now) → 0 < length delta) }
+        ensures memory { IfErr result (λ fault. fault ≡ Fault.NoMemory) }
+    {
+        let mut owners = cursors(alloc, holdings, digest)?;
+        owners.sort_by_cached_key(|cursor| (Reverse(cursor.count()), cursor.owner()))?;
+        cut_in_turns(alloc, owners, Turns::First, budget)
     }
 }

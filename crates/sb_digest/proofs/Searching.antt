@@ -1,17 +1,17 @@
 -- A binary search among pairs whose owners ascend.
-use Rattle.std.proofs.Common.{◌≡◌, ℕ, zero, suc, ◌+◌, ◌<◌, true, false, List, [], ◌∷◌, length, get_or, Some, None, Ok, Err, refl, sym, ap, ◌∙◌, arith, Less, Equal, is_lt, nat_cmp, nat_eq, inl, inr}
+use Rattle.std.proofs.Common.{◌≡◌, ℕ, zero, suc, ◌+◌, ◌<◌, true, false, List, [], ◌∷◌, length, get_or, Some, None, Ok, Err, refl, sym, ap, subst, ◌∙◌, arith, Less, Equal, is_lt, nat_cmp, nat_eq, inl, inr}
 use Rattle.std.specs.Option.{option_map_or}
 use Rattle.std.specs.Ordering.{ordering_index, ordering_reverse}
 use Rattle.std.specs.Cmp.Lexicographic.{slice_cmp, pointwise}
 use Rattle.std.specs.List.Sorted.{IsStrictlySortedBy, IsSearchInRange, IsBinarySearchResult, IsNonDecreasingBy}
 use Rattle.std.specs.FinMap.{slice_cmp-IsAntisymmetric, nat_cmp-IsAntisymmetric}
 use Rattle.std.proofs.lemmas.Bool.{cond-true, cond-false, cases_lt, and_parts}
-use Rattle.std.proofs.lemmas.Cmp.{nat_list_cmp_total}
+use Rattle.std.proofs.lemmas.Cmp.{nat_list_cmp_total, tied_itself}
 use Rattle.std.proofs.lemmas.List.Sorted.{searchable_from_sorted}
 use Rattle.std.proofs.lemmas.Map.Keys.{Less-from_sorted, sorted_tail}
 use Rattle.sb_digest.specs.Digests.{Pair, Digest, pair_at, held_in}
 use Rattle.sb_digest.specs.Limits.{are_pairs_above, is_range, are_digest_parts, is_digest}
-use Rattle.sb_types.proofs.Texts.{apart-from_Less, apart-from_Greater, same-from_Equal}
+use Rattle.sb_types.proofs.Texts.{apart-from_Less, apart-from_Greater, same-from_Equal, same_text}
 use Rattle.sb_digest.proofs.Ascending.{by_owner, by_owner_total, rises_from_above}
 
 found : (name : List ℕ) (ps : List Pair) (i : ℕ) (d : Pair) → IsStrictlySortedBy by_owner ps → i < length ps → slice_cmp nat_cmp (get_or ps i d).owner name ≡ Equal → pair_at name ps ≡ Some (get_or ps i d)
@@ -54,3 +54,9 @@ number-found d name i p is l same at = ap (λ o. option_map_or (λ (p : Pair). p
 
 pub number-missing : (d : Digest) (name : List ℕ) (i : ℕ) → is_digest d ≡ true → IsSearchInRange (Err i) (length d.pairs) → IsBinarySearchResult (λ p. slice_cmp nat_cmp p.owner name) d.pairs (Err i) → held_in d name ≡ 0
 number-missing d name i is l parted = ap (λ o. option_map_or (λ (p : Pair). p.held) o 0) (not_found name d.pairs i (above-from_is_digest d is) l parted)
+
+-- the pair at a place is the name's
+pub number-at : (d : Digest) (name : List ℕ) (i : ℕ) (p : Pair) → is_digest d ≡ true → i < length d.pairs → ((e : Pair) → p ≡ get_or d.pairs i e) → pointwise nat_eq p.owner name ≡ true → held_in d name ≡ p.held
+number-at d name i p is l at same =
+    let equal : slice_cmp nat_cmp p.owner name ≡ Equal = subst (λ n. slice_cmp nat_cmp p.owner n ≡ Equal) (same_text p.owner name same) (tied_itself nat_list_cmp_total p.owner) in
+    number-found d name i p is l (λ e. subst (λ q. slice_cmp nat_cmp q.owner name ≡ Equal) (at e) equal) (at p)

@@ -298,12 +298,26 @@ impl Digest {
     pub fn number(&self, owner: &Name) -> u64
         ensures { result ≡ held_in self.now owner.now }
     {
+        let (number, _) = self.number_from(owner, 0);
+        number
+    }
+
+    /// The same number, and the place of the next pair, at which to look for the next owner's. It takes a step where the
+    /// owner's pair is at `place`, as it is where all owners in turn have one, and else a search.
+    pub fn number_from(&self, owner: &Name, place: usize) -> (u64, usize)
+        ensures number { result.0 ≡ held_in self.now owner.now }
+    {
+        if let Some(pair) = self.pairs.get(place) {
+            if pair.owner == *owner {
+                return (pair.upto, place + 1);
+            }
+        }
         match self
             .pairs
             .binary_search_by_key(owner, |pair| owner_of(pair))
         {
-            Ok(place) => self.pairs[place].upto,
-            Err(_) => 0,
+            Ok(found) => (self.pairs[found].upto, found + 1),
+            Err(next) => (0, next),
         }
     }
 }

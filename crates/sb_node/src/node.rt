@@ -1,6 +1,6 @@
 //! The node core: what a node holds, and each of its calls as one event.
 
-ghost use Rattle.std.specs.Prelude.{◌≡◌, ◌<◌, true, None, Some, Ok, Err, length, OnOk, OnErr, IfOk, IfErr, IfSome, IfNone, IsPermutation};
+ghost use Rattle.std.specs.Prelude.{◌≡◌, ◌<◌, true, None, Some, Ok, Err, length, OnOk, OnErr, IfOk, IfErr, IfSome, IfNone};
 ghost use Rattle.std.specs.Option.{option_map};
 ghost use Rattle.sb_types.specs.Faults.{Gives};
 ghost use Rattle.sb_types.specs.Limits.{is_delta, are_settings};
@@ -13,13 +13,12 @@ ghost use Rattle.sb_holdings.specs.Plain.{IsHoldings, own_answer};
 ghost use Rattle.sb_digest.specs.Builders.{IsLongestFront};
 ghost use Rattle.sb_digest.specs.Pairs.{pairs_from};
 ghost use Rattle.sb_budget.specs.Available.{available_for};
-ghost use Rattle.sb_budget.specs.Orders.{IsOffer, AscendsByOwner};
-ghost use Rattle.sb_node.specs.Answers.{IsListedBy, IsDelta, IsAnswer};
+ghost use Rattle.sb_node.specs.Answers.{IsDelta, IsAnswer};
 ghost use Rattle.sb_node.specs.Cores.{with_node, committed_answer};
 ghost use Rattle.sb_holdings.specs.Treats.{Treats, took_each};
 
 use sb_breadth::Breadth;
-use sb_budget::{DeltaOrder, Offered, available, cut, orders_keep_owners};
+use sb_budget::DeltaOrder;
 use sb_depth::Depth;
 use sb_digest::{Digest, build};
 use sb_holdings::{BlockEnd, Holdings, Report};
@@ -52,20 +51,6 @@ impl Model for NodeCore {
     ghost view = { λ c. record { settings = c.settings; node = record { held = c.holdings; conflict = c.conflict } } };
 
     ghost invariant = { λ c. IsHoldings c.holdings };
-}
-
-/// The items in this order.
-fn arranged(alloc: Global, order: Order, items: Vec<Offered>) -> Result<Vec<Offered>, Fault>
-    requires { IsOffer items.items }
-    ensures each_once { IfOk result (λ listed. IsPermutation items.items listed.items) }
-    ensures ascending { IfOk result (λ listed. AscendsByOwner listed.items) }
-    ensures order { IfOk result (λ listed. IsListedBy order listed.items) }
-    ensures memory { IfErr result (λ fault. fault ≡ Fault.NoMemory) }
-{
-    match order {
-        Order::Breadth => Breadth.arrange(alloc, items),
-        Order::Depth => Depth.arrange(alloc, items),
-    }
 }
 
 impl NodeCore {
@@ -227,10 +212,11 @@ impl NodeCore {
         ensures memory { IfErr result (λ fault. fault ≡ Fault.NoMemory) }
         ensures holdings { IsHoldings self.now.node.held }
     {
-        let offered = available(self.alloc, &self.holdings, digest)?;
-        let listed = arranged(self.alloc, self.settings.order(), offered)?;
-        orders_keep_owners();
-        cut(self.alloc, listed, self.settings.budget())
+        let budget = self.settings.budget();
+        match self.settings.order() {
+            Order::Breadth => Breadth.delta(self.alloc, &self.holdings, digest, budget),
+            Order::Depth => Depth.delta(self.alloc, &self.holdings, digest, budget),
+        }
     }
 
     /// Takes each block of a delta in turn, and tells how each ended. `NoMemory` where there is no room for the

@@ -1,4 +1,10 @@
-//! Names, entries and blocks for the tests.
+//! Names, entries and blocks for the tests, and what is offered of holdings.
+ghost use Rattle.std.specs.Prelude.{IfOk};
+ghost use Rattle.sb_budget.specs.Cut.{CanCut};
+
+use sb_budget::{DeltaOrder, Offered, available, orders_keep_owners};
+use sb_digest::Digest;
+use sb_holdings::Holdings;
 use sb_types::{Block, Entry, Fault, Key, Name, Slot, Value};
 use std::alloc::Global;
 
@@ -21,4 +27,19 @@ pub(crate) fn block_of(alloc: Global, owner: Name, letters: &[u8]) -> Result<Blo
         entries.push(Entry::new(Key::read(&[*letter])?, index as u64 + 1, slot))?;
     }
     Block::new(owner, 0, entries)
+}
+
+/// What a peer that sent this digest lacks, in an order.
+pub(crate) fn arranged<O: DeltaOrder>(
+    alloc: Global,
+    holdings: &Holdings,
+    digest: &Digest,
+    order: &O,
+) -> Result<Vec<Offered>, Fault>
+    ensures { IfOk result (λ ordered. CanCut ordered.items) }
+{
+    let offered = available(alloc, holdings, digest)?;
+    let ordered = order.arrange(alloc, offered)?;
+    orders_keep_owners();
+    Ok(ordered)
 }

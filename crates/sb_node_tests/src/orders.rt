@@ -2,9 +2,9 @@
 ghost use Rattle.std.specs.Prelude.{◌≤◌, IfOk};
 ghost use Rattle.sb_budget.specs.Cut.{CanCut};
 
-use crate::making::{block_of, letters_of};
+use crate::making::{arranged, block_of, letters_of};
 use sb_breadth::Breadth;
-use sb_budget::{DeltaOrder, Offered, available, cut, orders_keep_owners};
+use sb_budget::{DeltaOrder, Offered, available, cut};
 use sb_depth::Depth;
 use sb_digest::Digest;
 use sb_holdings::{BlockEnd, Holdings};
@@ -51,26 +51,13 @@ fn thousand_owners(alloc: Global) -> Result<Holdings, Fault> {
 }
 
 /// All that is held, in an order.
-fn arranged<O: DeltaOrder>(
-    alloc: Global,
-    holdings: &Holdings,
-    order: &O,
-) -> Result<Vec<Offered>, Fault>
-    ensures { IfOk result (λ ordered. CanCut ordered.items) }
-{
-    let digest = Digest::new(false, None, None, Vec::new(alloc))?;
-    let offered = available(alloc, holdings, &digest)?;
-    let ordered = order.arrange(alloc, offered)?;
-    orders_keep_owners();
-    Ok(ordered)
-}
-
 fn arranged_by(alloc: Global, holdings: &Holdings, order: Order) -> Result<Vec<Offered>, Fault>
     ensures { IfOk result (λ ordered. CanCut ordered.items) }
 {
+    let digest = Digest::new(false, None, None, Vec::new(alloc))?;
     match order {
-        Order::Breadth => arranged(alloc, holdings, &Breadth),
-        Order::Depth => arranged(alloc, holdings, &Depth),
+        Order::Breadth => arranged(alloc, holdings, &digest, &Breadth),
+        Order::Depth => arranged(alloc, holdings, &digest, &Depth),
     }
 }
 
@@ -79,6 +66,18 @@ fn cut_by(alloc: Global, holdings: &Holdings, order: Order, budget: u64) -> Resu
     requires most { budget ≤ BUDGET_MOST }
 {
     cut(alloc, arranged_by(alloc, holdings, order)?, budget)
+}
+
+/// What a peer that holds nothing lacks, made without a list of what does not fit.
+fn delta_by(alloc: Global, holdings: &Holdings, order: Order, budget: u64) -> Result<Delta, Fault>
+    requires least { BUDGET_LEAST ≤ budget }
+    requires most { budget ≤ BUDGET_MOST }
+{
+    let digest = Digest::new(false, None, None, Vec::new(alloc))?;
+    match order {
+        Order::Breadth => Breadth.delta(alloc, holdings, &digest, budget),
+        Order::Depth => Depth.delta(alloc, holdings, &digest, budget),
+    }
 }
 
 /// Whether an owner with three writes and others with one come in this order.
@@ -142,8 +141,11 @@ fn what_fits_is_told_of(rt: HostRuntime) -> Result<(), Fail> {
         (Order::Depth, 440, 427, &deep),
         (Order::Depth, 438, 427, &deep),
     ] {
-        let delta = cut_by(alloc, &holdings, order, budget)?;
-        assert_eq!(rt; tells(&delta, wanted), (length, true), "{budget}");
+        let listed = cut_by(alloc, &holdings, order, budget)?;
+        let walked = delta_by(alloc, &holdings, order, budget)?;
+        for delta in [&listed, &walked] {
+            assert_eq!(rt; tells(delta, wanted), (length, true), "{budget}");
+        }
     }
     Ok(())
 }
@@ -171,8 +173,11 @@ fn a_thousand_owners_are_cut(rt: HostRuntime) -> Result<(), Fail> {
         (Order::Depth, 29_999, (769, 1_537, 29_988)),
         (Order::Depth, 256, (6, 12, 243)),
     ] {
-        let delta = cut_by(alloc, &holdings, order, budget)?;
-        assert_eq!(rt; extent(&delta), wanted, "{budget}");
+        let listed = cut_by(alloc, &holdings, order, budget)?;
+        let walked = delta_by(alloc, &holdings, order, budget)?;
+        for delta in [&listed, &walked] {
+            assert_eq!(rt; extent(delta), wanted, "{budget}");
+        }
     }
     Ok(())
 }

@@ -52,6 +52,10 @@ pub record IsStored (opening : Node) (old : Log) (told : List Event) (key : List
   pub version : version_of stored ≡ committed.entry.version
   pub passes : PassesOn opening told committed stored owed seen
 
+-- at some time behind what was told, no other node had written under the own name
+abbrev pub IsUndisputed : Node → List Event → Type 0
+IsUndisputed opening told = (l : List Event) × IsPrefix told l × ((node_after opening l).conflict ≡ None)
+
 -- another node writes under the own name; or the directory refuses what is owed
 abbrev pub IsHeldBack : Node → List Event → Option Committed → Fault → Type 0
 IsHeldBack opening told owed fault =

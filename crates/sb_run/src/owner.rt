@@ -3,7 +3,7 @@ ghost use Rattle.std.specs.Prelude.{◌≡◌, ◌+◌, true, None, OnOk, IfOk, 
 ghost use mathlib.Core.List.{IsPrefix};
 ghost use Rattle.sb_codec.specs.Limits.{is_version};
 ghost use Rattle.sb_log.specs.Puts.{IsSettled};
-ghost use Rattle.sb_run.specs.Owners.{version_of, count_owed, count_shared, IsHeldBack, IsStored, IsRefused};
+ghost use Rattle.sb_run.specs.Owners.{IsUndisputed, version_of, count_owed, count_shared, IsHeldBack, IsStored, IsRefused};
 
 use sb_directory::{Configured, Directory, ReaderSeat, Receipt};
 use sb_log::{Committed, WriteLog};
@@ -58,6 +58,7 @@ impl<L: WriteLog> Owner<L> {
         ensures log { self.new.log ≡ self.old.log }
         ensures owed { OnOk result (self.new.owed ≡ None) }
         ensures count { OnOk result (seat.new.events ≡ seat.old.events + count_owed self.old.owed) }
+        ensures free { IfOk result (λ _. IsUndisputed S.opening seat.old.told) }
         ensures refused { IfErr result (λ fault. IsHeldBack S.opening seat.old.told self.old.owed fault) }
         ensures owes { IfErr result (λ _. self.new.owed ≡ self.old.owed) }
         ensures seat { IfErr result (λ _. seat.new ≡ seat.old) }
@@ -91,6 +92,7 @@ impl<L: WriteLog> Owner<L> {
             (L.seen self.new.log) self.new.owed seat.new.told) }
         ensures version { IfOk result (λ stored. is_version (version_of stored) ≡ true) }
         ensures count { IfOk result (λ stored. seat.new.events ≡ seat.old.events + count_owed self.old.owed + count_shared stored) }
+        ensures free { IfOk result (λ _. IsUndisputed S.opening seat.old.told) }
         ensures refused { IfErr result (λ fault. IsRefused L.seen S.opening self.old.log self.old.owed seat.old key.now slot.now
             self.new.log self.new.owed seat.new fault) }
         ensures settled { IsSettled (L.seen self.old.log) (L.leaves self.old.log) → IsSettled (L.seen self.new.log) (L.leaves self.new.log) }

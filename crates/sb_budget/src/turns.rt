@@ -1,0 +1,53 @@
+//! The cut of what owners offer in turns, of which nothing is listed that does not fit.
+ghost use Rattle.std.specs.Prelude.{◌≡◌, ◌≤◌, ◌<◌, length, IfOk, IfErr};
+ghost use Rattle.sb_budget.specs.Cut.{items_of_all, IsCut, CanCut};
+ghost use Rattle.sb_budget.specs.Parts.{all_of};
+ghost use Rattle.sb_budget.specs.Turns.{in_turns};
+
+use crate::cursor::Cursor;
+use crate::delta_builder::DeltaBuilder;
+use sb_types::{BUDGET_LEAST, BUDGET_MOST, Delta, Fault};
+use std::alloc::Global;
+use std::collections::VecDeque;
+
+/// Where an owner stands whose next entry was taken, while it has more.
+#[derive(Clone, Copy, Debug)]
+pub enum Turns {
+    /// Before all others: it comes to its end first.
+    First,
+    /// Behind all others.
+    Last,
+}
+
+/// The longest front of what the owners offer in turns, from the first on, whose delta has a frame of at most
+/// `budget` bytes, 256 to 65,536, as that delta. It takes memory and steps as the owners and what is sent. `NoMemory`.
+pub fn cut_in_turns(
+    alloc: Global,
+    owners: Vec<Cursor<'_>>,
+    turns: Turns,
+    budget: u64,
+) -> Result<Delta, Fault>
+    requires least { BUDGET_LEAST ≤ budget }
+    requires most { budget ≤ BUDGET_MOST }
+    requires items { CanCut (in_turns turns owners.items) }
+    ensures cut { IfOk result (λ delta. IsCut budget (items_of_all (in_turns turns owners.entry.items)) delta) }
+    ensures some { IfOk result (λ delta. 0 < length (in_turns turns owners.entry.items) → 0 < length delta) }
+    ensures memory { IfErr result (λ fault. fault ≡ Fault.NoMemory) }
+{
+    let mut making = DeltaBuilder::new(alloc, budget);
+    let mut queue = VecDeque::from(owners);
+    while let Some(cursor) = queue.pop_front() {
+        let entry = cursor.entry().copy(alloc)?;
+        if !making.push(cursor.owner(), cursor.after(), entry)? {
+            return making.finish();
+        }
+        let Some(later) = cursor.advance() else {
+            continue;
+        };
+        match turns {
+            Turns::First => queue.push_front(later)?,
+            Turns::Last => queue.push_back(later)?,
+        }
+    }
+    making.finish()
+}
