@@ -3,7 +3,7 @@ ghost use Rattle.std.specs.Prelude.{◌≡◌, OnOk, IfOk, IfErr};
 ghost use Rattle.std.specs.Io.KnownBytes.{Appends};
 ghost use Rattle.sb_world.specs.Places.{frame_at};
 ghost use Rattle.sb_script.specs.Printed.{lines_of, shown_frame};
-ghost use Rattle.sb_script.specs.Played.{PlaysStep, PlaysWrite, ShowsSent, PlaysGive, Plays, PlaysLine};
+ghost use Rattle.sb_script.specs.Played.{PlaysStep, PlaysWrite, ShowsSent, Sends, Offers, LinesUp, TakesUp, Closes, PlaysGive, Plays, PlaysLine};
 ghost use Rattle.sb_script.specs.Written.{printed, taken};
 
 use crate::command::Command;
@@ -109,7 +109,9 @@ fn write<W: Write + Drop>(
 }
 
 /// Lets an event happen, and answers the number of the frame that it sent, if it sent one.
-fn send(world: &mut World<PlainLog>, event: Event) -> Result<Option<u64>, Fault> {
+fn send(world: &mut World<PlainLog>, event: Event) -> Result<Option<u64>, Fault>
+    ensures sent { Sends world.old event result world.new }
+{
     match world.step(&event)? {
         Answer::Sent(number) => Ok(Some(number)),
         _ => Ok(None),
@@ -117,7 +119,9 @@ fn send(world: &mut World<PlainLog>, event: Event) -> Result<Option<u64>, Fault>
 }
 
 /// The giver's part of a give.
-fn offer(world: &mut World<PlainLog>, giver: Name, after: u64) -> Result<Given, Fault> {
+fn offer(world: &mut World<PlainLog>, giver: Name, after: u64) -> Result<Given, Fault>
+    ensures offered { Offers world.old giver after result world.new }
+{
     Ok(Given {
         hello: send(world, Event::Connect(giver, GIVER))?,
         delta: send(world, Event::Offer(giver, giver, after))?,
@@ -125,7 +129,9 @@ fn offer(world: &mut World<PlainLog>, giver: Name, after: u64) -> Result<Given, 
 }
 
 /// Lines up a frame for the taker, if it was sent.
-fn line_up(world: &mut World<PlainLog>, frame: Option<u64>) -> Result<(), Fault> {
+fn line_up(world: &mut World<PlainLog>, frame: Option<u64>) -> Result<(), Fault>
+    ensures lined { LinesUp world.old frame result world.new }
+{
     if let Some(number) = frame {
         lose(Ok(world.step(&Event::Line(TAKER, number))?));
     }
@@ -133,7 +139,9 @@ fn line_up(world: &mut World<PlainLog>, frame: Option<u64>) -> Result<(), Fault>
 }
 
 /// The taker's part of a give, and what came of the frames.
-fn take_up(world: &mut World<PlainLog>, taker: Name, given: Given) -> Result<Answer, Fault> {
+fn take_up(world: &mut World<PlainLog>, taker: Name, given: Given) -> Result<Answer, Fault>
+    ensures taken { TakesUp world.old taker given result world.new }
+{
     let _hello = send(world, Event::Connect(taker, TAKER))?;
     line_up(world, given.hello)?;
     line_up(world, given.delta)?;
@@ -141,7 +149,9 @@ fn take_up(world: &mut World<PlainLog>, taker: Name, given: Given) -> Result<Ans
 }
 
 /// Closes the connections of a give.
-fn close(world: &mut World<PlainLog>) {
+fn close(world: &mut World<PlainLog>)
+    ensures closed { Closes world.old world.new }
+{
     lose(world.step(&Event::Close(GIVER)));
     lose(world.step(&Event::Close(TAKER)));
 }
@@ -170,7 +180,7 @@ fn give<W: Write + Drop>(
     after: u64,
     output: &mut Output<W>,
 ) -> Result<(), Fault>
-    ensures printed { OnOk result (PlaysGive (printed W.contents output.old) (printed W.contents output.new)) }
+    ensures played { OnOk result (PlaysGive world.old giver taker after (printed W.contents output.old) (printed W.contents output.new) world.new) }
     ensures fault { IfErr result (λ fault. fault ≡ Fault.WriteFailed (taken output.new)) }
 {
     let piece = Event::Piece(TAKER, u64::MAX);
