@@ -1,6 +1,5 @@
 -- What the commands of a script do to its world and print of it.
 use Rattle.std.specs.Prelude.{◌≡◌, ◌⊎◌, ℕ, List, [], ◌∷◌, ◌++◌, Bool, true, false, Option, Some, None, Result, Ok, Err}
-use Rattle.std.specs.Result.{result_map}
 use Rattle.std.specs.Io.KnownBytes.{Appends, Keeps}
 use Rattle.sb_types.specs.declared.fault.Fault.{Fault}
 use Rattle.sb_world.specs.declared.event.Event.{Event}
@@ -72,10 +71,14 @@ abbrev pub taking : ℕ
 taking = 1000002
 
 -- the giver connects, and offers what it wrote above a version; what it sent is the Hello and the delta
+abbrev pub given_with : Option ℕ → Result (Option ℕ) Fault → Result Given Fault
+given_with hello (Ok delta) = Ok (record { hello = hello; delta = delta })
+given_with hello (Err fault) = Err fault
+
 abbrev pub OffersNext : Result (Option ℕ) Fault → Seen → List ℕ → ℕ → Result Given Fault → Seen → Type 0
 OffersNext (Err fault) old giver after given new = (new ≡ old) × (given ≡ Err fault)
 OffersNext (Ok hello) old giver after given new =
-    (delta : Result (Option ℕ) Fault) × Sends old (events.Offer giver giver after) delta new × (given ≡ result_map (λ number. record { hello = hello; delta = number }) delta)
+    (delta : Result (Option ℕ) Fault) × Sends old (events.Offer giver giver after) delta new × (given ≡ given_with hello delta)
 
 abbrev pub Offers : Seen → List ℕ → ℕ → Result Given Fault → Seen → Type 0
 Offers old giver after given new =
@@ -87,9 +90,13 @@ lining None = []
 lining (Some number) = events.Line taking number ∷ []
 
 -- a frame is lined up, if it was sent
+abbrev pub done_of : Result Answer Fault → Result (Unit {0}) Fault
+done_of (Ok answer) = Ok tt
+done_of (Err fault) = Err fault
+
 abbrev pub LinesUp : Seen → Option ℕ → Result (Unit {0}) Fault → Seen → Type 0
 LinesUp old None result new = (new ≡ old) × (result ≡ Ok tt)
-LinesUp old (Some number) result new = (answer : Result Answer Fault) × Happens old (events.Line taking number) answer new × (result ≡ result_map (λ _. tt) answer)
+LinesUp old (Some number) result new = (answer : Result Answer Fault) × Happens old (events.Line taking number) answer new × (result ≡ done_of answer)
 
 abbrev pub all_comes : Event
 all_comes = events.Piece taking 18446744073709551615
