@@ -1,19 +1,17 @@
 -- What the commands of a script do to its world and print of it.
-use Rattle.std.specs.Prelude.{◌≡◌, ◌⊎◌, ℕ, List, [], ◌∷◌, ◌++◌, Bool, true, false, Option, Some, None, Result, Ok, Err}
+use Rattle.std.specs.Prelude.{◌≡◌, ◌⊎◌, List, Bool, true, false, Option, Result, Ok, Err}
 use Rattle.std.specs.Io.KnownBytes.{Appends, Keeps}
 use Rattle.sb_types.specs.declared.fault.Fault.{Fault}
 use Rattle.sb_world.specs.declared.event.Event.{Event}
-use Rattle.sb_world.specs.declared.event.Event.TheVariants as events
 use Rattle.sb_world.specs.declared.event.Answer.{Answer}
-use Rattle.sb_world.specs.declared.event.Answer.TheVariants.{Sent}
 use Rattle.sb_world.specs.Places.{Seen, frame_at}
 use Rattle.sb_world.specs.Turns.{Effect}
 use Rattle.sb_world.specs.Steps.{Step}
 use Rattle.sb_script.specs.declared.command.Command.{Command}
-use Rattle.sb_script.specs.declared.playing.Given.{Given}
 use Rattle.sb_script.specs.declared.command.Command.TheVariants as commands
 use Rattle.sb_script.specs.declared.line.Line.{Line}
 use Rattle.sb_script.specs.Commands.{IsCommand}
+use Rattle.sb_script.specs.Giving.{PlaysGive}
 use Rattle.sb_script.specs.Printed.{lines_of, fault_line, write_lines, shown_frame}
 
 -- an event happens, and its answer is printed
@@ -30,94 +28,6 @@ PlaysTake (Ok _) old take before after new =
 abbrev pub PlaysWrite : Seen → Event → Event → Option (List ℕ) → Option (List ℕ) → Seen → Type 0
 PlaysWrite old commit take before after new =
     (middle : Seen) × (effect : Effect) × (answer : Result Answer Fault) × Step old commit answer effect middle × PlaysTake answer middle take before after new
-
--- the frame of a give, where one was sent
-abbrev pub ShowsSent : List (List ℕ) → Option ℕ → Option (List ℕ) → Option (List ℕ) → Type 0
-ShowsSent sent None before after = Keeps before after
-ShowsSent sent (Some number) before after = Appends before after (shown_frame (frame_at sent number))
-
--- an event happens, with this answer
-abbrev pub Happens : Seen → Event → Result Answer Fault → Seen → Type 0
-Happens old event answer new = (effect : Effect) × Step old event answer effect new
-
--- behind a fault nothing else happens, and it is the answer
-abbrev pub GoesOn : Result Answer Fault → Seen → Result Answer Fault → Seen → Type 0 → Type 0
-GoesOn (Err fault) old answer new rest = (new ≡ old) × (answer ≡ Err fault)
-GoesOn (Ok _) old answer new rest = rest
-
--- events happen in turn, and then a last one, whose answer it is, up to the first that has a fault
-abbrev pub Happen : Seen → List Event → Event → Result Answer Fault → Seen → Type 0
-Happen old [] last answer new = Happens old last answer new
-Happen old (event ∷ events) last answer new =
-    (first : Result Answer Fault) × (middle : Seen) × Happens old event first middle × GoesOn first middle answer new (Happen middle events last answer new)
-
--- the frame that an event sent, by its number, if it sent one
-abbrev pub frame_in : Answer → Option ℕ
-frame_in (Sent number) = Some number
-frame_in answer = None
-
-abbrev pub sent_by : Result Answer Fault → Result (Option ℕ) Fault
-sent_by (Ok answer) = Ok (frame_in answer)
-sent_by (Err fault) = Err fault
-
-abbrev pub Sends : Seen → Event → Result (Option ℕ) Fault → Seen → Type 0
-Sends old event sent new = (answer : Result Answer Fault) × Happens old event answer new × (sent ≡ sent_by answer)
-
--- the connections of a give, which no line of a script can name
-abbrev pub giving : ℕ
-giving = 1000001
-
-abbrev pub taking : ℕ
-taking = 1000002
-
--- the giver connects, and offers what it wrote above a version; what it sent is the Hello and the delta
-abbrev pub given_with : Option ℕ → Result (Option ℕ) Fault → Result Given Fault
-given_with hello (Ok delta) = Ok (record { hello = hello; delta = delta })
-given_with hello (Err fault) = Err fault
-
-abbrev pub OffersNext : Result (Option ℕ) Fault → Seen → List ℕ → ℕ → Result Given Fault → Seen → Type 0
-OffersNext (Err fault) old giver after given new = (new ≡ old) × (given ≡ Err fault)
-OffersNext (Ok hello) old giver after given new =
-    (delta : Result (Option ℕ) Fault) × Sends old (events.Offer giver giver after) delta new × (given ≡ given_with hello delta)
-
-abbrev pub Offers : Seen → List ℕ → ℕ → Result Given Fault → Seen → Type 0
-Offers old giver after given new =
-    (hello : Result (Option ℕ) Fault) × (middle : Seen) × Sends old (events.Connect giver giving) hello middle × OffersNext hello middle giver after given new
-
--- the taker connects, the frames that were sent are lined up towards it, and all of them come at once
-abbrev pub lining : Option ℕ → List Event
-lining None = []
-lining (Some number) = events.Line taking number ∷ []
-
--- a frame is lined up, if it was sent
-abbrev pub done_of : Result Answer Fault → Result (Unit {0}) Fault
-done_of (Ok answer) = Ok tt
-done_of (Err fault) = Err fault
-
-abbrev pub LinesUp : Seen → Option ℕ → Result (Unit {0}) Fault → Seen → Type 0
-LinesUp old None result new = (new ≡ old) × (result ≡ Ok tt)
-LinesUp old (Some number) result new = (answer : Result Answer Fault) × Happens old (events.Line taking number) answer new × (result ≡ done_of answer)
-
-abbrev pub all_comes : Event
-all_comes = events.Piece taking 18446744073709551615
-
-abbrev pub TakesUp : Seen → List ℕ → Given → Result Answer Fault → Seen → Type 0
-TakesUp old taker given answer new = Happen old (events.Connect taker taking ∷ lining given.hello ++ lining given.delta) all_comes answer new
-
--- both connections end, whatever that answers
-abbrev pub Closes : Seen → Seen → Type 0
-Closes old new = (first second : Result Answer Fault) × (middle : Seen) × Happens old (events.Close giving) first middle × Happens middle (events.Close taking) second new
-
--- the delta's frame is printed, where one was sent, and what came of it; a fault of the giver's part is printed alone
-abbrev pub PlaysTaking : Result Given Fault → Seen → List ℕ → Option (List ℕ) → Option (List ℕ) → Seen → Type 0
-PlaysTaking (Err fault) old taker before after new = Closes old new × Appends before after (fault_line fault)
-PlaysTaking (Ok given) old taker before after new =
-    (answer : Result Answer Fault) × (taken : Seen) × (between : Option (List ℕ))
-    × ShowsSent old.sent given.delta before between × TakesUp old taker given answer taken × Closes taken new × Appends between after (lines_of all_comes answer)
-
-abbrev pub PlaysGive : Seen → List ℕ → List ℕ → ℕ → Option (List ℕ) → Option (List ℕ) → Seen → Type 0
-PlaysGive old giver taker above before after new =
-    (given : Result Given Fault) × (middle : Seen) × Offers old giver above given middle × PlaysTaking given middle taker before after new
 
 abbrev pub Plays : Seen → Command → Option (List ℕ) → Option (List ℕ) → Seen → Type 0
 Plays old (commands.Step event) before after new = PlaysStep old event before after new

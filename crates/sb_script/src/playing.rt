@@ -3,7 +3,8 @@ ghost use Rattle.std.specs.Prelude.{◌≡◌, OnOk, IfOk, IfErr};
 ghost use Rattle.std.specs.Io.KnownBytes.{Appends};
 ghost use Rattle.sb_world.specs.Places.{frame_at};
 ghost use Rattle.sb_script.specs.Printed.{lines_of, shown_frame};
-ghost use Rattle.sb_script.specs.Played.{PlaysStep, PlaysWrite, ShowsSent, Sends, Offers, LinesUp, TakesUp, Closes, PlaysGive, Plays, PlaysLine};
+ghost use Rattle.sb_script.specs.Giving.{ShowsSent, Sends, Offers, LinesUp, TakesUp, Closes, PlaysGive};
+ghost use Rattle.sb_script.specs.Played.{PlaysStep, PlaysWrite, Plays, PlaysLine};
 ghost use Rattle.sb_script.specs.Written.{printed, taken};
 
 use crate::command::Command;
