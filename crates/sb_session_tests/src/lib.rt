@@ -20,7 +20,7 @@ use std::fmt::Debug;
 #[cfg(test)]
 use std::process::Abort;
 
-/// Ends the test where the two differ. As a function it costs the prover a tenth of the macro.
+/// Ends the test where the two differ. As a function it costs the prover a fifth of the macro.
 #[cfg(test)]
 fn same<T: PartialEq + Debug>(rt: &impl Abort, found: &T, wanted: &T) {
     assert_eq!(rt; found, wanted);

@@ -87,15 +87,24 @@ impl Block {
         {
             return Err(Fault::Malformed(KIND_DELTA));
         }
+        Ok(Block::from_entries(owner, after, entries))
+    }
+
+    /// A block of these entries, which have to be those of a block, as `new` tells them: nothing is tested. It takes no
+    /// memory.
+    pub fn from_entries(owner: Name, after: u64, entries: Vec<Entry>) -> Block
+        requires { are_block_entries after entries.items ≡ true }
+        ensures { result ≡ block_of_entries owner after entries.items }
+    {
         // Does nothing: the call tells the prover that the name keeps its limits.
         let _ = owner.bytes();
         let length = length_of(&entries);
-        Ok(Block {
+        Block {
             owner,
             after,
             entries,
             length,
-        })
+        }
     }
 
     /// Whose writes these are.
