@@ -12,12 +12,24 @@ use sb_types::{
     KIND_REFUSED, KIND_ROWS, Key, Name, Slot, Write,
 };
 use std::alloc::Global;
+use std::io;
 use std::marker::Brand;
 use std::os::unix::net::UnixStream;
 use std::sync::ledger::{Blank, Ledger};
+use std::time::Duration;
 
 /// How many reads one answer may take.
 const MAX_READS: u64 = 65_536;
+
+/// How many seconds no byte may move before a request is given up.
+const LONGEST_SILENCE: u64 = 60;
+
+/// Lets a connection fail where no byte moved for too long.
+fn limit(stream: &UnixStream) -> io::Result<()> {
+    let longest = Some(Duration::from_secs(LONGEST_SILENCE));
+    stream.set_read_timeout(longest)?;
+    stream.set_write_timeout(longest)
+}
 
 /// One request and its answer over a connection.
 fn exchange<K: Ledger>(
@@ -42,7 +54,8 @@ fn exchange<K: Ledger>(
     )
 }
 
-/// The answer of the node behind a control socket. `ReadFailed` where it can't be reached; then the faults of `ask_control`.
+/// The answer of the node behind a control socket. `ReadFailed` where it can't be reached, or is silent for a minute; then
+/// the faults of `ask_control`.
 fn answer_of<'a>(
     rt: &HostRuntime,
     control: &'a str,
@@ -51,6 +64,9 @@ fn answer_of<'a>(
     let Ok(stream) = UnixStream::connect(rt, control) else {
         return Err(Failure::at(Place::Unreached(control), Fault::ReadFailed));
     };
+    if limit(&stream).is_err() {
+        return Err(Failure::at(Place::Control(control), Fault::ReadFailed));
+    }
     match exchange::<Brand>(rt.alloc(), &stream, request, Blank::new(1)) {
         Ok(answer) => Ok(answer),
         Err(fault) => Err(Failure::at(Place::Control(control), fault)),

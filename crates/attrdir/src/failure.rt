@@ -62,6 +62,10 @@ pub(crate) enum Place<'a> {
     Taken(&'a str),
     /// At the path of a socket that a node makes, which is too long for one.
     TooLong(&'a str),
+    /// At the path of a socket that a node makes, whose folder is not there.
+    NoFolder(&'a str),
+    /// At the path of a peer's socket, which is too long for one.
+    Peer(&'a str),
     /// At one of the two sockets that a node makes.
     Sockets(&'a str, &'a str),
 }
@@ -142,9 +146,11 @@ fn write_text<W: fmt::Write>(
     match (fault, place) {
         (fault, Place::Node(_)) => write_told(fault, f),
         (Fault::ReadFailed, Place::Unreached(_)) => f.write_str("no node could be reached"),
-        (Fault::ReadFailed, Place::Taken(_) | Place::TooLong(_) | Place::Sockets(..)) => {
-            f.write_str("a socket could not be made")
-        }
+        (Fault::ReadFailed, Place::Peer(_)) => f.write_str("a peer can never be reached"),
+        (
+            Fault::ReadFailed,
+            Place::Taken(_) | Place::TooLong(_) | Place::NoFolder(_) | Place::Sockets(..),
+        ) => f.write_str("a socket could not be made"),
         (Fault::StoreFailed, Place::NoLog(_)) => f.write_str("there is no such log"),
         (Fault::LogDamaged, _) => f.write_str(
             "the file is no log that this release reads, or a damaged one",
@@ -180,12 +186,12 @@ open the socket"
         Place::Taken(_) => {
             "a file is at this path: where a node that was killed left it, and none runs there, remove it; else give another path"
         }
-        Place::TooLong(_) => {
+        Place::TooLong(_) | Place::Peer(_) => {
             "the path of a socket has at most 107 bytes: give a shorter one, as from the folder in which the node is started"
         }
-        Place::Sockets(..) => {
-            "see that these are two paths, that the folder of each is there, and that you may write to it"
-        }
+        Place::NoFolder(_) => "the folder of this path is not there: make it, or give another path",
+        Place::Sockets(..) =>
+            "see that these are two paths, and that you may write to the folder of each",
         _ => "see where standard input comes from",
     }
 }
@@ -200,7 +206,8 @@ fn about_store(place: Place<'_>) -> &'static str {
         }
         _ => {
             "another process may have the log open, as a node that runs; else see that it is a file that you may read and write, that \
-it has one name, that no -journal file lies beside it, and that its disk has room"
+it has one name, that no -journal file lies beside it, that you may write to its folder, where a file of its name with -wal is made, and \
+that its disk has room"
         }
     }
 }
@@ -225,7 +232,7 @@ fn about_exchange(fault: &Fault, place: Place<'_>) -> &'static str {
             "give the control socket of a node of the same release, which is not the socket for its peers"
         }
         Fault::Closed =>
-            "an earlier write met a fault of the node's log, which takes no more: see to its disk, and start the node again",
+            "the node takes no more, as after a write that met a fault of its log: see to its disk, and start the node again",
         Fault::WriteFailed(_) => match place {
             Place::Control(_) =>
                 "the node ended the connection: see whether it runs, and try again",
@@ -299,7 +306,10 @@ impl fmt::Display for Place<'_> {
             Place::Unreached(path) | Place::Control(path) | Place::Node(path) => {
                 write!(f, "control socket {path}: ")
             }
-            Place::Taken(path) | Place::TooLong(path) => write!(f, "socket {path}: "),
+            Place::Taken(path) | Place::TooLong(path) | Place::NoFolder(path) => {
+                write!(f, "socket {path}: ")
+            }
+            Place::Peer(path) => write!(f, "peer {path}: "),
             Place::Sockets(sock, control) => write!(f, "sockets {sock} and {control}: "),
         }
     }

@@ -47,7 +47,8 @@ nodes of one name) and ends the run.
 A fault of the run ends it, after what was answered, with `fault N`, its text and what to do about it on standard error: 1 no
 memory, 16 the script cannot be read, 17 the answers cannot be written, 29 the script takes more than 1,000,000 reads.
 
-The exit status is 0 after a whole script, 2 after a line that is none of these, and 3 after a fault that ended the run.
+The exit status is 0 after a whole script, 2 after a line that is none of these, whose number is printed as `line N`, and 3 after a
+fault that ended the run.
 
 Example:
   $ printf 'world 256 breadth 100 a b\\nput a w weight 5\\ngive a b 0\\nread b a w\\n' | attrdir sim
@@ -109,9 +110,9 @@ it runs until it is killed. Then the files of its sockets stay, and have to be r
 answered by a version is in the log.
 
 A fault ends the node, with `fault N`, its text and what to do about it on standard error: 1 no memory, 2 the name, 5 a setting, 16 a
-socket cannot be made, as where a file is at its path, 18 the log is not there, cannot be read or written, or is open elsewhere, 19
-the file is no log of this release, or a damaged one, 20 it belongs to another owner or cluster. A fault of a connection ends that
-connection alone, and is counted.
+socket cannot be made, as where a file is at its path, or the path of a peer has more than 107 bytes, 18 the log is not there, cannot
+be read or written, or is open elsewhere, 19 the file is no log of this release, or a damaged one, 20 it belongs to another owner or
+cluster. A fault of a connection ends that connection alone, and is counted.
 
 The exit status is 0 after the last round, 2 after a command line that is wrong, and 3 after a fault.
 
@@ -119,7 +120,7 @@ Examples:
   $ touch a.log b.log
   $ attrdir serve --name a --cluster c --log a.log --sock a.sock --control a.ctl b.sock &
   $ attrdir serve --name b --cluster c --log b.log --sock b.sock --control b.ctl a.sock &
-  $ attrdir set --control a.ctl web/addr addr 10.0.0.1:80
+  $ sleep 1; attrdir set --control a.ctl web/addr addr 10.0.0.1:80
   version 1
   $ sleep 2; attrdir get --control b.ctl
   a web/addr 1 addr 10.0.0.1:80
@@ -133,8 +134,8 @@ when its log has the write, and this prints `version V`. Other nodes have it onc
 
 A fault ends the command, with `fault N`, its text and what to do about it on standard error: 1 no memory, 3 the key, 4 the value, 6
 the node has 4,096 keys, removed ones counted, 8 it has no version left, 10 to 14 what answers is no control socket, 15 its log met
-a fault before, 16 no node answers, 17 the request or the answer cannot be written, 18 its log cannot be written, 21 another node
-writes under its name, 28 it ended before it answered, 29 the answer takes more than 65,536 reads.
+a fault before, 16 no node answers, or it is silent for a minute, 17 the request or the answer cannot be written, 18 its log cannot be
+written, 21 another node writes under its name, 28 it ended before it answered, 29 the answer takes more than 65,536 reads.
 
 The exit status is 0, 2 after a command line that is wrong, and 3 after a fault.
 
@@ -166,8 +167,8 @@ weight a number, and that of a flag true or false. What others wrote stands as f
 page: each page is what the node has at one time, and a later page is never older.
 
 A fault ends the command, with `fault N`, its text and what to do about it on standard error: 1 no memory, 2 the owner, 3 the
-prefix, 10 to 14 what answers is no control socket, 15 the node cannot read, 16 no node answers, 17 the request or the rows cannot
-be written, 28 the node ended before it answered, 29 a page takes more than 65,536 reads.
+prefix, 10 to 14 what answers is no control socket, 15 the node cannot read, 16 no node answers, or it is silent for a minute, 17 the
+request or the rows cannot be written, 28 the node ended before it answered, 29 a page takes more than 65,536 reads.
 
 The exit status is 0, also where there is no row, 2 after a command line that is wrong, and 3 after a fault.
 

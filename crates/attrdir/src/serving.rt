@@ -29,12 +29,19 @@ pub(crate) struct Given<'a> {
     pub(crate) pace: Pace,
 }
 
-/// Tells that the node listens.
+/// Tells that the node listens, and which of its peers are not there yet.
 fn tell_listening(rt: &HostRuntime, given: &Given<'_>) {
     let _ = eprintln!(rt;
         "attrdir: node {} listens on {}, and for set, del, get and watch on {}",
         given.name, given.sock, given.control
     );
+    for path in &given.peers {
+        if symlink_metadata(rt, *path).is_err() {
+            let _ = eprintln!(rt;
+                "attrdir: no socket is at {path} yet; it is tried again each time its turn comes"
+            );
+        }
+    }
 }
 
 /// Prints what the node did. `WriteFailed` where standard output does not take it.
@@ -64,6 +71,14 @@ fn setting_of(raw: &RawSettings<'_>) -> Setting {
     }
 }
 
+/// Whether the folder of a path is there.
+fn has_folder(rt: &HostRuntime, path: &str) -> bool {
+    match path.rsplit_once('/') {
+        Some(("", _)) | None => true,
+        Some((folder, _)) => symlink_metadata(rt, folder).is_ok(),
+    }
+}
+
 /// Which of its sockets a node could not make, as far as their paths show it.
 fn socket_of<'a>(rt: &HostRuntime, given: &Given<'a>) -> Place<'a> {
     for path in [given.sock, given.control] {
@@ -73,8 +88,20 @@ fn socket_of<'a>(rt: &HostRuntime, given: &Given<'a>) -> Place<'a> {
         if symlink_metadata(rt, path).is_ok() {
             return Place::Taken(path);
         }
+        if !has_folder(rt, path) {
+            return Place::NoFolder(path);
+        }
     }
     Place::Sockets(given.sock, given.control)
+}
+
+/// The first of the peers whose path is too long for a socket.
+fn peer_too_long<'a>(given: &Given<'a>) -> Option<&'a str> {
+    given
+        .peers
+        .iter()
+        .copied()
+        .find(|path| path.len() > SOCKET_PATH_MOST)
 }
 
 /// Where a node that does not run met its fault.
@@ -125,8 +152,8 @@ fn run<
     }
 }
 
-/// Runs a node. `BadName` of its name, and then `BadSetting`, before the log is opened; then the faults of `open_log` and
-/// of `run_node`.
+/// Runs a node. `BadName` of its name, then `BadSetting`, then `ReadFailed` where the path of a peer is too long for a
+/// socket, before the log is opened; then the faults of `open_log` and of `run_node`.
 pub(crate) fn serve<
     'a,
     R: Threads
@@ -142,6 +169,9 @@ pub(crate) fn serve<
         Ok(settings) => settings,
         Err(fault) => return Err(Failure::at(place_of(rt, &fault, given), fault)),
     };
+    if let Some(path) = peer_too_long(given) {
+        return Err(Failure::at(Place::Peer(path), Fault::ReadFailed));
+    }
     let (cluster, max_version) = (settings.cluster(), settings.max_version());
     let log = open_log(rt, given.log, name, cluster, max_version)?;
     run(rt, runtime, given, settings, log)

@@ -12,3 +12,4 @@ pub mod HeldLemmas
 pub mod PartLemmas
 pub mod TurnLemmas
 pub mod ListingLemmas
+pub mod CursorLemmas

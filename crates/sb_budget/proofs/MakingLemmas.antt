@@ -1,13 +1,13 @@
 -- A delta in the making, as what is gathered of a front.
 use Rattle.std.proofs.Common.{◌≡◌, ℕ, ◌+◌, ◌<◌, ◌≤◌, suc, Bool, true, List, [], ◌∷◌, ◌++◌, length, map, take, drop, get_or, refl, sym, ap, subst, ◌∙◌, arith, append-nil, append_assoc, take-append-drop, Result}
-use Rattle.std.specs.Prelude.{sum_by, All}
+use Rattle.std.specs.Prelude.{All}
 use Rattle.std.specs.List.Sorted.{IsSearchInRange, IsBinarySearchResult}
 use Rattle.std.proofs.Math.Seq.{take-append_seam, drop-cons}
 use Rattle.std.proofs.lemmas.List.{map-id}
 use Rattle.std.proofs.lemmas.Bool.{and_from, le-leb}
 use Rattle.sb_types.specs.declared.limits.TheConstants.{PAYLOAD_MOST, BUDGET_LEAST, BUDGET_MOST}
 use Rattle.sb_types.specs.Records.{Entry, Block}
-use Rattle.sb_types.specs.Lengths.{block_length, delta_length}
+use Rattle.sb_types.specs.Lengths.{delta_length}
 use Rattle.sb_types.specs.Limits.{are_owners_above, are_block_entries, are_delta_blocks, text_lt}
 use Rattle.sb_budget.specs.declared.offered.Offered.{Offered}
 use Rattle.sb_budget.specs.Cut.{items_of_all, delta_at, delta_frame_length, IsCut, CanCut}

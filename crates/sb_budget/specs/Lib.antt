@@ -6,3 +6,4 @@ pub mod Making
 pub mod Available
 pub mod Parts
 pub mod Turns
+pub mod Cursors

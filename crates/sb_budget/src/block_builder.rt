@@ -65,16 +65,16 @@ impl BlockBuilder {
     }
 
     /// The block of these entries, which have to be those of a block. It takes no memory.
-    pub(crate) fn into_block(self) -> Result<Block, Fault>
+    pub(crate) fn into_block(self) -> Block
         requires { are_block_entries self.after self.entries ≡ true }
-        ensures { result ≡ Ok self }
+        ensures { result ≡ self }
     {
         let BlockBuilder {
             owner,
             after,
             entries,
         } = self;
-        Block::new(owner, after, entries)
+        Block::from_entries(owner, after, entries)
     }
 }
 

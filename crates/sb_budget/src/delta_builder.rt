@@ -89,7 +89,7 @@ fn blocks_from(alloc: Global, gathered: Vec<BlockBuilder>) -> Result<Vec<Block>,
 {
     let mut blocks = Vec::with_capacity(alloc, gathered.len())?;
     for group in gathered {
-        blocks.push(group.into_block()?)?;
+        blocks.push(group.into_block())?;
     }
     Ok(blocks)
 }

@@ -37,11 +37,13 @@ pub fn cut_in_turns(
     let mut making = DeltaBuilder::new(alloc, budget);
     let mut queue = VecDeque::from(owners);
     while let Some(cursor) = queue.pop_front() {
-        let entry = cursor.entry().copy(alloc)?;
-        if !making.push(cursor.owner(), cursor.after(), entry)? {
+        let (owner, after) = (cursor.owner(), cursor.after());
+        let (first, later) = cursor.split_first();
+        let entry = first.copy(alloc)?;
+        if !making.push(owner, after, entry)? {
             return making.finish();
         }
-        let Some(later) = cursor.advance() else {
+        let Some(later) = later else {
             continue;
         };
         match turns {

@@ -197,8 +197,8 @@ impl<S: Configured, R: Wait + Drop> Directory<S, R> {
         self.under.lock(rt).unwatch(id)
     }
 
-    /// Shows readers all that happened, and says whether the seat saw it, with all that its own calls made. Where it did not, what is
-    /// shown stays.
+    /// Shows readers all that happened, and says whether the seat saw it: then it was told at least as many events as its own calls
+    /// made. Where there is no memory to show it, what is shown stays; where the seat may not see it, it is shown all the same.
     pub fn refresh<Q: Wait>(&self, rt: &Q, seat: &mut ReaderSeat<S>) -> bool
         ensures made { result ≡ true → seat.new.events ≤ length seat.new.told }
         ensures grows { IsPrefix seat.old.told seat.new.told }
@@ -209,8 +209,8 @@ impl<S: Configured, R: Wait + Drop> Directory<S, R> {
 
     /// Shows readers all that happened, and gives what the watch answers once the seat saw it: how many notes it lost,
     /// where it lost any since it last said so; then its notes, the oldest first; then that none is left. `NoWatch` where
-    /// no watch with the id stands; `NoMemory` where there is none to show what happened, and then the note is still to
-    /// come.
+    /// no watch with the id stands; `NoMemory` where there is none to show what happened, or the seat may not see it, and
+    /// then the note is still to come.
     pub fn poll<Q: Wait>(
         &self,
         rt: &Q,

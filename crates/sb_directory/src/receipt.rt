@@ -2,14 +2,14 @@
 use sb_holdings::Report;
 use sb_node::NodeCore;
 
-/// A write was entered under this version; whether readers are shown it yet.
+/// A write was entered under this version; whether the seat saw it.
 #[derive(Clone, Copy, PartialEq, Eq, Debug)]
 pub struct Receipt {
     pub version: u64,
     pub shown: bool,
 }
 
-/// How the blocks of a delta ended; whether readers are shown it yet.
+/// How the blocks of a delta ended; whether the seat saw what was taken of them.
 #[derive(Drop)]
 pub struct Applied {
     pub ends: Report,

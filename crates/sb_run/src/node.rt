@@ -78,8 +78,8 @@ fn refusal<L: WriteLog>(settings: &Settings, log: &L) -> Option<Fault>
 /// more than `max_reads` reads, or where no byte moved for `idle` milliseconds. That costs this connection alone.
 ///
 /// `BadSetting` where there are fewer seats than two beside one for each worker; `WrongCluster` where the log is of another
-/// cluster than the settings'; the faults of the log's `load`; `NoMemory`, also where a thread can't be made;
-/// `ReadFailed` where a socket can't be bound. With each of these no file is left that was not there before.
+/// cluster than the settings'; the faults of the log's `load`; `NoMemory`; `ReadFailed` where a socket can't be bound;
+/// `NoMemory` where a thread can't be made. With each of these no file is left that was not there before.
 pub fn run_node<
     L: WriteLog + Drop,
     R: Threads

@@ -197,10 +197,10 @@ impl<L: WriteLog> World<L> {
 
     /// Each event in turn, with its answers. `NoMemory` where there is no room for the answers, with nothing done.
     ///
-    /// For all that the owners wrote before, and for every list of events: what a reader is given was written by its
-    /// owner under that version (`given`); a reader that holds an owner up to a version gets of each key that was last
-    /// written at or below it exactly that write (`exact`); whatever joins on is taken up (`taken`); within a node's
-    /// run no version falls (`later`); no frame exceeds its budget (`budget`).
+    /// For all that the owners wrote before, and for every list of events, as long as each log's store keeps its promise:
+    /// what a reader is given was written by its owner under that version (`given`); a reader that holds an owner up to a
+    /// version gets of each key that was last written at or below it exactly that write (`exact`); whatever joins on is
+    /// taken up (`taken`); within a node's run no version falls (`later`); no frame exceeds its budget (`budget`).
     pub fn run(&mut self, events: &[Event]) -> Result<Vec<Result<Answer, Fault>>, Fault>
         ensures passes { IfOk result (λ answers. Passes self.old events.now answers.items self.new) }
         ensures err { OnErr result (self.new ≡ self.old) }

@@ -1,14 +1,13 @@
-use Rattle.std.proofs.Common.{◌≡◌, List, ◌∷◌, sym, ap, subst, ◌∙◌}
+use Rattle.std.proofs.Common.{◌≡◌, sym, ap, subst, ◌∙◌}
 use Rattle.std.specs.Prelude.{None}
 use Rattle.std.specs.List.Sorted.{IsStrictlySortedBy}
 use Rattle.std.specs.Map.{keys_of}
 use Rattle.sb_holdings.specs.Plain.{tables_from}
 use Rattle.sb_digest.specs.Digests.{covers, held_in}
-use Rattle.sb_budget.specs.declared.offered.Offered.{Offered}
 use Rattle.sb_budget.specs.Available.{AreRanked}
 use Rattle.sb_budget.specs.Cut.{items_of_all, CanCut}
 use Rattle.sb_budget.specs.Orders.{IsOffer}
-use Rattle.sb_budget.specs.Parts.{Part, all_of, AreParts}
+use Rattle.sb_budget.specs.Parts.{all_of, AreParts}
 use Rattle.sb_budget.proofs.PlaceLemmas.{text_cmp}
 use Rattle.sb_budget.proofs.AvailableLemmas.{all_parts, items_held, plain_tables, can_cut, is_offer, are_ranked}
 use Rattle.sb_budget.proofs.PartLemmas.{all_pieces, all_pieced, items_of_pieces, chains_of_pieces, names_of_pieces}

@@ -1,12 +1,12 @@
-use Rattle.std.proofs.Common.{◌≡◌, ◌<◌, ◌++◌, ◌∷◌, [], ℕ, List, length, drop, suc, Bool, refl, sym, subst, ap, ◌∙◌, arith}
+use Rattle.std.proofs.Common.{◌≡◌, ◌<◌, ◌++◌, ◌∷◌, [], ℕ, List, length, drop, suc, Bool, refl, sym, subst, ◌∙◌, arith}
 use Rattle.std.proofs.lemmas.Iterator.Adapters.{YieldsList-from_vec}
-use Rattle.std.proofs.lemmas.Iterator.Consumers.{YieldsList-so_far, YieldsList-turn, YieldsList-end}
+use Rattle.std.proofs.lemmas.Iterator.Consumers.{YieldsList-so_far, YieldsList-turn}
 use Rattle.std.proofs.lemmas.List.{length_push}
 use Rattle.std.proofs.lemmas.Result.{IfOk-weaker}
 use Rattle.sb_types.specs.Records.{Block}
 use Rattle.sb_budget.specs.declared.offered.Offered.{Offered}
 use Rattle.sb_budget.specs.Cut.{items_of_all, IsCut, CanCut}
-use Rattle.sb_budget.specs.Making.{Making, IsFrontOf, AfterNext}
+use Rattle.sb_budget.specs.Making.{IsFrontOf, AfterNext}
 use Rattle.sb_budget.proofs.CutLemmas.{at_turn}
 use Rattle.sb_budget.proofs.MakingLemmas.{whole_at, item_next}
 use Rattle.sb_budget.proofs.cutting.cut.Goals as goal

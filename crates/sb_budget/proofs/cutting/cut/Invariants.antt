@@ -1,4 +1,4 @@
-use Rattle.std.proofs.Common.{◌≡◌, length, drop}
+use Rattle.std.proofs.Common.{length, drop}
 use Rattle.sb_budget.specs.Making.{IsFrontOf}
 use Rattle.sb_budget.proofs.cutting.cut.Given as goal
 

@@ -1,0 +1,10 @@
+use Rattle.std.proofs.Common.{sym, ap, ◌∙◌}
+use Rattle.sb_budget.specs.Parts.{Part}
+use Rattle.sb_budget.proofs.CursorLemmas.{next_of}
+use Rattle.sb_budget.proofs.cursor.Cursor.owner.Goals as goal
+
+pub returns : goal.returns
+returns c =
+    let s = c.self.inside in
+    let is = next_of s.owner.now s.table.now s.after _ c.self.invariant.0 in
+    record { owner = sym is.owner ∙ ap (λ (p : Part). p.next.owner) c.self.view_is }
