@@ -75,7 +75,7 @@ fn detail_of(given: &ArgMatches<'_>) -> Detail {
     }
 }
 
-/// The value of an option, which `clap` saw to be given.
+/// The value of an option or a word, and the empty text where none was given.
 fn value<'a>(given: &ArgMatches<'a>, name: &str) -> &'a str {
     given.get_str(name).unwrap_or("")
 }
@@ -212,8 +212,8 @@ fn carry_out<'a>(rt: &HostRuntime, matches: &ArgMatches<'a>) -> Result<Next<'a>,
         Some(("get", given)) => run_get(rt, given)?,
         Some(("watch", given)) => run_watch(rt, given)?,
         Some(("log", given)) => run_log(rt, given)?,
-        Some((_, given)) => play(rt, detail_of(given))?,
-        None => USAGE_STATUS,
+        Some(("sim", given)) => play(rt, detail_of(given))?,
+        _ => USAGE_STATUS,
     };
     Ok(Next::Ended(status))
 }

@@ -181,17 +181,18 @@ fn about_reading(place: Place<'_>) -> &'static str {
 open the socket"
         }
         Place::Control(_) | Place::Node(_) => {
-            "the node fell silent, or ended: see whether it runs; a write may have been made, so ask for it with get"
+            "the node fell silent, or ended: see whether it runs; where this was a write, it was made or may yet be: ask for it with get \
+once the node answers"
         }
         Place::Taken(_) => {
             "a file is at this path: where a node that was killed left it, and none runs there, remove it; else give another path"
         }
         Place::TooLong(_) | Place::Peer(_) => {
-            "the path of a socket has at most 107 bytes: give a shorter one, as from the folder in which the node is started"
+            "the path of a socket has 1 to 107 bytes: give another one, as from the folder in which the node is started"
         }
         Place::NoFolder(_) => "the folder of this path is not there: make it, or give another path",
         Place::Sockets(..) =>
-            "see that these are two paths, and that you may write to the folder of each",
+            "see that these are two paths, of 1 to 107 bytes each, and that you may write to the folder of each",
         _ => "see where standard input comes from",
     }
 }
@@ -239,7 +240,7 @@ fn about_exchange(fault: &Fault, place: Place<'_>) -> &'static str {
             _ => "see where standard output goes; what was asked for before stands",
         },
         Fault::Truncated => {
-            "the node ended before it answered: see whether it runs; a write may have been made, so ask for it with get"
+            "the node ended before it answered: see whether it runs; where this was a write, it may have been made: ask for it with get"
         }
         Fault::TurnsSpent => about_turns(place),
         _ => about_reading(place),

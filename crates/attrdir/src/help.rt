@@ -103,16 +103,16 @@ removes them when it ends. On --sock it serves other nodes, and each PEER is the
 asks in its turn, one a round, for what it lacks. On --control it answers `set`, `del`, `get` and `watch`. Peers and callers are not
 authenticated: whoever may open a socket may use it.
 
-One line on standard error says that the node listens. With --rounds it ends after the last one, prints
-`rounds R faults F events E` on standard output, and says so in one more line on standard error: R rounds were made, F of them and
-of the connections that came had a fault, and E events were entered, its own writes and what it took from peers. Without --rounds
-it runs until it is killed. Then the files of its sockets stay, and have to be removed before it starts again; each write that was
+One line on standard error says that the node listens, and one more names each PEER at whose path no socket can be seen yet. With
+--rounds it ends after the last one, prints `rounds R faults F events E` on standard output, and says so in one more line on standard
+error: R rounds were made, F of them and of the connections that came had a fault, and E events were seen, its own writes and each delta
+of a peer, also one that brought nothing. Without --rounds it runs until it is killed. Then the files of its sockets stay, and have to be removed before it starts again; each write that was
 answered by a version is in the log.
 
 A fault ends the node, with `fault N`, its text and what to do about it on standard error: 1 no memory, 2 the name, 5 a setting, 16 a
-socket cannot be made, as where a file is at its path, or the path of a peer has more than 107 bytes, 18 the log is not there, cannot
-be read or written, or is open elsewhere, 19 the file is no log of this release, or a damaged one, 20 it belongs to another owner or
-cluster. A fault of a connection ends that connection alone, and is counted.
+socket cannot be made, as where a file is at its path, or the path of a peer has none or more than 107 bytes, 17 the last line cannot be
+written, 18 the log is not there, cannot be read or written, or is open elsewhere, 19 the file is no log of this release, or a damaged
+one, 20 it belongs to another owner or cluster. A fault of a connection ends that connection alone, and is counted.
 
 The exit status is 0 after the last round, 2 after a command line that is wrong, and 3 after a fault.
 

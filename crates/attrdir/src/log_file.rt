@@ -68,7 +68,7 @@ fn print_lines<L: WriteLog>(rt: &HostRuntime, log: L) -> Result<(), Fault> {
 }
 
 /// Prints what the log of an owner of a cluster holds. `BadName` of either name, before the file is looked for; then the
-/// faults of `open_log` and of `log_run`.
+/// faults of `open_log`, of `log_run` and of `close`.
 pub(crate) fn print_log<'a>(
     rt: &HostRuntime,
     path: &'a str,

@@ -7,7 +7,7 @@ use sb_run::{Pace, Paths, Ran, run_node};
 use sb_types::{
     BUDGET_LEAST, BUDGET_MOST, Fault, Name, RawSettings, Settings, VERSION_MOST, WORKERS_MOST,
 };
-use std::fs::symlink_metadata;
+use std::fs::{metadata, symlink_metadata};
 use std::net::{Net, TcpListener, TcpStream};
 use std::rt::Files;
 use std::sync::Wait;
@@ -38,7 +38,7 @@ fn tell_listening(rt: &HostRuntime, given: &Given<'_>) {
     for path in &given.peers {
         if symlink_metadata(rt, *path).is_err() {
             let _ = eprintln!(rt;
-                "attrdir: no socket is at {path} yet; it is tried again each time its turn comes"
+                "attrdir: no socket can be seen at {path} yet; it is tried each time its turn comes"
             );
         }
     }
@@ -75,7 +75,7 @@ fn setting_of(raw: &RawSettings<'_>) -> Setting {
 fn has_folder(rt: &HostRuntime, path: &str) -> bool {
     match path.rsplit_once('/') {
         Some(("", _)) | None => true,
-        Some((folder, _)) => symlink_metadata(rt, folder).is_ok(),
+        Some((folder, _)) => metadata(rt, folder).is_ok_and(|found| found.is_dir()),
     }
 }
 
@@ -95,13 +95,13 @@ fn socket_of<'a>(rt: &HostRuntime, given: &Given<'a>) -> Place<'a> {
     Place::Sockets(given.sock, given.control)
 }
 
-/// The first of the peers whose path is too long for a socket.
-fn peer_too_long<'a>(given: &Given<'a>) -> Option<&'a str> {
+/// The first of the peers whose path is none of a socket.
+fn unreachable_peer<'a>(given: &Given<'a>) -> Option<&'a str> {
     given
         .peers
         .iter()
         .copied()
-        .find(|path| path.len() > SOCKET_PATH_MOST)
+        .find(|path| path.is_empty() || path.len() > SOCKET_PATH_MOST)
 }
 
 /// Where a node that does not run met its fault.
@@ -114,7 +114,7 @@ fn place_of<'a>(rt: &HostRuntime, fault: &Fault, given: &Given<'a>) -> Place<'a>
     }
 }
 
-/// Runs a node over a log. The faults of `run_node`.
+/// Runs a node over a log, and prints what it did. The faults of `run_node`; then `WriteFailed`.
 fn run<
     'a,
     L: WriteLog + Drop,
@@ -152,8 +152,8 @@ fn run<
     }
 }
 
-/// Runs a node. `BadName` of its name, then `BadSetting`, then `ReadFailed` where the path of a peer is too long for a
-/// socket, before the log is opened; then the faults of `open_log` and of `run_node`.
+/// Runs a node. `BadName` of its name, then `BadSetting`, then `ReadFailed` where the path of a peer is none of a socket,
+/// before the log is opened; then the faults of `open_log` and of `run_node`, and `WriteFailed` of what is printed at the end.
 pub(crate) fn serve<
     'a,
     R: Threads
@@ -169,7 +169,7 @@ pub(crate) fn serve<
         Ok(settings) => settings,
         Err(fault) => return Err(Failure::at(place_of(rt, &fault, given), fault)),
     };
-    if let Some(path) = peer_too_long(given) {
+    if let Some(path) = unreachable_peer(given) {
         return Err(Failure::at(Place::Peer(path), Fault::ReadFailed));
     }
     let (cluster, max_version) = (settings.cluster(), settings.max_version());

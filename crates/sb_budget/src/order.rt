@@ -15,7 +15,8 @@ use std::alloc::Global;
 
 /// An order in which what is offered is sent.
 pub trait DeltaOrder {
-    /// The items in this order: each once, and each owner's in ascending version. `NoMemory`.
+    /// The items in this order: each once, and each owner's in ascending version. They have to stand as `available` lists
+    /// them. `NoMemory`.
     fn arrange(&self, alloc: Global, items: Vec<Offered>) -> Result<Vec<Offered>, Fault>
         requires { IsOffer items.items }
         ensures each_once { IfOk result (λ ordered. IsPermutation items.items ordered.items) }
@@ -23,8 +24,8 @@ pub trait DeltaOrder {
         ensures memory { IfErr result (λ fault. fault ≡ Fault.NoMemory) };
 
     /// What a peer that sent this digest lacks, in this order: the longest front of it within a frame of at most
-    /// `budget` bytes, 256 to 65,536, and at least one entry where one is lacking. It is what `cut` makes of what
-    /// `available` lists and `arrange` orders, without a list of what does not fit. `NoMemory`.
+    /// `budget` bytes, 256 to 65,536, and at least one entry where one is lacking. It is what `cut` makes of some
+    /// order of what `available` lists, without a list of what does not fit; each order says of which. `NoMemory`.
     fn delta(
         &self,
         alloc: Global,

@@ -44,8 +44,8 @@ struct Fixed<S: Configured> {
     ghost named: { name ≡ S.opening.held.me },
 }
 
-/// A node that threads share, each from a seat of its own. Each call takes the one lock, so that its answer is that of the
-/// node after all events up to then; these begin with those that the seat was told or has seen.
+/// A node that threads share, each from a seat of its own. Each call but `settings` and `name` takes the one lock, so that
+/// its answer is that of the node after all events up to then; these begin with those that the seat was told or has seen.
 #[derive(Drop)]
 pub struct Directory<S: Configured, R: Wait + Drop> {
     under: Mutex<Under<S, R>>,
@@ -128,8 +128,8 @@ impl<S: Configured, R: Wait + Drop> Directory<S, R> {
 
     /// Takes each block of a delta in turn, tells watches of each entry that it entered, and shows readers all that
     /// happened; gives how the blocks ended, and whether the seat saw it. Where it did not, the next call that shows
-    /// makes up for it. `TurnsSpent` after 2^64 - 1 events; `NoMemory` where there is no room for the ends. Each leaves
-    /// everything as it was, the seat too.
+    /// makes up for it. `TurnsSpent` after 2^64 - 1 events; `NoMemory` where there is no room for the ends, or to note of which
+    /// owners watches and readers are to be told. Each leaves everything as it was, the seat too.
     pub fn apply<Q: Wait>(
         &self,
         rt: &Q,

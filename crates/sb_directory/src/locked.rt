@@ -116,7 +116,7 @@ impl<S: Site, R: Wait + Drop> Locked<S, R> {
     /// Takes each block of a delta in turn, tells watches of each entry that it entered, and shows readers all that
     /// happened; gives how the blocks ended, and says whether there was memory to show it. Where there was none, the
     /// next call that shows makes up for it. `TurnsSpent` after 2^64 - 1 events; `NoMemory` where there is no room for
-    /// the ends. Each leaves everything as it was.
+    /// the ends, or to note of which owners watches and readers are to be told. Each leaves everything as it was.
     pub fn apply<Q: Wait>(&mut self, rt: &Q, delta: &Delta) -> Result<(Report, bool), Fault>
         ensures answer { IfErr result (λ fault. fault ≢ Fault.NoMemory → spec.delta_due self.old ≡ Err fault) }
         ensures refused { IfErr (spec.delta_due self.old) (λ fault. result ≡ Err fault) }
@@ -140,7 +140,8 @@ impl<S: Site, R: Wait + Drop> Locked<S, R> {
         Ok((ends, shown))
     }
 
-    /// The digest of the owners from a name on, or of all, as of the node. `NoMemory`.
+    /// The digest of the owners from a name on, or of all, as of the node; `want` says whether it asks for one in answer.
+    /// `NoMemory`.
     pub fn digest(&self, from: Option<Name>, want: bool) -> Result<Digest, Fault>
         ensures longest { IfOk result (IsLongestFront self.now.core.settings.budget want from (pairs_from from self.now.core.node.held)) }
         ensures goes { IfOk result (λ digest. 0 < length (pairs_from from self.now.core.node.held) → 0 < length digest.pairs) }

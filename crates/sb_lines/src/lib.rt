@@ -1,4 +1,4 @@
-//! What nodes hold, in lines for a reader.
+//! What a log holds, in lines for a reader.
 #![tactic(auto)]
 
 mod log_lines;

@@ -16,7 +16,7 @@ pub record Core : Type 0 where
 abbrev pub with_node : Core → Node → Core
 with_node core node = record { settings = core.settings; node = node }
 
--- a version under the own name that the node did not write stands before every other answer
+-- this answer, unless a version under the own name came that the node did not write: then the fault with that version
 abbrev pub unless_conflict : Option ℕ → Result (Unit {0}) Fault → Result (Unit {0}) Fault
 unless_conflict None answer = answer
 unless_conflict (Some version) answer = Err (OwnerConflict version)

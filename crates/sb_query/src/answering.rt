@@ -47,7 +47,8 @@ fn gather(alloc: Global, asked: sb_views::Rows<'_>, budget: u64) -> Result<(bool
 
 /// The longest page of the live rows that are asked for whose frame has at most `budget` bytes, 256 to 65,536, and
 /// whether rows are left. It has at least one row where one is asked for, so asking behind the last row goes on. It
-/// reads the rows of the page and one more, behind a search for where they begin. `NoMemory`.
+/// reads the rows of the page and one more, and of each owner that it passes makes one search, and reads at most one row
+/// beyond the prefix. `NoMemory`.
 pub fn answer(alloc: Global, snapshot: &Snapshot<'_>, ask: &Ask, budget: u64) -> Result<Rows, Fault>
     requires least { BUDGET_LEAST ≤ budget }
     requires most { budget ≤ BUDGET_MOST }

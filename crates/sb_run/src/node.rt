@@ -72,14 +72,15 @@ fn refusal<L: WriteLog>(settings: &Settings, log: &L) -> Option<Fault>
 /// serves peers on `sock`, as many at once as there are workers, and its owner on `control`, one connection after another;
 /// and it dials its peers in turn, one a round, for as many exchanges of digests and deltas as it takes to tell of all owners
 /// that it holds: one, where the budget has room for a digest of all. After the last round it ends, once the connections that
-/// are open have ended, and removes the files of both sockets.
+/// are open have ended, and removes what is at the paths of both sockets, also where another put it there since.
 ///
 /// A connection ends with a fault where its peer breaks the rules of a session or of the control socket, where it takes
 /// more than `max_reads` reads, or where no byte moved for `idle` milliseconds. That costs this connection alone.
 ///
 /// `BadSetting` where there are fewer seats than two beside one for each worker; `WrongCluster` where the log is of another
 /// cluster than the settings'; the faults of the log's `load`; `NoMemory`; `ReadFailed` where a socket can't be bound;
-/// `NoMemory` where a thread can't be made. With each of these no file is left that was not there before.
+/// `NoMemory` where the thread of the pool, or the one that dials, can't be made. With each of these no file is left that
+/// was not there before. Where the thread of a worker can't be made, the node serves fewer peers at once.
 pub fn run_node<
     L: WriteLog + Drop,
     R: Threads

@@ -78,8 +78,8 @@ impl<L: WriteLog> Owner<L> {
     /// it, it is owed, and is handed in before the next write.
     ///
     /// `OwnerConflict` where another node writes under the own name; the faults of the directory for what is owed.
-    /// Each of these leaves everything as it was. Then the faults of the log, which take no write; what was owed is
-    /// handed in before them.
+    /// Each of these leaves everything as it was. Then, with what was owed handed in, the faults of `WriteLog::put`: with
+    /// `StoreFailed` the write stands or does not, and the log is closed; with each other one the log took nothing.
     pub fn put<S: Configured, H: Wait + Drop, Q: Wait>(
         &mut self,
         rt: &Q,

@@ -32,10 +32,15 @@ fn latch_of(listener: &UnixListener) -> io::Result<UnixStream> {
 }
 
 impl<'a> Door<'a> {
-    /// Binds a socket at a path where no file is, and makes one. `ReadFailed`, which leaves what was there.
+    /// Binds a socket at a path where no file is, and makes one. `ReadFailed`, also of an empty path, which leaves what
+    /// was there.
     fn bind<R: Files + Net>(rt: &R, path: &'a str) -> Result<Door<'a>, Fault>
         ensures { IfErr result (λ fault. fault ≡ Fault.ReadFailed) }
     {
+        // The system would give such a socket a name of its own, to which no path leads.
+        if path.is_empty() {
+            return Err(Fault::ReadFailed);
+        }
         let Ok(listener) = UnixListener::bind(rt, path) else {
             return Err(Fault::ReadFailed);
         };

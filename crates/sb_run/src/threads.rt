@@ -78,7 +78,7 @@ fn dial_to_the_end<S: Paced, H: Wait + Drop, Q: Wait + Net + Clock>(
 }
 
 /// Runs the threads of a node to their end: its workers, the one that dials, and the calling one at the control socket.
-/// `NoMemory` where a thread can't be made.
+/// `NoMemory` where the thread of the pool, or the one that dials, can't be made.
 pub(crate) fn run_threads<
     S: Paced + Send + Sync,
     L: WriteLog + Drop,

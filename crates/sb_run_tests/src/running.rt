@@ -119,6 +119,27 @@ fn a_path_that_is_taken_is_left(rt: HostRuntime) -> Result<(), Fail> {
     Ok(())
 }
 
+#[test]
+fn an_empty_path_is_refused(rt: HostRuntime) -> Result<(), Fail> {
+    for (sock, control, other) in [
+        ("", "empty.control", "empty.control"),
+        ("empty.sock", "", "empty.sock"),
+    ] {
+        let paths = Paths {
+            sock,
+            control,
+            peers: &[],
+        };
+        let met = run_a(&rt, rt.alloc(), &paths, pace(1, 0));
+        same(
+            &rt,
+            &(met, is_there(&rt, other)),
+            &(Err(Fault::ReadFailed), false),
+        );
+    }
+    Ok(())
+}
+
 /// What the player saw: whether the write was done, how the sessions of c and b ended, and how far c holds a, and b holds a
 /// and c.
 #[derive(Clone, Copy, Debug, PartialEq, Eq)]

@@ -37,10 +37,12 @@ abbrev pub frame_in : Answer → Option ℕ
 frame_in (Sent number) = Some number
 frame_in answer = None
 
+-- the same of a result
 abbrev pub sent_by : Result Answer Fault → Result (Option ℕ) Fault
 sent_by (Ok answer) = Ok (frame_in answer)
 sent_by (Err fault) = Err fault
 
+-- an event happens, which sent this
 abbrev pub Sends : Seen → Event → Result (Option ℕ) Fault → Seen → Type 0
 Sends old event sent new = (answer : Result Answer Fault) × Happens old event answer new × (sent ≡ sent_by answer)
 
@@ -51,37 +53,42 @@ giving = 1000000
 abbrev pub taking : ℕ
 taking = 1000001
 
--- the giver connects, and offers what it wrote above a version; what it sent is the Hello and the delta
+-- the Hello and the delta, unless the delta has a fault
 abbrev pub given_with : Option ℕ → Result (Option ℕ) Fault → Result Given Fault
 given_with hello (Ok delta) = Ok (record { hello = hello; delta = delta })
 given_with hello (Err fault) = Err fault
 
+-- behind a Hello that had a fault nothing is offered
 abbrev pub OffersNext : Result (Option ℕ) Fault → Seen → List ℕ → ℕ → Result Given Fault → Seen → Type 0
 OffersNext (Err fault) old giver after given new = (new ≡ old) × (given ≡ Err fault)
 OffersNext (Ok hello) old giver after given new =
     (delta : Result (Option ℕ) Fault) × Sends old (events.Offer giver giver after) delta new × (given ≡ given_with hello delta)
 
+-- the giver connects, and offers what it wrote above a version
 abbrev pub Offers : Seen → List ℕ → ℕ → Result Given Fault → Seen → Type 0
 Offers old giver after given new =
     (hello : Result (Option ℕ) Fault) × (middle : Seen) × Sends old (events.Connect giver giving) hello middle × OffersNext hello middle giver after given new
 
--- the taker connects, the frames that were sent are lined up towards it, and all of them come at once
+-- the event that lines up a frame towards the taker, if it was sent
 abbrev pub lining : Option ℕ → List Event
 lining None = []
 lining (Some number) = events.Line taking number ∷ []
 
--- a frame is lined up, if it was sent
+-- an answer, of which only its fault is kept
 abbrev pub done_of : Result Answer Fault → Result (Unit {0}) Fault
 done_of (Ok answer) = Ok tt
 done_of (Err fault) = Err fault
 
+-- a frame is lined up, if it was sent
 abbrev pub LinesUp : Seen → Option ℕ → Result (Unit {0}) Fault → Seen → Type 0
 LinesUp old None result new = (new ≡ old) × (result ≡ Ok tt)
 LinesUp old (Some number) result new = (answer : Result Answer Fault) × Happens old (events.Line taking number) answer new × (result ≡ done_of answer)
 
+-- all that is lined up towards the taker comes
 abbrev pub all_comes : Event
 all_comes = events.Piece taking 18446744073709551615
 
+-- the taker connects, the frames that were sent are lined up towards it, and all of them come at once
 abbrev pub TakesUp : Seen → List ℕ → Given → Result Answer Fault → Seen → Type 0
 TakesUp old taker given answer new = Happen old (events.Connect taker taking ∷ lining given.hello ++ lining given.delta) all_comes answer new
 
@@ -96,6 +103,7 @@ PlaysTaking (Ok given) old taker before after new =
     (answer : Result Answer Fault) × (taken : Seen) × (between : Option (List ℕ))
     × ShowsSent old.sent given.delta before between × TakesUp old taker given answer taken × Closes taken new × Appends between after (lines_of all_comes answer)
 
+-- the giver offers, and the taker takes it up
 abbrev pub PlaysGive : Seen → List ℕ → List ℕ → ℕ → Option (List ℕ) → Option (List ℕ) → Seen → Type 0
 PlaysGive old giver taker above before after new =
     (given : Result Given Fault) × (middle : Seen) × Offers old giver above given middle × PlaysTaking given middle taker before after new

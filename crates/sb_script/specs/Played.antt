@@ -35,10 +35,11 @@ Plays old (commands.Write commit take) before after new = PlaysWrite old commit 
 Plays old (commands.Give giver taker above) before after new = PlaysGive old giver taker above before after new
 Plays old (commands.Show frame) before after new = (new ≡ old) × Appends before after (shown_frame (frame_at old.sent frame))
 
--- a line does what it says; one with a name, a key or a value that is none prints that fault alone
+-- a line does what it says
 abbrev pub PlaysCommand : Seen → Option (List ℕ) → Option (List ℕ) → Seen → Type 0
 PlaysCommand old before after new = (line : Line) × (command : Command) × IsCommand line command × Plays old command before after new
 
+-- a line with a name, a key or a value that is none prints that fault alone
 abbrev pub PlaysFault : Seen → Option (List ℕ) → Option (List ℕ) → Seen → Type 0
 PlaysFault old before after new = (fault : Fault) × (new ≡ old) × Appends before after (fault_line fault)
 

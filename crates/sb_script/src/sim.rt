@@ -85,7 +85,7 @@ pub fn sim_run<R: Read + Drop, W: Write + Drop, L: Ledger>(
     Ok(ending)
 }
 
-/// Runs a script for a caller that does not count the reads.
+/// `sim_run` for a caller that does not count the reads, of which at most `max_reads` are made. The faults of `sim_run`.
 pub fn sim_run_uncounted<R: Read + Drop, W: Write + Drop>(
     alloc: Global,
     reader: R,

@@ -178,8 +178,9 @@ fn talk<R: Read, W: Write, H: Handler, L: Ledger>(
 ///
 /// `BadMark`, `BadVersion`, `BadLength`, `UnknownKind`, `Malformed`, `ReadFailed` and `Truncated` of the
 /// peer's bytes; `WriteFailed` with how many bytes of the frame that was being written are out; `NoHello`,
-/// `WrongCluster`, `SameName` and `SecondHello` of the peer's messages; `TurnsSpent` where one more read
-/// is needed, or the handler's; `NoMemory`, with whole frames written. What was applied before stands.
+/// `WrongCluster`, `SameName` and `SecondHello` of the peer's messages, and `UnknownKind` of one that has no place in a
+/// session; `Closed` where the session had ended before; `TurnsSpent` where one more read is needed, or the handler's;
+/// `NoMemory`, with whole frames written. What was applied before stands.
 pub fn serve<R: Read, W: Write, H: Handler, L: Ledger>(
     alloc: Global,
     reader: &mut R,

@@ -9,7 +9,7 @@ use std::alloc::Global;
 use std::collections::VecDeque;
 use std::marker::Model;
 
-/// Entries, each with its owner, in the order in which they were entered.
+/// Entries, each with its owner, in the order in which they are to be shown.
 #[derive(Drop)]
 pub struct Batch {
     entries: VecDeque<Op>,

@@ -286,7 +286,7 @@ impl<S: Site> Front<S> {
     }
 
     /// Adds the taking of an own write to all that was seen, and says whether it did. It did not where the story is
-    /// longer.
+    /// longer: then this has seen more of it, and nothing is added.
     pub fn add_own(&mut self, story: &Story<S>, entry: &Entry) -> bool
         requires { length self.old < 2 ^ 64 - 1 }
         ensures { MatchBool result (self.new ≡ self.old ++ events.TookOwn entry.now ∷ []) (IsLonger self.old self.new) }
@@ -302,7 +302,7 @@ impl<S: Site> Front<S> {
     }
 
     /// Adds a delta whose blocks ended so to all that was seen, and says whether it did. It did not where the story
-    /// is longer.
+    /// is longer: then this has seen more of it, and nothing is added.
     pub fn add_applied(&mut self, story: &Story<S>, delta: &Delta, ends: &Report) -> bool
         requires { length self.old < 2 ^ 64 - 1 }
         ensures { MatchBool result (self.new ≡ self.old ++ events.Applied delta.now ends.now ∷ []) (IsLonger self.old self.new) }

@@ -1,6 +1,5 @@
 -- How what was heard goes on, and how it ends.
 use Rattle.std.proofs.Common.{◌≡◌, ℕ, ◌+◌, ◌<◌, Bool, true, false, List, [], ◌∷◌, ◌++◌, length, map, inl, inr, ⊎_elim, Option, Some, None, Result, Ok, Err, OnErr, IfNone, refl, sym, ap, subst, ◌∙◌, arith}
-use Rattle.std.specs.List.{flat_map}
 use Rattle.std.proofs.lemmas.List.{append-nil, append_assoc, length-append, length-map}
 use Rattle.std.proofs.lemmas.Grind.{flat_map-append}
 use Rattle.sb_types.specs.declared.fault.Fault.{Fault}

@@ -16,3 +16,4 @@ pub mod Looking
 pub mod Connected
 pub mod Reaching
 pub mod Fitting
+pub mod Lining

@@ -1,5 +1,5 @@
 -- What a node hears on a line of frames that were sent: all of it is true, and so is all that it replies.
-use Rattle.std.proofs.Common.{◌≡◌, ℕ, ◌≤◌, Bool, true, List, [], ◌∷◌, ◌++◌, length, map, Option, Some, None, Result, Ok, Err, inl, inr, ⊎_elim, refl, sym, ap, subst, ◌∙◌, arith}
+use Rattle.std.proofs.Common.{◌≡◌, ℕ, ◌≤◌, true, List, [], ◌∷◌, ◌++◌, length, map, Option, Some, None, Result, Ok, Err, inl, inr, ⊎_elim, refl, sym, ap, subst, ◌∙◌, arith}
 use Rattle.std.specs.List.{flat_map, list_all}
 use Rattle.std.proofs.lemmas.Bool.{and_parts}
 use Rattle.std.proofs.lemmas.Grind.{flat_map-append}
@@ -10,7 +10,7 @@ use Rattle.sb_types.specs.declared.fault.Fault.TheVariants.{NoMemory}
 use Rattle.sb_types.specs.Records.{Block, Settings}
 use Rattle.sb_types.specs.Runs.{Stands}
 use Rattle.sb_types.proofs.Standing.{either, left as left_of}
-use Rattle.sb_holdings.specs.Nodes.{Node, replay_node, IsNode, NodeHolds}
+use Rattle.sb_holdings.specs.Nodes.{replay_node, IsNode, NodeHolds}
 use Rattle.sb_holdings.proofs.Nodes.{replay_node-append}
 use Rattle.sb_digest.specs.Digests as digests
 use Rattle.sb_codec.specs.declared.message.Message.{Message}
@@ -26,10 +26,10 @@ use Rattle.sb_session.specs.Sessions.{Session, refusal_of}
 use Rattle.sb_session.specs.declared.session.Phase.{Phase}
 use Rattle.sb_session.specs.declared.session.Phase.TheVariants as phases
 use Rattle.sb_session.specs.Taking.{messages_of, Takes, AsksWith, AsksIn, Asks}
-use Rattle.sb_node.specs.Calls.{Call, events_of, replay_calls, AreCalls, AreTrue}
+use Rattle.sb_node.specs.Calls.{events_of, replay_calls, AreCalls, AreTrue}
 use Rattle.sb_node.specs.Cores.{Core, with_node}
 use Rattle.sb_node.specs.Steps.{Steps}
-use Rattle.sb_node.specs.Talks.{taken_of, IsReply, AreEnds, TrueMessage, AreTrueMessages}
+use Rattle.sb_node.specs.Talks.{taken_of, IsReply, AreEnds, TrueMessage}
 use Rattle.sb_node.proofs.Sessions.{up_unless, taken, refused, replied, ended}
 use Rattle.sb_node.proofs.Told.{Laws, asked_in_true, calls_are, calls_true, heard_kept, heard_said}
 use Rattle.sb_world.specs.declared.event.Item.{Item}

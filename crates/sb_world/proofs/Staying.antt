@@ -1,5 +1,5 @@
 -- A store that can't break its promise stays so over each step of a world.
-use Rattle.std.proofs.Common.{◌≡◌, List, [], ◌∷◌, Result, refl, sym, subst}
+use Rattle.std.proofs.Common.{List, [], ◌∷◌, Result, refl, sym, subst}
 use Rattle.sb_types.specs.declared.fault.Fault.{Fault}
 use Rattle.sb_world.specs.declared.event.Event.{Event}
 use Rattle.sb_world.specs.declared.event.Answer.{Answer}

@@ -13,7 +13,7 @@ use Rattle.sb_node.specs.Steps.{Steps}
 use Rattle.sb_world.specs.declared.event.Item.{Item}
 use Rattle.sb_world.specs.declared.event.Answer.{Answer}
 use Rattle.sb_world.specs.declared.event.Answer.TheVariants as answers
-use Rattle.sb_world.specs.Connections.{Connection, connection_at, with_connection, without_connection}
+use Rattle.sb_world.specs.Connections.{Connection, with_connection, without_connection}
 use Rattle.sb_world.specs.Hearing.{Listener, listener_of, Heard, Hears, Tells, events_in}
 use Rattle.sb_world.specs.Places.{Place}
 use Rattle.sb_world.specs.Turns.{Turn, goes, still, sent_turn, with_core}

@@ -10,7 +10,7 @@ use Rattle.sb_table.specs.Plain.{IsPlainTable}
 use Rattle.sb_holdings.specs.Nodes.{opened_node}
 use Rattle.sb_types.specs.Runs.{Stands}
 use Rattle.sb_log.specs.Records.{Log}
-use Rattle.sb_log.specs.Puts.{IsSure}
+use Rattle.sb_log.specs.Puts.{IsSure, Stays}
 use Rattle.sb_world.specs.Places.{Place, Seen, place_at}
 
 -- a log has the name
@@ -55,6 +55,15 @@ pub record IsNew (of_world : Settings) (p : Place) : Type 0 where
   pub node : p.log.is_clean ≡ true → p.core.node ≡ opened_node p.me p.log.content
   pub waiting : p.waiting ≡ []
   pub up : p.is_up ≡ true
+
+-- the node of this log, which has what it had
+pub record IsNodeOf (given : Log) (p : Place) : Type 0 where
+  pub stays : Stays given p.log
+  pub content : p.log.is_clean ≡ true → p.log.content ≡ given.content
+
+-- each log has its node
+abbrev pub HaveNodes : List Log → List Place → Type 0
+HaveNodes logs places = (log : Log) → Stands logs log → (p : Place) × Stands places p × IsNodeOf log p
 
 -- each node has just opened, nothing is connected, and nothing was sent
 pub record IsMade (world : Seen) : Type 0 where

@@ -1,30 +1,27 @@
 -- What each event does at its node.
-use Rattle.std.specs.Prelude.{◌≡◌, ◌⊎◌, ℕ, ◌+◌, Bool, true, false, if◌then◌else◌, nat_eq, List, [], ◌∷◌, ◌++◌, length, map, Option, Some, None, IfErr, Result, Ok, Err}
+use Rattle.std.specs.Prelude.{◌≡◌, ◌⊎◌, ℕ, ◌+◌, Bool, true, false, if◌then◌else◌, nat_eq, List, [], ◌∷◌, ◌++◌, length, map, None, IfErr, Result, Ok, Err}
 use Rattle.std.specs.Cmp.Lexicographic.{pointwise}
 use Rattle.sb_types.specs.declared.entry.Slot.{Slot}
 use Rattle.sb_types.specs.declared.entry.Write.{Write}
 use Rattle.sb_types.specs.declared.fault.Fault.{Fault}
-use Rattle.sb_types.specs.declared.fault.Fault.TheVariants.{NoMemory, Closed, StoreFailed}
+use Rattle.sb_types.specs.declared.fault.Fault.TheVariants.{NoMemory, StoreFailed}
 use Rattle.sb_types.specs.Faults.{Gives}
 use Rattle.sb_types.specs.Limits.{is_delta}
 use Rattle.sb_types.specs.Records.{Table, Block}
-use Rattle.sb_types.specs.Runs.{shown_at}
-use Rattle.sb_holdings.specs.declared.ends.BlockEnd.{BlockEnd}
-use Rattle.sb_holdings.specs.Held.{Held, shown_of}
-use Rattle.sb_holdings.specs.Nodes.{NodeEvent, Wrote, opened_node, node_after_event, replay_node}
+use Rattle.sb_holdings.specs.Held.{Held}
+use Rattle.sb_holdings.specs.Nodes.{NodeEvent, Wrote, opened_node, node_after_event}
 use Rattle.sb_digest.specs.Digests.{Pair, Digest, digest_of, plain_pair}
 use Rattle.sb_digest.specs.Pairs.{pairs_from}
 use Rattle.sb_codec.specs.declared.message.Message.{Message}
 use Rattle.sb_codec.specs.declared.message.Message.TheVariants as messages
-use Rattle.sb_frames.specs.Frames.{frame, Front, short, whole, bad, front_of}
+use Rattle.sb_frames.specs.Frames.{frame}
 use Rattle.sb_log.specs.Records.{Committed, Log}
 use Rattle.sb_log.specs.Puts.{Puts, Loads}
 use Rattle.sb_node.specs.Answers.{IsDelta, IsAnswer}
 use Rattle.sb_node.specs.Cores.{Core, with_node, committed_answer}
-use Rattle.sb_holdings.specs.Treats.{Treats, took_each}
 use Rattle.sb_world.specs.declared.event.Answer.{Answer}
 use Rattle.sb_world.specs.declared.event.Answer.TheVariants as answers
-use Rattle.sb_world.specs.Places.{Place, frame_at}
+use Rattle.sb_world.specs.Places.{Place}
 
 -- what an event adds to the history: nothing, a write of the node's owner, events of the node, or that the node opened anew
 pub data Effect : Type 0 where

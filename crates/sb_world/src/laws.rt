@@ -14,7 +14,8 @@ ghost use Rattle.sb_world.specs.Claims.{EachState, EachStep, GivenIsWritten, IsE
 use sb_node::{answers_are_honest, calls_keep_truth};
 
 /// On every run of the machine of worlds from a state that fits a world, for every list of events, as long as each
-/// log's store keeps its promise:
+/// log's store keeps its promise: each state is true (`sound`), and the claims of `World::run` hold (`given`, `exact`,
+/// `taken`, `later`, `budget`).
 pub fn worlds_keep_their_promise()
     ensures sound { (world : Seen) (events : List Event) (answers : List (Result Answer Fault)) → OnEachRun world events answers (λ old states. EachState IsTrueState old states) }
     ensures given { (world : Seen) (events : List Event) (answers : List (Result Answer Fault)) → OnEachRun world events answers (λ old states. EachStep GivenIsWritten old events answers states) }

@@ -6,7 +6,7 @@ ghost use Rattle.sb_log.specs.Records as records;
 ghost use Rattle.sb_log.specs.Puts.{IsSure};
 ghost use Rattle.sb_world.specs.Places as world;
 ghost use Rattle.sb_world.specs.Making as spec;
-ghost use Rattle.sb_world.specs.Making.{IsNew, IsOpeningFault, IsMakingFault, AreSureLogs};
+ghost use Rattle.sb_world.specs.Making.{IsNew, IsNodeOf, HaveNodes, IsOpeningFault, IsMakingFault, AreSureLogs};
 
 use crate::place::Place;
 use sb_log::WriteLog;
@@ -77,6 +77,7 @@ fn opened<L: WriteLog + Drop>(
 ) -> Result<Place<L>, Fault>
     ensures new { IfOk result (IsNew settings) }
     ensures name { IfOk result (λ p. p.me ≡ (L.seen log).owner) }
+    ensures log { IfOk result (IsNodeOf (L.seen log)) }
     ensures sure { IsSure (L.seen log) → IfOk result (λ p. IsSure p.log) }
     ensures why { IfErr result IsOpeningFault }
 {
@@ -100,21 +101,21 @@ fn opened<L: WriteLog + Drop>(
 pub(crate) fn places_of<L: WriteLog + Drop>(
     alloc: Global,
     settings: Settings,
-    mut logs: Vec<L>,
+    logs: Vec<L>,
 ) -> Result<Vec<Place<L>>, Fault>
     ensures refused { IfSome (spec.refusal settings (map L.seen logs.items)) (λ fault. result ≡ Err fault) }
     ensures why { IfErr result (λ fault. IsMakingFault (spec.refusal settings (map L.seen logs.items)) fault) }
     ensures names { IfOk result (λ places. map (λ (p : world.Place). p.me) places.items ≡ map (λ (log : records.Log). log.owner) (map L.seen logs.items)) }
     ensures new { IfOk result (λ places. (p : world.Place) → Stands places.items p → IsNew settings p) }
+    ensures logs { IfOk result (λ places. HaveNodes (map L.seen logs.items) places.items) }
     ensures sure { AreSureLogs (map L.seen logs.items) → IfOk result (λ places. (p : world.Place) → Stands places.items p → IsSure p.log) }
 {
     if let Some(fault) = refusal(&settings, &logs) {
         return Err(fault);
     }
     let mut places = Vec::with_capacity(alloc, logs.len())?;
-    while !logs.is_empty() {
-        let log = logs.remove(0);
-        places.push_reserved(opened(alloc, settings, log)?);
+    for log in logs {
+        places.push(opened(alloc, settings, log)?)?;
     }
     Ok(places)
 }

@@ -13,8 +13,8 @@ use sb_log::{PlainLog, SqlLog};
 use sb_types::Fault;
 use sqlite::Alter;
 
-/// A run of a world whose logs are in memory: `World::run`, whose claims hold here of each run with no premise on a
-/// store, since memory can't break its promise.
+/// A run of a world whose logs are in memory: `World::run`, whose claims hold here of each run of a sure world, as each
+/// one is that was made of logs in memory (`World::new: sure`) and stays (`sure`): nothing else is assumed of a store.
 pub fn run_in_memory(
     world: &mut World<PlainLog>,
     events: &[Event],

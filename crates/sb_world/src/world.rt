@@ -9,7 +9,7 @@ ghost use Rattle.sb_world.specs.Events.{Acts, Does};
 ghost use Rattle.sb_world.specs.Steps.{Step, Passes};
 ghost use Rattle.sb_world.specs.States.{State, Moves, Run, last_of, FitsWorld};
 ghost use Rattle.sb_world.specs.States.{start_of, AreContents};
-ghost use Rattle.sb_world.specs.Making.{refusal, IsMakingFault, IsMade, AreSureLogs};
+ghost use Rattle.sb_world.specs.Making.{refusal, IsMakingFault, HaveNodes, IsMade, AreSureLogs};
 ghost use Rattle.sb_types.specs.declared.entry.Write.{Write};
 ghost use Rattle.sb_log.specs.Records as records;
 ghost use Rattle.sb_world.specs.Truth.{IsTrueState};
@@ -137,7 +137,7 @@ fn act<L: WriteLog>(
 }
 
 impl<L: WriteLog + Drop> World<L> {
-    /// A world of a node for each log, named as its owner and opened with what the log has. `BadSetting` where there are
+    /// A world of a node for each log, named as its owner and opened with what the log has, which stays. `BadSetting` where there are
     /// no logs, or more than 1,024; `SameName` where two have one owner; `WrongCluster` where one is of another cluster
     /// than the settings'; then the faults of `load`, and `NoMemory`.
     pub fn new(alloc: Global, settings: Settings, logs: Vec<L>) -> Result<World<L>, Fault>
@@ -145,6 +145,7 @@ impl<L: WriteLog + Drop> World<L> {
         ensures why { IfErr result (λ fault. IsMakingFault (refusal settings (map L.seen logs.items)) fault) }
         ensures settings { IfOk result (λ w. w.settings ≡ settings) }
         ensures names { IfOk result (λ w. map (λ (p : spec.Place). p.me) w.places ≡ map (λ (log : records.Log). log.owner) (map L.seen logs.items)) }
+        ensures logs { IfOk result (λ w. HaveNodes (map L.seen logs.items) w.places) }
         ensures made { IfOk result IsMade }
         ensures sure { AreSureLogs (map L.seen logs.items) → IfOk result (λ w. AreSure w.places) }
 
@@ -165,7 +166,13 @@ impl<L: WriteLog + Drop> World<L> {
 impl<L: WriteLog> World<L> {
     /// What an event does, in this order: `Nothing` where its node is not there, or its connection; `Closed` where the
     /// node is down, unless it restarts; `Nothing` where the number of a new connection is in use, a frame is not there, or
-    /// no write waits; then what it asks for, with its faults.
+    /// no write waits; then what it asks for.
+    ///
+    /// Its faults: of a commit `NoMemory`, and those of `WriteLog::put`; of a take those of `NodeCore::take_own`; of a
+    /// restart those of `WriteLog::load`, and `NoMemory`; of an ask `Closed` after a Bye; and `NoMemory` of a new
+    /// connection, an ask, a frame that is lined up, an offer and a read. A fault of a piece is told in its answer. A node
+    /// whose restart has a fault is down, with nothing that waits and no connection; `StoreFailed` of a commit closes the
+    /// log; every other fault leaves everything as it was.
     pub fn step(&mut self, event: &Event) -> Result<Answer, Fault>
         ensures step { (effect : Effect) × Step self.old event.now result effect self.new }
         ensures fits { (old : State) → FitsWorld old self.old → (new : State) × Moves old event.now result new × FitsWorld new self.new }

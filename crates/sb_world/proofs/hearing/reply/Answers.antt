@@ -1,4 +1,4 @@
-use Rattle.std.proofs.Common.{◌≡◌, ℕ, ◌+◌, List, [], ◌∷◌, ◌++◌, length, map, OnErr, refl, sym, subst}
+use Rattle.std.proofs.Common.{◌+◌, length, map, refl, sym, subst}
 use Rattle.sb_codec.specs.declared.message.Message.TheVariants as messages
 use Rattle.sb_frames.specs.Frames.{frame}
 use Rattle.sb_session.specs.declared.replies.Replies.{Replies}

@@ -1,36 +1,55 @@
-use Rattle.std.proofs.Common.{◌≡◌, ◌<◌, rules, List, ◌∷◌, ◌++◌, map, length, inl, inr, refl, sym, ap, subst, ◌∙◌}
+use Rattle.std.proofs.Common.{◌≡◌, List, [], ◌∷◌, ◌++◌, map, refl, sym, ap, subst, ◌∙◌}
+use Rattle.std.proofs.lemmas.Iterator.Adapters.{YieldsList-from_vec}
+use Rattle.std.proofs.lemmas.Iterator.Consumers.{YieldsList-end}
 use Rattle.sb_types.specs.Runs.{Stands}
 use Rattle.sb_log.specs.Records as records
 use Rattle.sb_world.specs.Places as world
 use Rattle.sb_log.specs.Puts.{IsSure}
-use Rattle.sb_world.specs.Making.{IsNew, AreSureLogs}
-use Rattle.sb_world.proofs.Fitting.{names_more, each_more, first_is}
+use Rattle.sb_world.specs.Making.{IsNew, HaveNodes, AreSureLogs}
+use Rattle.sb_world.proofs.Fitting.{each_more}
+use Rattle.sb_world.proofs.Lining.{map_same, map_more, nodes_more, sure_before, last_of_them}
 use Rattle.sb_world.proofs.making.places_of.Goals as goal
 
-pub loop-alloc-preserved : goal.loop-alloc-preserved
-loop-alloc-preserved g c =
-    let log = c.remove-log.result in
+pub loop-log-preserved : goal.loop-log-preserved
+loop-log-preserved g c =
+    let seen = g.L.WriteLog.seen in
+    let done = c.loop-log.yielded in
+    let log = c.in-Some-log.log in
     let p = c.in_ok-opened.field-0 in
-    let logs = c.loop-alloc.logs.items in
-    let places = c.loop-alloc.places.items in
-    let left = c.remove-log.new.self.items in
-    let some : 0 < length logs = search rules in
-    let first : logs ≡ log ∷ left = first_is logs log some c.remove-log.ensures.value ∙ ap (λ rest. log ∷ rest) (sym c.remove-log.ensures.items) in
-    let more = c.push_reserved.ensures.items in
+    let places = c.loop-log.places.items in
+    let was = c.loop-log.invariant in
+    let owners : List records.Log → List (List _) = map (λ (l : records.Log). l.owner) in
+    let more : c.push.new.self.items ≡ places ++ p ∷ [] = c.in_ok-push.ensures.items in
     record {
-      names = ap (λ (ps : List world.Place). map (λ (q : world.Place). q.me) ps ++ map (λ (l : records.Log). l.owner) (map g.L.WriteLog.seen left)) more
-          ∙ names_more places p (map (λ (l : records.Log). l.owner) (map g.L.WriteLog.seen left))
-          ∙ ap (λ name. map (λ (q : world.Place). q.me) places ++ name ∷ map (λ (l : records.Log). l.owner) (map g.L.WriteLog.seen left)) c.in_ok-opened.ensures.name
-          ∙ ap (λ ls. map (λ (q : world.Place). q.me) places ++ map (λ (l : records.Log). l.owner) (map g.L.WriteLog.seen ls)) (sym first)
-          ∙ c.loop-alloc.invariant.names;
-      new = subst (λ (ps : List world.Place). (q : world.Place) → Stands ps q → IsNew c.args.settings q) (sym more) (each_more (IsNew c.args.settings) places p c.loop-alloc.invariant.new c.in_ok-opened.ensures.new);
-      sure = λ all.
-          let was = c.loop-alloc.invariant.sure all in
-          let rest = subst (λ ls. AreSureLogs (map g.L.WriteLog.seen ls)) first was.0 in (
-            λ l stands. rest l (inr stands),
-            subst (λ (ps : List world.Place). (q : world.Place) → Stands ps q → IsSure q.log) (sym more)
-                (each_more (λ (q : world.Place). IsSure q.log) places p was.1 (c.in_ok-opened.ensures.sure (rest (g.L.WriteLog.seen log) (inl refl)))),
-          );
+      names = ap (map (λ (q : world.Place). q.me)) more ∙ map_more (λ (q : world.Place). q.me) places p ∙ ap (λ names. names ++ p.me ∷ []) was.names
+          ∙ ap (λ name. owners (map seen done) ++ name ∷ []) c.in_ok-opened.ensures.name ∙ sym (map_more (λ (l : records.Log). l.owner) (map seen done) (seen log)) ∙ ap owners (sym (map_more seen done log));
+      new = subst (λ (ps : List world.Place). (q : world.Place) → Stands ps q → IsNew c.args.settings q) (sym more) (each_more (IsNew c.args.settings) places p was.new c.in_ok-opened.ensures.new);
+      logs = subst (HaveNodes (map seen (done ++ log ∷ []))) (sym more) (nodes_more seen done log places p was.logs c.in_ok-opened.ensures.log);
+      sure = λ all. subst (λ (ps : List world.Place). (q : world.Place) → Stands ps q → IsSure q.log) (sym more)
+          (each_more (λ (q : world.Place). IsSure q.log) places p (was.sure (sure_before seen done log all)) (c.in_ok-opened.ensures.sure (all (seen log) (last_of_them seen done log))));
       settings = refl;
-      room = search rules;
     }
+
+pub returns-clause-names : goal.returns-clause-names
+returns-clause-names g c =
+    let done : c.loop-log.yielded ≡ c.args.logs.items =
+    sym (map_same c.loop-log.yielded)
+    ∙ (YieldsList-end (YieldsList-from_vec c.args.logs.items c.into_iter-log-iterator.ensures.into_iter_gives.0 (c.into_iter-log-iterator.ensures.into_iter_gives.1 ∙ c.args.logs.ok.0)) c.loop-log.yielded _ c.loop-log.yielded_by _ c.next.new.self c.in-None.is c.next.ensures.steps).0 in
+    c.loop-log.invariant.names ∙ ap (λ ls. map (λ (l : records.Log). l.owner) (map g.L.WriteLog.seen ls)) done
+
+pub returns-clause-new : goal.returns-clause-new
+returns-clause-new g c = c.loop-log.invariant.new
+
+pub returns-clause-logs : goal.returns-clause-logs
+returns-clause-logs g c =
+    let done : c.loop-log.yielded ≡ c.args.logs.items =
+    sym (map_same c.loop-log.yielded)
+    ∙ (YieldsList-end (YieldsList-from_vec c.args.logs.items c.into_iter-log-iterator.ensures.into_iter_gives.0 (c.into_iter-log-iterator.ensures.into_iter_gives.1 ∙ c.args.logs.ok.0)) c.loop-log.yielded _ c.loop-log.yielded_by _ c.next.new.self c.in-None.is c.next.ensures.steps).0 in
+    subst (λ ls. HaveNodes (map g.L.WriteLog.seen ls) c.loop-log.places.items) done c.loop-log.invariant.logs
+
+pub returns-clause-sure : goal.returns-clause-sure
+returns-clause-sure g c =
+    let done : c.loop-log.yielded ≡ c.args.logs.items =
+    sym (map_same c.loop-log.yielded)
+    ∙ (YieldsList-end (YieldsList-from_vec c.args.logs.items c.into_iter-log-iterator.ensures.into_iter_gives.0 (c.into_iter-log-iterator.ensures.into_iter_gives.1 ∙ c.args.logs.ok.0)) c.loop-log.yielded _ c.loop-log.yielded_by _ c.next.new.self c.in-None.is c.next.ensures.steps).0 in
+    λ all. c.loop-log.invariant.sure (subst (λ ls. AreSureLogs (map g.L.WriteLog.seen ls)) (sym done) all)

@@ -1,11 +1,9 @@
-use Rattle.std.proofs.Common.{◌≡◌, ℕ, List, [], ◌++◌, length, take, drop, min, Option, Some, IfNone, refl, sym, ap, subst, ◌∙◌}
+use Rattle.std.proofs.Common.{◌≡◌, ℕ, List, [], length, take, drop, min, Some, refl, sym, ap, subst, ◌∙◌}
 use Rattle.std.proofs.lemmas.List.{append-nil, take_min, drop_min}
-use Rattle.sb_types.specs.declared.fault.Fault.{Fault}
 use Rattle.sb_frames.specs.Streams.{Stream}
-use Rattle.sb_world.specs.declared.event.Item.{Item}
 use Rattle.sb_world.specs.Connections.{Connection}
 use Rattle.sb_world.specs.Connecting.{fed, listener, heard_by}
-use Rattle.sb_world.specs.Hearing.{Listener, listener_of, Heard, Hears, Tells}
+use Rattle.sb_world.specs.Hearing.{Listener, listener_of, Hears, Tells}
 use Rattle.sb_world.proofs.Heard.{fed_is, not_fed, if_none}
 use Rattle.sb_world.proofs.connection.Connection.piece.Goals as goal
 

@@ -1,4 +1,4 @@
-use Rattle.std.proofs.Common.{◌≡◌, ℕ, ◌<◌, List, ◌++◌, length, Option, Some, None, IfNone, Ok, slice_get, sym, ap, subst, ◌∙◌}
+use Rattle.std.proofs.Common.{◌≡◌, ◌<◌, List, ◌++◌, length, Option, Some, None, IfNone, Ok, slice_get, sym, ap, subst, ◌∙◌}
 use Rattle.std.specs.Prelude.{slice_set, remove}
 use Rattle.std.proofs.lemmas.Option.{slice_get-get_or}
 use Rattle.sb_types.specs.declared.fault.Fault.{Fault}

@@ -1,12 +1,11 @@
-use Rattle.std.proofs.Common.{◌≡◌, ◌<◌, List, length, Some, None, slice_get, refl, sym, ap, subst, ◌∙◌}
+use Rattle.std.proofs.Common.{◌≡◌, ◌<◌, List, length, Some, slice_get, sym, ap, subst, ◌∙◌}
 use Rattle.std.specs.Prelude.{slice_set}
 use Rattle.std.proofs.lemmas.Option.{slice_get-get_or}
 use Rattle.sb_world.specs.Connections.{Connection}
 use Rattle.sb_world.specs.Events.{node_of}
 use Rattle.sb_world.specs.Places.{Place, Seen, place_at, with_place}
 use Rattle.sb_world.specs.Steps.{Step}
-use Rattle.sb_world.specs.Turns.{rests}
-use Rattle.sb_world.proofs.Looking.{no_node, no_place, stepped}
+use Rattle.sb_world.proofs.Looking.{stepped}
 use Rattle.sb_world.proofs.world.World.step_once.Goals as goal
 
 pub returns : goal.returns
