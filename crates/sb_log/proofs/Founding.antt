@@ -1,6 +1,6 @@
 -- What was found where a log is opened.
-use Rattle.std.specs.Prelude.{IfOk, OnOk, slice_index_or}
-use Rattle.std.proofs.Common.{◌≡◌, ◌⊎◌, inl, inr, ℕ, ◌≤◌, ◌<◌, List, [], ◌∷◌, length, map, Result, Ok, Err, refl, sym, ap, subst, ◌∙◌, arith, IsPermutation}
+use Rattle.std.specs.Prelude.{IfOk, OnOk, slice_index_or, ◌==◌, true}
+use Rattle.std.proofs.Common.{◌≡◌, ◌⊎◌, inl, inr, ℕ, ◌≤◌, ◌<◌, List, [], ◌∷◌, length, map, Result, Ok, Err, refl, sym, ap, subst, ◌∙◌, arith, eqb-true, IsPermutation}
 use Rattle.std.proofs.lemmas.List.Sorted.{IsPermutation-sym, length_permutation}
 use Rattle.sqlite_value.specs.Order.{Row}
 use Rattle.sqlite.specs.Effect.{Database}
@@ -17,6 +17,9 @@ was_clean a b clean le = omega arith
 pub no_item : (xs : List Row) → length xs < 1 → xs ≡ []
 no_item [] few = refl
 no_item (x ∷ xs) few = absurd (omega arith)
+
+pub no_rows : (xs : List Row) (len : ℕ) → len ≡ length xs → (len == 0) ≡ true → xs ≡ []
+no_rows xs len is none = no_item xs (omega (arith, is, eqb-true len 0 none))
 
 pub one_item : (xs : List Row) (x : Row) → 1 ≤ length xs → length xs < 2 → x ≡ slice_index_or xs 0 x → xs ≡ x ∷ []
 one_item [] x least most is = absurd (omega arith)
@@ -40,6 +43,7 @@ module _ (owner cluster : List ℕ) (old mid : Database) (shown : List Row) (all
         meta = inl (sym all.meta ∙ none_mapped (mid.trees 0) shown same none);
         rows = subst (AreRowsOf t) (ap (λ (d : Database). d.trees 1) kept ∙ all.rows) rows;
         empty = λ _. empty;
+        whole = all.whole;
       }
   opens_new (Err fault) none rows empty = tt
 
@@ -53,11 +57,16 @@ module _ (owner cluster : List ℕ) (old mid : Database) (shown : List Row) (all
         meta = inr has;
         rows = subst (AreRowsOf t) (ap (λ (d : Database). d.trees 1) kept ∙ all.rows) rows;
         empty = λ none. absurd (never (sym (ap (map meta_cells) none) ∙ has));
+        whole = all.whole;
       }
     where
       never : {r : Row} → [] ≡ r ∷ [] → ⊥
       never e = absurd (cc)
   opens_old (Err fault) row one is rows = tt
+
+pub whatever_came : {A E P : Type 0} (result : Result A E) → P → OnOk result P
+whatever_came (Ok a) p = p
+whatever_came (Err e) p = tt
 
 pub then_meta : {P Q : Type 0} (result : Result Table Fault) → OnOk result P → (P → Q) → OnOk result Q
 then_meta (Ok t) p f = f p

@@ -1,7 +1,7 @@
 -- What the query of a log's rows answers.
 use Rattle.std.specs.Prelude.{IfOk, OnOk}
 use Rattle.sb_types.specs.declared.fault.Fault.{Fault}
-use Rattle.std.proofs.Common.{◌≡◌, ◌⊎◌, inl, inr, true, Result, Ok, Err, drop, subst, List, [], ◌∷◌, map, flat_map, refl, sym, ap, subst₂, ◌∙◌}
+use Rattle.std.proofs.Common.{◌≡◌, ◌⊎◌, inl, inr, true, false, Result, Ok, Err, drop, subst, List, [], ◌∷◌, map, flat_map, refl, sym, ap, subst₂, ◌∙◌}
 use Rattle.std.specs.List.Sorted.{IsPermutation}
 use Rattle.std.proofs.lemmas.List.Sorted.{IsPermutation-map, IsPermutation-sym}
 use Rattle.sqlite_value.specs.declared.value.Value.TheVariants.{Null}
@@ -10,8 +10,9 @@ use Rattle.sqlite_sql.specs.Query.{IsAnswer, Output, output}
 use Rattle.sqlite_sql.specs.Program.{overlay}
 use Rattle.sqlite.specs.State.{State, Shown, IsUnchanged, CommitsShowing}
 use Rattle.sqlite.specs.Effect.{Database}
-use Rattle.sqlite.specs.Listing.{understood}
+use Rattle.sqlite.specs.Listing.{understood, reads_listing}
 use Rattle.sqlite_schema.specs.declared.schema.Schema.{Schema}
+use Rattle.sqlite_schema.specs.declared.command.Command.TheVariants.{Select}
 use Rattle.sqlite_trees.specs.Tree.{Trees}
 use Rattle.sqlite_trees.proofs.ListLemmas.{all-permutation}
 use Rattle.std.specs.List.{list_all}
@@ -19,10 +20,10 @@ use Rattle.sb_types.specs.Records.{Table}
 use Rattle.sb_table.specs.Plain.{IsPlainTable}
 use Rattle.sb_log.specs.Standing.{IsReady, IsPrepared}
 use Rattle.sb_log.specs.Opening.{meta_cells}
-use Rattle.sqlite.proofs.Callers.{reads_as, never_commits, IsPlain as IsCallPlain}
+use Rattle.sqlite.proofs.Callers.{reads_as, never_commits, command_of, IsPlain as IsCallPlain}
 use Rattle.sb_log.specs.Form.{rows_text, meta_rows_text, log_schema}
 use Rattle.sb_log.specs.Rows.{cells, cells_of, is_kept, numbered_cells, AreNumbered, AreRowsOf}
-use Rattle.sb_log.proofs.Texts.{rows_query, rows_is, rows_plain, meta_query, meta_rows_is, meta_rows_plain}
+use Rattle.sb_log.proofs.Texts.{rows_query, rows_is, rows_plain, meta_query, meta_names, meta_rows_is, meta_rows_plain}
 
 shown_each : (rows : List Row) → map (λ (o : Output). o.1) (map (output rows_query) (flat_map (λ (r : Row). ([] ∷ r ∷ []) ∷ []) rows)) ≡ map numbered_cells rows
 shown_each [] = refl
@@ -94,23 +95,26 @@ meta_shown : (rows : List Row) → map (λ (o : Output). o.1) (map (output meta_
 meta_shown [] = refl
 meta_shown (r ∷ rows) = ap (λ (l : List Row). meta_cells r ∷ l) (meta_shown rows)
 
-pub meta_read : (old new : State) (rows : List Row) → IsPrepared old → Shown meta_rows_text [] old new rows → IsPermutation (map meta_cells (old.now.trees 0)) rows
-meta_read old new rows ready h =
-    let read = reads_as meta_rows_text [] old new log_schema ready.schema _ meta_rows_is.0 meta_rows_plain meta_rows_is.1 rows h in
-    let a : IsAnswer meta_query (overlay old.now.trees []) [] rows = read.answer Null in
-    let shown : map (λ (o : Output). o.1) a.kept ≡ map meta_cells (old.now.trees 0) =
-    ap (map (λ (o : Output). o.1)) (a.distinct ∙ ap (map (output meta_query)) a.grouped) ∙ meta_shown (old.now.trees 0) in
-    subst₂ IsPermutation shown (sym a.shown) (IsPermutation-map (λ (o : Output). o.1) a.kept a.ordered a.same)
+-- whatever else the database has
+module _ (known : Schema) (is : (command_of (understood known meta_rows_text) ≡ Select (record { lets = []; body = meta_query }) meta_names) × (reads_listing known meta_rows_text ≡ false))
+    (plain : IsCallPlain (understood known meta_rows_text)) (old new : State) (rows : List Row) (has : old.now.schema ≡ known) (h : Shown meta_rows_text [] old new rows) where
+  pub meta_read : IsPermutation (map meta_cells (old.now.trees 0)) rows
+  meta_read =
+      let read = reads_as meta_rows_text [] old new known has _ is.0 plain is.1 rows h in
+      let a : IsAnswer meta_query (overlay old.now.trees []) [] rows = read.answer Null in
+      let shown : map (λ (o : Output). o.1) a.kept ≡ map meta_cells (old.now.trees 0) =
+      ap (map (λ (o : Output). o.1)) (a.distinct ∙ ap (map (output meta_query)) a.grouped) ∙ meta_shown (old.now.trees 0) in
+      subst₂ IsPermutation shown (sym a.shown) (IsPermutation-map (λ (o : Output). o.1) a.kept a.ordered a.same)
 
-meta_unchanged : (old new : State) (rows : List Row) → IsPrepared old → Shown meta_rows_text [] old new rows → IsUnchanged old new
-unfolding Shown
-meta_unchanged old new rows ready h =
-    let known = sym h.1.is ∙ ap (λ (s : Schema). understood s meta_rows_text) ready.schema in
-    let bare = subst IsCallPlain (sym known) meta_rows_plain in
-    let it = rw bare.0 at h.2 in
-    it.3
+  pub meta_unchanged : IsUnchanged old new
+  unfolding Shown
+  meta_unchanged =
+      let known = sym h.1.is ∙ ap (λ (s : Schema). understood s meta_rows_text) has in
+      let bare = subst IsCallPlain (sym known) plain in
+      let it = rw bare.0 at h.2 in
+      it.3
 
 pub meta_ready : (old new : State) (rows : List Row) → IsPrepared old → Shown meta_rows_text [] old new rows → IsReady new × (new.now ≡ old.now)
 meta_ready old new rows ready h =
-    let same = meta_unchanged old new rows ready h in
+    let same = meta_unchanged log_schema meta_rows_is meta_rows_plain old new rows ready.schema h in
     still_ready old new (record { is_open = same.0.was_open; autocommit = ready.autocommit; settled = ready.settled same.0.was_open; schema = ready.schema }) same

@@ -122,6 +122,15 @@ pub meta_rows_plain : IsPlain (understood log_schema meta_rows_text)
 unfolding understood everything
 meta_rows_plain = (refl, refl)
 
+-- the same where the table of writes is missing
+pub meta_alone_is : (command_of (understood meta_schema meta_rows_text) ≡ Select (record { lets = []; body = meta_query }) meta_names) × (reads_listing meta_schema meta_rows_text ≡ false)
+unfolding understood everything
+meta_alone_is = (refl, refl)
+
+pub meta_alone_plain : IsPlain (understood meta_schema meta_rows_text)
+unfolding understood everything
+meta_alone_plain = (refl, refl)
+
 abbrev pub meta_terms : List Term
 meta_terms = lit (Int (pos 1)) ∷ lit Null ∷ lit (Int (pos 1)) ∷ col 0 0 ∷ col 0 1 ∷ lit (Int (pos 0)) ∷ lit (Int (pos 0)) ∷ []
 

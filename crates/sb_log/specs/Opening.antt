@@ -45,13 +45,16 @@ pub record Opens (owner cluster : List ℕ) (found : Database) (content : Table)
   pub meta : IsMetaOf owner cluster (meta_found made found.trees)
   pub rows : AreRowsOf content (writes_found made found.trees)
   pub empty : meta_found made found.trees ≡ [] → content ≡ plain_table []
+  -- where the table of writes is missing, nothing says yet whose the log is
+  pub whole : made ≡ Meta → meta_found made found.trees ≡ []
 
--- the tables that are missing are made, empty
+-- the tables that are missing are made, empty, and the second only where nothing says yet whose the log is
 pub record Completes (found now : Database) : Type 0 where
   pub made : Made
   pub schema : found.schema ≡ schema_with made
   pub meta : now.trees 0 ≡ meta_found made found.trees
   pub rows : now.trees 1 ≡ writes_found made found.trees
+  pub whole : made ≡ Meta → meta_found made found.trees ≡ []
 
 abbrev pub IsOpeningFault : Fault → Type 0
 IsOpeningFault fault = (fault ≡ NoMemory) ⊎ ((fault ≡ StoreFailed) ⊎ ((fault ≡ LogDamaged) ⊎ (fault ≡ WrongOwner)))

@@ -6,7 +6,7 @@ ghost use Rattle.sqlite_trees.specs.View.{doubt};
 ghost use Rattle.sqlite.specs.Held.{state};
 ghost use Rattle.sqlite.specs.State.{HasCleanDisk};
 ghost use Rattle.sb_table.specs.Plain.{plain_table};
-ghost use Rattle.sb_log.specs.Form.{no_schema, log_schema};
+ghost use Rattle.sb_log.specs.Form.{no_schema, meta_schema, log_schema};
 ghost use Rattle.sb_log.specs.Opening.{meta_cells, meta_row, Completes, Opens, IsOpeningFault};
 ghost use Rattle.sb_log.specs.Rows.{AreRowsOf};
 ghost use Rattle.sb_log.specs.Standing.{IsPrepared, IsReady};
@@ -19,9 +19,10 @@ use sqlite::{Alter, Connection, Row};
 use sqlite_value::value::ValueRef;
 use std::alloc::Global;
 
-/// Opens a log's tables, and makes them where there are none: what their rows hold. In this order: `LogDamaged` where
-/// there is no meta row beside rows, or an unknown form or schema; `WrongOwner`; `LogDamaged` where a row breaks a
-/// limit, or versions were forgotten. `StoreFailed` and `NoMemory` wherever they come.
+/// Opens a log's tables, and makes those that are missing: what their rows hold. In this order: `LogDamaged` where
+/// there is no meta row beside rows, a meta row without the table of writes, or an unknown form or schema;
+/// `WrongOwner`; `LogDamaged` where a row breaks a limit, or versions were forgotten. `StoreFailed` and `NoMemory`
+/// wherever they come.
 pub(crate) fn open_tables<S: Alter>(
     conn: &mut Connection<S>,
     alloc: Global,
@@ -100,7 +101,7 @@ fn open_old<S: Alter>(
 }
 
 /// Makes those of a log's tables that are missing. `StoreFailed`, also inside a transaction; `LogDamaged` where
-/// there is anything else.
+/// there is anything else, or a row that says whose the log is without the table of writes.
 fn make_tables<S: Alter>(conn: &mut Connection<S>) -> Result<(), Fault>
     ensures completes { HasCleanDisk (state S.Store conn.new) → OnOk result (Completes (state S.Store conn.old).now (state S.Store conn.new).now) }
     ensures prepared { HasCleanDisk (state S.Store conn.new) → OnOk result (IsPrepared (state S.Store conn.new)) }
@@ -113,9 +114,33 @@ fn make_tables<S: Alter>(conn: &mut Connection<S>) -> Result<(), Fault>
     match tables_in(conn.schema()) {
         None => Err(Fault::LogDamaged),
         Some(Made::Both) => Ok(()),
-        Some(Made::Meta) => make_writes(conn),
+        Some(Made::Meta) => make_second(conn),
         Some(Made::Neither) => make_both(conn),
     }
+}
+
+/// Makes the table of writes beside the first, which says nothing yet. `StoreFailed`; `LogDamaged` where it says whose
+/// the log is, which has lost its writes then: nothing is made, so that it is told again.
+fn make_second<S: Alter>(conn: &mut Connection<S>) -> Result<(), Fault>
+    ensures schema { HasCleanDisk (state S.Store conn.new) → (state S.Store conn.old).now.schema ≡ meta_schema
+        → OnOk result ((state S.Store conn.new).now.schema ≡ log_schema) }
+    ensures said { HasCleanDisk (state S.Store conn.new) → (state S.Store conn.old).now.schema ≡ meta_schema
+        → OnOk result ((state S.Store conn.old).now.trees 0 ≡ []) }
+    ensures meta { HasCleanDisk (state S.Store conn.new) → (state S.Store conn.old).now.schema ≡ meta_schema
+        → OnOk result ((state S.Store conn.new).now.trees 0 ≡ (state S.Store conn.old).now.trees 0) }
+    ensures rows { HasCleanDisk (state S.Store conn.new) → (state S.Store conn.old).now.schema ≡ meta_schema
+        → OnOk result ((state S.Store conn.new).now.trees 1 ≡ []) }
+    ensures settled { HasCleanDisk (state S.Store conn.new) → (state S.Store conn.old).now.schema ≡ meta_schema
+        → (state S.Store conn.old).in_transaction ≡ false
+        → OnOk result (((state S.Store conn.new).in_transaction ≡ false) × ((state S.Store conn.new).now ≡ (state S.Store conn.new).committed)) }
+    ensures clean { doubt (state S.Store conn.old).is_clean ≤ doubt (state S.Store conn.new).is_clean }
+    ensures fault { IfErr result (λ fault. (fault ≡ Fault.StoreFailed) ⊎ (fault ≡ Fault.LogDamaged)) }
+{
+    let found = read_meta(conn)?;
+    if !found.is_empty() {
+        return Err(Fault::LogDamaged);
+    }
+    make_writes(conn)
 }
 
 fn make_both<S: Alter>(conn: &mut Connection<S>) -> Result<(), Fault>

@@ -11,7 +11,8 @@ use sb_types::{Fault, Key, Name, Slot};
 use std::alloc::Global;
 use std::marker::Model;
 
-/// A log in memory, which ends with the process. It never fails but for want of memory.
+/// A log in memory, which ends with the process. It has no store that could fail: beside what a log refuses, only memory
+/// may be wanting.
 #[derive(Debug, Drop)]
 pub struct PlainLog {
     owner: Name,

@@ -49,12 +49,14 @@ impl<S: Alter> Model for SqlLog<S> {
 }
 
 impl<S: Alter + Drop> SqlLog<S> {
-    /// Opens a log of an owner of a cluster, and makes one where the database has no tables. It gives versions up to
-    /// `max_version`, and none above 2^40 - 1. In this order: `LogDamaged` where rows stand without the row that says whose
-    /// they are, where its form is unknown, or where there are other tables than a log's; `WrongOwner` where the log is
+    /// Opens a log of an owner of a cluster, and makes one where the database has no tables, or completes one that has the
+    /// first of them or both and no rows. It gives versions up to `max_version`, and none above 2^40 - 1. In this order:
+    /// `LogDamaged` where rows stand without the row that says whose they are, where that row stands without the table of
+    /// writes, where its form is unknown, or where there are other tables than a log's; `WrongOwner` where the log is
     /// another owner's or of another cluster; `LogDamaged` where a row breaks a limit or two have one key or version,
     /// where there are more than 4,096, or where versions were forgotten. `NoMemory` and `StoreFailed` wherever they
-    /// come, the latter also inside a transaction. The connection is dropped on a refusal.
+    /// come, the latter also inside a transaction. The connection is dropped on a refusal, and the database is as it was,
+    /// but that tables which were missing may have been made.
     pub fn open(
         alloc: Global,
         conn: Connection<S>,

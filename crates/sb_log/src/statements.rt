@@ -68,6 +68,11 @@ pub(crate) fn read_meta<S: Alter>(conn: &mut Connection<S>) -> Result<Vec<Row>, 
         → IfOk result (λ rows. IsPermutation (map meta_cells ((state S.Store conn.old).now.trees 0)) rows.items) }
     ensures ready { HasCleanDisk (state S.Store conn.new) → IsPrepared (state S.Store conn.old)
         → OnOk result (IsReady (state S.Store conn.new) × ((state S.Store conn.new).now ≡ (state S.Store conn.old).now)) }
+    // Also where the table of the writes is missing.
+    ensures alone { HasCleanDisk (state S.Store conn.new) → (state S.Store conn.old).now.schema ≡ meta_schema
+        → IfOk result (λ rows. IsPermutation (map meta_cells ((state S.Store conn.old).now.trees 0)) rows.items) }
+    ensures same { HasCleanDisk (state S.Store conn.new) → (state S.Store conn.old).now.schema ≡ meta_schema
+        → OnOk result (((state S.Store conn.new).now ≡ (state S.Store conn.old).now) × ((state S.Store conn.new).in_transaction ≡ (state S.Store conn.old).in_transaction)) }
     ensures clean { doubt (state S.Store conn.old).is_clean ≤ doubt (state S.Store conn.new).is_clean }
     ensures fault { IfErr result (λ fault. fault ≡ Fault.StoreFailed) }
 {

@@ -195,11 +195,15 @@ fn versions_are_spent(rt: HostRuntime) -> Result<(), Fail> {
 #[test]
 fn damage_is_told(rt: HostRuntime) -> Result<(), Fail> {
     let alloc = rt.alloc();
-    let cases: [(u8, &[&str]); 15] = [
+    let cases: [(u8, &[&str]); 16] = [
         (0, &[META]),
         (0, &[META, WRITES]),
         (19, &["CREATE TABLE other (id INTEGER PRIMARY KEY) STRICT"]),
         (18, &["BEGIN"]),
+        (
+            19,
+            &[META, "INSERT INTO meta VALUES (1, 1, 'a', 'sim', 0, 0)"],
+        ),
         (
             19,
             &[
