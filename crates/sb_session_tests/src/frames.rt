@@ -63,7 +63,10 @@ impl Write for Narrow {
             return Err(ErrorKind::BrokenPipe.into());
         }
         let taken = buf.get(..self.most.min(room)).unwrap_or(buf);
-        self.bytes.extend_from_slice(taken)?;
+        // Once more where memory was refused, as below.
+        if self.bytes.extend_from_slice(taken).is_err() {
+            self.bytes.extend_from_slice(taken)?;
+        }
         Ok(taken.len())
     }
 
@@ -389,7 +392,10 @@ fn the_greatest_frame(rt: HostRuntime) -> Result<(), Fail> {
 /// What a writer with room for so many bytes gives a message, and whether its last write is said to have failed.
 fn told(alloc: Global, room: usize, message: &Message) -> (Result<(), Fault>, bool) {
     let mut narrow = Narrow::new(alloc, 7, room);
-    let (answer, last) = send_telling(alloc, &mut narrow, message);
+    let (answer, last) = match send_telling(alloc, &mut narrow, message) {
+        (Err(Fault::NoMemory), _) => send_telling(alloc, &mut narrow, message),
+        answered => answered,
+    };
     (answer, last.has_failed())
 }
 
