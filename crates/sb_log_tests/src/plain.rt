@@ -159,18 +159,28 @@ fn a_plain_log_keeps_writes(rt: HostRuntime) -> Result<(), Fail> {
     Ok(())
 }
 
+// What writes were answered, and what the log then holds.
+type Answered<const N: usize> = ([Result<u64, Fault>; N], (usize, u64));
+
+fn answers_to_removals(alloc: Global) -> Result<Answered<6>, Fault> {
+    let mut log = plain_log(alloc, 9)?;
+    let answers = settled(removals(&mut log))?;
+    Ok((answers, held(alloc, &mut log)?))
+}
+
+fn answers_past_the_greatest(alloc: Global) -> Result<Answered<5>, Fault> {
+    let mut log = plain_log(alloc, 2)?;
+    let answers = settled(past_the_greatest(&mut log))?;
+    Ok((answers, held(alloc, &mut log)?))
+}
+
 // What is refused spends no version and changes nothing.
 #[test]
 fn a_plain_log_refuses(rt: HostRuntime) -> Result<(), Fail> {
-    let alloc = rt.alloc();
-    let mut log = plain_log(alloc, 9)?;
     let removed = [NOTHING, Ok(1), Ok(2), NOTHING, NOTHING, Ok(3)];
-    same(&rt, &settled(removals(&mut log))?, &removed);
-    same(&rt, &held(alloc, &mut log)?, &(1, 3));
-    let mut short = plain_log(alloc, 2)?;
+    same(&rt, &answers_to_removals(rt.alloc())?, &(removed, (1, 3)));
     let spent = [Ok(1), Ok(2), SPENT, SPENT, NOTHING];
-    same(&rt, &settled(past_the_greatest(&mut short))?, &spent);
-    same(&rt, &held(alloc, &mut short)?, &(1, 2));
+    same(&rt, &answers_past_the_greatest(rt.alloc())?, &(spent, (1, 2)));
     Ok(())
 }
 

@@ -312,21 +312,49 @@ fn holding(alloc: Global, me: Name, owners: &[Name]) -> Result<Holdings, Fault> 
     Ok(holdings)
 }
 
+/// What a holds beside the first writes of b and c.
+fn a_beside_b_and_c(alloc: Global) -> Result<Holdings, Fault> {
+    let owners = [Name::read(b"b")?, Name::read(b"c")?];
+    holding(alloc, Name::read(b"a")?, &owners)
+}
+
+/// The extent of the digest that begins at a name, and whether it tells this of a, ab, b, c and ca.
+fn told_from(
+    alloc: Global,
+    holdings: &Holdings,
+    from: &Name,
+    numbers: &[(bool, u64)],
+) -> Result<(Extent, bool), Fault> {
+    let owners = [
+        Name::read(b"a")?,
+        Name::read(b"ab")?,
+        Name::read(b"b")?,
+        Name::read(b"c")?,
+        Name::read(b"ca")?,
+    ];
+    told(alloc, holdings, Some(from), 256, &owners, numbers)
+}
+
+const BELOW: (bool, u64) = (false, 0);
+
+const AT_0: (bool, u64) = (true, 0);
+
+const AT_1: (bool, u64) = (true, 1);
+
+/// Where a digest begins, how many pairs it has and how long its payload is, and what it tells.
+const RANGES: [(&[u8], usize, u64, [(bool, u64); 5]); 3] = [
+    (b"ab", 2, 28, [BELOW, AT_0, AT_1, AT_1, AT_0]),
+    (b"c", 1, 17, [BELOW, BELOW, BELOW, AT_1, AT_0]),
+    (b"ca", 0, 8, [BELOW, BELOW, BELOW, BELOW, AT_0]),
+];
+
 #[test]
 fn a_range_begins_at_any_name(rt: HostRuntime) -> Result<(), Fail> {
-    let alloc = rt.alloc();
-    let [a, b, c] = [Name::read(b"a")?, Name::read(b"b")?, Name::read(b"c")?];
-    let [ab, ca] = [Name::read(b"ab")?, Name::read(b"ca")?];
-    let holdings = holding(alloc, a, &[b, c])?;
-    let (below, at_0, at_1) = ((false, 0), (true, 0), (true, 1));
-    let owners = [a, ab, b, c, ca];
-    for (from, pairs, length, numbers) in [
-        (ab, 2, 28, [below, at_0, at_1, at_1, at_0]),
-        (c, 1, 17, [below, below, below, at_1, at_0]),
-        (ca, 0, 8, [below, below, below, below, at_0]),
-    ] {
-        let found = told(alloc, &holdings, Some(&from), 256, &owners, &numbers)?;
-        let wanted = (wanting(Some(from), None, pairs, length), true);
+    let holdings = a_beside_b_and_c(rt.alloc())?;
+    for (from, pairs, length, numbers) in RANGES.iter() {
+        let from = Name::read(from)?;
+        let found = told_from(rt.alloc(), &holdings, &from, numbers)?;
+        let wanted = (wanting(Some(from), None, *pairs, *length), true);
         same_at(&rt, &from, &found, &wanted);
     }
     Ok(())

@@ -1,9 +1,8 @@
 -- A world that has just been made fits each list of writes that its logs' contents come of, and there is one.
-use Rattle.std.proofs.Common.{◌≡◌, ℕ, Bool, true, false, cond, nat_eq, List, [], ◌∷◌, ◌++◌, ◌<◌, length, drop, map, arith, ◌⊎◌, inl, inr, ⊎_elim, Option, Some, None, IfSome, refl, sym, ap, subst, ◌∙◌}
+use Rattle.std.proofs.Common.{◌≡◌, ℕ, Bool, true, false, cond, nat_eq, List, [], ◌∷◌, ◌⊎◌, inl, inr, Option, Some, None, IfSome, refl, sym, ap, subst, ◌∙◌}
 use Rattle.std.specs.Prelude.{unwrap_or}
 use Rattle.std.specs.Cmp.Lexicographic.{pointwise}
 use Rattle.sb_types.specs.declared.entry.Write.{Write}
-use Rattle.std.proofs.Math.ListN.{get_or}
 use Rattle.sb_types.specs.Records.{Settings}
 use Rattle.sb_types.specs.Runs.{Stands}
 use Rattle.sb_table.specs.Plain.{IsPlainTable}
@@ -15,7 +14,6 @@ use Rattle.sb_world.specs.Places.{Place, Seen, place_at, IsClean}
 use Rattle.sb_world.specs.States.{start_of, AreContents, IsFresh, FitsWorld}
 use Rattle.sb_world.specs.Making.{IsNew, IsMade}
 use Rattle.sb_world.proofs.Names.{found_me}
-use Rattle.sb_world.proofs.Keeping.{joined}
 use Rattle.sb_world.proofs.Stepping.{some_map}
 
 -- a node that is found stands among the nodes
@@ -92,14 +90,3 @@ module _ (world : Seen) (made : IsMade world) (clean : IsClean world.places) whe
 pub made_is : (settings : Settings) (ps : List Place) (conns : List Connection) (sent : List (List ℕ)) → ((p : Place) → Stands ps p → IsNew settings p) → conns ≡ [] → sent ≡ [] →
     IsMade (record { settings = settings; places = ps; connections = conns; sent = sent })
 made_is settings ps conns sent each alone none = record { places = each_found (IsNew settings) ps each; connections = alone; sent = none }
-
-pub names_more : (ps : List Place) (p : Place) (names : List (List ℕ)) → map (λ (q : Place). q.me) (ps ++ p ∷ []) ++ names ≡ map (λ (q : Place). q.me) ps ++ p.me ∷ names
-names_more [] p names = refl
-names_more (q ∷ ps) p names = ap (λ xs. q.me ∷ xs) (names_more ps p names)
-
-pub each_more : (P : Place → Type 0) (ps : List Place) (p : Place) → ((q : Place) → Stands ps q → P q) → P p → (q : Place) → Stands (ps ++ p ∷ []) q → P q
-each_more P ps p each here = joined P ps (p ∷ []) each (λ q stands. ⊎_elim (λ same. subst P same here) (λ s. absurd s) stands)
-
-pub first_is : {X : Type 0} (xs : List X) (x : X) → 0 < length xs → x ≡ get_or xs 0 x → xs ≡ x ∷ drop 1 xs
-first_is [] x some is = absurd (omega (arith, some))
-first_is (y ∷ ys) x some is = ap (λ z. z ∷ ys) (sym is)

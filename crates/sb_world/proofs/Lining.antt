@@ -21,7 +21,8 @@ stands_last : {X : Type 0} (xs : List X) (x : X) → Stands (xs ++ x ∷ []) x
 stands_last [] x = inl refl
 stands_last (y ∷ ys) x = inr (stands_last ys x)
 
-before_or_last : {X : Type 0} (P : X → Type 0) (xs : List X) (x : X) → ((e : X) → Stands xs e → P e) → P x → (e : X) → Stands (xs ++ x ∷ []) e → P e
+-- what holds of each before the last, and of the last, holds of each
+pub before_or_last : {X : Type 0} (P : X → Type 0) (xs : List X) (x : X) → ((e : X) → Stands xs e → P e) → P x → (e : X) → Stands (xs ++ x ∷ []) e → P e
 before_or_last P [] x each here e stands = ⊎_elim (λ same. subst P same here) (λ s. absurd s) stands
 before_or_last P (y ∷ ys) x each here e stands =
     ⊎_elim (λ same. subst P same (each y (inl refl))) (λ s. before_or_last P ys x (λ q t. each q (inr t)) here e s) stands

@@ -6,8 +6,7 @@ use Rattle.sb_log.specs.Records as records
 use Rattle.sb_world.specs.Places as world
 use Rattle.sb_log.specs.Puts.{IsSure}
 use Rattle.sb_world.specs.Making.{IsNew, HaveNodes, AreSureLogs}
-use Rattle.sb_world.proofs.Fitting.{each_more}
-use Rattle.sb_world.proofs.Lining.{map_same, map_more, nodes_more, sure_before, last_of_them}
+use Rattle.sb_world.proofs.Lining.{before_or_last, map_same, map_more, nodes_more, sure_before, last_of_them}
 use Rattle.sb_world.proofs.making.places_of.Goals as goal
 
 pub loop-log-preserved : goal.loop-log-preserved
@@ -23,10 +22,10 @@ loop-log-preserved g c =
     record {
       names = ap (map (λ (q : world.Place). q.me)) more ∙ map_more (λ (q : world.Place). q.me) places p ∙ ap (λ names. names ++ p.me ∷ []) was.names
           ∙ ap (λ name. owners (map seen done) ++ name ∷ []) c.in_ok-opened.ensures.name ∙ sym (map_more (λ (l : records.Log). l.owner) (map seen done) (seen log)) ∙ ap owners (sym (map_more seen done log));
-      new = subst (λ (ps : List world.Place). (q : world.Place) → Stands ps q → IsNew c.args.settings q) (sym more) (each_more (IsNew c.args.settings) places p was.new c.in_ok-opened.ensures.new);
+      new = subst (λ (ps : List world.Place). (q : world.Place) → Stands ps q → IsNew c.args.settings q) (sym more) (before_or_last (IsNew c.args.settings) places p was.new c.in_ok-opened.ensures.new);
       logs = subst (HaveNodes (map seen (done ++ log ∷ []))) (sym more) (nodes_more seen done log places p was.logs c.in_ok-opened.ensures.log);
       sure = λ all. subst (λ (ps : List world.Place). (q : world.Place) → Stands ps q → IsSure q.log) (sym more)
-          (each_more (λ (q : world.Place). IsSure q.log) places p (was.sure (sure_before seen done log all)) (c.in_ok-opened.ensures.sure (all (seen log) (last_of_them seen done log))));
+          (before_or_last (λ (q : world.Place). IsSure q.log) places p (was.sure (sure_before seen done log all)) (c.in_ok-opened.ensures.sure (all (seen log) (last_of_them seen done log))));
       settings = refl;
     }
 
