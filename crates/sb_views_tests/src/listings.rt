@@ -1,38 +1,29 @@
 //! What changed between listings and its lines, and rows as JSON.
-use crate::making::{ClosingWriter, Ended, settled, whole};
+use crate::making::{ClosingWriter, Ended, Told, rows_of, settled, whole};
 use crate::{holds, same};
-use sb_codec::{Row, Rows};
+use sb_codec::Rows;
 use sb_listing::{changes, print_changes, print_json_rows};
-use sb_types::{Fault, Key, Name, Value};
+use sb_types::Fault;
 use std::alloc::Global;
 use std::test::Fail;
 
-// An owner, a key, a version, and the two words of a value.
-type Told = (
-    &'static [u8],
-    &'static [u8],
-    u64,
-    &'static [u8],
-    &'static [u8],
-);
+const A_V: Told = (b"a", b"v", 1, (b"addr", b"h:80"));
 
-const A_V: Told = (b"a", b"v", 1, b"addr", b"h:80");
+const A_W: Told = (b"a", b"w", 2, (b"weight", b"5"));
 
-const A_W: Told = (b"a", b"w", 2, b"weight", b"5");
+const A_W_LATER: Told = (b"a", b"w", 9, (b"weight", b"5"));
 
-const A_W_LATER: Told = (b"a", b"w", 9, b"weight", b"5");
+const A_W_OTHER: Told = (b"a", b"w", 2, (b"weight", b"6"));
 
-const A_W_OTHER: Told = (b"a", b"w", 2, b"weight", b"6");
+const A_W_FLAG: Told = (b"a", b"w", 2, (b"flag", b"true"));
 
-const A_W_FLAG: Told = (b"a", b"w", 2, b"flag", b"true");
+const A_W_NOT: Told = (b"a", b"w", 2, (b"flag", b"false"));
 
-const A_W_NOT: Told = (b"a", b"w", 2, b"flag", b"false");
+const AA_A: Told = (b"aa", b"a", 1, (b"flag", b"true"));
 
-const AA_A: Told = (b"aa", b"a", 1, b"flag", b"true");
+const B_A: Told = (b"b", b"a", 3, (b"addr", b"h:80"));
 
-const B_A: Told = (b"b", b"a", 3, b"addr", b"h:80");
-
-const B_A_OTHER: Told = (b"b", b"a", 3, b"addr", b"h:81");
+const B_A_OTHER: Told = (b"b", b"a", 3, (b"addr", b"h:81"));
 
 // An earlier listing, a later one, and the lines of what changed.
 type Case = (&'static [Told], &'static [Told], &'static [u8]);
@@ -64,15 +55,6 @@ const CASES: [Case; 11] = [
     ),
 ];
 
-fn rows_of(alloc: Global, told: &[Told]) -> Result<Vec<Row>, Fault> {
-    let mut rows = Vec::new(alloc);
-    for (owner, key, version, kind, word) in told {
-        let value = Value::from_words(alloc, kind, word)?;
-        rows.push(Row::new(Name::read(owner)?, Key::read(key)?, *version, value)?)?;
-    }
-    Ok(rows)
-}
-
 /// The lines of what changed from one of these listings to the other.
 fn lines_between(alloc: Global, earlier: &[Told], later: &[Told]) -> Result<Vec<u8>, Fault> {
     let (earlier, later) = (rows_of(alloc, earlier)?, rows_of(alloc, later)?);
@@ -84,27 +66,23 @@ fn lines_between(alloc: Global, earlier: &[Told], later: &[Told]) -> Result<Vec<
 
 #[test]
 fn what_changed_is_printed(rt: HostRuntime) -> Result<(), Fail> {
-    for (earlier, later, wanted) in CASES {
+    for (earlier, later, wanted) in CASES.iter() {
         let lines = lines_between(rt.alloc(), earlier, later)?;
-        same(&rt, &lines.as_slice(), &wanted);
+        same(&rt, &lines.as_slice(), wanted);
     }
     Ok(())
 }
 
-/// A page of an address with a quote and a backslash, the greatest weight, and a flag.
+// An address with a quote and a backslash, the greatest weight, and a flag.
+const KINDS: [Told; 3] = [
+    (b"a", b"v", 1, (b"addr", b"\"\\/~h")),
+    (b"a", b"w-._/0", 2, (b"weight", b"9223372036854775807")),
+    (b"b-1", b"up", 3, (b"flag", b"true")),
+];
+
+/// A page of these.
 fn page_of_kinds(alloc: Global) -> Result<Rows, Fault> {
-    let told = [
-        (
-            b"a".as_slice(),
-            b"v".as_slice(),
-            1,
-            b"addr".as_slice(),
-            b"\"\\/~h".as_slice(),
-        ),
-        (b"a", b"w-._/0", 2, b"weight", b"9223372036854775807"),
-        (b"b-1", b"up", 3, b"flag", b"true"),
-    ];
-    Rows::new(true, rows_of(alloc, &told)?)
+    Rows::new(true, rows_of(alloc, &KINDS)?)
 }
 
 // The lines of that page.

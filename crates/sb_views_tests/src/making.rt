@@ -1,4 +1,5 @@
 //! Entries, holdings and a writer for the tests.
+use sb_codec::Row;
 use sb_frames::LastWrite;
 use sb_holdings::{BlockEnd, Holdings};
 use sb_table::Table;
@@ -17,6 +18,21 @@ pub(crate) fn entry(key: &[u8], version: u64, value: Option<Value>) -> Result<En
         None => Slot::Removed,
     };
     Ok(Entry::new(Key::read(key)?, version, slot))
+}
+
+// The two words of a value.
+pub(crate) type Words = (&'static [u8], &'static [u8]);
+
+// An owner, a key, a version, and a value.
+pub(crate) type Told = (&'static [u8], &'static [u8], u64, Words);
+
+pub(crate) fn rows_of(alloc: Global, told: &[Told]) -> Result<Vec<Row>, Fault> {
+    let mut rows = Vec::new(alloc);
+    for (owner, key, version, (kind, word)) in told {
+        let value = Value::from_words(alloc, kind, word)?;
+        rows.push(Row::new(Name::read(owner)?, Key::read(key)?, *version, value)?)?;
+    }
+    Ok(rows)
 }
 
 /// What a node a holds that has written nothing.

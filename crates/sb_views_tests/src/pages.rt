@@ -1,14 +1,13 @@
 //! Pages at exact budgets and behind places, and the lines of a page.
-use crate::making::{ClosingWriter, Ended, apply, entry, holdings_of_a, settled, whole};
+use crate::making::{ClosingWriter, Ended, apply, entry, holdings_of_a, rows_of, settled, whole};
 use crate::reading::{Look, read};
-use crate::{holds, same, same_at};
+use crate::{holds, making, same, same_at};
 use sb_codec::{Ask, Row, Rows};
 use sb_holdings::Holdings;
 use sb_query::{answer, print_rows};
-use sb_types::{BUDGET_LEAST, BUDGET_MOST, Block, Fault, Key, Name, Prefix, Value};
-use sb_views::{Opened, Snapshot};
+use sb_types::{BUDGET_LEAST, BUDGET_MOST, Block, Entry, Fault, Key, Name, Prefix, Value};
+use sb_views::Snapshot;
 use std::alloc::Global;
-use std::marker::Brand;
 use std::process::Abort;
 use std::test::Fail;
 
@@ -28,121 +27,108 @@ const ROWS: [Told; 5] = [
     (b"b", b"y", 2),
 ];
 
-fn long_address(alloc: Global) -> Result<Value, Fault> {
-    Value::addr(alloc, &[b'p'; 100])
+#[derive(Clone, Copy)]
+enum Kind {
+    LongAddress,
+    Weight,
+    Flag,
+    Removed,
+}
+
+// A key, a version, and what is written.
+type Write = (&'static [u8], u64, Kind);
+
+const OF_A: [Write; 4] = [
+    (b"net/a", 1, Kind::LongAddress),
+    (b"net/b", 2, Kind::Weight),
+    (b"w", 3, Kind::LongAddress),
+    (b"x", 4, Kind::Removed),
+];
+
+const OF_B: [Write; 2] = [(b"net/a", 1, Kind::Flag), (b"y", 2, Kind::LongAddress)];
+
+fn entry_of(alloc: Global, write: Write) -> Result<Entry, Fault> {
+    let (key, version, kind) = write;
+    let value = match kind {
+        Kind::LongAddress => Some(Value::addr(alloc, &[b'p'; 100])?),
+        Kind::Weight => Some(Value::weight(5)?),
+        Kind::Flag => Some(Value::flag(true)),
+        Kind::Removed => None,
+    };
+    entry(key, version, value)
+}
+
+fn block_of_b(alloc: Global) -> Result<Block, Fault> {
+    let mut entries = Vec::new(alloc);
+    for write in OF_B.iter() {
+        entries.push(entry_of(alloc, *write)?)?;
+    }
+    Block::new(Name::read(b"b")?, 0, entries)
 }
 
 fn holdings_of_two(alloc: Global) -> Result<Holdings, Fault> {
     let mut holdings = holdings_of_a(alloc)?;
-    holdings.push_own(entry(b"net/a", 1, Some(long_address(alloc)?))?)?;
-    holdings.push_own(entry(b"net/b", 2, Some(Value::weight(5)?))?)?;
-    holdings.push_own(entry(b"w", 3, Some(long_address(alloc)?))?)?;
-    holdings.push_own(entry(b"x", 4, None)?)?;
-    let first = entry(b"net/a", 1, Some(Value::flag(true)))?;
-    let second = entry(b"y", 2, Some(long_address(alloc)?))?;
-    let block = Block::new(Name::read(b"b")?, 0, vec![in alloc; first, second]?)?;
-    apply(&mut holdings, &block)?;
+    for write in OF_A.iter() {
+        holdings.push_own(entry_of(alloc, *write)?)?;
+    }
+    apply(&mut holdings, &block_of_b(alloc)?)?;
     Ok(holdings)
 }
 
-// What is asked, and which of the rows are told.
-#[derive(Clone, Copy)]
-struct Case {
-    owner: &'static [u8],
-    prefix: &'static [u8],
-    after: Place,
-    budget: u64,
-    rows: &'static [usize],
-    more: bool,
-}
+// An owner, or all where none is named, a prefix of keys, and the place behind which it is asked.
+type Asked = (&'static [u8], &'static [u8], Place);
 
-// Behind a place, within a budget: which rows, and whether more follow.
-const BEHIND: [(Place, u64, &'static [usize], bool); 16] = [
+// What is asked, a budget, which of the rows are told, and whether more follow.
+type Case = (Asked, u64, &'static [usize], bool);
+
+const ALL: Asked = (b"", b"", NOWHERE);
+
+const CASES: [Case; 25] = [
     // All five make a frame of 399 bytes, four one of 285, three one of 267 and two one of 153.
-    (NOWHERE, 65_536, &[0, 1, 2, 3, 4], false),
-    (NOWHERE, 399, &[0, 1, 2, 3, 4], false),
-    (NOWHERE, 398, &[0, 1, 2, 3], true),
-    (NOWHERE, 285, &[0, 1, 2, 3], true),
-    (NOWHERE, 284, &[0, 1, 2], true),
-    (NOWHERE, 267, &[0, 1, 2], true),
-    (NOWHERE, 266, &[0, 1], true),
-    (NOWHERE, 256, &[0, 1], true),
+    (ALL, 65_536, &[0, 1, 2, 3, 4], false),
+    (ALL, 399, &[0, 1, 2, 3, 4], false),
+    (ALL, 398, &[0, 1, 2, 3], true),
+    (ALL, 285, &[0, 1, 2, 3], true),
+    (ALL, 284, &[0, 1, 2], true),
+    (ALL, 267, &[0, 1, 2], true),
+    (ALL, 266, &[0, 1], true),
+    (ALL, 256, &[0, 1], true),
     // In the middle of a. The last three rows make a frame of 256 bytes.
-    ((b"a", b"net/a"), 281, &[1, 2, 3, 4], false),
-    ((b"a", b"net/a"), 280, &[1, 2, 3], true),
-    ((b"a", b"net/b"), 256, &[2, 3, 4], false),
+    ((b"", b"", (b"a", b"net/a")), 281, &[1, 2, 3, 4], false),
+    ((b"", b"", (b"a", b"net/a")), 280, &[1, 2, 3], true),
+    ((b"", b"", (b"a", b"net/b")), 256, &[2, 3, 4], false),
     // At the last key of a, its removed key, an owner that is not there, and the end.
-    ((b"a", b"w"), 256, &[3, 4], false),
-    ((b"a", b"x"), 256, &[3, 4], false),
-    ((b"aa", b"net/a"), 256, &[3, 4], false),
-    ((b"b", b"y"), 256, &[], false),
-    ((b"c", b"a"), 256, &[], false),
+    ((b"", b"", (b"a", b"w")), 256, &[3, 4], false),
+    ((b"", b"", (b"a", b"x")), 256, &[3, 4], false),
+    ((b"", b"", (b"aa", b"net/a")), 256, &[3, 4], false),
+    ((b"", b"", (b"b", b"y")), 256, &[], false),
+    ((b"", b"", (b"c", b"a")), 256, &[], false),
+    // Under net/, behind nothing, a key of it, a key before it and one behind it.
+    ((b"", b"net/", NOWHERE), 256, &[0, 1, 3], false),
+    ((b"", b"net/", (b"a", b"net/a")), 256, &[1, 3], false),
+    ((b"", b"net/", (b"a", b"k")), 256, &[0, 1, 3], false),
+    ((b"", b"net/", (b"a", b"w")), 256, &[3], false),
+    // Of one owner, behind places of its own and of others.
+    ((b"a", b"", (b"a", b"net/a")), 400, &[1, 2], false),
+    ((b"b", b"", (b"a", b"w")), 400, &[3, 4], false),
+    ((b"a", b"", (b"b", b"net/a")), 400, &[], false),
+    ((b"b", b"", (b"b", b"net/a")), 400, &[4], false),
+    ((b"c", b"", NOWHERE), 400, &[], false),
 ];
 
-// Under net/, behind nothing, a key of it, a key before it and one behind it.
-const UNDER_NET: [(Place, &'static [usize]); 4] = [
-    (NOWHERE, &[0, 1, 3]),
-    ((b"a", b"net/a"), &[1, 3]),
-    ((b"a", b"k"), &[0, 1, 3]),
-    ((b"a", b"w"), &[3]),
-];
-
-// Of one owner, behind places of its own and of others.
-const OF_ONE: [(&'static [u8], Place, &'static [usize]); 5] = [
-    (b"a", (b"a", b"net/a"), &[1, 2]),
-    (b"b", (b"a", b"w"), &[3, 4]),
-    (b"a", (b"b", b"net/a"), &[]),
-    (b"b", (b"b", b"net/a"), &[4]),
-    (b"c", NOWHERE, &[]),
-];
-
-fn cases(alloc: Global) -> Result<Vec<Case>, Fault> {
-    let mut cases = Vec::new(alloc);
-    for (after, budget, rows, more) in BEHIND {
-        cases.push(Case {
-            owner: b"",
-            prefix: b"",
-            after,
-            budget,
-            rows,
-            more,
-        })?;
-    }
-    for (after, rows) in UNDER_NET {
-        cases.push(Case {
-            owner: b"",
-            prefix: b"net/",
-            after,
-            budget: 256,
-            rows,
-            more: false,
-        })?;
-    }
-    for (owner, after, rows) in OF_ONE {
-        cases.push(Case {
-            owner,
-            prefix: b"",
-            after,
-            budget: 400,
-            rows,
-            more: false,
-        })?;
-    }
-    Ok(cases)
-}
-
-fn ask_of(case: Case) -> Result<Ask, Fault> {
-    let owner = match case.owner {
+fn ask_of(asked: Asked) -> Result<Ask, Fault> {
+    let (owner, prefix, after) = asked;
+    let owner = match owner {
         b"" => None,
         name => Some(Name::read(name)?),
     };
-    let after = match case.after {
+    let after = match after {
         (b"", _) => None,
         (name, key) => Some((Name::read(name)?, Key::read(key)?)),
     };
     Ok(Ask {
         owner,
-        prefix: Prefix::read(case.prefix)?,
+        prefix: Prefix::read(prefix)?,
         after,
     })
 }
@@ -163,7 +149,7 @@ fn is_told(row: &Row, told: Told) -> bool {
 fn pages_answer_what_is_asked(rt: HostRuntime) -> Result<(), Fail> {
     let alloc = rt.alloc();
     let holdings = holdings_of_two(alloc)?;
-    read::<Brand, _>(&rt, alloc, Opened::new(), &holdings, Look::Pages)
+    read(&rt, alloc, &holdings, Look::Pages)
 }
 
 /// Whether just these rows are told, in order.
@@ -183,11 +169,11 @@ pub(crate) fn rows_are_told<R: Abort>(
     alloc: Global,
     snapshot: &Snapshot<'_>,
 ) -> Result<(), Fail> {
-    for (number, case) in cases(alloc)?.iter().enumerate() {
-        let page = page_of(alloc, snapshot, &ask_of(*case)?, case.budget)?;
-        let are_right = are_told(page.rows(), case.rows);
+    for (number, (asked, budget, rows, more)) in CASES.iter().enumerate() {
+        let page = page_of(alloc, snapshot, &ask_of(*asked)?, *budget)?;
+        let are_right = are_told(page.rows(), rows);
         let told = (page.more(), page.rows().len(), are_right);
-        same_at(rt, &number, &told, &(case.more, case.rows.len(), true));
+        same_at(rt, &number, &told, &(*more, rows.len(), true));
     }
     Ok(())
 }
@@ -206,7 +192,7 @@ fn holdings_of_300(alloc: Global) -> Result<Holdings, Fault> {
 fn pages_follow_one_another(rt: HostRuntime) -> Result<(), Fail> {
     let alloc = rt.alloc();
     let holdings = holdings_of_300(alloc)?;
-    read::<Brand, _>(&rt, alloc, Opened::new(), &holdings, Look::Following)
+    read(&rt, alloc, &holdings, Look::Following)
 }
 
 /// How many rows a page has, whether more follow, and the version of its first, 0 where there is none. Then the next is asked.
@@ -245,13 +231,16 @@ pub(crate) fn pages_follow<R: Abort>(
     Ok(())
 }
 
-/// A page of a weight, an address and a flag: lines of 19, 16 and 16 bytes.
+// A weight, an address and a flag: lines of 19, 16 and 16 bytes.
+const THREE: [making::Told; 3] = [
+    (b"a", b"net/a", 1, (b"weight", b"5")),
+    (b"b", b"y", 2, (b"addr", b"h:80")),
+    (b"b", b"z", 3, (b"flag", b"true")),
+];
+
+/// A page of these.
 fn page_of_three(alloc: Global) -> Result<Rows, Fault> {
-    let (a, b) = (Name::read(b"a")?, Name::read(b"b")?);
-    let first = Row::new(a, Key::read(b"net/a")?, 1, Value::weight(5)?)?;
-    let second = Row::new(b, Key::read(b"y")?, 2, Value::addr(alloc, b"h:80")?)?;
-    let third = Row::new(b, Key::read(b"z")?, 3, Value::flag(true))?;
-    Rows::new(true, vec![in alloc; first, second, third]?)
+    Rows::new(true, rows_of(alloc, &THREE)?)
 }
 
 /// The lines of a page.

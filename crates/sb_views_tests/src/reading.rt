@@ -6,6 +6,7 @@ use crate::views::live_is_shown;
 use sb_holdings::Holdings;
 use sb_views::{Opened, Site, views};
 use std::alloc::Global;
+use std::marker::Brand;
 use std::process::Abort;
 use std::sync::Wait;
 use std::test::Fail;
@@ -22,7 +23,16 @@ pub(crate) enum Look {
 }
 
 /// Makes the views of what is held, and has a reader look at them.
-pub(crate) fn read<S: Site, R: Wait + Abort>(
+pub(crate) fn read<R: Wait + Abort>(
+    rt: &R,
+    alloc: Global,
+    holdings: &Holdings,
+    look: Look,
+) -> Result<(), Fail> {
+    read_on::<Brand, _>(rt, alloc, Opened::new(), holdings, look)
+}
+
+fn read_on<S: Site, R: Wait + Abort>(
     rt: &R,
     alloc: Global,
     opened: Opened,

@@ -2,17 +2,16 @@ use Rattle.std.proofs.Common.{◌≡◌, ℕ, List, [], ◌∷◌, ◌++◌, ap,
 use Rattle.sb_types.specs.Records.{Entry}
 use Rattle.sb_views.specs.declared.event.Event.{Event}
 use Rattle.sb_views.specs.declared.event.Event.TheVariants.{TookOwn}
-use Rattle.sb_views.specs.Views.{Views}
 use Rattle.sb_views.proofs.Leading.{first-leads}
-use Rattle.sb_views_tests.proofs.views.publish_one.Goals as goal
+use Rattle.sb_views_tests.proofs.views.append_own.Goals as goal
 
 pub append-requires-clause-leads : goal.append-requires-clause-leads
 append-requires-clause-leads g c =
     let entry = c.args.entry in
     let upto : c.add_own-added.new.self ≡ TookOwn entry ∷ [] =
-    c.if-not-added.ensures ∙ ap (λ (l : List Event). l ++ TookOwn entry ∷ []) (c.again-upto.ensures ∙ c.named-story.ensures) in
+    c.if-not-added.ensures ∙ ap (λ (l : List Event). l ++ TookOwn entry ∷ []) c.requires.start in
     let batch : c.push.new.self ≡ (c.args.holdings.now.me, entry) ∷ [] =
     c.in_ok-push.ensures.ok ∙ ap (λ (b : List (List ℕ × Entry)). b ++ (c.me.result.now, entry) ∷ []) c.new-batch.ensures
     ∙ ap (λ (o : List ℕ). (o, entry) ∷ []) c.me.ensures.name in
-    first-leads g.S.Site.opening c.args.holdings.now entry c.in_ok-writer.writer.ready c.add_own-added.new.self c.push.new.self
-    c.requires.opening c.requires.next (ap (λ (v : Views). v.ready) c.in_ok-writer.ensures.writer) upto batch
+    first-leads g.S.Site.opening c.args.holdings.now entry c.args.writer.now.ready c.add_own-added.new.self c.push.new.self
+    c.requires.opening c.requires.next c.requires.ready upto batch

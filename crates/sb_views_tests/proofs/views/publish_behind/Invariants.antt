@@ -1,5 +1,5 @@
 use Rattle.std.specs.Prelude.{None}
-use Rattle.sb_views_tests.proofs.views.a_write_is_shown_once_published.Given as goal
+use Rattle.sb_views_tests.proofs.views.publish_behind.Given as goal
 
 abbrev pub ghosts-publish_one-S-Ledger : goal.ghosts-publish_one-S-Ledger
 ghosts-publish_one-S-Ledger g a = record { name = 0; parts = 0 }
