@@ -140,7 +140,7 @@ fn count_in_bytes(alloc: Global, frames: &mut Frames) -> Result<[usize; 2], Faul
 fn count_behind(
     alloc: Global,
     frames: &mut Frames,
-    pieces: [&[u8]; 4],
+    pieces: &[&[u8]; 4],
 ) -> Result<[usize; 4], Fault> {
     let mut counts = [0; 4];
     for (count, piece) in counts.iter_mut().zip(pieces) {
@@ -158,16 +158,21 @@ fn twice() -> [u8; 80] {
     twice
 }
 
-#[test]
-fn a_frame_in_any_pieces(rt: HostRuntime) -> Result<(), Fail> {
-    let alloc = rt.alloc();
-    same(&rt, &FRAME.len(), &40);
+/// How many messages come of `FRAME` in bytes; then behind its front, its last byte, two of it at once, and nothing.
+fn count_in_pieces(alloc: Global) -> Result<([usize; 2], [usize; 4]), Fault> {
     let (front, last) = FRAME.split_at(39);
     let pieces = [front, last, &twice(), b""];
     let mut frames = Frames::new(alloc);
     let in_bytes = count_in_bytes(alloc, &mut frames)?;
-    let counts = count_behind(alloc, &mut frames, pieces)?;
-    same(&rt, &(in_bytes, counts), &([0, 1], [0, 1, 2, 0]));
+    let counts = count_behind(alloc, &mut frames, &pieces)?;
+    Ok((in_bytes, counts))
+}
+
+#[test]
+fn a_frame_in_any_pieces(rt: HostRuntime) -> Result<(), Fail> {
+    same(&rt, &FRAME.len(), &40);
+    let found = count_in_pieces(rt.alloc())?;
+    same(&rt, &found, &([0, 1], [0, 1, 2, 0]));
     Ok(())
 }
 
@@ -247,11 +252,15 @@ fn is_bye(message: &Message) -> bool {
     matches!(message, Message::Bye(bye) if bye.reason() == 1)
 }
 
+/// The Hello that `HELLO_A` spells.
+fn hello() -> Result<Message, Fault> {
+    let (cluster, node) = (Name::read(b"c1")?, Name::read(b"a")?);
+    Ok(Message::Hello(Hello { cluster, node }))
+}
+
 /// Whether the Hello goes out as `HELLO_A`, and that is read as it.
 fn hello_both_ways(alloc: Global) -> Result<(bool, bool), Fault> {
-    let (cluster, node) = (Name::read(b"c1")?, Name::read(b"a")?);
-    let hello = Message::Hello(Hello { cluster, node });
-    let is_sent = goes_out_as(alloc, &hello, HELLO_A)?;
+    let is_sent = goes_out_as(alloc, &hello()?, HELLO_A)?;
     match read(alloc, HELLO_A)? {
         Some(message) => Ok((is_sent, is_hello(&message))),
         None => Ok((is_sent, false)),
@@ -399,17 +408,25 @@ fn told(alloc: Global, room: usize, message: &Message) -> (Result<(), Fault>, bo
     (answer, last.has_failed())
 }
 
+/// The same of writers with room for 40, 39 and no bytes.
+fn told_in_turn(alloc: Global) -> Result<[(Result<(), Fault>, bool); 3], Fault> {
+    let message = message(alloc)?;
+    Ok([
+        told(alloc, 40, &message),
+        told(alloc, 39, &message),
+        told(alloc, 0, &message),
+    ])
+}
+
 #[test]
 fn what_the_last_write_answered(rt: HostRuntime) -> Result<(), Fail> {
-    let alloc = rt.alloc();
-    let message = message(alloc)?;
-    for (room, expected) in [
-        (40, (Ok(()), false)),
-        (39, (Err(Fault::WriteFailed(39)), true)),
-        (0, (Err(Fault::WriteFailed(0)), true)),
-    ] {
-        same_at(&rt, &room, &told(alloc, room, &message), &expected);
-    }
+    let found = told_in_turn(rt.alloc())?;
+    let wanted = [
+        (Ok(()), false),
+        (Err(Fault::WriteFailed(39)), true),
+        (Err(Fault::WriteFailed(0)), true),
+    ];
+    same(&rt, &found, &wanted);
     Ok(())
 }
 

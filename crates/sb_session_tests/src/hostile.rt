@@ -6,6 +6,7 @@ use crate::wire::{BYE, HELLO_A};
 use crate::{same, same_at};
 use rand_core::utils::NextWord;
 use rand_pcg::Pcg32;
+use sb_codec::Message;
 use sb_frames::{Frames, frame_of};
 use sb_types::Fault;
 use std::alloc::Global;
@@ -108,22 +109,32 @@ impl Counts {
     }
 }
 
+/// What a message that came is answered by: it has to go out as it came.
+fn answer_to(alloc: Global, message: &Message, stream: &[u8]) -> Result<Answer, Fault> {
+    let frame = frame_of(alloc, message)?;
+    match stream.starts_with(&frame) {
+        true => Ok(Answer::Message(frame.len())),
+        false => Ok(Answer::Faulty(Fault::Closed)),
+    }
+}
+
+/// What a fault is answered by: one of a kind has to name it.
+fn answer_to_fault(fault: Fault, stream: &[u8]) -> Result<Answer, Fault> {
+    match fault {
+        Fault::NoMemory => Err(Fault::NoMemory),
+        Fault::UnknownKind(kind) | Fault::Malformed(kind) if stream.get(6) != Some(&kind) => {
+            Ok(Answer::Faulty(Fault::Closed))
+        }
+        _ => Ok(Answer::Faulty(fault)),
+    }
+}
+
 /// What comes of the next frame; a message has to go out as it came, and a fault of a kind has to name it.
 fn answer_of(alloc: Global, frames: &mut Frames, stream: &[u8]) -> Result<Answer, Fault> {
     match taken(frames) {
-        Ok(Some(message)) => {
-            let frame = frame_of(alloc, &message)?;
-            match stream.starts_with(&frame) {
-                true => Ok(Answer::Message(frame.len())),
-                false => Ok(Answer::Faulty(Fault::Closed)),
-            }
-        }
+        Ok(Some(message)) => answer_to(alloc, &message, stream),
         Ok(None) => Ok(Answer::Waiting),
-        Err(Fault::NoMemory) => Err(Fault::NoMemory),
-        Err(Fault::UnknownKind(kind) | Fault::Malformed(kind)) if stream.get(6) != Some(&kind) => {
-            Ok(Answer::Faulty(Fault::Closed))
-        }
-        Err(fault) => Ok(Answer::Faulty(fault)),
+        Err(fault) => answer_to_fault(fault, stream),
     }
 }
 
@@ -142,6 +153,11 @@ fn changed(alloc: Global, frame: &[u8], place: usize, value: u8) -> Result<Vec<u
         *byte = value;
     }
     Ok(changed)
+}
+
+/// What comes of a frame with another byte at a place.
+fn answer_changed(alloc: Global, frame: &[u8], place: usize, value: u8) -> Result<Answer, Fault> {
+    first_of(alloc, &changed(alloc, frame, place, value)?)
 }
 
 /// What has to come of a delta of 40 bytes of which one of the first seven is another.
@@ -165,8 +181,7 @@ fn the_head_of_a_frame_is_damaged(rt: HostRuntime) -> Result<(), Fail> {
     for (place, byte) in FRAME[..7].iter().enumerate() {
         for value in 0..=255_u8 {
             if value != *byte {
-                let frame = changed(rt.alloc(), FRAME, place, value)?;
-                let answer = first_of(rt.alloc(), &frame)?;
+                let answer = answer_changed(rt.alloc(), FRAME, place, value)?;
                 let wanted = wanted(place, value);
                 same_at(&rt, &(place, value), &Some(answer), &wanted);
             }
@@ -181,29 +196,31 @@ fn damaged(alloc: Global, frame: &[u8]) -> Result<Counts, Fault> {
     for (place, byte) in frame.iter().enumerate() {
         for value in 0..=255_u8 {
             if value != *byte {
-                let stream = changed(alloc, frame, place, value)?;
-                counts.count(first_of(alloc, &stream)?);
+                counts.count(answer_changed(alloc, frame, place, value)?);
             }
         }
     }
     Ok(counts)
 }
 
+/// What comes of each frame of which one byte is another.
+const DAMAGED: [(&[u8], [u64; 7]); 9] = [
+    (HELLO_A, [108, 504, 255, 255, 511, 247, 1_180]),
+    (DIGEST, [4_115, 482, 255, 255, 511, 247, 2_805]),
+    (DELTA, [6_455, 426, 255, 255, 511, 247, 14_801]),
+    (BYE, [5, 508, 255, 255, 511, 247, 259]),
+    (ASK, [268, 498, 255, 255, 511, 247, 2_556]),
+    (ROWS, [6_383, 468, 255, 255, 511, 247, 4_121]),
+    (PUT, [1_951, 498, 255, 255, 511, 247, 873]),
+    (DONE, [2_039, 501, 255, 255, 511, 247, 17]),
+    (REFUSED, [30, 508, 255, 255, 511, 247, 234]),
+];
+
 #[test]
 fn each_byte_is_damaged(rt: HostRuntime) -> Result<(), Fail> {
-    for (frame, counts) in [
-        (HELLO_A, [108, 504, 255, 255, 511, 247, 1_180]),
-        (DIGEST, [4_115, 482, 255, 255, 511, 247, 2_805]),
-        (DELTA, [6_455, 426, 255, 255, 511, 247, 14_801]),
-        (BYE, [5, 508, 255, 255, 511, 247, 259]),
-        (ASK, [268, 498, 255, 255, 511, 247, 2_556]),
-        (ROWS, [6_383, 468, 255, 255, 511, 247, 4_121]),
-        (PUT, [1_951, 498, 255, 255, 511, 247, 873]),
-        (DONE, [2_039, 501, 255, 255, 511, 247, 17]),
-        (REFUSED, [30, 508, 255, 255, 511, 247, 234]),
-    ] {
+    for (frame, counts) in &DAMAGED {
         let found = damaged(rt.alloc(), frame)?;
-        same_at(&rt, &frame, &found, &Counts::new(counts));
+        same_at(&rt, frame, &found, &Counts::new(*counts));
     }
     Ok(())
 }
@@ -224,36 +241,63 @@ fn change(random: &mut Pcg32, stream: &mut Vec<u8>) {
     }
 }
 
-/// Any bytes; or up to three frames, of which up to three bytes are changed and the end may be cut off.
-fn made_up(alloc: Global, random: &mut Pcg32) -> Result<Vec<u8>, Fault> {
-    let mut stream = Vec::new(alloc);
-    let form = below(random, 4);
-    if form == 0 {
-        for _ in 0..below(random, 80) {
-            stream.push(below(random, 256) as u8)?;
-        }
-        return Ok(stream);
+/// Puts any bytes at the end of a stream.
+fn push_bytes(random: &mut Pcg32, stream: &mut Vec<u8>) -> Result<(), Fault> {
+    for _ in 0..below(random, 80) {
+        stream.push(below(random, 256) as u8)?;
     }
+    Ok(())
+}
+
+/// Puts up to three frames at the end of a stream, and changes up to three bytes.
+fn push_frames(random: &mut Pcg32, stream: &mut Vec<u8>) -> Result<(), Fault> {
     for _ in 0..=below(random, 3) {
         stream.extend_from_slice(FRAMES[below(random, 9)])?;
     }
     for _ in 0..below(random, 4) {
-        change(random, &mut stream);
+        change(random, stream);
     }
-    if form == 1 && !stream.is_empty() {
+    Ok(())
+}
+
+/// Cuts off the end of a stream, where it has one.
+fn cut_off(random: &mut Pcg32, stream: &mut Vec<u8>) {
+    if !stream.is_empty() {
         let length = below(random, stream.len());
         stream.truncate(length);
     }
+}
+
+/// Puts any bytes into a stream; or up to three frames, of which up to three bytes are changed and the end may be cut off.
+fn make_up(random: &mut Pcg32, stream: &mut Vec<u8>) -> Result<(), Fault> {
+    let form = below(random, 4);
+    if form == 0 {
+        return push_bytes(random, stream);
+    }
+    push_frames(random, stream)?;
+    if form == 1 {
+        cut_off(random, stream);
+    }
+    Ok(())
+}
+
+/// A stream that is made up.
+fn made_up(alloc: Global, random: &mut Pcg32) -> Result<Vec<u8>, Fault> {
+    let mut stream = Vec::new(alloc);
+    make_up(random, &mut stream)?;
     Ok(stream)
 }
 
-/// Counts the messages of a stream and what comes behind them, and tells whether nothing does.
-fn read_all(alloc: Global, counts: &mut Counts, stream: &[u8]) -> Result<bool, Fault> {
-    let mut frames = Frames::new(alloc);
-    fed(&mut frames, stream)?;
+/// Counts the messages of a stream that was fed and what comes behind them, and tells whether nothing does.
+fn count_all(
+    alloc: Global,
+    frames: &mut Frames,
+    counts: &mut Counts,
+    stream: &[u8],
+) -> Result<bool, Fault> {
     let mut rest = stream;
     for _ in 0..=stream.len() {
-        let answer = answer_of(alloc, &mut frames, rest)?;
+        let answer = answer_of(alloc, frames, rest)?;
         if answer == Answer::Waiting && frames.end().is_ok() {
             return Ok(true);
         }
@@ -264,6 +308,13 @@ fn read_all(alloc: Global, counts: &mut Counts, stream: &[u8]) -> Result<bool, F
         rest = rest.get(length..).unwrap_or(&[]);
     }
     Ok(false)
+}
+
+/// The same of a stream that is fed at once.
+fn read_all(alloc: Global, counts: &mut Counts, stream: &[u8]) -> Result<bool, Fault> {
+    let mut frames = Frames::new(alloc);
+    fed(&mut frames, stream)?;
+    count_all(alloc, &mut frames, counts, stream)
 }
 
 #[test]

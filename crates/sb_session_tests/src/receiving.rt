@@ -14,14 +14,27 @@ use std::test::Fail;
 /// Bye, since the rounds are done, twice.
 const BYES: &[u8] = b"\xa7\x01\x00\x00\x00\x02\x04\x01\xa7\x01\x00\x00\x00\x02\x04\x01";
 
-/// How many Byes come, and what comes then.
+/// Whether a Bye comes next, unless the end does.
+fn next<L: Ledger>(
+    reader: &mut Pieces<'_>,
+    frames: &mut Frames,
+    max_reads: u64,
+    steps: &mut Steps<L>,
+) -> Result<Option<bool>, Fault> {
+    match receive(reader, frames, max_reads, steps)? {
+        Some(message) => Ok(Some(matches!(message, Message::Bye(_)))),
+        None => Ok(None),
+    }
+}
+
+/// How many Byes come, and whether the end comes then, or a fault.
 fn receive_on<L: Ledger>(
     alloc: Global,
     reader: &mut Pieces<'_>,
     held: &[u8],
     max_reads: u64,
     blank: Blank,
-) -> Result<(usize, Result<Option<Message>, Fault>), Fault>
+) -> Result<(usize, Result<bool, Fault>), Fault>
     requires name { blank.name ≡ L.name }
     requires parts { blank.parts ≡ L.parts }
     requires some { 0 < blank.parts }
@@ -30,9 +43,10 @@ fn receive_on<L: Ledger>(
     let mut frames = Frames::new(alloc);
     frames.feed(held)?;
     for count in 0..4usize {
-        match receive(reader, &mut frames, max_reads, &mut steps) {
-            Ok(Some(Message::Bye(_))) => {}
-            answer => return Ok((count, answer)),
+        match next(reader, &mut frames, max_reads, &mut steps) {
+            Ok(Some(true)) => {}
+            Ok(message) => return Ok((count, Ok(message.is_none()))),
+            Err(fault) => return Ok((count, Err(fault))),
         }
     }
     Err(Fault::Malformed(0))
@@ -40,25 +54,11 @@ fn receive_on<L: Ledger>(
 
 fn received(
     alloc: Global,
-    reader: &mut Pieces<'_>,
-    held: &[u8],
-    max_reads: u64,
-) -> Result<(usize, Result<Option<Message>, Fault>), Fault> {
-    receive_on::<Brand>(alloc, reader, held, max_reads, Blank::new(1))
-}
-
-/// How many Byes come, and whether the end comes then, or a fault.
-fn told(
-    alloc: Global,
-    reader: &mut Pieces<'_>,
+    mut reader: Pieces<'_>,
     held: &[u8],
     max_reads: u64,
 ) -> Result<(usize, Result<bool, Fault>), Fault> {
-    let (count, last) = received(alloc, reader, held, max_reads)?;
-    match last {
-        Ok(message) => Ok((count, Ok(message.is_none()))),
-        Err(fault) => Ok((count, Err(fault))),
-    }
+    receive_on::<Brand>(alloc, &mut reader, held, max_reads, Blank::new(1))
 }
 
 /// A reader that gives all at once.
@@ -81,16 +81,16 @@ fn messages_out_of_a_reader(rt: HostRuntime) -> Result<(), Fail> {
         (5, false, 2),
         (16, false, 1),
     ] {
-        let mut reader = Pieces {
+        let reader = Pieces {
             piece,
             interrupts,
             ..whole(BYES)
         };
-        let found = told(alloc, &mut reader, b"", max_reads)?;
+        let found = received(alloc, reader, b"", max_reads)?;
         same_at(&rt, &piece, &found, &(2, Ok(true)));
     }
     // What is held comes without a read.
-    let found = told(alloc, &mut whole(b""), BYES, 0)?;
+    let found = received(alloc, whole(b""), BYES, 0)?;
     same(&rt, &found, &(2, Err(Fault::TurnsSpent)));
     Ok(())
 }
@@ -105,18 +105,18 @@ fn readers_that_give_out(rt: HostRuntime) -> Result<(), Fail> {
         (16, true, 9, 2, Fault::ReadFailed),
         (12, true, 9, 1, Fault::ReadFailed),
     ] {
-        let mut reader = Pieces {
+        let reader = Pieces {
             breaks,
             ..whole(BYES.get(..length).unwrap_or(&[]))
         };
-        let found = told(alloc, &mut reader, b"", max_reads)?;
+        let found = received(alloc, reader, b"", max_reads)?;
         same_at(&rt, &length, &found, &(expected, Err(fault)));
     }
     for (bytes, fault) in [
         (b"\xa6".as_slice(), Fault::BadMark),
         (b"\xa7\x01\x00\x00\x00\x01\x55", Fault::UnknownKind(0x55)),
     ] {
-        let found = told(alloc, &mut whole(bytes), b"", 9)?;
+        let found = received(alloc, whole(bytes), b"", 9)?;
         same_at(&rt, &bytes, &found, &(0, Err(fault)));
     }
     Ok(())

@@ -17,17 +17,25 @@ use std::test::Fail;
 /// Hello of a node a of the cluster c2.
 pub(crate) const HELLO_C2: &[u8] = b"\xa7\x01\x00\x00\x00\x06\x01\x02c2\x01a";
 
-/// An Ask, Rows, a Put, a Done and a Refused, which have no place in a session.
-pub(crate) const ASK: &[u8] = b"\xa7\x01\x00\x00\x00\x05\x10\x00\x00\x00\x00";
+const ASK: &[u8] = b"\xa7\x01\x00\x00\x00\x05\x10\x00\x00\x00\x00";
 
-pub(crate) const ROWS: &[u8] = b"\xa7\x01\x00\x00\x00\x04\x11\x00\x00\x00";
+const ROWS: &[u8] = b"\xa7\x01\x00\x00\x00\x04\x11\x00\x00\x00";
 
-pub(crate) const PUT: &[u8] = b"\xa7\x01\x00\x00\x00\x0c\x12\x01w\x02\
+const PUT: &[u8] = b"\xa7\x01\x00\x00\x00\x0c\x12\x01w\x02\
     \x00\x00\x00\x00\x00\x00\x00\x05";
 
-pub(crate) const DONE: &[u8] = b"\xa7\x01\x00\x00\x00\x09\x13\x00\x00\x00\x00\x00\x00\x00\x01";
+const DONE: &[u8] = b"\xa7\x01\x00\x00\x00\x09\x13\x00\x00\x00\x00\x00\x00\x00\x01";
 
-pub(crate) const REFUSED: &[u8] = b"\xa7\x01\x00\x00\x00\x02\x14\x01";
+const REFUSED: &[u8] = b"\xa7\x01\x00\x00\x00\x02\x14\x01";
+
+/// An Ask, Rows, a Put, a Done and a Refused, which have no place in a session, each with its kind.
+pub(crate) const CONTROLS: [(&[u8], u8); 5] = [
+    (ASK, 0x10),
+    (ROWS, 0x11),
+    (PUT, 0x12),
+    (DONE, 0x13),
+    (REFUSED, 0x14),
+];
 
 /// What a node holds, told and taken up without an order and a budget of deltas, in so many calls.
 #[derive(Drop)]
@@ -35,6 +43,15 @@ pub(crate) struct Node {
     pub(crate) alloc: Global,
     pub(crate) grants: u64,
     pub(crate) holdings: Holdings,
+}
+
+/// What stands in an owner's table above a version.
+fn block_above(alloc: Global, owner: Name, table: &Table, after: u64) -> Result<Block, Fault> {
+    let mut entries = Vec::new(alloc);
+    for entry in table.after(after) {
+        entries.push(entry.copy(alloc)?)?;
+    }
+    Block::new(owner, after, entries)
 }
 
 impl Node {
@@ -75,11 +92,7 @@ impl Node {
             if !told.covers(owner) || table.upto() <= number {
                 continue;
             }
-            let mut entries = Vec::new(self.alloc);
-            for entry in table.after(number) {
-                entries.push(entry.copy(self.alloc)?)?;
-            }
-            blocks.push(Block::new(*owner, number, entries)?)?;
+            blocks.push(block_above(self.alloc, *owner, table, number)?)?;
         }
         Delta::new(blocks)
     }
@@ -157,16 +170,35 @@ fn read(alloc: Global, frame: &[u8]) -> Result<Message, Fault> {
     }
 }
 
-fn is_spelled(alloc: Global, message: &Message, frame: &[u8]) -> Result<bool, Fault> {
+/// Whether the message goes out as this frame.
+fn is_frame_of(alloc: Global, message: &Message, frame: &[u8]) -> Result<bool, Fault> {
     Ok(frame_of(alloc, message)?.as_slice() == frame)
 }
 
-/// Why the peer said Bye, where it did.
-fn reason_of(replies: &Replies) -> Option<u8> {
-    match replies {
-        Replies::Ended(bye) => Some(bye.reason()),
-        _ => None,
-    }
+/// The same of a message that is not wanted any more.
+fn is_spelled(alloc: Global, message: Message, frame: &[u8]) -> Result<bool, Fault> {
+    is_frame_of(alloc, &message, frame)
+}
+
+/// What a session makes of the message of a frame.
+fn take(
+    alloc: Global,
+    session: &mut Session,
+    node: &mut Node,
+    frame: &[u8],
+) -> Result<Replies, Fault> {
+    session.take(read(alloc, frame)?, node)
+}
+
+/// Why a session does not take the message of a frame, where it does not.
+fn refusal(
+    alloc: Global,
+    session: &mut Session,
+    node: &mut Node,
+    frame: &[u8],
+) -> Result<Option<Fault>, Fault> {
+    let message = read(alloc, frame)?;
+    Ok(session.take(message, node).err())
 }
 
 /// A session of a node of the cluster c1.
@@ -174,29 +206,51 @@ fn session_of(name: &[u8]) -> Result<Session, Fault> {
     Ok(Session::new(Name::read(b"c1")?, Name::read(name)?))
 }
 
+/// Whether the session takes the Hello of a peer.
+fn is_greeted(
+    alloc: Global,
+    session: &mut Session,
+    node: &mut Node,
+    hello: &[u8],
+) -> Result<bool, Fault> {
+    let reply = take(alloc, session, node, hello)?;
+    Ok(matches!(reply, Replies::Greeted))
+}
+
 /// Whether the session says Hello as b does, and takes that of a.
 fn greet(alloc: Global, session: &mut Session, node: &mut Node) -> Result<[bool; 2], Fault> {
-    let is_hello = is_spelled(alloc, &session.hello(), HELLO_B)?;
-    let greeted = session.take(read(alloc, HELLO_A)?, node);
-    Ok([is_hello, matches!(greeted, Ok(Replies::Greeted))])
+    let is_hello = is_spelled(alloc, session.hello(), HELLO_B)?;
+    Ok([is_hello, is_greeted(alloc, session, node, HELLO_A)?])
+}
+
+/// Whether these are the delta and the digest of b.
+fn are_of_b(alloc: Global, delta: Delta, digest: Digest) -> Result<[bool; 2], Fault> {
+    let is_delta = is_spelled(alloc, Message::Delta(delta), DELTA_B)?;
+    let is_digest = is_spelled(alloc, Message::Digest(digest), DIGEST_B)?;
+    Ok([is_delta, is_digest])
 }
 
 /// Whether the digest of a is answered with the delta and the digest of b.
 fn exchange(alloc: Global, session: &mut Session, node: &mut Node) -> Result<[bool; 2], Fault> {
-    match session.take(read(alloc, DIGEST_A)?, node) {
-        Ok(Replies::Exchanged(delta, digest)) => Ok([
-            is_spelled(alloc, &Message::Delta(delta), DELTA_B)?,
-            is_spelled(alloc, &Message::Digest(digest), DIGEST_B)?,
-        ]),
+    match take(alloc, session, node, DIGEST_A)? {
+        Replies::Exchanged(delta, digest) => are_of_b(alloc, delta, digest),
         _ => Ok([false, false]),
     }
 }
 
 /// Whether the digest of b is answered with a delta of no block.
 fn answer(alloc: Global, session: &mut Session, node: &mut Node) -> Result<bool, Fault> {
-    match session.take(read(alloc, DIGEST_B)?, node) {
-        Ok(Replies::Answered(delta)) => is_spelled(alloc, &Message::Delta(delta), DELTA_NONE),
+    match take(alloc, session, node, DIGEST_B)? {
+        Replies::Answered(delta) => is_spelled(alloc, Message::Delta(delta), DELTA_NONE),
         _ => Ok(false),
+    }
+}
+
+/// Why a Bye ends the session, where it does.
+fn reason(alloc: Global, session: &mut Session, node: &mut Node) -> Result<Option<u8>, Fault> {
+    match take(alloc, session, node, BYE)? {
+        Replies::Ended(bye) => Ok(Some(bye.reason())),
+        _ => Ok(None),
     }
 }
 
@@ -206,9 +260,9 @@ fn end(
     session: &mut Session,
     node: &mut Node,
 ) -> Result<(Option<u8>, [Option<Fault>; 2]), Fault> {
-    let ended = session.take(read(alloc, BYE)?, node)?;
-    let again = session.take(read(alloc, BYE)?, node).err();
-    Ok((reason_of(&ended), [again, session.ask(node).err()]))
+    let reason = reason(alloc, session, node)?;
+    let again = refusal(alloc, session, node, BYE)?;
+    Ok((reason, [again, session.ask(node).err()]))
 }
 
 #[test]
@@ -233,18 +287,23 @@ fn a_session_takes_what_comes(rt: HostRuntime) -> Result<(), Fail> {
     Ok(())
 }
 
+/// How many blocks of the delta of b the session applies, where it does.
+fn applied(alloc: Global, session: &mut Session, node: &mut Node) -> Result<Option<usize>, Fault> {
+    match take(alloc, session, node, DELTA_B)? {
+        Replies::Applied(report) => Ok(Some(report.len())),
+        _ => Ok(None),
+    }
+}
+
 /// Whether the session asks as a does, and how many blocks of the delta of b it then applies, where it does.
 fn ask(
     alloc: Global,
     session: &mut Session,
     node: &mut Node,
 ) -> Result<(bool, Option<usize>), Fault> {
-    let is_asked = is_spelled(alloc, &session.ask(node)?, DIGEST_A)?;
-    session.take(read(alloc, HELLO_B)?, node)?;
-    match session.take(read(alloc, DELTA_B)?, node) {
-        Ok(Replies::Applied(report)) => Ok((is_asked, Some(report.len()))),
-        _ => Ok((is_asked, None)),
-    }
+    let is_asked = is_spelled(alloc, session.ask(node)?, DIGEST_A)?;
+    is_greeted(alloc, session, node, HELLO_B)?;
+    Ok((is_asked, applied(alloc, session, node)?))
 }
 
 #[test]
@@ -257,43 +316,49 @@ fn a_session_asks(rt: HostRuntime) -> Result<(), Fail> {
     Ok(())
 }
 
-/// The fault of the last of these messages, after which the session is closed.
-fn fault_of(alloc: Global, frames: &[&[u8]]) -> Result<Option<Fault>, Fault> {
-    let mut session = session_of(b"b")?;
-    let mut node = Node::new(alloc, b"b", false)?;
+/// The fault of the last of these messages, where the session is closed then.
+fn closing_fault(
+    alloc: Global,
+    session: &mut Session,
+    node: &mut Node,
+    frames: &[&[u8]],
+) -> Result<Option<Fault>, Fault> {
     let mut last = None;
     for frame in frames {
-        last = session.take(read(alloc, frame)?, &mut node).err();
+        last = refusal(alloc, session, node, frame)?;
     }
-    match session.take(read(alloc, HELLO_A)?, &mut node) {
-        Err(Fault::Closed) => Ok(last),
+    match refusal(alloc, session, node, HELLO_A)? {
+        Some(Fault::Closed) => Ok(last),
         _ => Ok(None),
     }
 }
 
+/// The same of a session of b.
+fn fault_of(alloc: Global, frames: &[&[u8]]) -> Result<Option<Fault>, Fault> {
+    let mut session = session_of(b"b")?;
+    let mut node = Node::new(alloc, b"b", false)?;
+    closing_fault(alloc, &mut session, &mut node, frames)
+}
+
+/// Messages of which the last has no place behind the others.
+const OUT_OF_PLACE: [(&[&[u8]], Fault); 8] = [
+    (&[DIGEST_A], Fault::NoHello),
+    (&[DELTA_B], Fault::NoHello),
+    (&[BYE], Fault::NoHello),
+    (&[HELLO_C2], Fault::WrongCluster),
+    (&[HELLO_B], Fault::SameName),
+    (&[HELLO_A, HELLO_A], Fault::SecondHello),
+    (&[HELLO_A, HELLO_C2], Fault::SecondHello),
+    (&[HELLO_A, HELLO_B], Fault::SecondHello),
+];
+
 #[test]
 fn messages_out_of_place_close(rt: HostRuntime) -> Result<(), Fail> {
     let alloc = rt.alloc();
-    let cases: [(&[&[u8]], Fault); 8] = [
-        (&[DIGEST_A], Fault::NoHello),
-        (&[DELTA_B], Fault::NoHello),
-        (&[BYE], Fault::NoHello),
-        (&[HELLO_C2], Fault::WrongCluster),
-        (&[HELLO_B], Fault::SameName),
-        (&[HELLO_A, HELLO_A], Fault::SecondHello),
-        (&[HELLO_A, HELLO_C2], Fault::SecondHello),
-        (&[HELLO_A, HELLO_B], Fault::SecondHello),
-    ];
-    for (frames, fault) in cases {
+    for (frames, fault) in OUT_OF_PLACE {
         same_at(&rt, &frames, &fault_of(alloc, frames)?, &Some(fault));
     }
-    for (control, kind) in [
-        (ASK, 0x10u8),
-        (ROWS, 0x11),
-        (PUT, 0x12),
-        (DONE, 0x13),
-        (REFUSED, 0x14),
-    ] {
+    for (control, kind) in CONTROLS {
         let fault = Some(Fault::UnknownKind(kind));
         same_at(&rt, &kind, &fault_of(alloc, &[control])?, &fault);
         same_at(&rt, &kind, &fault_of(alloc, &[HELLO_A, control])?, &fault);
@@ -301,18 +366,8 @@ fn messages_out_of_place_close(rt: HostRuntime) -> Result<(), Fail> {
     Ok(())
 }
 
-/// The fault of a message where so many calls of the handler are granted.
-fn refusal(
-    alloc: Global,
-    session: &mut Session,
-    node: &mut Node,
-    frame: &[u8],
-    grants: u64,
-) -> Result<Option<Fault>, Fault> {
-    let message = read(alloc, frame)?;
-    node.grants = grants;
-    Ok(session.take(message, node).err())
-}
+/// Messages, and how many calls of the handler are granted, which are too few.
+const UNGRANTED: [(&[u8], u64); 4] = [(DIGEST_A, 0), (DIGEST_A, 1), (DIGEST_B, 0), (DELTA_B, 0)];
 
 /// The faults behind Hello of messages, and then of asking, where too few calls are granted.
 fn refusals(
@@ -320,21 +375,21 @@ fn refusals(
     session: &mut Session,
     node: &mut Node,
 ) -> Result<[Option<Fault>; 5], Fault> {
-    session.take(read(alloc, HELLO_A)?, node)?;
-    Ok([
-        refusal(alloc, session, node, DIGEST_A, 0)?,
-        refusal(alloc, session, node, DIGEST_A, 1)?,
-        refusal(alloc, session, node, DIGEST_B, 0)?,
-        refusal(alloc, session, node, DELTA_B, 0)?,
-        session.ask(node).err(),
-    ])
+    is_greeted(alloc, session, node, HELLO_A)?;
+    let mut found = [None; 5];
+    for (fault, (frame, grants)) in found.iter_mut().zip(&UNGRANTED) {
+        node.grants = *grants;
+        *fault = refusal(alloc, session, node, frame)?;
+    }
+    found[4] = session.ask(node).err();
+    Ok(found)
 }
 
 /// Whether a digest is answered with a delta and a digest where two calls are granted.
 fn is_exchanged(alloc: Global, session: &mut Session, node: &mut Node) -> Result<bool, Fault> {
     node.grants = 2;
-    let answer = session.take(read(alloc, DIGEST_A)?, node);
-    Ok(matches!(answer, Ok(Replies::Exchanged(_, _))))
+    let reply = take(alloc, session, node, DIGEST_A)?;
+    Ok(matches!(reply, Replies::Exchanged(_, _)))
 }
 
 #[test]

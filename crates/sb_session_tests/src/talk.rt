@@ -1,7 +1,7 @@
 //! Whole sessions over readers and writers that break off, fail and give their bytes in pieces.
 ghost use Rattle.std.specs.Prelude.{◌≡◌, ◌<◌};
 
-use crate::session::{ASK, DONE, HELLO_C2, Node, PUT, REFUSED, ROWS, joined};
+use crate::session::{CONTROLS, HELLO_C2, Node, joined};
 use crate::wire::{
     BYE, DELTA_B, DELTA_NONE, DIGEST_A, DIGEST_B, HELLO_A, HELLO_B, Pieces, greatest_frame,
 };
@@ -258,7 +258,7 @@ fn within(pieces: &[&[u8]], place: usize) -> usize {
 }
 
 /// The first place at which a writer fails and it is not told so, with how much of its frame is out.
-fn wrong_room(alloc: Global, course: Course<'_>) -> Result<Option<usize>, Fault> {
+fn wrong_room(alloc: Global, course: &Course<'_>) -> Result<Option<usize>, Fault> {
     let input = joined(alloc, &course.heard)?;
     for room in 0..course.late {
         let terms = Terms {
@@ -266,7 +266,7 @@ fn wrong_room(alloc: Global, course: Course<'_>) -> Result<Option<usize>, Fault>
             rounds: course.rounds,
             ..serving(&input)
         };
-        let (answer, has_failed, is_written, _) = follow(alloc, &course, terms, 1_000)?;
+        let (answer, has_failed, is_written, _) = follow(alloc, course, terms, 1_000)?;
         let fault = Fault::WriteFailed(within(course.written, room) as u64);
         if answer != Err(fault) || !is_written || !has_failed {
             return Ok(Some(room));
@@ -276,7 +276,7 @@ fn wrong_room(alloc: Global, course: Course<'_>) -> Result<Option<usize>, Fault>
 }
 
 /// The first place at which a reader fails, or comes to its end, and it is not told so, or something else is written.
-fn wrong_length(alloc: Global, course: Course<'_>, breaks: bool) -> Result<Option<usize>, Fault> {
+fn wrong_length(alloc: Global, course: &Course<'_>, breaks: bool) -> Result<Option<usize>, Fault> {
     let input = joined(alloc, &course.heard)?;
     for length in 0..input.len() {
         let terms = Terms {
@@ -284,7 +284,7 @@ fn wrong_length(alloc: Global, course: Course<'_>, breaks: bool) -> Result<Optio
             breaks,
             ..serving(input.get(..length).unwrap_or(&[]))
         };
-        let (answer, _, _, written) = follow(alloc, &course, terms, 1_000)?;
+        let (answer, _, _, written) = follow(alloc, course, terms, 1_000)?;
         let expected = match (breaks, within(&course.heard, length)) {
             (true, _) => Err(Fault::ReadFailed),
             (false, 0) => Ok(Ended::End),
@@ -299,10 +299,19 @@ fn wrong_length(alloc: Global, course: Course<'_>, breaks: bool) -> Result<Optio
     Ok(None)
 }
 
+/// The first such places of a writer that fails, of a reader that fails, and of one that comes to its end.
+fn wrong_places(alloc: Global, course: &Course<'_>) -> Result<[Option<usize>; 3], Fault> {
+    Ok([
+        wrong_room(alloc, course)?,
+        wrong_length(alloc, course, true)?,
+        wrong_length(alloc, course, false)?,
+    ])
+}
+
 /// What comes where so many reads, or calls of the handler, are allowed; and how many bytes are written.
 fn spent(
     alloc: Global,
-    course: Course<'_>,
+    course: &Course<'_>,
     reads: u64,
     grants: u64,
 ) -> Result<(Result<Ended, Fault>, usize), Fault> {
@@ -312,29 +321,21 @@ fn spent(
         reads,
         ..serving(&input)
     };
-    let (ended, _, _, written) = follow(alloc, &course, terms, grants)?;
+    let (ended, _, _, written) = follow(alloc, course, terms, grants)?;
     Ok((ended, written))
 }
 
 #[test]
 fn writers_and_readers_fail(rt: HostRuntime) -> Result<(), Fail> {
     let alloc = rt.alloc();
-    for course in [SERVED, DIALED] {
-        same(&rt, &wrong_room(alloc, course)?, &None);
-        same(&rt, &wrong_length(alloc, course, true)?, &None);
-        same(&rt, &wrong_length(alloc, course, false)?, &None);
+    same(&rt, &wrong_places(alloc, &SERVED)?, &[None; 3]);
+    same(&rt, &wrong_places(alloc, &DIALED)?, &[None; 3]);
+    for (reads, grants, count) in [(0, 9, 12usize), (3, 9, 12), (99, 0, 12), (99, 1, 12)] {
+        let ended = spent(alloc, &SERVED, reads, grants)?;
+        same(&rt, &ended, &(Err(Fault::TurnsSpent), count));
     }
-    for (course, reads, grants, count) in [
-        (SERVED, 0, 9, 12usize),
-        (SERVED, 3, 9, 12),
-        (SERVED, 99, 0, 12),
-        (SERVED, 99, 1, 12),
-        (DIALED, 3, 9, 34),
-        (DIALED, 99, 0, 12),
-        (DIALED, 99, 1, 34),
-        (DIALED, 99, 2, 34),
-    ] {
-        let ended = spent(alloc, course, reads, grants)?;
+    for (reads, grants, count) in [(3, 9, 34usize), (99, 0, 12), (99, 1, 34), (99, 2, 34)] {
+        let ended = spent(alloc, &DIALED, reads, grants)?;
         same(&rt, &ended, &(Err(Fault::TurnsSpent), count));
     }
     Ok(())
@@ -344,6 +345,17 @@ fn writers_and_readers_fail(rt: HostRuntime) -> Result<(), Fail> {
 /// it then holds another owner.
 type Learned = (Result<Ended, Fault>, bool, usize, u64);
 
+fn learned(
+    node: &mut Node,
+    terms: Terms<'_>,
+    pieces: &[&[u8]],
+    owner: &[u8],
+) -> Result<Learned, Fault> {
+    let (ended, _, is_written, written) = outcome(node, terms, pieces)?;
+    Ok((ended, is_written, written, node.upto(owner)?))
+}
+
+/// The same of a new node.
 fn learn(
     alloc: Global,
     name: &[u8],
@@ -352,8 +364,7 @@ fn learn(
     owner: &[u8],
 ) -> Result<Learned, Fault> {
     let mut node = Node::new(alloc, name, false)?;
-    let (ended, _, is_written, written) = outcome(&mut node, terms, pieces)?;
-    Ok((ended, is_written, written, node.upto(owner)?))
+    learned(&mut node, terms, pieces, owner)
 }
 
 /// Of one that wrote something and dials for no round.
@@ -386,6 +397,11 @@ fn the_other_end_asks(rt: HostRuntime) -> Result<(), Fail> {
 /// How a talk ends, how many bytes it wrote, and how far the other owner is then held.
 type Ending = (Result<Ended, Fault>, usize, u64);
 
+fn ending(alloc: Global, name: &[u8], terms: Terms<'_>, owner: &[u8]) -> Result<Ending, Fault> {
+    let (ended, _, written, held) = learn(alloc, name, terms, &[], owner)?;
+    Ok((ended, written, held))
+}
+
 /// How a talk of a node that wrote nothing ends with one that says this, so many bytes in a read, where it serves and
 /// where it dials.
 fn endings(
@@ -395,13 +411,18 @@ fn endings(
     piece: usize,
     owner: &[u8],
 ) -> Result<[Ending; 2], Fault> {
-    let mut endings = [(Ok(Ended::End), 0, 0); 2];
-    for (ending, terms) in endings.iter_mut().zip([serving(said), dialing(said, 1)]) {
-        let terms = Terms { piece, ..terms };
-        let (ended, _, written, held) = learn(alloc, name, terms, &[], owner)?;
-        *ending = (ended, written, held);
-    }
-    Ok(endings)
+    let served = Terms {
+        piece,
+        ..serving(said)
+    };
+    let dialed = Terms {
+        piece,
+        ..dialing(said, 1)
+    };
+    Ok([
+        ending(alloc, name, served, owner)?,
+        ending(alloc, name, dialed, owner)?,
+    ])
 }
 
 /// How the talks of a node b with one a end that says these pieces.
@@ -410,42 +431,47 @@ fn endings_of(alloc: Global, pieces: &[&[u8]]) -> Result<[Ending; 2], Fault> {
     endings(alloc, b"b", &input, 7, b"a")
 }
 
+/// The same, without what was written and is held.
+fn ended_by(alloc: Global, pieces: &[&[u8]]) -> Result<[Result<Ended, Fault>; 2], Fault> {
+    let [served, dialed] = endings_of(alloc, pieces)?;
+    Ok([served.0, dialed.0])
+}
+
+/// What a peer says that ends a talk with a fault.
+const FAULTY: [(&[&[u8]], Fault); 12] = [
+    (&[DIGEST_A], Fault::NoHello),
+    (&[DELTA_B, DELTA_B, DELTA_B, HELLO_A], Fault::NoHello),
+    (&[BYE], Fault::NoHello),
+    (&[HELLO_C2], Fault::WrongCluster),
+    (&[HELLO_B], Fault::SameName),
+    (&[HELLO_A, HELLO_A], Fault::SecondHello),
+    (&[HELLO_A, HELLO_C2], Fault::SecondHello),
+    (&[b"\xa6"], Fault::BadMark),
+    (&[HELLO_A, b"\xa7\x09"], Fault::BadVersion),
+    (&[HELLO_A, b"\xa7\x01\x00\x00\x00\x00"], Fault::BadLength),
+    (&[b"\xa7\x01\x00\x00\x00\x01\x55"], Fault::UnknownKind(0x55)),
+    (
+        &[HELLO_A, b"\xa7\x01\x00\x00\x00\x02\x04\x06"],
+        Fault::Malformed(4),
+    ),
+];
+
 #[test]
 fn faulty_talks_end(rt: HostRuntime) -> Result<(), Fail> {
     let alloc = rt.alloc();
-    let cases: [(&[&[u8]], Fault); 12] = [
-        (&[DIGEST_A], Fault::NoHello),
-        (&[DELTA_B, DELTA_B, DELTA_B, HELLO_A], Fault::NoHello),
-        (&[BYE], Fault::NoHello),
-        (&[HELLO_C2], Fault::WrongCluster),
-        (&[HELLO_B], Fault::SameName),
-        (&[HELLO_A, HELLO_A], Fault::SecondHello),
-        (&[HELLO_A, HELLO_C2], Fault::SecondHello),
-        (&[b"\xa6"], Fault::BadMark),
-        (&[HELLO_A, b"\xa7\x09"], Fault::BadVersion),
-        (&[HELLO_A, b"\xa7\x01\x00\x00\x00\x00"], Fault::BadLength),
-        (&[b"\xa7\x01\x00\x00\x00\x01\x55"], Fault::UnknownKind(0x55)),
-        (
-            &[HELLO_A, b"\xa7\x01\x00\x00\x00\x02\x04\x06"],
-            Fault::Malformed(4),
-        ),
-    ];
-    for (pieces, fault) in cases {
+    for (pieces, fault) in FAULTY {
         let wanted = [(Err(fault), 12, 0), (Err(fault), 34, 0)];
         same_at(&rt, &pieces, &endings_of(alloc, pieces)?, &wanted);
     }
-    for (control, kind) in [
-        (ASK, 0x10u8),
-        (ROWS, 0x11),
-        (PUT, 0x12),
-        (DONE, 0x13),
-        (REFUSED, 0x14),
-    ] {
+    for (control, kind) in CONTROLS {
         let fault = Err(Fault::UnknownKind(kind));
-        for greeting in [b"".as_slice(), HELLO_A] {
-            let [served, dialed] = endings_of(alloc, &[greeting, control])?;
-            same_at(&rt, &kind, &[served.0, dialed.0], &[fault, fault]);
-        }
+        same_at(&rt, &kind, &ended_by(alloc, &[control])?, &[fault; 2]);
+        same_at(
+            &rt,
+            &kind,
+            &ended_by(alloc, &[HELLO_A, control])?,
+            &[fault; 2],
+        );
     }
     Ok(())
 }
