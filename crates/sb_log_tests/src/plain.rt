@@ -180,7 +180,11 @@ fn a_plain_log_refuses(rt: HostRuntime) -> Result<(), Fail> {
     let removed = [NOTHING, Ok(1), Ok(2), NOTHING, NOTHING, Ok(3)];
     same(&rt, &answers_to_removals(rt.alloc())?, &(removed, (1, 3)));
     let spent = [Ok(1), Ok(2), SPENT, SPENT, NOTHING];
-    same(&rt, &answers_past_the_greatest(rt.alloc())?, &(spent, (1, 2)));
+    same(
+        &rt,
+        &answers_past_the_greatest(rt.alloc())?,
+        &(spent, (1, 2)),
+    );
     Ok(())
 }
 
