@@ -17,25 +17,17 @@ use std::test::Fail;
 /// Hello of a node a of the cluster c2.
 pub(crate) const HELLO_C2: &[u8] = b"\xa7\x01\x00\x00\x00\x06\x01\x02c2\x01a";
 
-const ASK: &[u8] = b"\xa7\x01\x00\x00\x00\x05\x10\x00\x00\x00\x00";
+/// An Ask, Rows, a Put, a Done and a Refused, which have no place in a session.
+pub(crate) const ASK: &[u8] = b"\xa7\x01\x00\x00\x00\x05\x10\x00\x00\x00\x00";
 
-const ROWS: &[u8] = b"\xa7\x01\x00\x00\x00\x04\x11\x00\x00\x00";
+pub(crate) const ROWS: &[u8] = b"\xa7\x01\x00\x00\x00\x04\x11\x00\x00\x00";
 
-const PUT: &[u8] = b"\xa7\x01\x00\x00\x00\x0c\x12\x01w\x02\
+pub(crate) const PUT: &[u8] = b"\xa7\x01\x00\x00\x00\x0c\x12\x01w\x02\
     \x00\x00\x00\x00\x00\x00\x00\x05";
 
-const DONE: &[u8] = b"\xa7\x01\x00\x00\x00\x09\x13\x00\x00\x00\x00\x00\x00\x00\x01";
+pub(crate) const DONE: &[u8] = b"\xa7\x01\x00\x00\x00\x09\x13\x00\x00\x00\x00\x00\x00\x00\x01";
 
-const REFUSED: &[u8] = b"\xa7\x01\x00\x00\x00\x02\x14\x01";
-
-/// An Ask, Rows, a Put, a Done and a Refused, which have no place in a session, each with its kind.
-pub(crate) const CONTROLS: [(&[u8], u8); 5] = [
-    (ASK, 0x10),
-    (ROWS, 0x11),
-    (PUT, 0x12),
-    (DONE, 0x13),
-    (REFUSED, 0x14),
-];
+pub(crate) const REFUSED: &[u8] = b"\xa7\x01\x00\x00\x00\x02\x14\x01";
 
 /// What a node holds, told and taken up without an order and a budget of deltas, in so many calls.
 #[derive(Drop)]
@@ -340,25 +332,29 @@ fn fault_of(alloc: Global, frames: &[&[u8]]) -> Result<Option<Fault>, Fault> {
     closing_fault(alloc, &mut session, &mut node, frames)
 }
 
-/// Messages of which the last has no place behind the others.
-const OUT_OF_PLACE: [(&[&[u8]], Fault); 8] = [
-    (&[DIGEST_A], Fault::NoHello),
-    (&[DELTA_B], Fault::NoHello),
-    (&[BYE], Fault::NoHello),
-    (&[HELLO_C2], Fault::WrongCluster),
-    (&[HELLO_B], Fault::SameName),
-    (&[HELLO_A, HELLO_A], Fault::SecondHello),
-    (&[HELLO_A, HELLO_C2], Fault::SecondHello),
-    (&[HELLO_A, HELLO_B], Fault::SecondHello),
-];
-
 #[test]
 fn messages_out_of_place_close(rt: HostRuntime) -> Result<(), Fail> {
     let alloc = rt.alloc();
-    for (frames, fault) in OUT_OF_PLACE {
+    let cases: [(&[&[u8]], Fault); 8] = [
+        (&[DIGEST_A], Fault::NoHello),
+        (&[DELTA_B], Fault::NoHello),
+        (&[BYE], Fault::NoHello),
+        (&[HELLO_C2], Fault::WrongCluster),
+        (&[HELLO_B], Fault::SameName),
+        (&[HELLO_A, HELLO_A], Fault::SecondHello),
+        (&[HELLO_A, HELLO_C2], Fault::SecondHello),
+        (&[HELLO_A, HELLO_B], Fault::SecondHello),
+    ];
+    for (frames, fault) in cases {
         same_at(&rt, &frames, &fault_of(alloc, frames)?, &Some(fault));
     }
-    for (control, kind) in CONTROLS {
+    for (control, kind) in [
+        (ASK, 0x10u8),
+        (ROWS, 0x11),
+        (PUT, 0x12),
+        (DONE, 0x13),
+        (REFUSED, 0x14),
+    ] {
         let fault = Some(Fault::UnknownKind(kind));
         same_at(&rt, &kind, &fault_of(alloc, &[control])?, &fault);
         same_at(&rt, &kind, &fault_of(alloc, &[HELLO_A, control])?, &fault);

@@ -1,7 +1,7 @@
 //! Whole sessions over readers and writers that break off, fail and give their bytes in pieces.
 ghost use Rattle.std.specs.Prelude.{◌≡◌, ◌<◌};
 
-use crate::session::{CONTROLS, HELLO_C2, Node, joined};
+use crate::session::{ASK, DONE, HELLO_C2, Node, PUT, REFUSED, ROWS, joined};
 use crate::wire::{
     BYE, DELTA_B, DELTA_NONE, DIGEST_A, DIGEST_B, HELLO_A, HELLO_B, Pieces, greatest_frame,
 };
@@ -431,47 +431,42 @@ fn endings_of(alloc: Global, pieces: &[&[u8]]) -> Result<[Ending; 2], Fault> {
     endings(alloc, b"b", &input, 7, b"a")
 }
 
-/// The same, without what was written and is held.
-fn ended_by(alloc: Global, pieces: &[&[u8]]) -> Result<[Result<Ended, Fault>; 2], Fault> {
-    let [served, dialed] = endings_of(alloc, pieces)?;
-    Ok([served.0, dialed.0])
-}
-
-/// What a peer says that ends a talk with a fault.
-const FAULTY: [(&[&[u8]], Fault); 12] = [
-    (&[DIGEST_A], Fault::NoHello),
-    (&[DELTA_B, DELTA_B, DELTA_B, HELLO_A], Fault::NoHello),
-    (&[BYE], Fault::NoHello),
-    (&[HELLO_C2], Fault::WrongCluster),
-    (&[HELLO_B], Fault::SameName),
-    (&[HELLO_A, HELLO_A], Fault::SecondHello),
-    (&[HELLO_A, HELLO_C2], Fault::SecondHello),
-    (&[b"\xa6"], Fault::BadMark),
-    (&[HELLO_A, b"\xa7\x09"], Fault::BadVersion),
-    (&[HELLO_A, b"\xa7\x01\x00\x00\x00\x00"], Fault::BadLength),
-    (&[b"\xa7\x01\x00\x00\x00\x01\x55"], Fault::UnknownKind(0x55)),
-    (
-        &[HELLO_A, b"\xa7\x01\x00\x00\x00\x02\x04\x06"],
-        Fault::Malformed(4),
-    ),
-];
-
 #[test]
 fn faulty_talks_end(rt: HostRuntime) -> Result<(), Fail> {
     let alloc = rt.alloc();
-    for (pieces, fault) in FAULTY {
+    let cases: [(&[&[u8]], Fault); 12] = [
+        (&[DIGEST_A], Fault::NoHello),
+        (&[DELTA_B, DELTA_B, DELTA_B, HELLO_A], Fault::NoHello),
+        (&[BYE], Fault::NoHello),
+        (&[HELLO_C2], Fault::WrongCluster),
+        (&[HELLO_B], Fault::SameName),
+        (&[HELLO_A, HELLO_A], Fault::SecondHello),
+        (&[HELLO_A, HELLO_C2], Fault::SecondHello),
+        (&[b"\xa6"], Fault::BadMark),
+        (&[HELLO_A, b"\xa7\x09"], Fault::BadVersion),
+        (&[HELLO_A, b"\xa7\x01\x00\x00\x00\x00"], Fault::BadLength),
+        (&[b"\xa7\x01\x00\x00\x00\x01\x55"], Fault::UnknownKind(0x55)),
+        (
+            &[HELLO_A, b"\xa7\x01\x00\x00\x00\x02\x04\x06"],
+            Fault::Malformed(4),
+        ),
+    ];
+    for (pieces, fault) in cases {
         let wanted = [(Err(fault), 12, 0), (Err(fault), 34, 0)];
         same_at(&rt, &pieces, &endings_of(alloc, pieces)?, &wanted);
     }
-    for (control, kind) in CONTROLS {
+    for (control, kind) in [
+        (ASK, 0x10u8),
+        (ROWS, 0x11),
+        (PUT, 0x12),
+        (DONE, 0x13),
+        (REFUSED, 0x14),
+    ] {
         let fault = Err(Fault::UnknownKind(kind));
-        same_at(&rt, &kind, &ended_by(alloc, &[control])?, &[fault; 2]);
-        same_at(
-            &rt,
-            &kind,
-            &ended_by(alloc, &[HELLO_A, control])?,
-            &[fault; 2],
-        );
+        for greeting in [b"".as_slice(), HELLO_A] {
+            let [served, dialed] = endings_of(alloc, &[greeting, control])?;
+            same_at(&rt, &kind, &[served.0, dialed.0], &[fault, fault]);
+        }
     }
     Ok(())
 }
