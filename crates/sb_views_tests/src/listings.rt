@@ -5,6 +5,7 @@ use sb_codec::Rows;
 use sb_listing::{changes, print_changes, print_json_rows};
 use sb_types::Fault;
 use std::alloc::Global;
+use std::process::Abort;
 use std::test::Fail;
 
 const A_V: Told = (b"a", b"v", 1, (b"addr", b"h:80"));
@@ -64,11 +65,18 @@ fn lines_between(alloc: Global, earlier: &[Told], later: &[Told]) -> Result<Vec<
     whole(printed, lines)
 }
 
+/// The lines of what changed are those of the case.
+fn lines_are_those(rt: &impl Abort, alloc: Global, case: &Case) -> Result<(), Fail> {
+    let (earlier, later, wanted) = case;
+    let lines = lines_between(alloc, earlier, later)?;
+    same(rt, &lines.as_slice(), wanted);
+    Ok(())
+}
+
 #[test]
 fn what_changed_is_printed(rt: HostRuntime) -> Result<(), Fail> {
-    for (earlier, later, wanted) in CASES.iter() {
-        let lines = lines_between(rt.alloc(), earlier, later)?;
-        same(&rt, &lines.as_slice(), wanted);
+    for case in CASES.iter() {
+        lines_are_those(&rt, rt.alloc(), case)?;
     }
     Ok(())
 }

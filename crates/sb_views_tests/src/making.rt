@@ -26,11 +26,16 @@ pub(crate) type Words = (&'static [u8], &'static [u8]);
 // An owner, a key, a version, and a value.
 pub(crate) type Told = (&'static [u8], &'static [u8], u64, Words);
 
+fn row_of(alloc: Global, told: Told) -> Result<Row, Fault> {
+    let (owner, key, version, (kind, word)) = told;
+    let (owner, key) = (Name::read(owner)?, Key::read(key)?);
+    Row::new(owner, key, version, Value::from_words(alloc, kind, word)?)
+}
+
 pub(crate) fn rows_of(alloc: Global, told: &[Told]) -> Result<Vec<Row>, Fault> {
     let mut rows = Vec::new(alloc);
-    for (owner, key, version, (kind, word)) in told {
-        let value = Value::from_words(alloc, kind, word)?;
-        rows.push(Row::new(Name::read(owner)?, Key::read(key)?, *version, value)?)?;
+    for one in told {
+        rows.push(row_of(alloc, *one)?)?;
     }
     Ok(rows)
 }

@@ -75,49 +75,48 @@ fn holdings_of_two(alloc: Global) -> Result<Holdings, Fault> {
     Ok(holdings)
 }
 
-// An owner, or all where none is named, a prefix of keys, and the place behind which it is asked.
-type Asked = (&'static [u8], &'static [u8], Place);
-
-// What is asked, a budget, which of the rows are told, and whether more follow.
-type Case = (Asked, u64, &'static [usize], bool);
-
-const ALL: Asked = (b"", b"", NOWHERE);
-
-const CASES: [Case; 25] = [
+// Behind a place, within a budget: which rows, and whether more follow.
+const BEHIND: [(Place, u64, &'static [usize], bool); 16] = [
     // All five make a frame of 399 bytes, four one of 285, three one of 267 and two one of 153.
-    (ALL, 65_536, &[0, 1, 2, 3, 4], false),
-    (ALL, 399, &[0, 1, 2, 3, 4], false),
-    (ALL, 398, &[0, 1, 2, 3], true),
-    (ALL, 285, &[0, 1, 2, 3], true),
-    (ALL, 284, &[0, 1, 2], true),
-    (ALL, 267, &[0, 1, 2], true),
-    (ALL, 266, &[0, 1], true),
-    (ALL, 256, &[0, 1], true),
+    (NOWHERE, 65_536, &[0, 1, 2, 3, 4], false),
+    (NOWHERE, 399, &[0, 1, 2, 3, 4], false),
+    (NOWHERE, 398, &[0, 1, 2, 3], true),
+    (NOWHERE, 285, &[0, 1, 2, 3], true),
+    (NOWHERE, 284, &[0, 1, 2], true),
+    (NOWHERE, 267, &[0, 1, 2], true),
+    (NOWHERE, 266, &[0, 1], true),
+    (NOWHERE, 256, &[0, 1], true),
     // In the middle of a. The last three rows make a frame of 256 bytes.
-    ((b"", b"", (b"a", b"net/a")), 281, &[1, 2, 3, 4], false),
-    ((b"", b"", (b"a", b"net/a")), 280, &[1, 2, 3], true),
-    ((b"", b"", (b"a", b"net/b")), 256, &[2, 3, 4], false),
+    ((b"a", b"net/a"), 281, &[1, 2, 3, 4], false),
+    ((b"a", b"net/a"), 280, &[1, 2, 3], true),
+    ((b"a", b"net/b"), 256, &[2, 3, 4], false),
     // At the last key of a, its removed key, an owner that is not there, and the end.
-    ((b"", b"", (b"a", b"w")), 256, &[3, 4], false),
-    ((b"", b"", (b"a", b"x")), 256, &[3, 4], false),
-    ((b"", b"", (b"aa", b"net/a")), 256, &[3, 4], false),
-    ((b"", b"", (b"b", b"y")), 256, &[], false),
-    ((b"", b"", (b"c", b"a")), 256, &[], false),
-    // Under net/, behind nothing, a key of it, a key before it and one behind it.
-    ((b"", b"net/", NOWHERE), 256, &[0, 1, 3], false),
-    ((b"", b"net/", (b"a", b"net/a")), 256, &[1, 3], false),
-    ((b"", b"net/", (b"a", b"k")), 256, &[0, 1, 3], false),
-    ((b"", b"net/", (b"a", b"w")), 256, &[3], false),
-    // Of one owner, behind places of its own and of others.
-    ((b"a", b"", (b"a", b"net/a")), 400, &[1, 2], false),
-    ((b"b", b"", (b"a", b"w")), 400, &[3, 4], false),
-    ((b"a", b"", (b"b", b"net/a")), 400, &[], false),
-    ((b"b", b"", (b"b", b"net/a")), 400, &[4], false),
-    ((b"c", b"", NOWHERE), 400, &[], false),
+    ((b"a", b"w"), 256, &[3, 4], false),
+    ((b"a", b"x"), 256, &[3, 4], false),
+    ((b"aa", b"net/a"), 256, &[3, 4], false),
+    ((b"b", b"y"), 256, &[], false),
+    ((b"c", b"a"), 256, &[], false),
 ];
 
-fn ask_of(asked: Asked) -> Result<Ask, Fault> {
-    let (owner, prefix, after) = asked;
+// Under net/, behind nothing, a key of it, a key before it and one behind it.
+const UNDER_NET: [(Place, &'static [usize]); 4] = [
+    (NOWHERE, &[0, 1, 3]),
+    ((b"a", b"net/a"), &[1, 3]),
+    ((b"a", b"k"), &[0, 1, 3]),
+    ((b"a", b"w"), &[3]),
+];
+
+// Of one owner, behind places of its own and of others.
+const OF_ONE: [(&'static [u8], Place, &'static [usize]); 5] = [
+    (b"a", (b"a", b"net/a"), &[1, 2]),
+    (b"b", (b"a", b"w"), &[3, 4]),
+    (b"a", (b"b", b"net/a"), &[]),
+    (b"b", (b"b", b"net/a"), &[4]),
+    (b"c", NOWHERE, &[]),
+];
+
+/// What is asked, of all owners where none is named.
+fn ask_of(owner: &[u8], prefix: &[u8], after: Place) -> Result<Ask, Fault> {
     let owner = match owner {
         b"" => None,
         name => Some(Name::read(name)?),
@@ -163,19 +162,60 @@ fn are_told(rows: &[Row], wanted: &[usize]) -> bool {
     rows.len() == wanted.len()
 }
 
+/// Of the page that is asked: whether more follow, how many rows it has, and whether these are they.
+fn told_of(
+    alloc: Global,
+    snapshot: &Snapshot<'_>,
+    ask: &Ask,
+    budget: u64,
+    wanted: &[usize],
+) -> Result<(bool, usize, bool), Fault> {
+    let page = page_of(alloc, snapshot, ask, budget)?;
+    let rows = page.rows();
+    Ok((page.more(), rows.len(), are_told(rows, wanted)))
+}
+
+fn pages_behind<R: Abort>(rt: &R, alloc: Global, snapshot: &Snapshot<'_>) -> Result<(), Fail> {
+    for (number, (after, budget, rows, more)) in BEHIND.iter().enumerate() {
+        let ask = ask_of(b"", b"", *after)?;
+        let told = told_of(alloc, snapshot, &ask, *budget, rows)?;
+        same_at(rt, &("behind", number), &told, &(*more, rows.len(), true));
+    }
+    Ok(())
+}
+
+fn pages_under_net<R: Abort>(rt: &R, alloc: Global, snapshot: &Snapshot<'_>) -> Result<(), Fail> {
+    for (number, (after, rows)) in UNDER_NET.iter().enumerate() {
+        let ask = ask_of(b"", b"net/", *after)?;
+        let told = told_of(alloc, snapshot, &ask, 256, rows)?;
+        same_at(
+            rt,
+            &("under net/", number),
+            &told,
+            &(false, rows.len(), true),
+        );
+    }
+    Ok(())
+}
+
+fn pages_of_one<R: Abort>(rt: &R, alloc: Global, snapshot: &Snapshot<'_>) -> Result<(), Fail> {
+    for (number, (owner, after, rows)) in OF_ONE.iter().enumerate() {
+        let ask = ask_of(owner, b"", *after)?;
+        let told = told_of(alloc, snapshot, &ask, 400, rows)?;
+        same_at(rt, &("of one", number), &told, &(false, rows.len(), true));
+    }
+    Ok(())
+}
+
 /// Each page that is asked has its rows.
 pub(crate) fn rows_are_told<R: Abort>(
     rt: &R,
     alloc: Global,
     snapshot: &Snapshot<'_>,
 ) -> Result<(), Fail> {
-    for (number, (asked, budget, rows, more)) in CASES.iter().enumerate() {
-        let page = page_of(alloc, snapshot, &ask_of(*asked)?, *budget)?;
-        let are_right = are_told(page.rows(), rows);
-        let told = (page.more(), page.rows().len(), are_right);
-        same_at(rt, &number, &told, &(*more, rows.len(), true));
-    }
-    Ok(())
+    pages_behind(rt, alloc, snapshot)?;
+    pages_under_net(rt, alloc, snapshot)?;
+    pages_of_one(rt, alloc, snapshot)
 }
 
 /// A flag under each of 300 keys of three letters.

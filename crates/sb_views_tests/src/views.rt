@@ -259,8 +259,7 @@ fn publish_one<S: Site, R: Wait + Abort>(
     let (story, start) = opened.named::<S>();
     let (mut writer, mut readers) = views::<S, &R>(alloc, rt, start.again(), holdings, 2)?;
     append_own(alloc, &story, start, &mut writer, holdings, entry)?;
-    let reader = readers.pop().ok_or("a reader")?;
-    look_around(&mut writer, reader, holdings.me(), &key)
+    look_around(&mut writer, &mut readers, holdings.me(), &key)
 }
 
 /// Appends the first event of a story, an own write.
@@ -289,13 +288,14 @@ fn append_own<S: Site, R: Wait + Drop>(
     }
 }
 
-/// What a reader sees before all is published, and then.
+/// What one of the readers sees before all is published, and then.
 fn look_around<S: Site, R: Wait + Drop>(
     writer: &mut ViewWriter<S, R>,
-    reader: Reader<S>,
+    readers: &mut Vec<Reader<S>>,
     owner: &Name,
     key: &Key,
 ) -> Result<[Seen; 2], Fail> {
+    let reader = readers.pop().ok_or("a reader")?;
     let (reader, before) = look_once(reader, owner, key)?;
     writer.publish()?;
     let (_reader, after) = look_once(reader, owner, key)?;

@@ -15,18 +15,6 @@ fn note(owner: &[u8], key: &[u8], version: u64) -> Result<Note, Fault> {
     })
 }
 
-fn filter(owner: &[u8], prefix: &[u8]) -> Result<Filter, Fault> {
-    let owner = if owner.is_empty() {
-        None
-    } else {
-        Some(Name::read(owner)?)
-    };
-    Ok(Filter {
-        owner,
-        prefix: Prefix::read(prefix)?,
-    })
-}
-
 // Adds a watch for all notes.
 fn watch_all(hub: &mut Hub, capacity: usize) -> Result<WatchId, Fault> {
     let prefix = Prefix::read(b"")?;
@@ -151,14 +139,30 @@ fn answers_are(rt: &impl Abort, hub: &mut Hub, id: WatchId, case: &Case, notes: 
     same(rt, &[hub.take(id), hub.take(id)], &[Ok(Polled::Empty); 2]);
 }
 
+fn watch_case(hub: &mut Hub, case: &Case) -> Result<WatchId, Fault> {
+    let owner = if case.owner.is_empty() {
+        None
+    } else {
+        Some(Name::read(case.owner)?)
+    };
+    let prefix = Prefix::read(case.prefix)?;
+    hub.add(Filter { owner, prefix }, case.capacity)
+}
+
+/// Adds a watch for each case.
+fn watch_cases(alloc: Global, hub: &mut Hub) -> Result<Vec<WatchId>, Fail> {
+    let mut ids = Vec::with_capacity(alloc, CASES.len())?;
+    for case in CASES.iter() {
+        ids.push(watch_case(hub, case)?)?;
+    }
+    Ok(ids)
+}
+
 #[test]
 fn watches_keep_the_last_notes(rt: HostRuntime) -> Result<(), Fail> {
     let notes = read_notes(rt.alloc())?;
     let mut hub = Hub::new(rt.alloc());
-    let mut ids = Vec::with_capacity(rt.alloc(), CASES.len())?;
-    for case in CASES.iter() {
-        ids.push(hub.add(filter(case.owner, case.prefix)?, case.capacity)?)?;
-    }
+    let ids = watch_cases(rt.alloc(), &mut hub)?;
     for note in notes.iter() {
         hub.push(note);
     }
