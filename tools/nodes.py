@@ -140,6 +140,14 @@ def run(program, *words, seconds=SECONDS):
     return ran.returncode, ran.stdout, ran.stderr
 
 
+def first_line(stream):
+    """The first line of a stream, byte by byte: what a longer read takes beside it would not be communicated any more."""
+    line = b""
+    while not line.endswith(b"\n") and (byte := os.read(stream.fileno(), 1)):
+        line += byte
+    return line.decode(errors="replace")
+
+
 class Node:
     """A node of the cluster c in a folder, which can be started again and again."""
 
@@ -160,11 +168,9 @@ class Node:
         for path in (self.sock, self.control):
             path.unlink(missing_ok=True)
         self.ran = subprocess.Popen(self.words(), **self.how)
-        self.first = self.ran.stderr.readline()
+        self.first = first_line(self.ran.stderr)
         if "listens" not in self.first:
-            # (what came with the first line is not communicated any more)
-            rest = self.ran.stderr.read()
-            self.ran.communicate()
+            _, rest = self.ran.communicate()
             raise Difference(f"node {self.name} did not start: {self.first}{rest}")
         return self
 
