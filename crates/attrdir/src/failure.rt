@@ -4,7 +4,7 @@ use std::alloc::AllocError;
 use std::fmt;
 
 /// A setting of a node.
-#[derive(Clone, Copy, Debug)]
+#[derive(Clone, Copy)]
 pub(crate) enum Setting {
     Cluster,
     Budget,
@@ -38,7 +38,7 @@ impl Setting {
 }
 
 /// Where a fault was met.
-#[derive(Clone, Copy, Debug)]
+#[derive(Clone, Copy)]
 pub(crate) enum Place<'a> {
     /// In what the command line gives, or at standard input or output.
     Line,
@@ -71,7 +71,7 @@ pub(crate) enum Place<'a> {
 }
 
 /// A fault that ended a command.
-#[derive(Clone, Copy, Debug)]
+#[derive(Clone, Copy)]
 pub(crate) struct Failure<'a> {
     fault: Fault,
     place: Place<'a>,
