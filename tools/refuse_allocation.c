@@ -61,6 +61,15 @@ __attribute__((destructor)) static void end(void) {
   if (wanted == 0) dprintf(STDERR_FILENO, "allocations: %ld\n", count);
 }
 
+// A program with threads ends so.
+void _exit(int status) {
+  static void (*real)(int);
+  *(void **)&real = dlsym(RTLD_NEXT, "_exit");
+  end();
+  real(status);
+  abort();
+}
+
 static int is_refused(void) {
   static const char line[] = "allocation refused\n";
   long number = __atomic_add_fetch(&count, 1, __ATOMIC_RELAXED);
