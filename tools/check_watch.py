@@ -127,6 +127,7 @@ def wrong_watches(check):
         ([*there, "--every", "+5"], 2, None),
         ([*there, "--every="], 2, None),
         ([*there, "--count", "1e3"], 2, None),
+        ([*there, "--count", "+1"], 2, None),
         ([*there, "--count", "18446744073709551616"], 2, None),
         ([*there, "--count", "-1"], 2, None),
         ([*nowhere, "--owner", "O", "--prefix", "P"], 3, 2),

@@ -1,10 +1,12 @@
 """What the tools that run real nodes share: frames of both sockets, made and read by hand as docs/FORMATS.md has them, and nodes of the program
 as processes, each with its log and its sockets in a folder."""
+import fcntl
 import os
 import socket
 import subprocess
 import sys
 import tempfile
+import termios
 import time
 from pathlib import Path
 
@@ -63,8 +65,8 @@ def put(key, slot):
     return frame(0x12, text(key) + slot)
 
 
-def ask(owner="", prefix=""):
-    return frame(0x10, text(owner) + text(prefix) + text("") + text(""))
+def ask(owner="", prefix="", after_owner="", after_key=""):
+    return frame(0x10, text(owner) + text(prefix) + text(after_owner) + text(after_key))
 
 
 def page(rows, more=0):
@@ -122,6 +124,17 @@ def throw(path, content):
     except OSError:
         pass
     return is_there
+
+
+def send_in_pieces(stream, content, size):
+    """Sends bytes in pieces of this size, each once the one before was read; all at once where one piece is all."""
+    for at in range(0, len(content), size):
+        stream.sendall(content[at : at + size])
+        end = time.monotonic() + SECONDS
+        while size < len(content) and fcntl.ioctl(stream, termios.TIOCOUTQ, bytes(4)) != bytes(4):
+            if time.monotonic() > end:
+                raise Difference(f"a piece was not read for {SECONDS} s")
+            time.sleep(0)
 
 
 def version_of(answer):

@@ -1,0 +1,188 @@
+"""A part of tools/check-node: what the options and the words of `attrdir serve` do, by docs/OPERATING.md. Frames that are made by hand tell of each
+what it changes."""
+import socket
+import threading
+import time
+
+from nodes import BYE, Difference, ask, connect, delta, digest, exchange, hello, read_frame, run, send_in_pieces, want, weight
+
+# the most bytes of the path of a socket
+PATH_MOST = 107
+# whole frames but for what stands in them: Rows, and a Delta with one block of the owner p
+ROWS_HEAD, DELTA_HEAD = 10, 9 + 11 + 1
+# an entry and a row of a weight of the owner p under a key of five bytes
+ENTRY_BYTES, ROW_BYTES = 10 + 5 + 8, 11 + 1 + 5 + 8
+
+
+def faults(words, ran, fault, about):
+    """A node did not start, for this fault, and names this."""
+    status, printed, said = ran
+    lines = said.splitlines()
+    want(f"the end of {words} ({said!r})", (status, printed, lines[:1], len(lines)), (3, "", [f"fault {fault}"], 3))
+    if about not in lines[2]:
+        raise Difference(f"{words} says {lines[2]!r}, without {about!r}")
+
+
+def give(node, name, count, after=0):
+    """A session, as the peer of this name, that brings the node so many weights behind a version."""
+    with connect(node.sock) as stream:
+        entries = [(f"k{at:04}", at, weight(at)) for at in range(after + 1, after + count + 1)]
+        stream.sendall(hello(name) + delta(name, after, entries) + BYE)
+        while read_frame(stream):
+            pass
+
+
+def messages_of(stream):
+    found = []
+    while (message := read_frame(stream)) is not None:
+        found.append(message)
+    return found
+
+
+def delta_for(node, pairs=()):
+    """The body of the Delta that a node sends to one that holds so much."""
+    with connect(node.sock) as stream:
+        stream.sendall(hello("zz") + digest(0, pairs) + BYE)
+        return next(body for kind, body in messages_of(stream) if kind == 3)
+
+
+# ---- the parts
+
+
+def orders(check):
+    """By breadth a frame takes of each owner one, which is so where no order is given; by depth all of the owner with the most."""
+    for options, owners in ((), [b"\x01a", b"\x01p"]), (("--order", "breadth"), [b"\x01a", b"\x01p"]), (("--order", "depth"), [b"\x01p"]):
+        node = check.node("a", "--budget", "256", *options).start()
+        want("a write", node.put("k", 5), 1)
+        give(node, "p", 50)
+        body = delta_for(node)
+        found = [int.from_bytes(body[:2], "big"), body[2:4]]
+        want(f"the blocks by {options}", found, [len(owners), owners[0]])
+        node.kill()
+
+
+def budgets(check):
+    """No frame is longer than the budget, and none leaves room for what it could hold."""
+    for options, budget in ((), 65536), (("--budget", "256"), 256), (("--budget", "1000"), 1000):
+        node = check.node("a", *options).start()
+        give(node, "p", 2000)
+        give(node, "p", 2000, after=2000)
+        body = exchange(node.control, ask())[1]
+        want(f"more, and the rows of a page by {options}", (body[0], int.from_bytes(body[1:3], "big")), (1, (budget - ROWS_HEAD) // ROW_BYTES))
+        body = delta_for(node)
+        # (count of blocks, name, after, count of entries)
+        count = int.from_bytes(body[12:14], "big")
+        want(f"the entries of a delta by {options}", count, (budget - DELTA_HEAD) // ENTRY_BYTES)
+        node.kill()
+
+
+def versions(check):
+    """A node gives versions up to --max-version, and no more when it starts again."""
+    node = check.node("a", "--max-version", "2").start()
+    want("the versions", [node.put("k", 5), node.put("l", 6)], [1, 2])
+    for words in (["set", "k", "weight", "7"], ["del", "k"]):
+        faults(words, node.command(*words), 8, str(node.control))
+    node.kill()
+    node.start()
+    faults(["set"], node.command("set", "m", "weight", "7"), 8, str(node.control))
+    want("the rows", node.get(), ["a k 1 weight 5", "a l 2 weight 6"])
+
+
+def lengthy(folder, count):
+    """A path in a folder, of so many bytes."""
+    return folder / ("x" * (count - len(str(folder)) - 1))
+
+
+def paths(check):
+    """Paths of sockets, those of peers too, have 1 to 107 bytes. One of more is named, that of a peer before the log is opened."""
+    for place in ("sock", "control"):
+        folder = check.folder()
+        node = check.node("a", folder=folder, peers=[lengthy(folder / "none", PATH_MOST)])
+        setattr(node, place, lengthy(folder, PATH_MOST))
+        node.start().kill()
+        for path in (node.sock, node.control):
+            path.unlink()
+        setattr(node, place, lengthy(folder, PATH_MOST + 1))
+        faults([place], run(*map(str, node.words())), 16, f" {lengthy(folder, PATH_MOST + 1)}: ")
+    node = check.node("b", folder=folder)
+    node.log = folder / "none.log"
+    for path in (str(lengthy(folder, PATH_MOST + 1)), ""):
+        node.peers = [folder / "b.sock", path]
+        faults([path], run(*map(str, node.words())), 16, f"peer {path}: ")
+    node.peers = []
+    faults(["log"], run(*map(str, node.words())), 18, str(node.log))
+
+
+class Peer:
+    """A socket that enters its number in a list for each connection, and ends that."""
+
+    def __init__(self, path, number, list_of):
+        self.door = socket.socket(socket.AF_UNIX, socket.SOCK_STREAM)
+        self.door.bind(str(path))
+        self.door.listen(8)
+        self.number, self.list_of = number, list_of
+        threading.Thread(target=self.serve, daemon=True).start()
+
+    def serve(self):
+        while True:
+            stream, _ = self.door.accept()
+            self.list_of.append(self.number)
+            stream.close()
+
+
+def turns(check):
+    """Each peer is dialed in its turn, one a round; those that are not there are named when the node starts, and no others."""
+    folder, dialed = check.folder(), []
+    there = [folder / f"peer{at}" for at in range(3)]
+    for at, path in enumerate(there):
+        Peer(path, at, dialed)
+    node = check.node("a", "--rounds", "7", "--pause", "0", folder=folder, peers=there).start()
+    status, printed, said = node.ended()
+    want("the end", (status, printed.split()[:2], len(said)), (0, ["rounds", "7"], 2))
+    want("the peers that were dialed", dialed, [0, 1, 2, 0, 1, 2, 0])
+    nobody = [folder / "nobody", folder / "no-folder/nobody"]
+    node.peers = [nobody[0], there[1], nobody[1]]
+    status, printed, said = node.start().ended()
+    want("the first line", [said[0].find(str(it)) > 0 for it in (node.sock, node.control)], [True, True])
+    if not said[0].index(str(node.sock)) < said[0].index("set") < said[0].index(str(node.control)):
+        raise Difference(f"which socket is for whom: {said[0]}")
+    want("the peers that are not there", [[str(path) in line for path in node.peers] for line in said[1:3]], [[True, False, False], [False, False, True]])
+    want("the lines, and the name in each", (len(said), [it.split(":")[0] for it in said]), (4, ["attrdir"] * 4))
+
+
+def paces(check):
+    """A node waits as long as --pause says after a round, and takes as many reads of a connection as --max-reads says."""
+    began = time.monotonic()
+    node = check.node("a", "--rounds", "3", "--pause", "300").start()
+    want("an end", node.ended()[:2], (0, "rounds 3 faults 0 events 0\n"))
+    if not 0.6 <= time.monotonic() - began <= 10:
+        raise Difference(f"three rounds took {time.monotonic() - began:.2f} s")
+
+
+def reads(check):
+    """A connection may take as many reads as --max-reads says, without limit where it is not given; --idle 0 lets a peer be silent."""
+    asked = hello("zz") + digest(0) + BYE
+    for options, is_answered in ((("--max-reads", "5"), False), (("--max-reads", "1000", "--idle", "0"), True), ((), True)):
+        node = check.node("a", *options).start()
+        with connect(node.sock) as stream:
+            time.sleep(0.3)
+            want(f"whether byte by byte is answered by {options}", 3 in slowly(stream, asked), is_answered)
+        node.kill()
+
+
+def slowly(stream, content):
+    """Sends bytes one by one, and gives the kinds of what comes."""
+    try:
+        send_in_pieces(stream, content, 1)
+        return [kind for kind, _ in messages_of(stream)]
+    except OSError:
+        return []
+
+
+def workers(check):
+    """The most workers, with seats of their own, and the least seats."""
+    for options in (("--workers", "62"), ("--workers", "62", "--seats", "64"), ("--workers", "1", "--seats", "3")):
+        check.node("a", *options).start().kill()
+
+
+PARTS = (orders, budgets, versions, paths, turns, paces, reads, workers)
