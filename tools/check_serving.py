@@ -151,7 +151,7 @@ def turns(check):
 
 
 def paces(check):
-    """A node waits as long as --pause says after a round, and takes as many reads of a connection as --max-reads says."""
+    """A node waits as long as --pause says after a round."""
     began = time.monotonic()
     node = check.node("a", "--rounds", "3", "--pause", "300").start()
     want("an end", node.ended()[:2], (0, "rounds 3 faults 0 events 0\n"))
