@@ -95,6 +95,14 @@ fn refusal<'a>(control: &'a str, answer: &Message) -> Failure<'a> {
     }
 }
 
+/// The version that a node answered.
+fn version_of<'a>(control: &'a str, answer: &Message) -> Result<u64, Failure<'a>> {
+    match answer {
+        Message::Done(done) => Ok(done.version()),
+        other => Err(refusal(control, other)),
+    }
+}
+
 /// Has a node write, and answers the version of the write.
 pub(crate) fn put<'a>(
     rt: &HostRuntime,
@@ -103,10 +111,8 @@ pub(crate) fn put<'a>(
     slot: Slot,
 ) -> Result<u64, Failure<'a>> {
     let request = Message::Put(Write { key, slot });
-    match answer_of(rt, control, &request)? {
-        Message::Done(done) => Ok(done.version()),
-        other => Err(refusal(control, &other)),
-    }
+    let answer = answer_of(rt, control, &request)?;
+    version_of(control, &answer)
 }
 
 /// Whether a page goes on: each of its rows lies behind the place that was asked for, and where more follow it has one.
@@ -134,18 +140,22 @@ fn going_on<'a>(
     Err(Failure::at(Place::Control(control), Fault::Malformed(KIND_ROWS)))
 }
 
+/// The page that a node answered.
+fn rows_in<'a>(control: &'a str, answer: Message) -> Result<Rows, Failure<'a>> {
+    match answer {
+        Message::Rows(page) => Ok(page),
+        other => Err(refusal(control, &other)),
+    }
+}
+
 /// One page of a node's rows.
 pub(crate) fn page_of<'a>(
     rt: &HostRuntime,
     control: &'a str,
     ask: Ask,
 ) -> Result<Rows, Failure<'a>> {
-    let after = ask.after;
-    let request = Message::Ask(ask);
-    match answer_of(rt, control, &request)? {
-        Message::Rows(page) => going_on(control, page, after),
-        other => Err(refusal(control, &other)),
-    }
+    let answer = answer_of(rt, control, &Message::Ask(ask))?;
+    going_on(control, rows_in(control, answer)?, ask.after)
 }
 
 /// The place of the last row of a page, where more follow.
@@ -158,7 +168,7 @@ pub(crate) fn place_behind(page: &Rows) -> Option<(Name, Key)> {
 }
 
 /// The form in which rows are printed.
-#[derive(Clone, Copy, Debug)]
+#[derive(Clone, Copy)]
 pub(crate) enum Form {
     /// The words of a row.
     Text,
@@ -175,6 +185,18 @@ fn print_page(rt: &HostRuntime, page: &Rows, form: Form) -> Result<(), Fault> {
     printed
 }
 
+/// Prints one page, and answers the place of its last row, where more follow.
+fn print_next<'a>(
+    rt: &HostRuntime,
+    control: &'a str,
+    ask: Ask,
+    form: Form,
+) -> Result<Option<(Name, Key)>, Failure<'a>> {
+    let page = page_of(rt, control, ask)?;
+    print_page(rt, &page, form)?;
+    Ok(place_behind(&page))
+}
+
 /// Prints the rows that a node has, page after page: those that are asked for, from their first on.
 pub(crate) fn print_all<'a>(
     rt: &HostRuntime,
@@ -184,9 +206,7 @@ pub(crate) fn print_all<'a>(
 ) -> Result<(), Failure<'a>> {
     let mut ask = asked;
     for _ in 0..u64::MAX {
-        let page = page_of(rt, control, ask)?;
-        print_page(rt, &page, form)?;
-        ask.after = place_behind(&page);
+        ask.after = print_next(rt, control, ask, form)?;
         if ask.after.is_none() {
             return Ok(());
         }

@@ -11,7 +11,7 @@ use clap::error::ErrorKind;
 use sb_codec::Ask;
 use sb_run::Pace;
 use sb_script::{Detail, Output, sim_run_uncounted};
-use sb_types::{Fault, Key, Order, RawSettings, Slot};
+use sb_types::{Fault, Key, Name, Order, RawSettings, Slot};
 use std::{env, io};
 
 /// How many reads a script may take.
@@ -39,7 +39,7 @@ const NUMBERS: [&str; 8] = [
 const WATCH_NUMBERS: [&str; 2] = ["every", "count"];
 
 /// What is left to do behind the command line.
-#[derive(Debug, Drop)]
+#[derive(Drop)]
 pub(crate) enum Next<'a> {
     /// Nothing: the exit status.
     Ended(u8),
@@ -160,12 +160,17 @@ fn run_del<'a>(rt: &HostRuntime, given: &ArgMatches<'a>) -> Result<u8, Failure<'
     write(rt, value(given, "control"), key, Slot::Removed)
 }
 
+/// The owner that is asked for, where one is. `BadName`.
+fn owner_of<'a>(given: &ArgMatches<'a>) -> Result<Option<Name>, Failure<'a>> {
+    match given.get_str("owner") {
+        Some(name) => Ok(Some(name_of("--owner", name)?)),
+        None => Ok(None),
+    }
+}
+
 /// The rows that are asked for. `BadName` of the owner; then `BadKey` of the prefix.
 fn asked_of<'a>(given: &ArgMatches<'a>) -> Result<Ask, Failure<'a>> {
-    let owner = match given.get_str("owner") {
-        Some(name) => Some(name_of("--owner", name)?),
-        None => None,
-    };
+    let owner = owner_of(given)?;
     let prefix = prefix_of(value(given, "prefix"))?;
     Ok(Ask {
         owner,
@@ -203,19 +208,34 @@ fn run_log<'a>(rt: &HostRuntime, given: &ArgMatches<'a>) -> Result<u8, Failure<'
     Ok(0)
 }
 
+fn run_sim<'a>(rt: &HostRuntime, given: &ArgMatches<'a>) -> Result<u8, Failure<'a>> {
+    Ok(play(rt, detail_of(given))?)
+}
+
+/// Does what a command says, but for running a node, and answers the exit status.
+fn status_of<'a>(
+    rt: &HostRuntime,
+    command: &str,
+    given: &ArgMatches<'a>,
+) -> Result<u8, Failure<'a>> {
+    match command {
+        "set" => run_set(rt, given),
+        "del" => run_del(rt, given),
+        "get" => run_get(rt, given),
+        "watch" => run_watch(rt, given),
+        "log" => run_log(rt, given),
+        "sim" => run_sim(rt, given),
+        _ => Ok(USAGE_STATUS),
+    }
+}
+
 /// Does what a command line says that is one, but for running a node.
 fn carry_out<'a>(rt: &HostRuntime, matches: &ArgMatches<'a>) -> Result<Next<'a>, Failure<'a>> {
-    let status = match matches.subcommand() {
-        Some(("serve", given)) => return node_of(rt, given),
-        Some(("set", given)) => run_set(rt, given)?,
-        Some(("del", given)) => run_del(rt, given)?,
-        Some(("get", given)) => run_get(rt, given)?,
-        Some(("watch", given)) => run_watch(rt, given)?,
-        Some(("log", given)) => run_log(rt, given)?,
-        Some(("sim", given)) => play(rt, detail_of(given))?,
-        _ => USAGE_STATUS,
-    };
-    Ok(Next::Ended(status))
+    match matches.subcommand() {
+        Some(("serve", given)) => node_of(rt, given),
+        Some((command, given)) => Ok(Next::Ended(status_of(rt, command, given)?)),
+        None => Ok(Next::Ended(USAGE_STATUS)),
+    }
 }
 
 /// Prints the help that was asked for, or why the words are no command line, and answers the exit status.

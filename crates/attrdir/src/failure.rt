@@ -4,7 +4,7 @@ use std::alloc::AllocError;
 use std::fmt;
 
 /// A setting of a node.
-#[derive(Clone, Copy, Debug)]
+#[derive(Clone, Copy)]
 pub(crate) enum Setting {
     Cluster,
     Budget,
@@ -38,7 +38,7 @@ impl Setting {
 }
 
 /// Where a fault was met.
-#[derive(Clone, Copy, Debug)]
+#[derive(Clone, Copy)]
 pub(crate) enum Place<'a> {
     /// In what the command line gives, or at standard input or output.
     Line,
@@ -71,7 +71,7 @@ pub(crate) enum Place<'a> {
 }
 
 /// A fault that ended a command.
-#[derive(Clone, Copy, Debug)]
+#[derive(Clone, Copy)]
 pub(crate) struct Failure<'a> {
     fault: Fault,
     place: Place<'a>,
@@ -151,7 +151,9 @@ fn write_text<W: fmt::Write>(
             Fault::ReadFailed,
             Place::Taken(_) | Place::TooLong(_) | Place::NoFolder(_) | Place::Sockets(..),
         ) => f.write_str("a socket could not be made"),
-        (Fault::StoreFailed, Place::NoLog(_)) => f.write_str("there is no such log"),
+        (Fault::StoreFailed, Place::NoLog(_)) => f.write_str(
+            "there is no such log, or you may not read it",
+        ),
         (Fault::LogDamaged, _) => f.write_str(
             "the file is no log that this release reads, or a damaged one",
         ),
@@ -177,8 +179,8 @@ fn write_told<W: fmt::Write>(fault: &Fault, f: &mut fmt::Formatter<W>) -> fmt::R
 fn about_reading(place: Place<'_>) -> &'static str {
     match place {
         Place::Unreached(_) => {
-            "no node answers at this path: start one there with --control, give its path, of at most 107 bytes, or ask for leave to \
-open the socket"
+            "no node answers at this path, or you may not open it: see that a node runs with this --control, that the path is right and has \
+1 to 107 bytes, and that you may write to the socket"
         }
         Place::Control(_) | Place::Node(_) => {
             "the node fell silent, or ended: see whether it runs; where this was a write, it was made or may yet be: ask for it with get \
@@ -192,7 +194,7 @@ once the node answers"
         }
         Place::NoFolder(_) => "the folder of this path is not there: make it, or give another path",
         Place::Sockets(..) =>
-            "see that these are two paths, of 1 to 107 bytes each, and that you may write to the folder of each",
+            "see that these are two paths, of 1 to 107 bytes each, that you may write to the folder of each, and that the process may open more files (ulimit -n)",
         _ => "see where standard input comes from",
     }
 }
@@ -207,8 +209,8 @@ fn about_store(place: Place<'_>) -> &'static str {
         }
         _ => {
             "another process may have the log open, as a node that runs; else see that it is a file that you may read and write, that \
-it has one name, that no -journal file lies beside it, that you may write to its folder, where a file of its name with -wal is made, and \
-that its disk has room"
+it has one name, that no -journal file lies beside it, that you may write to its folder, where a file of its name with -wal is made, that \
+its disk has room, and that the process may open more files (ulimit -n)"
         }
     }
 }
@@ -237,7 +239,8 @@ fn about_exchange(fault: &Fault, place: Place<'_>) -> &'static str {
         Fault::WriteFailed(_) => match place {
             Place::Control(_) =>
                 "the node ended the connection: see whether it runs, and try again",
-            _ => "see where standard output goes; what was asked for before stands",
+            _ =>
+                "see where standard output goes; what was printed before stands, and so does a write that was asked for",
         },
         Fault::Truncated => {
             "the node ended before it answered: see whether it runs; where this was a write, it may have been made: ask for it with get"

@@ -18,7 +18,7 @@ use std::time::Clock;
 const SOCKET_PATH_MOST: usize = 107;
 
 /// What the command line says of a node.
-#[derive(Debug, Drop)]
+#[derive(Drop)]
 pub(crate) struct Given<'a> {
     pub(crate) name: &'a str,
     pub(crate) log: &'a str,

@@ -3,12 +3,12 @@ use crate::asking::{page_of, place_behind};
 use crate::failure::{Failure, Place};
 use sb_codec::{Ask, Row, Rows};
 use sb_listing::{changes, print_changes};
-use sb_types::Fault;
+use sb_types::{Fault, Key, Name};
 use std::thread;
 use std::time::Duration;
 
 /// What is watched, and how often.
-#[derive(Clone, Copy, Debug)]
+#[derive(Clone, Copy)]
 pub(crate) struct Watched {
     pub(crate) asked: Ask,
     /// How many milliseconds it waits before it asks again.
@@ -26,14 +26,24 @@ fn add_rows(rt: &HostRuntime, rows: &mut Vec<Row>, page: &Rows) -> Result<(), Fa
     Ok(())
 }
 
+/// Adds the rows of one page, and answers the place of its last row, where more follow.
+fn add_next<'a>(
+    rt: &HostRuntime,
+    control: &'a str,
+    ask: Ask,
+    rows: &mut Vec<Row>,
+) -> Result<Option<(Name, Key)>, Failure<'a>> {
+    let page = page_of(rt, control, ask)?;
+    add_rows(rt, rows, &page)?;
+    Ok(place_behind(&page))
+}
+
 /// All rows that are asked for, page after page.
 fn listing<'a>(rt: &HostRuntime, control: &'a str, asked: &Ask) -> Result<Vec<Row>, Failure<'a>> {
     let mut rows = Vec::new(rt.alloc());
     let mut ask = *asked;
     for _ in 0..u64::MAX {
-        let page = page_of(rt, control, ask)?;
-        add_rows(rt, &mut rows, &page)?;
-        ask.after = place_behind(&page);
+        ask.after = add_next(rt, control, ask, &mut rows)?;
         if ask.after.is_none() {
             return Ok(rows);
         }

@@ -7,7 +7,7 @@ use crate::{same, same_at};
 use sb_codec::Message;
 use sb_digest::{Digest, build};
 use sb_frames::{Frames, frame_of};
-use sb_holdings::{Holdings, Report};
+use sb_holdings::{BlockEnd, Holdings, Report};
 use sb_session::{Handler, Replies, Session};
 use sb_table::Table;
 use sb_types::{BUDGET_LEAST, Block, Delta, Entry, Fault, Key, Name, Slot, Value};
@@ -279,10 +279,20 @@ fn a_session_takes_what_comes(rt: HostRuntime) -> Result<(), Fail> {
     Ok(())
 }
 
+/// How many blocks these are, unless one finds no memory.
+fn settled(report: &Report) -> Result<usize, Fault> {
+    for end in report.ends() {
+        if matches!(end, BlockEnd::NoMemory(_)) {
+            return Err(Fault::NoMemory);
+        }
+    }
+    Ok(report.len())
+}
+
 /// How many blocks of the delta of b the session applies, where it does.
 fn applied(alloc: Global, session: &mut Session, node: &mut Node) -> Result<Option<usize>, Fault> {
     match take(alloc, session, node, DELTA_B)? {
-        Replies::Applied(report) => Ok(Some(report.len())),
+        Replies::Applied(report) => Ok(Some(settled(&report)?)),
         _ => Ok(None),
     }
 }

@@ -257,6 +257,14 @@ fn within(pieces: &[&[u8]], place: usize) -> usize {
     left
 }
 
+/// What came of a talk, unless memory ran out in it.
+fn settled(outcome: Outcome) -> Result<Outcome, Fault> {
+    match outcome.0 {
+        Err(Fault::NoMemory) => Err(Fault::NoMemory),
+        _ => Ok(outcome),
+    }
+}
+
 /// The first place at which a writer fails and it is not told so, with how much of its frame is out.
 fn wrong_room(alloc: Global, course: &Course<'_>) -> Result<Option<usize>, Fault> {
     let input = joined(alloc, &course.heard)?;
@@ -266,7 +274,8 @@ fn wrong_room(alloc: Global, course: &Course<'_>) -> Result<Option<usize>, Fault
             rounds: course.rounds,
             ..serving(&input)
         };
-        let (answer, has_failed, is_written, _) = follow(alloc, course, terms, 1_000)?;
+        let outcome = follow(alloc, course, terms, 1_000)?;
+        let (answer, has_failed, is_written, _) = settled(outcome)?;
         let fault = Fault::WriteFailed(within(course.written, room) as u64);
         if answer != Err(fault) || !is_written || !has_failed {
             return Ok(Some(room));
@@ -284,7 +293,8 @@ fn wrong_length(alloc: Global, course: &Course<'_>, breaks: bool) -> Result<Opti
             breaks,
             ..serving(input.get(..length).unwrap_or(&[]))
         };
-        let (answer, _, _, written) = follow(alloc, course, terms, 1_000)?;
+        let outcome = follow(alloc, course, terms, 1_000)?;
+        let (answer, _, _, written) = settled(outcome)?;
         let expected = match (breaks, within(&course.heard, length)) {
             (true, _) => Err(Fault::ReadFailed),
             (false, 0) => Ok(Ended::End),

@@ -284,7 +284,7 @@ fn append_own<S: Site, R: Wait + Drop>(
     }
     match writer.append(batch, &upto) {
         Ok(()) => Ok(()),
-        Err(_) => Err("a write is appended".into()),
+        Err(_) => Err(Fault::NoMemory)?,
     }
 }
 

@@ -39,10 +39,10 @@ impl Page {
         self.bytes.get(..self.used).unwrap_or(&[])
     }
 
-    /// Whether no line tells of want of memory.
+    /// Whether no line tells of want of memory, nor stands in the place of words for which there was none.
     fn had_memory(&self) -> bool {
         let mut lines = self.printed().split(|byte| *byte == b'\n');
-        lines.all(|line| line != b"fault 1".as_slice() && !line.starts_with(b"no-memory"))
+        lines.all(|line| !line.ends_with(b"fault 1") && !line.starts_with(b"no-memory"))
     }
 }
 

@@ -43,6 +43,7 @@ enum Told {
     Crashed,
     Restarted(u64),
     Number(u64),
+    Failed(Fault),
     Other,
 }
 
@@ -51,6 +52,7 @@ fn told_by(answer: &Result<Answer, Fault>) -> Told {
         Ok(Answer::Crashed) => Told::Crashed,
         Ok(Answer::Restarted(version)) => Told::Restarted(*version),
         Ok(Answer::Number(version)) => Told::Number(*version),
+        Err(fault) => Told::Failed(*fault),
         _ => Told::Other,
     }
 }
