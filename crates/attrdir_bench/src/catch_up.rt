@@ -4,7 +4,9 @@ use crate::problem::Problem;
 use crate::report::Measured;
 use crate::sample::Sizes;
 use sb_codec::Message;
+use sb_digest::Digest;
 use sb_frames::{Frames, send_from};
+use sb_holdings::Report;
 use sb_node::NodeCore;
 use sb_session::{Replies, Session};
 use sb_table::Table;
@@ -73,20 +75,26 @@ impl End {
         self.say(pipe, &message)
     }
 
+    fn exchange(&mut self, pipe: &mut Vec<u8>, delta: Delta, digest: Digest) -> Result<(), Fault> {
+        self.say(pipe, &Message::Delta(delta))?;
+        self.say(pipe, &Message::Digest(digest))
+    }
+
+    fn enter(&mut self, report: &Report) {
+        for end in report.ends() {
+            self.entered = self.entered.saturating_add(taken(*end));
+        }
+    }
+
     fn answer(&mut self, replies: Replies, pipe: &mut Vec<u8>) -> Result<(), Fault> {
         match replies {
             Replies::Greeted | Replies::Ended(_) => Ok(()),
             Replies::Applied(report) => {
-                for end in report.ends() {
-                    self.entered = self.entered.saturating_add(taken(*end));
-                }
+                self.enter(&report);
                 Ok(())
             }
             Replies::Answered(delta) => self.say(pipe, &Message::Delta(delta)),
-            Replies::Exchanged(delta, digest) => {
-                self.say(pipe, &Message::Delta(delta))?;
-                self.say(pipe, &Message::Digest(digest))
-            }
+            Replies::Exchanged(delta, digest) => self.exchange(pipe, delta, digest),
         }
     }
 
@@ -156,29 +164,63 @@ fn content_of(blocks: &[Block]) -> (u64, u64) {
     (entries, content)
 }
 
+/// Two ends, the pipes between them, and how many bytes went over these.
+#[derive(Drop)]
+struct Talk {
+    asks: End,
+    serves: End,
+    there: Vec<u8>,
+    back: Vec<u8>,
+    bytes: u64,
+}
+
+impl Talk {
+    fn new(alloc: Global, core: &NodeCore, full: &NodeCore) -> Talk {
+        Talk {
+            asks: End::new(alloc, core),
+            serves: End::new(alloc, full),
+            there: Vec::new(alloc),
+            back: Vec::new(alloc),
+            bytes: 0,
+        }
+    }
+
+    fn greet(&mut self) -> Result<(), Fault> {
+        self.asks.greet(&mut self.there)?;
+        self.serves.greet(&mut self.back)
+    }
+
+    /// What the one asks for, and the other sends; whether it brought anything.
+    fn round(&mut self, core: &mut NodeCore, full: &mut NodeCore) -> Result<bool, Fault> {
+        let before = self.asks.entered;
+        self.asks.ask(core, &mut self.there)?;
+        self.bytes = self.bytes.saturating_add(self.there.len() as u64);
+        self.serves.hear(full, &mut self.there, &mut self.back)?;
+        self.bytes = self.bytes.saturating_add(self.back.len() as u64);
+        self.asks.hear(core, &mut self.back, &mut self.there)?;
+        Ok(self.asks.entered > before)
+    }
+
+    /// How many entries, frames and bytes went over.
+    fn went(&self) -> (u64, u64, u64) {
+        let frames = self.asks.sent.saturating_add(self.serves.sent);
+        let bytes = self.bytes.saturating_add(self.there.len() as u64);
+        (self.asks.entered, frames, bytes)
+    }
+}
+
 /// A fresh node asks until a round brings it nothing more of so many entries, and answers how many entries, frames and
 /// bytes went over.
 fn catch_up(alloc: Global, full: &mut NodeCore, all: u64) -> Result<(u64, u64, u64), Fault> {
     let mut core = node(alloc, b"node")?;
-    let mut asks = End::new(alloc, &core);
-    let mut serves = End::new(alloc, full);
-    let (mut there, mut back) = (Vec::new(alloc), Vec::new(alloc));
-    let mut bytes: u64 = 0;
-    asks.greet(&mut there)?;
-    serves.greet(&mut back)?;
+    let mut talk = Talk::new(alloc, &core, full);
+    talk.greet()?;
     for _ in 0..=all {
-        let before = asks.entered;
-        asks.ask(&mut core, &mut there)?;
-        bytes = bytes.saturating_add(there.len() as u64);
-        serves.hear(full, &mut there, &mut back)?;
-        bytes = bytes.saturating_add(back.len() as u64);
-        asks.hear(&mut core, &mut back, &mut there)?;
-        if asks.entered == before {
+        if !talk.round(&mut core, full)? {
             break;
         }
     }
-    bytes = bytes.saturating_add(there.len() as u64);
-    Ok((asks.entered, asks.sent.saturating_add(serves.sent), bytes))
+    Ok(talk.went())
 }
 
 /// A node that holds nothing caught up with one that holds these blocks, in one session.

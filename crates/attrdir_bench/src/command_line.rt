@@ -1,9 +1,8 @@
 //! The command line of the program, and the layers in turn.
-use crate::layers::{self, WholeDelta};
 use crate::problem::Problem;
-use crate::report::Telling;
+use crate::report::{Telling, tell};
 use crate::sample::{Sizes, blocks, full_node};
-use crate::{catch_up, logs, memory};
+use crate::{catch_up, layers, logs, memory};
 use clap::error::ErrorKind;
 use clap::{Arg, ArgAction, ArgMatches, Command, value_parser};
 use sb_breadth::Breadth;
@@ -65,15 +64,22 @@ fn smoke<'a>(alloc: Global) -> Arg<'a> {
         .help("Runs each layer at a small size and prints counts in place of times")
 }
 
-fn command<'a>(alloc: Global) -> Result<Command<'a>, AllocError> {
-    Command::new(alloc, "attrdir_bench")
-        .about("Measures each layer of the directory of the attributes of nodes")
-        .after_help(EXAMPLE)
+fn with_sizes<'a>(alloc: Global, command: Command<'a>) -> Result<Command<'a>, AllocError> {
+    command
         .arg(owners(alloc))?
         .arg(keys(alloc))?
-        .arg(rounds(alloc))?
-        .arg(log(alloc))?
-        .arg(smoke(alloc))
+        .arg(rounds(alloc))
+}
+
+fn with_options<'a>(alloc: Global, command: Command<'a>) -> Result<Command<'a>, AllocError> {
+    command.arg(log(alloc))?.arg(smoke(alloc))
+}
+
+fn command<'a>(alloc: Global) -> Result<Command<'a>, AllocError> {
+    let command = Command::new(alloc, "attrdir_bench")
+        .about("Measures each layer of the directory of the attributes of nodes")
+        .after_help(EXAMPLE);
+    with_options(alloc, with_sizes(alloc, command)?)
 }
 
 fn sizes_of(matches: &ArgMatches<'_>) -> Sizes {
@@ -103,9 +109,20 @@ fn measure_node(
     blocks: &[Block],
     node: &Holdings,
 ) -> Result<(), Problem> {
-    layers::apply(rt, sizes, blocks)?.print(rt, telling, "apply", "entry")?;
-    layers::digest(rt, sizes, node)?.print(rt, telling, "digest", "owner")?;
-    Ok(())
+    tell(
+        rt,
+        telling,
+        layers::apply(rt, sizes, blocks),
+        "apply",
+        "entry",
+    )?;
+    tell(
+        rt,
+        telling,
+        layers::digest(rt, sizes, node),
+        "digest",
+        "owner",
+    )
 }
 
 /// How a delta is made: step by step with a list of all that is lacking, and without it.
@@ -115,26 +132,92 @@ fn measure_delta(
     telling: Telling,
     node: &Holdings,
 ) -> Result<(), Problem> {
-    layers::offer(rt, sizes, node)?.print(rt, telling, "available", "entry")?;
-    layers::arrange(rt, sizes, node, &Breadth)?.print(rt, telling, "breadth", "entry")?;
-    layers::arrange(rt, sizes, node, &Depth)?.print(rt, telling, "depth", "entry")?;
-    layers::cut_front(rt, sizes, node)?.print(rt, telling, "cut", "entry")?;
-    layers::delta(rt, sizes, node, &Breadth)?.print(rt, telling, "delta-breadth", "frame")?;
-    layers::delta(rt, sizes, node, &Depth)?.print(rt, telling, "delta-depth", "frame")?;
-    Ok(())
+    tell(
+        rt,
+        telling,
+        layers::offer(rt, sizes, node),
+        "available",
+        "entry",
+    )?;
+    tell(
+        rt,
+        telling,
+        layers::arrange(rt, sizes, node, &Breadth),
+        "breadth",
+        "entry",
+    )?;
+    tell(
+        rt,
+        telling,
+        layers::arrange(rt, sizes, node, &Depth),
+        "depth",
+        "entry",
+    )?;
+    tell(
+        rt,
+        telling,
+        layers::cut_front(rt, sizes, node),
+        "cut",
+        "entry",
+    )?;
+    tell(
+        rt,
+        telling,
+        layers::delta(rt, sizes, node, &Breadth),
+        "delta-breadth",
+        "frame",
+    )?;
+    tell(
+        rt,
+        telling,
+        layers::delta(rt, sizes, node, &Depth),
+        "delta-depth",
+        "frame",
+    )
 }
 
-/// How a delta becomes bytes, and is read of them.
+/// How the greatest delta of a node becomes bytes, and is read of them.
 fn measure_bytes(
     rt: &HostRuntime,
     sizes: Sizes,
     telling: Telling,
-    delta: &WholeDelta,
+    node: &Holdings,
 ) -> Result<(), Problem> {
-    layers::encode(rt, sizes, delta)?.print(rt, telling, "encode", "entry")?;
-    layers::decode(rt, sizes, delta)?.print(rt, telling, "decode", "entry")?;
-    layers::frames(rt, sizes, delta)?.print(rt, telling, "frames", "entry")?;
-    Ok(())
+    let delta = layers::greatest_delta(rt.alloc(), node)?;
+    tell(
+        rt,
+        telling,
+        layers::encode(rt, sizes, &delta),
+        "encode",
+        "entry",
+    )?;
+    tell(
+        rt,
+        telling,
+        layers::decode(rt, sizes, &delta),
+        "decode",
+        "entry",
+    )?;
+    tell(
+        rt,
+        telling,
+        layers::frames(rt, sizes, &delta),
+        "frames",
+        "entry",
+    )
+}
+
+/// What is measured of a node that holds these blocks.
+fn measure_full(
+    rt: &HostRuntime,
+    sizes: Sizes,
+    telling: Telling,
+    blocks: &[Block],
+) -> Result<(), Problem> {
+    let node = full_node(rt.alloc(), blocks)?;
+    measure_node(rt, sizes, telling, blocks, &node)?;
+    measure_delta(rt, sizes, telling, &node)?;
+    measure_bytes(rt, sizes, telling, &node)
 }
 
 /// How a node catches up with a peer.
@@ -145,17 +228,11 @@ fn measure_session(
     blocks: &[Block],
 ) -> Result<(), Problem> {
     let caught = catch_up::measure(rt, sizes, blocks)?;
-    caught.entries.print(rt, telling, "catch-up", "entry")?;
-    caught
-        .frames
-        .print(rt, Telling::Counts, "catch-up-sent", "frame")?;
-    caught
-        .bytes
-        .print(rt, Telling::Counts, "catch-up-sent", "byte")?;
-    caught
-        .content
-        .print(rt, Telling::Counts, "catch-up-content", "byte")?;
-    Ok(())
+    let counts = Telling::Counts;
+    tell(rt, telling, Ok(caught.entries), "catch-up", "entry")?;
+    tell(rt, counts, Ok(caught.frames), "catch-up-sent", "frame")?;
+    tell(rt, counts, Ok(caught.bytes), "catch-up-sent", "byte")?;
+    tell(rt, counts, Ok(caught.content), "catch-up-content", "byte")
 }
 
 /// How a log takes writes, each of the keys once a round, and how it opens where a file is given.
@@ -166,7 +243,7 @@ fn measure_log(
     path: Option<&str>,
 ) -> Result<(), Problem> {
     let puts = sizes.keys.saturating_mul(sizes.rounds);
-    logs::put_in_memory(rt, puts)?.print(rt, telling, "put", "write")?;
+    tell(rt, telling, logs::put_in_memory(rt, puts), "put", "write")?;
     match path {
         Some(path) => logs::measure_file(rt, telling, path, puts),
         None => Ok(()),
@@ -182,11 +259,7 @@ fn measure(
 ) -> Result<(), Problem> {
     memory::hold(rt, sizes, telling)?;
     let blocks = blocks(rt.alloc(), sizes)?;
-    let node = full_node(rt.alloc(), &blocks)?;
-    measure_node(rt, sizes, telling, &blocks, &node)?;
-    measure_delta(rt, sizes, telling, &node)?;
-    let delta = layers::greatest_delta(rt.alloc(), &node)?;
-    measure_bytes(rt, sizes, telling, &delta)?;
+    measure_full(rt, sizes, telling, &blocks)?;
     measure_session(rt, sizes, telling, &blocks)?;
     measure_log(rt, sizes, telling, log)
 }
@@ -195,19 +268,27 @@ fn words(rt: &HostRuntime) -> Result<Vec<String>, Problem> {
     Ok(env::args(rt)?.collect(rt.alloc())?)
 }
 
+/// Measures what the command line says.
+fn measure_as_told(rt: &HostRuntime, matches: &ArgMatches<'_>) -> Result<u8, Problem> {
+    let log = matches.get_str("log");
+    measure(rt, sizes_of(matches), telling_of(matches), log)?;
+    Ok(0)
+}
+
+/// Prints why a command line is refused, or the help that it asks for, and answers the exit status.
+fn refuse(rt: &HostRuntime, error: &clap::Error) -> Result<u8, Problem> {
+    if error.kind() == ErrorKind::OutOfMemory {
+        return Err(AllocError.into());
+    }
+    error.print(rt)?;
+    Ok(error.exit_code() as u8)
+}
+
 /// Does what the command line says, and answers the exit status.
 pub(crate) fn run(rt: &HostRuntime) -> Result<u8, Problem> {
     let words = words(rt)?;
     match command(rt.alloc())?.try_get_matches_from(words.as_slice()) {
-        Ok(matches) => {
-            let log = matches.get_str("log");
-            measure(rt, sizes_of(&matches), telling_of(&matches), log)?;
-            Ok(0)
-        }
-        Err(error) if error.kind() == ErrorKind::OutOfMemory => Err(AllocError.into()),
-        Err(error) => {
-            error.print(rt)?;
-            Ok(error.exit_code() as u8)
-        }
+        Ok(matches) => measure_as_told(rt, &matches),
+        Err(error) => refuse(rt, &error),
     }
 }

@@ -1,10 +1,10 @@
 //! The owner's log, measured: writes in memory and in a file, and the opening of a file.
 use crate::problem::Problem;
-use crate::report::{Measured, Telling};
+use crate::report::{Measured, Telling, tell};
 use crate::sample::key_at;
 use sb_log::{PlainLog, SqlLog, WriteLog};
 use sb_types::{Fault, KEYS_MOST, Name, Slot, VERSION_MOST, Value};
-use sqlite::{Alter, Connection, File, FileStore};
+use sqlite::{Alter, Connection};
 use std::fs;
 use std::io::Write;
 use std::time::{CpuClock, Duration, Instant};
@@ -41,10 +41,24 @@ pub(crate) fn put_in_memory(rt: &HostRuntime, puts: u64) -> Result<Measured, Pro
     Ok(measured)
 }
 
-/// A database in the file, which is made where it is not there.
-fn connect(rt: &HostRuntime, path: &str) -> Result<Connection<FileStore<File>>, Problem> {
+/// What is measured of a log in a file, whatever store the database is over.
+trait Visit {
+    fn visit<S: Alter + Drop>(
+        self,
+        rt: &HostRuntime,
+        conn: Connection<S>,
+    ) -> Result<Measured, Problem>;
+}
+
+/// What is measured of the database in the file, which is made where it is not there. It is the one place that names the store:
+/// each function that does is dear to prove.
+fn visit_file<V: Visit + Drop>(
+    rt: &HostRuntime,
+    path: &str,
+    visitor: V,
+) -> Result<Measured, Problem> {
     match Connection::open(rt, path) {
-        Ok(conn) => Ok(conn),
+        Ok(conn) => visitor.visit(rt, conn),
         Err(_) => Err(Problem::Fault(Fault::StoreFailed)),
     }
 }
@@ -53,20 +67,27 @@ fn log_in<S: Alter + Drop>(rt: &HostRuntime, conn: Connection<S>) -> Result<SqlL
     SqlLog::open(rt.alloc(), conn, owner()?, cluster()?, VERSION_MOST)
 }
 
-/// Writes into a log in a file, by the write: the time that passed, for each waits until the disk has it.
-fn put_in_file<S: Alter + Drop>(
-    rt: &HostRuntime,
-    conn: Connection<S>,
+/// Writes into a log, by the write: the time that passed, for each waits until the disk has it.
+#[derive(Clone, Copy)]
+struct Writing {
     puts: u64,
-) -> Result<Measured, Problem> {
-    let mut measured = Measured::new();
-    let mut log = log_in(rt, conn)?;
-    let start = Instant::now(rt)?;
-    put_all(rt, &mut log, puts)?;
-    measured.add(start.elapsed(rt)?);
-    measured.count(puts);
-    log.close()?;
-    Ok(measured)
+}
+
+impl Visit for Writing {
+    fn visit<S: Alter + Drop>(
+        self,
+        rt: &HostRuntime,
+        conn: Connection<S>,
+    ) -> Result<Measured, Problem> {
+        let mut measured = Measured::new();
+        let mut log = log_in(rt, conn)?;
+        let start = Instant::now(rt)?;
+        put_all(rt, &mut log, self.puts)?;
+        measured.add(start.elapsed(rt)?);
+        measured.count(self.puts);
+        log.close()?;
+        Ok(measured)
+    }
 }
 
 /// Pages written to a file, each of which waits until the disk has it: the time that passed.
@@ -83,18 +104,25 @@ fn write_pages(rt: &HostRuntime, path: &str, pages: u64) -> Result<Measured, Pro
     Ok(measured)
 }
 
-/// The opening of the log in a file that was begun to be opened at `start`, by the key that it has: the time of the processor.
-fn open_file<S: Alter + Drop>(
-    rt: &HostRuntime,
-    conn: Connection<S>,
+/// The opening of a log, begun at `start`, by the key that it has: the time of the processor.
+#[derive(Clone, Copy)]
+struct Opening {
     start: Duration,
-) -> Result<Measured, Problem> {
-    let mut measured = Measured::new();
-    let mut log = log_in(rt, conn)?;
-    measured.stop(rt, start)?;
-    measured.count(log.load(rt.alloc())?.len() as u64);
-    log.close()?;
-    Ok(measured)
+}
+
+impl Visit for Opening {
+    fn visit<S: Alter + Drop>(
+        self,
+        rt: &HostRuntime,
+        conn: Connection<S>,
+    ) -> Result<Measured, Problem> {
+        let mut measured = Measured::new();
+        let mut log = log_in(rt, conn)?;
+        measured.stop(rt, self.start)?;
+        measured.count(log.load(rt.alloc())?.len() as u64);
+        log.close()?;
+        Ok(measured)
+    }
 }
 
 /// Measures a log in a new file at the path, beside bare writes to another, which both stay.
@@ -105,9 +133,16 @@ pub(crate) fn measure_file(
     puts: u64,
 ) -> Result<(), Problem> {
     let bare = format!(in rt.alloc(); "{path}.bare")?;
-    write_pages(rt, bare.as_str(), puts)?.print(rt, telling, "bare", "write")?;
-    put_in_file(rt, connect(rt, path)?, puts)?.print(rt, telling, "put-file", "write")?;
+    tell(
+        rt,
+        telling,
+        write_pages(rt, bare.as_str(), puts),
+        "bare",
+        "write",
+    )?;
+    let put = visit_file(rt, path, Writing { puts });
+    tell(rt, telling, put, "put-file", "write")?;
     let start = rt.process_cpu_time()?;
-    open_file(rt, connect(rt, path)?, start)?.print(rt, telling, "open", "key")?;
-    Ok(())
+    let opened = visit_file(rt, path, Opening { start });
+    tell(rt, telling, opened, "open", "key")
 }

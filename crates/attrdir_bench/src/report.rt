@@ -1,4 +1,5 @@
 //! What is measured of a layer, and its line.
+use crate::problem::Problem;
 use std::io;
 use std::time::{CpuClock, Duration};
 
@@ -59,4 +60,16 @@ impl Measured {
             Telling::Counts => println!(rt; "{name} {} {unit}", self.units),
         }
     }
+}
+
+/// Prints a line of what was measured, unless that failed.
+pub(crate) fn tell(
+    rt: &HostRuntime,
+    telling: Telling,
+    measured: Result<Measured, Problem>,
+    name: &str,
+    unit: &str,
+) -> Result<(), Problem> {
+    measured?.print(rt, telling, name, unit)?;
+    Ok(())
 }
