@@ -77,7 +77,7 @@ impl Write for Narrow {
 
 // Each call is made once more where memory was refused: nothing may have changed.
 
-pub(crate) fn fed(frames: &mut Frames, piece: &[u8]) -> Result<(), Fault> {
+fn fed(frames: &mut Frames, piece: &[u8]) -> Result<(), Fault> {
     match frames.feed(piece) {
         Err(Fault::NoMemory) => frames.feed(piece),
         answer => answer,
@@ -88,6 +88,23 @@ pub(crate) fn taken(frames: &mut Frames) -> Result<Option<Message>, Fault> {
     match frames.next() {
         Err(Fault::NoMemory) => frames.next(),
         answer => answer,
+    }
+}
+
+pub(crate) fn feed(rt: &impl Abort, frames: &mut Frames, piece: &[u8]) {
+    got(rt, fed(frames, piece));
+}
+
+/// Whether a message comes next, which is lost.
+fn has_next(rt: &impl Abort, frames: &mut Frames) -> bool {
+    got(rt, taken(frames)).is_some()
+}
+
+/// The next message, which has to come.
+fn next(rt: &impl Abort, frames: &mut Frames) -> Message {
+    match got(rt, taken(frames)) {
+        Some(message) => message,
+        None => got(rt, Err(Fault::Truncated)),
     }
 }
 
@@ -156,7 +173,7 @@ fn count_messages(rt: &impl Abort, alloc: Global, frames: &mut Frames) -> usize 
 
 /// How many messages come behind this piece.
 fn count_behind(rt: &impl Abort, alloc: Global, frames: &mut Frames, piece: &[u8]) -> usize {
-    got(rt, fed(frames, piece));
+    feed(rt, frames, piece);
     count_messages(rt, alloc, frames)
 }
 
@@ -165,7 +182,7 @@ fn count_in_bytes(rt: &impl Abort, alloc: Global, frames: &mut Frames) -> [usize
     let mut early = 0_usize;
     for byte in FRAME {
         early = early.saturating_add(count_messages(rt, alloc, frames));
-        got(rt, fed(frames, &[*byte]));
+        feed(rt, frames, &[*byte]);
     }
     [early, count_messages(rt, alloc, frames)]
 }
@@ -191,16 +208,16 @@ fn a_frame_in_any_pieces(rt: HostRuntime) {
     same(&rt, &found, &[0, 1, 2, 0]);
 }
 
-/// How many bytes are held before a message is asked for, and whether one comes.
-fn held(rt: &impl Abort, frames: &mut Frames) -> (usize, bool) {
+/// So many bytes are held before a message is asked for, and one comes or not.
+fn is_held(rt: &impl Abort, frames: &mut Frames, count: usize, comes: bool) {
     let held = frames.held();
-    (held, got(rt, taken(frames)).is_some())
+    same(rt, &(held, has_next(rt, frames)), &(count, comes));
 }
 
 /// What the end would be there, the fault where a frame comes in its place, and what is then held.
 fn broken_off(rt: &impl Abort, frames: &mut Frames) -> (Result<(), Fault>, Option<Fault>, usize) {
     let end = frames.end();
-    got(rt, fed(frames, FRAME));
+    feed(rt, frames, FRAME);
     let fault = taken(frames).err();
     (end, fault, frames.held())
 }
@@ -208,12 +225,12 @@ fn broken_off(rt: &impl Abort, frames: &mut Frames) -> (Result<(), Fault>, Optio
 #[test]
 fn what_was_not_handed_out_is_held(rt: HostRuntime) {
     let mut frames = Frames::new(rt.alloc());
-    got(&rt, fed(&mut frames, FRAME));
-    got(&rt, fed(&mut frames, FRAME));
-    got(&rt, fed(&mut frames, &FRAME[..17]));
-    same(&rt, &held(&rt, &mut frames), &(97, true));
-    same(&rt, &held(&rt, &mut frames), &(57, true));
-    same(&rt, &held(&rt, &mut frames), &(17, false));
+    feed(&rt, &mut frames, FRAME);
+    feed(&rt, &mut frames, FRAME);
+    feed(&rt, &mut frames, &FRAME[..17]);
+    is_held(&rt, &mut frames, 97, true);
+    is_held(&rt, &mut frames, 57, true);
+    is_held(&rt, &mut frames, 17, false);
     let wanted = (Err(Fault::Truncated), Some(Fault::Malformed(3)), 0);
     same(&rt, &broken_off(&rt, &mut frames), &wanted);
 }
@@ -221,26 +238,23 @@ fn what_was_not_handed_out_is_held(rt: HostRuntime) {
 /// What the frame is read as; it has to be one message.
 fn read(rt: &impl Abort, alloc: Global, frame: &[u8]) -> Message {
     let mut frames = Frames::new(alloc);
-    got(rt, fed(&mut frames, frame));
-    let message = got(rt, taken(&mut frames));
-    same(rt, &got(rt, taken(&mut frames)).is_none(), &true);
-    match message {
-        Some(message) => message,
-        None => got(rt, Err(Fault::Truncated)),
-    }
+    feed(rt, &mut frames, frame);
+    let message = next(rt, &mut frames);
+    same(rt, &has_next(rt, &mut frames), &false);
+    message
 }
 
 /// Whether it is the Hello that `HELLO_A` spells.
-fn is_hello(message: &Message) -> bool {
-    let Message::Hello(hello) = message else {
+fn is_hello(message: Message) -> bool {
+    let Message::Hello(hello) = &message else {
         return false;
     };
     hello.cluster.bytes() == b"c1".as_slice() && hello.node.bytes() == b"a".as_slice()
 }
 
 /// Whether it is the digest that `DIGEST_A` spells.
-fn is_digest(message: &Message) -> bool {
-    let Message::Digest(digest) = message else {
+fn is_digest(message: Message) -> bool {
+    let Message::Digest(digest) = &message else {
         return false;
     };
     let [pair] = digest.pairs() else {
@@ -251,8 +265,8 @@ fn is_digest(message: &Message) -> bool {
 }
 
 /// Whether it is the Bye that `BYE` spells.
-fn is_bye(message: &Message) -> bool {
-    matches!(message, Message::Bye(bye) if bye.reason() == 1)
+fn is_bye(message: Message) -> bool {
+    matches!(&message, Message::Bye(bye) if bye.reason() == 1)
 }
 
 /// The Hello that `HELLO_A` spells.
@@ -263,39 +277,33 @@ fn hello(rt: &impl Abort) -> Message {
     })
 }
 
-/// Whether the Hello goes out as `HELLO_A`, and that is read as it.
-fn hello_both_ways(rt: &impl Abort, alloc: Global) -> (bool, bool) {
-    let is_sent = goes_out_as(rt, alloc, &hello(rt), HELLO_A);
-    (is_sent, is_hello(&read(rt, alloc, HELLO_A)))
+/// The Bye that `BYE` spells.
+fn bye(rt: &impl Abort) -> Message {
+    Message::Bye(got(rt, Bye::new(1)))
 }
 
-/// Whether what `DIGEST_A` is read as goes out as it, and is the digest.
-fn digest_both_ways(rt: &impl Abort, alloc: Global) -> (bool, bool) {
-    let message = read(rt, alloc, DIGEST_A);
-    let is_sent = goes_out_as(rt, alloc, &message, DIGEST_A);
-    (is_sent, is_digest(&message))
-}
-
-/// Whether the Bye goes out as `BYE`, and that is read as it.
-fn bye_both_ways(rt: &impl Abort, alloc: Global) -> (bool, bool) {
-    let bye = Message::Bye(got(rt, Bye::new(1)));
-    let is_sent = goes_out_as(rt, alloc, &bye, BYE);
-    (is_sent, is_bye(&read(rt, alloc, BYE)))
+/// This frame of a message is what goes out.
+fn is_spelled(rt: &impl Abort, alloc: Global, message: Message, frame: &[u8]) {
+    let is_spelled = goes_out_as(rt, alloc, &message, frame);
+    same_at(rt, &frame, &is_spelled, &true);
 }
 
 #[test]
 fn frames_of_other_kinds(rt: HostRuntime) {
     let alloc = rt.alloc();
     same(&rt, &DIGEST_A.len(), &22);
-    same(&rt, &hello_both_ways(&rt, alloc), &(true, true));
-    same(&rt, &digest_both_ways(&rt, alloc), &(true, true));
-    same(&rt, &bye_both_ways(&rt, alloc), &(true, true));
+    is_spelled(&rt, alloc, hello(&rt), HELLO_A);
+    is_spelled(&rt, alloc, read(&rt, alloc, DIGEST_A), DIGEST_A);
+    is_spelled(&rt, alloc, bye(&rt), BYE);
+    same(&rt, &is_hello(read(&rt, alloc, HELLO_A)), &true);
+    same(&rt, &is_digest(read(&rt, alloc, DIGEST_A)), &true);
+    same(&rt, &is_bye(read(&rt, alloc, BYE)), &true);
 }
 
 /// These bytes have this fault, and then neither bytes are taken nor a message is given.
 fn closes(rt: &impl Abort, alloc: Global, bytes: &[u8], fault: Fault) {
     let mut frames = Frames::new(alloc);
-    got(rt, fed(&mut frames, bytes));
+    feed(rt, &mut frames, bytes);
     let found = taken(&mut frames).err();
     let answer = frames.feed(FRAME);
     let found = (found, answer, frames.next().err());
@@ -316,52 +324,53 @@ fn faulty_frames_close(rt: HostRuntime) {
     closes(&rt, alloc, LONG_CLUSTER, Fault::Malformed(1));
 }
 
+/// A writer that takes so many bytes in a write, and has room for so many, gives this answer, and has written these.
+fn goes_out(
+    rt: &impl Abort,
+    alloc: Global,
+    message: &Message,
+    (most, room): (usize, usize),
+    wanted: (Result<(), Fault>, &[u8]),
+) {
+    let found = sent_to(alloc, message, most, room, wanted.1);
+    same_at(rt, &(most, room), &found, &(wanted.0, true));
+}
+
 #[test]
 fn frames_go_out_whole(rt: HostRuntime) {
     let alloc = rt.alloc();
     let message = message(&rt, alloc);
-    let found = [
-        sent_to(alloc, &message, 1, 64, FRAME),
-        sent_to(alloc, &message, 1, 17, &FRAME[..17]),
-        // It takes no byte, and says so.
-        sent_to(alloc, &message, 0, 64, b""),
-    ];
-    let wanted = [
-        (Ok(()), true),
-        (Err(Fault::WriteFailed(17)), true),
-        (Err(Fault::WriteFailed(0)), true),
-    ];
-    same(&rt, &found, &wanted);
+    let broken = Err(Fault::WriteFailed(17));
+    let closed = Err(Fault::WriteFailed(0));
+    goes_out(&rt, alloc, &message, (1, 64), (Ok(()), FRAME));
+    goes_out(&rt, alloc, &message, (1, 17), (broken, &FRAME[..17]));
+    // It takes no byte, and says so.
+    goes_out(&rt, alloc, &message, (0, 64), (closed, b""));
 }
 
 /// The message of a frame that comes in pieces of so many bytes. None comes before the last.
 fn read_in_pieces(rt: &impl Abort, alloc: Global, frame: &[u8], most: usize) -> Message {
     let mut frames = Frames::new(alloc);
     for piece in frame.chunks(most.max(1)) {
-        same(rt, &got(rt, taken(&mut frames)).is_none(), &true);
-        got(rt, fed(&mut frames, piece));
+        same(rt, &has_next(rt, &mut frames), &false);
+        feed(rt, &mut frames, piece);
     }
-    match got(rt, taken(&mut frames)) {
-        Some(message) => message,
-        None => got(rt, Err(Fault::Truncated)),
-    }
+    next(rt, &mut frames)
 }
 
-/// A writer that takes so many bytes in a write gets just this frame of the message.
-fn goes_out(rt: &impl Abort, alloc: Global, message: &Message, most: usize, frame: &[u8]) {
-    let found = sent_to(alloc, message, most, 65_536, frame);
-    same_at(rt, &most, &found, &(Ok(()), true));
+/// The message of a frame goes out as it, where a writer takes 1, 7 and 4,096 bytes in a write.
+fn is_read_and_sent(rt: &impl Abort, alloc: Global, frame: &[u8]) {
+    let message = read_in_pieces(rt, alloc, frame, 4_099);
+    goes_out(rt, alloc, &message, (1, 65_536), (Ok(()), frame));
+    goes_out(rt, alloc, &message, (7, 65_536), (Ok(()), frame));
+    goes_out(rt, alloc, &message, (4_096, 65_536), (Ok(()), frame));
 }
 
 #[test]
 fn the_greatest_frame(rt: HostRuntime) {
-    let alloc = rt.alloc();
-    let frame = greatest_frame(&rt, alloc);
+    let frame = greatest_frame(&rt, rt.alloc());
     same(&rt, &frame.len(), &65_536);
-    let message = read_in_pieces(&rt, alloc, &frame, 4_099);
-    goes_out(&rt, alloc, &message, 1, &frame);
-    goes_out(&rt, alloc, &message, 7, &frame);
-    goes_out(&rt, alloc, &message, 4_096, &frame);
+    is_read_and_sent(&rt, rt.alloc(), &frame);
 }
 
 /// What a writer with room for so many bytes gives a message, and whether its last write is said to have failed.
@@ -374,21 +383,25 @@ fn told(alloc: Global, room: usize, message: &Message) -> (Result<(), Fault>, bo
     (answer, last.has_failed())
 }
 
+/// A writer with room for so many bytes gives this answer, and its last write is said to have failed where it is a fault.
+fn is_told(
+    rt: &impl Abort,
+    alloc: Global,
+    message: &Message,
+    room: usize,
+    wanted: Result<(), Fault>,
+) {
+    let found = told(alloc, room, message);
+    same_at(rt, &room, &found, &(wanted, wanted.is_err()));
+}
+
 #[test]
 fn what_the_last_write_answered(rt: HostRuntime) {
     let alloc = rt.alloc();
     let message = message(&rt, alloc);
-    let found = [
-        told(alloc, 40, &message),
-        told(alloc, 39, &message),
-        told(alloc, 0, &message),
-    ];
-    let wanted = [
-        (Ok(()), false),
-        (Err(Fault::WriteFailed(39)), true),
-        (Err(Fault::WriteFailed(0)), true),
-    ];
-    same(&rt, &found, &wanted);
+    is_told(&rt, alloc, &message, 40, Ok(()));
+    is_told(&rt, alloc, &message, 39, Err(Fault::WriteFailed(39)));
+    is_told(&rt, alloc, &message, 0, Err(Fault::WriteFailed(0)));
 }
 
 /// What a writer gives a message that is so often interrupted before each write, and whether it has written `FRAME`.
@@ -399,37 +412,33 @@ fn interrupted(alloc: Global, message: &Message, interruptions: u32) -> (Result<
     (answer, narrow.has_written(FRAME))
 }
 
+/// A writer that is so often interrupted gives this answer, and has written `FRAME` where it is no fault.
+fn goes_on(
+    rt: &impl Abort,
+    alloc: Global,
+    message: &Message,
+    interruptions: u32,
+    wanted: Result<(), Fault>,
+) {
+    let found = interrupted(alloc, message, interruptions);
+    same_at(rt, &interruptions, &found, &(wanted, wanted.is_ok()));
+}
+
 #[test]
 fn interrupted_writes_go_on(rt: HostRuntime) {
     let alloc = rt.alloc();
     let message = message(&rt, alloc);
-    let found = [
-        interrupted(alloc, &message, 1),
-        interrupted(alloc, &message, 1_000),
-        interrupted(alloc, &message, 1_001),
-    ];
-    let wanted = [
-        (Ok(()), true),
-        (Ok(()), true),
-        (Err(Fault::WriteFailed(0)), false),
-    ];
-    same(&rt, &found, &wanted);
-}
-
-/// Whether a Bye comes next, since the rounds are done.
-fn is_bye_next(rt: &impl Abort, frames: &mut Frames) -> bool {
-    match got(rt, frames.next()) {
-        Some(message) => is_bye(&message),
-        None => false,
-    }
+    goes_on(&rt, alloc, &message, 1, Ok(()));
+    goes_on(&rt, alloc, &message, 1_000, Ok(()));
+    goes_on(&rt, alloc, &message, 1_001, Err(Fault::WriteFailed(0)));
 }
 
 /// The example that stands at `Frames`.
 #[test]
 fn the_example_of_frames(rt: HostRuntime) {
     let mut frames = Frames::new(rt.alloc());
-    got(&rt, frames.feed(b"\xa7\x01\x00\x00\x00"));
-    same(&rt, &got(&rt, frames.next()).is_none(), &true);
-    got(&rt, frames.feed(b"\x02\x04\x01"));
-    same(&rt, &is_bye_next(&rt, &mut frames), &true);
+    feed(&rt, &mut frames, b"\xa7\x01\x00\x00\x00");
+    same(&rt, &has_next(&rt, &mut frames), &false);
+    feed(&rt, &mut frames, b"\x02\x04\x01");
+    same(&rt, &is_bye(next(&rt, &mut frames)), &true);
 }

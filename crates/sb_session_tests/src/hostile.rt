@@ -1,7 +1,7 @@
 //! Damaged frames, and made-up bytes, of which each answer is known: `tools/oracle/hostile_bytes.py` works the numbers out.
 ghost use Rattle.std.specs.Prelude.{◌<◌};
 
-use crate::frames::{FRAME, fed, taken};
+use crate::frames::{FRAME, feed, taken};
 use crate::wire::{BYE, HELLO_A, add};
 use crate::{got, same, same_at};
 use rand_core::utils::NextWord;
@@ -141,7 +141,7 @@ fn answer_of(rt: &impl Abort, alloc: Global, frames: &mut Frames, stream: &[u8])
 /// What comes of a stream that begins with these bytes.
 fn first_of(rt: &impl Abort, alloc: Global, stream: &[u8]) -> Answer {
     let mut frames = Frames::new(alloc);
-    got(rt, fed(&mut frames, stream));
+    feed(rt, &mut frames, stream);
     answer_of(rt, alloc, &mut frames, stream)
 }
 
@@ -317,7 +317,7 @@ fn count_all(
 /// The same of a stream that is fed at once.
 fn read_all(rt: &impl Abort, alloc: Global, counts: &mut Counts, stream: &[u8]) -> bool {
     let mut frames = Frames::new(alloc);
-    got(rt, fed(&mut frames, stream));
+    feed(rt, &mut frames, stream);
     count_all(rt, alloc, &mut frames, counts, stream)
 }
 

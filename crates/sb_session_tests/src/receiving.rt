@@ -14,8 +14,16 @@ use std::sync::ledger::{Blank, Ledger};
 /// Bye, since the rounds are done, twice.
 const BYES: &[u8] = b"\xa7\x01\x00\x00\x00\x02\x04\x01\xa7\x01\x00\x00\x00\x02\x04\x01";
 
-/// How many Byes come, and whether the end comes then, or a fault.
-type Received = (usize, Result<bool, Fault>);
+/// How many Byes come, and what then: another message, which is no Bye, or the end, or a fault.
+type Received = (usize, Result<Option<bool>, Fault>);
+
+/// Whether a message that came is a Bye.
+fn is_bye(message: Option<Message>) -> Option<bool> {
+    match message {
+        Some(message) => Some(matches!(message, Message::Bye(_))),
+        None => None,
+    }
+}
 
 /// Whether a Bye comes next, unless the end does.
 fn next<L: Ledger>(
@@ -25,8 +33,7 @@ fn next<L: Ledger>(
     steps: &mut Steps<L>,
 ) -> Result<Option<bool>, Fault> {
     match receive(reader, frames, max_reads, steps) {
-        Ok(Some(message)) => Ok(Some(matches!(message, Message::Bye(_)))),
-        Ok(None) => Ok(None),
+        Ok(message) => Ok(is_bye(message)),
         Err(fault) => Err(fault),
     }
 }
@@ -44,13 +51,12 @@ fn receive_on<L: Ledger>(
 {
     let mut steps = Steps::<L>::new(blank);
     for count in 0..4usize {
-        match next(reader, frames, max_reads, &mut steps) {
-            Ok(Some(true)) => {}
-            Ok(message) => return (count, Ok(message.is_none())),
-            Err(fault) => return (count, Err(fault)),
+        let next = next(reader, frames, max_reads, &mut steps);
+        if next != Ok(Some(true)) {
+            return (count, next);
         }
     }
-    (4, Ok(false))
+    (4, Ok(Some(true)))
 }
 
 /// What is received of what is held, and of a reader.
@@ -83,7 +89,7 @@ fn comes_in_pieces(rt: &impl Abort, alloc: Global, piece: usize, interrupts: boo
     reader.piece = piece;
     reader.interrupts = interrupts;
     let found = received(rt, alloc, reader, b"", max_reads);
-    same_at(rt, &piece, &found, &(2, Ok(true)));
+    same_at(rt, &piece, &found, &(2, Ok(None)));
 }
 
 #[test]

@@ -236,16 +236,19 @@ fn end(
     (reason, [again, session.ask(node).err()])
 }
 
+/// A session of b takes the Hello and the digest of a, its own digest, and a Bye.
+fn takes_what_comes(rt: &impl Abort, session: &mut Session, node: &mut Node) {
+    same(rt, &greet(rt, session, node), &[true; 2]);
+    same(rt, &exchange(rt, session, node), &[true; 2]);
+    same(rt, &answer(rt, session, node), &true);
+    let closed = Some(Fault::Closed);
+    same(rt, &end(rt, session, node), &(Some(1), [closed, closed]));
+}
+
 #[test]
 fn a_session_takes_what_comes(rt: HostRuntime) {
-    let mut session = session_of(&rt, b"b");
     let mut node = Node::new(&rt, rt.alloc(), b"b", true);
-    same(&rt, &greet(&rt, &mut session, &mut node), &[true; 2]);
-    same(&rt, &exchange(&rt, &mut session, &mut node), &[true; 2]);
-    same(&rt, &answer(&rt, &mut session, &mut node), &true);
-    let closed = Some(Fault::Closed);
-    let found = end(&rt, &mut session, &mut node);
-    same(&rt, &found, &(Some(1), [closed, closed]));
+    takes_what_comes(&rt, &mut session_of(&rt, b"b"), &mut node);
 }
 
 /// How many blocks these are. One that finds no memory ends the test.
@@ -272,14 +275,18 @@ fn is_asked(rt: &impl Abort, session: &mut Session, node: &mut Node) -> bool {
     is_spelled(rt, node.alloc, message, DIGEST_A)
 }
 
+/// A session of a asks as it does, and then applies the delta of b.
+fn asks(rt: &impl Abort, session: &mut Session, node: &mut Node) {
+    same(rt, &is_asked(rt, session, node), &true);
+    is_greeted(rt, session, node, HELLO_B);
+    let applied = applied(rt, session, node);
+    same(rt, &(applied, node.upto(rt, b"b")), &(Some(1), 1));
+}
+
 #[test]
 fn a_session_asks(rt: HostRuntime) {
-    let mut session = session_of(&rt, b"a");
     let mut node = Node::new(&rt, rt.alloc(), b"a", false);
-    same(&rt, &is_asked(&rt, &mut session, &mut node), &true);
-    is_greeted(&rt, &mut session, &mut node, HELLO_B);
-    let applied = applied(&rt, &mut session, &mut node);
-    same(&rt, &(applied, node.upto(&rt, b"b")), &(Some(1), 1));
+    asks(&rt, &mut session_of(&rt, b"a"), &mut node);
 }
 
 /// The fault of the last of these messages, where the session is closed then.
@@ -350,15 +357,19 @@ fn is_exchanged(rt: &impl Abort, session: &mut Session, node: &mut Node) -> bool
     matches!(take(rt, session, node, DIGEST_A), Replies::Exchanged(_, _))
 }
 
+/// Too few calls are granted for messages behind Hello, and for asking; then a digest is taken.
+fn refuses(rt: &impl Abort, session: &mut Session, node: &mut Node) {
+    is_greeted(rt, session, node, HELLO_A);
+    is_ungranted(rt, session, node, DIGEST_A, 0);
+    is_ungranted(rt, session, node, DIGEST_A, 1);
+    is_ungranted(rt, session, node, DIGEST_B, 0);
+    is_ungranted(rt, session, node, DELTA_B, 0);
+    same(rt, &session.ask(node).err(), &Some(Fault::TurnsSpent));
+    same(rt, &is_exchanged(rt, session, node), &true);
+}
+
 #[test]
 fn refusals_leave_the_session(rt: HostRuntime) {
-    let mut session = session_of(&rt, b"b");
     let mut node = Node::new(&rt, rt.alloc(), b"b", true);
-    is_greeted(&rt, &mut session, &mut node, HELLO_A);
-    is_ungranted(&rt, &mut session, &mut node, DIGEST_A, 0);
-    is_ungranted(&rt, &mut session, &mut node, DIGEST_A, 1);
-    is_ungranted(&rt, &mut session, &mut node, DIGEST_B, 0);
-    is_ungranted(&rt, &mut session, &mut node, DELTA_B, 0);
-    same(&rt, &session.ask(&mut node).err(), &Some(Fault::TurnsSpent));
-    same(&rt, &is_exchanged(&rt, &mut session, &mut node), &true);
+    refuses(&rt, &mut session_of(&rt, b"b"), &mut node);
 }

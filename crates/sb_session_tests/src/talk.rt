@@ -242,17 +242,18 @@ fn ends_in_pieces(rt: &impl Abort, alloc: Global, course: &Course<'_>, piece: us
     same_at(rt, &piece, &found, &wanted);
 }
 
+/// The same of one byte in a read, of some, and of all.
+fn ends_in_any_pieces(rt: &impl Abort, alloc: Global, course: &Course<'_>) {
+    ends_in_pieces(rt, alloc, course, 1);
+    ends_in_pieces(rt, alloc, course, 7);
+    ends_in_pieces(rt, alloc, course, 42);
+    ends_in_pieces(rt, alloc, course, 4_096);
+}
+
 #[test]
 fn bytes_come_in_any_pieces(rt: HostRuntime) {
-    let alloc = rt.alloc();
-    ends_in_pieces(&rt, alloc, &SERVED, 1);
-    ends_in_pieces(&rt, alloc, &SERVED, 7);
-    ends_in_pieces(&rt, alloc, &SERVED, 42);
-    ends_in_pieces(&rt, alloc, &SERVED, 4_096);
-    ends_in_pieces(&rt, alloc, &DIALED, 1);
-    ends_in_pieces(&rt, alloc, &DIALED, 7);
-    ends_in_pieces(&rt, alloc, &DIALED, 42);
-    ends_in_pieces(&rt, alloc, &DIALED, 4_096);
+    ends_in_any_pieces(&rt, rt.alloc(), &SERVED);
+    ends_in_any_pieces(&rt, rt.alloc(), &DIALED);
 }
 
 /// How many bytes of its piece stand before the byte at a place, of pieces that stand one after the other.
@@ -376,19 +377,28 @@ fn is_spent(
     same_at(rt, &(reads, grants), &(ended, written), &wanted);
 }
 
+/// Where one that serves fails, and where too little is allowed to it.
+fn serving_fails(rt: &impl Abort, alloc: Global, course: &Course<'_>) {
+    is_told_everywhere(rt, alloc, course);
+    is_spent(rt, alloc, course, (0, 9), 12);
+    is_spent(rt, alloc, course, (3, 9), 12);
+    is_spent(rt, alloc, course, (99, 0), 12);
+    is_spent(rt, alloc, course, (99, 1), 12);
+}
+
+/// The same of one that dials.
+fn dialing_fails(rt: &impl Abort, alloc: Global, course: &Course<'_>) {
+    is_told_everywhere(rt, alloc, course);
+    is_spent(rt, alloc, course, (3, 9), 34);
+    is_spent(rt, alloc, course, (99, 0), 12);
+    is_spent(rt, alloc, course, (99, 1), 34);
+    is_spent(rt, alloc, course, (99, 2), 34);
+}
+
 #[test]
 fn writers_and_readers_fail(rt: HostRuntime) {
-    let alloc = rt.alloc();
-    is_told_everywhere(&rt, alloc, &SERVED);
-    is_told_everywhere(&rt, alloc, &DIALED);
-    is_spent(&rt, alloc, &SERVED, (0, 9), 12);
-    is_spent(&rt, alloc, &SERVED, (3, 9), 12);
-    is_spent(&rt, alloc, &SERVED, (99, 0), 12);
-    is_spent(&rt, alloc, &SERVED, (99, 1), 12);
-    is_spent(&rt, alloc, &DIALED, (3, 9), 34);
-    is_spent(&rt, alloc, &DIALED, (99, 0), 12);
-    is_spent(&rt, alloc, &DIALED, (99, 1), 34);
-    is_spent(&rt, alloc, &DIALED, (99, 2), 34);
+    serving_fails(&rt, rt.alloc(), &SERVED);
+    dialing_fails(&rt, rt.alloc(), &DIALED);
 }
 
 /// How a talk of a node that wrote nothing ends, whether it wrote just these pieces, how many bytes it wrote, and how far
@@ -415,20 +425,29 @@ const NO_ROUND: Course<'static> = Course {
     ..SERVED
 };
 
+/// A node that dials for no round says just Hello and Bye.
+fn no_round_is_asked(rt: &impl Abort, alloc: Global) {
+    let terms = dialing(&[], 0);
+    let (ended, _, is_written, written) = follow(rt, alloc, &NO_ROUND, terms, 1_000);
+    let wanted = (Ok(Ended::RoundsDone), true, 20);
+    same(rt, &(ended, is_written, written), &wanted);
+}
+
+/// What a learns of b, which it dials for so many rounds, and which answers one.
+fn learn_of_one(rt: &impl Abort, alloc: Global, rounds: u64, pieces: &[&[u8]]) -> Learned {
+    let input = joined(rt, alloc, &[HELLO_B, DELTA_B, DIGEST_B]);
+    learn(rt, alloc, b"a", dialing(&input, rounds), pieces, b"b")
+}
+
 #[test]
 fn the_other_end_asks(rt: HostRuntime) {
     let alloc = rt.alloc();
-    let (ended, _, is_written, written) = follow(&rt, alloc, &NO_ROUND, dialing(&[], 0), 1_000);
-    let wanted = (Ok(Ended::RoundsDone), true, 20);
-    same(&rt, &(ended, is_written, written), &wanted);
-
-    let input = joined(&rt, alloc, &[HELLO_B, DELTA_B, DIGEST_B]);
+    no_round_is_asked(&rt, alloc);
     let pieces = [HELLO_A, DIGEST_A, DELTA_NONE, BYE];
-    let found = learn(&rt, alloc, b"a", dialing(&input, 1), &pieces, b"b");
+    let found = learn_of_one(&rt, alloc, 1, &pieces);
     same(&rt, &found, &(Ok(Ended::RoundsDone), true, 51, 1));
-
     // A second round asks again, and the peer's bytes end.
-    let (ended, _, written, _) = learn(&rt, alloc, b"a", dialing(&input, 2), &[], b"b");
+    let (ended, _, written, _) = learn_of_one(&rt, alloc, 2, &[]);
     same(&rt, &(ended, written), &(Ok(Ended::End), 12 + 22 + 9 + 32));
 }
 
@@ -487,27 +506,36 @@ fn end_behind(rt: &impl Abort, alloc: Global, greeting: &[u8]) {
     ends_behind(rt, alloc, greeting, REFUSED, 0x14);
 }
 
+/// Messages that may not come there end the talks.
+fn messages_end(rt: &impl Abort, alloc: Global) {
+    let flood = [DELTA_B, DELTA_B, DELTA_B, HELLO_A];
+    ends_with(rt, alloc, &[DIGEST_A], Fault::NoHello);
+    ends_with(rt, alloc, &flood, Fault::NoHello);
+    ends_with(rt, alloc, &[BYE], Fault::NoHello);
+    ends_with(rt, alloc, &[HELLO_C2], Fault::WrongCluster);
+    ends_with(rt, alloc, &[HELLO_B], Fault::SameName);
+    ends_with(rt, alloc, &[HELLO_A, HELLO_A], Fault::SecondHello);
+    ends_with(rt, alloc, &[HELLO_A, HELLO_C2], Fault::SecondHello);
+}
+
+/// Bytes that are no frame end the talks.
+fn bytes_end(rt: &impl Abort, alloc: Global) {
+    let no_length = b"\xa7\x01\x00\x00\x00\x00";
+    let no_kind = b"\xa7\x01\x00\x00\x00\x01\x55";
+    let no_reason = b"\xa7\x01\x00\x00\x00\x02\x04\x06";
+    ends_with(rt, alloc, &[b"\xa6"], Fault::BadMark);
+    ends_with(rt, alloc, &[HELLO_A, b"\xa7\x09"], Fault::BadVersion);
+    ends_with(rt, alloc, &[HELLO_A, no_length], Fault::BadLength);
+    ends_with(rt, alloc, &[no_kind], Fault::UnknownKind(0x55));
+    ends_with(rt, alloc, &[HELLO_A, no_reason], Fault::Malformed(4));
+}
+
 #[test]
 fn faulty_talks_end(rt: HostRuntime) {
-    let alloc = rt.alloc();
-    let flood = [DELTA_B, DELTA_B, DELTA_B, HELLO_A];
-    let of_no_length = b"\xa7\x01\x00\x00\x00\x00";
-    let of_no_kind = b"\xa7\x01\x00\x00\x00\x01\x55";
-    let of_no_reason = b"\xa7\x01\x00\x00\x00\x02\x04\x06";
-    ends_with(&rt, alloc, &[DIGEST_A], Fault::NoHello);
-    ends_with(&rt, alloc, &flood, Fault::NoHello);
-    ends_with(&rt, alloc, &[BYE], Fault::NoHello);
-    ends_with(&rt, alloc, &[HELLO_C2], Fault::WrongCluster);
-    ends_with(&rt, alloc, &[HELLO_B], Fault::SameName);
-    ends_with(&rt, alloc, &[HELLO_A, HELLO_A], Fault::SecondHello);
-    ends_with(&rt, alloc, &[HELLO_A, HELLO_C2], Fault::SecondHello);
-    ends_with(&rt, alloc, &[b"\xa6"], Fault::BadMark);
-    ends_with(&rt, alloc, &[HELLO_A, b"\xa7\x09"], Fault::BadVersion);
-    ends_with(&rt, alloc, &[HELLO_A, of_no_length], Fault::BadLength);
-    ends_with(&rt, alloc, &[of_no_kind], Fault::UnknownKind(0x55));
-    ends_with(&rt, alloc, &[HELLO_A, of_no_reason], Fault::Malformed(4));
-    end_behind(&rt, alloc, b"");
-    end_behind(&rt, alloc, HELLO_A);
+    messages_end(&rt, rt.alloc());
+    bytes_end(&rt, rt.alloc());
+    end_behind(&rt, rt.alloc(), b"");
+    end_behind(&rt, rt.alloc(), HELLO_A);
 }
 
 /// A thousand deltas of b, and then its Hello.
