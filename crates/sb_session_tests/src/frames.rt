@@ -1,13 +1,13 @@
 //! Frames by hand, in any pieces and through any writer.
 
-use crate::wire::{BYE, DIGEST_A, HELLO_A, greatest_frame};
-use crate::{same, same_at};
+use crate::wire::{BYE, DIGEST_A, HELLO_A, greatest_frame, joined};
+use crate::{got, name, same, same_at};
 use sb_codec::{Bye, Hello, Message};
 use sb_frames::{Frames, send, send_telling};
-use sb_types::{Block, Delta, Entry, Fault, Key, Name, Slot, Value};
+use sb_types::{Block, Delta, Entry, Fault, Key, Slot, Value};
 use std::alloc::Global;
 use std::io::{self, ErrorKind, Write};
-use std::test::Fail;
+use std::process::Abort;
 
 /// One block of the owner a, after 0, with the weight 5 under w as version 1.
 pub(crate) const FRAME: &[u8] =
@@ -77,7 +77,7 @@ impl Write for Narrow {
 
 // Each call is made once more where memory was refused: nothing may have changed.
 
-pub(crate) fn fed(frames: &mut Frames, piece: &[u8]) -> Result<(), Fault> {
+fn fed(frames: &mut Frames, piece: &[u8]) -> Result<(), Fault> {
     match frames.feed(piece) {
         Err(Fault::NoMemory) => frames.feed(piece),
         answer => answer,
@@ -91,240 +91,28 @@ pub(crate) fn taken(frames: &mut Frames) -> Result<Option<Message>, Fault> {
     }
 }
 
+pub(crate) fn feed(rt: &impl Abort, frames: &mut Frames, piece: &[u8]) {
+    got(rt, fed(frames, piece));
+}
+
+/// Whether a message comes next, which is lost.
+fn has_next(rt: &impl Abort, frames: &mut Frames) -> bool {
+    got(rt, taken(frames)).is_some()
+}
+
+/// The next message, which has to come.
+fn next(rt: &impl Abort, frames: &mut Frames) -> Message {
+    match got(rt, taken(frames)) {
+        Some(message) => message,
+        None => got(rt, Err(Fault::Truncated)),
+    }
+}
+
 fn sent<W: Write>(alloc: Global, writer: &mut W, message: &Message) -> Result<(), Fault> {
     match send(alloc, writer, message) {
         Err(Fault::NoMemory) => send(alloc, writer, message),
         answer => answer,
     }
-}
-
-fn made(alloc: Global) -> Result<Message, Fault> {
-    let entry = Entry::new(Key::read(b"w")?, 1, Slot::Set(Value::weight(5)?));
-    let block = Block::new(Name::read(b"a")?, 0, vec![in alloc; entry]?)?;
-    Ok(Message::Delta(Delta::new(vec![in alloc; block]?)?))
-}
-
-fn message(alloc: Global) -> Result<Message, Fault> {
-    match made(alloc) {
-        Err(Fault::NoMemory) => made(alloc),
-        answer => answer,
-    }
-}
-
-/// How many messages come next, up to four, each that of `FRAME`.
-fn count_messages(alloc: Global, frames: &mut Frames) -> Result<usize, Fault> {
-    for count in 0..4usize {
-        let Some(message) = taken(frames)? else {
-            return Ok(count);
-        };
-        let mut writer = Narrow::new(alloc, 1, 64);
-        sent(alloc, &mut writer, &message)?;
-        if !writer.has_written(FRAME) {
-            return Err(Fault::Malformed(0));
-        }
-    }
-    Ok(4)
-}
-
-/// How many messages come before the last byte of `FRAME`, which comes byte by byte, and then.
-fn count_in_bytes(alloc: Global, frames: &mut Frames) -> Result<[usize; 2], Fault> {
-    let mut early = 0_usize;
-    for byte in FRAME {
-        early = early.saturating_add(count_messages(alloc, frames)?);
-        fed(frames, &[*byte])?;
-    }
-    Ok([early, count_messages(alloc, frames)?])
-}
-
-/// How many messages come behind each of these pieces.
-fn count_behind(
-    alloc: Global,
-    frames: &mut Frames,
-    pieces: &[&[u8]; 4],
-) -> Result<[usize; 4], Fault> {
-    let mut counts = [0; 4];
-    for (count, piece) in counts.iter_mut().zip(pieces) {
-        fed(frames, piece)?;
-        *count = count_messages(alloc, frames)?;
-    }
-    Ok(counts)
-}
-
-/// `FRAME` twice.
-fn twice() -> [u8; 80] {
-    let mut twice = [0; 80];
-    twice[..40].copy_from_slice(FRAME);
-    twice[40..].copy_from_slice(FRAME);
-    twice
-}
-
-/// How many messages come of `FRAME` in bytes; then behind its front, its last byte, two of it at once, and nothing.
-fn count_in_pieces(alloc: Global) -> Result<([usize; 2], [usize; 4]), Fault> {
-    let (front, last) = FRAME.split_at(39);
-    let pieces = [front, last, &twice(), b""];
-    let mut frames = Frames::new(alloc);
-    let in_bytes = count_in_bytes(alloc, &mut frames)?;
-    let counts = count_behind(alloc, &mut frames, &pieces)?;
-    Ok((in_bytes, counts))
-}
-
-#[test]
-fn a_frame_in_any_pieces(rt: HostRuntime) -> Result<(), Fail> {
-    same(&rt, &FRAME.len(), &40);
-    let found = count_in_pieces(rt.alloc())?;
-    same(&rt, &found, &([0, 1], [0, 1, 2, 0]));
-    Ok(())
-}
-
-/// How many bytes are held before a message is asked for, and whether one comes.
-fn held(frames: &mut Frames) -> Result<(usize, bool), Fault> {
-    let held = frames.held();
-    Ok((held, taken(frames)?.is_some()))
-}
-
-/// What is held of two frames and the front of a third, each time that a message is asked for.
-fn held_in_turn(frames: &mut Frames) -> Result<[(usize, bool); 3], Fault> {
-    fed(frames, FRAME)?;
-    fed(frames, FRAME)?;
-    fed(frames, &FRAME[..17])?;
-    Ok([held(frames)?, held(frames)?, held(frames)?])
-}
-
-/// What the end would be there, the fault where a frame comes in its place, and what is then held.
-fn broken_off(frames: &mut Frames) -> Result<(Result<(), Fault>, Option<Fault>, usize), Fault> {
-    let end = frames.end();
-    fed(frames, FRAME)?;
-    let fault = taken(frames).err();
-    Ok((end, fault, frames.held()))
-}
-
-#[test]
-fn what_was_not_handed_out_is_held(rt: HostRuntime) -> Result<(), Fail> {
-    let mut frames = Frames::new(rt.alloc());
-    let turns = held_in_turn(&mut frames)?;
-    let found = (turns, broken_off(&mut frames)?);
-    let wanted = [(97, true), (57, true), (17, false)];
-    let last = (Err(Fault::Truncated), Some(Fault::Malformed(3)), 0);
-    same(&rt, &found, &(wanted, last));
-    Ok(())
-}
-
-/// What the frame is read as; nothing where it is not one message.
-fn read(alloc: Global, frame: &[u8]) -> Result<Option<Message>, Fault> {
-    let mut frames = Frames::new(alloc);
-    fed(&mut frames, frame)?;
-    let message = taken(&mut frames)?;
-    match taken(&mut frames)? {
-        None => Ok(message),
-        Some(_) => Ok(None),
-    }
-}
-
-/// Whether the frame is what goes out.
-fn goes_out_as(alloc: Global, message: &Message, frame: &[u8]) -> Result<bool, Fault> {
-    let mut narrow = Narrow::new(alloc, 1, 64);
-    sent(alloc, &mut narrow, message)?;
-    Ok(narrow.has_written(frame))
-}
-
-/// Whether it is the Hello that `HELLO_A` spells.
-fn is_hello(message: &Message) -> bool {
-    let Message::Hello(hello) = message else {
-        return false;
-    };
-    hello.cluster.bytes() == b"c1".as_slice() && hello.node.bytes() == b"a".as_slice()
-}
-
-/// Whether it is the digest that `DIGEST_A` spells.
-fn is_digest(message: &Message) -> bool {
-    let Message::Digest(digest) = message else {
-        return false;
-    };
-    let [pair] = digest.pairs() else {
-        return false;
-    };
-    let is_whole = digest.from().is_none() && digest.until().is_none();
-    digest.want() && is_whole && pair.owner.bytes() == b"a".as_slice() && pair.upto == 0
-}
-
-/// Whether it is the Bye that `BYE` spells.
-fn is_bye(message: &Message) -> bool {
-    matches!(message, Message::Bye(bye) if bye.reason() == 1)
-}
-
-/// The Hello that `HELLO_A` spells.
-fn hello() -> Result<Message, Fault> {
-    let (cluster, node) = (Name::read(b"c1")?, Name::read(b"a")?);
-    Ok(Message::Hello(Hello { cluster, node }))
-}
-
-/// Whether the Hello goes out as `HELLO_A`, and that is read as it.
-fn hello_both_ways(alloc: Global) -> Result<(bool, bool), Fault> {
-    let is_sent = goes_out_as(alloc, &hello()?, HELLO_A)?;
-    match read(alloc, HELLO_A)? {
-        Some(message) => Ok((is_sent, is_hello(&message))),
-        None => Ok((is_sent, false)),
-    }
-}
-
-/// Whether what `DIGEST_A` is read as goes out as it, and is the digest.
-fn digest_both_ways(alloc: Global) -> Result<(bool, bool), Fault> {
-    match read(alloc, DIGEST_A)? {
-        Some(message) => Ok((goes_out_as(alloc, &message, DIGEST_A)?, is_digest(&message))),
-        None => Ok((false, false)),
-    }
-}
-
-/// Whether the Bye goes out as `BYE`, and that is read as it.
-fn bye_both_ways(alloc: Global) -> Result<(bool, bool), Fault> {
-    let is_sent = goes_out_as(alloc, &Message::Bye(Bye::new(1)?), BYE)?;
-    match read(alloc, BYE)? {
-        Some(message) => Ok((is_sent, is_bye(&message))),
-        None => Ok((is_sent, false)),
-    }
-}
-
-#[test]
-fn frames_of_other_kinds(rt: HostRuntime) -> Result<(), Fail> {
-    let alloc = rt.alloc();
-    same(&rt, &DIGEST_A.len(), &22);
-    let found = [
-        hello_both_ways(alloc)?,
-        digest_both_ways(alloc)?,
-        bye_both_ways(alloc)?,
-    ];
-    same(&rt, &found, &[(true, true), (true, true), (true, true)]);
-    Ok(())
-}
-
-/// The fault of these bytes, and how bytes and the asking for a message are answered then.
-fn faults(
-    alloc: Global,
-    bytes: &[u8],
-) -> Result<(Option<Fault>, Result<(), Fault>, Option<Fault>), Fault> {
-    let mut frames = Frames::new(alloc);
-    fed(&mut frames, bytes)?;
-    let fault = taken(&mut frames).err();
-    let answer = frames.feed(FRAME);
-    Ok((fault, answer, frames.next().err()))
-}
-
-#[test]
-fn faulty_frames_close(rt: HostRuntime) -> Result<(), Fail> {
-    let alloc = rt.alloc();
-    for (bytes, fault) in [
-        (b"\xa6".as_slice(), Fault::BadMark),
-        (b"\xa7\x09", Fault::BadVersion),
-        (b"\xa7\x01\x00\x00\x00\x00", Fault::BadLength),
-        (b"\xa7\x01\x00\x00\xff\xfb", Fault::BadLength),
-        (b"\xa7\x01\x00\x00\x00\x01\x55", Fault::UnknownKind(0x55)),
-        (DESCENDING, Fault::Malformed(3)),
-        (LONG_CLUSTER, Fault::Malformed(1)),
-    ] {
-        let wanted = (Some(fault), Err(Fault::Closed), Some(Fault::Closed));
-        same_at(&rt, &bytes, &faults(alloc, bytes)?, &wanted);
-    }
-    Ok(())
 }
 
 /// What a writer gives a message that takes so many bytes in a write and has room for so many, and whether it has
@@ -341,61 +129,248 @@ fn sent_to(
     (answer, narrow.has_written(written))
 }
 
-#[test]
-fn frames_go_out_whole(rt: HostRuntime) -> Result<(), Fail> {
-    let alloc = rt.alloc();
-    let message = message(alloc)?;
-    let found = [
-        sent_to(alloc, &message, 1, 64, FRAME),
-        sent_to(alloc, &message, 1, 17, &FRAME[..17]),
-        // It takes no byte, and says so.
-        sent_to(alloc, &message, 0, 64, b""),
-    ];
-    let wanted = [
-        (Ok(()), true),
-        (Err(Fault::WriteFailed(17)), true),
-        (Err(Fault::WriteFailed(0)), true),
-    ];
-    same(&rt, &found, &wanted);
-    Ok(())
+/// Whether the frame is what goes out.
+fn goes_out_as(rt: &impl Abort, alloc: Global, message: &Message, frame: &[u8]) -> bool {
+    let (answer, has_written) = sent_to(alloc, message, 1, 64, frame);
+    got(rt, answer);
+    has_written
 }
 
-/// The message of a frame that comes in pieces of so many bytes; nothing where it comes before the last.
-fn read_in_pieces(alloc: Global, frame: &[u8], most: usize) -> Result<Option<Message>, Fault> {
+/// The block that `FRAME` spells.
+fn block(rt: &impl Abort, alloc: Global) -> Block {
+    let (key, weight) = (got(rt, Key::read(b"w")), got(rt, Value::weight(5)));
+    let entry = Entry::new(key, 1, Slot::Set(weight));
+    let entries = got(rt, vec![in alloc; entry]);
+    got(rt, Block::new(name(rt, b"a"), 0, entries))
+}
+
+/// The message that `FRAME` spells.
+fn message(rt: &impl Abort, alloc: Global) -> Message {
+    let blocks = got(rt, vec![in alloc; block(rt, alloc)]);
+    Message::Delta(got(rt, Delta::new(blocks)))
+}
+
+/// Whether a message comes next; it has to be that of `FRAME`.
+fn comes(rt: &impl Abort, alloc: Global, frames: &mut Frames) -> bool {
+    match got(rt, taken(frames)) {
+        Some(message) => {
+            same(rt, &goes_out_as(rt, alloc, &message, FRAME), &true);
+            true
+        }
+        None => false,
+    }
+}
+
+/// How many messages come next, up to four.
+fn count_messages(rt: &impl Abort, alloc: Global, frames: &mut Frames) -> usize {
+    for count in 0..4usize {
+        if !comes(rt, alloc, frames) {
+            return count;
+        }
+    }
+    4
+}
+
+/// How many messages come behind this piece.
+fn count_behind(rt: &impl Abort, alloc: Global, frames: &mut Frames, piece: &[u8]) -> usize {
+    feed(rt, frames, piece);
+    count_messages(rt, alloc, frames)
+}
+
+/// How many messages come before the last byte of `FRAME`, which comes byte by byte, and then.
+fn count_in_bytes(rt: &impl Abort, alloc: Global, frames: &mut Frames) -> [usize; 2] {
+    let mut early = 0_usize;
+    for byte in FRAME {
+        early = early.saturating_add(count_messages(rt, alloc, frames));
+        feed(rt, frames, &[*byte]);
+    }
+    [early, count_messages(rt, alloc, frames)]
+}
+
+/// How many messages come behind the front of `FRAME`, its last byte, two of it at once, and nothing.
+fn count_in_pieces(rt: &impl Abort, alloc: Global, frames: &mut Frames) -> [usize; 4] {
+    let (front, last) = FRAME.split_at(39);
+    [
+        count_behind(rt, alloc, frames, front),
+        count_behind(rt, alloc, frames, last),
+        count_behind(rt, alloc, frames, &joined(rt, alloc, &[FRAME, FRAME])),
+        count_behind(rt, alloc, frames, b""),
+    ]
+}
+
+#[test]
+fn a_frame_in_any_pieces(rt: HostRuntime) {
+    let alloc = rt.alloc();
+    same(&rt, &FRAME.len(), &40);
+    let mut frames = Frames::new(alloc);
+    same(&rt, &count_in_bytes(&rt, alloc, &mut frames), &[0, 1]);
+    let found = count_in_pieces(&rt, alloc, &mut frames);
+    same(&rt, &found, &[0, 1, 2, 0]);
+}
+
+/// So many bytes are held before a message is asked for, and one comes or not.
+fn is_held(rt: &impl Abort, frames: &mut Frames, count: usize, comes: bool) {
+    let held = frames.held();
+    same(rt, &(held, has_next(rt, frames)), &(count, comes));
+}
+
+/// What the end would be there, the fault where a frame comes in its place, and what is then held.
+fn broken_off(rt: &impl Abort, frames: &mut Frames) -> (Result<(), Fault>, Option<Fault>, usize) {
+    let end = frames.end();
+    feed(rt, frames, FRAME);
+    let fault = taken(frames).err();
+    (end, fault, frames.held())
+}
+
+#[test]
+fn what_was_not_handed_out_is_held(rt: HostRuntime) {
+    let mut frames = Frames::new(rt.alloc());
+    feed(&rt, &mut frames, FRAME);
+    feed(&rt, &mut frames, FRAME);
+    feed(&rt, &mut frames, &FRAME[..17]);
+    is_held(&rt, &mut frames, 97, true);
+    is_held(&rt, &mut frames, 57, true);
+    is_held(&rt, &mut frames, 17, false);
+    let wanted = (Err(Fault::Truncated), Some(Fault::Malformed(3)), 0);
+    same(&rt, &broken_off(&rt, &mut frames), &wanted);
+}
+
+/// What the frame is read as; it has to be one message.
+fn read(rt: &impl Abort, alloc: Global, frame: &[u8]) -> Message {
+    let mut frames = Frames::new(alloc);
+    feed(rt, &mut frames, frame);
+    let message = next(rt, &mut frames);
+    same(rt, &has_next(rt, &mut frames), &false);
+    message
+}
+
+/// Whether it is the Hello that `HELLO_A` spells.
+fn is_hello(message: Message) -> bool {
+    let Message::Hello(hello) = &message else {
+        return false;
+    };
+    hello.cluster.bytes() == b"c1".as_slice() && hello.node.bytes() == b"a".as_slice()
+}
+
+/// Whether it is the digest that `DIGEST_A` spells.
+fn is_digest(message: Message) -> bool {
+    let Message::Digest(digest) = &message else {
+        return false;
+    };
+    let [pair] = digest.pairs() else {
+        return false;
+    };
+    let is_whole = digest.from().is_none() && digest.until().is_none();
+    digest.want() && is_whole && pair.owner.bytes() == b"a".as_slice() && pair.upto == 0
+}
+
+/// Whether it is the Bye that `BYE` spells.
+fn is_bye(message: Message) -> bool {
+    matches!(&message, Message::Bye(bye) if bye.reason() == 1)
+}
+
+/// The Hello that `HELLO_A` spells.
+fn hello(rt: &impl Abort) -> Message {
+    Message::Hello(Hello {
+        cluster: name(rt, b"c1"),
+        node: name(rt, b"a"),
+    })
+}
+
+/// The Bye that `BYE` spells.
+fn bye(rt: &impl Abort) -> Message {
+    Message::Bye(got(rt, Bye::new(1)))
+}
+
+/// This frame of a message is what goes out.
+fn is_spelled(rt: &impl Abort, alloc: Global, message: Message, frame: &[u8]) {
+    let is_spelled = goes_out_as(rt, alloc, &message, frame);
+    same_at(rt, &frame, &is_spelled, &true);
+}
+
+#[test]
+fn frames_of_other_kinds(rt: HostRuntime) {
+    let alloc = rt.alloc();
+    same(&rt, &DIGEST_A.len(), &22);
+    is_spelled(&rt, alloc, hello(&rt), HELLO_A);
+    is_spelled(&rt, alloc, read(&rt, alloc, DIGEST_A), DIGEST_A);
+    is_spelled(&rt, alloc, bye(&rt), BYE);
+    same(&rt, &is_hello(read(&rt, alloc, HELLO_A)), &true);
+    same(&rt, &is_digest(read(&rt, alloc, DIGEST_A)), &true);
+    same(&rt, &is_bye(read(&rt, alloc, BYE)), &true);
+}
+
+/// These bytes have this fault, and then neither bytes are taken nor a message is given.
+fn closes(rt: &impl Abort, alloc: Global, bytes: &[u8], fault: Fault) {
+    let mut frames = Frames::new(alloc);
+    feed(rt, &mut frames, bytes);
+    let found = taken(&mut frames).err();
+    let answer = frames.feed(FRAME);
+    let found = (found, answer, frames.next().err());
+    let wanted = (Some(fault), Err(Fault::Closed), Some(Fault::Closed));
+    same_at(rt, &bytes, &found, &wanted);
+}
+
+#[test]
+fn faulty_frames_close(rt: HostRuntime) {
+    let alloc = rt.alloc();
+    let unknown = b"\xa7\x01\x00\x00\x00\x01\x55";
+    closes(&rt, alloc, b"\xa6", Fault::BadMark);
+    closes(&rt, alloc, b"\xa7\x09", Fault::BadVersion);
+    closes(&rt, alloc, b"\xa7\x01\x00\x00\x00\x00", Fault::BadLength);
+    closes(&rt, alloc, b"\xa7\x01\x00\x00\xff\xfb", Fault::BadLength);
+    closes(&rt, alloc, unknown, Fault::UnknownKind(0x55));
+    closes(&rt, alloc, DESCENDING, Fault::Malformed(3));
+    closes(&rt, alloc, LONG_CLUSTER, Fault::Malformed(1));
+}
+
+/// A writer that takes so many bytes in a write, and has room for so many, gives this answer, and has written these.
+fn goes_out(
+    rt: &impl Abort,
+    alloc: Global,
+    message: &Message,
+    (most, room): (usize, usize),
+    wanted: (Result<(), Fault>, &[u8]),
+) {
+    let found = sent_to(alloc, message, most, room, wanted.1);
+    same_at(rt, &(most, room), &found, &(wanted.0, true));
+}
+
+#[test]
+fn frames_go_out_whole(rt: HostRuntime) {
+    let alloc = rt.alloc();
+    let message = message(&rt, alloc);
+    let broken = Err(Fault::WriteFailed(17));
+    let closed = Err(Fault::WriteFailed(0));
+    goes_out(&rt, alloc, &message, (1, 64), (Ok(()), FRAME));
+    goes_out(&rt, alloc, &message, (1, 17), (broken, &FRAME[..17]));
+    // It takes no byte, and says so.
+    goes_out(&rt, alloc, &message, (0, 64), (closed, b""));
+}
+
+/// The message of a frame that comes in pieces of so many bytes. None comes before the last.
+fn read_in_pieces(rt: &impl Abort, alloc: Global, frame: &[u8], most: usize) -> Message {
     let mut frames = Frames::new(alloc);
     for piece in frame.chunks(most.max(1)) {
-        if taken(&mut frames)?.is_some() {
-            return Ok(None);
-        }
-        fed(&mut frames, piece)?;
+        same(rt, &has_next(rt, &mut frames), &false);
+        feed(rt, &mut frames, piece);
     }
-    taken(&mut frames)
+    next(rt, &mut frames)
 }
 
-/// What three writers, which take 1, 7 and 4,096 bytes in a write, give the message of a frame that comes in pieces, and
-/// whether each has written the frame; nothing where there is no message.
-fn read_and_sent(
-    alloc: Global,
-    frame: &[u8],
-) -> Result<Option<[(Result<(), Fault>, bool); 3]>, Fault> {
-    match read_in_pieces(alloc, frame, 4_099)? {
-        Some(message) => Ok(Some([
-            sent_to(alloc, &message, 1, 65_536, frame),
-            sent_to(alloc, &message, 7, 65_536, frame),
-            sent_to(alloc, &message, 4_096, 65_536, frame),
-        ])),
-        None => Ok(None),
-    }
+/// The message of a frame goes out as it, where a writer takes 1, 7 and 4,096 bytes in a write.
+fn is_read_and_sent(rt: &impl Abort, alloc: Global, frame: &[u8]) {
+    let message = read_in_pieces(rt, alloc, frame, 4_099);
+    goes_out(rt, alloc, &message, (1, 65_536), (Ok(()), frame));
+    goes_out(rt, alloc, &message, (7, 65_536), (Ok(()), frame));
+    goes_out(rt, alloc, &message, (4_096, 65_536), (Ok(()), frame));
 }
 
 #[test]
-fn the_greatest_frame(rt: HostRuntime) -> Result<(), Fail> {
-    let alloc = rt.alloc();
-    let frame = greatest_frame(alloc)?;
-    let found = (frame.len(), read_and_sent(alloc, &frame)?);
-    let whole = (Ok(()), true);
-    same(&rt, &found, &(65_536, Some([whole, whole, whole])));
-    Ok(())
+fn the_greatest_frame(rt: HostRuntime) {
+    let frame = greatest_frame(&rt, rt.alloc());
+    same(&rt, &frame.len(), &65_536);
+    is_read_and_sent(&rt, rt.alloc(), &frame);
 }
 
 /// What a writer with room for so many bytes gives a message, and whether its last write is said to have failed.
@@ -408,68 +383,62 @@ fn told(alloc: Global, room: usize, message: &Message) -> (Result<(), Fault>, bo
     (answer, last.has_failed())
 }
 
-/// The same of writers with room for 40, 39 and no bytes.
-fn told_in_turn(alloc: Global) -> Result<[(Result<(), Fault>, bool); 3], Fault> {
-    let message = message(alloc)?;
-    Ok([
-        told(alloc, 40, &message),
-        told(alloc, 39, &message),
-        told(alloc, 0, &message),
-    ])
+/// A writer with room for so many bytes gives this answer, and its last write is said to have failed where it is a fault.
+fn is_told(
+    rt: &impl Abort,
+    alloc: Global,
+    message: &Message,
+    room: usize,
+    wanted: Result<(), Fault>,
+) {
+    let found = told(alloc, room, message);
+    same_at(rt, &room, &found, &(wanted, wanted.is_err()));
 }
 
 #[test]
-fn what_the_last_write_answered(rt: HostRuntime) -> Result<(), Fail> {
-    let found = told_in_turn(rt.alloc())?;
-    let wanted = [
-        (Ok(()), false),
-        (Err(Fault::WriteFailed(39)), true),
-        (Err(Fault::WriteFailed(0)), true),
-    ];
-    same(&rt, &found, &wanted);
-    Ok(())
+fn what_the_last_write_answered(rt: HostRuntime) {
+    let alloc = rt.alloc();
+    let message = message(&rt, alloc);
+    is_told(&rt, alloc, &message, 40, Ok(()));
+    is_told(&rt, alloc, &message, 39, Err(Fault::WriteFailed(39)));
+    is_told(&rt, alloc, &message, 0, Err(Fault::WriteFailed(0)));
 }
 
 /// What a writer gives a message that is so often interrupted before each write, and whether it has written `FRAME`.
 fn interrupted(alloc: Global, message: &Message, interruptions: u32) -> (Result<(), Fault>, bool) {
-    let mut narrow = Narrow {
-        interruptions,
-        ..Narrow::new(alloc, 20, 64)
-    };
+    let mut narrow = Narrow::new(alloc, 20, 64);
+    narrow.interruptions = interruptions;
     let answer = sent(alloc, &mut narrow, message);
     (answer, narrow.has_written(FRAME))
 }
 
-#[test]
-fn interrupted_writes_go_on(rt: HostRuntime) -> Result<(), Fail> {
-    let alloc = rt.alloc();
-    let message = message(alloc)?;
-    for (interruptions, expected) in [
-        (1, Ok(())),
-        (1_000, Ok(())),
-        (1_001, Err(Fault::WriteFailed(0))),
-    ] {
-        let found = interrupted(alloc, &message, interruptions);
-        same_at(&rt, &interruptions, &found, &(expected, expected.is_ok()));
-    }
-    Ok(())
+/// A writer that is so often interrupted gives this answer, and has written `FRAME` where it is no fault.
+fn goes_on(
+    rt: &impl Abort,
+    alloc: Global,
+    message: &Message,
+    interruptions: u32,
+    wanted: Result<(), Fault>,
+) {
+    let found = interrupted(alloc, message, interruptions);
+    same_at(rt, &interruptions, &found, &(wanted, wanted.is_ok()));
 }
 
-/// Whether no message comes of the front of a Bye, and then that Bye.
-fn come_in_turn(frames: &mut Frames) -> Result<(bool, bool), Fault> {
-    frames.feed(b"\xa7\x01\x00\x00\x00")?;
-    let is_none = frames.next()?.is_none();
-    frames.feed(b"\x02\x04\x01")?;
-    match frames.next()? {
-        Some(message) => Ok((is_none, is_bye(&message))),
-        None => Ok((is_none, false)),
-    }
+#[test]
+fn interrupted_writes_go_on(rt: HostRuntime) {
+    let alloc = rt.alloc();
+    let message = message(&rt, alloc);
+    goes_on(&rt, alloc, &message, 1, Ok(()));
+    goes_on(&rt, alloc, &message, 1_000, Ok(()));
+    goes_on(&rt, alloc, &message, 1_001, Err(Fault::WriteFailed(0)));
 }
 
 /// The example that stands at `Frames`.
 #[test]
-fn the_example_of_frames(rt: HostRuntime) -> Result<(), Fail> {
+fn the_example_of_frames(rt: HostRuntime) {
     let mut frames = Frames::new(rt.alloc());
-    same(&rt, &come_in_turn(&mut frames)?, &(true, true));
-    Ok(())
+    feed(&rt, &mut frames, b"\xa7\x01\x00\x00\x00");
+    same(&rt, &has_next(&rt, &mut frames), &false);
+    feed(&rt, &mut frames, b"\x02\x04\x01");
+    same(&rt, &is_bye(next(&rt, &mut frames)), &true);
 }

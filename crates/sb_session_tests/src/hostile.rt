@@ -1,16 +1,16 @@
 //! Damaged frames, and made-up bytes, of which each answer is known: `tools/oracle/hostile_bytes.py` works the numbers out.
 ghost use Rattle.std.specs.Prelude.{◌<◌};
 
-use crate::frames::{FRAME, fed, taken};
-use crate::wire::{BYE, HELLO_A};
-use crate::{same, same_at};
+use crate::frames::{FRAME, feed, taken};
+use crate::wire::{BYE, HELLO_A, add};
+use crate::{got, same, same_at};
 use rand_core::utils::NextWord;
 use rand_pcg::Pcg32;
 use sb_codec::Message;
 use sb_frames::{Frames, frame_of};
 use sb_types::Fault;
 use std::alloc::Global;
-use std::test::Fail;
+use std::process::Abort;
 
 /// The digest of the names from a up to c, of which a is held up to 0 and b up to 7.
 const DIGEST: &[u8] = b"\xa7\x01\x00\x00\x00\x1c\x02\x01\x01a\x01c\x00\x02\
@@ -110,54 +110,54 @@ impl Counts {
 }
 
 /// What a message that came is answered by: it has to go out as it came.
-fn answer_to(alloc: Global, message: &Message, stream: &[u8]) -> Result<Answer, Fault> {
-    let frame = frame_of(alloc, message)?;
+fn answer_to(rt: &impl Abort, alloc: Global, message: &Message, stream: &[u8]) -> Answer {
+    let frame = got(rt, frame_of(alloc, message));
     match stream.starts_with(&frame) {
-        true => Ok(Answer::Message(frame.len())),
-        false => Ok(Answer::Faulty(Fault::Closed)),
+        true => Answer::Message(frame.len()),
+        false => Answer::Faulty(Fault::Closed),
     }
 }
 
-/// What a fault is answered by: one of a kind has to name it.
-fn answer_to_fault(fault: Fault, stream: &[u8]) -> Result<Answer, Fault> {
+/// What a fault is answered by: one of a kind has to name it. Want of memory ends the test.
+fn answer_to_fault(rt: &impl Abort, fault: Fault, stream: &[u8]) -> Answer {
     match fault {
-        Fault::NoMemory => Err(Fault::NoMemory),
+        Fault::NoMemory => got(rt, Err(Fault::NoMemory)),
         Fault::UnknownKind(kind) | Fault::Malformed(kind) if stream.get(6) != Some(&kind) => {
-            Ok(Answer::Faulty(Fault::Closed))
+            Answer::Faulty(Fault::Closed)
         }
-        _ => Ok(Answer::Faulty(fault)),
+        _ => Answer::Faulty(fault),
     }
 }
 
 /// What comes of the next frame; a message has to go out as it came, and a fault of a kind has to name it.
-fn answer_of(alloc: Global, frames: &mut Frames, stream: &[u8]) -> Result<Answer, Fault> {
+fn answer_of(rt: &impl Abort, alloc: Global, frames: &mut Frames, stream: &[u8]) -> Answer {
     match taken(frames) {
-        Ok(Some(message)) => answer_to(alloc, &message, stream),
-        Ok(None) => Ok(Answer::Waiting),
-        Err(fault) => answer_to_fault(fault, stream),
+        Ok(Some(message)) => answer_to(rt, alloc, &message, stream),
+        Ok(None) => Answer::Waiting,
+        Err(fault) => answer_to_fault(rt, fault, stream),
     }
 }
 
 /// What comes of a stream that begins with these bytes.
-fn first_of(alloc: Global, stream: &[u8]) -> Result<Answer, Fault> {
+fn first_of(rt: &impl Abort, alloc: Global, stream: &[u8]) -> Answer {
     let mut frames = Frames::new(alloc);
-    fed(&mut frames, stream)?;
-    answer_of(alloc, &mut frames, stream)
+    feed(rt, &mut frames, stream);
+    answer_of(rt, alloc, &mut frames, stream)
 }
 
 /// The frame with another byte at a place.
-fn changed(alloc: Global, frame: &[u8], place: usize, value: u8) -> Result<Vec<u8>, Fault> {
+fn changed(rt: &impl Abort, alloc: Global, frame: &[u8], place: usize, value: u8) -> Vec<u8> {
     let mut changed = Vec::new(alloc);
-    changed.extend_from_slice(frame)?;
+    add(rt, &mut changed, frame);
     if let Some(byte) = changed.get_mut(place) {
         *byte = value;
     }
-    Ok(changed)
+    changed
 }
 
 /// What comes of a frame with another byte at a place.
-fn answer_changed(alloc: Global, frame: &[u8], place: usize, value: u8) -> Result<Answer, Fault> {
-    first_of(alloc, &changed(alloc, frame, place, value)?)
+fn answer_changed(rt: &impl Abort, alloc: Global, frame: &[u8], place: usize, value: u8) -> Answer {
+    first_of(rt, alloc, &changed(rt, alloc, frame, place, value))
 }
 
 /// What has to come of a delta of 40 bytes of which one of the first seven is another.
@@ -176,53 +176,65 @@ fn wanted(place: usize, value: u8) -> Option<Answer> {
     }
 }
 
-#[test]
-fn the_head_of_a_frame_is_damaged(rt: HostRuntime) -> Result<(), Fail> {
-    for (place, byte) in FRAME[..7].iter().enumerate() {
-        for value in 0..=255_u8 {
-            if value != *byte {
-                let answer = answer_changed(rt.alloc(), FRAME, place, value)?;
-                let wanted = wanted(place, value);
-                same_at(&rt, &(place, value), &Some(answer), &wanted);
-            }
+/// What has to come of the delta does, with each other byte at a place.
+fn is_damaged_at(rt: &impl Abort, alloc: Global, place: usize, byte: u8) {
+    for value in 0..=255_u8 {
+        if value != byte {
+            let answer = answer_changed(rt, alloc, FRAME, place, value);
+            same_at(rt, &(place, value), &Some(answer), &wanted(place, value));
         }
     }
-    Ok(())
 }
 
-/// What comes of a frame of which one byte is another, each byte in turn and each other value.
-fn damaged(alloc: Global, frame: &[u8]) -> Result<Counts, Fault> {
-    let mut counts = Counts::new([0; 7]);
-    for (place, byte) in frame.iter().enumerate() {
-        for value in 0..=255_u8 {
-            if value != *byte {
-                counts.count(answer_changed(alloc, frame, place, value)?);
-            }
+#[test]
+fn the_head_of_a_frame_is_damaged(rt: HostRuntime) {
+    let mut place = 0_usize;
+    for byte in &FRAME[..7] {
+        is_damaged_at(&rt, rt.alloc(), place, *byte);
+        place = place.saturating_add(1);
+    }
+}
+
+/// Counts what comes of a frame with each other byte at a place.
+fn count_damaged(
+    rt: &impl Abort,
+    alloc: Global,
+    counts: &mut Counts,
+    frame: &[u8],
+    place: usize,
+    byte: u8,
+) {
+    for value in 0..=255_u8 {
+        if value != byte {
+            counts.count(answer_changed(rt, alloc, frame, place, value));
         }
     }
-    Ok(counts)
+}
+
+/// This comes of a frame of which one byte is another, each byte in turn and each other value.
+fn is_damaged(rt: &impl Abort, alloc: Global, frame: &[u8], wanted: [u64; 7]) {
+    let mut counts = Counts::new([0; 7]);
+    let mut place = 0_usize;
+    for byte in frame {
+        count_damaged(rt, alloc, &mut counts, frame, place, *byte);
+        place = place.saturating_add(1);
+    }
+    same_at(rt, &frame, &counts, &Counts::new(wanted));
 }
 
 /// What comes of each frame of which one byte is another.
-const DAMAGED: [(&[u8], [u64; 7]); 9] = [
-    (HELLO_A, [108, 504, 255, 255, 511, 247, 1_180]),
-    (DIGEST, [4_115, 482, 255, 255, 511, 247, 2_805]),
-    (DELTA, [6_455, 426, 255, 255, 511, 247, 14_801]),
-    (BYE, [5, 508, 255, 255, 511, 247, 259]),
-    (ASK, [268, 498, 255, 255, 511, 247, 2_556]),
-    (ROWS, [6_383, 468, 255, 255, 511, 247, 4_121]),
-    (PUT, [1_951, 498, 255, 255, 511, 247, 873]),
-    (DONE, [2_039, 501, 255, 255, 511, 247, 17]),
-    (REFUSED, [30, 508, 255, 255, 511, 247, 234]),
-];
-
 #[test]
-fn each_byte_is_damaged(rt: HostRuntime) -> Result<(), Fail> {
-    for (frame, counts) in &DAMAGED {
-        let found = damaged(rt.alloc(), frame)?;
-        same_at(&rt, frame, &found, &Counts::new(*counts));
-    }
-    Ok(())
+fn each_byte_is_damaged(rt: HostRuntime) {
+    let alloc = rt.alloc();
+    is_damaged(&rt, alloc, HELLO_A, [108, 504, 255, 255, 511, 247, 1_180]);
+    is_damaged(&rt, alloc, DIGEST, [4_115, 482, 255, 255, 511, 247, 2_805]);
+    is_damaged(&rt, alloc, DELTA, [6_455, 426, 255, 255, 511, 247, 14_801]);
+    is_damaged(&rt, alloc, BYE, [5, 508, 255, 255, 511, 247, 259]);
+    is_damaged(&rt, alloc, ASK, [268, 498, 255, 255, 511, 247, 2_556]);
+    is_damaged(&rt, alloc, ROWS, [6_383, 468, 255, 255, 511, 247, 4_121]);
+    is_damaged(&rt, alloc, PUT, [1_951, 498, 255, 255, 511, 247, 873]);
+    is_damaged(&rt, alloc, DONE, [2_039, 501, 255, 255, 511, 247, 17]);
+    is_damaged(&rt, alloc, REFUSED, [30, 508, 255, 255, 511, 247, 234]);
 }
 
 /// A number below another.
@@ -242,22 +254,20 @@ fn change(random: &mut Pcg32, stream: &mut Vec<u8>) {
 }
 
 /// Puts any bytes at the end of a stream.
-fn push_bytes(random: &mut Pcg32, stream: &mut Vec<u8>) -> Result<(), Fault> {
+fn push_bytes(rt: &impl Abort, random: &mut Pcg32, stream: &mut Vec<u8>) {
     for _ in 0..below(random, 80) {
-        stream.push(below(random, 256) as u8)?;
+        got(rt, stream.push(below(random, 256) as u8));
     }
-    Ok(())
 }
 
 /// Puts up to three frames at the end of a stream, and changes up to three bytes.
-fn push_frames(random: &mut Pcg32, stream: &mut Vec<u8>) -> Result<(), Fault> {
+fn push_frames(rt: &impl Abort, random: &mut Pcg32, stream: &mut Vec<u8>) {
     for _ in 0..=below(random, 3) {
-        stream.extend_from_slice(FRAMES[below(random, 9)])?;
+        add(rt, stream, FRAMES[below(random, 9)]);
     }
     for _ in 0..below(random, 4) {
         change(random, stream);
     }
-    Ok(())
 }
 
 /// Cuts off the end of a stream, where it has one.
@@ -269,65 +279,64 @@ fn cut_off(random: &mut Pcg32, stream: &mut Vec<u8>) {
 }
 
 /// Puts any bytes into a stream; or up to three frames, of which up to three bytes are changed and the end may be cut off.
-fn make_up(random: &mut Pcg32, stream: &mut Vec<u8>) -> Result<(), Fault> {
+fn make_up(rt: &impl Abort, random: &mut Pcg32, stream: &mut Vec<u8>) {
     let form = below(random, 4);
     if form == 0 {
-        return push_bytes(random, stream);
+        push_bytes(rt, random, stream);
+        return;
     }
-    push_frames(random, stream)?;
+    push_frames(rt, random, stream);
     if form == 1 {
         cut_off(random, stream);
     }
-    Ok(())
-}
-
-/// A stream that is made up.
-fn made_up(alloc: Global, random: &mut Pcg32) -> Result<Vec<u8>, Fault> {
-    let mut stream = Vec::new(alloc);
-    make_up(random, &mut stream)?;
-    Ok(stream)
 }
 
 /// Counts the messages of a stream that was fed and what comes behind them, and tells whether nothing does.
 fn count_all(
+    rt: &impl Abort,
     alloc: Global,
     frames: &mut Frames,
     counts: &mut Counts,
     stream: &[u8],
-) -> Result<bool, Fault> {
+) -> bool {
     let mut rest = stream;
     for _ in 0..=stream.len() {
-        let answer = answer_of(alloc, frames, rest)?;
+        let answer = answer_of(rt, alloc, frames, rest);
         if answer == Answer::Waiting && frames.end().is_ok() {
-            return Ok(true);
+            return true;
         }
         counts.count(answer);
         let Answer::Message(length) = answer else {
-            return Ok(false);
+            return false;
         };
         rest = rest.get(length..).unwrap_or(&[]);
     }
-    Ok(false)
+    false
 }
 
 /// The same of a stream that is fed at once.
-fn read_all(alloc: Global, counts: &mut Counts, stream: &[u8]) -> Result<bool, Fault> {
+fn read_all(rt: &impl Abort, alloc: Global, counts: &mut Counts, stream: &[u8]) -> bool {
     let mut frames = Frames::new(alloc);
-    fed(&mut frames, stream)?;
-    count_all(alloc, &mut frames, counts, stream)
+    feed(rt, &mut frames, stream);
+    count_all(rt, alloc, &mut frames, counts, stream)
+}
+
+/// The same of a stream that is made up.
+fn read_made_up(rt: &impl Abort, alloc: Global, random: &mut Pcg32, counts: &mut Counts) -> bool {
+    let mut stream = Vec::new(alloc);
+    make_up(rt, random, &mut stream);
+    read_all(rt, alloc, counts, &stream)
 }
 
 #[test]
-fn made_up_streams(rt: HostRuntime) -> Result<(), Fail> {
+fn made_up_streams(rt: HostRuntime) {
     let mut random = Pcg32::new(42, 54);
     let mut counts = Counts::new([0; 7]);
     let mut whole = 0_u64;
     for _ in 0..STREAMS {
-        let stream = made_up(rt.alloc(), &mut random)?;
-        let is_whole = read_all(rt.alloc(), &mut counts, &stream)?;
+        let is_whole = read_made_up(&rt, rt.alloc(), &mut random, &mut counts);
         whole = whole.wrapping_add(u64::from(is_whole));
     }
     let wanted = [57_513, 22_885, 29_130, 4_412, 7_083, 2_329, 14_454];
     same(&rt, &(counts, whole), &(Counts::new(wanted), 19_707));
-    Ok(())
 }

@@ -16,6 +16,8 @@ mod talk;
 mod wire;
 
 #[cfg(test)]
+use sb_types::Name;
+#[cfg(test)]
 use std::fmt::Debug;
 #[cfg(test)]
 use std::process::Abort;
@@ -30,4 +32,19 @@ fn same<T: PartialEq + Debug>(rt: &impl Abort, found: &T, wanted: &T) {
 #[cfg(test)]
 fn same_at<N: Debug, T: PartialEq + Debug>(rt: &impl Abort, at: &N, found: &T, wanted: &T) {
     assert_eq!(rt; found, wanted, "{at:?}");
+}
+
+/// The answer; where there is none, the end of the test, which names the fault.
+#[cfg(test)]
+fn got<T, E: Debug + Drop>(rt: &impl Abort, answer: Result<T, E>) -> T {
+    match answer {
+        Ok(answer) => answer,
+        Err(fault) => panic!(rt; "error: {fault:?}"),
+    }
+}
+
+/// The name of this text.
+#[cfg(test)]
+fn name(rt: &impl Abort, text: &[u8]) -> Name {
+    got(rt, Name::read(text))
 }

@@ -2,17 +2,28 @@
 ghost use Rattle.std.specs.Prelude.{◌≡◌, ◌<◌};
 
 use crate::wire::Pieces;
-use crate::{same, same_at};
+use crate::{got, same, same_at};
 use sb_codec::Message;
 use sb_frames::{Frames, Steps, receive};
 use sb_types::Fault;
 use std::alloc::Global;
 use std::marker::Brand;
+use std::process::Abort;
 use std::sync::ledger::{Blank, Ledger};
-use std::test::Fail;
 
 /// Bye, since the rounds are done, twice.
 const BYES: &[u8] = b"\xa7\x01\x00\x00\x00\x02\x04\x01\xa7\x01\x00\x00\x00\x02\x04\x01";
+
+/// How many Byes come, and what then: another message, which is no Bye, or the end, or a fault.
+type Received = (usize, Result<Option<bool>, Fault>);
+
+/// Whether a message that came is a Bye.
+fn is_bye(message: Option<Message>) -> Option<bool> {
+    match message {
+        Some(message) => Some(matches!(message, Message::Bye(_))),
+        None => None,
+    }
+}
 
 /// Whether a Bye comes next, unless the end does.
 fn next<L: Ledger>(
@@ -21,44 +32,44 @@ fn next<L: Ledger>(
     max_reads: u64,
     steps: &mut Steps<L>,
 ) -> Result<Option<bool>, Fault> {
-    match receive(reader, frames, max_reads, steps)? {
-        Some(message) => Ok(Some(matches!(message, Message::Bye(_)))),
-        None => Ok(None),
+    match receive(reader, frames, max_reads, steps) {
+        Ok(message) => Ok(is_bye(message)),
+        Err(fault) => Err(fault),
     }
 }
 
-/// How many Byes come, and whether the end comes then, or a fault.
+/// What is received of frames and of a reader, up to four Byes.
 fn receive_on<L: Ledger>(
-    alloc: Global,
     reader: &mut Pieces<'_>,
-    held: &[u8],
+    frames: &mut Frames,
     max_reads: u64,
     blank: Blank,
-) -> Result<(usize, Result<bool, Fault>), Fault>
+) -> Received
     requires name { blank.name ≡ L.name }
     requires parts { blank.parts ≡ L.parts }
     requires some { 0 < blank.parts }
 {
     let mut steps = Steps::<L>::new(blank);
-    let mut frames = Frames::new(alloc);
-    frames.feed(held)?;
     for count in 0..4usize {
-        match next(reader, &mut frames, max_reads, &mut steps) {
-            Ok(Some(true)) => {}
-            Ok(message) => return Ok((count, Ok(message.is_none()))),
-            Err(fault) => return Ok((count, Err(fault))),
+        let next = next(reader, frames, max_reads, &mut steps);
+        if next != Ok(Some(true)) {
+            return (count, next);
         }
     }
-    Err(Fault::Malformed(0))
+    (4, Ok(Some(true)))
 }
 
+/// What is received of what is held, and of a reader.
 fn received(
+    rt: &impl Abort,
     alloc: Global,
     mut reader: Pieces<'_>,
     held: &[u8],
     max_reads: u64,
-) -> Result<(usize, Result<bool, Fault>), Fault> {
-    receive_on::<Brand>(alloc, &mut reader, held, max_reads, Blank::new(1))
+) -> Received {
+    let mut frames = Frames::new(alloc);
+    got(rt, frames.feed(held));
+    receive_on::<Brand>(&mut reader, &mut frames, max_reads, Blank::new(1))
 }
 
 /// A reader that gives all at once.
@@ -72,52 +83,56 @@ fn whole(bytes: &[u8]) -> Pieces<'_> {
     }
 }
 
-#[test]
-fn messages_out_of_a_reader(rt: HostRuntime) -> Result<(), Fail> {
-    let alloc = rt.alloc();
-    for (piece, interrupts, max_reads) in [
-        (1usize, false, 8),
-        (1, true, 16),
-        (5, false, 2),
-        (16, false, 1),
-    ] {
-        let reader = Pieces {
-            piece,
-            interrupts,
-            ..whole(BYES)
-        };
-        let found = received(alloc, reader, b"", max_reads)?;
-        same_at(&rt, &piece, &found, &(2, Ok(true)));
-    }
-    // What is held comes without a read.
-    let found = received(alloc, whole(b""), BYES, 0)?;
-    same(&rt, &found, &(2, Err(Fault::TurnsSpent)));
-    Ok(())
+/// Both Byes come, and the end then, of a reader that gives so many bytes a read.
+fn comes_in_pieces(rt: &impl Abort, alloc: Global, piece: usize, interrupts: bool, max_reads: u64) {
+    let mut reader = whole(BYES);
+    reader.piece = piece;
+    reader.interrupts = interrupts;
+    let found = received(rt, alloc, reader, b"", max_reads);
+    same_at(rt, &piece, &found, &(2, Ok(None)));
 }
 
 #[test]
-fn readers_that_give_out(rt: HostRuntime) -> Result<(), Fail> {
+fn messages_out_of_a_reader(rt: HostRuntime) {
     let alloc = rt.alloc();
-    for (length, breaks, max_reads, expected, fault) in [
-        (16usize, false, 0, 0usize, Fault::TurnsSpent),
-        (7, false, 9, 0, Fault::Truncated),
-        (15, false, 9, 1, Fault::Truncated),
-        (16, true, 9, 2, Fault::ReadFailed),
-        (12, true, 9, 1, Fault::ReadFailed),
-    ] {
-        let reader = Pieces {
-            breaks,
-            ..whole(BYES.get(..length).unwrap_or(&[]))
-        };
-        let found = received(alloc, reader, b"", max_reads)?;
-        same_at(&rt, &length, &found, &(expected, Err(fault)));
-    }
-    for (bytes, fault) in [
-        (b"\xa6".as_slice(), Fault::BadMark),
-        (b"\xa7\x01\x00\x00\x00\x01\x55", Fault::UnknownKind(0x55)),
-    ] {
-        let found = received(alloc, whole(bytes), b"", 9)?;
-        same_at(&rt, &bytes, &found, &(0, Err(fault)));
-    }
-    Ok(())
+    comes_in_pieces(&rt, alloc, 1, false, 8);
+    comes_in_pieces(&rt, alloc, 1, true, 16);
+    comes_in_pieces(&rt, alloc, 5, false, 2);
+    comes_in_pieces(&rt, alloc, 16, false, 1);
+    // What is held comes without a read.
+    let found = received(&rt, alloc, whole(b""), BYES, 0);
+    same(&rt, &found, &(2, Err(Fault::TurnsSpent)));
+}
+
+/// So many Byes come of the front of the two, and then this fault.
+fn gives_out(
+    rt: &impl Abort,
+    alloc: Global,
+    (length, breaks): (usize, bool),
+    max_reads: u64,
+    wanted: (usize, Fault),
+) {
+    let mut reader = whole(BYES.get(..length).unwrap_or(&[]));
+    reader.breaks = breaks;
+    let found = received(rt, alloc, reader, b"", max_reads);
+    same_at(rt, &length, &found, &(wanted.0, Err(wanted.1)));
+}
+
+/// No Bye comes of these bytes, but this fault.
+fn is_faulty(rt: &impl Abort, alloc: Global, bytes: &[u8], fault: Fault) {
+    let found = received(rt, alloc, whole(bytes), b"", 9);
+    same_at(rt, &bytes, &found, &(0, Err(fault)));
+}
+
+#[test]
+fn readers_that_give_out(rt: HostRuntime) {
+    let alloc = rt.alloc();
+    gives_out(&rt, alloc, (16, false), 0, (0, Fault::TurnsSpent));
+    gives_out(&rt, alloc, (7, false), 9, (0, Fault::Truncated));
+    gives_out(&rt, alloc, (15, false), 9, (1, Fault::Truncated));
+    gives_out(&rt, alloc, (16, true), 9, (2, Fault::ReadFailed));
+    gives_out(&rt, alloc, (12, true), 9, (1, Fault::ReadFailed));
+    is_faulty(&rt, alloc, b"\xa6", Fault::BadMark);
+    let unknown = b"\xa7\x01\x00\x00\x00\x01\x55";
+    is_faulty(&rt, alloc, unknown, Fault::UnknownKind(0x55));
 }

@@ -3,7 +3,7 @@ ghost use Rattle.std.specs.Prelude.{IfErr};
 ghost use Rattle.sb_session.specs.Handlers.{IsRefusal};
 
 use crate::wire::{BYE, DELTA_B, DELTA_NONE, DIGEST_A, DIGEST_B, HELLO_A, HELLO_B};
-use crate::{same, same_at};
+use crate::{got, name, same, same_at};
 use sb_codec::Message;
 use sb_digest::{Digest, build};
 use sb_frames::{Frames, frame_of};
@@ -12,7 +12,7 @@ use sb_session::{Handler, Replies, Session};
 use sb_table::Table;
 use sb_types::{BUDGET_LEAST, Block, Delta, Entry, Fault, Key, Name, Slot, Value};
 use std::alloc::Global;
-use std::test::Fail;
+use std::process::Abort;
 
 /// Hello of a node a of the cluster c2.
 pub(crate) const HELLO_C2: &[u8] = b"\xa7\x01\x00\x00\x00\x06\x01\x02c2\x01a";
@@ -46,20 +46,26 @@ fn block_above(alloc: Global, owner: Name, table: &Table, after: u64) -> Result<
     Block::new(owner, after, entries)
 }
 
+/// The table of one that wrote nothing, or the flag true under w.
+fn table(rt: &impl Abort, alloc: Global, has_written: bool) -> Table {
+    let mut table = Table::new(alloc);
+    if has_written {
+        let key = got(rt, Key::read(b"w"));
+        let entry = Entry::new(key, 1, Slot::Set(Value::flag(true)));
+        got(rt, table.push(entry));
+    }
+    table
+}
+
 impl Node {
     /// A node that wrote nothing, or the flag true under w.
-    pub(crate) fn new(alloc: Global, name: &[u8], has_written: bool) -> Result<Node, Fault> {
-        let mut table = Table::new(alloc);
-        if has_written {
-            let entry = Entry::new(Key::read(b"w")?, 1, Slot::Set(Value::flag(true)));
-            table.push(entry)?;
-        }
-        let holdings = Holdings::new(alloc, Name::read(name)?, table)?;
-        Ok(Node {
+    pub(crate) fn new(rt: &impl Abort, alloc: Global, me: &[u8], has_written: bool) -> Node {
+        let table = table(rt, alloc, has_written);
+        Node {
             alloc,
             grants: 1_000,
-            holdings,
-        })
+            holdings: got(rt, Holdings::new(alloc, name(rt, me), table)),
+        }
     }
 
     /// Grants a call, while there are any.
@@ -73,8 +79,8 @@ impl Node {
         Ok(())
     }
 
-    pub(crate) fn upto(&self, name: &[u8]) -> Result<u64, Fault> {
-        Ok(self.holdings.upto(&Name::read(name)?))
+    pub(crate) fn upto(&self, rt: &impl Abort, owner: &[u8]) -> u64 {
+        self.holdings.upto(&name(rt, owner))
     }
 
     fn lacking(&self, told: &Digest) -> Result<Delta, Fault> {
@@ -143,272 +149,227 @@ impl Handler for Node {
     ghost grows_on = { λ old mid new a b. tt };
 }
 
-/// The pieces, one after the other.
-pub(crate) fn joined(alloc: Global, pieces: &[&[u8]]) -> Result<Vec<u8>, Fault> {
-    let mut bytes = Vec::new(alloc);
-    for piece in pieces {
-        bytes.extend_from_slice(piece)?;
-    }
-    Ok(bytes)
-}
-
 /// The message of a frame.
-fn read(alloc: Global, frame: &[u8]) -> Result<Message, Fault> {
+fn read(rt: &impl Abort, alloc: Global, frame: &[u8]) -> Message {
     let mut frames = Frames::new(alloc);
-    frames.feed(frame)?;
-    match frames.next()? {
-        Some(message) => Ok(message),
-        None => Err(Fault::Truncated),
+    got(rt, frames.feed(frame));
+    match got(rt, frames.next()) {
+        Some(message) => message,
+        None => got(rt, Err(Fault::Truncated)),
     }
 }
 
 /// Whether the message goes out as this frame.
-fn is_frame_of(alloc: Global, message: &Message, frame: &[u8]) -> Result<bool, Fault> {
-    Ok(frame_of(alloc, message)?.as_slice() == frame)
-}
-
-/// The same of a message that is not wanted any more.
-fn is_spelled(alloc: Global, message: Message, frame: &[u8]) -> Result<bool, Fault> {
-    is_frame_of(alloc, &message, frame)
+fn is_spelled(rt: &impl Abort, alloc: Global, message: Message, frame: &[u8]) -> bool {
+    got(rt, frame_of(alloc, &message)).as_slice() == frame
 }
 
 /// What a session makes of the message of a frame.
-fn take(
-    alloc: Global,
-    session: &mut Session,
-    node: &mut Node,
-    frame: &[u8],
-) -> Result<Replies, Fault> {
-    session.take(read(alloc, frame)?, node)
+fn take(rt: &impl Abort, session: &mut Session, node: &mut Node, frame: &[u8]) -> Replies {
+    let message = read(rt, node.alloc, frame);
+    got(rt, session.take(message, node))
 }
 
 /// Why a session does not take the message of a frame, where it does not.
-fn refusal(
-    alloc: Global,
-    session: &mut Session,
-    node: &mut Node,
-    frame: &[u8],
-) -> Result<Option<Fault>, Fault> {
-    let message = read(alloc, frame)?;
-    Ok(session.take(message, node).err())
+fn refusal(rt: &impl Abort, session: &mut Session, node: &mut Node, frame: &[u8]) -> Option<Fault> {
+    let message = read(rt, node.alloc, frame);
+    session.take(message, node).err()
 }
 
 /// A session of a node of the cluster c1.
-fn session_of(name: &[u8]) -> Result<Session, Fault> {
-    Ok(Session::new(Name::read(b"c1")?, Name::read(name)?))
+fn session_of(rt: &impl Abort, me: &[u8]) -> Session {
+    Session::new(name(rt, b"c1"), name(rt, me))
 }
 
 /// Whether the session takes the Hello of a peer.
-fn is_greeted(
-    alloc: Global,
-    session: &mut Session,
-    node: &mut Node,
-    hello: &[u8],
-) -> Result<bool, Fault> {
-    let reply = take(alloc, session, node, hello)?;
-    Ok(matches!(reply, Replies::Greeted))
+fn is_greeted(rt: &impl Abort, session: &mut Session, node: &mut Node, hello: &[u8]) -> bool {
+    matches!(take(rt, session, node, hello), Replies::Greeted)
 }
 
 /// Whether the session says Hello as b does, and takes that of a.
-fn greet(alloc: Global, session: &mut Session, node: &mut Node) -> Result<[bool; 2], Fault> {
-    let is_hello = is_spelled(alloc, session.hello(), HELLO_B)?;
-    Ok([is_hello, is_greeted(alloc, session, node, HELLO_A)?])
+fn greet(rt: &impl Abort, session: &mut Session, node: &mut Node) -> [bool; 2] {
+    let is_hello = is_spelled(rt, node.alloc, session.hello(), HELLO_B);
+    [is_hello, is_greeted(rt, session, node, HELLO_A)]
 }
 
 /// Whether these are the delta and the digest of b.
-fn are_of_b(alloc: Global, delta: Delta, digest: Digest) -> Result<[bool; 2], Fault> {
-    let is_delta = is_spelled(alloc, Message::Delta(delta), DELTA_B)?;
-    let is_digest = is_spelled(alloc, Message::Digest(digest), DIGEST_B)?;
-    Ok([is_delta, is_digest])
+fn are_of_b(rt: &impl Abort, alloc: Global, delta: Delta, digest: Digest) -> [bool; 2] {
+    let is_digest = is_spelled(rt, alloc, Message::Digest(digest), DIGEST_B);
+    [
+        is_spelled(rt, alloc, Message::Delta(delta), DELTA_B),
+        is_digest,
+    ]
 }
 
 /// Whether the digest of a is answered with the delta and the digest of b.
-fn exchange(alloc: Global, session: &mut Session, node: &mut Node) -> Result<[bool; 2], Fault> {
-    match take(alloc, session, node, DIGEST_A)? {
-        Replies::Exchanged(delta, digest) => are_of_b(alloc, delta, digest),
-        _ => Ok([false, false]),
+fn exchange(rt: &impl Abort, session: &mut Session, node: &mut Node) -> [bool; 2] {
+    match take(rt, session, node, DIGEST_A) {
+        Replies::Exchanged(delta, digest) => are_of_b(rt, node.alloc, delta, digest),
+        _ => [false, false],
     }
 }
 
 /// Whether the digest of b is answered with a delta of no block.
-fn answer(alloc: Global, session: &mut Session, node: &mut Node) -> Result<bool, Fault> {
-    match take(alloc, session, node, DIGEST_B)? {
-        Replies::Answered(delta) => is_spelled(alloc, Message::Delta(delta), DELTA_NONE),
-        _ => Ok(false),
+fn answer(rt: &impl Abort, session: &mut Session, node: &mut Node) -> bool {
+    match take(rt, session, node, DIGEST_B) {
+        Replies::Answered(delta) => is_spelled(rt, node.alloc, Message::Delta(delta), DELTA_NONE),
+        _ => false,
     }
 }
 
 /// Why a Bye ends the session, where it does.
-fn reason(alloc: Global, session: &mut Session, node: &mut Node) -> Result<Option<u8>, Fault> {
-    match take(alloc, session, node, BYE)? {
-        Replies::Ended(bye) => Ok(Some(bye.reason())),
-        _ => Ok(None),
+fn reason(rt: &impl Abort, session: &mut Session, node: &mut Node) -> Option<u8> {
+    match take(rt, session, node, BYE) {
+        Replies::Ended(bye) => Some(bye.reason()),
+        _ => None,
     }
 }
 
 /// Why a Bye ends the session, and the faults of another Bye, and of asking, then.
 fn end(
-    alloc: Global,
+    rt: &impl Abort,
     session: &mut Session,
     node: &mut Node,
-) -> Result<(Option<u8>, [Option<Fault>; 2]), Fault> {
-    let reason = reason(alloc, session, node)?;
-    let again = refusal(alloc, session, node, BYE)?;
-    Ok((reason, [again, session.ask(node).err()]))
+) -> (Option<u8>, [Option<Fault>; 2]) {
+    let reason = reason(rt, session, node);
+    let again = refusal(rt, session, node, BYE);
+    (reason, [again, session.ask(node).err()])
+}
+
+/// A session of b takes the Hello and the digest of a, its own digest, and a Bye.
+fn takes_what_comes(rt: &impl Abort, session: &mut Session, node: &mut Node) {
+    same(rt, &greet(rt, session, node), &[true; 2]);
+    same(rt, &exchange(rt, session, node), &[true; 2]);
+    same(rt, &answer(rt, session, node), &true);
+    let closed = Some(Fault::Closed);
+    same(rt, &end(rt, session, node), &(Some(1), [closed, closed]));
 }
 
 #[test]
-fn a_session_takes_what_comes(rt: HostRuntime) -> Result<(), Fail> {
-    let alloc = rt.alloc();
-    let mut session = session_of(b"b")?;
-    let mut node = Node::new(alloc, b"b", true)?;
-    let greeted = greet(alloc, &mut session, &mut node)?;
-    let exchanged = exchange(alloc, &mut session, &mut node)?;
-    let is_answered = answer(alloc, &mut session, &mut node)?;
-    let ended = end(alloc, &mut session, &mut node)?;
-    same(
-        &rt,
-        &(greeted, exchanged, is_answered),
-        &([true, true], [true, true], true),
-    );
-    same(
-        &rt,
-        &ended,
-        &(Some(1), [Some(Fault::Closed), Some(Fault::Closed)]),
-    );
-    Ok(())
+fn a_session_takes_what_comes(rt: HostRuntime) {
+    let mut node = Node::new(&rt, rt.alloc(), b"b", true);
+    takes_what_comes(&rt, &mut session_of(&rt, b"b"), &mut node);
 }
 
-/// How many blocks these are, unless one finds no memory.
-fn settled(report: &Report) -> Result<usize, Fault> {
+/// How many blocks these are. One that finds no memory ends the test.
+fn settled(rt: &impl Abort, report: &Report) -> usize {
     for end in report.ends() {
         if matches!(end, BlockEnd::NoMemory(_)) {
-            return Err(Fault::NoMemory);
+            got(rt, Err(Fault::NoMemory))
         }
     }
-    Ok(report.len())
+    report.len()
 }
 
 /// How many blocks of the delta of b the session applies, where it does.
-fn applied(alloc: Global, session: &mut Session, node: &mut Node) -> Result<Option<usize>, Fault> {
-    match take(alloc, session, node, DELTA_B)? {
-        Replies::Applied(report) => Ok(Some(settled(&report)?)),
-        _ => Ok(None),
+fn applied(rt: &impl Abort, session: &mut Session, node: &mut Node) -> Option<usize> {
+    match take(rt, session, node, DELTA_B) {
+        Replies::Applied(report) => Some(settled(rt, &report)),
+        _ => None,
     }
 }
 
-/// Whether the session asks as a does, and how many blocks of the delta of b it then applies, where it does.
-fn ask(
-    alloc: Global,
-    session: &mut Session,
-    node: &mut Node,
-) -> Result<(bool, Option<usize>), Fault> {
-    let is_asked = is_spelled(alloc, session.ask(node)?, DIGEST_A)?;
-    is_greeted(alloc, session, node, HELLO_B)?;
-    Ok((is_asked, applied(alloc, session, node)?))
+/// Whether the session asks as a does.
+fn is_asked(rt: &impl Abort, session: &mut Session, node: &mut Node) -> bool {
+    let message = got(rt, session.ask(node));
+    is_spelled(rt, node.alloc, message, DIGEST_A)
+}
+
+/// A session of a asks as it does, and then applies the delta of b.
+fn asks(rt: &impl Abort, session: &mut Session, node: &mut Node) {
+    same(rt, &is_asked(rt, session, node), &true);
+    is_greeted(rt, session, node, HELLO_B);
+    let applied = applied(rt, session, node);
+    same(rt, &(applied, node.upto(rt, b"b")), &(Some(1), 1));
 }
 
 #[test]
-fn a_session_asks(rt: HostRuntime) -> Result<(), Fail> {
-    let alloc = rt.alloc();
-    let mut session = session_of(b"a")?;
-    let mut node = Node::new(alloc, b"a", false)?;
-    let asked = ask(alloc, &mut session, &mut node)?;
-    same(&rt, &(asked, node.upto(b"b")?), &((true, Some(1)), 1));
-    Ok(())
+fn a_session_asks(rt: HostRuntime) {
+    let mut node = Node::new(&rt, rt.alloc(), b"a", false);
+    asks(&rt, &mut session_of(&rt, b"a"), &mut node);
 }
 
 /// The fault of the last of these messages, where the session is closed then.
 fn closing_fault(
-    alloc: Global,
+    rt: &impl Abort,
     session: &mut Session,
     node: &mut Node,
     frames: &[&[u8]],
-) -> Result<Option<Fault>, Fault> {
+) -> Option<Fault> {
     let mut last = None;
     for frame in frames {
-        last = refusal(alloc, session, node, frame)?;
+        last = refusal(rt, session, node, frame);
     }
-    match refusal(alloc, session, node, HELLO_A)? {
-        Some(Fault::Closed) => Ok(last),
-        _ => Ok(None),
+    match refusal(rt, session, node, HELLO_A) {
+        Some(Fault::Closed) => last,
+        _ => None,
     }
 }
 
-/// The same of a session of b.
-fn fault_of(alloc: Global, frames: &[&[u8]]) -> Result<Option<Fault>, Fault> {
-    let mut session = session_of(b"b")?;
-    let mut node = Node::new(alloc, b"b", false)?;
-    closing_fault(alloc, &mut session, &mut node, frames)
+/// The last of these messages closes a session of b with this fault.
+fn closes(rt: &impl Abort, alloc: Global, frames: &[&[u8]], fault: Fault) {
+    let mut session = session_of(rt, b"b");
+    let mut node = Node::new(rt, alloc, b"b", false);
+    let found = closing_fault(rt, &mut session, &mut node, frames);
+    same_at(rt, &frames, &found, &Some(fault));
+}
+
+/// A message of this kind closes a session, before Hello and behind it.
+fn has_no_place(rt: &impl Abort, alloc: Global, control: &[u8], kind: u8) {
+    closes(rt, alloc, &[control], Fault::UnknownKind(kind));
+    closes(rt, alloc, &[HELLO_A, control], Fault::UnknownKind(kind));
 }
 
 #[test]
-fn messages_out_of_place_close(rt: HostRuntime) -> Result<(), Fail> {
+fn messages_out_of_place_close(rt: HostRuntime) {
     let alloc = rt.alloc();
-    let cases: [(&[&[u8]], Fault); 8] = [
-        (&[DIGEST_A], Fault::NoHello),
-        (&[DELTA_B], Fault::NoHello),
-        (&[BYE], Fault::NoHello),
-        (&[HELLO_C2], Fault::WrongCluster),
-        (&[HELLO_B], Fault::SameName),
-        (&[HELLO_A, HELLO_A], Fault::SecondHello),
-        (&[HELLO_A, HELLO_C2], Fault::SecondHello),
-        (&[HELLO_A, HELLO_B], Fault::SecondHello),
-    ];
-    for (frames, fault) in cases {
-        same_at(&rt, &frames, &fault_of(alloc, frames)?, &Some(fault));
-    }
-    for (control, kind) in [
-        (ASK, 0x10u8),
-        (ROWS, 0x11),
-        (PUT, 0x12),
-        (DONE, 0x13),
-        (REFUSED, 0x14),
-    ] {
-        let fault = Some(Fault::UnknownKind(kind));
-        same_at(&rt, &kind, &fault_of(alloc, &[control])?, &fault);
-        same_at(&rt, &kind, &fault_of(alloc, &[HELLO_A, control])?, &fault);
-    }
-    Ok(())
+    closes(&rt, alloc, &[DIGEST_A], Fault::NoHello);
+    closes(&rt, alloc, &[DELTA_B], Fault::NoHello);
+    closes(&rt, alloc, &[BYE], Fault::NoHello);
+    closes(&rt, alloc, &[HELLO_C2], Fault::WrongCluster);
+    closes(&rt, alloc, &[HELLO_B], Fault::SameName);
+    closes(&rt, alloc, &[HELLO_A, HELLO_A], Fault::SecondHello);
+    closes(&rt, alloc, &[HELLO_A, HELLO_C2], Fault::SecondHello);
+    closes(&rt, alloc, &[HELLO_A, HELLO_B], Fault::SecondHello);
+    has_no_place(&rt, alloc, ASK, 0x10);
+    has_no_place(&rt, alloc, ROWS, 0x11);
+    has_no_place(&rt, alloc, PUT, 0x12);
+    has_no_place(&rt, alloc, DONE, 0x13);
+    has_no_place(&rt, alloc, REFUSED, 0x14);
 }
 
-/// Messages, and how many calls of the handler are granted, which are too few.
-const UNGRANTED: [(&[u8], u64); 4] = [(DIGEST_A, 0), (DIGEST_A, 1), (DIGEST_B, 0), (DELTA_B, 0)];
-
-/// The faults behind Hello of messages, and then of asking, where too few calls are granted.
-fn refusals(
-    alloc: Global,
+/// The message of a frame is refused where so many calls of the handler are granted, which are too few.
+fn is_ungranted(
+    rt: &impl Abort,
     session: &mut Session,
     node: &mut Node,
-) -> Result<[Option<Fault>; 5], Fault> {
-    is_greeted(alloc, session, node, HELLO_A)?;
-    let mut found = [None; 5];
-    for (fault, (frame, grants)) in found.iter_mut().zip(&UNGRANTED) {
-        node.grants = *grants;
-        *fault = refusal(alloc, session, node, frame)?;
-    }
-    found[4] = session.ask(node).err();
-    Ok(found)
+    frame: &[u8],
+    grants: u64,
+) {
+    node.grants = grants;
+    let found = refusal(rt, session, node, frame);
+    same_at(rt, &(frame, grants), &found, &Some(Fault::TurnsSpent));
 }
 
 /// Whether a digest is answered with a delta and a digest where two calls are granted.
-fn is_exchanged(alloc: Global, session: &mut Session, node: &mut Node) -> Result<bool, Fault> {
+fn is_exchanged(rt: &impl Abort, session: &mut Session, node: &mut Node) -> bool {
     node.grants = 2;
-    let reply = take(alloc, session, node, DIGEST_A)?;
-    Ok(matches!(reply, Replies::Exchanged(_, _)))
+    matches!(take(rt, session, node, DIGEST_A), Replies::Exchanged(_, _))
+}
+
+/// Too few calls are granted for messages behind Hello, and for asking; then a digest is taken.
+fn refuses(rt: &impl Abort, session: &mut Session, node: &mut Node) {
+    is_greeted(rt, session, node, HELLO_A);
+    is_ungranted(rt, session, node, DIGEST_A, 0);
+    is_ungranted(rt, session, node, DIGEST_A, 1);
+    is_ungranted(rt, session, node, DIGEST_B, 0);
+    is_ungranted(rt, session, node, DELTA_B, 0);
+    same(rt, &session.ask(node).err(), &Some(Fault::TurnsSpent));
+    same(rt, &is_exchanged(rt, session, node), &true);
 }
 
 #[test]
-fn refusals_leave_the_session(rt: HostRuntime) -> Result<(), Fail> {
-    let alloc = rt.alloc();
-    let mut session = session_of(b"b")?;
-    let mut node = Node::new(alloc, b"b", true)?;
-    let found = refusals(alloc, &mut session, &mut node)?;
-    let is_exchanged = is_exchanged(alloc, &mut session, &mut node)?;
-    same(
-        &rt,
-        &(found, is_exchanged),
-        &([Some(Fault::TurnsSpent); 5], true),
-    );
-    Ok(())
+fn refusals_leave_the_session(rt: HostRuntime) {
+    let mut node = Node::new(&rt, rt.alloc(), b"b", true);
+    refuses(&rt, &mut session_of(&rt, b"b"), &mut node);
 }

@@ -1,19 +1,20 @@
 //! Whole sessions over readers and writers that break off, fail and give their bytes in pieces.
 ghost use Rattle.std.specs.Prelude.{◌≡◌, ◌<◌};
 
-use crate::session::{ASK, DONE, HELLO_C2, Node, PUT, REFUSED, ROWS, joined};
+use crate::session::{ASK, DONE, HELLO_C2, Node, PUT, REFUSED, ROWS};
 use crate::wire::{
-    BYE, DELTA_B, DELTA_NONE, DIGEST_A, DIGEST_B, HELLO_A, HELLO_B, Pieces, greatest_frame,
+    BYE, DELTA_B, DELTA_NONE, DIGEST_A, DIGEST_B, HELLO_A, HELLO_B, Pieces, add, greatest_frame,
+    joined,
 };
-use crate::{same, same_at};
+use crate::{got, name, same, same_at};
 use sb_frames::{LastWrite, Steps};
 use sb_session::{Ended, Session, dial, serve};
-use sb_types::{Fault, Name};
+use sb_types::Fault;
 use std::alloc::Global;
 use std::io::{self, ErrorKind, Write};
 use std::marker::Brand;
+use std::process::Abort;
 use std::sync::ledger::{Blank, Ledger};
-use std::test::Fail;
 
 /// Takes one byte in each write, and fails once it has no room. Every other write is interrupted.
 #[derive(Drop)]
@@ -149,13 +150,14 @@ fn talk_on<L: Ledger>(
 
 /// A whole talk of a node of the cluster c1, and whether its last write is said to have failed.
 fn talk_telling(
+    rt: &impl Abort,
     node: &mut Node,
     writer: &mut Room,
     terms: Terms<'_>,
-) -> Result<(Result<Ended, Fault>, bool), Fault> {
-    let session = Session::new(Name::read(b"c1")?, *node.holdings.me());
+) -> (Result<Ended, Fault>, bool) {
+    let session = Session::new(name(rt, b"c1"), *node.holdings.me());
     let (ended, last) = talk_on::<Brand>(node, writer, session, terms, Blank::new(1));
-    Ok((ended, last.has_failed()))
+    (ended, last.has_failed())
 }
 
 /// A talk that goes well: who speaks, in how many rounds if it dials, what it hears and what it writes; how many
@@ -203,46 +205,55 @@ const DIALED: Course<'static> = Course {
 type Outcome = (Result<Ended, Fault>, bool, bool, usize);
 
 /// What comes of a talk of a node that is to write these pieces.
-fn outcome(node: &mut Node, terms: Terms<'_>, pieces: &[&[u8]]) -> Result<Outcome, Fault> {
+fn outcome(rt: &impl Abort, node: &mut Node, terms: Terms<'_>, pieces: &[&[u8]]) -> Outcome {
     let mut writer = Room::new(terms.room);
-    let (ended, has_failed) = talk_telling(node, &mut writer, terms)?;
+    let (ended, has_failed) = talk_telling(rt, node, &mut writer, terms);
     let is_written = writer.has_written(pieces);
-    Ok((ended, has_failed, is_written, writer.written))
+    (ended, has_failed, is_written, writer.written)
 }
 
 /// What comes of a course under these terms, where so many calls of the handler are allowed.
 fn follow(
+    rt: &impl Abort,
     alloc: Global,
     course: &Course<'_>,
     terms: Terms<'_>,
     grants: u64,
-) -> Result<Outcome, Fault> {
-    let mut node = Node::new(alloc, course.name, course.has_written)?;
+) -> Outcome {
+    let mut node = Node::new(rt, alloc, course.name, course.has_written);
     node.grants = grants;
-    outcome(&mut node, terms, course.written)
+    outcome(rt, &mut node, terms, course.written)
+}
+
+/// The terms of a course whose node hears this.
+fn hearing<'a>(course: &Course<'_>, bytes: &'a [u8]) -> Terms<'a> {
+    let mut terms = serving(bytes);
+    terms.rounds = course.rounds;
+    terms
+}
+
+/// The course ends as it is to, where so many bytes come in a read.
+fn ends_in_pieces(rt: &impl Abort, alloc: Global, course: &Course<'_>, piece: usize) {
+    let input = joined(rt, alloc, &course.heard);
+    let mut terms = hearing(course, &input);
+    terms.piece = piece;
+    let found = follow(rt, alloc, course, terms, 1_000);
+    let wanted = (Ok(course.ended), false, true, course.late);
+    same_at(rt, &piece, &found, &wanted);
+}
+
+/// The same of one byte in a read, of some, and of all.
+fn ends_in_any_pieces(rt: &impl Abort, alloc: Global, course: &Course<'_>) {
+    ends_in_pieces(rt, alloc, course, 1);
+    ends_in_pieces(rt, alloc, course, 7);
+    ends_in_pieces(rt, alloc, course, 42);
+    ends_in_pieces(rt, alloc, course, 4_096);
 }
 
 #[test]
-fn bytes_come_in_any_pieces(rt: HostRuntime) -> Result<(), Fail> {
-    let alloc = rt.alloc();
-    for course in [SERVED, DIALED] {
-        let input = joined(alloc, &course.heard)?;
-        for piece in [1usize, 7, 42, 4_096] {
-            let terms = Terms {
-                piece,
-                rounds: course.rounds,
-                ..serving(&input)
-            };
-            let found = follow(alloc, &course, terms, 1_000)?;
-            same_at(
-                &rt,
-                &piece,
-                &found,
-                &(Ok(course.ended), false, true, course.late),
-            );
-        }
-    }
-    Ok(())
+fn bytes_come_in_any_pieces(rt: HostRuntime) {
+    ends_in_any_pieces(&rt, rt.alloc(), &SERVED);
+    ends_in_any_pieces(&rt, rt.alloc(), &DIALED);
 }
 
 /// How many bytes of its piece stand before the byte at a place, of pieces that stand one after the other.
@@ -257,124 +268,155 @@ fn within(pieces: &[&[u8]], place: usize) -> usize {
     left
 }
 
-/// What came of a talk, unless memory ran out in it.
-fn settled(outcome: Outcome) -> Result<Outcome, Fault> {
+/// What came of a talk. Want of memory in it ends the test.
+fn settled(rt: &impl Abort, outcome: Outcome) -> Outcome {
     match outcome.0 {
-        Err(Fault::NoMemory) => Err(Fault::NoMemory),
-        _ => Ok(outcome),
+        Err(Fault::NoMemory) => got(rt, Err(Fault::NoMemory)),
+        _ => outcome,
     }
 }
 
-/// The first place at which a writer fails and it is not told so, with how much of its frame is out.
-fn wrong_room(alloc: Global, course: &Course<'_>) -> Result<Option<usize>, Fault> {
-    let input = joined(alloc, &course.heard)?;
+/// Whether a writer fails at a place and it is told so, with how much of its frame is out.
+fn is_told_room(
+    rt: &impl Abort,
+    alloc: Global,
+    course: &Course<'_>,
+    input: &[u8],
+    room: usize,
+) -> bool {
+    let mut terms = hearing(course, input);
+    terms.room = room;
+    let outcome = follow(rt, alloc, course, terms, 1_000);
+    let (answer, has_failed, is_written, _) = settled(rt, outcome);
+    let fault = Fault::WriteFailed(within(course.written, room) as u64);
+    answer == Err(fault) && is_written && has_failed
+}
+
+/// The first place at which a writer fails and it is not told so.
+fn wrong_room(rt: &impl Abort, alloc: Global, course: &Course<'_>) -> Option<usize> {
+    let input = joined(rt, alloc, &course.heard);
     for room in 0..course.late {
-        let terms = Terms {
-            room,
-            rounds: course.rounds,
-            ..serving(&input)
-        };
-        let outcome = follow(alloc, course, terms, 1_000)?;
-        let (answer, has_failed, is_written, _) = settled(outcome)?;
-        let fault = Fault::WriteFailed(within(course.written, room) as u64);
-        if answer != Err(fault) || !is_written || !has_failed {
-            return Ok(Some(room));
+        if !is_told_room(rt, alloc, course, &input, room) {
+            return Some(room);
         }
     }
-    Ok(None)
+    None
+}
+
+/// How a course ends whose reader fails at a place, or comes to its end.
+fn end_at(course: &Course<'_>, breaks: bool, length: usize) -> Result<Ended, Fault> {
+    match (breaks, within(&course.heard, length)) {
+        (true, _) => Err(Fault::ReadFailed),
+        (false, 0) => Ok(Ended::End),
+        (false, _) => Err(Fault::Truncated),
+    }
+}
+
+/// How many bytes the node of a course has written when it has heard so many.
+fn written_at(course: &Course<'_>, length: usize) -> usize {
+    if length < course.turn {
+        course.early
+    } else {
+        course.late
+    }
+}
+
+/// Whether a reader fails at the end of these bytes, or comes to its end, it is told so, and nothing else is written.
+fn is_told_end(
+    rt: &impl Abort,
+    alloc: Global,
+    course: &Course<'_>,
+    breaks: bool,
+    heard: &[u8],
+) -> bool {
+    let mut terms = hearing(course, heard);
+    terms.breaks = breaks;
+    let outcome = follow(rt, alloc, course, terms, 1_000);
+    let (answer, _, _, written) = settled(rt, outcome);
+    let length = heard.len();
+    answer == end_at(course, breaks, length) && written == written_at(course, length)
 }
 
 /// The first place at which a reader fails, or comes to its end, and it is not told so, or something else is written.
-fn wrong_length(alloc: Global, course: &Course<'_>, breaks: bool) -> Result<Option<usize>, Fault> {
-    let input = joined(alloc, &course.heard)?;
-    for length in 0..input.len() {
-        let terms = Terms {
-            rounds: course.rounds,
-            breaks,
-            ..serving(input.get(..length).unwrap_or(&[]))
-        };
-        let outcome = follow(alloc, course, terms, 1_000)?;
-        let (answer, _, _, written) = settled(outcome)?;
-        let expected = match (breaks, within(&course.heard, length)) {
-            (true, _) => Err(Fault::ReadFailed),
-            (false, 0) => Ok(Ended::End),
-            (false, _) => Err(Fault::Truncated),
-        };
-        let is_early = length < course.turn;
-        let count = if is_early { course.early } else { course.late };
-        if answer != expected || written != count {
-            return Ok(Some(length));
-        }
-    }
-    Ok(None)
-}
-
-/// The first such places of a writer that fails, of a reader that fails, and of one that comes to its end.
-fn wrong_places(alloc: Global, course: &Course<'_>) -> Result<[Option<usize>; 3], Fault> {
-    Ok([
-        wrong_room(alloc, course)?,
-        wrong_length(alloc, course, true)?,
-        wrong_length(alloc, course, false)?,
-    ])
-}
-
-/// What comes where so many reads, or calls of the handler, are allowed; and how many bytes are written.
-fn spent(
+fn wrong_length(
+    rt: &impl Abort,
     alloc: Global,
     course: &Course<'_>,
-    reads: u64,
-    grants: u64,
-) -> Result<(Result<Ended, Fault>, usize), Fault> {
-    let input = joined(alloc, &course.heard)?;
-    let terms = Terms {
-        rounds: course.rounds,
-        reads,
-        ..serving(&input)
-    };
-    let (ended, _, _, written) = follow(alloc, course, terms, grants)?;
-    Ok((ended, written))
+    breaks: bool,
+) -> Option<usize> {
+    let input = joined(rt, alloc, &course.heard);
+    for length in 0..input.len() {
+        let heard = input.get(..length).unwrap_or(&[]);
+        if !is_told_end(rt, alloc, course, breaks, heard) {
+            return Some(length);
+        }
+    }
+    None
+}
+
+/// No place is wrong at which a writer fails, at which a reader fails, or at which it comes to its end.
+fn is_told_everywhere(rt: &impl Abort, alloc: Global, course: &Course<'_>) {
+    same(rt, &wrong_room(rt, alloc, course), &None);
+    same(rt, &wrong_length(rt, alloc, course, true), &None);
+    same(rt, &wrong_length(rt, alloc, course, false), &None);
+}
+
+/// A course is refused where so many reads, or calls of the handler, are allowed, and so many bytes are written.
+fn is_spent(
+    rt: &impl Abort,
+    alloc: Global,
+    course: &Course<'_>,
+    (reads, grants): (u64, u64),
+    count: usize,
+) {
+    let input = joined(rt, alloc, &course.heard);
+    let mut terms = hearing(course, &input);
+    terms.reads = reads;
+    let (ended, _, _, written) = follow(rt, alloc, course, terms, grants);
+    let wanted = (Err(Fault::TurnsSpent), count);
+    same_at(rt, &(reads, grants), &(ended, written), &wanted);
+}
+
+/// Where one that serves fails, and where too little is allowed to it.
+fn serving_fails(rt: &impl Abort, alloc: Global, course: &Course<'_>) {
+    is_told_everywhere(rt, alloc, course);
+    is_spent(rt, alloc, course, (0, 9), 12);
+    is_spent(rt, alloc, course, (3, 9), 12);
+    is_spent(rt, alloc, course, (99, 0), 12);
+    is_spent(rt, alloc, course, (99, 1), 12);
+}
+
+/// The same of one that dials.
+fn dialing_fails(rt: &impl Abort, alloc: Global, course: &Course<'_>) {
+    is_told_everywhere(rt, alloc, course);
+    is_spent(rt, alloc, course, (3, 9), 34);
+    is_spent(rt, alloc, course, (99, 0), 12);
+    is_spent(rt, alloc, course, (99, 1), 34);
+    is_spent(rt, alloc, course, (99, 2), 34);
 }
 
 #[test]
-fn writers_and_readers_fail(rt: HostRuntime) -> Result<(), Fail> {
-    let alloc = rt.alloc();
-    same(&rt, &wrong_places(alloc, &SERVED)?, &[None; 3]);
-    same(&rt, &wrong_places(alloc, &DIALED)?, &[None; 3]);
-    for (reads, grants, count) in [(0, 9, 12usize), (3, 9, 12), (99, 0, 12), (99, 1, 12)] {
-        let ended = spent(alloc, &SERVED, reads, grants)?;
-        same(&rt, &ended, &(Err(Fault::TurnsSpent), count));
-    }
-    for (reads, grants, count) in [(3, 9, 34usize), (99, 0, 12), (99, 1, 34), (99, 2, 34)] {
-        let ended = spent(alloc, &DIALED, reads, grants)?;
-        same(&rt, &ended, &(Err(Fault::TurnsSpent), count));
-    }
-    Ok(())
+fn writers_and_readers_fail(rt: HostRuntime) {
+    serving_fails(&rt, rt.alloc(), &SERVED);
+    dialing_fails(&rt, rt.alloc(), &DIALED);
 }
 
 /// How a talk of a node that wrote nothing ends, whether it wrote just these pieces, how many bytes it wrote, and how far
 /// it then holds another owner.
 type Learned = (Result<Ended, Fault>, bool, usize, u64);
 
-fn learned(
-    node: &mut Node,
-    terms: Terms<'_>,
-    pieces: &[&[u8]],
-    owner: &[u8],
-) -> Result<Learned, Fault> {
-    let (ended, _, is_written, written) = outcome(node, terms, pieces)?;
-    Ok((ended, is_written, written, node.upto(owner)?))
-}
-
-/// The same of a new node.
+/// What a new node of this name learns of the owner.
 fn learn(
+    rt: &impl Abort,
     alloc: Global,
-    name: &[u8],
+    me: &[u8],
     terms: Terms<'_>,
     pieces: &[&[u8]],
     owner: &[u8],
-) -> Result<Learned, Fault> {
-    let mut node = Node::new(alloc, name, false)?;
-    learned(&mut node, terms, pieces, owner)
+) -> Learned {
+    let mut node = Node::new(rt, alloc, me, false);
+    let (ended, _, is_written, written) = outcome(rt, &mut node, terms, pieces);
+    (ended, is_written, written, node.upto(rt, owner))
 }
 
 /// Of one that wrote something and dials for no round.
@@ -383,136 +425,149 @@ const NO_ROUND: Course<'static> = Course {
     ..SERVED
 };
 
+/// A node that dials for no round says just Hello and Bye.
+fn no_round_is_asked(rt: &impl Abort, alloc: Global) {
+    let terms = dialing(&[], 0);
+    let (ended, _, is_written, written) = follow(rt, alloc, &NO_ROUND, terms, 1_000);
+    let wanted = (Ok(Ended::RoundsDone), true, 20);
+    same(rt, &(ended, is_written, written), &wanted);
+}
+
+/// What a learns of b, which it dials for so many rounds, and which answers one.
+fn learn_of_one(rt: &impl Abort, alloc: Global, rounds: u64, pieces: &[&[u8]]) -> Learned {
+    let input = joined(rt, alloc, &[HELLO_B, DELTA_B, DIGEST_B]);
+    learn(rt, alloc, b"a", dialing(&input, rounds), pieces, b"b")
+}
+
 #[test]
-fn the_other_end_asks(rt: HostRuntime) -> Result<(), Fail> {
+fn the_other_end_asks(rt: HostRuntime) {
     let alloc = rt.alloc();
-    let (ended, _, is_written, written) = follow(alloc, &NO_ROUND, dialing(&[], 0), 1_000)?;
-    same(
-        &rt,
-        &(ended, is_written, written),
-        &(Ok(Ended::RoundsDone), true, 20),
-    );
-
-    let input = joined(alloc, &[HELLO_B, DELTA_B, DIGEST_B])?;
+    no_round_is_asked(&rt, alloc);
     let pieces = [HELLO_A, DIGEST_A, DELTA_NONE, BYE];
-    let found = learn(alloc, b"a", dialing(&input, 1), &pieces, b"b")?;
+    let found = learn_of_one(&rt, alloc, 1, &pieces);
     same(&rt, &found, &(Ok(Ended::RoundsDone), true, 51, 1));
-
     // A second round asks again, and the peer's bytes end.
-    let (ended, _, written, _) = learn(alloc, b"a", dialing(&input, 2), &[], b"b")?;
+    let (ended, _, written, _) = learn_of_one(&rt, alloc, 2, &[]);
     same(&rt, &(ended, written), &(Ok(Ended::End), 12 + 22 + 9 + 32));
-    Ok(())
 }
 
 /// How a talk ends, how many bytes it wrote, and how far the other owner is then held.
 type Ending = (Result<Ended, Fault>, usize, u64);
 
-fn ending(alloc: Global, name: &[u8], terms: Terms<'_>, owner: &[u8]) -> Result<Ending, Fault> {
-    let (ended, _, written, held) = learn(alloc, name, terms, &[], owner)?;
-    Ok((ended, written, held))
+fn ending(rt: &impl Abort, alloc: Global, me: &[u8], terms: Terms<'_>, owner: &[u8]) -> Ending {
+    let (ended, _, written, held) = learn(rt, alloc, me, terms, &[], owner);
+    (ended, written, held)
 }
 
 /// How a talk of a node that wrote nothing ends with one that says this, so many bytes in a read, where it serves and
 /// where it dials.
 fn endings(
+    rt: &impl Abort,
     alloc: Global,
-    name: &[u8],
-    said: &[u8],
-    piece: usize,
+    me: &[u8],
+    (said, piece): (&[u8], usize),
     owner: &[u8],
-) -> Result<[Ending; 2], Fault> {
-    let served = Terms {
-        piece,
-        ..serving(said)
-    };
-    let dialed = Terms {
-        piece,
-        ..dialing(said, 1)
-    };
-    Ok([
-        ending(alloc, name, served, owner)?,
-        ending(alloc, name, dialed, owner)?,
-    ])
+) -> [Ending; 2] {
+    let mut served = serving(said);
+    served.piece = piece;
+    let mut dialed = dialing(said, 1);
+    dialed.piece = piece;
+    [
+        ending(rt, alloc, me, served, owner),
+        ending(rt, alloc, me, dialed, owner),
+    ]
 }
 
 /// How the talks of a node b with one a end that says these pieces.
-fn endings_of(alloc: Global, pieces: &[&[u8]]) -> Result<[Ending; 2], Fault> {
-    let input = joined(alloc, pieces)?;
-    endings(alloc, b"b", &input, 7, b"a")
+fn endings_of(rt: &impl Abort, alloc: Global, pieces: &[&[u8]]) -> [Ending; 2] {
+    let input = joined(rt, alloc, pieces);
+    endings(rt, alloc, b"b", (&input, 7), b"a")
+}
+
+/// The talks with one that says these pieces end with this fault, and nothing is learned.
+fn ends_with(rt: &impl Abort, alloc: Global, pieces: &[&[u8]], fault: Fault) {
+    let wanted = [(Err(fault), 12, 0), (Err(fault), 34, 0)];
+    same_at(rt, &pieces, &endings_of(rt, alloc, pieces), &wanted);
+}
+
+/// The talks end with the fault of this kind where such a message comes behind a greeting.
+fn ends_behind(rt: &impl Abort, alloc: Global, greeting: &[u8], control: &[u8], kind: u8) {
+    let [served, dialed] = endings_of(rt, alloc, &[greeting, control]);
+    let fault = Err(Fault::UnknownKind(kind));
+    same_at(rt, &kind, &[served.0, dialed.0], &[fault, fault]);
+}
+
+/// The same of each kind that has no place in a session.
+fn end_behind(rt: &impl Abort, alloc: Global, greeting: &[u8]) {
+    ends_behind(rt, alloc, greeting, ASK, 0x10);
+    ends_behind(rt, alloc, greeting, ROWS, 0x11);
+    ends_behind(rt, alloc, greeting, PUT, 0x12);
+    ends_behind(rt, alloc, greeting, DONE, 0x13);
+    ends_behind(rt, alloc, greeting, REFUSED, 0x14);
+}
+
+/// Messages that may not come there end the talks.
+fn messages_end(rt: &impl Abort, alloc: Global) {
+    let flood = [DELTA_B, DELTA_B, DELTA_B, HELLO_A];
+    ends_with(rt, alloc, &[DIGEST_A], Fault::NoHello);
+    ends_with(rt, alloc, &flood, Fault::NoHello);
+    ends_with(rt, alloc, &[BYE], Fault::NoHello);
+    ends_with(rt, alloc, &[HELLO_C2], Fault::WrongCluster);
+    ends_with(rt, alloc, &[HELLO_B], Fault::SameName);
+    ends_with(rt, alloc, &[HELLO_A, HELLO_A], Fault::SecondHello);
+    ends_with(rt, alloc, &[HELLO_A, HELLO_C2], Fault::SecondHello);
+}
+
+/// Bytes that are no frame end the talks.
+fn bytes_end(rt: &impl Abort, alloc: Global) {
+    let no_length = b"\xa7\x01\x00\x00\x00\x00";
+    let no_kind = b"\xa7\x01\x00\x00\x00\x01\x55";
+    let no_reason = b"\xa7\x01\x00\x00\x00\x02\x04\x06";
+    ends_with(rt, alloc, &[b"\xa6"], Fault::BadMark);
+    ends_with(rt, alloc, &[HELLO_A, b"\xa7\x09"], Fault::BadVersion);
+    ends_with(rt, alloc, &[HELLO_A, no_length], Fault::BadLength);
+    ends_with(rt, alloc, &[no_kind], Fault::UnknownKind(0x55));
+    ends_with(rt, alloc, &[HELLO_A, no_reason], Fault::Malformed(4));
 }
 
 #[test]
-fn faulty_talks_end(rt: HostRuntime) -> Result<(), Fail> {
-    let alloc = rt.alloc();
-    let cases: [(&[&[u8]], Fault); 12] = [
-        (&[DIGEST_A], Fault::NoHello),
-        (&[DELTA_B, DELTA_B, DELTA_B, HELLO_A], Fault::NoHello),
-        (&[BYE], Fault::NoHello),
-        (&[HELLO_C2], Fault::WrongCluster),
-        (&[HELLO_B], Fault::SameName),
-        (&[HELLO_A, HELLO_A], Fault::SecondHello),
-        (&[HELLO_A, HELLO_C2], Fault::SecondHello),
-        (&[b"\xa6"], Fault::BadMark),
-        (&[HELLO_A, b"\xa7\x09"], Fault::BadVersion),
-        (&[HELLO_A, b"\xa7\x01\x00\x00\x00\x00"], Fault::BadLength),
-        (&[b"\xa7\x01\x00\x00\x00\x01\x55"], Fault::UnknownKind(0x55)),
-        (
-            &[HELLO_A, b"\xa7\x01\x00\x00\x00\x02\x04\x06"],
-            Fault::Malformed(4),
-        ),
-    ];
-    for (pieces, fault) in cases {
-        let wanted = [(Err(fault), 12, 0), (Err(fault), 34, 0)];
-        same_at(&rt, &pieces, &endings_of(alloc, pieces)?, &wanted);
-    }
-    for (control, kind) in [
-        (ASK, 0x10u8),
-        (ROWS, 0x11),
-        (PUT, 0x12),
-        (DONE, 0x13),
-        (REFUSED, 0x14),
-    ] {
-        let fault = Err(Fault::UnknownKind(kind));
-        for greeting in [b"".as_slice(), HELLO_A] {
-            let [served, dialed] = endings_of(alloc, &[greeting, control])?;
-            same_at(&rt, &kind, &[served.0, dialed.0], &[fault, fault]);
-        }
-    }
-    Ok(())
+fn faulty_talks_end(rt: HostRuntime) {
+    messages_end(&rt, rt.alloc());
+    bytes_end(&rt, rt.alloc());
+    end_behind(&rt, rt.alloc(), b"");
+    end_behind(&rt, rt.alloc(), HELLO_A);
 }
 
 /// A thousand deltas of b, and then its Hello.
-fn flood(alloc: Global) -> Result<Vec<u8>, Fault> {
+fn flood(rt: &impl Abort, alloc: Global) -> Vec<u8> {
     let mut flood = Vec::new(alloc);
     for _ in 0..1_000u32 {
-        flood.extend_from_slice(DELTA_B)?;
+        add(rt, &mut flood, DELTA_B);
     }
-    flood.extend_from_slice(HELLO_B)?;
-    Ok(flood)
+    add(rt, &mut flood, HELLO_B);
+    flood
 }
 
 #[test]
-fn a_flood_before_hello_is_not_taken(rt: HostRuntime) -> Result<(), Fail> {
-    let alloc = rt.alloc();
-    let input = flood(alloc)?;
+fn a_flood_before_hello_is_not_taken(rt: HostRuntime) {
+    let input = flood(&rt, rt.alloc());
     let fault = Err(Fault::NoHello);
-    let found = endings(alloc, b"a", &input, 7, b"b")?;
+    let found = endings(&rt, rt.alloc(), b"a", (&input, 7), b"b");
     same(&rt, &found, &[(fault, 12, 0), (fault, 34, 0)]);
-    Ok(())
+}
+
+/// Hello of a, the greatest frame, and Bye.
+fn greatest_talk(rt: &impl Abort, alloc: Global) -> Vec<u8> {
+    let frame = greatest_frame(rt, alloc);
+    joined(rt, alloc, &[HELLO_A, &frame, BYE])
 }
 
 #[test]
-fn the_greatest_frame_is_taken(rt: HostRuntime) -> Result<(), Fail> {
-    let alloc = rt.alloc();
-    let frame = greatest_frame(alloc)?;
-    let input = joined(alloc, &[HELLO_A, &frame, BYE])?;
+fn the_greatest_frame_is_taken(rt: HostRuntime) {
+    let input = greatest_talk(&rt, rt.alloc());
     same(&rt, &input.len(), &(12 + 65_536 + 8));
-    let [served, dialed] = endings(alloc, b"b", &input, 4_099, b"a")?;
-    let found = [(served.0, served.2), (dialed.0, dialed.2)];
-    same(
-        &rt,
-        &found,
-        &[(Ok(Ended::Bye(1)), 1_311), (Ok(Ended::Bye(1)), 1_311)],
-    );
-    Ok(())
+    let [served, dialed] = endings(&rt, rt.alloc(), b"b", (&input, 4_099), b"a");
+    let whole = (Ok(Ended::Bye(1)), 1_311);
+    same(&rt, &(served.0, served.2), &whole);
+    same(&rt, &(dialed.0, dialed.2), &whole);
 }

@@ -1,6 +1,8 @@
 //! Frames by hand, and a reader that gives them in pieces.
-use std::alloc::{AllocError, Global};
+use crate::got;
+use std::alloc::Global;
 use std::io::{self, ErrorKind, Read};
+use std::process::Abort;
 
 /// Hello of the nodes a and b of the cluster c1.
 pub(crate) const HELLO_A: &[u8] = b"\xa7\x01\x00\x00\x00\x06\x01\x02c1\x01a";
@@ -53,17 +55,41 @@ impl Read for Pieces<'_> {
     }
 }
 
-/// A frame of 65,536 bytes: a delta of 1,310 entries of 50 bytes and one of 15, behind 15 of its payload.
-pub(crate) fn greatest_frame(alloc: Global) -> Result<Vec<u8>, AllocError> {
-    let mut frame = Vec::new(alloc);
-    frame.extend_from_slice(b"\xa7\x01\x00\x00\xff\xfa\x03\x00\x01\x01a")?;
-    frame.extend_from_slice(b"\x00\x00\x00\x00\x00\x00\x00\x00\x05\x1f")?;
-    for version in 1..=1_310u64 {
-        frame.push(b'\x20')?;
-        frame.extend_from_slice(format!(in alloc; "{version:032}")?.as_bytes())?;
-        frame.extend_from_slice(&version.to_be_bytes())?;
-        frame.extend_from_slice(b"\x02\x00\x00\x00\x00\x00\x00\x00\x05")?;
+/// Puts bytes at the end of others.
+pub(crate) fn add(rt: &impl Abort, bytes: &mut Vec<u8>, more: &[u8]) {
+    got(rt, bytes.extend_from_slice(more));
+}
+
+/// The pieces, one after the other.
+pub(crate) fn joined(rt: &impl Abort, alloc: Global, pieces: &[&[u8]]) -> Vec<u8> {
+    let mut bytes = Vec::new(alloc);
+    for piece in pieces {
+        add(rt, &mut bytes, piece);
     }
-    frame.extend_from_slice(b"\x05zzzzz\x00\x00\x00\x00\x00\x00\x05\x1f\x00")?;
-    Ok(frame)
+    bytes
+}
+
+/// Puts an entry of 50 bytes at the end of a frame: the weight 5 under the digits of its version.
+fn add_entry(rt: &impl Abort, alloc: Global, frame: &mut Vec<u8>, version: u64) {
+    let key = got(rt, format!(in alloc; "{version:032}"));
+    add(rt, frame, b"\x20");
+    add(rt, frame, key.as_bytes());
+    add(rt, frame, &version.to_be_bytes());
+    add(rt, frame, b"\x02\x00\x00\x00\x00\x00\x00\x00\x05");
+}
+
+/// A frame of 65,536 bytes: a delta of 1,310 entries of 50 bytes and one of 15, behind 15 of its payload.
+pub(crate) fn greatest_frame(rt: &impl Abort, alloc: Global) -> Vec<u8> {
+    let mut frame = Vec::new(alloc);
+    add(rt, &mut frame, b"\xa7\x01\x00\x00\xff\xfa\x03\x00\x01\x01a");
+    add(rt, &mut frame, b"\x00\x00\x00\x00\x00\x00\x00\x00\x05\x1f");
+    for version in 1..=1_310u64 {
+        add_entry(rt, alloc, &mut frame, version);
+    }
+    add(
+        rt,
+        &mut frame,
+        b"\x05zzzzz\x00\x00\x00\x00\x00\x00\x05\x1f\x00",
+    );
+    frame
 }
