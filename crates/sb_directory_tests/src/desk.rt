@@ -2,7 +2,7 @@
 
 ghost use Rattle.std.specs.Prelude.{◌≡◌};
 
-use crate::making::{commit, delta_of, first_of, name, prefix};
+use crate::making::{commit, delta_of, first_of, key, name, prefix};
 use crate::{got, same_at, there};
 use sb_digest::Digest;
 use sb_directory::Locked;
@@ -11,7 +11,7 @@ use sb_log::{Committed, PlainLog};
 use sb_node::NodeCore;
 use sb_types::Fault;
 use sb_views::{Entered, Opened, Reader, Site};
-use sb_watch::{Filter, Polled, WatchId};
+use sb_watch::{Filter, Note, Polled, WatchId};
 use std::alloc::Global;
 use std::process::Abort;
 use std::sync::Wait;
@@ -73,6 +73,15 @@ pub(crate) struct Desk<S: Site, H: Wait + Drop> {
     watches: Vec<WatchId>,
     reader: Option<Reader<S>>,
     alloc: Global,
+}
+
+/// A watch gives this note.
+pub(crate) fn noted(rt: &impl Abort, owner: &[u8], text: &[u8], version: u64) -> Answer {
+    Answer::Polled(Polled::Note(Note {
+        owner: name(rt, owner),
+        key: key(rt, text),
+        version,
+    }))
 }
 
 /// The answer of a call that shows.
@@ -191,14 +200,16 @@ impl<S: Site, H: Wait + Drop> Desk<S, H> {
     }
 
     fn unwatch(&mut self, rt: &impl Abort, place: usize) -> Answer {
-        match self.locked.unwatch(self.id_at(rt, place)) {
+        let id = self.id_at(rt, place);
+        match self.locked.unwatch(id) {
             Ok(()) => Answer::Done,
             Err(fault) => Answer::Refused(fault),
         }
     }
 
     fn poll(&mut self, rt: &impl Abort, place: usize) -> Answer {
-        match self.locked.poll(self.id_at(rt, place)) {
+        let id = self.id_at(rt, place);
+        match self.locked.poll(id) {
             Ok(polled) => Answer::Polled(polled),
             Err(fault) => Answer::Refused(fault),
         }

@@ -3,6 +3,8 @@
 #![tactic(auto)]
 
 #[cfg(test)]
+mod course;
+#[cfg(test)]
 mod desk;
 #[cfg(test)]
 mod locked;

@@ -1,55 +1,17 @@
 //! A locked node: what its calls answer, and what readers are shown of it.
-
-ghost use Rattle.std.specs.Prelude.{◌≡◌};
-
-use crate::desk::{Answer, Call, Case, desk_of, play};
-use crate::making::{full_table, key, log_of, name, new_node, node_of, written_log};
+use crate::course::{Course, run, run_new};
+use crate::desk::{Answer, Call, Case, noted};
+use crate::making::{full_table, node_of, written_log};
 use sb_holdings::BlockEnd;
-use sb_log::PlainLog;
-use sb_node::NodeCore;
 use sb_types::Fault;
-use sb_views::{Opened, Site};
-use sb_watch::{Note, Polled};
+use sb_watch::Polled;
 use std::alloc::Global;
-use std::marker::Brand;
 use std::process::Abort;
 use std::sync::Wait;
 
 /// A new node answers these calls so.
 fn answers<R: Wait + Abort>(rt: &R, alloc: Global, cases: &[Case]) {
-    answers_of(
-        rt,
-        alloc,
-        new_node(rt, alloc),
-        log_of(rt, alloc, b"a"),
-        cases,
-    );
-}
-
-/// This node answers these calls so, with this log.
-fn answers_of<R: Wait + Abort>(
-    rt: &R,
-    alloc: Global,
-    core: NodeCore,
-    log: PlainLog,
-    cases: &[Case],
-) {
-    answers_as::<Brand, _>(rt, Opened::new(), core, log, alloc, cases);
-}
-
-fn answers_as<S: Site, R: Wait + Abort>(
-    rt: &R,
-    opened: Opened,
-    core: NodeCore,
-    log: PlainLog,
-    alloc: Global,
-    cases: &[Case],
-)
-    requires story { opened.seen.book ≡ S.story }
-    requires opening { S.opening ≡ core.node }
-{
-    let mut desk = desk_of::<S, R>(rt, opened, core, log, alloc);
-    play(rt, &mut desk, cases);
+    run_new(rt, alloc, Course::Calls(cases));
 }
 
 fn refused(fault: Fault) -> Answer {
@@ -65,18 +27,10 @@ fn taken(count: u64) -> Answer {
     Answer::Ended(BlockEnd::Taken(count))
 }
 
-/// A watch gives this note.
-fn note(rt: &impl Abort, owner: &[u8], text: &[u8], version: u64) -> Answer {
-    Answer::Polled(Polled::Note(Note {
-        owner: name(rt, owner),
-        key: key(rt, text),
-        version,
-    }))
-}
-
 #[test]
 fn watches_tell_what_is_shown(rt: HostRuntime) {
-    let [second, last] = [note(&rt, b"a", b"net/b", 2), note(&rt, b"a", b"net/c", 4)];
+    let second = noted(&rt, b"a", b"net/b", 2);
+    let last = noted(&rt, b"a", b"net/c", 4);
     let cases = [
         (Call::Watch(b"net/", 2), Answer::Done),
         (Call::Write(b"net/a"), Answer::Shown),
@@ -96,11 +50,9 @@ fn watches_tell_what_is_shown(rt: HostRuntime) {
 /// What a watch of everything is told of own writes, and of those of others, which come to it once.
 #[test]
 fn watches_are_told_once(rt: HostRuntime) {
-    let [own, first, second] = [
-        note(&rt, b"a", b"x", 1),
-        note(&rt, b"b", b"y", 1),
-        note(&rt, b"b", b"z", 2),
-    ];
+    let own = noted(&rt, b"a", b"x", 1);
+    let first = noted(&rt, b"b", b"y", 1);
+    let second = noted(&rt, b"b", b"z", 2);
     let cases = [
         (Call::Watch(b"", 4), Answer::Done),
         (Call::Write(b"x"), Answer::Shown),
@@ -117,15 +69,13 @@ fn watches_are_told_once(rt: HostRuntime) {
 
 #[test]
 fn watches_that_are_refused(rt: HostRuntime) {
-    let no_watch = refused(Fault::NoWatch);
-    let bad_setting = refused(Fault::BadSetting);
     let cases = [
-        (Call::Watch(b"", 0), bad_setting),
-        (Call::Watch(b"", 1_025), bad_setting),
+        (Call::Watch(b"", 0), refused(Fault::BadSetting)),
+        (Call::Watch(b"", 1_025), refused(Fault::BadSetting)),
         (Call::Watch(b"", 1_024), Answer::Done),
         (Call::Unwatch(0), Answer::Done),
-        (Call::Poll(0), no_watch),
-        (Call::Unwatch(0), no_watch),
+        (Call::Poll(0), refused(Fault::NoWatch)),
+        (Call::Unwatch(0), refused(Fault::NoWatch)),
         (Call::Read, Answer::Read(0, 0, 0)),
     ];
     answers(&rt, rt.alloc(), &cases);
@@ -193,5 +143,11 @@ fn a_full_table_takes_no_new_key(rt: HostRuntime) {
         (Call::Read, Answer::Read(0, 4_096, 0)),
     ];
     let core = node_of(&rt, alloc, b"a", full_table(&rt, alloc));
-    answers_of(&rt, alloc, core, written_log(&rt, alloc, 4_096), &cases);
+    run(
+        &rt,
+        alloc,
+        core,
+        written_log(&rt, alloc, 4_096),
+        Course::Calls(&cases),
+    );
 }

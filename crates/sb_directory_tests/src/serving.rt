@@ -17,17 +17,18 @@ use std::process::Abort;
 use std::sync::Wait;
 use std::sync::ledger::Blank;
 
-/// A session of a node b from a seat, with a peer whose bytes come in such pieces.
+/// A session of a node b from its seat, with a peer whose bytes come in such pieces.
 fn serve_from<S: Configured, H: Wait + Drop, R: Wait + Abort>(
     rt: &R,
     alloc: Global,
     directory: &Directory<S, H>,
-    seat: ReaderSeat<S>,
+    seats: &mut Vec<ReaderSeat<S>>,
     piece: usize,
-) -> (Talked, ReaderSeat<S>) {
-    let mut served = Served::new(rt, directory, seat);
+) -> Talked {
+    let mut served = Served::new(rt, directory, there(rt, seats.pop()));
     let talked = talk(rt, &mut served, alloc, piece);
-    (talked, served.into_seat())
+    got(rt, seats.push(served.into_seat()));
+    talked
 }
 
 /// How a session ended with a peer a, and whether b said just its Hello, its delta and its digest; and how many events there
@@ -49,9 +50,7 @@ fn serve_one<S: Configured, R: Wait + Abort>(
 {
     let made = Directory::<S, &R>::make(rt, alloc, opened, blank, core, 1);
     let (directory, mut seats) = got(rt, made);
-    let seat = there(rt, seats.pop());
-    let (talked, seat) = serve_from(rt, alloc, &directory, seat, piece);
-    got(rt, seats.push(seat));
+    let talked = serve_from(rt, alloc, &directory, &mut seats, piece);
     (talked, close(rt, directory, seats).events)
 }
 

@@ -156,6 +156,21 @@ fn run_both<S: Configured + Send + Sync, R: Wait + Threads + Abort + Sync + Send
     (seen, reader, writer)
 }
 
+/// The same, from the two seats of a directory.
+fn run_from<S: Configured + Send + Sync, R: Wait + Threads + Abort + Sync + Send>(
+    rt: &R,
+    alloc: Global,
+    directory: &Directory<S, &R>,
+    seats: &mut Vec<ReaderSeat<S>>,
+) -> [Seen; 2] {
+    let reader = there(rt, seats.pop());
+    let writer = there(rt, seats.pop());
+    let (seen, reader, writer) = run_both(rt, alloc, directory, reader, writer);
+    got(rt, seats.push(reader));
+    got(rt, seats.push(writer));
+    seen
+}
+
 /// Up to which versions the reader was shown a and b at last; whether all that it saw was right; how many events there were.
 type Beside = ([u64; 2], bool, u64);
 
@@ -175,11 +190,7 @@ fn read_beside<S: Configured + Send + Sync, R: Wait + Threads + Abort + Sync + S
 {
     let made = Directory::<S, &R>::make(rt, alloc, opened, blank, core, 2);
     let (directory, mut seats) = got(rt, made);
-    let reader = there(rt, seats.pop());
-    let writer = there(rt, seats.pop());
-    let ([a, b], reader, writer) = run_both(rt, alloc, &directory, reader, writer);
-    got(rt, seats.push(reader));
-    got(rt, seats.push(writer));
+    let [a, b] = run_from(rt, alloc, &directory, &mut seats);
     let closing = close(rt, directory, seats);
     ([a.upto, b.upto], a.is_right && b.is_right, closing.events)
 }
