@@ -2,16 +2,16 @@
 
 ghost use Rattle.std.specs.Prelude.{◌≡◌};
 
-use crate::making::{commit, delta_of, log_of};
-use crate::same_at;
+use crate::making::{commit, delta_of, first_of, key, name, prefix};
+use crate::{got, same_at, there};
 use sb_digest::Digest;
 use sb_directory::Locked;
-use sb_holdings::BlockEnd;
+use sb_holdings::{BlockEnd, Report};
 use sb_log::{Committed, PlainLog};
 use sb_node::NodeCore;
-use sb_types::{Fault, Name, Prefix};
-use sb_views::{Opened, Reader, Site};
-use sb_watch::{Filter, Polled, WatchId};
+use sb_types::Fault;
+use sb_views::{Entered, Opened, Reader, Site};
+use sb_watch::{Filter, Note, Polled, WatchId};
 use std::alloc::Global;
 use std::process::Abort;
 use std::sync::Wait;
@@ -75,186 +75,236 @@ pub(crate) struct Desk<S: Site, H: Wait + Drop> {
     alloc: Global,
 }
 
+/// A watch gives this note.
+pub(crate) fn noted(rt: &impl Abort, owner: &[u8], text: &[u8], version: u64) -> Answer {
+    Answer::Polled(Polled::Note(Note {
+        owner: name(rt, owner),
+        key: key(rt, text),
+        version,
+    }))
+}
+
 /// The answer of a call that shows.
 fn shown(is_shown: bool, answer: Answer) -> Answer {
     if is_shown { answer } else { Answer::NotShown }
 }
 
+/// The answer of a call that enters a write, and shows.
+fn entered(entered: Result<bool, Fault>) -> Answer {
+    match entered {
+        Ok(is_shown) => shown(is_shown, Answer::Shown),
+        Err(fault) => Answer::Refused(fault),
+    }
+}
+
+/// How the only block of a delta ended.
+fn ended(rt: &impl Abort, ends: &Report) -> Answer {
+    match ends.ends() {
+        [end] => Answer::Ended(*end),
+        _ => panic!(rt; "error: not one block"),
+    }
+}
+
 /// A watch of all owners.
-fn filter_of(prefix: &[u8]) -> Result<Filter, Fault> {
-    Ok(Filter {
+fn filter_of(rt: &impl Abort, text: &[u8]) -> Filter {
+    Filter {
         owner: None,
-        prefix: Prefix::read(prefix)?,
-    })
+        prefix: prefix(rt, text),
+    }
+}
+
+/// The digest of a peer that holds nothing.
+fn nothing(rt: &impl Abort, alloc: Global) -> Digest {
+    got(rt, Digest::new(false, None, None, Vec::new(alloc)))
 }
 
 impl<S: Site, H: Wait + Drop> Desk<S, H> {
     /// What a call answers, or why it is refused.
-    pub(crate) fn perform<Q: Wait>(&mut self, rt: &Q, call: Call) -> Result<Answer, Fault> {
+    pub(crate) fn perform<Q: Wait + Abort>(&mut self, rt: &Q, call: Call) -> Answer {
         match call {
-            Call::Write(key) => {
-                self.commit(key)?;
-                self.take(rt)
-            }
-            Call::Commit(key) => self.commit(key),
+            Call::Write(text) => self.write(rt, text),
+            Call::Commit(text) => self.commit(rt, text),
             Call::Take => self.take(rt),
             Call::TakeOfAnother => self.take_of_another(rt),
             Call::Delta(owner, after, letters) => self.take_delta(rt, owner, after, letters),
-            Call::Watch(prefix, capacity) => self.watch(prefix, capacity),
-            Call::Watches(count) => self.watch_all(count),
-            Call::Unwatch(place) => self.unwatch(place),
-            Call::Poll(place) => self.poll(place),
-            Call::Refresh => Ok(shown(self.locked.refresh(), Answer::Shown)),
-            Call::Conflict => Ok(Answer::Conflict(self.locked.conflict())),
-            Call::Read => self.read(),
-            Call::Tell => self.tell(),
+            Call::Watch(text, capacity) => self.watch(rt, text, capacity),
+            Call::Watches(count) => self.watch_all(rt, count),
+            Call::Unwatch(place) => self.unwatch(rt, place),
+            Call::Poll(place) => self.poll(rt, place),
+            Call::Refresh => shown(self.locked.refresh(), Answer::Shown),
+            Call::Conflict => Answer::Conflict(self.locked.conflict()),
+            Call::Read => self.read(rt),
+            Call::Tell => self.tell(rt),
         }
     }
 
-    fn commit(&mut self, key: &[u8]) -> Result<Answer, Fault> {
-        self.committed = Some(commit(&mut self.log, key)?);
-        Ok(Answer::Done)
+    fn commit(&mut self, rt: &impl Abort, text: &[u8]) -> Answer {
+        self.committed = Some(commit(rt, &mut self.log, text));
+        Answer::Done
     }
 
-    fn take<Q: Wait>(&mut self, rt: &Q) -> Result<Answer, Fault> {
+    fn take<Q: Wait + Abort>(&mut self, rt: &Q) -> Answer {
         match &self.committed {
-            Some(write) => Ok(shown(self.locked.take_own(rt, write)?, Answer::Shown)),
-            None => Err(Fault::Closed),
+            Some(write) => entered(self.locked.take_own(rt, write)),
+            None => panic!(rt; "error: nothing was committed"),
         }
     }
 
-    fn take_of_another<Q: Wait>(&mut self, rt: &Q) -> Result<Answer, Fault> {
-        let write = commit(&mut log_of(self.alloc, b"b")?, b"x")?;
-        Ok(shown(self.locked.take_own(rt, &write)?, Answer::Shown))
+    fn write<Q: Wait + Abort>(&mut self, rt: &Q, text: &[u8]) -> Answer {
+        self.commit(rt, text);
+        self.take(rt)
     }
 
-    fn take_delta<Q: Wait>(
+    fn take_of_another<Q: Wait + Abort>(&mut self, rt: &Q) -> Answer {
+        let write = first_of(rt, self.alloc, b"b", b"x");
+        entered(self.locked.take_own(rt, &write))
+    }
+
+    fn take_delta<Q: Wait + Abort>(
         &mut self,
         rt: &Q,
         owner: &[u8],
         after: u64,
         letters: &[u8],
-    ) -> Result<Answer, Fault> {
-        let delta = delta_of(self.alloc, owner, after, letters)?;
-        let (ends, is_shown) = self.locked.apply(rt, &delta)?;
-        match ends.ends() {
-            [end] => Ok(shown(is_shown, Answer::Ended(*end))),
-            _ => Err(Fault::Closed),
+    ) -> Answer {
+        let delta = delta_of(rt, self.alloc, owner, after, letters);
+        match self.locked.apply(rt, &delta) {
+            Ok((ends, is_shown)) => shown(is_shown, ended(rt, &ends)),
+            Err(fault) => Answer::Refused(fault),
         }
     }
 
-    fn watch(&mut self, prefix: &[u8], capacity: usize) -> Result<Answer, Fault> {
-        let id = self.locked.watch(filter_of(prefix)?, capacity)?;
-        self.watches.push(id)?;
-        Ok(Answer::Done)
+    fn watch(&mut self, rt: &impl Abort, text: &[u8], capacity: usize) -> Answer {
+        match self.locked.watch(filter_of(rt, text), capacity) {
+            Ok(id) => {
+                got(rt, self.watches.push(id));
+                Answer::Done
+            }
+            Err(fault) => Answer::Refused(fault),
+        }
     }
 
-    fn watch_all(&mut self, count: usize) -> Result<Answer, Fault> {
+    fn watch_all(&mut self, rt: &impl Abort, count: usize) -> Answer {
         for _ in 0..count {
-            self.watch(b"", 1)?;
+            let answer = self.watch(rt, b"", 1);
+            if answer != Answer::Done {
+                return answer;
+            }
         }
-        Ok(Answer::Done)
+        Answer::Done
     }
 
     /// The id of the watch that was added at this place.
-    fn id_at(&self, place: usize) -> Result<WatchId, Fault> {
-        match self.watches.get(place) {
-            Some(id) => Ok(*id),
-            None => Err(Fault::Closed),
+    fn id_at(&self, rt: &impl Abort, place: usize) -> WatchId {
+        *there(rt, self.watches.get(place))
+    }
+
+    fn unwatch(&mut self, rt: &impl Abort, place: usize) -> Answer {
+        let id = self.id_at(rt, place);
+        match self.locked.unwatch(id) {
+            Ok(()) => Answer::Done,
+            Err(fault) => Answer::Refused(fault),
         }
     }
 
-    fn unwatch(&mut self, place: usize) -> Result<Answer, Fault> {
-        let id = self.id_at(place)?;
-        self.locked.unwatch(id)?;
-        Ok(Answer::Done)
+    fn poll(&mut self, rt: &impl Abort, place: usize) -> Answer {
+        let id = self.id_at(rt, place);
+        match self.locked.poll(id) {
+            Ok(polled) => Answer::Polled(polled),
+            Err(fault) => Answer::Refused(fault),
+        }
     }
 
-    fn poll(&mut self, place: usize) -> Result<Answer, Fault> {
-        let id = self.id_at(place)?;
-        Ok(Answer::Polled(self.locked.poll(id)?))
-    }
-
-    fn read(&mut self) -> Result<Answer, Fault> {
-        let [a, b] = [Name::read(b"a")?, Name::read(b"b")?];
-        let Some(reader) = self.reader.take() else {
-            return Err(Fault::Closed);
-        };
-        let (reader, found) = read_both(reader, &a, &b);
+    fn read(&mut self, rt: &impl Abort) -> Answer {
+        let (reader, answer) = read_both(rt, there(rt, self.reader.take()));
         self.reader = Some(reader);
-        found.ok_or(Fault::Closed)
+        answer
     }
 
-    fn tell(&self) -> Result<Answer, Fault> {
-        let [a, b] = [Name::read(b"a")?, Name::read(b"b")?];
-        let digest = self.locked.digest(None, true)?;
-        let nothing = Digest::new(false, None, None, Vec::new(self.alloc))?;
-        let delta = self.locked.deltas(&nothing)?;
-        Ok(Answer::Told(digest.number(&a), digest.number(&b), delta.blocks().len()))
+    fn tell(&self, rt: &impl Abort) -> Answer {
+        let (of_a, of_b) = self.told(rt);
+        Answer::Told(of_a, of_b, self.blocks_for_nothing(rt))
+    }
+
+    /// How far the digest of all owners tells that a and b are held.
+    fn told(&self, rt: &impl Abort) -> (u64, u64) {
+        let digest = got(rt, self.locked.digest(None, true));
+        (
+            digest.number(&name(rt, b"a")),
+            digest.number(&name(rt, b"b")),
+        )
+    }
+
+    /// How many blocks the delta has for a peer that holds nothing.
+    fn blocks_for_nothing(&self, rt: &impl Abort) -> usize {
+        let delta = got(rt, self.locked.deltas(&nothing(rt, self.alloc)));
+        delta.blocks().len()
     }
 }
 
-/// What a reader sees, where it enters.
-fn read_both<S: Site>(reader: Reader<S>, a: &Name, b: &Name) -> (Reader<S>, Option<Answer>) {
+/// What a reader sees of a and b.
+fn read_both<S: Site>(rt: &impl Abort, reader: Reader<S>) -> (Reader<S>, Answer) {
     match reader.enter() {
         Ok(entered) => {
-            let snapshot = entered.snapshot();
-            let (of_a, of_b) = (snapshot.upto(a), snapshot.upto(b));
-            let answer = Answer::Read(entered.told().len(), of_a, of_b);
-            (entered.leave(), Some(answer))
+            let answer = seen(rt, &entered);
+            (entered.leave(), answer)
         }
-        Err(reader) => (reader, None),
+        Err(_) => panic!(rt; "error: not entered"),
     }
 }
 
-/// A refusal as an answer. Where memory was wanting to show what happened, or for a block, that is the refusal.
-fn told(answer: Result<Answer, Fault>) -> Answer {
+fn seen<S: Site>(rt: &impl Abort, entered: &Entered<S>) -> Answer {
+    let snapshot = entered.snapshot();
+    let of_a = snapshot.upto(&name(rt, b"a"));
+    let of_b = snapshot.upto(&name(rt, b"b"));
+    Answer::Read(entered.told().len(), of_a, of_b)
+}
+
+/// Ends the test where memory was wanting for a call, for a block, or to show what happened.
+fn has_memory(rt: &impl Abort, answer: Answer) {
     match answer {
-        Ok(Answer::NotShown) => Answer::Refused(Fault::NoMemory),
-        Ok(Answer::Ended(BlockEnd::NoMemory(_))) => Answer::Refused(Fault::NoMemory),
-        Ok(answer) => answer,
-        Err(fault) => Answer::Refused(fault),
+        Answer::NotShown
+        | Answer::Ended(BlockEnd::NoMemory(_))
+        | Answer::Refused(Fault::NoMemory) => panic!(rt; "error: NoMemory"),
+        _ => {}
     }
 }
 
 /// A call, and what it answers.
 pub(crate) type Case = (Call, Answer);
 
-/// These calls are answered so, one after the other. `NoMemory` where memory is wanting.
+/// These calls are answered so, one after the other.
 pub(crate) fn play<S: Site, H: Wait + Drop, R: Wait + Abort>(
     rt: &R,
     desk: &mut Desk<S, H>,
     cases: &[Case],
-) -> Result<(), Fault> {
+) {
     for (index, (call, wanted)) in cases.iter().enumerate() {
-        let found = told(desk.perform(rt, *call));
-        if found == Answer::Refused(Fault::NoMemory) {
-            return Err(Fault::NoMemory);
-        }
+        let found = desk.perform(rt, *call);
+        has_memory(rt, found);
         same_at(rt, &("at call", index), &found, wanted);
     }
-    Ok(())
 }
 
 /// The desk of a node that was just opened, with one reader.
-pub(crate) fn desk_of<S: Site, R: Wait>(
+pub(crate) fn desk_of<S: Site, R: Wait + Abort>(
     rt: &R,
     opened: Opened,
     core: NodeCore,
     log: PlainLog,
     alloc: Global,
-) -> Result<Desk<S, &R>, Fault>
+) -> Desk<S, &R>
     requires story { opened.seen.book ≡ S.story }
     requires opening { S.opening ≡ core.node }
 {
     let (story, start) = opened.named::<S>();
-    let (locked, mut readers) = Locked::<S, &R>::open(alloc, rt, story, start, core, 1)?;
-    Ok(Desk {
+    let (locked, mut readers) = got(rt, Locked::<S, &R>::open(alloc, rt, story, start, core, 1));
+    Desk {
         locked,
         log,
         committed: None,
         watches: Vec::new(alloc),
         reader: readers.pop(),
         alloc,
-    })
+    }
 }

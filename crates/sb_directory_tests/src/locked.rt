@@ -1,52 +1,17 @@
 //! A locked node: what its calls answer, and what readers are shown of it.
-
-ghost use Rattle.std.specs.Prelude.{◌≡◌};
-
-use crate::desk::{Answer, Call, Case, desk_of, play};
-use crate::making::{full_table, log_of, node_of, written_log};
+use crate::course::{Course, run, run_new};
+use crate::desk::{Answer, Call, Case, noted};
+use crate::making::{full_table, node_of, written_log};
 use sb_holdings::BlockEnd;
-use sb_log::PlainLog;
-use sb_node::NodeCore;
-use sb_table::Table;
-use sb_types::{Fault, Key, Name};
-use sb_views::{Opened, Site};
-use sb_watch::{Note, Polled};
+use sb_types::Fault;
+use sb_watch::Polled;
 use std::alloc::Global;
-use std::marker::Brand;
 use std::process::Abort;
 use std::sync::Wait;
-use std::test::Fail;
 
 /// A new node answers these calls so.
-fn answers<R: Wait + Abort>(rt: &R, alloc: Global, cases: &[Case]) -> Result<(), Fault> {
-    let core = node_of(alloc, b"a", Table::new(alloc))?;
-    answers_of(rt, alloc, core, log_of(alloc, b"a")?, cases)
-}
-
-/// This node answers these calls so, with this log.
-fn answers_of<R: Wait + Abort>(
-    rt: &R,
-    alloc: Global,
-    core: NodeCore,
-    log: PlainLog,
-    cases: &[Case],
-) -> Result<(), Fault> {
-    answers_as::<Brand, _>(rt, Opened::new(), core, log, alloc, cases)
-}
-
-fn answers_as<S: Site, R: Wait + Abort>(
-    rt: &R,
-    opened: Opened,
-    core: NodeCore,
-    log: PlainLog,
-    alloc: Global,
-    cases: &[Case],
-) -> Result<(), Fault>
-    requires story { opened.seen.book ≡ S.story }
-    requires opening { S.opening ≡ core.node }
-{
-    let mut desk = desk_of::<S, R>(rt, opened, core, log, alloc)?;
-    play(rt, &mut desk, cases)
+fn answers<R: Wait + Abort>(rt: &R, alloc: Global, cases: &[Case]) {
+    run_new(rt, alloc, Course::Calls(cases));
 }
 
 fn refused(fault: Fault) -> Answer {
@@ -62,18 +27,10 @@ fn taken(count: u64) -> Answer {
     Answer::Ended(BlockEnd::Taken(count))
 }
 
-/// A watch gives this note.
-fn note(owner: &[u8], key: &[u8], version: u64) -> Result<Answer, Fault> {
-    Ok(Answer::Polled(Polled::Note(Note {
-        owner: Name::read(owner)?,
-        key: Key::read(key)?,
-        version,
-    })))
-}
-
 #[test]
-fn watches_tell_what_is_shown(rt: HostRuntime) -> Result<(), Fail> {
-    let [second, last] = [note(b"a", b"net/b", 2)?, note(b"a", b"net/c", 4)?];
+fn watches_tell_what_is_shown(rt: HostRuntime) {
+    let second = noted(&rt, b"a", b"net/b", 2);
+    let last = noted(&rt, b"a", b"net/c", 4);
     let cases = [
         (Call::Watch(b"net/", 2), Answer::Done),
         (Call::Write(b"net/a"), Answer::Shown),
@@ -87,17 +44,15 @@ fn watches_tell_what_is_shown(rt: HostRuntime) -> Result<(), Fail> {
         (Call::Read, Answer::Read(4, 4, 0)),
         (Call::Refresh, Answer::Shown),
     ];
-    Ok(answers(&rt, rt.alloc(), &cases)?)
+    answers(&rt, rt.alloc(), &cases);
 }
 
 /// What a watch of everything is told of own writes, and of those of others, which come to it once.
 #[test]
-fn watches_are_told_once(rt: HostRuntime) -> Result<(), Fail> {
-    let [own, first, second] = [
-        note(b"a", b"x", 1)?,
-        note(b"b", b"y", 1)?,
-        note(b"b", b"z", 2)?,
-    ];
+fn watches_are_told_once(rt: HostRuntime) {
+    let own = noted(&rt, b"a", b"x", 1);
+    let first = noted(&rt, b"b", b"y", 1);
+    let second = noted(&rt, b"b", b"z", 2);
     let cases = [
         (Call::Watch(b"", 4), Answer::Done),
         (Call::Write(b"x"), Answer::Shown),
@@ -109,38 +64,36 @@ fn watches_are_told_once(rt: HostRuntime) -> Result<(), Fail> {
         (Call::Poll(0), second),
         (Call::Poll(0), Answer::Polled(Polled::Empty)),
     ];
-    Ok(answers(&rt, rt.alloc(), &cases)?)
+    answers(&rt, rt.alloc(), &cases);
 }
 
 #[test]
-fn watches_that_are_refused(rt: HostRuntime) -> Result<(), Fail> {
-    let no_watch = refused(Fault::NoWatch);
-    let bad_setting = refused(Fault::BadSetting);
+fn watches_that_are_refused(rt: HostRuntime) {
     let cases = [
-        (Call::Watch(b"", 0), bad_setting),
-        (Call::Watch(b"", 1_025), bad_setting),
+        (Call::Watch(b"", 0), refused(Fault::BadSetting)),
+        (Call::Watch(b"", 1_025), refused(Fault::BadSetting)),
         (Call::Watch(b"", 1_024), Answer::Done),
         (Call::Unwatch(0), Answer::Done),
-        (Call::Poll(0), no_watch),
-        (Call::Unwatch(0), no_watch),
+        (Call::Poll(0), refused(Fault::NoWatch)),
+        (Call::Unwatch(0), refused(Fault::NoWatch)),
         (Call::Read, Answer::Read(0, 0, 0)),
     ];
-    Ok(answers(&rt, rt.alloc(), &cases)?)
+    answers(&rt, rt.alloc(), &cases);
 }
 
 #[test]
-fn at_most_64_watches_stand(rt: HostRuntime) -> Result<(), Fail> {
+fn at_most_64_watches_stand(rt: HostRuntime) {
     let cases = [
         (Call::Watches(64), Answer::Done),
         (Call::Watch(b"", 1), refused(Fault::WatchesFull)),
         (Call::Unwatch(63), Answer::Done),
         (Call::Watch(b"", 1), Answer::Done),
     ];
-    Ok(answers(&rt, rt.alloc(), &cases)?)
+    answers(&rt, rt.alloc(), &cases);
 }
 
 #[test]
-fn own_writes_come_once(rt: HostRuntime) -> Result<(), Fail> {
+fn own_writes_come_once(rt: HostRuntime) {
     let cases = [
         (Call::TakeOfAnother, refused(Fault::WrongOwner)),
         (Call::Write(b"x"), Answer::Shown),
@@ -149,11 +102,11 @@ fn own_writes_come_once(rt: HostRuntime) -> Result<(), Fail> {
         (Call::Read, Answer::Read(1, 1, 0)),
         (Call::Tell, Answer::Told(1, 0, 1)),
     ];
-    Ok(answers(&rt, rt.alloc(), &cases)?)
+    answers(&rt, rt.alloc(), &cases);
 }
 
 #[test]
-fn another_writes_under_the_name(rt: HostRuntime) -> Result<(), Fail> {
+fn another_writes_under_the_name(rt: HostRuntime) {
     let cases = [
         (Call::Write(b"x"), Answer::Shown),
         (Call::Delta(b"a", 0, b"x"), ended(BlockEnd::Own)),
@@ -163,11 +116,11 @@ fn another_writes_under_the_name(rt: HostRuntime) -> Result<(), Fail> {
         (Call::Write(b"y"), refused(Fault::OwnerConflict(2))),
         (Call::Read, Answer::Read(3, 1, 0)),
     ];
-    Ok(answers(&rt, rt.alloc(), &cases)?)
+    answers(&rt, rt.alloc(), &cases);
 }
 
 #[test]
-fn writes_of_others_are_shown(rt: HostRuntime) -> Result<(), Fail> {
+fn writes_of_others_are_shown(rt: HostRuntime) {
     let cases = [
         (Call::Delta(b"b", 2, b"z"), ended(BlockEnd::Gap)),
         (Call::Read, Answer::Read(1, 0, 0)),
@@ -178,17 +131,23 @@ fn writes_of_others_are_shown(rt: HostRuntime) -> Result<(), Fail> {
         (Call::Read, Answer::Read(4, 1, 3)),
         (Call::Tell, Answer::Told(1, 3, 2)),
     ];
-    Ok(answers(&rt, rt.alloc(), &cases)?)
+    answers(&rt, rt.alloc(), &cases);
 }
 
 /// The log's next write, its 4,097th, is under a key that the node has no room for.
 #[test]
-fn a_full_table_takes_no_new_key(rt: HostRuntime) -> Result<(), Fail> {
+fn a_full_table_takes_no_new_key(rt: HostRuntime) {
     let alloc = rt.alloc();
     let cases = [
         (Call::Write(b"new"), refused(Fault::TableFull)),
         (Call::Read, Answer::Read(0, 4_096, 0)),
     ];
-    let core = node_of(alloc, b"a", full_table(alloc)?)?;
-    Ok(answers_of(&rt, alloc, core, written_log(alloc, 4_096)?, &cases)?)
+    let core = node_of(&rt, alloc, b"a", full_table(&rt, alloc));
+    run(
+        &rt,
+        alloc,
+        core,
+        written_log(&rt, alloc, 4_096),
+        Course::Calls(&cases),
+    );
 }

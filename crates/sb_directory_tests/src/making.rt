@@ -1,65 +1,117 @@
 //! Nodes, writes and deltas for the tests.
+use crate::got;
 use sb_log::{Committed, PlainLog, WriteLog};
 use sb_node::NodeCore;
 use sb_table::Table;
-use sb_types::{Block, Delta, Entry, Fault, Key, Name, Order, RawSettings, Settings, Slot, Value};
+use sb_types::{Block, Delta, Entry, Key, Name, Order, Prefix, RawSettings, Settings, Slot, Value};
 use std::alloc::Global;
+use std::process::Abort;
 
 /// The most versions that a log gives.
 const VERSIONS: u64 = 5_000;
 
-/// A node of the cluster c1, whose own table is this.
-pub(crate) fn node_of(alloc: Global, me: &[u8], table: Table) -> Result<NodeCore, Fault> {
-    let settings = Settings::check(RawSettings {
+/// The name of this text.
+pub(crate) fn name(rt: &impl Abort, text: &[u8]) -> Name {
+    got(rt, Name::read(text))
+}
+
+/// The key of this text.
+pub(crate) fn key(rt: &impl Abort, text: &[u8]) -> Key {
+    got(rt, Key::read(text))
+}
+
+/// The prefix of this text.
+pub(crate) fn prefix(rt: &impl Abort, text: &[u8]) -> Prefix {
+    got(rt, Prefix::read(text))
+}
+
+/// A slot with a weight.
+fn weight(rt: &impl Abort, weight: u64) -> Slot {
+    Slot::Set(got(rt, Value::weight(weight)))
+}
+
+/// The settings of a node of the cluster c1.
+fn settings(rt: &impl Abort) -> Settings {
+    let raw = RawSettings {
         cluster: b"c1",
         budget: 256,
         order: Order::Breadth,
         max_version: VERSIONS,
         seats: 2,
         workers: 1,
-    })?;
-    NodeCore::open(alloc, settings, Name::read(me)?, table)
+    };
+    got(rt, Settings::check(raw))
+}
+
+/// A node of the cluster c1, whose own table is this.
+pub(crate) fn node_of(rt: &impl Abort, alloc: Global, me: &[u8], table: Table) -> NodeCore {
+    got(rt, NodeCore::open(alloc, settings(rt), name(rt, me), table))
+}
+
+/// A node a that wrote nothing.
+pub(crate) fn new_node(rt: &impl Abort, alloc: Global) -> NodeCore {
+    node_of(rt, alloc, b"a", Table::new(alloc))
 }
 
 /// An empty log of an owner.
-pub(crate) fn log_of(alloc: Global, owner: &[u8]) -> Result<PlainLog, Fault> {
-    let (owner, cluster) = (Name::read(owner)?, Name::read(b"c1")?);
-    Ok(PlainLog::new(alloc, owner, cluster, VERSIONS))
+pub(crate) fn log_of(rt: &impl Abort, alloc: Global, owner: &[u8]) -> PlainLog {
+    PlainLog::new(alloc, name(rt, owner), name(rt, b"c1"), VERSIONS)
 }
 
 /// The log's next write: the weight 5 under the key.
-pub(crate) fn commit(log: &mut PlainLog, key: &[u8]) -> Result<Committed, Fault> {
-    log.put(&Key::read(key)?, &Slot::Set(Value::weight(5)?))
+pub(crate) fn commit(rt: &impl Abort, log: &mut PlainLog, text: &[u8]) -> Committed {
+    got(rt, log.put(&key(rt, text), &weight(rt, 5)))
+}
+
+/// The first write of an owner.
+pub(crate) fn first_of(rt: &impl Abort, alloc: Global, owner: &[u8], text: &[u8]) -> Committed {
+    commit(rt, &mut log_of(rt, alloc, owner), text)
+}
+
+/// The write behind this version: the weight 7 under the key.
+fn entry_behind(rt: &impl Abort, version: u64, text: &[u8]) -> Entry {
+    Entry::new(key(rt, text), version.saturating_add(1), weight(rt, 7))
+}
+
+/// A delta of one block, with these entries from the version behind `after` on.
+fn delta_with(
+    rt: &impl Abort,
+    alloc: Global,
+    owner: &[u8],
+    after: u64,
+    entries: Vec<Entry>,
+) -> Delta {
+    let block = got(rt, Block::new(name(rt, owner), after, entries));
+    got(rt, Delta::new(got(rt, vec![in alloc; block])))
 }
 
 /// A delta of one block: what an owner wrote under these letters, from the version behind `after` on.
 pub(crate) fn delta_of(
+    rt: &impl Abort,
     alloc: Global,
     owner: &[u8],
     after: u64,
     letters: &[u8],
-) -> Result<Delta, Fault> {
+) -> Delta {
     let mut entries = Vec::new(alloc);
-    for (index, letter) in letters.iter().enumerate() {
-        let version = after.saturating_add(index as u64).saturating_add(1);
-        let slot = Slot::Set(Value::weight(7)?);
-        entries.push(Entry::new(Key::read(&[*letter])?, version, slot))?;
+    let mut version = after;
+    for letter in letters {
+        got(rt, entries.push(entry_behind(rt, version, &[*letter])));
+        version = version.saturating_add(1);
     }
-    let block = Block::new(Name::read(owner)?, after, entries)?;
-    Delta::new(vec![in alloc; block]?)
+    delta_with(rt, alloc, owner, after, entries)
 }
 
 /// A delta of one write: what an owner wrote under this key, behind the version `after`.
 pub(crate) fn delta_under(
+    rt: &impl Abort,
     alloc: Global,
     owner: &[u8],
     after: u64,
-    key: &[u8],
-) -> Result<Delta, Fault> {
-    let slot = Slot::Set(Value::weight(7)?);
-    let entry = Entry::new(Key::read(key)?, after.saturating_add(1), slot);
-    let block = Block::new(Name::read(owner)?, after, vec![in alloc; entry]?)?;
-    Delta::new(vec![in alloc; block]?)
+    text: &[u8],
+) -> Delta {
+    let entries = got(rt, vec![in alloc; entry_behind(rt, after, text)]);
+    delta_with(rt, alloc, owner, after, entries)
 }
 
 /// The text of a number, in four letters.
@@ -74,19 +126,19 @@ fn letters_of(number: u64) -> [u8; 4] {
 }
 
 /// The table of an owner that has all of the 4,096 keys that it may have.
-pub(crate) fn full_table(alloc: Global) -> Result<Table, Fault> {
-    let mut log = log_of(alloc, b"a")?;
+pub(crate) fn full_table(rt: &impl Abort, alloc: Global) -> Table {
+    let mut log = log_of(rt, alloc, b"a");
     for number in 0..4_096 {
-        commit(&mut log, &letters_of(number))?;
+        commit(rt, &mut log, &letters_of(number));
     }
-    log.load(alloc)
+    got(rt, log.load(alloc))
 }
 
 /// A log of the owner a that took so many writes, all under one key.
-pub(crate) fn written_log(alloc: Global, count: u64) -> Result<PlainLog, Fault> {
-    let mut log = log_of(alloc, b"a")?;
+pub(crate) fn written_log(rt: &impl Abort, alloc: Global, count: u64) -> PlainLog {
+    let mut log = log_of(rt, alloc, b"a");
     for _ in 0..count {
-        commit(&mut log, b"x")?;
+        commit(rt, &mut log, b"x");
     }
-    Ok(log)
+    log
 }

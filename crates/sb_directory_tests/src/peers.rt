@@ -1,12 +1,14 @@
 //! A peer in a session: what it says and what it hears.
 ghost use Rattle.std.specs.Prelude.{◌≡◌, ◌<◌};
 
+use crate::got;
+use crate::making::name;
 use sb_frames::Steps;
 use sb_session::{Ended, Handler, Session, serve};
-use sb_types::{Fault, Name};
 use std::alloc::Global;
 use std::io::{self, Read, Write};
 use std::marker::Brand;
+use std::process::Abort;
 use std::sync::ledger::{Blank, Ledger};
 
 /// Hello and the digest of a node a of the cluster c1 that holds only itself with nothing written, and its Bye.
@@ -54,44 +56,56 @@ impl Write for Hearing {
     }
 }
 
+/// A peer that heard nothing.
+fn new_hearing(rt: &impl Abort, alloc: Global) -> Hearing {
+    Hearing {
+        bytes: got(rt, Vec::with_capacity(alloc, 128)),
+    }
+}
+
+/// A session of the node b, which has not begun.
+fn session(rt: &impl Abort) -> Session {
+    Session::new(name(rt, b"c1"), name(rt, b"b"))
+}
+
+/// How a session ended, and whether the peer heard just this.
+pub(crate) type Talked = (Ended, bool);
+
 fn talk_on<L: Ledger, H: Handler>(
+    rt: &impl Abort,
     handler: &mut H,
     alloc: Global,
-    me: Name,
     piece: usize,
     blank: Blank,
-) -> Result<(Result<Ended, Fault>, Vec<u8>), Fault>
+) -> Talked
     requires name { blank.name ≡ L.name }
     requires parts { blank.parts ≡ L.parts }
     requires some { 0 < blank.parts }
 {
-    let session = Session::new(Name::read(b"c1")?, me);
     let mut steps = Steps::<L>::new(blank);
     let mut reader = Saying {
         bytes: SAID_BY_A,
         piece,
     };
-    let mut writer = Hearing {
-        bytes: Vec::with_capacity(alloc, 128)?,
-    };
+    let mut writer = new_hearing(rt, alloc);
     let (ended, _) = serve(
         alloc,
         &mut reader,
         &mut writer,
-        session,
+        session(rt),
         handler,
         99,
         &mut steps,
     );
-    Ok((ended, writer.bytes))
+    (got(rt, ended), writer.bytes.as_slice() == SAID_BY_B)
 }
 
-/// How a session of this node ends with a peer a, whose bytes come in such pieces, and what the peer hears.
+/// How a session of a node b ends with a peer a, whose bytes come in such pieces, and whether the peer hears what b says.
 pub(crate) fn talk<H: Handler>(
+    rt: &impl Abort,
     handler: &mut H,
     alloc: Global,
-    me: Name,
     piece: usize,
-) -> Result<(Result<Ended, Fault>, Vec<u8>), Fault> {
-    talk_on::<Brand, H>(handler, alloc, me, piece, Blank::new(1))
+) -> Talked {
+    talk_on::<Brand, H>(rt, handler, alloc, piece, Blank::new(1))
 }

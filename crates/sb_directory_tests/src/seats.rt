@@ -1,18 +1,17 @@
 //! The seats of a directory: how many there may be, and what it is closed with.
 ghost use Rattle.std.specs.Prelude.{◌≡◌};
 
-use crate::making::{commit, log_of, node_of};
-use crate::{same, same_at};
-use sb_directory::{Configured, Directory, ReaderSeat, Receipt};
+use crate::making::{first_of, name, new_node};
+use crate::{got, same, same_at, there};
+use sb_directory::{Closing, Configured, Directory, ReaderSeat};
 use sb_node::NodeCore;
-use sb_table::Table;
 use sb_types::Fault;
 use sb_views::Opened;
 use std::alloc::Global;
 use std::marker::Brand;
+use std::process::Abort;
 use std::sync::Wait;
 use std::sync::ledger::Blank;
-use std::test::Fail;
 
 /// How many seats a directory has that is asked for so many.
 fn made<S: Configured, R: Wait>(
@@ -30,13 +29,15 @@ fn made<S: Configured, R: Wait>(
     requires parts { blank.parts ≡ S.parts }
     requires all { (seats ≡ S.seats) × (seats ≡ S.parts) }
 {
-    let (_directory, made) = Directory::<S, &R>::make(rt, alloc, opened, blank, core, seats)?;
-    Ok(made.len())
+    match Directory::<S, &R>::make(rt, alloc, opened, blank, core, seats) {
+        Ok((_directory, made)) => Ok(made.len()),
+        Err(fault) => Err(fault),
+    }
 }
 
 /// The same of a new node.
-fn make_new<R: Wait>(rt: &R, alloc: Global, seats: usize) -> Result<usize, Fault> {
-    let core = node_of(alloc, b"a", Table::new(alloc))?;
+fn make_new<R: Wait + Abort>(rt: &R, alloc: Global, seats: usize) -> Result<usize, Fault> {
+    let core = new_node(rt, alloc);
     made::<Brand, _>(
         rt,
         alloc,
@@ -47,53 +48,106 @@ fn make_new<R: Wait>(rt: &R, alloc: Global, seats: usize) -> Result<usize, Fault
     )
 }
 
-#[test]
-fn a_directory_has_1_to_64_seats(rt: HostRuntime) -> Result<(), Fail> {
-    let alloc = rt.alloc();
-    for (seats, wanted) in [
-        (0usize, Err(Fault::BadSetting)),
-        (1, Ok(1usize)),
-        (64, Ok(64)),
-        (65, Err(Fault::BadSetting)),
-    ] {
-        let found = make_new(&rt, alloc, seats);
-        if found == Err(Fault::NoMemory) {
-            return Err(Fault::NoMemory.into());
-        }
-        same_at(&rt, &("seats", seats), &found, &wanted);
+/// A directory that is asked for so many seats has so many, or is refused for this fault.
+fn makes<R: Wait + Abort>(rt: &R, alloc: Global, seats: usize, wanted: Result<usize, Fault>) {
+    let found = make_new(rt, alloc, seats);
+    if found == Err(Fault::NoMemory) {
+        panic!(rt; "error: NoMemory");
     }
-    same(&rt, &Fault::BadSetting.number(), &5);
-    Ok(())
+    same_at(rt, &("seats", seats), &found, &wanted);
 }
 
-/// The version of a write from one of two seats; the number of the fault for which the directory was not closed with the other
-/// alone, and how many seats came back then; how many events there were, and how far the node is held.
-type Closed = (u64, u8, usize, u64, u64);
+#[test]
+fn a_directory_has_1_to_64_seats(rt: HostRuntime) {
+    let alloc = rt.alloc();
+    makes(&rt, alloc, 0, Err(Fault::BadSetting));
+    makes(&rt, alloc, 1, Ok(1));
+    makes(&rt, alloc, 64, Ok(64));
+    makes(&rt, alloc, 65, Err(Fault::BadSetting));
+    same(&rt, &Fault::BadSetting.number(), &5);
+}
 
-/// The version of a write of the node's own, from a seat that sees it; `NoMemory` where it does not.
-fn write<S: Configured, H: Wait + Drop, R: Wait>(
+/// Ends a directory with all of its seats.
+pub(crate) fn close<S: Configured, H: Wait + Drop, R: Wait + Abort>(
+    rt: &R,
+    directory: Directory<S, H>,
+    seats: Vec<ReaderSeat<S>>,
+) -> Closing
+    requires { S.seats ≡ S.parts }
+{
+    match directory.close(rt, seats) {
+        Ok(closing) => closing,
+        Err((fault, _, _)) => panic!(rt; "error: {fault:?}"),
+    }
+}
+
+/// What comes back from a directory that is not closed, as these are not all of its seats: the number of the fault, and both.
+fn refused<S: Configured, H: Wait + Drop, R: Wait + Abort>(
+    rt: &R,
+    directory: Directory<S, H>,
+    seats: Vec<ReaderSeat<S>>,
+) -> (u8, Directory<S, H>, Vec<ReaderSeat<S>>)
+    requires { S.seats ≡ S.parts }
+{
+    match directory.close(rt, seats) {
+        Ok(_) => panic!(rt; "error: closed"),
+        Err((fault, directory, back)) => (fault.number(), directory, back),
+    }
+}
+
+/// The number of the fault for which a directory was not closed with one of two seats alone, and how many seats came back then;
+/// how many events there were, and how far the node a is held.
+type Closed = (u8, usize, u64, u64);
+
+/// Closes a directory with one of its two seats, and then with both.
+fn close_twice<S: Configured, H: Wait + Drop, R: Wait + Abort>(
+    rt: &R,
+    directory: Directory<S, H>,
+    seats: Vec<ReaderSeat<S>>,
+    kept: ReaderSeat<S>,
+) -> Closed
+    requires { S.seats ≡ S.parts }
+{
+    let (fault, directory, mut back) = refused(rt, directory, seats);
+    let count = back.len();
+    got(rt, back.push(kept));
+    let closing = close(rt, directory, back);
+    (
+        fault,
+        count,
+        closing.events,
+        closing.core.upto(&name(rt, b"a")),
+    )
+}
+
+/// The version of a write of the node's own, from a seat that sees it.
+fn write<S: Configured, H: Wait + Drop, R: Wait + Abort>(
     rt: &R,
     alloc: Global,
     directory: &Directory<S, H>,
     seat: &mut ReaderSeat<S>,
-) -> Result<u64, Fault> {
-    let committed = commit(&mut log_of(alloc, b"a")?, b"x")?;
-    match directory.take_own(rt, seat, &committed)? {
-        Receipt {
-            version,
-            shown: true,
-        } => Ok(version),
-        _ => Err(Fault::NoMemory),
+) -> u64 {
+    let committed = first_of(rt, alloc, b"a", b"x");
+    let receipt = got(rt, directory.take_own(rt, seat, &committed));
+    all_shown(rt, receipt.shown);
+    receipt.version
+}
+
+/// Ends the test where a call did not show what it was to, for want of memory.
+pub(crate) fn all_shown(rt: &impl Abort, shown: bool) {
+    if !shown {
+        panic!(rt; "error: NoMemory");
     }
 }
 
-fn close_twice<S: Configured, R: Wait>(
+/// The version of a write from one of two seats, and how the directory closes with the other alone, and with both.
+fn write_and_close<S: Configured, R: Wait + Abort>(
     rt: &R,
     alloc: Global,
     opened: Opened,
     blank: Blank,
     core: NodeCore,
-) -> Result<Closed, Fault>
+) -> (u64, Closed)
     requires story { opened.seen.book ≡ S.story }
     requires opening { S.opening ≡ core.node }
     requires settings { S.settings ≡ core.settings }
@@ -101,32 +155,17 @@ fn close_twice<S: Configured, R: Wait>(
     requires parts { blank.parts ≡ S.parts }
     requires all { (2 ≡ S.seats) × (2 ≡ S.parts) }
 {
-    let a = *core.name();
-    let (directory, mut seats) = Directory::<S, &R>::make(rt, alloc, opened, blank, core, 2)?;
-    let Some(mut kept) = seats.pop() else {
-        return Err(Fault::Closed);
-    };
-    let version = write(rt, alloc, &directory, &mut kept)?;
-    let (fault, directory, mut back) = match directory.close(rt, seats) {
-        Ok(_) => return Err(Fault::Closed),
-        Err(back) => back,
-    };
-    let count = back.len();
-    back.push(kept)?;
-    match directory.close(rt, back) {
-        Ok(closing) => {
-            let upto = closing.core.upto(&a);
-            Ok((version, fault.number(), count, closing.events, upto))
-        }
-        Err((fault, _, _)) => Err(fault),
-    }
+    let made = Directory::<S, &R>::make(rt, alloc, opened, blank, core, 2);
+    let (directory, mut seats) = got(rt, made);
+    let mut kept = there(rt, seats.pop());
+    let version = write(rt, alloc, &directory, &mut kept);
+    (version, close_twice(rt, directory, seats, kept))
 }
 
 #[test]
-fn a_directory_is_closed_with_all_seats(rt: HostRuntime) -> Result<(), Fail> {
+fn a_directory_is_closed_with_all_seats(rt: HostRuntime) {
     let alloc = rt.alloc();
-    let core = node_of(alloc, b"a", Table::new(alloc))?;
-    let closed = close_twice::<Brand, _>(&rt, alloc, Opened::new(), Blank::new(2), core)?;
-    assert_eq!(rt; closed, (1, 5, 1, 1, 1));
-    Ok(())
+    let core = new_node(&rt, alloc);
+    let closed = write_and_close::<Brand, _>(&rt, alloc, Opened::new(), Blank::new(2), core);
+    same(&rt, &closed, &(1, (5, 1, 1, 1)));
 }

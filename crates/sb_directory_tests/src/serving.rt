@@ -1,45 +1,46 @@
 //! A directory that serves a peer in a session, from a seat.
 ghost use Rattle.std.specs.Prelude.{◌≡◌};
 
-use crate::making::node_of;
-use crate::peers::{SAID_BY_B, talk};
-use crate::{same, same_at};
+use crate::making::{key, node_of};
+use crate::peers::{SAID_BY_B, Talked, talk};
+use crate::seats::close;
+use crate::{got, same, same_at, there};
 use sb_directory::{Configured, Directory, ReaderSeat, Served};
 use sb_node::NodeCore;
 use sb_session::Ended;
 use sb_table::Table;
-use sb_types::{Entry, Fault, Key, Name, Slot, Value};
+use sb_types::{Entry, Slot, Value};
 use sb_views::Opened;
 use std::alloc::Global;
 use std::marker::Brand;
+use std::process::Abort;
 use std::sync::Wait;
 use std::sync::ledger::Blank;
-use std::test::Fail;
 
-/// How a session ended with a peer a, whether b said just its Hello, its delta and its digest, and how many events there were.
-type Talked = (Ended, bool, u64);
-
-/// A session of a node b from a seat, with a peer whose bytes come in such pieces.
-fn serve_from<S: Configured, H: Wait + Drop, R: Wait>(
+/// A session of a node b from its seat, with a peer whose bytes come in such pieces.
+fn serve_from<S: Configured, H: Wait + Drop, R: Wait + Abort>(
     rt: &R,
     alloc: Global,
     directory: &Directory<S, H>,
-    seat: ReaderSeat<S>,
+    seats: &mut Vec<ReaderSeat<S>>,
     piece: usize,
-) -> Result<(Ended, bool, ReaderSeat<S>), Fault> {
-    let mut served = Served::new(rt, directory, seat);
-    let (ended, said) = talk(&mut served, alloc, Name::read(b"b")?, piece)?;
-    Ok((ended?, said.as_slice() == SAID_BY_B, served.into_seat()))
+) -> Talked {
+    let mut served = Served::new(rt, directory, there(rt, seats.pop()));
+    let talked = talk(rt, &mut served, alloc, piece);
+    got(rt, seats.push(served.into_seat()));
+    talked
 }
 
-fn serve_one<S: Configured, R: Wait>(
+/// How a session ended with a peer a, and whether b said just its Hello, its delta and its digest; and how many events there
+/// were.
+fn serve_one<S: Configured, R: Wait + Abort>(
     rt: &R,
     alloc: Global,
     opened: Opened,
     blank: Blank,
     core: NodeCore,
     piece: usize,
-) -> Result<Talked, Fault>
+) -> (Talked, u64)
     requires story { opened.seen.book ≡ S.story }
     requires opening { S.opening ≡ core.node }
     requires settings { S.settings ≡ core.settings }
@@ -47,34 +48,32 @@ fn serve_one<S: Configured, R: Wait>(
     requires parts { blank.parts ≡ S.parts }
     requires all { (1 ≡ S.seats) × (1 ≡ S.parts) }
 {
-    let (directory, mut seats) = Directory::<S, &R>::make(rt, alloc, opened, blank, core, 1)?;
-    let Some(seat) = seats.pop() else {
-        return Err(Fault::Closed);
-    };
-    let (ended, is_said, seat) = serve_from(rt, alloc, &directory, seat, piece)?;
-    seats.push(seat)?;
-    match directory.close(rt, seats) {
-        Ok(closing) => Ok((ended, is_said, closing.events)),
-        Err((fault, _, _)) => Err(fault),
-    }
+    let made = Directory::<S, &R>::make(rt, alloc, opened, blank, core, 1);
+    let (directory, mut seats) = got(rt, made);
+    let talked = serve_from(rt, alloc, &directory, &mut seats, piece);
+    (talked, close(rt, directory, seats).events)
 }
 
-/// A new directory of a node b that wrote the flag true under w.
-fn serve_new<R: Wait>(rt: &R, alloc: Global, piece: usize) -> Result<Talked, Fault> {
+/// The table of an owner that wrote the flag true under w.
+fn flagged(rt: &impl Abort, alloc: Global) -> Table {
     let mut table = Table::new(alloc);
-    let slot = Slot::Set(Value::flag(true));
-    table.push(Entry::new(Key::read(b"w")?, 1, slot))?;
-    let core = node_of(alloc, b"b", table)?;
-    serve_one::<Brand, _>(rt, alloc, Opened::new(), Blank::new(1), core, piece)
+    let entry = Entry::new(key(rt, b"w"), 1, Slot::Set(Value::flag(true)));
+    got(rt, table.push(entry));
+    table
+}
+
+/// A new directory of a node b that wrote the flag true under w serves a peer whose bytes come in such pieces.
+fn serve_new<R: Wait + Abort>(rt: &R, alloc: Global, piece: usize) {
+    let core = node_of(rt, alloc, b"b", flagged(rt, alloc));
+    let talked = serve_one::<Brand, _>(rt, alloc, Opened::new(), Blank::new(1), core, piece);
+    same_at(rt, &piece, &talked, &((Ended::Bye(1), true), 0));
 }
 
 #[test]
-fn a_peer_is_served(rt: HostRuntime) -> Result<(), Fail> {
+fn a_peer_is_served(rt: HostRuntime) {
     for piece in [1usize, 7, 42] {
-        let talked = serve_new(&rt, rt.alloc(), piece)?;
-        same_at(&rt, &piece, &talked, &(Ended::Bye(1), true, 0));
+        serve_new(&rt, rt.alloc(), piece);
     }
     // Hello, the delta and the digest.
     same(&rt, &SAID_BY_B.len(), &67);
-    Ok(())
 }

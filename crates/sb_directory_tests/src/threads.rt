@@ -1,19 +1,20 @@
 //! A reader in a thread of its own, beside a writer in another.
 ghost use Rattle.std.specs.Prelude.{◌≡◌};
 
-use crate::making::{commit, delta_under, log_of, node_of};
-use sb_directory::{Configured, Directory, ReaderSeat};
+use crate::making::{commit, delta_under, log_of, name, new_node, prefix};
+use crate::seats::{all_shown, close};
+use crate::{got, same, there};
+use sb_directory::{Applied, Configured, Directory, ReaderSeat};
 use sb_holdings::BlockEnd;
 use sb_log::PlainLog;
 use sb_node::NodeCore;
-use sb_table::Table;
-use sb_types::{Delta, Fault, Name, Prefix};
+use sb_types::{Name, Prefix};
 use sb_views::{Opened, Snapshot};
 use std::alloc::Global;
 use std::marker::Brand;
+use std::process::Abort;
 use std::sync::Wait;
 use std::sync::ledger::Blank;
-use std::test::Fail;
 use std::thread::{Threads, join};
 
 /// How many writes of each owner are made beside the reader, each under a key of its own, in the order of the versions.
@@ -88,66 +89,98 @@ fn read_along<S: Configured>(
     (seat, seen)
 }
 
-/// What a call says that was to show; `NoMemory` where it did not.
-fn all_shown(shown: bool) -> Result<(), Fault> {
-    if shown { Ok(()) } else { Err(Fault::NoMemory) }
-}
-
-/// A write of b is taken, and shown at once.
-fn take_of_b<S: Configured, H: Wait + Drop, R: Wait>(
-    rt: &R,
-    directory: &Directory<S, H>,
-    seat: &mut ReaderSeat<S>,
-    delta: &Delta,
-) -> Result<(), Fault> {
-    let applied = directory.apply(rt, seat, delta)?;
+/// One write was taken, and shown at once.
+fn is_taken(rt: &impl Abort, applied: &Applied) {
     match applied.ends.ends() {
-        [BlockEnd::Taken(1)] => all_shown(applied.shown),
-        [BlockEnd::NoMemory(_)] => Err(Fault::NoMemory),
-        _ => Err(Fault::Closed),
+        [BlockEnd::Taken(1)] => all_shown(rt, applied.shown),
+        [BlockEnd::NoMemory(_)] => panic!(rt; "error: NoMemory"),
+        _ => panic!(rt; "error: not taken"),
     }
 }
 
-/// The next write of the node a, and that of b behind this version, each shown at once.
-fn write_both<S: Configured, H: Wait + Drop, R: Wait>(
+/// The write of b behind this version is taken, and shown at once.
+fn take_of_b<S: Configured, H: Wait + Drop, R: Wait + Abort>(
     rt: &R,
     alloc: Global,
+    directory: &Directory<S, H>,
+    seat: &mut ReaderSeat<S>,
+    version: u64,
+) {
+    let delta = delta_under(rt, alloc, b"b", version, &key_behind(version));
+    is_taken(rt, &got(rt, directory.apply(rt, seat, &delta)));
+}
+
+/// The next write of the node a is taken, and shown at once.
+fn take_own<S: Configured, H: Wait + Drop, R: Wait + Abort>(
+    rt: &R,
     directory: &Directory<S, H>,
     seat: &mut ReaderSeat<S>,
     log: &mut PlainLog,
     version: u64,
-) -> Result<(), Fault> {
-    let key = key_behind(version);
-    let delta = delta_under(alloc, b"b", version, &key)?;
-    let committed = commit(log, &key)?;
-    all_shown(directory.take_own(rt, seat, &committed)?.shown)?;
-    take_of_b(rt, directory, seat, &delta)
+) {
+    let committed = commit(rt, log, &key_behind(version));
+    all_shown(rt, got(rt, directory.take_own(rt, seat, &committed)).shown);
 }
 
 /// Writes of the node a and of b, in turn, each shown at once.
-fn write_along<S: Configured, H: Wait + Drop, R: Wait>(
+fn write_along<S: Configured, H: Wait + Drop, R: Wait + Abort>(
     rt: &R,
     alloc: Global,
     directory: &Directory<S, H>,
-    seat: &mut ReaderSeat<S>,
-) -> Result<(), Fault> {
-    let mut log = log_of(alloc, b"a")?;
+    mut seat: ReaderSeat<S>,
+) -> ReaderSeat<S> {
+    let mut log = log_of(rt, alloc, b"a");
     for version in 0..WRITES {
-        write_both(rt, alloc, directory, seat, &mut log, version)?;
+        take_own(rt, directory, &mut seat, &mut log, version);
+        take_of_b(rt, alloc, directory, &mut seat, version);
     }
-    Ok(())
+    seat
+}
+
+/// What a reader sees in a thread of its own beside a writer in another, and at last.
+fn run_both<S: Configured + Send + Sync, R: Wait + Threads + Abort + Sync + Send>(
+    rt: &R,
+    alloc: Global,
+    directory: &Directory<S, &R>,
+    reader: ReaderSeat<S>,
+    writer: ReaderSeat<S>,
+) -> ([Seen; 2], ReaderSeat<S>, ReaderSeat<S>) {
+    let all = prefix(rt, b"");
+    let seen = [new_seen(name(rt, b"a")), new_seen(name(rt, b"b"))];
+    let ((reader, seen), writer) = join(
+        rt,
+        move || read_along(reader, all, TURNS, seen),
+        move || write_along(rt, alloc, directory, writer),
+    );
+    let (reader, seen) = read_along(reader, all, 1, seen);
+    (seen, reader, writer)
+}
+
+/// The same, from the two seats of a directory.
+fn run_from<S: Configured + Send + Sync, R: Wait + Threads + Abort + Sync + Send>(
+    rt: &R,
+    alloc: Global,
+    directory: &Directory<S, &R>,
+    seats: &mut Vec<ReaderSeat<S>>,
+) -> [Seen; 2] {
+    let reader = there(rt, seats.pop());
+    let writer = there(rt, seats.pop());
+    let (seen, reader, writer) = run_both(rt, alloc, directory, reader, writer);
+    got(rt, seats.push(reader));
+    got(rt, seats.push(writer));
+    seen
 }
 
 /// Up to which versions the reader was shown a and b at last; whether all that it saw was right; how many events there were.
 type Beside = ([u64; 2], bool, u64);
 
-fn read_beside<S: Configured + Send + Sync, R: Wait + Threads + Sync + Send>(
+fn read_beside<S: Configured + Send + Sync, R: Wait + Threads + Abort + Sync + Send>(
     rt: &R,
     alloc: Global,
     opened: Opened,
     blank: Blank,
     core: NodeCore,
-) -> Result<Beside, Fault>
+) -> Beside
     requires story { opened.seen.book ≡ S.story }
     requires opening { S.opening ≡ core.node }
     requires settings { S.settings ≡ core.settings }
@@ -155,36 +188,17 @@ fn read_beside<S: Configured + Send + Sync, R: Wait + Threads + Sync + Send>(
     requires parts { blank.parts ≡ S.parts }
     requires all { (2 ≡ S.seats) × (2 ≡ S.parts) }
 {
-    let seen = [new_seen(Name::read(b"a")?), new_seen(Name::read(b"b")?)];
-    let all = Prefix::read(b"")?;
-    let (directory, mut seats) = Directory::<S, &R>::make(rt, alloc, opened, blank, core, 2)?;
-    let (Some(reader), Some(mut writer)) = (seats.pop(), seats.pop()) else {
-        return Err(Fault::Closed);
-    };
-    let lent = &directory;
-    let ((reader, seen), (writer, written)) = join(
-        rt,
-        move || read_along(reader, all, TURNS, seen),
-        move || {
-            let written = write_along(rt, alloc, lent, &mut writer);
-            (writer, written)
-        },
-    );
-    written?;
-    let (reader, [a, b]) = read_along(reader, all, 1, seen);
-    seats.push(reader)?;
-    seats.push(writer)?;
-    match directory.close(rt, seats) {
-        Ok(closing) => Ok(([a.upto, b.upto], a.is_right && b.is_right, closing.events)),
-        Err((fault, _, _)) => Err(fault),
-    }
+    let made = Directory::<S, &R>::make(rt, alloc, opened, blank, core, 2);
+    let (directory, mut seats) = got(rt, made);
+    let [a, b] = run_from(rt, alloc, &directory, &mut seats);
+    let closing = close(rt, directory, seats);
+    ([a.upto, b.upto], a.is_right && b.is_right, closing.events)
 }
 
 #[test]
-fn a_reader_beside_a_writer(rt: HostRuntime) -> Result<(), Fail> {
+fn a_reader_beside_a_writer(rt: HostRuntime) {
     let alloc = rt.alloc();
-    let core = node_of(alloc, b"a", Table::new(alloc))?;
-    let found = read_beside::<Brand, _>(&rt, alloc, Opened::new(), Blank::new(2), core)?;
-    assert_eq!(rt; found, ([WRITES, WRITES], true, 2 * WRITES));
-    Ok(())
+    let core = new_node(&rt, alloc);
+    let found = read_beside::<Brand, _>(&rt, alloc, Opened::new(), Blank::new(2), core);
+    same(&rt, &found, &([WRITES, WRITES], true, 2 * WRITES));
 }
