@@ -1,21 +1,20 @@
 //! An owner and a control socket over a directory: what is kept, what is shared, and what is answered.
 ghost use Rattle.std.specs.Prelude.{◌≡◌, ◌<◌};
 
-use crate::same;
+use crate::making::{key, name, new_log, new_node, weight};
+use crate::{got, same, there};
 use sb_directory::{Configured, Directory, ReaderSeat};
 use sb_frames::Steps;
 use sb_log::PlainLog;
 use sb_node::NodeCore;
 use sb_run::{Owner, Stored, serve_control};
-use sb_table::Table;
-use sb_types::{Block, Delta, Entry, Fault, Key, Name, Order, RawSettings, Settings, Slot, Value};
+use sb_types::{Block, Delta, Entry, Fault};
 use sb_views::Opened;
 use std::alloc::Global;
 use std::marker::Brand;
 use std::process::Abort;
 use std::sync::Wait;
 use std::sync::ledger::{Blank, Ledger};
-use std::test::Fail;
 
 /// A Put of the weight 5 under w, and its answer: Done, with the version 1.
 pub(crate) const PUT: &[u8] =
@@ -34,31 +33,35 @@ const BYE: &[u8] = b"\xa7\x01\x00\x00\x00\x02\x04\x01";
 
 const UNKNOWN: &[u8] = b"\xa7\x01\x00\x00\x00\x02\x14\x0d";
 
-fn settings() -> Result<Settings, Fault> {
-    Settings::check(RawSettings {
-        cluster: b"c1",
-        budget: 256,
-        order: Order::Breadth,
-        max_version: 100,
-        seats: 1,
-        workers: 1,
-    })
+/// The owner of a new log of a.
+pub(crate) fn new_owner(rt: &impl Abort, alloc: Global) -> Owner<PlainLog> {
+    Owner::new(new_log(rt, alloc, b"a"))
 }
 
-/// A new node of the name a.
-pub(crate) fn new_node(alloc: Global) -> Result<NodeCore, Fault> {
-    NodeCore::open(alloc, settings()?, Name::read(b"a")?, Table::new(alloc))
-}
-
-pub(crate) fn new_owner(alloc: Global) -> Result<Owner<PlainLog>, Fault> {
-    let log = PlainLog::new(alloc, Name::read(b"a")?, Name::read(b"c1")?, 100);
-    Ok(Owner::new(log))
+/// A directory of this node, and its only seat.
+pub(crate) fn directory_of<S: Configured, R: Wait + Abort>(
+    rt: &R,
+    alloc: Global,
+    opened: Opened,
+    blank: Blank,
+    core: NodeCore,
+) -> (Directory<S, &R>, ReaderSeat<S>)
+    requires story { opened.seen.book ≡ S.story }
+    requires opening { S.opening ≡ core.node }
+    requires settings { S.settings ≡ core.settings }
+    requires name { blank.name ≡ S.name }
+    requires parts { blank.parts ≡ S.parts }
+    requires seats { (1 ≡ S.seats) × (1 ≡ S.parts) }
+{
+    let made = Directory::<S, &R>::make(rt, alloc, opened, blank, core, 1);
+    let (directory, mut seats) = got(rt, made);
+    (directory, there(rt, seats.pop()))
 }
 
 #[test]
-fn requests_are_answered(rt: HostRuntime) -> Result<(), Fail> {
-    let core = new_node(rt.alloc())?;
-    answer_each::<Brand, _>(&rt, rt.alloc(), Opened::new(), Blank::new(1), core)
+fn requests_are_answered(rt: HostRuntime) {
+    let core = new_node(&rt, rt.alloc(), 1);
+    answer_each::<Brand, _>(&rt, rt.alloc(), Opened::new(), Blank::new(1), core);
 }
 
 fn answer_each<S: Configured, R: Wait + Abort>(
@@ -67,7 +70,7 @@ fn answer_each<S: Configured, R: Wait + Abort>(
     opened: Opened,
     blank: Blank,
     core: NodeCore,
-) -> Result<(), Fail>
+)
     requires story { opened.seen.book ≡ S.story }
     requires opening { S.opening ≡ core.node }
     requires settings { S.settings ≡ core.settings }
@@ -75,30 +78,48 @@ fn answer_each<S: Configured, R: Wait + Abort>(
     requires parts { blank.parts ≡ S.parts }
     requires seats { (1 ≡ S.seats) × (1 ≡ S.parts) }
 {
-    let (directory, mut seats) = Directory::<S, &R>::make(rt, alloc, opened, blank, core, 1)?;
-    let mut owner = new_owner(alloc)?;
-    let mut seat = seats.pop().ok_or("a seat")?;
-    for (request, wanted) in [(PUT, DONE), (ASK, ROWS), (BYE, UNKNOWN)] {
-        let mut answer = Vec::new(alloc);
-        let (back, ended) = serve_one::<S, R, Brand>(
-            rt,
-            alloc,
-            &directory,
-            &mut owner,
-            seat,
-            request,
-            &mut answer,
-            Blank::new(1),
-        );
-        ended?;
-        assert_eq!(rt; answer.as_slice(), wanted);
-        seat = back;
-    }
-    Ok(())
+    let (directory, seat) = directory_of::<S, R>(rt, alloc, opened, blank, core);
+    let mut owner = new_owner(rt, alloc);
+    let seat = answers(rt, alloc, &directory, &mut owner, seat, PUT, DONE);
+    let seat = answers(rt, alloc, &directory, &mut owner, seat, ASK, ROWS);
+    answers(rt, alloc, &directory, &mut owner, seat, BYE, UNKNOWN);
+}
+
+/// A request from a seat is answered so.
+fn answers<S: Configured, R: Wait + Abort>(
+    rt: &R,
+    alloc: Global,
+    directory: &Directory<S, &R>,
+    owner: &mut Owner<PlainLog>,
+    seat: ReaderSeat<S>,
+    request: &[u8],
+    wanted: &[u8],
+) -> ReaderSeat<S> {
+    let mut answer = Vec::new(alloc);
+    let seat = serve_one(rt, alloc, directory, owner, seat, request, &mut answer);
+    same(rt, &answer.as_slice(), &wanted);
+    seat
 }
 
 /// One request over a reader that holds it.
-pub(crate) fn serve_one<S: Configured, R: Wait, K: Ledger>(
+pub(crate) fn serve_one<S: Configured, R: Wait + Abort>(
+    rt: &R,
+    alloc: Global,
+    directory: &Directory<S, &R>,
+    owner: &mut Owner<PlainLog>,
+    seat: ReaderSeat<S>,
+    request: &[u8],
+    answer: &mut Vec<u8>,
+) -> ReaderSeat<S> {
+    let blank = Blank::new(1);
+    let (seat, ended) = serve_on::<S, R, Brand>(
+        rt, alloc, directory, owner, seat, request, answer, blank,
+    );
+    got(rt, ended);
+    seat
+}
+
+fn serve_on<S: Configured, R: Wait, K: Ledger>(
     rt: &R,
     alloc: Global,
     directory: &Directory<S, &R>,
@@ -129,16 +150,9 @@ pub(crate) fn serve_one<S: Configured, R: Wait, K: Ledger>(
 }
 
 #[test]
-fn another_node_under_the_own_name_stops_writes(rt: HostRuntime) -> Result<(), Fail> {
-    let core = new_node(rt.alloc())?;
-    meet_another::<Brand, _>(&rt, rt.alloc(), Opened::new(), Blank::new(1), core)
-}
-
-/// A delta whose block tells of the second write of a, behind the first.
-fn delta_of_a(alloc: Global) -> Result<Delta, Fault> {
-    let entry = Entry::new(Key::read(b"y")?, 2, Slot::Set(Value::weight(7)?));
-    let block = Block::new(Name::read(b"a")?, 1, vec![in alloc; entry]?)?;
-    Delta::new(vec![in alloc; block]?)
+fn another_node_under_the_own_name_stops_writes(rt: HostRuntime) {
+    let core = new_node(&rt, rt.alloc(), 1);
+    meet_another::<Brand, _>(&rt, rt.alloc(), Opened::new(), Blank::new(1), core);
 }
 
 fn meet_another<S: Configured, R: Wait + Abort>(
@@ -147,7 +161,7 @@ fn meet_another<S: Configured, R: Wait + Abort>(
     opened: Opened,
     blank: Blank,
     core: NodeCore,
-) -> Result<(), Fail>
+)
     requires story { opened.seen.book ≡ S.story }
     requires opening { S.opening ≡ core.node }
     requires settings { S.settings ≡ core.settings }
@@ -155,32 +169,45 @@ fn meet_another<S: Configured, R: Wait + Abort>(
     requires parts { blank.parts ≡ S.parts }
     requires seats { (1 ≡ S.seats) × (1 ≡ S.parts) }
 {
-    let delta = delta_of_a(alloc)?;
-    let mut owner = new_owner(alloc)?;
-    let (directory, mut seats) = Directory::<S, &R>::make(rt, alloc, opened, blank, core, 1)?;
-    let seat = seats.pop().ok_or("a seat")?;
-    let put = put_around(rt, &directory, &mut owner, seat, &delta)?;
-    same(rt, &put, &(true, 1, Err(Fault::OwnerConflict(2))));
-    Ok(())
+    let (directory, mut seat) = directory_of::<S, R>(rt, alloc, opened, blank, core);
+    let mut owner = new_owner(rt, alloc);
+    let stored = got(rt, put_x(rt, &directory, &mut owner, &mut seat));
+    let is_shared = matches!(stored, Stored::Shared(_));
+    take_of_a(rt, alloc, &directory, &mut seat);
+    let refused = put_x(rt, &directory, &mut owner, &mut seat);
+    let met = (is_shared, stored.version(), refused);
+    same(rt, &met, &(true, 1, Err(Fault::OwnerConflict(2))));
 }
 
-/// Puts from a seat, before and after the directory takes a delta: whether the first is shared, its version, and what the second
-/// is answered.
-fn put_around<S: Configured, R: Wait>(
+/// Puts the weight 5 under x.
+fn put_x<S: Configured, R: Wait + Abort>(
     rt: &R,
     directory: &Directory<S, &R>,
     owner: &mut Owner<PlainLog>,
-    mut seat: ReaderSeat<S>,
-    delta: &Delta,
-) -> Result<(bool, u64, Result<Stored, Fault>), Fault> {
-    let key = Key::read(b"x")?;
-    let slot = Slot::Set(Value::weight(5)?);
-    let stored = owner.put(rt, directory, &mut seat, &key, &slot)?;
-    directory.apply(rt, &mut seat, delta)?;
-    let refused = owner.put(rt, directory, &mut seat, &key, &slot);
-    Ok((
-        matches!(stored, Stored::Shared(_)),
-        stored.version(),
-        refused,
-    ))
+    seat: &mut ReaderSeat<S>,
+) -> Result<Stored, Fault> {
+    owner.put(rt, directory, seat, &key(rt, b"x"), &weight(rt, 5))
+}
+
+/// The directory takes the delta of another node a.
+fn take_of_a<S: Configured, R: Wait + Abort>(
+    rt: &R,
+    alloc: Global,
+    directory: &Directory<S, &R>,
+    seat: &mut ReaderSeat<S>,
+) {
+    let delta = delta_of_a(rt, alloc);
+    got(rt, directory.apply(rt, seat, &delta));
+}
+
+/// A delta whose block tells of the second write of a, behind the first.
+fn delta_of_a(rt: &impl Abort, alloc: Global) -> Delta {
+    let block = block_of_a(rt, alloc);
+    got(rt, Delta::new(got(rt, vec![in alloc; block])))
+}
+
+fn block_of_a(rt: &impl Abort, alloc: Global) -> Block {
+    let entry = Entry::new(key(rt, b"y"), 2, weight(rt, 7));
+    let entries = got(rt, vec![in alloc; entry]);
+    got(rt, Block::new(name(rt, b"a"), 1, entries))
 }
