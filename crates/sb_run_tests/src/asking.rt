@@ -93,18 +93,18 @@ fn answer_to(
     rt: &impl Abort,
     alloc: Global,
     held: &[u8],
-    request: &Message,
+    request: Message,
     frame: &[u8],
 ) -> Message {
     let mut sent = Vec::new(alloc);
-    let answer = got(rt, asked(alloc, held, &mut sent, request, 1));
+    let answer = got(rt, asked(alloc, held, &mut sent, &request, 1));
     same(rt, &sent.as_slice(), &frame);
     answer
 }
 
 /// The version that this answer tells; none where it is not a Done.
-fn version_of(answer: &Message) -> Option<u64> {
-    match answer {
+fn version_of(answer: Message) -> Option<u64> {
+    match &answer {
         Message::Done(done) => Some(done.version()),
         _ => None,
     }
@@ -112,13 +112,13 @@ fn version_of(answer: &Message) -> Option<u64> {
 
 #[test]
 fn a_put_is_answered_by_its_version(rt: HostRuntime) {
-    let answer = answer_to(&rt, rt.alloc(), DONE, &put_of_w(&rt), PUT);
-    same(&rt, &version_of(&answer), &Some(1));
+    let answer = answer_to(&rt, rt.alloc(), DONE, put_of_w(&rt), PUT);
+    same(&rt, &version_of(answer), &Some(1));
 }
 
 /// This answer is of the rows of these lines, and no more follow.
-fn tells_all(rt: &impl Abort, alloc: Global, answer: &Message, lines: &[u8]) {
-    let Message::Rows(page) = answer else {
+fn tells_all(rt: &impl Abort, alloc: Global, answer: Message, lines: &[u8]) {
+    let Message::Rows(page) = &answer else {
         panic!(rt; "error: no rows");
     };
     holds(rt, "no more rows", !page.more());
@@ -129,8 +129,8 @@ fn tells_all(rt: &impl Abort, alloc: Global, answer: &Message, lines: &[u8]) {
 
 #[test]
 fn an_ask_is_answered_by_rows(rt: HostRuntime) {
-    let answer = answer_to(&rt, rt.alloc(), ROWS, &ask_for_all(&rt), ASK);
-    tells_all(&rt, rt.alloc(), &answer, b"a w 1 weight 5\n");
+    let answer = answer_to(&rt, rt.alloc(), ROWS, ask_for_all(&rt), ASK);
+    tells_all(&rt, rt.alloc(), answer, b"a w 1 weight 5\n");
 }
 
 /// The fault with which a put ends over a reader of these bytes. Want of memory ends the test, as an answer does.
@@ -142,7 +142,11 @@ fn fault_of<W: io::Write>(
     max_reads: u64,
 ) -> Fault {
     let request = put_of_w(rt);
-    match asked(alloc, held, writer, &request, max_reads) {
+    fault_in(rt, asked(alloc, held, writer, &request, max_reads))
+}
+
+fn fault_in(rt: &impl Abort, answer: Result<Message, Fault>) -> Fault {
+    match answer {
         Err(Fault::NoMemory) => panic!(rt; "error: NoMemory"),
         Err(met) => met,
         Ok(_) => panic!(rt; "error: no fault"),

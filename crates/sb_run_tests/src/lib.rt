@@ -5,6 +5,8 @@
 #[cfg(test)]
 mod asking;
 #[cfg(test)]
+mod desk;
+#[cfg(test)]
 mod making;
 #[cfg(test)]
 mod owing;

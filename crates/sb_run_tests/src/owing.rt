@@ -2,13 +2,13 @@
 //! `tools/sweep` refuses what they ask for.
 ghost use Rattle.std.specs.Prelude.{◌≡◌};
 
-use crate::making::{key, name, new_node, weight};
-use crate::owning::{PUT, directory_of, new_owner, serve_one};
+use crate::desk::{Desk, desk_of};
+use crate::making::new_node;
+use crate::owning::PUT;
 use crate::same;
-use sb_directory::{Configured, Directory, EnteredSeat, ReaderSeat};
-use sb_log::PlainLog;
+use sb_directory::Configured;
 use sb_node::NodeCore;
-use sb_run::{Owner, Stored};
+use sb_run::Stored;
 use sb_types::Fault;
 use sb_views::Opened;
 use std::alloc::Global;
@@ -59,34 +59,13 @@ impl Versions {
     }
 }
 
-/// How far readers are shown the writes of a, where they are shown all that happened.
-fn shown_upto<S: Configured, R: Wait + Abort>(
-    rt: &R,
-    directory: &Directory<S, &R>,
-    mut seat: ReaderSeat<S>,
-) -> (ReaderSeat<S>, u64) {
-    if !directory.refresh(rt, &mut seat) {
-        panic!(rt; "error: NoMemory");
-    }
-    match seat.enter() {
-        Ok(entered) => {
-            let upto = upto_of_a(rt, &entered);
-            (entered.leave(), upto)
-        }
-        Err(_) => panic!(rt; "error: Closed"),
-    }
-}
-
-fn upto_of_a<S: Configured>(rt: &impl Abort, entered: &EnteredSeat<S>) -> u64 {
-    entered.snapshot().upto(&name(rt, b"a"))
-}
-
 #[test]
 fn an_owed_write_enters_before_the_next(rt: HostRuntime) {
     let core = new_node(&rt, rt.alloc(), 1);
     put_each::<Brand, _>(&rt, rt.alloc(), Opened::new(), Blank::new(1), core);
 }
 
+/// Puts under some keys, one after the other, to a new directory.
 fn put_each<S: Configured, R: Wait + Abort>(
     rt: &R,
     alloc: Global,
@@ -101,31 +80,28 @@ fn put_each<S: Configured, R: Wait + Abort>(
     requires parts { blank.parts ≡ S.parts }
     requires seats { (1 ≡ S.seats) × (1 ≡ S.parts) }
 {
-    let (directory, seat) = directory_of::<S, R>(rt, alloc, opened, blank, core);
-    let mut owner = new_owner(rt, alloc);
+    let mut desk = desk_of::<S, R>(rt, alloc, opened, blank, core);
     let none = Versions {
         kept: 0,
         entered: 0,
     };
-    let (seat, first) = put_next(rt, &directory, &mut owner, seat, b"x", none);
-    let (seat, second) = put_next(rt, &directory, &mut owner, seat, b"y", first);
-    let (seat, third) = put_next(rt, &directory, &mut owner, seat, b"x", second);
-    put_next(rt, &directory, &mut owner, seat, b"z", third);
+    let first = put_next(rt, &mut desk, b"x", none);
+    let second = put_next(rt, &mut desk, b"y", first);
+    let third = put_next(rt, &mut desk, b"x", second);
+    put_next(rt, &mut desk, b"z", third);
 }
 
-/// Puts the weight 5 under a key, from a seat of a directory that is at these versions; those after it.
+/// Puts under a key, where the log and the directory are at these versions; those after it.
 fn put_next<S: Configured, R: Wait + Abort>(
     rt: &R,
-    directory: &Directory<S, &R>,
-    owner: &mut Owner<PlainLog>,
-    mut seat: ReaderSeat<S>,
+    desk: &mut Desk<S, &R>,
     text: &[u8],
     versions: Versions,
-) -> (ReaderSeat<S>, Versions) {
-    let ended = owner.put(rt, directory, &mut seat, &key(rt, text), &weight(rt, 5));
-    let (seat, shown) = shown_upto(rt, directory, seat);
+) -> Versions {
+    let ended = desk.put(rt, text);
+    let shown = desk.shown_upto(rt);
     match versions.after(ended, shown) {
-        Some(versions) => (seat, versions),
+        Some(versions) => versions,
         None => panic!(rt; "error: no put ends so"),
     }
 }
@@ -150,26 +126,23 @@ fn request_each<S: Configured, R: Wait + Abort>(
     requires parts { blank.parts ≡ S.parts }
     requires seats { (1 ≡ S.seats) × (1 ≡ S.parts) }
 {
-    let (directory, seat) = directory_of::<S, R>(rt, alloc, opened, blank, core);
-    let mut owner = new_owner(rt, alloc);
-    let (seat, told) = request_next(rt, alloc, &directory, &mut owner, seat, 0);
-    let (seat, told) = request_next(rt, alloc, &directory, &mut owner, seat, told);
-    let (seat, told) = request_next(rt, alloc, &directory, &mut owner, seat, told);
-    request_next(rt, alloc, &directory, &mut owner, seat, told);
+    let mut desk = desk_of::<S, R>(rt, alloc, opened, blank, core);
+    let first = request_next(rt, alloc, &mut desk, 0);
+    let second = request_next(rt, alloc, &mut desk, first);
+    let third = request_next(rt, alloc, &mut desk, second);
+    request_next(rt, alloc, &mut desk, third);
 }
 
-/// Asks for a put from a seat, where this version was told last; the version that is told last then.
+/// Asks for a put, where this version was told last; the version that is told last then.
 fn request_next<S: Configured, R: Wait + Abort>(
     rt: &R,
     alloc: Global,
-    directory: &Directory<S, &R>,
-    owner: &mut Owner<PlainLog>,
-    seat: ReaderSeat<S>,
+    desk: &mut Desk<S, &R>,
     told: u8,
-) -> (ReaderSeat<S>, u8) {
+) -> u8 {
     let mut answer = Vec::new(alloc);
-    let seat = serve_one(rt, alloc, directory, owner, seat, PUT, &mut answer);
-    (seat, told_by(rt, &answer, told))
+    desk.serve(rt, alloc, PUT, &mut answer);
+    told_by(rt, &answer, told)
 }
 
 /// The next version where a Done tells it; the same where memory was wanting.

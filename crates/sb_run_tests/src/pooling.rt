@@ -129,6 +129,17 @@ fn pool_of<S: Configured + Send + Sync, R: Threads + Wait + Clock + Abort + Send
     let made = Directory::<S, &R>::make(rt, alloc, opened, blank, core, workers);
     let (directory, seats) = got(rt, made);
     let pooled = serve_from(rt, alloc, &directory, seats, turns);
+    close(rt, directory, pooled)
+}
+
+/// What the workers met, where the directory takes all seats back.
+fn close<S: Configured, R: Wait + Abort>(
+    rt: &R,
+    directory: Directory<S, &R>,
+    pooled: Pooled<S>,
+) -> Met
+    requires { S.seats ≡ S.parts }
+{
     match directory.close(rt, pooled.seats) {
         Ok(closing) => (pooled.sessions, pooled.faults, closing.events),
         Err((fault, _, _)) => panic!(rt; "error: {fault:?}"),

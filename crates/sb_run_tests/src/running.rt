@@ -34,6 +34,11 @@ fn is_there(files: &impl Files, path: &str) -> bool {
     fs::metadata(files, path).is_ok()
 }
 
+/// Whether there are files at the paths of its sockets.
+fn are_there(files: &impl Files, paths: &Paths) -> [bool; 2] {
+    [is_there(files, paths.sock), is_there(files, paths.control)]
+}
+
 /// Runs the node a with a new log.
 fn run_a<
     R: Threads
@@ -45,8 +50,25 @@ fn run_a<
         + Send
         + Sync,
 >(rt: &R, alloc: Global, paths: &Paths, pace: Pace) -> Result<Ran, Fault> {
+    run_listening(rt, alloc, paths, pace, &|| ())
+}
+
+/// The same, which calls this once its sockets are bound.
+fn run_listening<
+    R: Threads
+        + Wait
+        + Clock
+        + Files
+        + Net<Listener = TcpListener, Stream = TcpStream>
+        + Abort
+        + Send
+        + Sync,
+    F: Fn(),
+>(rt: &R, alloc: Global, paths: &Paths, pace: Pace, listening: &F) -> Result<Ran, Fault>
+    requires { F.IsAlwaysCallable listening.now }
+{
     let log = new_log(rt, alloc, b"a");
-    run_node(rt, alloc, settings(rt, 3), log, paths, pace, &|| ())
+    run_node(rt, alloc, settings(rt, 3), log, paths, pace, listening)
 }
 
 #[test]
@@ -56,16 +78,13 @@ fn rounds_without_peers(rt: HostRuntime) {
         control: "quiet.control",
         peers: &[],
     };
-    let log = new_log(&rt, rt.alloc(), b"a");
     let bound = Cell::new(false);
-    let ran = run_node(
+    let ran = run_listening(
         &rt,
         rt.alloc(),
-        settings(&rt, 3),
-        log,
         &paths,
         pace(3, 0),
-        &|| bound.set(is_there(&rt, "quiet.sock") && is_there(&rt, "quiet.control")),
+        &|| bound.set(are_there(&rt, &paths) == [true, true]),
     );
     let whole = Ran {
         rounds: 3,
@@ -73,8 +92,8 @@ fn rounds_without_peers(rt: HostRuntime) {
         events: 0,
     };
     same(&rt, &got(&rt, ran), &whole);
-    let are_left = [is_there(&rt, paths.sock), is_there(&rt, paths.control)];
-    same(&rt, &(bound.get(), are_left), &(true, [false, false]));
+    let met = (bound.get(), are_there(&rt, &paths));
+    same(&rt, &met, &(true, [false, false]));
 }
 
 /// Whether the file that was there first is as it was; it is removed.
@@ -234,14 +253,17 @@ fn hears_no_more<R: Net + Abort>(rt: &R, paths: &Paths) -> bool {
     silence && hello
 }
 
-/// Says nothing on any connection until the node hangs up; then writes, and serves as b where it is dialed once more. Whether no
-/// more than a Hello came on the silent ones, whether the write was done, how b's session ended, and how far b holds a.
+/// Whether no more than a Hello came on the silent connections, whether the write was done, how b's session ended, and how far b
+/// holds a.
+type Heard = (bool, bool, Ended, u64);
+
+/// Says nothing on any connection until the node hangs up; then writes, and serves as b where it is dialed once more.
 fn stay_silent<R: Net + Abort>(
     rt: &R,
     alloc: Global,
     listener: &UnixListener,
     paths: &Paths,
-) -> (bool, bool, Ended, u64) {
+) -> Heard {
     let silent = next_of(rt, listener);
     let is_silent = hears_no_more(rt, paths);
     let dialed = next_of(rt, listener);
@@ -260,13 +282,13 @@ fn a_connection_that_says_nothing_ends(rt: HostRuntime) {
     };
     let alloc = rt.alloc();
     let listener = got(&rt, UnixListener::bind(&rt, "idle.peer"));
-    let (ran, seen) = thread::join(
+    let (ran, heard) = thread::join(
         &rt,
         || run_and_reach(&rt, alloc, &paths, pace(2, 1_000), "idle.peer", 2),
         || stay_silent(&rt, alloc, &listener, &paths),
     );
     got(&rt, fs::remove_file(&rt, "idle.peer"));
-    same(&rt, &seen, &(true, true, Ended::Bye(1), 1));
+    same(&rt, &heard, &(true, true, Ended::Bye(1), 1));
     let whole = Ran {
         rounds: 2,
         faults: 3,
