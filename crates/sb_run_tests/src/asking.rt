@@ -1,17 +1,18 @@
 //! Requests over a reader that holds the answers, against frames that are written out by hand.
 ghost use Rattle.std.specs.Prelude.{◌≡◌, ◌<◌};
 
-use crate::{holds, same};
+use crate::making::{key, weight};
+use crate::{got, holds, same};
 use sb_codec::{Ask, Message};
 use sb_frames::Steps;
 use sb_query::print_rows;
 use sb_run::ask_control;
-use sb_types::{Fault, Key, Prefix, Slot, Value, Write};
+use sb_types::{Fault, Prefix, Write};
 use std::alloc::Global;
 use std::io;
 use std::marker::Brand;
+use std::process::Abort;
 use std::sync::ledger::{Blank, Ledger};
-use std::test::Fail;
 
 /// A Put of the weight 5 under w.
 const PUT: &[u8] = b"\xa7\x01\x00\x00\x00\x0c\x12\x01w\x02\x00\x00\x00\x00\x00\x00\x00\x05";
@@ -44,19 +45,19 @@ impl io::Write for ShortWriter {
     }
 }
 
-fn put_of_w() -> Result<Message, Fault> {
-    Ok(Message::Put(Write {
-        key: Key::read(b"w")?,
-        slot: Slot::Set(Value::weight(5)?),
-    }))
+fn put_of_w(rt: &impl Abort) -> Message {
+    Message::Put(Write {
+        key: key(rt, b"w"),
+        slot: weight(rt, 5),
+    })
 }
 
-fn ask_for_all() -> Result<Message, Fault> {
-    Ok(Message::Ask(Ask {
+fn ask_for_all(rt: &impl Abort) -> Message {
+    Message::Ask(Ask {
         owner: None,
-        prefix: Prefix::read(b"")?,
+        prefix: got(rt, Prefix::read(b"")),
         after: None,
-    }))
+    })
 }
 
 /// The answer that a reader of these bytes holds.
@@ -87,95 +88,98 @@ fn asked<W: io::Write>(
     ask_on::<Brand, W>(alloc, held, writer, request, max_reads, Blank::new(1))
 }
 
-/// The version with which a put is answered, and what was sent.
-fn put_answered(alloc: Global) -> Result<(Option<u64>, Vec<u8>), Fault> {
-    let request = put_of_w()?;
+/// The answer to a request over a reader of these bytes; the request is sent as this frame.
+fn answer_to(
+    rt: &impl Abort,
+    alloc: Global,
+    held: &[u8],
+    request: Message,
+    frame: &[u8],
+) -> Message {
     let mut sent = Vec::new(alloc);
-    let answer = asked(alloc, DONE, &mut sent, &request, 1)?;
-    let version = match &answer {
+    let answer = got(rt, asked(alloc, held, &mut sent, &request, 1));
+    same(rt, &sent.as_slice(), &frame);
+    answer
+}
+
+/// The version that this answer tells; none where it is not a Done.
+fn version_of(answer: Message) -> Option<u64> {
+    match &answer {
         Message::Done(done) => Some(done.version()),
         _ => None,
-    };
-    Ok((version, sent))
+    }
 }
 
 #[test]
-fn a_put_is_answered_by_its_version(rt: HostRuntime) -> Result<(), Fail> {
-    let (version, sent) = put_answered(rt.alloc())?;
-    same(&rt, &version, &Some(1));
-    same(&rt, &sent.as_slice(), &PUT);
-    Ok(())
+fn a_put_is_answered_by_its_version(rt: HostRuntime) {
+    let answer = answer_to(&rt, rt.alloc(), DONE, put_of_w(&rt), PUT);
+    same(&rt, &version_of(answer), &Some(1));
 }
 
-/// The lines of an answer by rows, and whether more follow.
-fn lines_of(alloc: Global, answer: &Message) -> Result<(Vec<u8>, bool), Fail> {
-    let Message::Rows(page) = answer else {
-        return Err("rows")?;
+/// This answer is of the rows of these lines, and no more follow.
+fn tells_all(rt: &impl Abort, alloc: Global, answer: Message, lines: &[u8]) {
+    let Message::Rows(page) = &answer else {
+        panic!(rt; "error: no rows");
     };
-    let mut lines = Vec::new(alloc);
-    let (printed, _) = print_rows(alloc, &mut lines, page);
-    printed?;
-    Ok((lines, page.more()))
-}
-
-/// The answer to an ask for all rows, and what was sent.
-fn ask_answered(alloc: Global) -> Result<(Message, Vec<u8>), Fault> {
-    let request = ask_for_all()?;
-    let mut sent = Vec::new(alloc);
-    let answer = asked(alloc, ROWS, &mut sent, &request, 1)?;
-    Ok((answer, sent))
+    holds(rt, "no more rows", !page.more());
+    let mut printed = Vec::new(alloc);
+    got(rt, print_rows(alloc, &mut printed, page).0);
+    same(rt, &printed.as_slice(), &lines);
 }
 
 #[test]
-fn an_ask_is_answered_by_rows(rt: HostRuntime) -> Result<(), Fail> {
-    let (answer, sent) = ask_answered(rt.alloc())?;
-    same(&rt, &sent.as_slice(), &ASK);
-    let (lines, more) = lines_of(rt.alloc(), &answer)?;
-    holds(&rt, "no more rows", !more);
-    same(&rt, &lines.as_slice(), &b"a w 1 weight 5\n".as_slice());
-    Ok(())
+fn an_ask_is_answered_by_rows(rt: HostRuntime) {
+    let answer = answer_to(&rt, rt.alloc(), ROWS, ask_for_all(&rt), ASK);
+    tells_all(&rt, rt.alloc(), answer, b"a w 1 weight 5\n");
 }
 
-/// The fault with which a put ends over a reader of these bytes. Want of memory is the fault of the test, as an answer is.
+/// The fault with which a put ends over a reader of these bytes. Want of memory ends the test, as an answer does.
 fn fault_of<W: io::Write>(
+    rt: &impl Abort,
     alloc: Global,
     held: &[u8],
     writer: &mut W,
     max_reads: u64,
-) -> Result<Fault, Fail> {
-    let request = put_of_w()?;
-    match asked(alloc, held, writer, &request, max_reads) {
-        Err(Fault::NoMemory) => Err(Fault::NoMemory)?,
-        Err(met) => Ok(met),
-        Ok(_) => Err("a fault")?,
+) -> Fault {
+    let request = put_of_w(rt);
+    fault_in(rt, asked(alloc, held, writer, &request, max_reads))
+}
+
+fn fault_in(rt: &impl Abort, answer: Result<Message, Fault>) -> Fault {
+    match answer {
+        Err(Fault::NoMemory) => panic!(rt; "error: NoMemory"),
+        Err(met) => met,
+        Ok(_) => panic!(rt; "error: no fault"),
     }
 }
 
+/// A put over a reader of these bytes ends with this fault.
+fn ends_with(rt: &impl Abort, alloc: Global, held: &[u8], max_reads: u64, fault: Fault) {
+    let mut sent = Vec::new(alloc);
+    let met = fault_of(rt, alloc, held, &mut sent, max_reads);
+    same(rt, &met, &fault);
+}
+
 #[test]
-fn no_whole_answer_is_a_fault(rt: HostRuntime) -> Result<(), Fail> {
+fn no_whole_answer_is_a_fault(rt: HostRuntime) {
     let alloc = rt.alloc();
-    for (held, max_reads, fault) in [
-        (b"".as_slice(), 1, Fault::Truncated),
-        (&DONE[..14], 2, Fault::Truncated),
-        (DONE, 0, Fault::TurnsSpent),
-        (b"\xa6".as_slice(), 1, Fault::BadMark),
-        (
-            b"\xa7\x01\x00\x00\x00\x01\x55".as_slice(),
-            1,
-            Fault::UnknownKind(0x55),
-        ),
-    ] {
-        let met = fault_of(alloc, held, &mut Vec::new(alloc), max_reads)?;
-        same(&rt, &met, &fault);
-    }
-    Ok(())
+    let unknown = b"\xa7\x01\x00\x00\x00\x01\x55";
+    ends_with(&rt, alloc, b"", 1, Fault::Truncated);
+    ends_with(&rt, alloc, &DONE[..14], 2, Fault::Truncated);
+    ends_with(&rt, alloc, DONE, 0, Fault::TurnsSpent);
+    ends_with(&rt, alloc, b"\xa6", 1, Fault::BadMark);
+    ends_with(&rt, alloc, unknown, 1, Fault::UnknownKind(0x55));
+}
+
+/// A put to a writer that takes so many bytes ends with a fault that counts them.
+fn counts_sent(rt: &impl Abort, alloc: Global, left: usize) {
+    let met = fault_of(rt, alloc, DONE, &mut ShortWriter { left }, 1);
+    same(rt, &met, &Fault::WriteFailed(left as u64));
 }
 
 #[test]
-fn a_request_that_is_cut_short_is_counted(rt: HostRuntime) -> Result<(), Fail> {
-    for left in [0, 1, 17] {
-        let met = fault_of(rt.alloc(), DONE, &mut ShortWriter { left }, 1)?;
-        same(&rt, &met, &Fault::WriteFailed(left as u64));
-    }
-    Ok(())
+fn a_request_that_is_cut_short_is_counted(rt: HostRuntime) {
+    counts_sent(&rt, rt.alloc(), 0);
+    counts_sent(&rt, rt.alloc(), 1);
+    counts_sent(&rt, rt.alloc(), 17);
 }

@@ -2,25 +2,26 @@
 //! `tools/sweep` refuses what they ask for.
 ghost use Rattle.std.specs.Prelude.{◌≡◌};
 
-use crate::owning::{PUT, new_node, new_owner, serve_one};
-use sb_directory::{Configured, Directory, ReaderSeat};
-use sb_log::PlainLog;
+use crate::desk::{Desk, desk_of};
+use crate::making::new_node;
+use crate::owning::PUT;
+use crate::same;
+use sb_directory::Configured;
 use sb_node::NodeCore;
-use sb_run::{Owner, Stored};
-use sb_types::{Fault, Key, Name, Slot, Value};
+use sb_run::Stored;
+use sb_types::Fault;
 use sb_views::Opened;
 use std::alloc::Global;
 use std::marker::Brand;
 use std::process::Abort;
 use std::sync::Wait;
 use std::sync::ledger::Blank;
-use std::test::Fail;
 
-/// Done, with the version 1.
-const DONE: [u8; 15] = *b"\xa7\x01\x00\x00\x00\x09\x13\x00\x00\x00\x00\x00\x00\x00\x01";
+/// Done, with the version 0.
+const DONE: [u8; 15] = *b"\xa7\x01\x00\x00\x00\x09\x13\x00\x00\x00\x00\x00\x00\x00\x00";
 
 /// Refused, with the number of want of memory.
-const REFUSED: [u8; 8] = *b"\xa7\x01\x00\x00\x00\x02\x14\x01";
+const REFUSED: &[u8] = b"\xa7\x01\x00\x00\x00\x02\x14\x01";
 
 /// The last version of the log, and that of the directory.
 #[derive(Clone, Copy)]
@@ -58,41 +59,20 @@ impl Versions {
     }
 }
 
-/// How far readers are shown the writes of a, where they are shown all that happened.
-fn shown_upto<S: Configured, R: Wait>(
-    rt: &R,
-    directory: &Directory<S, &R>,
-    mut seat: ReaderSeat<S>,
-) -> (ReaderSeat<S>, Result<u64, Fault>) {
-    if !directory.refresh(rt, &mut seat) {
-        return (seat, Err(Fault::NoMemory));
-    }
-    let owner = match Name::read(b"a") {
-        Ok(owner) => owner,
-        Err(fault) => return (seat, Err(fault)),
-    };
-    match seat.enter() {
-        Ok(entered) => {
-            let upto = entered.snapshot().upto(&owner);
-            (entered.leave(), Ok(upto))
-        }
-        Err(seat) => (seat, Err(Fault::Closed)),
-    }
-}
-
 #[test]
-fn an_owed_write_enters_before_the_next(rt: HostRuntime) -> Result<(), Fail> {
-    let core = new_node(rt.alloc())?;
-    put_each::<Brand, _>(&rt, rt.alloc(), Opened::new(), Blank::new(1), core)
+fn an_owed_write_enters_before_the_next(rt: HostRuntime) {
+    let core = new_node(&rt, rt.alloc(), 1);
+    put_each::<Brand, _>(&rt, rt.alloc(), Opened::new(), Blank::new(1), core);
 }
 
+/// Puts under some keys, one after the other, to a new directory.
 fn put_each<S: Configured, R: Wait + Abort>(
     rt: &R,
     alloc: Global,
     opened: Opened,
     blank: Blank,
     core: NodeCore,
-) -> Result<(), Fail>
+)
     requires story { opened.seen.book ≡ S.story }
     requires opening { S.opening ≡ core.node }
     requires settings { S.settings ≡ core.settings }
@@ -100,36 +80,36 @@ fn put_each<S: Configured, R: Wait + Abort>(
     requires parts { blank.parts ≡ S.parts }
     requires seats { (1 ≡ S.seats) × (1 ≡ S.parts) }
 {
-    let mut owner = new_owner(alloc)?;
-    let (directory, mut seats) = Directory::<S, &R>::make(rt, alloc, opened, blank, core, 1)?;
-    put_from(rt, &directory, &mut owner, seats.pop().ok_or("a seat")?)
-}
-
-/// Puts the weight 5 under some keys, one after the other, from a seat of a new directory.
-fn put_from<S: Configured, R: Wait>(
-    rt: &R,
-    directory: &Directory<S, &R>,
-    owner: &mut Owner<PlainLog>,
-    mut seat: ReaderSeat<S>,
-) -> Result<(), Fail> {
-    let slot = Slot::Set(Value::weight(5)?);
-    let mut versions = Versions {
+    let mut desk = desk_of::<S, R>(rt, alloc, opened, blank, core);
+    let none = Versions {
         kept: 0,
         entered: 0,
     };
-    for key in [b"x", b"y", b"x", b"z"] {
-        let ended = owner.put(rt, directory, &mut seat, &Key::read(key)?, &slot);
-        let (back, shown) = shown_upto(rt, directory, seat);
-        versions = versions.after(ended, shown?).ok_or("no put ends so")?;
-        seat = back;
+    let first = put_next(rt, &mut desk, b"x", none);
+    let second = put_next(rt, &mut desk, b"y", first);
+    let third = put_next(rt, &mut desk, b"x", second);
+    put_next(rt, &mut desk, b"z", third);
+}
+
+/// Puts under a key, where the log and the directory are at these versions; those after it.
+fn put_next<S: Configured, R: Wait + Abort>(
+    rt: &R,
+    desk: &mut Desk<S, &R>,
+    text: &[u8],
+    versions: Versions,
+) -> Versions {
+    let ended = desk.put(rt, text);
+    let shown = desk.shown_upto(rt);
+    match versions.after(ended, shown) {
+        Some(versions) => versions,
+        None => panic!(rt; "error: no put ends so"),
     }
-    Ok(())
 }
 
 #[test]
-fn an_owed_write_is_answered_by_its_version(rt: HostRuntime) -> Result<(), Fail> {
-    let core = new_node(rt.alloc())?;
-    request_each::<Brand, _>(&rt, rt.alloc(), Opened::new(), Blank::new(1), core)
+fn an_owed_write_is_answered_by_its_version(rt: HostRuntime) {
+    let core = new_node(&rt, rt.alloc(), 1);
+    request_each::<Brand, _>(&rt, rt.alloc(), Opened::new(), Blank::new(1), core);
 }
 
 fn request_each<S: Configured, R: Wait + Abort>(
@@ -138,7 +118,7 @@ fn request_each<S: Configured, R: Wait + Abort>(
     opened: Opened,
     blank: Blank,
     core: NodeCore,
-) -> Result<(), Fail>
+)
     requires story { opened.seen.book ≡ S.story }
     requires opening { S.opening ≡ core.node }
     requires settings { S.settings ≡ core.settings }
@@ -146,29 +126,33 @@ fn request_each<S: Configured, R: Wait + Abort>(
     requires parts { blank.parts ≡ S.parts }
     requires seats { (1 ≡ S.seats) × (1 ≡ S.parts) }
 {
-    let (directory, mut seats) = Directory::<S, &R>::make(rt, alloc, opened, blank, core, 1)?;
-    let mut owner = new_owner(alloc)?;
-    let mut seat = seats.pop().ok_or("a seat")?;
+    let mut desk = desk_of::<S, R>(rt, alloc, opened, blank, core);
+    let first = request_next(rt, alloc, &mut desk, 0);
+    let second = request_next(rt, alloc, &mut desk, first);
+    let third = request_next(rt, alloc, &mut desk, second);
+    request_next(rt, alloc, &mut desk, third);
+}
+
+/// Asks for a put, where this version was told last; the version that is told last then.
+fn request_next<S: Configured, R: Wait + Abort>(
+    rt: &R,
+    alloc: Global,
+    desk: &mut Desk<S, &R>,
+    told: u8,
+) -> u8 {
+    let mut answer = Vec::new(alloc);
+    desk.serve(rt, alloc, PUT, &mut answer);
+    told_by(rt, &answer, told)
+}
+
+/// The next version where a Done tells it; the same where memory was wanting.
+fn told_by(rt: &impl Abort, answer: &[u8], told: u8) -> u8 {
+    let next = told.saturating_add(1);
     let mut done = DONE;
-    for _ in 0..4 {
-        let mut answer = Vec::new(alloc);
-        let (back, ended) = serve_one::<S, R, Brand>(
-            rt,
-            alloc,
-            &directory,
-            &mut owner,
-            seat,
-            PUT,
-            &mut answer,
-            Blank::new(1),
-        );
-        ended?;
-        seat = back;
-        if answer.as_slice() == done.as_slice() {
-            done[14] = done[14].saturating_add(1);
-        } else {
-            assert_eq!(rt; answer.as_slice(), REFUSED.as_slice());
-        }
+    done[14] = next;
+    if answer == done.as_slice() {
+        return next;
     }
-    Ok(())
+    same(rt, &answer, &REFUSED);
+    told
 }

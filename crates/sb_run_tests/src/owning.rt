@@ -1,21 +1,19 @@
 //! An owner and a control socket over a directory: what is kept, what is shared, and what is answered.
-ghost use Rattle.std.specs.Prelude.{◌≡◌, ◌<◌};
+ghost use Rattle.std.specs.Prelude.{◌≡◌};
 
-use crate::same;
-use sb_directory::{Configured, Directory, ReaderSeat};
-use sb_frames::Steps;
-use sb_log::PlainLog;
+use crate::desk::{Desk, desk_of};
+use crate::making::{key, name, new_node, weight};
+use crate::{got, same};
+use sb_directory::Configured;
 use sb_node::NodeCore;
-use sb_run::{Owner, Stored, serve_control};
-use sb_table::Table;
-use sb_types::{Block, Delta, Entry, Fault, Key, Name, Order, RawSettings, Settings, Slot, Value};
+use sb_run::Stored;
+use sb_types::{Block, Delta, Entry, Fault};
 use sb_views::Opened;
 use std::alloc::Global;
 use std::marker::Brand;
 use std::process::Abort;
 use std::sync::Wait;
-use std::sync::ledger::{Blank, Ledger};
-use std::test::Fail;
+use std::sync::ledger::Blank;
 
 /// A Put of the weight 5 under w, and its answer: Done, with the version 1.
 pub(crate) const PUT: &[u8] =
@@ -34,31 +32,10 @@ const BYE: &[u8] = b"\xa7\x01\x00\x00\x00\x02\x04\x01";
 
 const UNKNOWN: &[u8] = b"\xa7\x01\x00\x00\x00\x02\x14\x0d";
 
-fn settings() -> Result<Settings, Fault> {
-    Settings::check(RawSettings {
-        cluster: b"c1",
-        budget: 256,
-        order: Order::Breadth,
-        max_version: 100,
-        seats: 1,
-        workers: 1,
-    })
-}
-
-/// A new node of the name a.
-pub(crate) fn new_node(alloc: Global) -> Result<NodeCore, Fault> {
-    NodeCore::open(alloc, settings()?, Name::read(b"a")?, Table::new(alloc))
-}
-
-pub(crate) fn new_owner(alloc: Global) -> Result<Owner<PlainLog>, Fault> {
-    let log = PlainLog::new(alloc, Name::read(b"a")?, Name::read(b"c1")?, 100);
-    Ok(Owner::new(log))
-}
-
 #[test]
-fn requests_are_answered(rt: HostRuntime) -> Result<(), Fail> {
-    let core = new_node(rt.alloc())?;
-    answer_each::<Brand, _>(&rt, rt.alloc(), Opened::new(), Blank::new(1), core)
+fn requests_are_answered(rt: HostRuntime) {
+    let core = new_node(&rt, rt.alloc(), 1);
+    answer_each::<Brand, _>(&rt, rt.alloc(), Opened::new(), Blank::new(1), core);
 }
 
 fn answer_each<S: Configured, R: Wait + Abort>(
@@ -67,7 +44,7 @@ fn answer_each<S: Configured, R: Wait + Abort>(
     opened: Opened,
     blank: Blank,
     core: NodeCore,
-) -> Result<(), Fail>
+)
     requires story { opened.seen.book ≡ S.story }
     requires opening { S.opening ≡ core.node }
     requires settings { S.settings ≡ core.settings }
@@ -75,79 +52,39 @@ fn answer_each<S: Configured, R: Wait + Abort>(
     requires parts { blank.parts ≡ S.parts }
     requires seats { (1 ≡ S.seats) × (1 ≡ S.parts) }
 {
-    let (directory, mut seats) = Directory::<S, &R>::make(rt, alloc, opened, blank, core, 1)?;
-    let mut owner = new_owner(alloc)?;
-    let mut seat = seats.pop().ok_or("a seat")?;
-    for (request, wanted) in [(PUT, DONE), (ASK, ROWS), (BYE, UNKNOWN)] {
-        let mut answer = Vec::new(alloc);
-        let (back, ended) = serve_one::<S, R, Brand>(
-            rt,
-            alloc,
-            &directory,
-            &mut owner,
-            seat,
-            request,
-            &mut answer,
-            Blank::new(1),
-        );
-        ended?;
-        assert_eq!(rt; answer.as_slice(), wanted);
-        seat = back;
-    }
-    Ok(())
+    let mut desk = desk_of::<S, R>(rt, alloc, opened, blank, core);
+    answers(rt, alloc, &mut desk, PUT, DONE);
+    answers(rt, alloc, &mut desk, ASK, ROWS);
+    answers(rt, alloc, &mut desk, BYE, UNKNOWN);
 }
 
-/// One request over a reader that holds it.
-pub(crate) fn serve_one<S: Configured, R: Wait, K: Ledger>(
+/// A request is answered so.
+fn answers<S: Configured, R: Wait + Abort>(
     rt: &R,
     alloc: Global,
-    directory: &Directory<S, &R>,
-    owner: &mut Owner<PlainLog>,
-    seat: ReaderSeat<S>,
+    desk: &mut Desk<S, &R>,
     request: &[u8],
-    answer: &mut Vec<u8>,
-    blank: Blank,
-) -> (ReaderSeat<S>, Result<(), Fault>)
-    requires name { blank.name ≡ K.name }
-    requires parts { blank.parts ≡ K.parts }
-    requires some { 0 < blank.parts }
-{
-    let mut steps = Steps::<K>::new(blank);
-    let mut reader = request;
-    let (seat, ended, _) = serve_control(
-        rt,
-        alloc,
-        &mut reader,
-        answer,
-        directory,
-        owner,
-        seat,
-        1,
-        &mut steps,
-    );
-    (seat, ended)
+    wanted: &[u8],
+) {
+    let mut answer = Vec::new(alloc);
+    desk.serve(rt, alloc, request, &mut answer);
+    same(rt, &answer.as_slice(), &wanted);
 }
 
 #[test]
-fn another_node_under_the_own_name_stops_writes(rt: HostRuntime) -> Result<(), Fail> {
-    let core = new_node(rt.alloc())?;
-    meet_another::<Brand, _>(&rt, rt.alloc(), Opened::new(), Blank::new(1), core)
+fn another_node_under_the_own_name_stops_writes(rt: HostRuntime) {
+    let core = new_node(&rt, rt.alloc(), 1);
+    meet_another::<Brand, _>(&rt, rt.alloc(), Opened::new(), Blank::new(1), core);
 }
 
-/// A delta whose block tells of the second write of a, behind the first.
-fn delta_of_a(alloc: Global) -> Result<Delta, Fault> {
-    let entry = Entry::new(Key::read(b"y")?, 2, Slot::Set(Value::weight(7)?));
-    let block = Block::new(Name::read(b"a")?, 1, vec![in alloc; entry]?)?;
-    Delta::new(vec![in alloc; block]?)
-}
-
+/// The first put is shared under the version 1; a second one is refused, once the directory took what another node a wrote.
 fn meet_another<S: Configured, R: Wait + Abort>(
     rt: &R,
     alloc: Global,
     opened: Opened,
     blank: Blank,
     core: NodeCore,
-) -> Result<(), Fail>
+)
     requires story { opened.seen.book ≡ S.story }
     requires opening { S.opening ≡ core.node }
     requires settings { S.settings ≡ core.settings }
@@ -155,32 +92,23 @@ fn meet_another<S: Configured, R: Wait + Abort>(
     requires parts { blank.parts ≡ S.parts }
     requires seats { (1 ≡ S.seats) × (1 ≡ S.parts) }
 {
-    let delta = delta_of_a(alloc)?;
-    let mut owner = new_owner(alloc)?;
-    let (directory, mut seats) = Directory::<S, &R>::make(rt, alloc, opened, blank, core, 1)?;
-    let seat = seats.pop().ok_or("a seat")?;
-    let put = put_around(rt, &directory, &mut owner, seat, &delta)?;
-    same(rt, &put, &(true, 1, Err(Fault::OwnerConflict(2))));
-    Ok(())
+    let mut desk = desk_of::<S, R>(rt, alloc, opened, blank, core);
+    let stored = got(rt, desk.put(rt, b"x"));
+    desk.apply(rt, &delta_of_a(rt, alloc));
+    let refused = desk.put(rt, b"x");
+    let is_shared = matches!(stored, Stored::Shared(_));
+    let met = (is_shared, stored.version(), refused);
+    same(rt, &met, &(true, 1, Err(Fault::OwnerConflict(2))));
 }
 
-/// Puts from a seat, before and after the directory takes a delta: whether the first is shared, its version, and what the second
-/// is answered.
-fn put_around<S: Configured, R: Wait>(
-    rt: &R,
-    directory: &Directory<S, &R>,
-    owner: &mut Owner<PlainLog>,
-    mut seat: ReaderSeat<S>,
-    delta: &Delta,
-) -> Result<(bool, u64, Result<Stored, Fault>), Fault> {
-    let key = Key::read(b"x")?;
-    let slot = Slot::Set(Value::weight(5)?);
-    let stored = owner.put(rt, directory, &mut seat, &key, &slot)?;
-    directory.apply(rt, &mut seat, delta)?;
-    let refused = owner.put(rt, directory, &mut seat, &key, &slot);
-    Ok((
-        matches!(stored, Stored::Shared(_)),
-        stored.version(),
-        refused,
-    ))
+/// A delta whose block tells of the second write of a, behind the first.
+fn delta_of_a(rt: &impl Abort, alloc: Global) -> Delta {
+    let block = block_of_a(rt, alloc);
+    got(rt, Delta::new(got(rt, vec![in alloc; block])))
+}
+
+fn block_of_a(rt: &impl Abort, alloc: Global) -> Block {
+    let entry = Entry::new(key(rt, b"y"), 2, weight(rt, 7));
+    let entries = got(rt, vec![in alloc; entry]);
+    got(rt, Block::new(name(rt, b"a"), 1, entries))
 }

@@ -1,20 +1,20 @@
 //! Workers of a pool, whose sessions wait for each other at a gate.
 ghost use Rattle.std.specs.Prelude.{◌≡◌};
 
-use crate::same;
-use sb_directory::{Configured, Directory};
+use crate::making::{name, new_node};
+use crate::{got, same};
+use sb_directory::{Configured, Directory, ReaderSeat};
 use sb_node::NodeCore;
-use sb_run::{Gate, Source, Step, serve_pool};
+use sb_run::{Gate, Pooled, Source, Step, serve_pool};
 use sb_session::Session;
-use sb_table::Table;
-use sb_types::{Fault, Name, Order, RawSettings, Settings};
+use sb_types::Fault;
 use sb_views::Opened;
 use std::alloc::Global;
 use std::marker::Brand;
+use std::process::Abort;
 use std::sync::Wait;
 use std::sync::atomic::{AtomicBool, AtomicUsize, Ordering};
 use std::sync::ledger::Blank;
-use std::test::Fail;
 use std::thread::{Threads, sleep};
 use std::time::{Clock, Duration};
 
@@ -86,24 +86,15 @@ impl<R: Clock> Gate for Holding<'_, R> {
 /// How many sessions there were, how many faults, and how many events.
 type Met = (u64, u64, u64);
 
-fn pool_of<S: Configured + Send + Sync, R: Threads + Wait + Clock + Send + Sync>(
+/// Serves both peers from these seats, at a gate that holds for at most so many turns.
+fn serve_from<S: Configured + Send + Sync, R: Threads + Wait + Clock + Abort + Send + Sync>(
     rt: &R,
     alloc: Global,
-    opened: Opened,
-    blank: Blank,
-    core: NodeCore,
-    workers: usize,
+    directory: &Directory<S, &R>,
+    seats: Vec<ReaderSeat<S>>,
     turns: u64,
-) -> Result<Met, Fault>
-    requires story { opened.seen.book ≡ S.story }
-    requires opening { S.opening ≡ core.node }
-    requires settings { S.settings ≡ core.settings }
-    requires name { blank.name ≡ S.name }
-    requires parts { blank.parts ≡ S.parts }
-    requires all { (workers ≡ S.seats) × (workers ≡ S.parts) }
-{
-    let (directory, seats) = Directory::<S, &R>::make(rt, alloc, opened, blank, core, workers)?;
-    let session = Session::new(Name::read(b"c1")?, Name::read(b"a")?);
+) -> Pooled<S> {
+    let session = Session::new(name(rt, b"c1"), name(rt, b"a"));
     let peers = Peers {
         alloc,
         taken: AtomicUsize::new(0),
@@ -113,43 +104,66 @@ fn pool_of<S: Configured + Send + Sync, R: Threads + Wait + Clock + Send + Sync>
         has_answered: AtomicBool::new(false),
         turns,
     };
-    let pooled = match serve_pool(rt, alloc, &directory, session, seats, &peers, &gate, 99) {
+    match serve_pool(rt, alloc, directory, session, seats, &peers, &gate, 99) {
         Ok(pooled) => pooled,
-        Err((fault, _)) => return Err(fault),
-    };
+        Err((fault, _)) => panic!(rt; "error: {fault:?}"),
+    }
+}
+
+fn pool_of<S: Configured + Send + Sync, R: Threads + Wait + Clock + Abort + Send + Sync>(
+    rt: &R,
+    alloc: Global,
+    opened: Opened,
+    blank: Blank,
+    core: NodeCore,
+    workers: usize,
+    turns: u64,
+) -> Met
+    requires story { opened.seen.book ≡ S.story }
+    requires opening { S.opening ≡ core.node }
+    requires settings { S.settings ≡ core.settings }
+    requires name { blank.name ≡ S.name }
+    requires parts { blank.parts ≡ S.parts }
+    requires all { (workers ≡ S.seats) × (workers ≡ S.parts) }
+{
+    let made = Directory::<S, &R>::make(rt, alloc, opened, blank, core, workers);
+    let (directory, seats) = got(rt, made);
+    let pooled = serve_from(rt, alloc, &directory, seats, turns);
+    close(rt, directory, pooled)
+}
+
+/// What the workers met, where the directory takes all seats back.
+fn close<S: Configured, R: Wait + Abort>(
+    rt: &R,
+    directory: Directory<S, &R>,
+    pooled: Pooled<S>,
+) -> Met
+    requires { S.seats ≡ S.parts }
+{
     match directory.close(rt, pooled.seats) {
-        Ok(closing) => Ok((pooled.sessions, pooled.faults, closing.events)),
-        Err((fault, _, _)) => Err(fault),
+        Ok(closing) => (pooled.sessions, pooled.faults, closing.events),
+        Err((fault, _, _)) => panic!(rt; "error: {fault:?}"),
     }
 }
 
 /// What so many workers met, from a new directory of a node a.
-fn pool_new<R: Threads + Wait + Clock + Send + Sync>(
+fn pool_new<R: Threads + Wait + Clock + Abort + Send + Sync>(
     rt: &R,
     alloc: Global,
     workers: u8,
     turns: u64,
-) -> Result<Met, Fault> {
-    let settings = Settings::check(RawSettings {
-        cluster: b"c1",
-        budget: 256,
-        order: Order::Breadth,
-        max_version: 100,
-        seats: 2,
-        workers: 1,
-    })?;
-    let core = NodeCore::open(alloc, settings, Name::read(b"a")?, Table::new(alloc))?;
+) -> Met {
+    let core = new_node(rt, alloc, 2);
     let blank = Blank::new(u64::from(workers));
     let workers = usize::from(workers);
     pool_of::<Brand, _>(rt, alloc, Opened::new(), blank, core, workers, turns)
 }
 
 #[test]
-fn a_session_waits_for_another(rt: HostRuntime) -> Result<(), Fail> {
-    let two = pool_new(&rt, rt.alloc(), 2, 5_000)?;
+fn a_session_waits_for_another(rt: HostRuntime) {
+    let two = pool_new(&rt, rt.alloc(), 2, 5_000);
     same(&rt, &two, &(2, 0, 1));
     // The only worker would wait for itself: the gate turns session 1 away before its delta is entered.
-    let one = pool_new(&rt, rt.alloc(), 1, 20)?;
+    let one = pool_new(&rt, rt.alloc(), 1, 20);
     same(&rt, &one, &(2, 1, 0));
-    Ok(())
 }

@@ -1,18 +1,19 @@
 //! A node that runs on its sockets.
 
-use crate::peers::{hears_only, new_log, next_of, node_with, put_is_done, reach, settings, talk};
-use crate::same;
+use crate::making::{name, new_log, settings};
+use crate::peers::{hears_only, next_of, node_with, put_is_done, reach, talk};
+use crate::{got, same};
 use sb_run::{Pace, Paths, Ran, run_node};
 use sb_session::Ended;
-use sb_types::{Fault, Name};
+use sb_types::Fault;
 use std::alloc::Global;
 use std::cell::Cell;
 use std::fs::File;
 use std::net::{Net, TcpListener, TcpStream};
 use std::os::unix::net::{UnixListener, UnixStream};
+use std::process::Abort;
 use std::rt::Files;
 use std::sync::Wait;
-use std::test::Fail;
 use std::thread::Threads;
 use std::time::Clock;
 use std::{fs, io, thread};
@@ -33,6 +34,11 @@ fn is_there(files: &impl Files, path: &str) -> bool {
     fs::metadata(files, path).is_ok()
 }
 
+/// Whether there are files at the paths of its sockets.
+fn are_there(files: &impl Files, paths: &Paths) -> [bool; 2] {
+    [is_there(files, paths.sock), is_there(files, paths.control)]
+}
+
 /// Runs the node a with a new log.
 fn run_a<
     R: Threads
@@ -40,104 +46,136 @@ fn run_a<
         + Clock
         + Files
         + Net<Listener = TcpListener, Stream = TcpStream>
+        + Abort
         + Send
         + Sync,
 >(rt: &R, alloc: Global, paths: &Paths, pace: Pace) -> Result<Ran, Fault> {
-    let log = new_log(alloc, b"a")?;
-    run_node(rt, alloc, settings()?, log, paths, pace, &|| ())
+    run_listening(rt, alloc, paths, pace, &|| ())
 }
 
-#[test]
-fn rounds_without_peers(rt: HostRuntime) -> Result<(), Fail> {
-    let paths = Paths {
-        sock: "quiet.sock",
-        control: "quiet.control",
-        peers: &[],
-    };
-    let log = new_log(rt.alloc(), b"a")?;
-    let bound = Cell::new(false);
-    let ran = run_node(
-        &rt,
-        rt.alloc(),
-        settings()?,
-        log,
-        &paths,
-        pace(3, 0),
-        &|| bound.set(
-            fs::metadata(&rt, "quiet.sock").is_ok() && fs::metadata(&rt, "quiet.control").is_ok(),
-        ),
-    )?;
-    let whole = Ran {
-        rounds: 3,
-        faults: 0,
-        events: 0,
-    };
-    same(&rt, &ran, &whole);
-    let are_left = [is_there(&rt, paths.sock), is_there(&rt, paths.control)];
-    same(&rt, &(bound.get(), are_left), &(true, [false, false]));
-    Ok(())
-}
-
-/// What a node answers where there is a file at one of its paths, whether there is one at the other then, and whether the first is as
-/// it was.
-fn run_over_taken<
+/// The same, which calls this once its sockets are bound.
+fn run_listening<
     R: Threads
         + Wait
         + Clock
         + Files
         + Net<Listener = TcpListener, Stream = TcpStream>
+        + Abort
         + Send
         + Sync,
->(
-    rt: &R,
-    alloc: Global,
-    paths: &Paths,
-    free: &str,
-) -> Result<(Result<Ran, Fault>, bool, bool), Fail> {
-    fs::write(rt, "taken", "kept")?;
-    let ran = run_a(rt, alloc, paths, pace(1, 0));
+    F: Fn(),
+>(rt: &R, alloc: Global, paths: &Paths, pace: Pace, listening: &F) -> Result<Ran, Fault>
+    requires { F.IsAlwaysCallable listening.now }
+{
+    let log = new_log(rt, alloc, b"a");
+    run_node(rt, alloc, settings(rt, 3), log, paths, pace, listening)
+}
+
+#[test]
+fn rounds_without_peers(rt: HostRuntime) {
+    let paths = Paths {
+        sock: "quiet.sock",
+        control: "quiet.control",
+        peers: &[],
+    };
+    let bound = Cell::new(false);
+    let ran = run_listening(
+        &rt,
+        rt.alloc(),
+        &paths,
+        pace(3, 0),
+        &|| bound.set(are_there(&rt, &paths) == [true, true]),
+    );
+    let whole = Ran {
+        rounds: 3,
+        faults: 0,
+        events: 0,
+    };
+    same(&rt, &got(&rt, ran), &whole);
+    let met = (bound.get(), are_there(&rt, &paths));
+    same(&rt, &met, &(true, [false, false]));
+}
+
+/// Whether the file that was there first is as it was; it is removed.
+fn is_kept(rt: &(impl Files + Abort), alloc: Global) -> bool {
+    let file = got(rt, File::open(rt, "taken"));
+    let kept = got(rt, io::read_to_string(alloc, file));
+    got(rt, fs::remove_file(rt, "taken"));
+    kept.as_str() == "kept"
+}
+
+/// A node is refused where there is a file at one of its paths: it is left as it was, and there is none at the other.
+fn leaves_taken<
+    R: Threads
+        + Wait
+        + Clock
+        + Files
+        + Net<Listener = TcpListener, Stream = TcpStream>
+        + Abort
+        + Send
+        + Sync,
+>(rt: &R, alloc: Global, sock: &str, control: &str, free: &str) {
+    let paths = Paths {
+        sock,
+        control,
+        peers: &[],
+    };
+    got(rt, fs::write(rt, "taken", "kept"));
+    let ran = run_a(rt, alloc, &paths, pace(1, 0));
     let is_made = is_there(rt, free);
-    let kept = io::read_to_string(alloc, File::open(rt, "taken")?)?;
-    fs::remove_file(rt, "taken")?;
-    Ok((ran, is_made, kept.as_str() == "kept"))
+    let met = (ran, is_made, is_kept(rt, alloc));
+    same(rt, &met, &(Err(Fault::ReadFailed), false, true));
 }
 
 #[test]
-fn a_path_that_is_taken_is_left(rt: HostRuntime) -> Result<(), Fail> {
-    for (sock, control, free) in [
-        ("taken", "free.control", "free.control"),
-        ("free.sock", "taken", "free.sock"),
-    ] {
-        let paths = Paths {
-            sock,
-            control,
-            peers: &[],
-        };
-        let met = run_over_taken(&rt, rt.alloc(), &paths, free)?;
-        same(&rt, &met, &(Err(Fault::ReadFailed), false, true));
-    }
-    Ok(())
+fn a_path_that_is_taken_is_left(rt: HostRuntime) {
+    leaves_taken(&rt, rt.alloc(), "taken", "free.control", "free.control");
+    leaves_taken(&rt, rt.alloc(), "free.sock", "taken", "free.sock");
+}
+
+/// A node is refused where one of its paths is empty, and there is no file at the other.
+fn refuses_empty<
+    R: Threads
+        + Wait
+        + Clock
+        + Files
+        + Net<Listener = TcpListener, Stream = TcpStream>
+        + Abort
+        + Send
+        + Sync,
+>(rt: &R, alloc: Global, sock: &str, control: &str, other: &str) {
+    let paths = Paths {
+        sock,
+        control,
+        peers: &[],
+    };
+    let ran = run_a(rt, alloc, &paths, pace(1, 0));
+    let met = (ran, is_there(rt, other));
+    same(rt, &met, &(Err(Fault::ReadFailed), false));
 }
 
 #[test]
-fn an_empty_path_is_refused(rt: HostRuntime) -> Result<(), Fail> {
-    for (sock, control, other) in [
-        ("", "empty.control", "empty.control"),
-        ("empty.sock", "", "empty.sock"),
-    ] {
-        let paths = Paths {
-            sock,
-            control,
-            peers: &[],
-        };
-        let met = run_a(&rt, rt.alloc(), &paths, pace(1, 0));
-        same(
-            &rt,
-            &(met, is_there(&rt, other)),
-            &(Err(Fault::ReadFailed), false),
-        );
+fn an_empty_path_is_refused(rt: HostRuntime) {
+    refuses_empty(&rt, rt.alloc(), "", "empty.control", "empty.control");
+    refuses_empty(&rt, rt.alloc(), "empty.sock", "", "empty.sock");
+}
+
+/// What the node did. Where it did not dial so often, connections stand for it, so that the player does not wait for them.
+fn run_and_reach<
+    R: Threads
+        + Wait
+        + Clock
+        + Files
+        + Net<Listener = TcpListener, Stream = TcpStream>
+        + Abort
+        + Send
+        + Sync,
+>(rt: &R, alloc: Global, paths: &Paths, pace: Pace, peer: &str, times: u64) -> Ran {
+    let ran = run_a(rt, alloc, paths, pace);
+    for _ in 0..times {
+        let _ = UnixStream::connect(rt, peer);
     }
-    Ok(())
+    got(rt, ran)
 }
 
 /// What the player saw: whether the write was done, how the sessions of c and b ended, and how far c holds a, and b holds a
@@ -149,108 +187,112 @@ struct Seen {
     held: [u64; 3],
 }
 
+/// c dials the node: how its session ends, and how far it holds a then.
+fn dial_as_c<R: Net + Abort>(rt: &R, alloc: Global, sock: &str) -> (Ended, u64) {
+    let mut of_c = node_with(rt, alloc, b"c", b"k");
+    let stream = reach(rt, sock);
+    let by_c = talk(rt, alloc, &mut of_c, &stream, Some(2));
+    (by_c, of_c.upto(&name(rt, b"a")))
+}
+
+/// b serves the node: how its session ends, and how far it holds a and c then.
+fn serve_as_b(rt: &impl Abort, alloc: Global, dialed: &UnixStream) -> (Ended, u64, u64) {
+    let mut of_b = node_with(rt, alloc, b"b", b"w");
+    let by_b = talk(rt, alloc, &mut of_b, dialed, None);
+    (by_b, of_b.upto(&name(rt, b"a")), of_b.upto(&name(rt, b"c")))
+}
+
 /// Plays the owner, c which dials, and b which is dialed. The node has bound its sockets once it dials.
-fn play<R: Net>(
-    rt: &R,
-    alloc: Global,
-    listener: &UnixListener,
-    paths: &Paths,
-) -> Result<Seen, Fault> {
-    let (a, b, c) = (Name::read(b"a")?, Name::read(b"b")?, Name::read(b"c")?);
-    let dialed = next_of(listener)?;
-    let done = put_is_done(rt, paths.control)?;
-    let mut of_c = node_with(alloc, c.bytes(), b"k")?;
-    let by_c = talk(&mut of_c, alloc, &reach(rt, paths.sock)?, Some(2))?;
-    let mut of_b = node_with(alloc, b.bytes(), b"w")?;
-    let by_b = talk(&mut of_b, alloc, &dialed, None)?;
-    Ok(Seen {
+fn play<R: Net + Abort>(rt: &R, alloc: Global, listener: &UnixListener, paths: &Paths) -> Seen {
+    let dialed = next_of(rt, listener);
+    let done = put_is_done(rt, paths.control);
+    let (by_c, c_holds_a) = dial_as_c(rt, alloc, paths.sock);
+    let (by_b, b_holds_a, b_holds_c) = serve_as_b(rt, alloc, &dialed);
+    Seen {
         done,
         ends: [by_c, by_b],
-        held: [of_c.upto(&a), of_b.upto(&a), of_b.upto(&c)],
-    })
+        held: [c_holds_a, b_holds_a, b_holds_c],
+    }
 }
 
 #[test]
-fn a_node_beside_its_owner_and_its_peers(rt: HostRuntime) -> Result<(), Fail> {
+fn a_node_beside_its_owner_and_its_peers(rt: HostRuntime) {
     let paths = Paths {
         sock: "beside.sock",
         control: "beside.control",
         peers: &["beside.nobody", "beside.peer"],
     };
-    let listener = UnixListener::bind(&rt, "beside.peer")?;
+    let alloc = rt.alloc();
+    let listener = got(&rt, UnixListener::bind(&rt, "beside.peer"));
     let (ran, seen) = thread::join(
         &rt,
-        || {
-            let ran = run_a(&rt, rt.alloc(), &paths, pace(2, 0));
-            // So that the player does not wait for a node that never dials.
-            let _ = UnixStream::connect(&rt, "beside.peer");
-            ran
-        },
-        || play(&rt, rt.alloc(), &listener, &paths),
+        || run_and_reach(&rt, alloc, &paths, pace(2, 0), "beside.peer", 1),
+        || play(&rt, alloc, &listener, &paths),
     );
-    fs::remove_file(&rt, "beside.peer")?;
+    got(&rt, fs::remove_file(&rt, "beside.peer"));
     let all = Seen {
         done: true,
         ends: [Ended::RoundsDone, Ended::Bye(1)],
         held: [1, 1, 1],
     };
-    same(&rt, &seen?, &all);
+    same(&rt, &seen, &all);
     let whole = Ran {
         rounds: 2,
         faults: 1,
         events: 4,
     };
-    same(&rt, &ran?, &whole);
-    Ok(())
+    same(&rt, &ran, &whole);
 }
 
-/// Says nothing on any connection until the node hangs up; then writes, and serves as b where it is dialed once more. Whether no
-/// more than a Hello came on the silent ones, whether the write was done, how b's session ended, and how far b holds a.
-fn stay_silent<R: Net>(
+/// Whether no more than a Hello comes on connections on which nothing is said, until the node hangs up.
+fn hears_no_more<R: Net + Abort>(rt: &R, paths: &Paths) -> bool {
+    let control = reach(rt, paths.control);
+    let sock = reach(rt, paths.sock);
+    let silence = hears_only(rt, &control, 0);
+    let hello = hears_only(rt, &sock, HELLO);
+    silence && hello
+}
+
+/// Whether no more than a Hello came on the silent connections, whether the write was done, how b's session ended, and how far b
+/// holds a.
+type Heard = (bool, bool, Ended, u64);
+
+/// Says nothing on any connection until the node hangs up; then writes, and serves as b where it is dialed once more.
+fn stay_silent<R: Net + Abort>(
     rt: &R,
     alloc: Global,
     listener: &UnixListener,
     paths: &Paths,
-) -> Result<(bool, bool, Ended, u64), Fault> {
-    let silent = next_of(listener)?;
-    let control = reach(rt, paths.control)?;
-    let sock = reach(rt, paths.sock)?;
-    let silence = hears_only(&control, 0)?;
-    let hello = hears_only(&sock, HELLO)?;
-    let dialed = next_of(listener)?;
-    let done = put_is_done(rt, paths.control)?;
-    let mut of_b = node_with(alloc, b"b", b"w")?;
-    let by_b = talk(&mut of_b, alloc, &dialed, None)?;
+) -> Heard {
+    let silent = next_of(rt, listener);
+    let is_silent = hears_no_more(rt, paths);
+    let dialed = next_of(rt, listener);
+    let done = put_is_done(rt, paths.control);
+    let (by_b, b_holds_a, _) = serve_as_b(rt, alloc, &dialed);
     drop(silent);
-    let held = of_b.upto(&Name::read(b"a")?);
-    Ok((silence && hello, done, by_b, held))
+    (is_silent, done, by_b, b_holds_a)
 }
 
 #[test]
-fn a_connection_that_says_nothing_ends(rt: HostRuntime) -> Result<(), Fail> {
+fn a_connection_that_says_nothing_ends(rt: HostRuntime) {
     let paths = Paths {
         sock: "idle.sock",
         control: "idle.control",
         peers: &["idle.peer"],
     };
-    let listener = UnixListener::bind(&rt, "idle.peer")?;
-    let (ran, seen) = thread::join(
+    let alloc = rt.alloc();
+    let listener = got(&rt, UnixListener::bind(&rt, "idle.peer"));
+    let (ran, heard) = thread::join(
         &rt,
-        || {
-            let ran = run_a(&rt, rt.alloc(), &paths, pace(2, 1_000));
-            let _ = UnixStream::connect(&rt, "idle.peer");
-            let _ = UnixStream::connect(&rt, "idle.peer");
-            ran
-        },
-        || stay_silent(&rt, rt.alloc(), &listener, &paths),
+        || run_and_reach(&rt, alloc, &paths, pace(2, 1_000), "idle.peer", 2),
+        || stay_silent(&rt, alloc, &listener, &paths),
     );
-    fs::remove_file(&rt, "idle.peer")?;
-    same(&rt, &seen?, &(true, true, Ended::Bye(1), 1));
+    got(&rt, fs::remove_file(&rt, "idle.peer"));
+    same(&rt, &heard, &(true, true, Ended::Bye(1), 1));
     let whole = Ran {
         rounds: 2,
         faults: 3,
         events: 2,
     };
-    same(&rt, &ran?, &whole);
-    Ok(())
+    same(&rt, &ran, &whole);
 }

@@ -1,0 +1,143 @@
+//! A directory with an owner that writes from its only seat.
+ghost use Rattle.std.specs.Prelude.{◌≡◌, ◌<◌};
+
+use crate::making::{key, name, new_log, weight};
+use crate::{got, there};
+use sb_directory::{Configured, Directory, EnteredSeat, ReaderSeat};
+use sb_frames::Steps;
+use sb_log::PlainLog;
+use sb_node::NodeCore;
+use sb_run::{Owner, Stored, serve_control};
+use sb_types::{Delta, Fault};
+use sb_views::Opened;
+use std::alloc::Global;
+use std::marker::Brand;
+use std::process::Abort;
+use std::sync::Wait;
+use std::sync::ledger::{Blank, Ledger};
+
+/// A directory, its seat, which is away while it enters or serves, and an owner with a new log.
+#[derive(Drop)]
+pub(crate) struct Desk<S: Configured, H: Wait + Drop> {
+    directory: Directory<S, H>,
+    seat: Option<ReaderSeat<S>>,
+    owner: Owner<PlainLog>,
+}
+
+/// The desk of a node a with one seat.
+pub(crate) fn desk_of<S: Configured, R: Wait + Abort>(
+    rt: &R,
+    alloc: Global,
+    opened: Opened,
+    blank: Blank,
+    core: NodeCore,
+) -> Desk<S, &R>
+    requires story { opened.seen.book ≡ S.story }
+    requires opening { S.opening ≡ core.node }
+    requires settings { S.settings ≡ core.settings }
+    requires name { blank.name ≡ S.name }
+    requires parts { blank.parts ≡ S.parts }
+    requires seats { (1 ≡ S.seats) × (1 ≡ S.parts) }
+{
+    let made = Directory::<S, &R>::make(rt, alloc, opened, blank, core, 1);
+    let (directory, mut seats) = got(rt, made);
+    Desk {
+        directory,
+        seat: seats.pop(),
+        owner: Owner::new(new_log(rt, alloc, b"a")),
+    }
+}
+
+impl<S: Configured, H: Wait + Drop> Desk<S, H> {
+    /// Puts the weight 5 under a key.
+    pub(crate) fn put<Q: Wait + Abort>(&mut self, rt: &Q, text: &[u8]) -> Result<Stored, Fault> {
+        let seat = there(rt, self.seat.as_mut());
+        let (key, slot) = (key(rt, text), weight(rt, 5));
+        self.owner.put(rt, &self.directory, seat, &key, &slot)
+    }
+
+    /// The directory takes a delta.
+    pub(crate) fn apply<Q: Wait + Abort>(&mut self, rt: &Q, delta: &Delta) {
+        let seat = there(rt, self.seat.as_mut());
+        got(rt, self.directory.apply(rt, seat, delta));
+    }
+
+    /// How far readers are shown the writes of a. Want of memory to show all that happened ends the test.
+    pub(crate) fn shown_upto<Q: Wait + Abort>(&mut self, rt: &Q) -> u64 {
+        let seat = there(rt, self.seat.as_mut());
+        if !self.directory.refresh(rt, seat) {
+            panic!(rt; "error: NoMemory");
+        }
+        let (seat, upto) = upto_of_a(rt, there(rt, self.seat.take()));
+        self.seat = Some(seat);
+        upto
+    }
+
+    /// Answers one request, over a reader that holds it.
+    pub(crate) fn serve<Q: Wait + Abort>(
+        &mut self,
+        rt: &Q,
+        alloc: Global,
+        request: &[u8],
+        answer: &mut Vec<u8>,
+    ) {
+        let seat = there(rt, self.seat.take());
+        let seat = serve_from::<S, H, Q, Brand>(
+            rt,
+            alloc,
+            &self.directory,
+            &mut self.owner,
+            seat,
+            request,
+            answer,
+            Blank::new(1),
+        );
+        self.seat = Some(seat);
+    }
+}
+
+/// How far a reader sees the writes of a.
+fn upto_of_a<S: Configured>(rt: &impl Abort, seat: ReaderSeat<S>) -> (ReaderSeat<S>, u64) {
+    match seat.enter() {
+        Ok(entered) => {
+            let upto = seen_of_a(rt, &entered);
+            (entered.leave(), upto)
+        }
+        Err(_) => panic!(rt; "error: Closed"),
+    }
+}
+
+fn seen_of_a<S: Configured>(rt: &impl Abort, entered: &EnteredSeat<S>) -> u64 {
+    entered.snapshot().upto(&name(rt, b"a"))
+}
+
+fn serve_from<S: Configured, H: Wait + Drop, Q: Wait + Abort, K: Ledger>(
+    rt: &Q,
+    alloc: Global,
+    directory: &Directory<S, H>,
+    owner: &mut Owner<PlainLog>,
+    seat: ReaderSeat<S>,
+    request: &[u8],
+    answer: &mut Vec<u8>,
+    blank: Blank,
+) -> ReaderSeat<S>
+    requires name { blank.name ≡ K.name }
+    requires parts { blank.parts ≡ K.parts }
+    requires some { 0 < blank.parts }
+{
+    let mut steps = Steps::<K>::new(blank);
+    let mut reader = request;
+    let (seat, ended, _) = serve_control(
+        rt,
+        alloc,
+        &mut reader,
+        answer,
+        directory,
+        owner,
+        seat,
+        1,
+        &mut steps,
+    );
+    got(rt, ended);
+    seat
+}

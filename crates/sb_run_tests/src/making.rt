@@ -1,0 +1,55 @@
+//! Names, writes, logs and nodes for the tests.
+use crate::got;
+use sb_log::PlainLog;
+use sb_node::NodeCore;
+use sb_table::Table;
+use sb_types::{Key, Name, Order, RawSettings, Settings, Slot, Value};
+use std::alloc::Global;
+use std::process::Abort;
+
+pub(crate) fn name(rt: &impl Abort, text: &[u8]) -> Name {
+    got(rt, Name::read(text))
+}
+
+pub(crate) fn key(rt: &impl Abort, text: &[u8]) -> Key {
+    got(rt, Key::read(text))
+}
+
+/// A slot with a weight.
+pub(crate) fn weight(rt: &impl Abort, weight: u64) -> Slot {
+    Slot::Set(got(rt, Value::weight(weight)))
+}
+
+/// Settings of the cluster c1, with a budget of 256, so many seats and one worker.
+pub(crate) fn settings(rt: &impl Abort, seats: u64) -> Settings {
+    let raw = RawSettings {
+        cluster: b"c1",
+        budget: 256,
+        order: Order::Breadth,
+        max_version: 100,
+        seats,
+        workers: 1,
+    };
+    got(rt, Settings::check(raw))
+}
+
+/// A log of nothing.
+pub(crate) fn new_log(rt: &impl Abort, alloc: Global, owner: &[u8]) -> PlainLog {
+    PlainLog::new(alloc, name(rt, owner), name(rt, b"c1"), 100)
+}
+
+/// A node whose own table is this.
+pub(crate) fn node_of(
+    rt: &impl Abort,
+    alloc: Global,
+    settings: Settings,
+    me: &[u8],
+    table: Table,
+) -> NodeCore {
+    got(rt, NodeCore::open(alloc, settings, name(rt, me), table))
+}
+
+/// A new node of the name a, with so many seats.
+pub(crate) fn new_node(rt: &impl Abort, alloc: Global, seats: u64) -> NodeCore {
+    node_of(rt, alloc, settings(rt, seats), b"a", Table::new(alloc))
+}
