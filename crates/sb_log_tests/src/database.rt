@@ -169,6 +169,7 @@ fn fault_after<S: Alter + Drop>(
     fault_of_opening(rt, alloc, conn, OWNER)
 }
 
+// Opening after these statements has this fault.
 fn tells(rt: &impl Abort, alloc: Global, statements: &[&str], fault: u8) {
     let conn = got(rt, Connection::open_in_memory(alloc));
     let found = fault_after(rt, alloc, conn, statements);
@@ -185,22 +186,20 @@ fn tells_of_own(rt: &impl Abort, alloc: Global, sql: &str, fault: u8) {
     tells(rt, alloc, &[META, WRITES, OWN, sql], fault);
 }
 
+// Tables that are missing, strange or in use.
 fn tells_of_tables(rt: &impl Abort, alloc: Global) {
     let other = "CREATE TABLE other (id INTEGER PRIMARY KEY) STRICT";
+    let unowned = "INSERT INTO writes VALUES ('x', 1, 0, NULL, NULL)";
     tells(rt, alloc, &[META], 0);
     tells(rt, alloc, &[META, WRITES], 0);
     tells(rt, alloc, &[other], 19);
     tells(rt, alloc, &["BEGIN"], 18);
     tells(rt, alloc, &[META, OWN], 19);
+    tells(rt, alloc, &[META, WRITES, unowned], 19);
 }
 
+// Logs of an unknown form, and those from which versions were forgotten.
 fn tells_of_meta(rt: &impl Abort, alloc: Global) {
-    tells_with_tables(
-        rt,
-        alloc,
-        "INSERT INTO writes VALUES ('x', 1, 0, NULL, NULL)",
-        19,
-    );
     tells_with_tables(
         rt,
         alloc,
@@ -216,18 +215,6 @@ fn tells_of_meta(rt: &impl Abort, alloc: Global) {
     tells_with_tables(
         rt,
         alloc,
-        "INSERT INTO meta VALUES (1, 1, 'b', 'sim', 7, 0)",
-        20,
-    );
-    tells_with_tables(
-        rt,
-        alloc,
-        "INSERT INTO meta VALUES (1, 1, 'a', 'other', 0, 7)",
-        20,
-    );
-    tells_with_tables(
-        rt,
-        alloc,
         "INSERT INTO meta VALUES (1, 1, 'a', 'sim', 7, 0)",
         19,
     );
@@ -239,6 +226,23 @@ fn tells_of_meta(rt: &impl Abort, alloc: Global) {
     );
 }
 
+// Logs of another owner, and of another cluster, from which versions were forgotten too.
+fn tells_of_others(rt: &impl Abort, alloc: Global) {
+    tells_with_tables(
+        rt,
+        alloc,
+        "INSERT INTO meta VALUES (1, 1, 'b', 'sim', 7, 0)",
+        20,
+    );
+    tells_with_tables(
+        rt,
+        alloc,
+        "INSERT INTO meta VALUES (1, 1, 'a', 'other', 0, 7)",
+        20,
+    );
+}
+
+// Writes within the limits, and such that break one.
 fn tells_of_writes(rt: &impl Abort, alloc: Global) {
     tells_of_own(
         rt,
@@ -270,5 +274,6 @@ fn tells_of_writes(rt: &impl Abort, alloc: Global) {
 fn damage_is_told(rt: HostRuntime) {
     tells_of_tables(&rt, rt.alloc());
     tells_of_meta(&rt, rt.alloc());
+    tells_of_others(&rt, rt.alloc());
     tells_of_writes(&rt, rt.alloc());
 }
