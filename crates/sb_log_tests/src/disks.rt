@@ -38,7 +38,7 @@ pub trait Visit {
     ) -> Self::Told;
 }
 
-/// What comes of a visit to a database over both files. `StoreFailed` where it can't be opened. It is the one place that names the store: each function
+/// What comes of a visit to a database over both files. `StoreFailed` where it can't be opened. It is the one place that names the disks: each function
 /// that does is dear to prove.
 pub fn on_disks<V: Visit + Drop>(
     rt: &impl Abort,
@@ -51,6 +51,16 @@ pub fn on_disks<V: Visit + Drop>(
         log: Fuse::new(Lent::new(&mut disks.log), calls.log),
         db: Fuse::new(Lent::new(&mut disks.db), calls.db),
     };
+    on_files(rt, alloc, files, visitor)
+}
+
+/// The same over files of any disk.
+fn on_files<D: Disk + Drop, V: Visit + Drop>(
+    rt: &impl Abort,
+    alloc: Global,
+    files: Files<D>,
+    visitor: V,
+) -> Result<V::Told, Fault> {
     if !files.log.may_be_used() {
         return Err(Fault::StoreFailed);
     }
