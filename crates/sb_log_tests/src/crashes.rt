@@ -1,14 +1,14 @@
 //! What a crash leaves of a log in files, on disks that stop after so many calls.
 use crate::disks::{Calls, ENDLESS, Visit, new_disks, on_disks};
-use crate::same;
+use crate::writes::{OWNER, key, name, set};
+use crate::{got, same, same_at};
 use sb_log::{SqlLog, WriteLog};
-use sb_types::{Fault, Key, Name, Slot, Value};
+use sb_table::Table;
+use sb_types::{Fault, Key, Slot};
 use sqlite::{Alter, Connection, Files};
 use sqlite_disk::{Crash, Disk, Memory};
 use std::alloc::Global;
-use std::io;
 use std::process::Abort;
-use std::test::Fail;
 
 /// How many keys a log holds, its last version, and the weight of x.
 type Content = (usize, u64, Option<u64>);
@@ -33,64 +33,39 @@ const NOTHING: Progress = Progress {
     begun: 0,
 };
 
-fn open<S: Alter + Drop>(alloc: Global, conn: Connection<S>) -> Result<SqlLog<S>, Fault> {
-    SqlLog::open(alloc, conn, Name::read(b"a")?, Name::read(b"c")?, 9)
+const ALL: Progress = Progress {
+    acknowledged: 3,
+    begun: 3,
+};
+
+fn open<S: Alter + Drop>(
+    rt: &impl Abort,
+    alloc: Global,
+    conn: Connection<S>,
+) -> Result<SqlLog<S>, Fault> {
+    SqlLog::open(alloc, conn, name(rt, OWNER), name(rt, b"c"), 9)
 }
 
-fn put<S: Alter + Drop>(log: &mut SqlLog<S>, key: &[u8], weight: u64) -> Result<u64, Fault> {
-    let committed = log.put(&Key::read(key)?, &Slot::Set(Value::weight(weight)?))?;
-    Ok(committed.entry().version())
+/// Where the write behind so many acknowledged ones failed.
+fn failed_after(acknowledged: usize) -> Progress {
+    Progress {
+        acknowledged,
+        begun: acknowledged.saturating_add(1),
+    }
 }
 
 /// Writes until a write fails.
-fn put_three<S: Alter + Drop>(log: &mut SqlLog<S>) -> Progress {
-    let mut acknowledged = 0;
-    for (begun, key, weight) in [(1, b"x", 5), (2, b"y", 6), (3, b"x", 7)] {
-        if put(log, key, weight).is_err() {
-            return Progress {
-                acknowledged,
-                begun,
-            };
-        }
-        acknowledged = begun;
+fn put_three<L: WriteLog>(rt: &impl Abort, log: &mut L) -> Progress {
+    if set(rt, log, b"x", 5).is_err() {
+        return failed_after(0);
     }
-    Progress {
-        acknowledged,
-        begun: acknowledged,
+    if set(rt, log, b"y", 6).is_err() {
+        return failed_after(1);
     }
-}
-
-/// Opens a log over disks that stop, and writes.
-fn run<S: Alter + Drop>(alloc: Global, conn: Connection<S>) -> Progress {
-    match open(alloc, conn) {
-        Ok(mut log) => put_three(&mut log),
-        Err(_) => NOTHING,
+    if set(rt, log, b"x", 7).is_err() {
+        return failed_after(2);
     }
-}
-
-/// The disk of a process that ended: all that was written is there.
-fn left_whole(alloc: Global, disk: &Memory) -> io::Result<Memory> {
-    let mut whole = Memory::new(alloc);
-    whole.write_at(0, disk.bytes())?;
-    whole.sync()?;
-    Ok(whole)
-}
-
-fn held<S: Alter + Drop>(alloc: Global, log: &mut SqlLog<S>) -> Result<Content, Fault> {
-    let table = log.load(alloc)?;
-    let weight = match table.get(&Key::read(b"x")?) {
-        Some((_, Slot::Set(value))) => value.as_weight(),
-        _ => None,
-    };
-    Ok((table.len(), table.upto(), weight))
-}
-
-/// What a log holds that is opened again, and the version of its next write.
-fn reopened<S: Alter + Drop>(alloc: Global, conn: Connection<S>) -> Result<(Content, u64), Fault> {
-    let mut log = open(alloc, conn)?;
-    let found = held(alloc, &mut log)?;
-    let next = put(&mut log, b"z", 1)?;
-    Ok((found, next))
+    ALL
 }
 
 #[derive(Drop)]
@@ -99,143 +74,181 @@ struct Writing;
 impl Visit for Writing {
     type Told = Progress;
 
-    fn visit<S: Alter + Drop>(self, alloc: Global, conn: Connection<S>) -> Progress {
-        run(alloc, conn)
+    /// Opens a log over disks that stop, and writes.
+    fn visit<S: Alter + Drop>(
+        self,
+        rt: &impl Abort,
+        alloc: Global,
+        conn: Connection<S>,
+    ) -> Progress {
+        match open(rt, alloc, conn) {
+            Ok(mut log) => put_three(rt, &mut log),
+            Err(_) => NOTHING,
+        }
     }
+}
+
+fn content_of(table: &Table, x: &Key) -> Content {
+    let weight = match table.get(x) {
+        Some((_, Slot::Set(value))) => value.as_weight(),
+        _ => None,
+    };
+    (table.len(), table.upto(), weight)
+}
+
+fn held<L: WriteLog>(rt: &impl Abort, alloc: Global, log: &mut L) -> Content {
+    content_of(&got(rt, log.load(alloc)), &key(rt, b"x"))
+}
+
+/// What a log holds, and the version of its next write.
+fn found<L: WriteLog>(rt: &impl Abort, alloc: Global, log: &mut L) -> (Content, u64) {
+    (held(rt, alloc, log), got(rt, set(rt, log, b"z", 1)))
 }
 
 #[derive(Drop)]
 struct Reopening;
 
 impl Visit for Reopening {
-    type Told = Result<(Content, u64), Fault>;
+    type Told = (Content, u64);
 
+    /// Opens a log again.
     fn visit<S: Alter + Drop>(
         self,
+        rt: &impl Abort,
         alloc: Global,
         conn: Connection<S>,
-    ) -> Result<(Content, u64), Fault> {
-        reopened(alloc, conn)
+    ) -> (Content, u64) {
+        found(rt, alloc, &mut got(rt, open(rt, alloc, conn)))
     }
+}
+
+/// The disk of a process that ended: all that was written is there.
+fn left_whole(rt: &impl Abort, alloc: Global, disk: &Memory) -> Memory {
+    let mut whole = Memory::new(alloc);
+    got(rt, whole.write_at(0, disk.bytes()));
+    got(rt, whole.sync());
+    whole
+}
+
+/// Whether what a log holds is what was acknowledged, or what was begun.
+fn is_kept(content: Content, progress: Progress) -> bool {
+    CONTENTS.get(progress.acknowledged) == Some(&content)
+        || CONTENTS.get(progress.begun) == Some(&content)
 }
 
 /// A log that is opened again holds what was acknowledged, or what was begun, and the next write has the next version.
-fn recovers(rt: &impl Abort, told: (Content, u64), progress: Progress) {
-    let (found, next) = told;
-    let before = CONTENTS.get(progress.acknowledged).copied();
-    let with = CONTENTS.get(progress.begun).copied();
-    let is_kept = before == Some(found) || with == Some(found);
-    let is_next = next == found.1.saturating_add(1);
-    assert!(rt; is_kept && is_next, "{told:?} after {progress:?}");
+fn recovers(rt: &impl Abort, alloc: Global, disks: &mut Files<Memory>, progress: Progress) {
+    let told = got(rt, on_disks(rt, alloc, disks, ENDLESS, Reopening));
+    let (content, next) = told;
+    let is_next = next == content.1.saturating_add(1);
+    same_at(
+        rt,
+        &(told, progress),
+        &(is_kept(content, progress), is_next),
+        &(true, true),
+    );
+}
+
+/// The same of the process that ended, whose disks lose nothing.
+fn recovers_whole(rt: &impl Abort, alloc: Global, disks: &Files<Memory>, progress: Progress) {
+    let mut whole = Files {
+        log: left_whole(rt, alloc, &disks.log),
+        db: left_whole(rt, alloc, &disks.db),
+    };
+    recovers(rt, alloc, &mut whole, progress);
 }
 
 /// Stops the disks, and lets what was not synced stay, and then be lost.
-fn stop(rt: &impl Abort, alloc: Global, calls: Calls) -> Result<Progress, Fail> {
+fn stop(rt: &impl Abort, alloc: Global, calls: Calls) -> Progress {
     let mut disks = new_disks(alloc);
-    let progress = on_disks(alloc, &mut disks, calls, Writing).unwrap_or(NOTHING);
-    let mut whole = Files {
-        log: left_whole(alloc, &disks.log)?,
-        db: left_whole(alloc, &disks.db)?,
-    };
-    let kept = on_disks(alloc, &mut whole, ENDLESS, Reopening)??;
-    recovers(rt, kept, progress);
+    let progress = on_disks(rt, alloc, &mut disks, calls, Writing).unwrap_or(NOTHING);
+    recovers_whole(rt, alloc, &disks, progress);
     disks.log.crash();
     disks.db.crash();
-    let lost = on_disks(alloc, &mut disks, ENDLESS, Reopening)??;
-    recovers(rt, lost, progress);
-    Ok(progress)
+    recovers(rt, alloc, &mut disks, progress);
+    progress
 }
 
-fn stop_log(rt: &impl Abort, alloc: Global, from: u64, to: u64) -> Result<(), Fail> {
+fn stop_log(rt: &impl Abort, alloc: Global, from: u64, to: u64) {
     for log in from..to {
-        stop(rt, alloc, Calls { log, ..ENDLESS })?;
+        stop(rt, alloc, Calls { log, ..ENDLESS });
     }
-    Ok(())
 }
 
-fn stop_db(rt: &impl Abort, alloc: Global, from: u64, to: u64) -> Result<(), Fail> {
+fn stop_db(rt: &impl Abort, alloc: Global, from: u64, to: u64) {
     for db in from..to {
-        stop(rt, alloc, Calls { db, ..ENDLESS })?;
+        stop(rt, alloc, Calls { db, ..ENDLESS });
     }
-    Ok(())
 }
 
 // The log file answers 50 calls, and the database file 14, until the third write is acknowledged: each of them is stopped at.
 #[test]
-fn no_call_is_left_out(rt: HostRuntime) -> Result<(), Fail> {
-    let whole = Progress {
-        acknowledged: 3,
-        begun: 3,
-    };
-    same(
-        &rt,
-        &stop(&rt, rt.alloc(), Calls { log: 50, db: 14 })?,
-        &whole,
-    );
-    Ok(())
+fn no_call_is_left_out(rt: HostRuntime) {
+    let progress = stop(&rt, rt.alloc(), Calls { log: 50, db: 14 });
+    same(&rt, &progress, &ALL);
 }
 
 #[test]
-fn the_log_file_stops_at_calls_1_to_5(rt: HostRuntime) -> Result<(), Fail> {
-    stop_log(&rt, rt.alloc(), 0, 5)
+fn the_log_file_stops_at_calls_1_to_5(rt: HostRuntime) {
+    stop_log(&rt, rt.alloc(), 0, 5);
 }
 
 #[test]
-fn the_log_file_stops_at_calls_6_to_10(rt: HostRuntime) -> Result<(), Fail> {
-    stop_log(&rt, rt.alloc(), 5, 10)
+fn the_log_file_stops_at_calls_6_to_10(rt: HostRuntime) {
+    stop_log(&rt, rt.alloc(), 5, 10);
 }
 
 #[test]
-fn the_log_file_stops_at_calls_11_to_15(rt: HostRuntime) -> Result<(), Fail> {
-    stop_log(&rt, rt.alloc(), 10, 15)
+fn the_log_file_stops_at_calls_11_to_15(rt: HostRuntime) {
+    stop_log(&rt, rt.alloc(), 10, 15);
 }
 
 #[test]
-fn the_log_file_stops_at_calls_16_to_20(rt: HostRuntime) -> Result<(), Fail> {
-    stop_log(&rt, rt.alloc(), 15, 20)
+fn the_log_file_stops_at_calls_16_to_20(rt: HostRuntime) {
+    stop_log(&rt, rt.alloc(), 15, 20);
 }
 
 #[test]
-fn the_log_file_stops_at_calls_21_to_25(rt: HostRuntime) -> Result<(), Fail> {
-    stop_log(&rt, rt.alloc(), 20, 25)
+fn the_log_file_stops_at_calls_21_to_25(rt: HostRuntime) {
+    stop_log(&rt, rt.alloc(), 20, 25);
 }
 
 #[test]
-fn the_log_file_stops_at_calls_26_to_30(rt: HostRuntime) -> Result<(), Fail> {
-    stop_log(&rt, rt.alloc(), 25, 30)
+fn the_log_file_stops_at_calls_26_to_30(rt: HostRuntime) {
+    stop_log(&rt, rt.alloc(), 25, 30);
 }
 
 #[test]
-fn the_log_file_stops_at_calls_31_to_35(rt: HostRuntime) -> Result<(), Fail> {
-    stop_log(&rt, rt.alloc(), 30, 35)
+fn the_log_file_stops_at_calls_31_to_35(rt: HostRuntime) {
+    stop_log(&rt, rt.alloc(), 30, 35);
 }
 
 #[test]
-fn the_log_file_stops_at_calls_36_to_40(rt: HostRuntime) -> Result<(), Fail> {
-    stop_log(&rt, rt.alloc(), 35, 40)
+fn the_log_file_stops_at_calls_36_to_40(rt: HostRuntime) {
+    stop_log(&rt, rt.alloc(), 35, 40);
 }
 
 #[test]
-fn the_log_file_stops_at_calls_41_to_45(rt: HostRuntime) -> Result<(), Fail> {
-    stop_log(&rt, rt.alloc(), 40, 45)
+fn the_log_file_stops_at_calls_41_to_45(rt: HostRuntime) {
+    stop_log(&rt, rt.alloc(), 40, 45);
 }
 
 #[test]
-fn the_log_file_stops_at_calls_46_to_50(rt: HostRuntime) -> Result<(), Fail> {
-    stop_log(&rt, rt.alloc(), 45, 50)
+fn the_log_file_stops_at_calls_46_to_50(rt: HostRuntime) {
+    stop_log(&rt, rt.alloc(), 45, 50);
 }
 
 #[test]
-fn the_database_file_stops_at_calls_1_to_5(rt: HostRuntime) -> Result<(), Fail> {
-    stop_db(&rt, rt.alloc(), 0, 5)
+fn the_database_file_stops_at_calls_1_to_5(rt: HostRuntime) {
+    stop_db(&rt, rt.alloc(), 0, 5);
 }
 
 #[test]
-fn the_database_file_stops_at_calls_6_to_10(rt: HostRuntime) -> Result<(), Fail> {
-    stop_db(&rt, rt.alloc(), 5, 10)
+fn the_database_file_stops_at_calls_6_to_10(rt: HostRuntime) {
+    stop_db(&rt, rt.alloc(), 5, 10);
 }
 
 #[test]
-fn the_database_file_stops_at_calls_11_to_14(rt: HostRuntime) -> Result<(), Fail> {
-    stop_db(&rt, rt.alloc(), 10, 14)
+fn the_database_file_stops_at_calls_11_to_14(rt: HostRuntime) {
+    stop_db(&rt, rt.alloc(), 10, 14);
 }

@@ -1,11 +1,12 @@
 //! A log in a database: what it keeps, also when it is opened again, and the damage that it tells.
 use crate::disks::{ENDLESS, Visit, new_disks, on_disks};
-use crate::{same, settled};
+use crate::writes::{Answer, OWNER, held, name, remove, set, settled};
+use crate::{got, same, same_at};
 use sb_log::{SqlLog, WriteLog};
-use sb_types::{Fault, Key, Name, Slot, Value};
+use sb_types::Fault;
 use sqlite::{Alter, Connection, Error};
 use std::alloc::Global;
-use std::test::Fail;
+use std::process::Abort;
 
 const META: &str =
     "CREATE TABLE meta (id INTEGER PRIMARY KEY CHECK (id = 1), form INTEGER NOT NULL, owner TEXT NOT NULL, cluster TEXT NOT NULL, last INTEGER NOT NULL, floor INTEGER NOT NULL) STRICT";
@@ -13,113 +14,84 @@ const META: &str =
 const WRITES: &str =
     "CREATE TABLE writes (k TEXT PRIMARY KEY NOT NULL, version INTEGER NOT NULL UNIQUE, tag INTEGER NOT NULL, num INTEGER, txt TEXT) STRICT";
 
-// They have no clause, so that the proof of a test does not carry the state of each call.
-fn run<S: Alter>(conn: &mut Connection<S>, sql: &str) -> Result<usize, Error> {
-    conn.execute(sql, &[])
-}
+const OWN: &str = "INSERT INTO meta VALUES (1, 1, 'a', 'sim', 0, 0)";
 
-fn open<S: Alter + Drop>(
+fn opened<S: Alter + Drop>(
+    rt: &impl Abort,
     alloc: Global,
     conn: Connection<S>,
     owner: &[u8],
     max_version: u64,
 ) -> Result<SqlLog<S>, Fault> {
-    SqlLog::open(
-        alloc,
-        conn,
-        Name::read(owner)?,
-        Name::read(b"sim")?,
-        max_version,
-    )
+    SqlLog::open(alloc, conn, name(rt, owner), name(rt, b"sim"), max_version)
 }
 
-fn put<S: Alter + Drop>(log: &mut SqlLog<S>, key: &[u8], weight: u64) -> Result<u64, Fault> {
-    let committed = log.put(&Key::read(key)?, &Slot::Set(Value::weight(weight)?))?;
-    Ok(committed.entry().version())
+fn open<S: Alter + Drop>(
+    rt: &impl Abort,
+    alloc: Global,
+    conn: Connection<S>,
+    max_version: u64,
+) -> SqlLog<S> {
+    got(rt, opened(rt, alloc, conn, OWNER, max_version))
 }
 
-fn remove<S: Alter + Drop>(log: &mut SqlLog<S>, key: &[u8]) -> Result<u64, Fault> {
-    let committed = log.put(&Key::read(key)?, &Slot::Removed)?;
-    Ok(committed.entry().version())
-}
-
-// How many keys it holds, and the last version.
-fn held<S: Alter + Drop>(alloc: Global, log: &mut SqlLog<S>) -> Result<(usize, u64), Fault> {
-    let table = log.load(alloc)?;
-    Ok((table.len(), table.upto()))
-}
-
-// The number of the fault of opening, 0 where it opens. `NoMemory`.
+// The number of the fault of opening, 0 where it opens.
 fn fault_of_opening<S: Alter + Drop>(
+    rt: &impl Abort,
     alloc: Global,
     conn: Connection<S>,
     owner: &[u8],
-) -> Result<u8, Fault> {
-    match open(alloc, conn, owner, 9) {
-        Ok(_) => Ok(0),
-        Err(Fault::NoMemory) => Err(Fault::NoMemory),
-        Err(fault) => Ok(fault.number()),
+) -> u8 {
+    match opened(rt, alloc, conn, owner, 9) {
+        Ok(_) => 0,
+        Err(Fault::NoMemory) => panic!(rt; "error: NoMemory"),
+        Err(fault) => fault.number(),
     }
 }
 
-// The fault of opening after these statements, 0 where it opens.
-fn fault_after(alloc: Global, statements: &[&str]) -> Result<u8, Fail> {
-    let mut conn = Connection::open_in_memory(alloc)?;
-    for sql in statements {
-        run(&mut conn, sql)?;
-    }
-    Ok(fault_of_opening(alloc, conn, b"a")?)
+const SPENT: Answer = Err(Fault::VersionsSpent);
+
+const NOTHING: Answer = Err(Fault::NothingThere);
+
+// Writes to a log of four versions: what each is answered.
+fn six_writes<L: WriteLog>(rt: &impl Abort, log: &mut L) -> [Answer; 6] {
+    [
+        set(rt, log, b"x", 5),
+        set(rt, log, b"y", 6),
+        remove(rt, log, b"z"),
+        remove(rt, log, b"x"),
+        set(rt, log, b"x", 7),
+        set(rt, log, b"x", 8),
+    ]
 }
 
 // What it holds at first, what each write is answered, and what it holds then.
-type Kept = ((usize, u64), [Result<u64, Fault>; 6], (usize, u64));
+fn keeps<L: WriteLog>(rt: &impl Abort, alloc: Global, log: &mut L) {
+    same(rt, &held(rt, alloc, log), &(0, 0));
+    let answers = settled(rt, six_writes(rt, log));
+    let wanted = [Ok(1), Ok(2), NOTHING, Ok(3), Ok(4), SPENT];
+    same(rt, &answers, &wanted);
+    same(rt, &held(rt, alloc, log), &(2, 4));
+}
 
-const KEPT: Kept = (
-    (0, 0),
-    [
-        Ok(1),
-        Ok(2),
-        Err(Fault::NothingThere),
-        Ok(3),
-        Ok(4),
-        Err(Fault::VersionsSpent),
-    ],
-    (2, 4),
-);
-
-fn keeps_writes<S: Alter + Drop>(alloc: Global, conn: Connection<S>) -> Result<Kept, Fault> {
-    let mut log = open(alloc, conn, b"a", 4)?;
-    let empty = held(alloc, &mut log)?;
-    let answers = [
-        put(&mut log, b"x", 5),
-        put(&mut log, b"y", 6),
-        remove(&mut log, b"z"),
-        remove(&mut log, b"x"),
-        put(&mut log, b"x", 7),
-        put(&mut log, b"x", 8),
-    ];
-    Ok((empty, settled(answers)?, held(alloc, &mut log)?))
+fn keeps_writes<S: Alter + Drop>(rt: &impl Abort, alloc: Global, conn: Connection<S>) {
+    keeps(rt, alloc, &mut open(rt, alloc, conn, 4));
 }
 
 // Opened again: what it holds, and what the next write is answered, with a lesser greatest version.
-fn reopened<S: Alter + Drop>(
-    alloc: Global,
-    conn: Connection<S>,
-) -> Result<((usize, u64), Result<u64, Fault>), Fault> {
-    let mut log = open(alloc, conn, b"a", 2)?;
-    let found = held(alloc, &mut log)?;
-    let [next] = settled([put(&mut log, b"x", 8)])?;
-    Ok((found, next))
+fn kept<L: WriteLog>(rt: &impl Abort, alloc: Global, log: &mut L) {
+    same(rt, &held(rt, alloc, log), &(2, 4));
+    same(rt, &settled(rt, [set(rt, log, b"x", 8)]), &[SPENT]);
 }
 
 #[derive(Drop)]
 struct Keeping;
 
 impl Visit for Keeping {
-    type Told = Result<Kept, Fault>;
+    type Told = ();
 
-    fn visit<S: Alter + Drop>(self, alloc: Global, conn: Connection<S>) -> Result<Kept, Fault> {
-        keeps_writes(alloc, conn)
+    fn visit<S: Alter + Drop>(self, rt: &impl Abort, alloc: Global, conn: Connection<S>) {
+        keeps_writes(rt, alloc, conn);
     }
 }
 
@@ -127,14 +99,10 @@ impl Visit for Keeping {
 struct Reopening;
 
 impl Visit for Reopening {
-    type Told = Result<((usize, u64), Result<u64, Fault>), Fault>;
+    type Told = ();
 
-    fn visit<S: Alter + Drop>(
-        self,
-        alloc: Global,
-        conn: Connection<S>,
-    ) -> Result<((usize, u64), Result<u64, Fault>), Fault> {
-        reopened(alloc, conn)
+    fn visit<S: Alter + Drop>(self, rt: &impl Abort, alloc: Global, conn: Connection<S>) {
+        kept(rt, alloc, &mut open(rt, alloc, conn, 2));
     }
 }
 
@@ -142,163 +110,170 @@ impl Visit for Reopening {
 struct Another;
 
 impl Visit for Another {
-    type Told = Result<u8, Fault>;
+    type Told = u8;
 
-    fn visit<S: Alter + Drop>(self, alloc: Global, conn: Connection<S>) -> Result<u8, Fault> {
-        fault_of_opening(alloc, conn, b"b")
+    fn visit<S: Alter + Drop>(self, rt: &impl Abort, alloc: Global, conn: Connection<S>) -> u8 {
+        fault_of_opening(rt, alloc, conn, b"b")
     }
 }
 
 #[test]
-fn a_log_in_memory_keeps_writes(rt: HostRuntime) -> Result<(), Fail> {
+fn a_log_in_memory_keeps_writes(rt: HostRuntime) {
     let alloc = rt.alloc();
-    let kept = keeps_writes(alloc, Connection::open_in_memory(alloc)?)?;
-    same(&rt, &kept, &KEPT);
-    Ok(())
+    keeps_writes(&rt, alloc, got(&rt, Connection::open_in_memory(alloc)));
 }
 
 // Opened again it holds the same, and under another name it is another's.
 #[test]
-fn a_log_in_files_keeps_writes(rt: HostRuntime) -> Result<(), Fail> {
+fn a_log_in_files_keeps_writes(rt: HostRuntime) {
     let alloc = rt.alloc();
     let mut disks = new_disks(alloc);
-    let kept = on_disks(alloc, &mut disks, ENDLESS, Keeping)??;
-    same(&rt, &kept, &KEPT);
-    let again = on_disks(alloc, &mut disks, ENDLESS, Reopening)??;
-    same(&rt, &again, &((2, 4), Err(Fault::VersionsSpent)));
-    let another = on_disks(alloc, &mut disks, ENDLESS, Another)??;
+    got(&rt, on_disks(&rt, alloc, &mut disks, ENDLESS, Keeping));
+    got(&rt, on_disks(&rt, alloc, &mut disks, ENDLESS, Reopening));
+    let another = got(&rt, on_disks(&rt, alloc, &mut disks, ENDLESS, Another));
     same(&rt, &another, &20);
-    Ok(())
 }
 
 // The third write of a log of two versions.
-fn three_writes<S: Alter + Drop>(
+fn three_writes<L: WriteLog>(rt: &impl Abort, log: &mut L) -> [Answer; 3] {
+    [
+        set(rt, log, b"x", 1),
+        set(rt, log, b"x", 2),
+        set(rt, log, b"x", 3),
+    ]
+}
+
+#[test]
+fn versions_are_spent(rt: HostRuntime) {
+    let alloc = rt.alloc();
+    let conn = got(&rt, Connection::open_in_memory(alloc));
+    let answers = three_writes(&rt, &mut open(&rt, alloc, conn, 2));
+    same(&rt, &settled(&rt, answers), &[Ok(1), Ok(2), SPENT]);
+}
+
+// It has no clause, so that the proof of a test does not carry the state of each call.
+fn run<S: Alter>(conn: &mut Connection<S>, sql: &str) -> Result<usize, Error> {
+    conn.execute(sql, &[])
+}
+
+// The fault of opening after these statements, 0 where it opens.
+fn fault_after<S: Alter + Drop>(
+    rt: &impl Abort,
     alloc: Global,
-    conn: Connection<S>,
-) -> Result<[Result<u64, Fault>; 3], Fault> {
-    let mut log = open(alloc, conn, b"a", 2)?;
-    settled([
-        put(&mut log, b"x", 1),
-        put(&mut log, b"x", 2),
-        put(&mut log, b"x", 3),
-    ])
-}
-
-#[test]
-fn versions_are_spent(rt: HostRuntime) -> Result<(), Fail> {
-    let alloc = rt.alloc();
-    let answers = three_writes(alloc, Connection::open_in_memory(alloc)?)?;
-    same(&rt, &answers, &[Ok(1), Ok(2), Err(Fault::VersionsSpent)]);
-    Ok(())
-}
-
-#[test]
-fn damage_is_told(rt: HostRuntime) -> Result<(), Fail> {
-    let alloc = rt.alloc();
-    let cases: [(u8, &[&str]); 16] = [
-        (0, &[META]),
-        (0, &[META, WRITES]),
-        (19, &["CREATE TABLE other (id INTEGER PRIMARY KEY) STRICT"]),
-        (18, &["BEGIN"]),
-        (
-            19,
-            &[META, "INSERT INTO meta VALUES (1, 1, 'a', 'sim', 0, 0)"],
-        ),
-        (
-            19,
-            &[
-                META,
-                WRITES,
-                "INSERT INTO writes VALUES ('x', 1, 0, NULL, NULL)",
-            ],
-        ),
-        (
-            19,
-            &[
-                META,
-                WRITES,
-                "INSERT INTO meta VALUES (1, 0, 'b', 'sim', 0, 0)",
-            ],
-        ),
-        (
-            19,
-            &[
-                META,
-                WRITES,
-                "INSERT INTO meta VALUES (1, 2, 'a', 'sim', 0, 0)",
-            ],
-        ),
-        (
-            20,
-            &[
-                META,
-                WRITES,
-                "INSERT INTO meta VALUES (1, 1, 'b', 'sim', 7, 0)",
-            ],
-        ),
-        (
-            20,
-            &[
-                META,
-                WRITES,
-                "INSERT INTO meta VALUES (1, 1, 'a', 'other', 0, 7)",
-            ],
-        ),
-        (
-            19,
-            &[
-                META,
-                WRITES,
-                "INSERT INTO meta VALUES (1, 1, 'a', 'sim', 7, 0)",
-            ],
-        ),
-        (
-            19,
-            &[
-                META,
-                WRITES,
-                "INSERT INTO meta VALUES (1, 1, 'a', 'sim', 0, 7)",
-            ],
-        ),
-        (
-            0,
-            &[
-                META,
-                WRITES,
-                "INSERT INTO meta VALUES (1, 1, 'a', 'sim', 0, 0)",
-                "INSERT INTO writes VALUES ('x', 1099511627775, 2, 9223372036854775807, NULL), ('y', 1, 3, 1, NULL), ('z', 4, 1, NULL, 'h:1'), ('w', 2, 0, NULL, NULL)",
-            ],
-        ),
-        (
-            19,
-            &[
-                META,
-                WRITES,
-                "INSERT INTO meta VALUES (1, 1, 'a', 'sim', 0, 0)",
-                "INSERT INTO writes VALUES ('x', 1099511627776, 0, NULL, NULL)",
-            ],
-        ),
-        (
-            19,
-            &[
-                META,
-                WRITES,
-                "INSERT INTO meta VALUES (1, 1, 'a', 'sim', 0, 0)",
-                "INSERT INTO writes VALUES ('X', 1, 0, NULL, NULL)",
-            ],
-        ),
-        (
-            19,
-            &[
-                META,
-                WRITES,
-                "INSERT INTO meta VALUES (1, 1, 'a', 'sim', 0, 0)",
-                "INSERT INTO writes VALUES ('x', 1, 3, 2, NULL)",
-            ],
-        ),
-    ];
-    for (fault, statements) in cases {
-        same(&rt, &fault_after(alloc, statements)?, &fault);
+    mut conn: Connection<S>,
+    statements: &[&str],
+) -> u8 {
+    for sql in statements {
+        got(rt, run(&mut conn, sql));
     }
-    Ok(())
+    fault_of_opening(rt, alloc, conn, OWNER)
+}
+
+// Opening after these statements has this fault.
+fn tells(rt: &impl Abort, alloc: Global, statements: &[&str], fault: u8) {
+    let conn = got(rt, Connection::open_in_memory(alloc));
+    let found = fault_after(rt, alloc, conn, statements);
+    same_at(rt, &statements, &found, &fault);
+}
+
+// The same of a statement behind those that make both tables.
+fn tells_with_tables(rt: &impl Abort, alloc: Global, sql: &str, fault: u8) {
+    tells(rt, alloc, &[META, WRITES, sql], fault);
+}
+
+// The same where the log is the owner's.
+fn tells_of_own(rt: &impl Abort, alloc: Global, sql: &str, fault: u8) {
+    tells(rt, alloc, &[META, WRITES, OWN, sql], fault);
+}
+
+// Tables that are missing, strange or in use.
+fn tells_of_tables(rt: &impl Abort, alloc: Global) {
+    let other = "CREATE TABLE other (id INTEGER PRIMARY KEY) STRICT";
+    let unowned = "INSERT INTO writes VALUES ('x', 1, 0, NULL, NULL)";
+    tells(rt, alloc, &[META], 0);
+    tells(rt, alloc, &[META, WRITES], 0);
+    tells(rt, alloc, &[other], 19);
+    tells(rt, alloc, &["BEGIN"], 18);
+    tells(rt, alloc, &[META, OWN], 19);
+    tells(rt, alloc, &[META, WRITES, unowned], 19);
+}
+
+// Logs of an unknown form, and those from which versions were forgotten.
+fn tells_of_meta(rt: &impl Abort, alloc: Global) {
+    tells_with_tables(
+        rt,
+        alloc,
+        "INSERT INTO meta VALUES (1, 0, 'b', 'sim', 0, 0)",
+        19,
+    );
+    tells_with_tables(
+        rt,
+        alloc,
+        "INSERT INTO meta VALUES (1, 2, 'a', 'sim', 0, 0)",
+        19,
+    );
+    tells_with_tables(
+        rt,
+        alloc,
+        "INSERT INTO meta VALUES (1, 1, 'a', 'sim', 7, 0)",
+        19,
+    );
+    tells_with_tables(
+        rt,
+        alloc,
+        "INSERT INTO meta VALUES (1, 1, 'a', 'sim', 0, 7)",
+        19,
+    );
+}
+
+// Logs of another owner, and of another cluster, from which versions were forgotten too.
+fn tells_of_others(rt: &impl Abort, alloc: Global) {
+    tells_with_tables(
+        rt,
+        alloc,
+        "INSERT INTO meta VALUES (1, 1, 'b', 'sim', 7, 0)",
+        20,
+    );
+    tells_with_tables(
+        rt,
+        alloc,
+        "INSERT INTO meta VALUES (1, 1, 'a', 'other', 0, 7)",
+        20,
+    );
+}
+
+// Writes within the limits, and such that break one.
+fn tells_of_writes(rt: &impl Abort, alloc: Global) {
+    tells_of_own(
+        rt,
+        alloc,
+        "INSERT INTO writes VALUES ('x', 1099511627775, 2, 9223372036854775807, NULL), ('y', 1, 3, 1, NULL), ('z', 4, 1, NULL, 'h:1'), ('w', 2, 0, NULL, NULL)",
+        0,
+    );
+    tells_of_own(
+        rt,
+        alloc,
+        "INSERT INTO writes VALUES ('x', 1099511627776, 0, NULL, NULL)",
+        19,
+    );
+    tells_of_own(
+        rt,
+        alloc,
+        "INSERT INTO writes VALUES ('X', 1, 0, NULL, NULL)",
+        19,
+    );
+    tells_of_own(
+        rt,
+        alloc,
+        "INSERT INTO writes VALUES ('x', 1, 3, 2, NULL)",
+        19,
+    );
+}
+
+#[test]
+fn damage_is_told(rt: HostRuntime) {
+    tells_of_tables(&rt, rt.alloc());
+    tells_of_meta(&rt, rt.alloc());
+    tells_of_others(&rt, rt.alloc());
+    tells_of_writes(&rt, rt.alloc());
 }

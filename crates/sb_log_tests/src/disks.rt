@@ -4,6 +4,7 @@ use sb_types::Fault;
 use sqlite::{Alter, Connection, Files, Options};
 use sqlite_disk::{Disk, Fuse, Memory};
 use std::alloc::Global;
+use std::process::Abort;
 
 /// The calls that each file answers before it stops.
 #[derive(Clone, Copy)]
@@ -29,12 +30,18 @@ pub fn new_disks(alloc: Global) -> Files<Memory> {
 pub trait Visit {
     type Told;
 
-    fn visit<S: Alter + Drop>(self, alloc: Global, conn: Connection<S>) -> Self::Told;
+    fn visit<S: Alter + Drop>(
+        self,
+        rt: &impl Abort,
+        alloc: Global,
+        conn: Connection<S>,
+    ) -> Self::Told;
 }
 
-/// What comes of a visit to a database over both files. `StoreFailed` where it can't be opened. It is the one place that names the store: each function
+/// What comes of a visit to a database over both files. `StoreFailed` where it can't be opened. It is the one place that names the disks: each function
 /// that does is dear to prove.
 pub fn on_disks<V: Visit + Drop>(
+    rt: &impl Abort,
     alloc: Global,
     disks: &mut Files<Memory>,
     calls: Calls,
@@ -44,12 +51,24 @@ pub fn on_disks<V: Visit + Drop>(
         log: Fuse::new(Lent::new(&mut disks.log), calls.log),
         db: Fuse::new(Lent::new(&mut disks.db), calls.db),
     };
+    on_files(rt, alloc, files, visitor)
+}
+
+/// The same over files of any disk.
+fn on_files<D: Disk + Drop, V: Visit + Drop>(
+    rt: &impl Abort,
+    alloc: Global,
+    files: Files<D>,
+    visitor: V,
+) -> Result<V::Told, Fault> {
     if !files.log.may_be_used() {
         return Err(Fault::StoreFailed);
     }
     if !files.db.may_be_used() {
         return Err(Fault::StoreFailed);
     }
-    let conn = Connection::open_files(alloc, files, Options::new(7)).ok();
-    Ok(visitor.visit(alloc, conn.ok_or(Fault::StoreFailed)?))
+    match Connection::open_files(alloc, files, Options::new(7)).ok() {
+        Some(conn) => Ok(visitor.visit(rt, alloc, conn)),
+        None => Err(Fault::StoreFailed),
+    }
 }

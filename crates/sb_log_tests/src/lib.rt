@@ -12,13 +12,22 @@ mod disks;
 mod lent;
 #[cfg(test)]
 mod plain;
-
 #[cfg(test)]
-use sb_types::Fault;
+mod writes;
+
 #[cfg(test)]
 use std::fmt::Debug;
 #[cfg(test)]
 use std::process::Abort;
+
+/// The answer; where there is none, the end of the test, which names the fault.
+#[cfg(test)]
+fn got<T, E: Debug + Drop>(rt: &impl Abort, answer: Result<T, E>) -> T {
+    match answer {
+        Ok(answer) => answer,
+        Err(fault) => panic!(rt; "error: {fault:?}"),
+    }
+}
 
 /// Ends the test where the two differ. As a function it costs the prover a fifth of the macro.
 #[cfg(test)]
@@ -26,13 +35,8 @@ fn same<T: PartialEq + Debug>(rt: &impl Abort, found: &T, wanted: &T) {
     assert_eq!(rt; found, wanted);
 }
 
-/// The answers, unless memory ran out at one of them.
+/// The same of one of many cases, which is named where the two differ.
 #[cfg(test)]
-fn settled<const N: usize>(
-    answers: [Result<u64, Fault>; N],
-) -> Result<[Result<u64, Fault>; N], Fault> {
-    if answers.contains(&Err(Fault::NoMemory)) {
-        return Err(Fault::NoMemory);
-    }
-    Ok(answers)
+fn same_at<N: Debug, T: PartialEq + Debug>(rt: &impl Abort, at: &N, found: &T, wanted: &T) {
+    assert_eq!(rt; found, wanted, "{at:?}");
 }

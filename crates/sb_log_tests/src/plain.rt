@@ -1,57 +1,16 @@
 //! A log in memory: what it keeps, and what it refuses.
-use crate::{same, settled};
-use sb_log::{Committed, PlainLog, WriteLog};
+use crate::writes::{Answer, OWNER, held, is_entry, key, name, put, remove, set, settled};
+use crate::{got, same};
+use sb_log::{PlainLog, WriteLog};
 use sb_table::Table;
-use sb_types::{Entry, Fault, KEYS_MOST, Key, Name, Slot, Value};
+use sb_types::{Fault, KEYS_MOST, Key, Slot, Value};
 use std::alloc::Global;
-use std::test::Fail;
+use std::process::Abort;
 
-const NAMES: (&[u8], &[u8]) = (b"a", b"sim");
+const CLUSTER: &[u8] = b"sim";
 
-fn plain_log(alloc: Global, max_version: u64) -> Result<PlainLog, Fault> {
-    let (owner, cluster) = NAMES;
-    Ok(PlainLog::new(alloc, Name::read(owner)?, Name::read(cluster)?, max_version))
-}
-
-// The version that a put gave; 0, which is none, where the write that it names is not the one that was put.
-fn put<L: WriteLog>(log: &mut L, key: &[u8], slot: Slot) -> Result<u64, Fault> {
-    let key = Key::read(key)?;
-    let committed: Committed = log.put(&key, &slot)?;
-    let version = committed.entry().version();
-    let is_own = committed.owner().bytes() == NAMES.0;
-    let is_put = is_entry(committed.entry(), key.bytes(), version, shown(&slot));
-    Ok(if is_own && is_put { version } else { 0 })
-}
-
-fn set<L: WriteLog>(log: &mut L, key: &[u8], weight: u64) -> Result<u64, Fault> {
-    put(log, key, Slot::Set(Value::weight(weight)?))
-}
-
-fn remove<L: WriteLog>(log: &mut L, key: &[u8]) -> Result<u64, Fault> {
-    put(log, key, Slot::Removed)
-}
-
-// How many keys a log holds, and its last version.
-fn held<L: WriteLog>(alloc: Global, log: &mut L) -> Result<(usize, u64), Fault> {
-    let table = log.load(alloc)?;
-    Ok((table.len(), table.upto()))
-}
-
-// A removal, a weight or a flag.
-fn shown(slot: &Slot) -> (bool, Option<u64>, Option<bool>) {
-    match slot {
-        Slot::Set(value) => (true, value.as_weight(), value.as_flag()),
-        Slot::Removed => (false, None, None),
-    }
-}
-
-fn is_entry(
-    entry: &Entry,
-    key: &[u8],
-    version: u64,
-    slot: (bool, Option<u64>, Option<bool>),
-) -> bool {
-    entry.key().bytes() == key && entry.version() == version && shown(entry.slot()) == slot
+fn plain_log(rt: &impl Abort, alloc: Global, max_version: u64) -> PlainLog {
+    PlainLog::new(alloc, name(rt, OWNER), name(rt, CLUSTER), max_version)
 }
 
 // Whether the two entries are x, removed at 2, and y, a flag at 3.
@@ -66,147 +25,148 @@ fn are_the_last(table: &Table) -> bool {
     }
 }
 
-// x gets weight 5 and is removed, y gets a flag: what each write is answered, and whether the log then holds each key's last.
-fn each_last_write<L: WriteLog>(
-    alloc: Global,
-    log: &mut L,
-) -> Result<([Result<u64, Fault>; 3], bool), Fault> {
-    let answers = [
-        set(log, b"x", 5),
-        remove(log, b"x"),
-        put(log, b"y", Slot::Set(Value::flag(true))),
-    ];
-    Ok((settled(answers)?, are_the_last(&log.load(alloc)?)))
+// x gets weight 5 and is removed, y gets a flag: what each write is answered.
+fn three_writes<L: WriteLog>(rt: &impl Abort, log: &mut L) -> [Answer; 3] {
+    [
+        set(rt, log, b"x", 5),
+        remove(rt, log, b"x"),
+        put(rt, log, b"y", Slot::Set(Value::flag(true))),
+    ]
+}
+
+// Whether the log holds each key's last of those.
+fn holds_the_last<L: WriteLog>(rt: &impl Abort, alloc: Global, log: &mut L) -> bool {
+    are_the_last(&got(rt, log.load(alloc)))
 }
 
 // Removals of what is there and of what is not.
-fn removals<L: WriteLog>(log: &mut L) -> [Result<u64, Fault>; 6] {
+fn removals<L: WriteLog>(rt: &impl Abort, log: &mut L) -> [Answer; 6] {
     [
-        remove(log, b"x"),
-        set(log, b"x", 1),
-        remove(log, b"x"),
-        remove(log, b"x"),
-        remove(log, b"z"),
-        set(log, b"x", 7),
+        remove(rt, log, b"x"),
+        set(rt, log, b"x", 1),
+        remove(rt, log, b"x"),
+        remove(rt, log, b"x"),
+        remove(rt, log, b"z"),
+        set(rt, log, b"x", 7),
     ]
 }
 
 // With versions up to 2: the third write is refused, and an idle removal for its own reason.
-fn past_the_greatest<L: WriteLog>(log: &mut L) -> [Result<u64, Fault>; 5] {
+fn past_the_greatest<L: WriteLog>(rt: &impl Abort, log: &mut L) -> [Answer; 5] {
     [
-        set(log, b"x", 1),
-        set(log, b"x", 2),
-        set(log, b"x", 3),
-        remove(log, b"x"),
-        remove(log, b"z"),
+        set(rt, log, b"x", 1),
+        set(rt, log, b"x", 2),
+        set(rt, log, b"x", 3),
+        remove(rt, log, b"x"),
+        remove(rt, log, b"z"),
     ]
 }
 
+fn numbered_key(rt: &impl Abort, alloc: Global, at: u64) -> Key {
+    let text = got(rt, format!(in alloc; "k{at}"));
+    key(rt, text.as_bytes())
+}
+
 // How many of the writes of as many keys as there may be are answered in their turn.
-fn filled<L: WriteLog>(alloc: Global, log: &mut L) -> Result<u64, Fail> {
+fn filled<L: WriteLog>(rt: &impl Abort, alloc: Global, log: &mut L) -> u64 {
     let mut in_turn: u64 = 0;
     for at in 1..=KEYS_MOST as u64 {
-        let key = format!(in alloc; "k{at}")?;
-        if set(log, key.as_bytes(), at)? == at {
+        let key = numbered_key(rt, alloc, at);
+        if got(rt, set(rt, log, key.bytes(), at)) == at {
             in_turn = in_turn.saturating_add(1);
         }
     }
-    Ok(in_turn)
+    in_turn
 }
 
 // Behind those, with versions up to 4,097: a new key finds no room, one that is there does, and then the versions are spent.
-fn a_key_too_many<L: WriteLog>(log: &mut L) -> [Result<u64, Fault>; 5] {
+fn a_key_too_many<L: WriteLog>(rt: &impl Abort, log: &mut L) -> [Answer; 5] {
     [
-        set(log, b"new", 1),
-        remove(log, b"new"),
-        remove(log, b"k7"),
-        set(log, b"new", 1),
-        set(log, b"k7", 1),
+        set(rt, log, b"new", 1),
+        remove(rt, log, b"new"),
+        remove(rt, log, b"k7"),
+        set(rt, log, b"new", 1),
+        set(rt, log, b"k7", 1),
     ]
 }
 
 // How many of 10,000 writes over ten keys are answered in their turn.
-fn many<L: WriteLog>(log: &mut L) -> Result<u64, Fault> {
+fn many<L: WriteLog>(rt: &impl Abort, log: &mut L) -> u64 {
     let mut in_turn: u64 = 0;
     for round in 0..1000u64 {
         for key in 0..10u8 {
             let version = round * 10 + key as u64 + 1;
-            if set(log, &[b'k', b'0' + key], round)? == version {
+            if got(rt, set(rt, log, &[b'k', b'0' + key], round)) == version {
                 in_turn = in_turn.saturating_add(1);
             }
         }
     }
-    Ok(in_turn)
+    in_turn
 }
 
-const SPENT: Result<u64, Fault> = Err(Fault::VersionsSpent);
+const SPENT: Answer = Err(Fault::VersionsSpent);
 
-const FULL: Result<u64, Fault> = Err(Fault::TableFull);
+const FULL: Answer = Err(Fault::TableFull);
 
-const NOTHING: Result<u64, Fault> = Err(Fault::NothingThere);
+const NOTHING: Answer = Err(Fault::NothingThere);
 
 #[test]
-fn a_plain_log_keeps_writes(rt: HostRuntime) -> Result<(), Fail> {
+fn a_plain_log_keeps_writes(rt: HostRuntime) {
     let alloc = rt.alloc();
-    let mut log = plain_log(alloc, 9)?;
-    same(&rt, &log.owner().bytes(), &NAMES.0);
-    same(&rt, &log.cluster().bytes(), &NAMES.1);
-    same(&rt, &held(alloc, &mut log)?, &(0, 0));
-    let kept = each_last_write(alloc, &mut log)?;
-    same(&rt, &kept, &([Ok(1), Ok(2), Ok(3)], true));
-    same(&rt, &held(alloc, &mut log)?, &(2, 3));
+    let mut log = plain_log(&rt, alloc, 9);
+    same(&rt, &log.owner().bytes(), &OWNER);
+    same(&rt, &log.cluster().bytes(), &CLUSTER);
+    same(&rt, &held(&rt, alloc, &mut log), &(0, 0));
+    let answers = settled(&rt, three_writes(&rt, &mut log));
+    same(&rt, &answers, &[Ok(1), Ok(2), Ok(3)]);
+    same(&rt, &holds_the_last(&rt, alloc, &mut log), &true);
+    same(&rt, &held(&rt, alloc, &mut log), &(2, 3));
     same(&rt, &log.close(), &Ok(()));
-    Ok(())
 }
 
-// What writes were answered, and what the log then holds.
-type Answered<const N: usize> = ([Result<u64, Fault>; N], (usize, u64));
-
-fn answers_to_removals(alloc: Global) -> Result<Answered<6>, Fault> {
-    let mut log = plain_log(alloc, 9)?;
-    let answers = settled(removals(&mut log))?;
-    Ok((answers, held(alloc, &mut log)?))
+fn refuses_removals(rt: &impl Abort, alloc: Global) {
+    let mut log = plain_log(rt, alloc, 9);
+    let answers = settled(rt, removals(rt, &mut log));
+    let wanted = [NOTHING, Ok(1), Ok(2), NOTHING, NOTHING, Ok(3)];
+    same(rt, &answers, &wanted);
+    same(rt, &held(rt, alloc, &mut log), &(1, 3));
 }
 
-fn answers_past_the_greatest(alloc: Global) -> Result<Answered<5>, Fault> {
-    let mut log = plain_log(alloc, 2)?;
-    let answers = settled(past_the_greatest(&mut log))?;
-    Ok((answers, held(alloc, &mut log)?))
+fn refuses_past_the_greatest(rt: &impl Abort, alloc: Global) {
+    let mut log = plain_log(rt, alloc, 2);
+    let answers = settled(rt, past_the_greatest(rt, &mut log));
+    same(rt, &answers, &[Ok(1), Ok(2), SPENT, SPENT, NOTHING]);
+    same(rt, &held(rt, alloc, &mut log), &(1, 2));
 }
 
 // What is refused spends no version and changes nothing.
 #[test]
-fn a_plain_log_refuses(rt: HostRuntime) -> Result<(), Fail> {
-    let removed = [NOTHING, Ok(1), Ok(2), NOTHING, NOTHING, Ok(3)];
-    same(&rt, &answers_to_removals(rt.alloc())?, &(removed, (1, 3)));
-    let spent = [Ok(1), Ok(2), SPENT, SPENT, NOTHING];
-    same(
-        &rt,
-        &answers_past_the_greatest(rt.alloc())?,
-        &(spent, (1, 2)),
-    );
-    Ok(())
+fn a_plain_log_refuses(rt: HostRuntime) {
+    refuses_removals(&rt, rt.alloc());
+    refuses_past_the_greatest(&rt, rt.alloc());
 }
 
 #[test]
-fn a_plain_log_is_filled(rt: HostRuntime) -> Result<(), Fail> {
+fn a_plain_log_is_filled(rt: HostRuntime) {
     let alloc = rt.alloc();
-    let mut log = plain_log(alloc, 4097)?;
-    same(&rt, &filled(alloc, &mut log)?, &4096);
-    let refused = [FULL, NOTHING, Ok(4097), FULL, SPENT];
-    same(&rt, &settled(a_key_too_many(&mut log))?, &refused);
-    same(&rt, &held(alloc, &mut log)?, &(4096, 4097));
-    Ok(())
+    let mut log = plain_log(&rt, alloc, 4097);
+    same(&rt, &filled(&rt, alloc, &mut log), &4096);
+    let refused = settled(&rt, a_key_too_many(&rt, &mut log));
+    same(&rt, &refused, &[FULL, NOTHING, Ok(4097), FULL, SPENT]);
+    same(&rt, &held(&rt, alloc, &mut log), &(4096, 4097));
+}
+
+// How many entries a log holds after a version.
+fn count_after<L: WriteLog>(rt: &impl Abort, alloc: Global, log: &mut L, version: u64) -> usize {
+    got(rt, log.load(alloc)).after(version).count()
 }
 
 // 10,000 writes over ten keys leave ten entries, the last ten.
 #[test]
-fn a_plain_log_keeps_ten_of_many(rt: HostRuntime) -> Result<(), Fail> {
+fn a_plain_log_keeps_ten_of_many(rt: HostRuntime) {
     let alloc = rt.alloc();
-    let mut log = plain_log(alloc, 10_000)?;
-    same(&rt, &many(&mut log)?, &10_000);
-    same(&rt, &held(alloc, &mut log)?, &(10, 10_000));
-    let last = log.load(alloc)?.after(9990).count();
-    same(&rt, &last, &10);
-    Ok(())
+    let mut log = plain_log(&rt, alloc, 10_000);
+    same(&rt, &many(&rt, &mut log), &10_000);
+    same(&rt, &held(&rt, alloc, &mut log), &(10, 10_000));
+    same(&rt, &count_after(&rt, alloc, &mut log, 9990), &10);
 }

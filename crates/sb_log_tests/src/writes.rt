@@ -1,0 +1,77 @@
+//! Writes to a log, wherever it keeps them, and what it then holds.
+use crate::got;
+use sb_log::{Committed, WriteLog};
+use sb_types::{Entry, Fault, Key, Name, Slot, Value};
+use std::alloc::Global;
+use std::process::Abort;
+
+/// Whose logs these are.
+pub const OWNER: &[u8] = b"a";
+
+/// The version of a write, or why it was refused.
+pub type Answer = Result<u64, Fault>;
+
+/// Whether a slot is set, and the weight or the flag that it has.
+pub type Shown = (bool, Option<u64>, Option<bool>);
+
+pub fn name(rt: &impl Abort, text: &[u8]) -> Name {
+    got(rt, Name::read(text))
+}
+
+pub fn key(rt: &impl Abort, text: &[u8]) -> Key {
+    got(rt, Key::read(text))
+}
+
+fn shown(slot: &Slot) -> Shown {
+    match slot {
+        Slot::Set(value) => (true, value.as_weight(), value.as_flag()),
+        Slot::Removed => (false, None, None),
+    }
+}
+
+pub fn is_entry(entry: &Entry, key: &[u8], version: u64, slot: Shown) -> bool {
+    entry.key().bytes() == key && entry.version() == version && shown(entry.slot()) == slot
+}
+
+/// The version of a write; 0, which is none, where it is not the one that was put.
+fn version_of(committed: &Committed, key: &Key, slot: &Slot) -> u64 {
+    let entry = committed.entry();
+    let version = entry.version();
+    if committed.owner().bytes() != OWNER {
+        return 0;
+    }
+    if !is_entry(entry, key.bytes(), version, shown(slot)) {
+        return 0;
+    }
+    version
+}
+
+pub fn put<L: WriteLog>(rt: &impl Abort, log: &mut L, at: &[u8], slot: Slot) -> Answer {
+    let key = key(rt, at);
+    match log.put(&key, &slot) {
+        Ok(committed) => Ok(version_of(&committed, &key, &slot)),
+        Err(fault) => Err(fault),
+    }
+}
+
+pub fn set<L: WriteLog>(rt: &impl Abort, log: &mut L, at: &[u8], weight: u64) -> Answer {
+    put(rt, log, at, Slot::Set(got(rt, Value::weight(weight))))
+}
+
+pub fn remove<L: WriteLog>(rt: &impl Abort, log: &mut L, at: &[u8]) -> Answer {
+    put(rt, log, at, Slot::Removed)
+}
+
+/// The answers; where memory ran out at one of them, the end of the test.
+pub fn settled<const N: usize>(rt: &impl Abort, answers: [Answer; N]) -> [Answer; N] {
+    if answers.contains(&Err(Fault::NoMemory)) {
+        panic!(rt; "error: NoMemory");
+    }
+    answers
+}
+
+/// How many keys a log holds, and its last version.
+pub fn held<L: WriteLog>(rt: &impl Abort, alloc: Global, log: &mut L) -> (usize, u64) {
+    let table = got(rt, log.load(alloc));
+    (table.len(), table.upto())
+}
