@@ -3,291 +3,373 @@ use crate::help;
 use clap::{Arg, ArgAction, Command, value_parser};
 use std::alloc::{AllocError, Global};
 
-/// A command that is built part by part, unless memory ran out.
-type Built<'a> = Result<Command<'a>, AllocError>;
-
-/// With one more option or word.
-fn with<'a>(command: Built<'a>, arg: Arg<'a>) -> Built<'a> {
-    command?.arg(arg)
+/// How an option or a word is given.
+#[derive(Clone, Copy)]
+enum Form {
+    /// A word that has to be given.
+    Word,
+    /// Any number of words.
+    Words,
+    /// An option without a value.
+    Flag,
+    /// An option with one value that has to be given.
+    Needed,
+    /// An option with one value.
+    Value,
+    /// An option with one number.
+    Number,
+    /// An option with one number, which is this where none is given.
+    NumberOr(&'static str),
+    /// An option with one of these values, which is the second where none is given.
+    OneOf(&'static [&'static str], &'static str),
 }
 
-/// With one more command below it.
-fn with_command<'a>(command: Built<'a>, below: Built<'a>) -> Built<'a> {
-    command?.subcommand(below?)
+/// An option or a word of a command.
+#[derive(Clone, Copy)]
+struct Part {
+    name: &'static str,
+    form: Form,
+    /// What the help calls its value, where it is an option that has one.
+    value: &'static str,
+    help: &'static str,
 }
 
-/// The words of `--order`.
-const ORDERS: [&str; 2] = ["breadth", "depth"];
-
-fn sim<'a>(alloc: Global) -> Built<'a> {
-    let sim = Command::new(alloc, "sim")
-        .about("Runs a script of nodes, from standard input to standard output")
-        .after_help(help::SCRIPT);
-    let explain = Arg::new(alloc, "explain")
-        .long("explain")
-        .action(ArgAction::SetTrue)
-        .help("Says in words what the frames hold");
-    with(Ok(sim), explain)
+/// A command.
+#[derive(Clone, Copy)]
+struct Task {
+    name: &'static str,
+    about: &'static str,
+    /// What stands behind its help.
+    more: &'static str,
+    parts: &'static [Part],
 }
 
-/// The words of `--format`.
-const FORMATS: [&str; 2] = ["text", "json"];
+const CONTROL: Part = Part {
+    name: "control",
+    form: Form::Needed,
+    value: "PATH",
+    help: "The control socket of the node",
+};
+
+const KEY: Part = Part {
+    name: "KEY",
+    form: Form::Word,
+    value: "",
+    help: "What it is written under",
+};
+
+const KIND: Part = Part {
+    name: "KIND",
+    form: Form::Word,
+    value: "",
+    help: "addr, weight or flag",
+};
+
+const VALUE: Part = Part {
+    name: "VALUE",
+    form: Form::Word,
+    value: "",
+    help: "What is written",
+};
+
+const REMOVED_KEY: Part = Part {
+    name: "KEY",
+    form: Form::Word,
+    value: "",
+    help: "What was written under",
+};
+
+const OWNER: Part = Part {
+    name: "owner",
+    form: Form::Value,
+    value: "O",
+    help: "Only what this node wrote",
+};
+
+const PREFIX: Part = Part {
+    name: "prefix",
+    form: Form::Value,
+    value: "P",
+    help: "Only keys that begin so",
+};
+
+const FORMAT: Part = Part {
+    name: "format",
+    form: Form::OneOf(&["text", "json"], "text"),
+    value: "FORMAT",
+    help: "Words of a row, or a JSON object of it",
+};
+
+const EVERY: Part = Part {
+    name: "every",
+    form: Form::NumberOr("1000"),
+    value: "MS",
+    help: "How many milliseconds it waits before it asks again",
+};
+
+const COUNT: Part = Part {
+    name: "count",
+    form: Form::NumberOr("0"),
+    value: "N",
+    help: "After how many times it ends, 0 for never",
+};
+
+const LOG: Part = Part {
+    name: "log",
+    form: Form::Needed,
+    value: "FILE",
+    help: "The file of the log",
+};
+
+const LOG_NAME: Part = Part {
+    name: "name",
+    form: Form::Needed,
+    value: "N",
+    help: "The owner, as a node's name",
+};
+
+const LOG_CLUSTER: Part = Part {
+    name: "cluster",
+    form: Form::Needed,
+    value: "C",
+    help: "The name of its cluster",
+};
+
+const EXPLAIN: Part = Part {
+    name: "explain",
+    form: Form::Flag,
+    value: "",
+    help: "Says in words what the frames hold",
+};
+
+const NODE_NAME: Part = Part {
+    name: "name",
+    form: Form::Needed,
+    value: "N",
+    help: "The name of the node, under which it writes",
+};
+
+const NODE_CLUSTER: Part = Part {
+    name: "cluster",
+    form: Form::Needed,
+    value: "C",
+    help: "The name of the cluster, the same at each node",
+};
+
+const NODE_LOG: Part = Part {
+    name: "log",
+    form: Form::Needed,
+    value: "FILE",
+    help: "The file of its log",
+};
+
+const SOCK: Part = Part {
+    name: "sock",
+    form: Form::Needed,
+    value: "PATH",
+    help: "The socket that it makes for other nodes",
+};
+
+const NODE_CONTROL: Part = Part {
+    name: "control",
+    form: Form::Needed,
+    value: "PATH",
+    help: "The socket that it makes for set, del, get and watch",
+};
+
+const PEERS: Part = Part {
+    name: "PEER",
+    form: Form::Words,
+    value: "",
+    help: "The sockets of the nodes that it asks, one a round, in turn",
+};
+
+const BUDGET: Part = Part {
+    name: "budget",
+    form: Form::NumberOr("65536"),
+    value: "B",
+    help: "The most bytes of a frame, 256 to 65536",
+};
+
+const ORDER: Part = Part {
+    name: "order",
+    form: Form::OneOf(&["breadth", "depth"], "breadth"),
+    value: "ORDER",
+    help: "Which writes a frame takes first, of each owner one or of one owner all",
+};
+
+const MAX_VERSION: Part = Part {
+    name: "max-version",
+    form: Form::NumberOr("1099511627775"),
+    value: "V",
+    help: "The last version that it gives, 1 to 1099511627775",
+};
+
+const SEATS: Part = Part {
+    name: "seats",
+    form: Form::Number,
+    value: "S",
+    help: "How many threads read and write at most, up to 64 [default: workers and 2]",
+};
+
+const WORKERS: Part = Part {
+    name: "workers",
+    form: Form::NumberOr("4"),
+    value: "W",
+    help: "How many nodes it serves at once, 1 to 62",
+};
+
+const ROUNDS: Part = Part {
+    name: "rounds",
+    form: Form::NumberOr("0"),
+    value: "R",
+    help: "After how many rounds it ends, 0 for never",
+};
+
+const PAUSE: Part = Part {
+    name: "pause",
+    form: Form::NumberOr("1000"),
+    value: "MS",
+    help: "How many milliseconds it waits after a round",
+};
+
+const IDLE: Part = Part {
+    name: "idle",
+    form: Form::NumberOr("30000"),
+    value: "MS",
+    help: "After how many milliseconds without a byte it ends a connection, 0 for never",
+};
+
+const MAX_READS: Part = Part {
+    name: "max-reads",
+    form: Form::Number,
+    value: "M",
+    help: "How many reads a connection may take [default: without limit]",
+};
+
+const SERVE_TASK: Task = Task {
+    name: "serve",
+    about: "Runs a node",
+    more: help::SERVE,
+    parts: &[
+        NODE_NAME,
+        NODE_CLUSTER,
+        NODE_LOG,
+        SOCK,
+        NODE_CONTROL,
+        PEERS,
+        BUDGET,
+        ORDER,
+        MAX_VERSION,
+        SEATS,
+        WORKERS,
+        ROUNDS,
+        PAUSE,
+        IDLE,
+        MAX_READS,
+    ],
+};
+
+const SET_TASK: Task = Task {
+    name: "set",
+    about: "Has a node write a value under a key",
+    more: help::SET,
+    parts: &[CONTROL, KEY, KIND, VALUE],
+};
+
+const DEL_TASK: Task = Task {
+    name: "del",
+    about: "Has a node remove what it wrote under a key",
+    more: help::DEL,
+    parts: &[CONTROL, REMOVED_KEY],
+};
+
+const GET_TASK: Task = Task {
+    name: "get",
+    about: "Prints what a node has, its own and what it heard of others",
+    more: help::GET,
+    parts: &[CONTROL, OWNER, PREFIX, FORMAT],
+};
+
+const WATCH_TASK: Task = Task {
+    name: "watch",
+    about: "Asks a node again and again, and prints what changed",
+    more: help::WATCH,
+    parts: &[CONTROL, OWNER, PREFIX, EVERY, COUNT],
+};
+
+const LOG_TASK: Task = Task {
+    name: "log",
+    about: "Prints what the log of an owner holds",
+    more: help::LOG,
+    parts: &[LOG, LOG_NAME, LOG_CLUSTER],
+};
+
+const SIM_TASK: Task = Task {
+    name: "sim",
+    about: "Runs a script of nodes, from standard input to standard output",
+    more: help::SCRIPT,
+    parts: &[EXPLAIN],
+};
+
+/// The commands, in the order of the help.
+const TASKS: [Task; 7] = [
+    SERVE_TASK, SET_TASK, DEL_TASK, GET_TASK, WATCH_TASK, LOG_TASK, SIM_TASK,
+];
 
 /// An option with one value.
-fn option<'a>(alloc: Global, name: &'a str, value: &'a str, help: &'a str) -> Arg<'a> {
-    Arg::new(alloc, name)
-        .long(name)
-        .value_name(value)
+fn option<'a>(alloc: Global, part: &Part) -> Arg<'a> {
+    Arg::new(alloc, part.name)
+        .long(part.name)
+        .value_name(part.value)
         .action(ArgAction::Set)
-        .help(help)
-}
-
-/// An option that has to be given, with one value.
-fn needed<'a>(alloc: Global, name: &'a str, value: &'a str, help: &'a str) -> Arg<'a> {
-    option(alloc, name, value, help).required(true)
+        .help(part.help)
 }
 
 /// An option with one number.
-fn number<'a>(alloc: Global, name: &'a str, value: &'a str, help: &'a str) -> Arg<'a> {
-    option(alloc, name, value, help).value_parser(value_parser!(u64))
+fn number<'a>(alloc: Global, part: &Part) -> Arg<'a> {
+    option(alloc, part).value_parser(value_parser!(u64))
 }
 
-/// A word that has to be given.
-fn word<'a>(alloc: Global, name: &'a str, help: &'a str) -> Arg<'a> {
-    Arg::new(alloc, name)
-        .required(true)
-        .action(ArgAction::Set)
-        .help(help)
+fn word<'a>(alloc: Global, part: &Part) -> Arg<'a> {
+    Arg::new(alloc, part.name).help(part.help)
 }
 
-fn control<'a>(alloc: Global) -> Arg<'a> {
-    needed(alloc, "control", "PATH", "The control socket of the node")
+fn arg_of<'a>(alloc: Global, part: &Part) -> Arg<'a> {
+    match part.form {
+        Form::Word => word(alloc, part).required(true).action(ArgAction::Set),
+        Form::Words => word(alloc, part).num_args(0..).action(ArgAction::Append),
+        Form::Flag => word(alloc, part).long(part.name).action(ArgAction::SetTrue),
+        Form::Needed => option(alloc, part).required(true),
+        Form::Value => option(alloc, part),
+        Form::Number => number(alloc, part),
+        Form::NumberOr(default) => number(alloc, part).default_value(default),
+        Form::OneOf(values, default) => option(alloc, part)
+            .value_parser(values)
+            .default_value(default),
+    }
 }
 
-fn log<'a>(alloc: Global) -> Built<'a> {
-    let log = Command::new(alloc, "log")
-        .about("Prints what the log of an owner holds")
-        .after_help(help::LOG);
-    let log = with(Ok(log), needed(alloc, "log", "FILE", "The file of the log"));
-    let log = with(
-        log,
-        needed(alloc, "name", "N", "The owner, as a node's name"),
-    );
-    with(
-        log,
-        needed(alloc, "cluster", "C", "The name of its cluster"),
-    )
-}
-
-fn set<'a>(alloc: Global) -> Built<'a> {
-    let set = Command::new(alloc, "set")
-        .about("Has a node write a value under a key")
-        .after_help(help::SET);
-    let set = with(Ok(set), control(alloc));
-    let set = with(set, word(alloc, "KEY", "What it is written under"));
-    let set = with(set, word(alloc, "KIND", "addr, weight or flag"));
-    with(set, word(alloc, "VALUE", "What is written"))
-}
-
-fn del<'a>(alloc: Global) -> Built<'a> {
-    let del = Command::new(alloc, "del")
-        .about("Has a node remove what it wrote under a key")
-        .after_help(help::DEL);
-    let del = with(Ok(del), control(alloc));
-    with(del, word(alloc, "KEY", "What was written under"))
-}
-
-/// Which rows are asked for, and where.
-fn with_question<'a>(alloc: Global, asking: Command<'a>) -> Built<'a> {
-    let owner = option(alloc, "owner", "O", "Only what this node wrote");
-    let prefix = option(alloc, "prefix", "P", "Only keys that begin so");
-    let asking = with(Ok(asking), control(alloc));
-    let asking = with(asking, owner);
-    with(asking, prefix)
-}
-
-fn get<'a>(alloc: Global) -> Built<'a> {
-    let get = Command::new(alloc, "get")
-        .about("Prints what a node has, its own and what it heard of others")
-        .after_help(help::GET);
-    let format = option(
-        alloc,
-        "format",
-        "FORMAT",
-        "Words of a row, or a JSON object of it",
-    );
-    let format = format
-        .value_parser(FORMATS.as_slice())
-        .default_value("text");
-    with(with_question(alloc, get), format)
-}
-
-fn watch<'a>(alloc: Global) -> Built<'a> {
-    let watch = Command::new(alloc, "watch")
-        .about("Asks a node again and again, and prints what changed")
-        .after_help(help::WATCH);
-    let every = number(
-        alloc,
-        "every",
-        "MS",
-        "How many milliseconds it waits before it asks again",
-    );
-    let count = number(
-        alloc,
-        "count",
-        "N",
-        "After how many times it ends, 0 for never",
-    );
-    let watch = with(with_question(alloc, watch), every.default_value("1000"));
-    with(watch, count.default_value("0"))
-}
-
-/// Whose node it is.
-fn with_names<'a>(alloc: Global, serve: Command<'a>) -> Built<'a> {
-    let name = needed(
-        alloc,
-        "name",
-        "N",
-        "The name of the node, under which it writes",
-    );
-    let cluster = needed(
-        alloc,
-        "cluster",
-        "C",
-        "The name of the cluster, the same at each node",
-    );
-    let serve = with(Ok(serve), name);
-    with(serve, cluster)
-}
-
-/// Where a node's log and sockets are, and whom it asks.
-fn with_places<'a>(alloc: Global, serve: Built<'a>) -> Built<'a> {
-    let log = needed(alloc, "log", "FILE", "The file of its log");
-    let serve = with(serve, log);
-    let sock = needed(
-        alloc,
-        "sock",
-        "PATH",
-        "The socket that it makes for other nodes",
-    );
-    let serve = with(serve, sock);
-    let control = needed(
-        alloc,
-        "control",
-        "PATH",
-        "The socket that it makes for set, del, get and watch",
-    );
-    let serve = with(serve, control);
-    let peers = Arg::new(alloc, "PEER")
-        .num_args(0..)
-        .action(ArgAction::Append)
-        .help("The sockets of the nodes that it asks, one a round, in turn");
-    with(serve, peers)
-}
-
-/// What goes into a frame.
-fn with_frames<'a>(alloc: Global, serve: Built<'a>) -> Built<'a> {
-    let budget = number(
-        alloc,
-        "budget",
-        "B",
-        "The most bytes of a frame, 256 to 65536",
-    );
-    let serve = with(serve, budget.default_value("65536"));
-    let order = option(
-        alloc,
-        "order",
-        "ORDER",
-        "Which writes a frame takes first, of each owner one or of one owner all",
-    );
-    let order = order
-        .value_parser(ORDERS.as_slice())
-        .default_value("breadth");
-    with(serve, order)
-}
-
-/// How far its versions go, and how many threads it has.
-fn with_sizes<'a>(alloc: Global, serve: Built<'a>) -> Built<'a> {
-    let max_version = number(
-        alloc,
-        "max-version",
-        "V",
-        "The last version that it gives, 1 to 1099511627775",
-    );
-    let serve = with(serve, max_version.default_value("1099511627775"));
-    let seats = number(
-        alloc,
-        "seats",
-        "S",
-        "How many threads read and write at most, up to 64 [default: workers and 2]",
-    );
-    let serve = with(serve, seats);
-    let workers = number(
-        alloc,
-        "workers",
-        "W",
-        "How many nodes it serves at once, 1 to 62",
-    );
-    with(serve, workers.default_value("4"))
-}
-
-/// How often it asks.
-fn with_pace<'a>(alloc: Global, serve: Built<'a>) -> Built<'a> {
-    let rounds = number(
-        alloc,
-        "rounds",
-        "R",
-        "After how many rounds it ends, 0 for never",
-    );
-    let serve = with(serve, rounds.default_value("0"));
-    let pause = number(
-        alloc,
-        "pause",
-        "MS",
-        "How many milliseconds it waits after a round",
-    );
-    with(serve, pause.default_value("1000"))
-}
-
-/// How long its connections last.
-fn with_limits<'a>(alloc: Global, serve: Built<'a>) -> Built<'a> {
-    let idle = number(
-        alloc,
-        "idle",
-        "MS",
-        "After how many milliseconds without a byte it ends a connection, 0 for never",
-    );
-    let serve = with(serve, idle.default_value("30000"));
-    let max_reads = number(
-        alloc,
-        "max-reads",
-        "M",
-        "How many reads a connection may take [default: without limit]",
-    );
-    with(serve, max_reads)
-}
-
-fn serve<'a>(alloc: Global) -> Built<'a> {
-    let serve = Command::new(alloc, "serve")
-        .about("Runs a node")
-        .after_help(help::SERVE);
-    let serve = with_places(alloc, with_names(alloc, serve));
-    let serve = with_sizes(alloc, with_frames(alloc, serve));
-    with_limits(alloc, with_pace(alloc, serve))
+/// A command with its options and words.
+fn command_of<'a>(alloc: Global, task: &Task) -> Result<Command<'a>, AllocError> {
+    let mut command = Command::new(alloc, task.name)
+        .about(task.about)
+        .after_help(task.more);
+    for part in task.parts {
+        command = command.arg(arg_of(alloc, part))?;
+    }
+    Ok(command)
 }
 
 /// The command line that the program takes.
 pub(crate) fn command<'a>(alloc: Global) -> Result<Command<'a>, AllocError> {
-    let command = Command::new(alloc, "attrdir")
+    let mut command = Command::new(alloc, "attrdir")
         .version("0.1.0")
         .about("A directory of the attributes of nodes")
         .after_help(help::EXAMPLE)
         .subcommand_required(true);
-    let command = with_command(Ok(command), serve(alloc));
-    let command = with_command(command, set(alloc));
-    let command = with_command(command, del(alloc));
-    let command = with_command(command, get(alloc));
-    let command = with_command(command, watch(alloc));
-    let command = with_command(command, log(alloc));
-    with_command(command, sim(alloc))
+    for task in TASKS.iter() {
+        command = command.subcommand(command_of(alloc, task)?)?;
+    }
+    Ok(command)
 }
