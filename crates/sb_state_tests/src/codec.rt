@@ -209,11 +209,19 @@ fn is_payload(alloc: Global, message: &Message, payload: &[u8]) -> Result<bool, 
     Ok(is_written && frame_length(alloc, payload)? == Some(length(message)))
 }
 
-/// The words are the payload of the message, and of what they are read as.
+/// Whether the words are the payload of the message, and of what they are read as.
+fn has_payload(
+    rt: &impl Abort,
+    alloc: Global,
+    message: &Message,
+    words: &str,
+) -> Result<bool, Fault> {
+    let payload = read_words(rt, alloc, words)?;
+    is_payload(alloc, message, &payload)
+}
+
 fn assert_payload(rt: &impl Abort, alloc: Global, message: Message, words: &str) {
-    let payload = bytes(rt, alloc, words);
-    let is_right = got(rt, is_payload(alloc, &message, &payload));
-    holds(rt, words, is_right);
+    holds(rt, words, got(rt, has_payload(rt, alloc, &message, words)));
 }
 
 fn one_block(rt: &impl Abort, alloc: Global) -> Result<Block, Fault> {
@@ -398,12 +406,19 @@ fn block_count(message: &Message) -> Option<usize> {
     }
 }
 
+fn blocks_in(rt: &impl Abort, alloc: Global, words: &str) -> Option<usize> {
+    block_count(&read(rt, alloc, words))
+}
+
+fn said_in(rt: &impl Abort, alloc: Global, words: &str) -> Option<Said> {
+    said(&read(rt, alloc, words))
+}
+
 #[test]
 fn what_a_delta_says(rt: HostRuntime) {
-    let none = block_count(&read(&rt, rt.alloc(), NO_BLOCK));
-    let said = said(&read(&rt, rt.alloc(), ONE_ENTRY));
+    same(&rt, &blocks_in(&rt, rt.alloc(), NO_BLOCK), &Some(0));
     let entry = (name(&rt, b"a"), 0, key(&rt, b"w"), 1, Some(5));
-    same(&rt, &(none, said), &(Some(0), Some(entry)));
+    same(&rt, &said_in(&rt, rt.alloc(), ONE_ENTRY), &Some(entry));
 }
 
 fn append(rt: &impl Abort, out: &mut Vec<u8>, message: Message) {
@@ -629,9 +644,10 @@ fn payloads_of_unknown_kinds(rt: HostRuntime) {
 
 /// Whether the message of `ONE_ENTRY` has that payload.
 fn is_one_written(rt: &impl Abort, alloc: Global) -> Result<bool, Fault> {
-    let message = one_entry(rt, alloc)?;
-    let payload = read_words(rt, alloc, ONE_ENTRY)?;
-    is_payload(alloc, &message, &payload)
+    match one_entry(rt, alloc) {
+        Ok(message) => has_payload(rt, alloc, &message, ONE_ENTRY),
+        Err(fault) => Err(fault),
+    }
 }
 
 /// Whether this was found, or memory ran out.

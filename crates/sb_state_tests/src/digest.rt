@@ -95,9 +95,15 @@ fn assert_none(
     alloc: Global,
     from: Option<Name>,
     until: Option<Name>,
-    owners: &[Name],
+    owners: [Name; 2],
 ) {
-    let found = length(rt, alloc, from, until, owners);
+    let found = length(rt, alloc, from, until, &owners);
+    same(rt, &found, &Err(Fault::Malformed(2)));
+}
+
+/// Such bounds make no digest of no owner.
+fn assert_no_range(rt: &impl Abort, alloc: Global, from: Name, until: Name) {
+    let found = length(rt, alloc, Some(from), Some(until), &[]);
     same(rt, &found, &Err(Fault::Malformed(2)));
 }
 
@@ -105,13 +111,13 @@ fn assert_none(
 fn parts_that_make_no_digest(rt: HostRuntime) {
     let alloc = rt.alloc();
     let [a, b, c] = [name(&rt, b"a"), name(&rt, b"b"), name(&rt, b"c")];
-    assert_none(&rt, alloc, None, Some(b), &[a, b]);
-    assert_none(&rt, alloc, None, Some(b), &[a, c]);
-    assert_none(&rt, alloc, Some(b), None, &[a, b]);
-    assert_none(&rt, alloc, Some(b), Some(b), &[]);
-    assert_none(&rt, alloc, Some(c), Some(b), &[]);
-    assert_none(&rt, alloc, None, None, &[a, a]);
-    assert_none(&rt, alloc, None, None, &[b, a]);
+    assert_none(&rt, alloc, None, Some(b), [a, b]);
+    assert_none(&rt, alloc, None, Some(b), [a, c]);
+    assert_none(&rt, alloc, Some(b), None, [a, b]);
+    assert_no_range(&rt, alloc, b, b);
+    assert_no_range(&rt, alloc, c, b);
+    assert_none(&rt, alloc, None, None, [a, a]);
+    assert_none(&rt, alloc, None, None, [b, a]);
     let whole = length(&rt, alloc, Some(a), Some(c), &[a, b]);
     same(&rt, &whole, &Ok(28));
 }
@@ -382,96 +388,57 @@ fn a_range_begins_at_any_name(rt: HostRuntime) {
     assert_ranges(&rt, rt.alloc(), &holdings);
 }
 
-/// The digest from a name on up to another has so many pairs and this length, and tells this of the owners.
+/// Of a digest how many pairs it has, how long its payload is, and what it tells.
+type Part<'a> = (usize, u64, &'a [(bool, u64)]);
+
+/// The digest from a name on up to another is this part, and tells so of the owners.
 fn assert_part(
     rt: &impl Abort,
     alloc: Global,
     holdings: &Holdings,
     budget: u64,
+    owners: &[Name],
     bounds: (Option<&Name>, Option<&Name>),
-    size: (usize, u64),
-    told_of: (&[Name], &[(bool, u64)]),
+    part: Part<'_>,
 )
     requires least { BUDGET_LEAST ≤ budget }
     requires most { budget ≤ BUDGET_MOST }
 {
-    let ((from, until), (pairs, length), (owners, numbers)) = (bounds, size, told_of);
+    let ((from, until), (pairs, length, numbers)) = (bounds, part);
     let found = told(rt, alloc, holdings, from, budget, owners, numbers);
     let wanted = wanting(from.copied(), until.copied(), pairs, length);
-    let wanted = (wanted, true);
-    same_at(rt, &budget, &found, &wanted);
+    same_at(rt, &budget, &found, &(wanted, true));
 }
 
-fn assert_six(rt: &impl Abort, alloc: Global, holdings: &Holdings, owners: &[Name; 6]) {
-    let last = owners[5];
-    let [five, sixth, six] = [
-        [AT_0, AT_1, AT_1, AT_1, AT_1, BELOW],
-        [BELOW, BELOW, BELOW, BELOW, BELOW, AT_1],
-        [AT_0, AT_1, AT_1, AT_1, AT_1, AT_1],
-    ];
-    let five_told = (owners.as_slice(), five.as_slice());
-    let sixth_told = (owners.as_slice(), sixth.as_slice());
-    let six_told = (owners.as_slice(), six.as_slice());
-    assert_part(
-        rt,
-        alloc,
-        holdings,
-        256,
-        (None, Some(&last)),
-        (5, 243),
-        five_told,
-    );
-    assert_part(
-        rt,
-        alloc,
-        holdings,
-        256,
-        (Some(&last), None),
-        (1, 79),
-        sixth_told,
-    );
-    assert_part(
-        rt,
-        alloc,
-        holdings,
-        257,
-        (None, Some(&last)),
-        (5, 243),
-        five_told,
-    );
-    assert_part(rt, alloc, holdings, 258, (None, None), (6, 252), six_told);
+const FIVE: Part<'static> = (5, 243, &[AT_0, AT_1, AT_1, AT_1, AT_1, BELOW]);
+
+const SIXTH: Part<'static> = (1, 79, &[BELOW, BELOW, BELOW, BELOW, BELOW, AT_1]);
+
+const SIX: Part<'static> = (6, 252, &[AT_0, AT_1, AT_1, AT_1, AT_1, AT_1]);
+
+fn assert_six(rt: &impl Abort, alloc: Global, held: &Holdings, owners: &[Name], last: &Name) {
+    assert_part(rt, alloc, held, 256, owners, (None, Some(last)), FIVE);
+    assert_part(rt, alloc, held, 256, owners, (Some(last), None), SIXTH);
+    assert_part(rt, alloc, held, 257, owners, (None, Some(last)), FIVE);
+    assert_part(rt, alloc, held, 258, owners, (None, None), SIX);
 }
 
 #[test]
 fn six_owners_take_two_digests(rt: HostRuntime) {
     let owners = six_owners(&rt);
+    let last = owners[5];
     let holdings = holding(&rt, rt.alloc(), owners[0], &owners);
-    assert_six(&rt, rt.alloc(), &holdings, &owners);
+    assert_six(&rt, rt.alloc(), &holdings, &owners, &last);
 }
 
-fn assert_seven(rt: &impl Abort, alloc: Global, holdings: &Holdings, ends: &[Name; 3]) {
-    let sixth = ends[1];
-    let [front, rest] = [[AT_1, BELOW, BELOW], [BELOW, AT_1, AT_0]];
-    let front_told = (ends.as_slice(), front.as_slice());
-    let rest_told = (ends.as_slice(), rest.as_slice());
-    assert_part(
-        rt,
-        alloc,
-        holdings,
-        256,
-        (None, Some(&sixth)),
-        (5, 243),
-        front_told,
-    );
-    assert_part(
-        rt,
-        alloc,
-        holdings,
-        256,
-        (Some(&sixth), None),
-        (2, 120),
-        rest_told,
-    );
+/// What is told of the last of five owners, the sixth and the seventh.
+const FRONT: Part<'static> = (5, 243, &[AT_1, BELOW, BELOW]);
+
+const REST: Part<'static> = (2, 120, &[BELOW, AT_1, AT_0]);
+
+fn assert_seven(rt: &impl Abort, alloc: Global, held: &Holdings, ends: &[Name], sixth: &Name) {
+    assert_part(rt, alloc, held, 256, ends, (None, Some(sixth)), FRONT);
+    assert_part(rt, alloc, held, 256, ends, (Some(sixth), None), REST);
 }
 
 /// A seventh owner is met before the digest of five is cut.
@@ -480,8 +447,9 @@ fn seven_owners_take_two_digests(rt: HostRuntime) {
     let owners = six_owners(&rt);
     let seventh = long_name(&rt, b'g');
     let holdings = holding(&rt, rt.alloc(), seventh, &owners);
-    let ends = [owners[4], owners[5], seventh];
-    assert_seven(&rt, rt.alloc(), &holdings, &ends);
+    let sixth = owners[5];
+    let ends = [owners[4], sixth, seventh];
+    assert_seven(&rt, rt.alloc(), &holdings, &ends, &sixth);
 }
 
 /// A name of 32 letters for each number.
