@@ -354,20 +354,22 @@ fn the_greatest_block_is_taken(rt: HostRuntime) {
 
 /// Whether these are all owners.
 fn owners_are(holdings: &Holdings, owners: &[&[u8]]) -> bool {
-    let mut are_owners = holdings.owners().count() == owners.len();
-    for (owner, wanted) in holdings.owners().zip(owners) {
-        are_owners &= owner.bytes() == *wanted;
+    let mut are_owners = true;
+    let mut wanted = owners.iter().copied();
+    for owner in holdings.owners() {
+        are_owners &= Some(owner.bytes()) == wanted.next();
     }
-    are_owners
+    are_owners && wanted.next().is_none()
 }
 
 /// Whether from a name on these are the owners, with how far each is held.
 fn later_are(holdings: &Holdings, first: &Name, later: &[(&[u8], u64)]) -> bool {
-    let mut are_later = holdings.tables_from(Some(first)).count() == later.len();
-    for ((owner, table), wanted) in holdings.tables_from(Some(first)).zip(later) {
-        are_later &= (owner.bytes(), table.upto()) == *wanted;
+    let mut are_later = true;
+    let mut wanted = later.iter().copied();
+    for (owner, table) in holdings.tables_from(Some(first)) {
+        are_later &= Some((owner.bytes(), table.upto())) == wanted.next();
     }
-    are_later
+    are_later && wanted.next().is_none()
 }
 
 /// How many owners there are from the first on.
