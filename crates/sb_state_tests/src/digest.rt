@@ -1,110 +1,125 @@
 //! Digests that are made, refused, read and built, also of all owners that a node may hold.
 ghost use Rattle.std.specs.Prelude.{◌≤◌};
 
-use crate::{same, same_at};
+use crate::{entry, got, name, one, same, same_at};
 use sb_digest::{Digest, Pair, build};
 use sb_holdings::Holdings;
 use sb_table::Table;
-use sb_types::{BUDGET_LEAST, BUDGET_MOST, Block, Entry, Fault, Key, Name, Slot, Value};
-use std::alloc::Global;
-use std::test::Fail;
+use sb_types::{BUDGET_LEAST, BUDGET_MOST, Block, Entry, Fault, Name, Slot, Value};
+use std::alloc::{AllocError, Global};
+use std::process::Abort;
 
 /// Pairs of these owners, with the versions 1, 2 and so on.
-fn gathered(alloc: Global, owners: &[Name]) -> Result<Vec<Pair>, Fault> {
+fn gathered(alloc: Global, owners: &[Name]) -> Result<Vec<Pair>, AllocError> {
     let mut pairs = Vec::new(alloc);
-    for (version, owner) in (1..).zip(owners) {
-        pairs.push(Pair {
-            owner: *owner,
-            upto: version,
-        })?;
+    for (upto, owner) in (1..).zip(owners) {
+        let owner = *owner;
+        pairs.push(Pair { owner, upto })?;
     }
     Ok(pairs)
 }
 
 /// The pairs, gathered once more where memory was refused.
-fn pairs(alloc: Global, owners: &[Name]) -> Result<Vec<Pair>, Fault> {
+fn pairs(rt: &impl Abort, alloc: Global, owners: &[Name]) -> Vec<Pair> {
     match gathered(alloc, owners) {
-        Err(Fault::NoMemory) => gathered(alloc, owners),
-        pairs => pairs,
+        Err(AllocError) => got(rt, gathered(alloc, owners)),
+        Ok(pairs) => pairs,
     }
 }
 
-fn six_owners() -> Result<[Name; 6], Fault> {
-    Ok([
-        Name::read(&[b'a'; 32])?,
-        Name::read(&[b'b'; 32])?,
-        Name::read(&[b'c'; 32])?,
-        Name::read(&[b'd'; 32])?,
-        Name::read(&[b'e'; 32])?,
-        Name::read(&[b'f'; 32])?,
-    ])
+/// A name of 32 of this letter.
+fn long_name(rt: &impl Abort, letter: u8) -> Name {
+    name(rt, &[letter; 32])
 }
 
-/// Of a digest up to b, which tells that a is held up to 3: whether it covers a and b, how far it tells that a is held,
-/// and where the next one begins.
-fn example(alloc: Global, a: Name, b: Name) -> Result<([bool; 2], u64, Option<Name>), Fault> {
-    let pairs = vec![in alloc; Pair { owner: a, upto: 3 }]?;
-    let digest = Digest::new(true, None, Some(b), pairs)?;
-    let are_covered = [digest.covers(&a), digest.covers(&b)];
-    Ok((are_covered, digest.number(&a), digest.next_from()))
+fn six_owners(rt: &impl Abort) -> [Name; 6] {
+    [
+        long_name(rt, b'a'),
+        long_name(rt, b'b'),
+        long_name(rt, b'c'),
+        long_name(rt, b'd'),
+        long_name(rt, b'e'),
+        long_name(rt, b'f'),
+    ]
 }
 
-/// The example of `Digest`.
+/// A digest up to b, which tells that a is held up to 3.
+fn example(rt: &impl Abort, alloc: Global, a: Name, b: Name) -> Digest {
+    let pairs = one(rt, alloc, Pair { owner: a, upto: 3 });
+    got(rt, Digest::new(true, None, Some(b), pairs))
+}
+
+/// The example of `Digest`: whether it covers a and b, how far it tells that a is held, and where the next one begins.
 #[test]
-fn example_of_digest(rt: HostRuntime) -> Result<(), Fail> {
-    let [a, b] = [Name::read(b"a")?, Name::read(b"b")?];
-    let found = example(rt.alloc(), a, b)?;
+fn example_of_digest(rt: HostRuntime) {
+    let [a, b] = [name(&rt, b"a"), name(&rt, b"b")];
+    let digest = example(&rt, rt.alloc(), a, b);
+    let are_covered = [digest.covers(&a), digest.covers(&b)];
+    let found = (are_covered, digest.number(&a), digest.next_from());
     same(&rt, &found, &([true, false], 3, Some(b)));
-    Ok(())
 }
 
-/// How long the payload is of a digest of pairs of these owners, unless memory ran out.
+/// How long the payload is of a digest of pairs of these owners; where memory ran out, the end of the test.
 fn length(
+    rt: &impl Abort,
     alloc: Global,
     from: Option<Name>,
     until: Option<Name>,
     owners: &[Name],
-) -> Result<Result<u64, Fault>, Fault> {
-    match Digest::new(true, from, until, pairs(alloc, owners)?) {
-        Ok(digest) => Ok(Ok(digest.encoded_length())),
-        Err(Fault::NoMemory) => Err(Fault::NoMemory),
-        Err(fault) => Ok(Err(fault)),
+) -> Result<u64, Fault> {
+    match Digest::new(true, from, until, pairs(rt, alloc, owners)) {
+        Ok(digest) => Ok(digest.encoded_length()),
+        Err(Fault::NoMemory) => panic!(rt; "error: NoMemory"),
+        Err(fault) => Err(fault),
     }
 }
 
 #[test]
-fn lengths_of_payloads(rt: HostRuntime) -> Result<(), Fail> {
-    let owners = six_owners()?;
+fn lengths_of_payloads(rt: HostRuntime) {
+    let owners = six_owners(&rt);
     let (five, sixth) = owners.split_at(5);
     let last = owners[5];
-    for (from, until, owners, wanted) in [
-        (None, Some(last), five, 243),
-        (Some(last), None, sixth, 79),
-        (None, None, owners.as_slice(), 252),
-    ] {
-        let found = length(rt.alloc(), from, until, owners)?;
-        same(&rt, &found, &Ok(wanted));
-    }
-    Ok(())
+    let first_five = length(&rt, rt.alloc(), None, Some(last), five);
+    let from_sixth = length(&rt, rt.alloc(), Some(last), None, sixth);
+    let all = length(&rt, rt.alloc(), None, None, &owners);
+    same(
+        &rt,
+        &[first_five, from_sixth, all],
+        &[Ok(243), Ok(79), Ok(252)],
+    );
+}
+
+/// Such bounds and owners make no digest.
+fn assert_none(
+    rt: &impl Abort,
+    alloc: Global,
+    from: Option<Name>,
+    until: Option<Name>,
+    owners: [Name; 2],
+) {
+    let found = length(rt, alloc, from, until, &owners);
+    same(rt, &found, &Err(Fault::Malformed(2)));
+}
+
+/// Such bounds make no digest of no owner.
+fn assert_no_range(rt: &impl Abort, alloc: Global, from: Name, until: Name) {
+    let found = length(rt, alloc, Some(from), Some(until), &[]);
+    same(rt, &found, &Err(Fault::Malformed(2)));
 }
 
 #[test]
-fn parts_that_make_no_digest(rt: HostRuntime) -> Result<(), Fail> {
-    let [a, b, c] = [Name::read(b"a")?, Name::read(b"b")?, Name::read(b"c")?];
-    let none = Err(Fault::Malformed(2));
-    for (from, until, owners, wanted) in [
-        (None, Some(b), [a, b].as_slice(), none),
-        (None, Some(b), &[a, c], none),
-        (Some(b), None, &[a, b], none),
-        (Some(b), Some(b), &[], none),
-        (Some(c), Some(b), &[], none),
-        (None, None, &[a, a], none),
-        (None, None, &[b, a], none),
-        (Some(a), Some(c), &[a, b], Ok(28)),
-    ] {
-        same(&rt, &length(rt.alloc(), from, until, owners)?, &wanted);
-    }
-    Ok(())
+fn parts_that_make_no_digest(rt: HostRuntime) {
+    let alloc = rt.alloc();
+    let [a, b, c] = [name(&rt, b"a"), name(&rt, b"b"), name(&rt, b"c")];
+    assert_none(&rt, alloc, None, Some(b), [a, b]);
+    assert_none(&rt, alloc, None, Some(b), [a, c]);
+    assert_none(&rt, alloc, Some(b), None, [a, b]);
+    assert_no_range(&rt, alloc, b, b);
+    assert_no_range(&rt, alloc, c, b);
+    assert_none(&rt, alloc, None, None, [a, a]);
+    assert_none(&rt, alloc, None, None, [b, a]);
+    let whole = length(&rt, alloc, Some(a), Some(c), &[a, b]);
+    same(&rt, &whole, &Ok(28));
 }
 
 /// Whether a digest wants one in answer, its bounds and the next one's first name, how many pairs it has, and the length
@@ -137,61 +152,69 @@ fn are_told(digest: &Digest, owners: &[Name], wanted: &[(bool, u64)]) -> bool {
     are_right
 }
 
+/// A digest from b up to d, of pairs of b and c.
+fn of_b_and_c(rt: &impl Abort, alloc: Global, [_, b, c, d]: [Name; 4]) -> Digest {
+    let pairs = pairs(rt, alloc, &[b, c]);
+    got(rt, Digest::new(false, Some(b), Some(d), pairs))
+}
+
 #[test]
-fn a_digest_is_read(rt: HostRuntime) -> Result<(), Fail> {
-    let [a, b, c, d] = [
-        Name::read(b"a")?,
-        Name::read(b"b")?,
-        Name::read(b"c")?,
-        Name::read(b"d")?,
+fn a_digest_is_read(rt: HostRuntime) {
+    let owners = [
+        name(&rt, b"a"),
+        name(&rt, b"b"),
+        name(&rt, b"c"),
+        name(&rt, b"d"),
     ];
-    let pairs = pairs(rt.alloc(), &[b, c])?;
-    let digest = Digest::new(false, Some(b), Some(d), pairs)?;
+    let [_, b, _, d] = owners;
+    let digest = of_b_and_c(&rt, rt.alloc(), owners);
     let told = [(false, 0), (true, 1), (true, 2), (false, 0)];
-    let found = (extent(&digest), are_told(&digest, &[a, b, c, d], &told));
+    let found = (extent(&digest), are_told(&digest, &owners, &told));
     let wanted = (false, Some(b), Some(d), Some(d), 2, 28);
     same(&rt, &found, &(wanted, true));
-    Ok(())
 }
 
 /// The digest, asked for once more where memory was refused.
 fn asked(
+    rt: &impl Abort,
     alloc: Global,
     holdings: &Holdings,
     from: Option<&Name>,
+    want: bool,
     budget: u64,
-) -> Result<Digest, Fault>
+) -> Digest
     requires least { BUDGET_LEAST ≤ budget }
     requires most { budget ≤ BUDGET_MOST }
 {
-    match build(alloc, holdings, from.copied(), true, budget) {
-        Err(Fault::NoMemory) => build(alloc, holdings, from.copied(), true, budget),
-        built => built,
+    match build(alloc, holdings, from.copied(), want, budget) {
+        Err(Fault::NoMemory) => got(rt, build(alloc, holdings, from.copied(), want, budget)),
+        built => got(rt, built),
     }
 }
 
 /// The extent of the digest that is asked for, and whether it covers just those of the owners that are said, and tells
 /// that each is held so far.
 fn told(
+    rt: &impl Abort,
     alloc: Global,
     holdings: &Holdings,
     from: Option<&Name>,
     budget: u64,
     owners: &[Name],
     wanted: &[(bool, u64)],
-) -> Result<(Extent, bool), Fault>
+) -> (Extent, bool)
     requires least { BUDGET_LEAST ≤ budget }
     requires most { budget ≤ BUDGET_MOST }
 {
-    let digest = asked(alloc, holdings, from, budget)?;
-    Ok((extent(&digest), are_told(&digest, owners, wanted)))
+    let digest = asked(rt, alloc, holdings, from, true, budget);
+    (extent(&digest), are_told(&digest, owners, wanted))
 }
 
-/// What a node holds that knows of no other.
-fn alone(alloc: Global, me: Name) -> Result<Holdings, Fault> {
+/// What a node holds that knows of no other, made once more where memory was refused.
+fn alone(rt: &impl Abort, alloc: Global, me: Name) -> Holdings {
     match Holdings::new(alloc, me, Table::new(alloc)) {
-        Err(Fault::NoMemory) => Holdings::new(alloc, me, Table::new(alloc)),
-        made => made,
+        Err(Fault::NoMemory) => got(rt, Holdings::new(alloc, me, Table::new(alloc))),
+        made => got(rt, made),
     }
 }
 
@@ -204,135 +227,120 @@ fn are_pairs(digest: &Digest, wanted: &[(Name, u64)]) -> bool {
     are_equal
 }
 
-/// The extent of the digest that is asked for from a name on, and whether these are its pairs.
-fn paired(
+/// The digest that is asked for from a name on has these pairs and this length.
+fn assert_paired(
+    rt: &impl Abort,
     alloc: Global,
     holdings: &Holdings,
-    from: Option<Name>,
+    from: Option<&Name>,
     pairs: &[(Name, u64)],
-) -> Result<(Extent, bool), Fault> {
-    let digest = asked(alloc, holdings, from.as_ref(), 256)?;
-    Ok((extent(&digest), are_pairs(&digest, pairs)))
+    length: u64,
+) {
+    let digest = asked(rt, alloc, holdings, from, true, 256);
+    let found = (extent(&digest), are_pairs(&digest, pairs));
+    let wanted = wanting(from.copied(), None, pairs.len(), length);
+    same(rt, &found, &(wanted, true));
 }
 
 #[test]
-fn a_new_node_tells_of_itself(rt: HostRuntime) -> Result<(), Fail> {
+fn a_new_node_tells_of_itself(rt: HostRuntime) {
     let alloc = rt.alloc();
-    let [a, b] = [Name::read(b"a")?, Name::read(b"b")?];
-    let holdings = alone(alloc, a)?;
-    for (from, pairs, length) in [(None, [(a, 0)].as_slice(), 16), (Some(b), &[], 7)] {
-        let found = paired(alloc, &holdings, from, pairs)?;
-        let wanted = wanting(from, None, pairs.len(), length);
-        same(&rt, &found, &(wanted, true));
-    }
-    Ok(())
+    let [a, b] = [name(&rt, b"a"), name(&rt, b"b")];
+    let holdings = alone(&rt, alloc, a);
+    assert_paired(&rt, alloc, &holdings, None, &[(a, 0)], 16);
+    assert_paired(&rt, alloc, &holdings, Some(&b), &[], 7);
 }
 
 /// Takes the owner's write of a version: twice, so that it is held also where memory was refused once.
-fn hold(alloc: Global, holdings: &mut Holdings, owner: &Name, version: u64)
+fn hold(rt: &impl Abort, alloc: Global, holdings: &mut Holdings, owner: &Name, version: u64)
     requires { 1 ≤ version }
 {
-    for _ in 0..2 {
-        if let Ok(block) = write(alloc, owner, version) {
-            holdings.apply_block(&block);
-        }
+    hold_once(rt, alloc, holdings, owner, version);
+    hold_once(rt, alloc, holdings, owner, version);
+}
+
+fn hold_once(rt: &impl Abort, alloc: Global, holdings: &mut Holdings, owner: &Name, version: u64)
+    requires { 1 ≤ version }
+{
+    if let Ok(block) = write(rt, alloc, owner, version) {
+        holdings.apply_block(&block);
     }
 }
 
 /// A block of the owner's write of this version.
-fn write(alloc: Global, owner: &Name, version: u64) -> Result<Block, Fault>
+fn write(rt: &impl Abort, alloc: Global, owner: &Name, version: u64) -> Result<Block, Fault>
     requires { 1 ≤ version }
 {
-    let entries = vec![in alloc; flag(version)?]?;
+    let entries = vec![in alloc; flag(rt, version)]?;
     Block::new(*owner, version - 1, entries)
 }
 
-fn flag(version: u64) -> Result<Entry, Fault>
+fn flag(rt: &impl Abort, version: u64) -> Entry
     requires { 1 ≤ version }
 {
-    let slot = Slot::Set(Value::flag(true));
-    Ok(Entry::new(Key::read(b"up")?, version, slot))
+    entry(rt, b"up", version, Slot::Set(Value::flag(true)))
+}
+
+/// Once a's write of a version has come, a digest has so many pairs and this length, and tells how far a is held.
+fn assert_held(
+    rt: &impl Abort,
+    alloc: Global,
+    holdings: &mut Holdings,
+    version: u64,
+    wanted: (usize, u64, u64),
+)
+    requires { 1 ≤ version }
+{
+    let (pairs, length, held) = wanted;
+    let [a, b] = [name(rt, b"a"), name(rt, b"b")];
+    hold(rt, alloc, holdings, &a, version);
+    let (owners, numbers) = ([a, b], [(true, held), (true, 0)]);
+    let found = told(rt, alloc, holdings, None, 256, &owners, &numbers);
+    same(rt, &found, &(wanting(None, None, pairs, length), true));
 }
 
 #[test]
-fn a_digest_tells_how_far_blocks_are_held(rt: HostRuntime) -> Result<(), Fail> {
+fn a_digest_tells_how_far_blocks_are_held(rt: HostRuntime) {
     let alloc = rt.alloc();
-    let [a, b] = [Name::read(b"a")?, Name::read(b"b")?];
-    let mut holdings = alone(alloc, b)?;
+    let mut holdings = alone(&rt, alloc, name(&rt, b"b"));
     // A gap first.
-    for (version, pairs, length, held) in [
-        (3, 1, 16, 0),
-        (1, 2, 26, 1),
-        (2, 2, 26, 2),
-        (3, 2, 26, 3),
-    ] {
-        hold(alloc, &mut holdings, &a, version);
-        let numbers = [(true, held), (true, 0)];
-        let found = told(alloc, &holdings, None, 256, &[a, b], &numbers)?;
-        same(&rt, &found, &(wanting(None, None, pairs, length), true));
-    }
-    Ok(())
+    assert_held(&rt, alloc, &mut holdings, 3, (1, 16, 0));
+    assert_held(&rt, alloc, &mut holdings, 1, (2, 26, 1));
+    assert_held(&rt, alloc, &mut holdings, 2, (2, 26, 2));
+    assert_held(&rt, alloc, &mut holdings, 3, (2, 26, 3));
 }
 
 /// What b holds that wrote one flag, entered once more where memory was refused.
-fn with_a_write(alloc: Global, b: Name) -> Result<Holdings, Fault> {
-    let mut holdings = alone(alloc, b)?;
-    let write = flag(1)?;
-    let again = flag(1)?;
-    if holdings.push_own(write).is_err() {
-        holdings.push_own(again)?;
+fn with_a_write(rt: &impl Abort, alloc: Global, b: Name) -> Holdings {
+    let mut holdings = alone(rt, alloc, b);
+    if holdings.push_own(flag(rt, 1)).is_err() {
+        got(rt, holdings.push_own(flag(rt, 1)));
     }
-    Ok(holdings)
-}
-
-/// The digest that answers another, asked for once more where memory was refused.
-fn answer(alloc: Global, holdings: &Holdings) -> Result<Digest, Fault> {
-    match build(alloc, holdings, None, false, 256) {
-        Err(Fault::NoMemory) => build(alloc, holdings, None, false, 256),
-        built => built,
-    }
+    holdings
 }
 
 #[test]
-fn a_node_with_a_write_answers(rt: HostRuntime) -> Result<(), Fail> {
-    let b = Name::read(b"b")?;
-    let holdings = with_a_write(rt.alloc(), b)?;
-    let digest = answer(rt.alloc(), &holdings)?;
+fn a_node_with_a_write_answers(rt: HostRuntime) {
+    let b = name(&rt, b"b");
+    let holdings = with_a_write(&rt, rt.alloc(), b);
+    let digest = asked(&rt, rt.alloc(), &holdings, None, false, 256);
     let found = (extent(&digest), are_pairs(&digest, &[(b, 1)]));
     same(&rt, &found, &((false, None, None, None, 1, 16), true));
-    Ok(())
 }
 
-/// What a holds beside the first write of each of these.
-fn holding(alloc: Global, me: Name, owners: &[Name]) -> Result<Holdings, Fault> {
-    let mut holdings = alone(alloc, me)?;
+/// What a node holds beside the first write of each of these.
+fn holding(rt: &impl Abort, alloc: Global, me: Name, owners: &[Name]) -> Holdings {
+    let mut holdings = alone(rt, alloc, me);
     for owner in owners {
-        hold(alloc, &mut holdings, owner, 1);
+        hold(rt, alloc, &mut holdings, owner, 1);
     }
-    Ok(holdings)
+    holdings
 }
 
 /// What a holds beside the first writes of b and c.
-fn a_beside_b_and_c(alloc: Global) -> Result<Holdings, Fault> {
-    let owners = [Name::read(b"b")?, Name::read(b"c")?];
-    holding(alloc, Name::read(b"a")?, &owners)
-}
-
-/// The extent of the digest that begins at a name, and whether it tells this of a, ab, b, c and ca.
-fn told_from(
-    alloc: Global,
-    holdings: &Holdings,
-    from: &Name,
-    numbers: &[(bool, u64)],
-) -> Result<(Extent, bool), Fault> {
-    let owners = [
-        Name::read(b"a")?,
-        Name::read(b"ab")?,
-        Name::read(b"b")?,
-        Name::read(b"c")?,
-        Name::read(b"ca")?,
-    ];
-    told(alloc, holdings, Some(from), 256, &owners, numbers)
+fn a_beside_b_and_c(rt: &impl Abort, alloc: Global) -> Holdings {
+    let owners = [name(rt, b"b"), name(rt, b"c")];
+    holding(rt, alloc, name(rt, b"a"), &owners)
 }
 
 const BELOW: (bool, u64) = (false, 0);
@@ -341,128 +349,197 @@ const AT_0: (bool, u64) = (true, 0);
 
 const AT_1: (bool, u64) = (true, 1);
 
-/// Where a digest begins, how many pairs it has and how long its payload is, and what it tells.
-const RANGES: [(&[u8], usize, u64, [(bool, u64); 5]); 3] = [
-    (b"ab", 2, 28, [BELOW, AT_0, AT_1, AT_1, AT_0]),
-    (b"c", 1, 17, [BELOW, BELOW, BELOW, AT_1, AT_0]),
-    (b"ca", 0, 8, [BELOW, BELOW, BELOW, BELOW, AT_0]),
-];
-
-#[test]
-fn a_range_begins_at_any_name(rt: HostRuntime) -> Result<(), Fail> {
-    let holdings = a_beside_b_and_c(rt.alloc())?;
-    for (from, pairs, length, numbers) in RANGES.iter() {
-        let from = Name::read(from)?;
-        let found = told_from(rt.alloc(), &holdings, &from, numbers)?;
-        let wanted = (wanting(Some(from), None, *pairs, *length), true);
-        same_at(&rt, &from, &found, &wanted);
-    }
-    Ok(())
+/// The digest that begins at a name has so many pairs and this length, and tells this of a, ab, b, c and ca.
+fn assert_range(
+    rt: &impl Abort,
+    alloc: Global,
+    holdings: &Holdings,
+    from: &[u8],
+    (pairs, length): (usize, u64),
+    numbers: [(bool, u64); 5],
+) {
+    let owners = [
+        name(rt, b"a"),
+        name(rt, b"ab"),
+        name(rt, b"b"),
+        name(rt, b"c"),
+        name(rt, b"ca"),
+    ];
+    let from = name(rt, from);
+    let found = told(rt, alloc, holdings, Some(&from), 256, &owners, &numbers);
+    let wanted = (wanting(Some(from), None, pairs, length), true);
+    same_at(rt, &from, &found, &wanted);
 }
 
-/// The owner at a place, none behind the last.
-fn name_at(owners: &[Name], place: usize) -> Option<Name> {
-    owners.get(place).copied()
+fn assert_ranges(rt: &impl Abort, alloc: Global, holdings: &Holdings) {
+    let [from_ab, from_c, from_ca] = [
+        [BELOW, AT_0, AT_1, AT_1, AT_0],
+        [BELOW, BELOW, BELOW, AT_1, AT_0],
+        [BELOW, BELOW, BELOW, BELOW, AT_0],
+    ];
+    assert_range(rt, alloc, holdings, b"ab", (2, 28), from_ab);
+    assert_range(rt, alloc, holdings, b"c", (1, 17), from_c);
+    assert_range(rt, alloc, holdings, b"ca", (0, 8), from_ca);
 }
 
 #[test]
-fn six_owners_take_two_digests(rt: HostRuntime) -> Result<(), Fail> {
-    let alloc = rt.alloc();
-    let owners = six_owners()?;
-    let holdings = holding(alloc, owners[0], &owners)?;
-    let (out, new) = ((false, 0), (true, 0));
-    let held = (true, 1);
-    for (budget, from, until, pairs, length, numbers) in [
-        (256, 9, 5, 5, 243, [new, held, held, held, held, out]),
-        (256, 5, 9, 1, 79, [out, out, out, out, out, held]),
-        (257, 9, 5, 5, 243, [new, held, held, held, held, out]),
-        (258, 9, 9, 6, 252, [new, held, held, held, held, held]),
-    ] {
-        let (from, until) = (name_at(&owners, from), name_at(&owners, until));
-        let found = told(alloc, &holdings, from.as_ref(), budget, &owners, &numbers)?;
-        let wanted = (wanting(from, until, pairs, length), true);
-        same_at(&rt, &budget, &found, &wanted);
-    }
-    Ok(())
+fn a_range_begins_at_any_name(rt: HostRuntime) {
+    let holdings = a_beside_b_and_c(&rt, rt.alloc());
+    assert_ranges(&rt, rt.alloc(), &holdings);
+}
+
+/// Of a digest how many pairs it has, how long its payload is, and what it tells.
+type Part<'a> = (usize, u64, &'a [(bool, u64)]);
+
+/// The digest from a name on up to another is this part, and tells so of the owners.
+fn assert_part(
+    rt: &impl Abort,
+    alloc: Global,
+    holdings: &Holdings,
+    budget: u64,
+    owners: &[Name],
+    bounds: (Option<&Name>, Option<&Name>),
+    part: Part<'_>,
+)
+    requires least { BUDGET_LEAST ≤ budget }
+    requires most { budget ≤ BUDGET_MOST }
+{
+    let ((from, until), (pairs, length, numbers)) = (bounds, part);
+    let found = told(rt, alloc, holdings, from, budget, owners, numbers);
+    let wanted = wanting(from.copied(), until.copied(), pairs, length);
+    same_at(rt, &budget, &found, &(wanted, true));
+}
+
+const FIVE: Part<'static> = (5, 243, &[AT_0, AT_1, AT_1, AT_1, AT_1, BELOW]);
+
+const SIXTH: Part<'static> = (1, 79, &[BELOW, BELOW, BELOW, BELOW, BELOW, AT_1]);
+
+const SIX: Part<'static> = (6, 252, &[AT_0, AT_1, AT_1, AT_1, AT_1, AT_1]);
+
+fn assert_six(rt: &impl Abort, alloc: Global, held: &Holdings, owners: &[Name], last: &Name) {
+    assert_part(rt, alloc, held, 256, owners, (None, Some(last)), FIVE);
+    assert_part(rt, alloc, held, 256, owners, (Some(last), None), SIXTH);
+    assert_part(rt, alloc, held, 257, owners, (None, Some(last)), FIVE);
+    assert_part(rt, alloc, held, 258, owners, (None, None), SIX);
+}
+
+#[test]
+fn six_owners_take_two_digests(rt: HostRuntime) {
+    let owners = six_owners(&rt);
+    let last = owners[5];
+    let holdings = holding(&rt, rt.alloc(), owners[0], &owners);
+    assert_six(&rt, rt.alloc(), &holdings, &owners, &last);
+}
+
+/// What is told of the last of five owners, the sixth and the seventh.
+const FRONT: Part<'static> = (5, 243, &[AT_1, BELOW, BELOW]);
+
+const REST: Part<'static> = (2, 120, &[BELOW, AT_1, AT_0]);
+
+fn assert_seven(rt: &impl Abort, alloc: Global, held: &Holdings, ends: &[Name], sixth: &Name) {
+    assert_part(rt, alloc, held, 256, ends, (None, Some(sixth)), FRONT);
+    assert_part(rt, alloc, held, 256, ends, (Some(sixth), None), REST);
 }
 
 /// A seventh owner is met before the digest of five is cut.
 #[test]
-fn seven_owners_take_two_digests(rt: HostRuntime) -> Result<(), Fail> {
-    let alloc = rt.alloc();
-    let owners = six_owners()?;
-    let seventh = Name::read(&[b'g'; 32])?;
-    let holdings = holding(alloc, seventh, &owners)?;
-    let ends = [owners[4], owners[5], seventh];
-    for (from, until, pairs, length, numbers) in [
-        (9, 5, 5, 243, [(true, 1), (false, 0), (false, 0)]),
-        (5, 9, 2, 120, [(false, 0), (true, 1), (true, 0)]),
-    ] {
-        let (from, until) = (name_at(&owners, from), name_at(&owners, until));
-        let found = told(alloc, &holdings, from.as_ref(), 256, &ends, &numbers)?;
-        same(&rt, &found, &(wanting(from, until, pairs, length), true));
-    }
-    Ok(())
+fn seven_owners_take_two_digests(rt: HostRuntime) {
+    let owners = six_owners(&rt);
+    let seventh = long_name(&rt, b'g');
+    let holdings = holding(&rt, rt.alloc(), seventh, &owners);
+    let sixth = owners[5];
+    let ends = [owners[4], sixth, seventh];
+    assert_seven(&rt, rt.alloc(), &holdings, &ends, &sixth);
 }
 
 /// A name of 32 letters for each number.
-fn numbered_name(number: u64) -> Result<Name, Fault> {
+fn numbered_name(rt: &impl Abort, number: u64) -> Name {
     let mut text = [b'a'; 32];
     let mut rest = number;
     for letter in text.iter_mut() {
         *letter = b'a' + (rest % 26) as u8;
         rest /= 26;
     }
-    Name::read(&text)
+    name(rt, &text)
+}
+
+fn hold_first(rt: &impl Abort, alloc: Global, holdings: &mut Holdings, owner: Name) {
+    let block = got(rt, write(rt, alloc, &owner, 1));
+    holdings.apply_block(&block);
 }
 
 /// As many owners as a node may hold, the own name without a write and each other with one.
-fn holdings_of_all_owners(alloc: Global) -> Result<Holdings, Fault> {
-    let mut holdings = alone(alloc, numbered_name(0)?)?;
+fn holdings_of_all_owners(rt: &impl Abort, alloc: Global) -> Holdings {
+    let mut holdings = alone(rt, alloc, numbered_name(rt, 0));
     for number in 1..1_024 {
-        holdings.apply_block(&write(alloc, &numbered_name(number)?, 1)?);
+        hold_first(rt, alloc, &mut holdings, numbered_name(rt, number));
     }
-    Ok(holdings)
+    holdings
+}
+
+/// At the greatest budget one digest has all 1,024 owners.
+fn assert_all(rt: &impl Abort, alloc: Global, holdings: &Holdings) {
+    let ends = [numbered_name(rt, 0), numbered_name(rt, 1_023)];
+    let numbers = [AT_0, AT_1];
+    let all = told(rt, alloc, holdings, None, 65_536, &ends, &numbers);
+    same(rt, &all, &(wanting(None, None, 1_024, 41_990), true));
+}
+
+/// At the least budget the digest of this turn, from a name on, has a few owners. Answers where the next one begins.
+fn assert_turn(
+    rt: &impl Abort,
+    alloc: Global,
+    holdings: &Holdings,
+    from: Option<&Name>,
+    turn: u32,
+) -> Option<Name> {
+    let digest = asked(rt, alloc, holdings, from, true, 256);
+    let (pairs, length) = match turn {
+        0 => (5, 243),
+        255 => (3, 161),
+        _ => (4, 234),
+    };
+    let wanted = wanting(from.copied(), digest.until(), pairs, length);
+    same_at(rt, &turn, &extent(&digest), &wanted);
+    digest.next_from()
+}
+
+fn assert_turns(rt: &impl Abort, alloc: Global, holdings: &Holdings) {
+    let mut from = None;
+    for turn in 0..256_u32 {
+        let next_from = assert_turn(rt, alloc, holdings, from.as_ref(), turn);
+        from = next_from;
+    }
+    same(rt, &from, &None);
 }
 
 /// At the greatest budget one digest has all 1,024 owners, at the least one each has a few.
 #[test]
-fn all_owners_are_told_of(rt: HostRuntime) -> Result<(), Fail> {
-    let alloc = rt.alloc();
-    let ends = [numbered_name(0)?, numbered_name(1_023)?];
-    let numbers = [(true, 0), (true, 1)];
-    let holdings = holdings_of_all_owners(alloc)?;
-    let all = told(alloc, &holdings, None, 65_536, &ends, &numbers)?;
-    same(&rt, &all, &(wanting(None, None, 1_024, 41_990), true));
-    let mut from = None;
-    for turn in 0..256_u32 {
-        let (found, _) = told(alloc, &holdings, from.as_ref(), 256, &[], &[])?;
-        let (pairs, length) = match turn {
-            0 => (5, 243),
-            255 => (3, 161),
-            _ => (4, 234),
-        };
-        let (_, _, until, next_from, _, _) = found;
-        same_at(&rt, &turn, &found, &wanting(from, until, pairs, length));
-        from = next_from;
+fn all_owners_are_told_of(rt: HostRuntime) {
+    let holdings = holdings_of_all_owners(&rt, rt.alloc());
+    assert_all(&rt, rt.alloc(), &holdings);
+    assert_turns(&rt, rt.alloc(), &holdings);
+}
+
+/// The extent of a digest of at most 256 bytes, unless memory ran out.
+fn built(alloc: Global, holdings: &Holdings, from: Name, want: bool) -> Result<Extent, Fault> {
+    match build(alloc, holdings, Some(from), want, 256) {
+        Ok(digest) => Ok(extent(&digest)),
+        Err(fault) => Err(fault),
     }
-    same(&rt, &from, &None);
-    Ok(())
 }
 
 /// The extents of the digest of a new node from its own name on, and of the one from z on, behind all names.
 fn first_and_rest(alloc: Global, me: Name, z: Name) -> Result<(Extent, Extent), Fault> {
     let holdings = Holdings::new(alloc, me, Table::new(alloc))?;
-    let first = build(alloc, &holdings, Some(me), true, 256)?;
-    let rest = build(alloc, &holdings, Some(z), false, 256)?;
-    Ok((extent(&first), extent(&rest)))
+    let first = built(alloc, &holdings, me, true)?;
+    Ok((first, built(alloc, &holdings, z, false)?))
 }
 
 /// Whichever allocation is refused, a digest is whole, or there is none and the fault tells why.
 #[test]
-fn a_digest_is_whole_or_not_there(rt: HostRuntime) -> Result<(), Fail> {
-    let a = Name::read(b"a")?;
-    let z = Name::read(b"z")?;
+fn a_digest_is_whole_or_not_there(rt: HostRuntime) {
+    let [a, z] = [name(&rt, b"a"), name(&rt, b"z")];
     match first_and_rest(rt.alloc(), a, z) {
         Ok(found) => {
             let first = wanting(Some(a), None, 1, 17);
@@ -471,5 +548,4 @@ fn a_digest_is_whole_or_not_there(rt: HostRuntime) -> Result<(), Fail> {
         }
         Err(fault) => same(&rt, &fault, &Fault::NoMemory),
     }
-    Ok(())
 }

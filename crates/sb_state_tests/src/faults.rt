@@ -1,7 +1,8 @@
 //! The number and the text of each fault, as they are printed.
-use crate::same;
+use crate::{got, same};
 use sb_types::Fault;
-use std::test::Fail;
+use std::alloc::Global;
+use std::process::Abort;
 
 const FAULTS: &[(Fault, u8, &str)] = &[
     (
@@ -113,11 +114,15 @@ const FAULTS: &[(Fault, u8, &str)] = &[
     (Fault::OutOfTurn(2), 31, "the next own write has version 2"),
 ];
 
+/// The fault has this number and prints this text.
+fn assert_told(rt: &impl Abort, alloc: Global, fault: Fault, number: u8, text: &str) {
+    let printed = got(rt, fault.to_string(alloc));
+    same(rt, &(fault.number(), printed.as_str()), &(number, text));
+}
+
 #[test]
-fn each_fault_has_its_number_and_its_text(rt: HostRuntime) -> Result<(), Fail> {
+fn each_fault_has_its_number_and_its_text(rt: HostRuntime) {
     for (fault, number, text) in FAULTS.iter() {
-        let printed = fault.to_string(rt.alloc())?;
-        same(&rt, &(fault.number(), printed.as_str()), &(*number, *text));
+        assert_told(&rt, rt.alloc(), *fault, *number, text);
     }
-    Ok(())
 }

@@ -1,26 +1,21 @@
-//! Holdings: what is taken of blocks and of own writes, by tables of cases, also at the greatest sizes.
+//! Holdings: what is taken of blocks and of own writes, case by case, also at the greatest sizes.
+ghost use Rattle.std.specs.Prelude.{◌≤◌};
 
-use crate::{holds, same, same_at};
+use crate::{entry, got, holds, key, name, one, push, same, same_at, settled, weighing};
 use sb_holdings::{BlockEnd, Holdings, Report};
 use sb_table::Table;
-use sb_types::{Block, Entry, Fault, Key, Name, Slot, Value};
+use sb_types::{Block, Entry, Fault, Name, Slot, Value};
 use std::alloc::Global;
 use std::process::Abort;
-use std::test::Fail;
 
 /// A write of at least version 1: its version as a weight, or a removal.
-fn entry(key: &[u8], version: u64, is_set: bool) -> Result<Entry, Fault> {
-    let slot = if is_set {
-        Slot::Set(Value::weight(version)?)
+fn write(rt: &impl Abort, text: &[u8], version: u64, is_set: bool) -> Entry {
+    let at_least_1 = version.max(1);
+    if is_set {
+        weighing(rt, text, at_least_1, version)
     } else {
-        Slot::Removed
-    };
-    Ok(Entry::new(Key::read(key)?, version.max(1), slot))
-}
-
-fn address(alloc: Global, key: &[u8], version: u64) -> Result<Entry, Fault> {
-    let slot = Slot::Set(Value::addr(alloc, b"10.0.0.1")?);
-    Ok(Entry::new(Key::read(key)?, version.max(1), slot))
+        entry(rt, text, at_least_1, Slot::Removed)
+    }
 }
 
 /// The version and the weight under a key.
@@ -41,67 +36,40 @@ fn text_of(number: u64) -> [u8; 4] {
     text
 }
 
-/// So many entries from a version on, each under a key of its own, numbered from this one.
-fn entries(alloc: Global, first: u32, count: u32, key: u32) -> Result<Vec<Entry>, Fault> {
+/// A write of a version under the key of a number.
+fn numbered(rt: &impl Abort, version: u64, key: u64) -> Entry {
+    write(rt, &text_of(key), version, true)
+}
+
+/// What a block begins after, the first of its versions, how many they are, and the number of its first key: each key is
+/// another.
+type Run = (u64, u32, u32, u32);
+
+fn entries(rt: &impl Abort, alloc: Global, run: Run) -> Vec<Entry> {
+    let (_, first, count, key) = run;
     let mut entries = Vec::new(alloc);
     for index in 0..count {
-        let text = text_of(u64::from(key) + u64::from(index));
-        entries.push(entry(&text, u64::from(first) + u64::from(index), true)?)?;
+        let place = u64::from(index);
+        let entry = numbered(rt, u64::from(first) + place, u64::from(key) + place);
+        push(rt, &mut entries, entry);
     }
-    Ok(entries)
+    entries
 }
 
-/// How a block ended, unless memory ran out.
-fn applied(holdings: &mut Holdings, block: &Block) -> Result<BlockEnd, Fault> {
+fn block_of(rt: &impl Abort, alloc: Global, owner: Name, run: Run) -> Block {
+    got(rt, Block::new(owner, run.0, entries(rt, alloc, run)))
+}
+
+/// How a block ends; where memory ran out, the end of the test.
+fn applied(rt: &impl Abort, holdings: &mut Holdings, block: &Block) -> BlockEnd {
     match holdings.apply_block(block) {
-        BlockEnd::NoMemory(_) => Err(Fault::NoMemory),
-        end => Ok(end),
+        BlockEnd::NoMemory(_) => panic!(rt; "error: NoMemory"),
+        end => end,
     }
 }
 
-fn holdings_of(alloc: Global, me: &[u8]) -> Result<Holdings, Fault> {
-    Holdings::new(alloc, Name::read(me)?, Table::new(alloc))
-}
-
-/// A block of entries as `entries` makes them, how it ends, and what is then held of its owner.
-#[derive(Clone, Copy)]
-struct Case {
-    after: u64,
-    first: u32,
-    count: u32,
-    key: u32,
-    end: BlockEnd,
-    upto: u64,
-    keys: Option<usize>,
-}
-
-/// The case of a block whose keys are numbered as its versions are.
-fn block_case(
-    after: u64,
-    first: u32,
-    count: u32,
-    end: BlockEnd,
-    upto: u64,
-    keys: Option<usize>,
-) -> Case {
-    Case {
-        after,
-        first,
-        count,
-        key: first,
-        end,
-        upto,
-        keys,
-    }
-}
-
-/// The case of a block that is taken whole, whose keys are numbered from 1 on and are all that there may be.
-fn again(after: u64, first: u32, count: u32, upto: u64) -> Case {
-    let end = BlockEnd::Taken(u64::from(count));
-    Case {
-        key: 1,
-        ..block_case(after, first, count, end, upto, Some(4_096))
-    }
+fn holdings_of(rt: &impl Abort, alloc: Global, me: &[u8]) -> Holdings {
+    got(rt, Holdings::new(alloc, name(rt, me), Table::new(alloc)))
 }
 
 /// How many keys an owner has, where it is known.
@@ -112,38 +80,32 @@ fn key_count(holdings: &Holdings, owner: &Name) -> Option<usize> {
     }
 }
 
-/// How the case's block ends, how far the owner is then held, and how many keys it has where it is known.
-fn take(
-    alloc: Global,
-    holdings: &mut Holdings,
-    owner: &Name,
-    case: &Case,
-) -> Result<(BlockEnd, u64, Option<usize>), Fault> {
-    let entries = entries(alloc, case.first, case.count, case.key)?;
-    let end = applied(holdings, &Block::new(*owner, case.after, entries)?)?;
-    Ok((end, holdings.upto(owner), key_count(holdings, owner)))
+/// How a block ends, how far its owner is then held, and how many keys it has where it is known.
+type Ending = (BlockEnd, u64, Option<usize>);
+
+fn take(rt: &impl Abort, holdings: &mut Holdings, block: &Block) -> Ending {
+    let end = applied(rt, holdings, block);
+    let owner = *block.owner();
+    (end, holdings.upto(&owner), key_count(holdings, &owner))
 }
 
-/// The blocks of an owner come in turn, and each is ended and held as its case says.
-fn assert_cases(
+/// A block of an owner comes, and ends so.
+fn assert_takes(
     rt: &impl Abort,
     alloc: Global,
     holdings: &mut Holdings,
     owner: &[u8],
-    cases: &[Case],
-) -> Result<(), Fault> {
-    let owner = Name::read(owner)?;
-    for case in cases {
-        let held = take(alloc, holdings, &owner, case)?;
-        same_at(rt, &case.first, &held, &(case.end, case.upto, case.keys));
-    }
-    Ok(())
+    run: Run,
+    wanted: Ending,
+) {
+    let block = block_of(rt, alloc, name(rt, owner), run);
+    same_at(rt, &run, &take(rt, holdings, &block), &wanted);
 }
 
 /// A block of a's first write, a flag.
-fn first_flag(alloc: Global, a: Name) -> Result<Block, Fault> {
-    let entry = Entry::new(Key::read(b"up")?, 1, Slot::Set(Value::flag(true)));
-    Block::new(a, 0, vec![in alloc; entry]?)
+fn first_flag(rt: &impl Abort, alloc: Global) -> Block {
+    let flag = entry(rt, b"up", 1, Slot::Set(Value::flag(true)));
+    got(rt, Block::new(name(rt, b"a"), 0, one(rt, alloc, flag)))
 }
 
 /// How a block ends, how it ends once more, and how far its owner is then held.
@@ -155,75 +117,87 @@ fn ends_of(holdings: &mut Holdings, block: &Block) -> (BlockEnd, BlockEnd, u64) 
 
 /// The example of `Holdings`.
 #[test]
-fn example_of_holdings(rt: HostRuntime) -> Result<(), Fail> {
-    let alloc = rt.alloc();
-    let block = first_flag(alloc, Name::read(b"a")?)?;
-    let mut holdings = holdings_of(alloc, b"b")?;
+fn example_of_holdings(rt: HostRuntime) {
+    let block = first_flag(&rt, rt.alloc());
+    let mut holdings = holdings_of(&rt, rt.alloc(), b"b");
     let found = ends_of(&mut holdings, &block);
     same(&rt, &found, &(BlockEnd::Taken(1), BlockEnd::Stale, 1));
-    Ok(())
+}
+
+/// What b holds where five blocks of a come in turn.
+fn assert_joins(rt: &impl Abort, alloc: Global, held: &mut Holdings) {
+    let (gap, stale) = ((BlockEnd::Gap, 0, None), (BlockEnd::Stale, 3, Some(3)));
+    let [two, third] = [
+        (BlockEnd::Taken(2), 2, Some(2)),
+        (BlockEnd::Taken(1), 3, Some(3)),
+    ];
+    let fourth = (BlockEnd::Taken(1), 4, Some(4));
+    assert_takes(rt, alloc, held, b"a", (2, 3, 1, 3), gap);
+    assert_takes(rt, alloc, held, b"a", (0, 1, 2, 1), two);
+    assert_takes(rt, alloc, held, b"a", (2, 3, 1, 3), third);
+    assert_takes(rt, alloc, held, b"a", (2, 3, 1, 3), stale);
+    assert_takes(rt, alloc, held, b"a", (0, 1, 4, 1), fourth);
 }
 
 #[test]
-fn blocks_join_on_or_change_nothing(rt: HostRuntime) -> Result<(), Fail> {
-    let alloc = rt.alloc();
-    let mut holdings = holdings_of(alloc, b"b")?;
-    let cases = [
-        block_case(2, 3, 1, BlockEnd::Gap, 0, None),
-        block_case(0, 1, 2, BlockEnd::Taken(2), 2, Some(2)),
-        block_case(2, 3, 1, BlockEnd::Taken(1), 3, Some(3)),
-        block_case(2, 3, 1, BlockEnd::Stale, 3, Some(3)),
-        block_case(0, 1, 4, BlockEnd::Taken(1), 4, Some(4)),
-    ];
-    assert_cases(&rt, alloc, &mut holdings, b"a", &cases)?;
-    Ok(())
+fn blocks_join_on_or_change_nothing(rt: HostRuntime) {
+    let mut holdings = holdings_of(&rt, rt.alloc(), b"b");
+    assert_joins(&rt, rt.alloc(), &mut holdings);
 }
 
-/// A block of one entry.
-fn block_of(alloc: Global, owner: Name, after: u64, entry: Entry) -> Result<Block, Fault> {
-    Block::new(owner, after, vec![in alloc; entry]?)
+/// How the block of one write ends, and what is then shown of its owner under x and y.
+fn take_entry(rt: &impl Abort, holdings: &mut Holdings, block: &Block) -> (BlockEnd, Shown, Shown) {
+    let end = applied(rt, holdings, block);
+    let owner = *block.owner();
+    let x = weight_at(holdings, &owner, b"x");
+    (end, x, weight_at(holdings, &owner, b"y"))
 }
 
-/// How the block of a write ends, and what is then shown of its owner under x and y.
-fn take_entry(
+/// An owner's write, of version 2 where it comes after 0 and else of version 3, is taken so.
+fn assert_shown(
+    rt: &impl Abort,
     alloc: Global,
     holdings: &mut Holdings,
-    owner: &[u8],
-    after: u64,
-    write: (&[u8], u64, bool),
-) -> Result<(BlockEnd, Shown, Shown), Fault> {
-    let owner = Name::read(owner)?;
-    let (key, version, is_set) = write;
-    let block = block_of(alloc, owner, after, entry(key, version, is_set)?)?;
-    let end = applied(holdings, &block)?;
-    let [x, y] = [
-        weight_at(holdings, &owner, b"x"),
-        weight_at(holdings, &owner, b"y"),
-    ];
-    Ok((end, x, y))
+    write: (&[u8], &[u8], u64, bool),
+    wanted: (BlockEnd, Shown, Shown),
+) {
+    let (owner, key, after, is_set) = write;
+    let version = if after == 0 { 2 } else { 3 };
+    let entries = one(rt, alloc, self::write(rt, key, version, is_set));
+    let block = got(rt, Block::new(name(rt, owner), after, entries));
+    same(rt, &take_entry(rt, holdings, &block), &wanted);
+}
+
+/// What n holds where writes of a and b come in turn.
+fn assert_all_shown(rt: &impl Abort, alloc: Global, held: &mut Holdings) {
+    let taken = BlockEnd::Taken(1);
+    let (second, third, gone) = (Some((2, Some(2))), Some((3, Some(3))), Some((3, None)));
+    let [a, b, x, y] = [b"a".as_slice(), b"b", b"x", b"y"];
+    assert_shown(
+        rt,
+        alloc,
+        held,
+        (a, y, 1, true),
+        (BlockEnd::Gap, None, None),
+    );
+    assert_shown(rt, alloc, held, (a, y, 0, true), (taken, None, second));
+    assert_shown(rt, alloc, held, (a, x, 2, true), (taken, third, second));
+    assert_shown(rt, alloc, held, (b, x, 0, true), (taken, second, None));
+    assert_shown(rt, alloc, held, (b, x, 2, false), (taken, gone, None));
+    assert_shown(
+        rt,
+        alloc,
+        held,
+        (b, x, 0, true),
+        (BlockEnd::Stale, gone, None),
+    );
 }
 
 /// Superseded versions may be missing, and removals leave markers.
 #[test]
-fn keys_show_their_last_write(rt: HostRuntime) -> Result<(), Fail> {
-    let alloc = rt.alloc();
-    let mut holdings = holdings_of(alloc, b"n")?;
-    let taken = BlockEnd::Taken(1);
-    let (second, third, gone) = (Some((2, Some(2))), Some((3, Some(3))), Some((3, None)));
-    for (owner, key, after, is_set, end, x, y) in [
-        (b"a", b"y", 1, true, BlockEnd::Gap, None, None),
-        (b"a", b"y", 0, true, taken, None, second),
-        (b"a", b"x", 2, true, taken, third, second),
-        (b"b", b"x", 0, true, taken, second, None),
-        (b"b", b"x", 2, false, taken, gone, None),
-        (b"b", b"x", 0, true, BlockEnd::Stale, gone, None),
-    ] {
-        let version = if after == 0 { 2 } else { 3 };
-        let write = (key.as_slice(), version, is_set);
-        let found = take_entry(alloc, &mut holdings, owner, after, write)?;
-        same(&rt, &found, &(end, x, y));
-    }
-    Ok(())
+fn keys_show_their_last_write(rt: HostRuntime) {
+    let mut holdings = holdings_of(&rt, rt.alloc(), b"n");
+    assert_all_shown(&rt, rt.alloc(), &mut holdings);
 }
 
 /// An own write is answered so, and leaves this of its key.
@@ -233,13 +207,13 @@ fn assert_own(
     write: (&[u8], u64, bool),
     answer: Result<(), Fault>,
     shown: Shown,
-) -> Result<(), Fault> {
+) {
     let (key, version, is_set) = write;
-    let found = crate::settled(holdings.push_own(entry(key, version, is_set)?))?;
+    let entry = self::write(rt, key, version, is_set);
+    let found = settled(rt, holdings.push_own(entry));
     let me = *holdings.me();
     let held = (found, weight_at(holdings, &me, key));
     same_at(rt, &version, &held, &(answer, shown));
-    Ok(())
 }
 
 /// The own name, how far it is held, and how many keys it has.
@@ -248,161 +222,221 @@ fn own(holdings: &Holdings) -> (Name, u64, Option<usize>) {
     (me, holdings.upto(&me), key_count(holdings, &me))
 }
 
-#[test]
-fn own_writes_come_in_turn(rt: HostRuntime) -> Result<(), Fail> {
-    let alloc = rt.alloc();
-    let me = Name::read(b"m")?;
-    let mut holdings = holdings_of(alloc, b"m")?;
-    same(&rt, &own(&holdings), &(me, 0, Some(0)));
+/// What m holds where its own writes come in turn, and blocks of its name.
+fn assert_in_turn(rt: &impl Abort, alloc: Global, held: &mut Holdings) {
+    same(rt, &own(held), &(name(rt, b"m"), 0, Some(0)));
     let first = Some((1, Some(1)));
-    for (version, answer, shown) in [
-        (2, Err(Fault::OutOfTurn(1)), None),
-        (1, Ok(()), first),
-        (1, Err(Fault::OutOfTurn(2)), first),
-    ] {
-        assert_own(&rt, &mut holdings, (b"w", version, true), answer, shown)?;
-    }
-    let cases = [
-        block_case(0, 1, 1, BlockEnd::Own, 1, Some(1)),
-        block_case(1, 2, 1, BlockEnd::OwnAhead(2), 1, Some(1)),
-    ];
-    assert_cases(&rt, alloc, &mut holdings, b"m", &cases)?;
-    Ok(())
+    assert_own(rt, held, (b"w", 2, true), Err(Fault::OutOfTurn(1)), None);
+    assert_own(rt, held, (b"w", 1, true), Ok(()), first);
+    assert_own(rt, held, (b"w", 1, true), Err(Fault::OutOfTurn(2)), first);
+    let ahead = (BlockEnd::OwnAhead(2), 1, Some(1));
+    assert_takes(
+        rt,
+        alloc,
+        held,
+        b"m",
+        (0, 1, 1, 1),
+        (BlockEnd::Own, 1, Some(1)),
+    );
+    assert_takes(rt, alloc, held, b"m", (1, 2, 1, 2), ahead);
 }
 
 #[test]
-fn own_keys_have_a_limit(rt: HostRuntime) -> Result<(), Fail> {
-    let mut holdings = holdings_of(rt.alloc(), b"m")?;
-    for version in 1..4_097 {
-        holdings.push_own(entry(&text_of(version), version, true)?)?;
+fn own_writes_come_in_turn(rt: HostRuntime) {
+    let mut holdings = holdings_of(&rt, rt.alloc(), b"m");
+    assert_in_turn(&rt, rt.alloc(), &mut holdings);
+}
+
+/// Enters own writes of these versions, each under a key of its own.
+fn write_own(rt: &impl Abort, holdings: &mut Holdings, count: u64) {
+    for version in 1..=count {
+        got(rt, holdings.push_own(numbered(rt, version, version)));
     }
-    let first = text_of(1);
+}
+
+#[test]
+fn own_keys_have_a_limit(rt: HostRuntime) {
+    let mut holdings = holdings_of(&rt, rt.alloc(), b"m");
+    write_own(&rt, &mut holdings, 4_096);
     let full = Err(Fault::TableFull);
-    assert_own(&rt, &mut holdings, (b"w", 4_097, true), full, None)?;
-    let gone = Some((4_097, None));
-    assert_own(&rt, &mut holdings, (&first, 4_097, false), Ok(()), gone)?;
-    Ok(())
+    assert_own(&rt, &mut holdings, (b"w", 4_097, true), full, None);
+    let (first, gone) = (text_of(1), Some((4_097, None)));
+    assert_own(&rt, &mut holdings, (&first, 4_097, false), Ok(()), gone);
+}
+
+/// Each owner of a number below this one has its first write taken.
+fn fill_owners(rt: &impl Abort, alloc: Global, holdings: &mut Holdings, count: u64) {
+    let first = (BlockEnd::Taken(1), 1, Some(1));
+    for number in 1..count {
+        assert_takes(rt, alloc, holdings, &text_of(number), (0, 1, 1, 1), first);
+    }
+}
+
+/// What is then refused of another owner, and taken of the first.
+fn assert_no_room(rt: &impl Abort, alloc: Global, held: &mut Holdings) {
+    let (full, gap) = ((BlockEnd::OwnersFull, 0, None), (BlockEnd::Gap, 0, None));
+    let second = (BlockEnd::Taken(1), 2, Some(2));
+    assert_takes(rt, alloc, held, b"zz", (0, 1, 1, 1), full);
+    assert_takes(rt, alloc, held, b"zz", (2, 3, 1, 3), gap);
+    same(rt, &held.owners().count(), &1_024);
+    assert_takes(rt, alloc, held, &text_of(1), (1, 2, 1, 2), second);
 }
 
 #[test]
-fn owners_have_a_limit(rt: HostRuntime) -> Result<(), Fail> {
-    let alloc = rt.alloc();
-    let mut holdings = holdings_of(alloc, b"m")?;
-    let first = [block_case(0, 1, 1, BlockEnd::Taken(1), 1, Some(1))];
-    for number in 1..1_024 {
-        assert_cases(&rt, alloc, &mut holdings, &text_of(number), &first)?;
-    }
-    let refused = [
-        block_case(0, 1, 1, BlockEnd::OwnersFull, 0, None),
-        block_case(2, 3, 1, BlockEnd::Gap, 0, None),
+fn owners_have_a_limit(rt: HostRuntime) {
+    let mut holdings = holdings_of(&rt, rt.alloc(), b"m");
+    fill_owners(&rt, rt.alloc(), &mut holdings, 1_024);
+    assert_no_room(&rt, rt.alloc(), &mut holdings);
+}
+
+/// What b holds where all keys of a come, and then come again.
+fn assert_filled(rt: &impl Abort, alloc: Global, held: &mut Holdings) {
+    let all = Some(4_096);
+    let most = (BlockEnd::Taken(4_094), 4_094, Some(4_094));
+    let [two_more, none_more] = [
+        (BlockEnd::TooManyKeys(2), 4_096, all),
+        (BlockEnd::TooManyKeys(0), 4_096, all),
     ];
-    assert_cases(&rt, alloc, &mut holdings, b"zz", &refused)?;
-    same(&rt, &holdings.owners().count(), &1_024);
-    let second = [block_case(1, 2, 1, BlockEnd::Taken(1), 2, Some(2))];
-    assert_cases(&rt, alloc, &mut holdings, &text_of(1), &second)?;
-    Ok(())
+    let whole = BlockEnd::Taken(4_096);
+    assert_takes(rt, alloc, held, b"a", (0, 1, 4_094, 1), most);
+    assert_takes(rt, alloc, held, b"a", (4_092, 4_093, 7, 4_093), two_more);
+    assert_takes(rt, alloc, held, b"a", (4_092, 4_093, 7, 4_093), none_more);
+    let two_again = (BlockEnd::Taken(2), 4_098, all);
+    assert_takes(rt, alloc, held, b"a", (4_096, 4_097, 2, 1), two_again);
+    assert_takes(
+        rt,
+        alloc,
+        held,
+        b"a",
+        (4_098, 4_099, 4_096, 1),
+        (whole, 8_194, all),
+    );
+    assert_takes(
+        rt,
+        alloc,
+        held,
+        b"a",
+        (8_194, 8_195, 4_096, 1),
+        (whole, 12_290, all),
+    );
+}
+
+/// The key of a number shows this version.
+fn assert_version(rt: &impl Abort, holdings: &Holdings, number: u64, version: u64) {
+    let shown = weight_at(holdings, &name(rt, b"a"), &text_of(number));
+    same_at(rt, &number, &shown, &Some((version, Some(version))));
 }
 
 /// All 4,096 keys of one owner, written again up to versions past 10,000.
 #[test]
-fn keys_have_a_limit(rt: HostRuntime) -> Result<(), Fail> {
-    let alloc = rt.alloc();
-    let a = Name::read(b"a")?;
-    let mut holdings = holdings_of(alloc, b"b")?;
-    let all = Some(4_096);
-    let cases = [
-        block_case(0, 1, 4_094, BlockEnd::Taken(4_094), 4_094, Some(4_094)),
-        block_case(4_092, 4_093, 7, BlockEnd::TooManyKeys(2), 4_096, all),
-        block_case(4_092, 4_093, 7, BlockEnd::TooManyKeys(0), 4_096, all),
-        again(4_096, 4_097, 2, 4_098),
-        again(4_098, 4_099, 4_096, 8_194),
-        again(8_194, 8_195, 4_096, 12_290),
-    ];
-    assert_cases(&rt, alloc, &mut holdings, b"a", &cases)?;
-    for (key, version) in [(1, 8_195), (2, 8_196), (4_096, 12_290)] {
-        let shown = weight_at(&holdings, &a, &text_of(key));
-        same_at(&rt, &key, &shown, &Some((version, Some(version))));
-    }
-    Ok(())
+fn keys_have_a_limit(rt: HostRuntime) {
+    let mut holdings = holdings_of(&rt, rt.alloc(), b"b");
+    assert_filled(&rt, rt.alloc(), &mut holdings);
+    assert_version(&rt, &holdings, 1, 8_195);
+    assert_version(&rt, &holdings, 2, 8_196);
+    assert_version(&rt, &holdings, 4_096, 12_290);
 }
 
 /// A block may have 65,535 entries: of new keys 4,096 are taken.
 #[test]
-fn the_greatest_block_is_taken(rt: HostRuntime) -> Result<(), Fail> {
-    let alloc = rt.alloc();
-    let mut holdings = holdings_of(alloc, b"b")?;
-    let greatest = [block_case(
-        0,
-        1,
-        65_535,
-        BlockEnd::TooManyKeys(4_096),
-        4_096,
-        Some(4_096),
-    )];
-    assert_cases(&rt, alloc, &mut holdings, b"a", &greatest)?;
-    Ok(())
+fn the_greatest_block_is_taken(rt: HostRuntime) {
+    let mut holdings = holdings_of(&rt, rt.alloc(), b"b");
+    let greatest = (BlockEnd::TooManyKeys(4_096), 4_096, Some(4_096));
+    assert_takes(
+        &rt,
+        rt.alloc(),
+        &mut holdings,
+        b"a",
+        (0, 1, 65_535, 1),
+        greatest,
+    );
 }
 
-/// Whether these are the owners, and from a name on these the owners with how far each is held; and how many there are
-/// from the first on.
-fn owners_are(
-    holdings: &Holdings,
-    owners: &[&[u8]],
-    first: &Name,
-    later: &[(&[u8], u64)],
-) -> (bool, bool, u64) {
+/// Whether these are all owners.
+fn owners_are(holdings: &Holdings, owners: &[&[u8]]) -> bool {
     let mut are_owners = true;
     let mut wanted = owners.iter().copied();
     for owner in holdings.owners() {
         are_owners &= Some(owner.bytes()) == wanted.next();
     }
+    are_owners && wanted.next().is_none()
+}
+
+/// Whether from a name on these are the owners, with how far each is held.
+fn later_are(holdings: &Holdings, first: &Name, later: &[(&[u8], u64)]) -> bool {
     let mut are_later = true;
-    let mut wanted_later = later.iter().copied();
+    let mut wanted = later.iter().copied();
     for (owner, table) in holdings.tables_from(Some(first)) {
-        are_later &= Some((owner.bytes(), table.upto())) == wanted_later.next();
+        are_later &= Some((owner.bytes(), table.upto())) == wanted.next();
     }
+    are_later && wanted.next().is_none()
+}
+
+/// How many owners there are from the first on.
+fn owner_count(holdings: &Holdings) -> u64 {
     let mut count = 0_u64;
     for _ in holdings.tables_from(None) {
         count = count.wrapping_add(1);
     }
-    let are_all = (wanted.next().is_none(), wanted_later.next().is_none());
-    (are_owners && are_all.0, are_later && are_all.1, count)
+    count
+}
+
+/// Each has its first two writes taken.
+fn take_three(rt: &impl Abort, alloc: Global, holdings: &mut Holdings) {
+    let two = (BlockEnd::Taken(2), 2, Some(2));
+    for owner in [b"z".as_slice(), b"a", b"ma"] {
+        assert_takes(rt, alloc, holdings, owner, (0, 1, 2, 1), two);
+    }
 }
 
 #[test]
-fn owners_come_in_the_order_of_their_names(rt: HostRuntime) -> Result<(), Fail> {
-    let first = Name::read(b"ma")?;
-    let mut holdings = holdings_of(rt.alloc(), b"m")?;
-    let two = [block_case(0, 1, 2, BlockEnd::Taken(2), 2, Some(2))];
-    for name in [b"z".as_slice(), b"a", b"ma"] {
-        assert_cases(&rt, rt.alloc(), &mut holdings, name, &two)?;
-    }
-    let owners = [b"a".as_slice(), b"m", b"ma", b"z"];
-    let later = [(b"ma".as_slice(), 2), (b"z", 2)];
-    let found = owners_are(&holdings, &owners, &first, &later);
+fn owners_come_in_the_order_of_their_names(rt: HostRuntime) {
+    let mut holdings = holdings_of(&rt, rt.alloc(), b"m");
+    take_three(&rt, rt.alloc(), &mut holdings);
+    let are_owners = owners_are(&holdings, &[b"a", b"m", b"ma", b"z"]);
+    let are_later = later_are(&holdings, &name(&rt, b"ma"), &[(b"ma", 2), (b"z", 2)]);
+    let found = (are_owners, are_later, owner_count(&holdings));
     same(&rt, &found, &(true, true, 4));
-    Ok(())
 }
 
-/// How three entries of a new owner end, what is then held, and how they end the next time.
-fn taken_twice(alloc: Global) -> Result<(BlockEnd, u64, BlockEnd, u64), Fault> {
-    let a = Name::read(b"a")?;
-    let mut holdings = holdings_of(alloc, b"b")?;
+fn address(rt: &impl Abort, alloc: Global, text: &[u8], version: u64) -> Result<Entry, Fault>
+    requires { 1 ≤ version }
+{
+    let slot = Slot::Set(Value::addr(alloc, b"10.0.0.1")?);
+    Ok(Entry::new(key(rt, text), version, slot))
+}
+
+/// Three entries of a new owner, unless memory ran out.
+fn three_addresses(rt: &impl Abort, alloc: Global) -> Result<Vec<Entry>, Fault> {
     let mut entries = Vec::new(alloc);
-    for (key, version) in [(b"x", 1), (b"y", 2), (b"z", 3)] {
-        entries.push(address(alloc, key, version)?)?;
-    }
-    let block = Block::new(a, 0, entries)?;
-    let end = holdings.apply_block(&block);
-    let held = holdings.upto(&a);
-    let again = holdings.apply_block(&block);
-    Ok((end, held, again, holdings.upto(&a)))
+    entries.push(address(rt, alloc, b"x", 1)?)?;
+    entries.push(address(rt, alloc, b"y", 2)?)?;
+    entries.push(address(rt, alloc, b"z", 3)?)?;
+    Ok(entries)
+}
+
+fn three_writes(rt: &impl Abort, alloc: Global) -> Result<Block, Fault> {
+    Block::new(name(rt, b"a"), 0, three_addresses(rt, alloc)?)
+}
+
+/// How a block ends, what is then held, how it ends the next time, and what is held then.
+fn taken_twice(holdings: &mut Holdings, block: &Block) -> (BlockEnd, u64, BlockEnd, u64) {
+    let end = holdings.apply_block(block);
+    let held = holdings.upto(block.owner());
+    let again = holdings.apply_block(block);
+    (end, held, again, holdings.upto(block.owner()))
+}
+
+/// The same of three entries of a new owner, unless memory ran out before they came.
+fn three_taken(rt: &impl Abort, alloc: Global) -> Result<(BlockEnd, u64, BlockEnd, u64), Fault> {
+    let mut holdings = Holdings::new(alloc, name(rt, b"b"), Table::new(alloc))?;
+    Ok(taken_twice(&mut holdings, &three_writes(rt, alloc)?))
 }
 
 /// Whichever allocation is refused, a front is kept, and the rest is taken the next time.
 #[test]
-fn a_front_stays_where_memory_runs_out(rt: HostRuntime) -> Result<(), Fail> {
-    match taken_twice(rt.alloc()) {
+fn a_front_stays_where_memory_runs_out(rt: HostRuntime) {
+    match three_taken(&rt, rt.alloc()) {
         Ok((end, held, again, upto)) => {
             let rest = 3_u64.saturating_sub(held);
             let ends = if rest == 0 {
@@ -414,46 +448,47 @@ fn a_front_stays_where_memory_runs_out(rt: HostRuntime) -> Result<(), Fail> {
         }
         Err(fault) => same(&rt, &fault, &Fault::NoMemory),
     }
-    Ok(())
 }
 
 /// Whether an own write is entered, or leaves what was held for want of memory.
-fn is_pushed_or_left(holdings: &mut Holdings, key: &[u8]) -> Result<bool, Fault> {
+fn is_pushed_or_left(rt: &impl Abort, holdings: &mut Holdings, key: &[u8]) -> bool {
     let me = *holdings.me();
     let before = holdings.upto(&me);
     let next = before.saturating_add(1);
-    let answer = holdings.push_own(entry(key, next, true)?);
+    let answer = holdings.push_own(write(rt, key, next, true));
     let found = (holdings.upto(&me), weight_at(holdings, &me, key));
-    Ok(match answer {
+    match answer {
         Ok(()) => found.0 == next,
         Err(fault) => fault == Fault::NoMemory && found == (before, None),
-    })
+    }
 }
 
 /// Whether each of nine own writes is entered, or leaves what was held for want of memory.
-fn are_pushed_or_left(alloc: Global) -> Result<bool, Fault> {
-    let mut holdings = holdings_of(alloc, b"m")?;
+fn are_pushed_or_left(rt: &impl Abort, holdings: &mut Holdings) -> bool {
     let mut are_right = true;
     for number in 1..10 {
-        are_right &= is_pushed_or_left(&mut holdings, &text_of(number))?;
+        are_right &= is_pushed_or_left(rt, holdings, &text_of(number));
     }
-    Ok(are_right)
+    are_right
 }
 
 /// Whichever allocation is refused.
 #[test]
 fn own_writes_without_memory_change_nothing(rt: HostRuntime) {
-    match are_pushed_or_left(rt.alloc()) {
-        Ok(are_right) => holds(&rt, "each is entered or left", are_right),
+    let alloc = rt.alloc();
+    match Holdings::new(alloc, name(&rt, b"m"), Table::new(alloc)) {
+        Ok(mut holdings) => {
+            let are_right = are_pushed_or_left(&rt, &mut holdings);
+            holds(&rt, "each is entered or left", are_right);
+        }
         Err(fault) => same(&rt, &fault, &Fault::NoMemory),
     }
 }
 
 #[test]
-fn reports_list_the_ends(rt: HostRuntime) -> Result<(), Fail> {
+fn reports_list_the_ends(rt: HostRuntime) {
     let ends = [BlockEnd::Taken(2), BlockEnd::Gap];
-    let report = Report::new(Vec::from_array(rt.alloc(), ends)?);
+    let report = Report::new(got(&rt, Vec::from_array(rt.alloc(), ends)));
     let read = (report.len(), report.is_empty(), report.ends());
     same(&rt, &read, &(2, false, ends.as_slice()));
-    Ok(())
 }

@@ -2,6 +2,8 @@
 //! with tests is proved twice: with them and without.
 #![tactic(auto)]
 
+ghost use Rattle.std.specs.Prelude.{◌≤◌};
+
 #[cfg(test)]
 mod codec;
 #[cfg(test)]
@@ -16,7 +18,9 @@ mod table;
 mod types;
 
 #[cfg(test)]
-use sb_types::Fault;
+use sb_types::{Entry, Fault, Key, Name, Slot, Value};
+#[cfg(test)]
+use std::alloc::Global;
 #[cfg(test)]
 use std::fmt::Debug;
 #[cfg(test)]
@@ -40,11 +44,74 @@ fn holds(rt: &impl Abort, what: &str, holds: bool) {
     assert!(rt; holds, "{what}");
 }
 
-/// The answer, unless memory ran out.
+/// The answer; where there is none, the end of the test, which names the fault.
 #[cfg(test)]
-fn settled<T: Copy>(answer: Result<T, Fault>) -> Result<Result<T, Fault>, Fault> {
+fn got<T, E: Debug + Drop>(rt: &impl Abort, answer: Result<T, E>) -> T {
     match answer {
-        Err(Fault::NoMemory) => Err(Fault::NoMemory),
-        answer => Ok(answer),
+        Ok(answer) => answer,
+        Err(fault) => panic!(rt; "error: {fault:?}"),
     }
+}
+
+/// What is answered, a fault too; where memory ran out, the end of the test.
+#[cfg(test)]
+fn settled<T: Copy>(rt: &impl Abort, answer: Result<T, Fault>) -> Result<T, Fault> {
+    match answer {
+        Err(Fault::NoMemory) => panic!(rt; "error: NoMemory"),
+        answer => answer,
+    }
+}
+
+/// The fault that is answered, if any; where memory ran out, the end of the test.
+#[cfg(test)]
+fn refusal<T: Drop>(rt: &impl Abort, answer: Result<T, Fault>) -> Option<Fault> {
+    match answer.err() {
+        Some(Fault::NoMemory) => panic!(rt; "error: NoMemory"),
+        fault => fault,
+    }
+}
+
+#[cfg(test)]
+fn name(rt: &impl Abort, text: &[u8]) -> Name {
+    got(rt, Name::read(text))
+}
+
+#[cfg(test)]
+fn key(rt: &impl Abort, text: &[u8]) -> Key {
+    got(rt, Key::read(text))
+}
+
+#[cfg(test)]
+fn weight(rt: &impl Abort, weight: u64) -> Value {
+    got(rt, Value::weight(weight))
+}
+
+/// A write of this key.
+#[cfg(test)]
+fn entry(rt: &impl Abort, text: &[u8], version: u64, slot: Slot) -> Entry
+    requires { 1 ≤ version }
+{
+    Entry::new(key(rt, text), version, slot)
+}
+
+/// A write that sets this key to a weight.
+#[cfg(test)]
+fn weighing(rt: &impl Abort, text: &[u8], version: u64, number: u64) -> Entry
+    requires { 1 ≤ version }
+{
+    entry(rt, text, version, Slot::Set(weight(rt, number)))
+}
+
+/// A vector of one item.
+#[cfg(test)]
+fn one<T: Drop>(rt: &impl Abort, alloc: Global, item: T) -> Vec<T> {
+    let mut items = Vec::new(alloc);
+    push(rt, &mut items, item);
+    items
+}
+
+/// Adds an item to the vector.
+#[cfg(test)]
+fn push<T: Drop>(rt: &impl Abort, items: &mut Vec<T>, item: T) {
+    got(rt, items.push(item));
 }

@@ -3,14 +3,14 @@ ghost use Rattle.std.specs.Prelude.{◌≡◌, IfOk, map};
 ghost use Rattle.sb_types.specs.Runs.{above};
 ghost use Rattle.sb_table.specs.Order.{by_key, under};
 
-use crate::{same, same_at};
+use crate::{entry, got, key, same, same_at, settled, weighing};
 use sb_table::Table;
-use sb_types::{Entry, Fault, KEYS_MOST, Key, Prefix, Slot, Value};
+use sb_types::{Entry, Fault, KEYS_MOST, Key, Prefix, Slot};
 use std::alloc::{AllocError, Global};
-use std::test::Fail;
+use std::process::Abort;
 
 /// Enters what is of a later version than all that the table has, and refuses all else as `OutOfTurn`.
-fn push(table: &mut Table, entry: Entry) -> Result<(), Fault> {
+fn enter(table: &mut Table, entry: Entry) -> Result<(), Fault> {
     let version = entry.version();
     if version <= table.upto() {
         return Err(Fault::OutOfTurn(version));
@@ -18,28 +18,18 @@ fn push(table: &mut Table, entry: Entry) -> Result<(), Fault> {
     table.push(entry)
 }
 
-/// A write of at least version 1: a weight, or a removal where there is none.
-fn write(table: &mut Table, key: &[u8], version: u64, weight: Option<u64>) -> Result<(), Fault> {
-    let slot = match weight {
-        Some(weight) => Slot::Set(Value::weight(weight)?),
-        None => Slot::Removed,
-    };
-    push(table, Entry::new(Key::read(key)?, version.max(1), slot))
+/// A write of at least version 1 that sets the key to a weight.
+fn set(rt: &impl Abort, table: &mut Table, key: &[u8], version: u64, number: u64) {
+    let entry = weighing(rt, key, version.max(1), number);
+    got(rt, enter(table, entry));
 }
 
-type Write<'a> = (&'a [u8], u64, Option<u64>);
-
-fn write_all(table: &mut Table, writes: &[Write<'_>]) -> Result<(), Fault> {
-    for (key, version, weight) in writes {
-        write(table, key, *version, *weight)?;
-    }
-    Ok(())
-}
-
-fn table_of(alloc: Global, writes: &[Write<'_>]) -> Result<Table, Fault> {
-    let mut table = Table::new(alloc);
-    write_all(&mut table, writes)?;
-    Ok(table)
+/// A write of at least version 1 that removes the key.
+fn remove(rt: &impl Abort, table: &mut Table, key: &[u8], version: u64) {
+    got(
+        rt,
+        enter(table, entry(rt, key, version.max(1), Slot::Removed)),
+    );
 }
 
 /// The version and the weight under a key.
@@ -83,15 +73,21 @@ fn versions_under(alloc: Global, table: &Table, prefix: &Prefix) -> Result<Vec<u
         .collect(alloc)
 }
 
-/// Whether just these versions are above one.
-fn are_above(alloc: Global, table: &Table, version: u64, wanted: &[u64]) -> Result<bool, Fault> {
-    Ok(versions_after(alloc, table, version)?.as_slice() == wanted)
+/// Just these versions are above one.
+fn assert_above(rt: &impl Abort, alloc: Global, table: &Table, version: u64, wanted: &[u64]) {
+    let versions = got(rt, versions_after(alloc, table, version));
+    same_at(rt, &version, &versions.as_slice(), &wanted);
 }
 
-/// Whether just these versions are under a prefix.
-fn are_under(alloc: Global, table: &Table, text: &[u8], wanted: &[u64]) -> Result<bool, Fault> {
-    let versions = versions_under(alloc, table, &Prefix::read(text)?)?;
-    Ok(versions.as_slice() == wanted)
+fn under_text(rt: &impl Abort, alloc: Global, table: &Table, text: &[u8]) -> Vec<u64> {
+    let prefix = got(rt, Prefix::read(text));
+    got(rt, versions_under(alloc, table, &prefix))
+}
+
+/// Just these versions are under a prefix.
+fn assert_under(rt: &impl Abort, alloc: Global, table: &Table, text: &[u8], wanted: &[u64]) {
+    let versions = under_text(rt, alloc, table, text);
+    same_at(rt, &text, &versions.as_slice(), &wanted);
 }
 
 #[test]
@@ -100,53 +96,53 @@ fn a_new_table_is_empty(rt: HostRuntime) {
     same(&rt, &(none.is_empty(), none.upto()), &(true, 0));
 }
 
-#[test]
-fn later_writes_take_the_place_of_earlier(rt: HostRuntime) -> Result<(), Fail> {
-    let alloc = rt.alloc();
-    let writes = [
-        (b"a".as_slice(), 1, Some(7)),
-        (b"b", 2, None),
-        (b"a", 4, Some(9)),
-    ];
-    let table = table_of(alloc, &writes)?;
-    let found = shown_under(&table, [b"a", b"b", b"c"]);
-    let wanted = [Some((4, Some(9))), Some((2, None)), None];
-    same(&rt, &found, &(2, 4, wanted));
-    for (version, above) in [
-        (0, [2, 4].as_slice()),
-        (1, &[2, 4]),
-        (2, &[4]),
-        (3, &[4]),
-        (4, &[]),
-    ] {
-        let are_right = are_above(alloc, &table, version, above)?;
-        same_at(&rt, &version, &are_right, &true);
-    }
-    Ok(())
+fn rewritten(rt: &impl Abort, alloc: Global) -> Table {
+    let mut table = Table::new(alloc);
+    set(rt, &mut table, b"a", 1, 7);
+    remove(rt, &mut table, b"b", 2);
+    set(rt, &mut table, b"a", 4, 9);
+    table
 }
 
-const PATHS: &[Write<'static>] = &[
-    (b"net/b", 1, Some(1)),
-    (b"net/a", 2, Some(2)),
-    (b"w", 3, Some(3)),
-    (b"net", 4, None),
-    (b"net/a/1", 5, None),
-];
+fn assert_rewritten(rt: &impl Abort, alloc: Global, table: &Table) {
+    let found = shown_under(table, [b"a", b"b", b"c"]);
+    let wanted = [Some((4, Some(9))), Some((2, None)), None];
+    same(rt, &found, &(2, 4, wanted));
+    assert_above(rt, alloc, table, 0, &[2, 4]);
+    assert_above(rt, alloc, table, 1, &[2, 4]);
+    assert_above(rt, alloc, table, 2, &[4]);
+    assert_above(rt, alloc, table, 3, &[4]);
+    assert_above(rt, alloc, table, 4, &[]);
+}
 
 #[test]
-fn a_prefix_gives_its_keys_in_order(rt: HostRuntime) -> Result<(), Fail> {
-    let table = table_of(rt.alloc(), PATHS)?;
-    for (text, wanted) in [
-        (b"".as_slice(), [4, 2, 5, 1, 3].as_slice()),
-        (b"net", &[4, 2, 5, 1]),
-        (b"net/", &[2, 5, 1]),
-        (b"net/b", &[1]),
-        (b"x", &[]),
-    ] {
-        let are_right = are_under(rt.alloc(), &table, text, wanted)?;
-        same_at(&rt, &text, &are_right, &true);
-    }
-    Ok(())
+fn later_writes_take_the_place_of_earlier(rt: HostRuntime) {
+    let table = rewritten(&rt, rt.alloc());
+    assert_rewritten(&rt, rt.alloc(), &table);
+}
+
+fn paths(rt: &impl Abort, alloc: Global) -> Table {
+    let mut table = Table::new(alloc);
+    set(rt, &mut table, b"net/b", 1, 1);
+    set(rt, &mut table, b"net/a", 2, 2);
+    set(rt, &mut table, b"w", 3, 3);
+    remove(rt, &mut table, b"net", 4);
+    remove(rt, &mut table, b"net/a/1", 5);
+    table
+}
+
+fn assert_paths(rt: &impl Abort, alloc: Global, table: &Table) {
+    assert_under(rt, alloc, table, b"", &[4, 2, 5, 1, 3]);
+    assert_under(rt, alloc, table, b"net", &[4, 2, 5, 1]);
+    assert_under(rt, alloc, table, b"net/", &[2, 5, 1]);
+    assert_under(rt, alloc, table, b"net/b", &[1]);
+    assert_under(rt, alloc, table, b"x", &[]);
+}
+
+#[test]
+fn a_prefix_gives_its_keys_in_order(rt: HostRuntime) {
+    let table = paths(&rt, rt.alloc());
+    assert_paths(&rt, rt.alloc(), &table);
 }
 
 /// How many keys a table has, its last version, and whether the write of that removed the key.
@@ -157,56 +153,68 @@ fn ends_removed(table: &Table, key: &Key) -> (usize, u64, bool) {
 
 /// The example of `Table`.
 #[test]
-fn example_of_a_table(rt: HostRuntime) -> Result<(), Fail> {
-    let key = Key::read(b"port")?;
-    let port = Value::weight(80)?;
+fn example_of_a_table(rt: HostRuntime) {
     let mut table = Table::new(rt.alloc());
-    push(&mut table, Entry::new(key, 1, Slot::Set(port)))?;
-    push(&mut table, Entry::new(key, 2, Slot::Removed))?;
-    same(&rt, &ends_removed(&table, &key), &(1, 2, true));
-    Ok(())
+    set(&rt, &mut table, b"port", 1, 80);
+    remove(&rt, &mut table, b"port", 2);
+    let port = key(&rt, b"port");
+    same(&rt, &ends_removed(&table, &port), &(1, 2, true));
+}
+
+/// A write of a version under the key of a number, its weight the version.
+fn set_numbered(rt: &impl Abort, alloc: Global, table: &mut Table, number: u64, version: u64) {
+    let key = got(rt, format!(in alloc; "k{number:04}"));
+    set(rt, table, key.as_bytes(), version, version);
 }
 
 /// 4,096 keys, each written three times, from k4096 at the versions 1, 4,097 and 8,193 down to k0001 at 4,096, 8,192
 /// and 12,288.
-fn full_table(alloc: Global) -> Result<Table, Fault> {
+fn full_table(rt: &impl Abort, alloc: Global) -> Table {
     let mut table = Table::new(alloc);
     for place in 0..3 * KEYS_MOST as u64 {
-        let key = format!(in alloc; "k{:04}", 4096 - place % 4096)?;
-        write(&mut table, key.as_bytes(), place + 1, Some(place + 1))?;
+        set_numbered(rt, alloc, &mut table, 4096 - place % 4096, place + 1);
     }
-    Ok(table)
+    table
 }
 
-/// How a write of the weight 1 is answered, unless memory ran out; how many keys there are and the last version; and
-/// what is then under the key.
-type Answered = (Result<(), Fault>, usize, u64, Option<(u64, Option<u64>)>);
+/// How a write of the weight 1 is answered; how many keys there are and the last version; and what is then under the
+/// key.
+type Answered = (Result<(), Fault>, usize, u64, Shown);
 
-fn write_one(table: &mut Table, key: &[u8], version: u64) -> Result<Answered, Fault> {
-    let answer = crate::settled(write(table, key, version, Some(1)))?;
-    Ok((answer, table.len(), table.upto(), shown(table, key)))
+fn write_one(rt: &impl Abort, table: &mut Table, key: &[u8], version: u64) -> Answered {
+    let entry = weighing(rt, key, version.max(1), 1);
+    let answer = settled(rt, enter(table, entry));
+    (answer, table.len(), table.upto(), shown(table, key))
+}
+
+/// The write is answered so, and leaves the first key as it was.
+fn assert_answered(
+    rt: &impl Abort,
+    table: &mut Table,
+    key: &[u8],
+    version: u64,
+    answered: Answered,
+) {
+    let found = write_one(rt, table, key, version);
+    let kept = shown(table, b"k4096");
+    let wanted = (answered, Some((8193, Some(8193))));
+    same_at(rt, &version, &(found, kept), &wanted);
+}
+
+fn assert_full(rt: &impl Abort, table: &mut Table) {
+    let full = Err(Fault::TableFull);
+    let (refused, later) = ((full, 4096, 12_288, None), (full, 4096, 12_290, None));
+    let entered = (Ok(()), 4096, 12_290, Some((12_290, Some(1))));
+    assert_answered(rt, table, b"new", 12_289, refused);
+    assert_answered(rt, table, b"new", 12_290, refused);
+    assert_answered(rt, table, b"k0007", 12_290, entered);
+    assert_answered(rt, table, b"new", 12_291, later);
 }
 
 #[test]
-fn a_full_table_takes_no_new_key(rt: HostRuntime) -> Result<(), Fail> {
-    let mut table = full_table(rt.alloc())?;
-    let full = Err(Fault::TableFull);
-    for (key, version, answered) in [
-        (b"new".as_slice(), 12_289, (full, 4096, 12_288, None)),
-        (b"new", 12_290, (full, 4096, 12_288, None)),
-        (
-            b"k0007",
-            12_290,
-            (Ok(()), 4096, 12_290, Some((12_290, Some(1)))),
-        ),
-        (b"new", 12_291, (full, 4096, 12_290, None)),
-    ] {
-        let found = write_one(&mut table, key, version)?;
-        let kept = shown(&table, b"k4096");
-        let wanted = (answered, Some((8193, Some(8193))));
-        same_at(&rt, &version, &(found, kept), &wanted);
-    }
-    Ok(())
+fn a_full_table_takes_no_new_key(rt: HostRuntime) {
+    let mut table = full_table(&rt, rt.alloc());
+    assert_full(&rt, &mut table);
 }
 
 /// The first and the last of versions, and how many there are.
@@ -220,73 +228,82 @@ fn ends(versions: &[u64]) -> Ends {
     )
 }
 
-fn ends_above(alloc: Global, table: &Table, version: u64) -> Result<Ends, Fault> {
-    Ok(ends(&versions_after(alloc, table, version)?))
+fn ends_above(rt: &impl Abort, alloc: Global, table: &Table, version: u64) -> Ends {
+    ends(&got(rt, versions_after(alloc, table, version)))
 }
 
-fn ends_under(alloc: Global, table: &Table, text: &[u8]) -> Result<Ends, Fault> {
-    Ok(ends(&versions_under(alloc, table, &Prefix::read(text)?)?))
+fn ends_under(rt: &impl Abort, alloc: Global, table: &Table, text: &[u8]) -> Ends {
+    ends(&under_text(rt, alloc, table, text))
 }
 
-#[test]
-fn a_full_table_gives_all_that_it_has(rt: HostRuntime) -> Result<(), Fail> {
-    let alloc = rt.alloc();
-    let table = full_table(alloc)?;
-    for (version, wanted) in [
-        (0, (Some(8193), Some(12_288), 4096)),
-        (10_000, (Some(10_001), Some(12_288), 2288)),
-        (12_287, (Some(12_288), Some(12_288), 1)),
-        (12_288, (None, None, 0)),
-    ] {
-        same(&rt, &ends_above(alloc, &table, version)?, &wanted);
-    }
-    for (text, wanted) in [
-        (b"".as_slice(), (Some(12_288), Some(8193), 4096)),
-        (b"k", (Some(12_288), Some(8193), 4096)),
-        (b"k20", (Some(10_289), Some(10_190), 100)),
-        (b"k4096", (Some(8193), Some(8193), 1)),
-        (b"k4097", (None, None, 0)),
-    ] {
-        same(&rt, &ends_under(alloc, &table, text)?, &wanted);
-    }
-    Ok(())
+fn assert_ends_above(rt: &impl Abort, alloc: Global, table: &Table) {
+    let all = (Some(8193), Some(12_288), 4096);
+    let later = (Some(10_001), Some(12_288), 2288);
+    let last = (Some(12_288), Some(12_288), 1);
+    same(rt, &ends_above(rt, alloc, table, 0), &all);
+    same(rt, &ends_above(rt, alloc, table, 10_000), &later);
+    same(rt, &ends_above(rt, alloc, table, 12_287), &last);
+    same(rt, &ends_above(rt, alloc, table, 12_288), &(None, None, 0));
 }
 
-#[test]
-fn the_greatest_version_is_entered(rt: HostRuntime) -> Result<(), Fail> {
-    let greatest = 18_446_744_073_709_551_615;
-    let writes = [
-        (b"a".as_slice(), greatest - 1, Some(1)),
-        (b"a", greatest, Some(2)),
-    ];
-    let table = table_of(rt.alloc(), &writes)?;
-    let counts = (
-        table.after(greatest - 1).count(),
-        table.after(greatest).count(),
+fn assert_ends_under(rt: &impl Abort, alloc: Global, table: &Table) {
+    let all = (Some(12_288), Some(8193), 4096);
+    let hundred = (Some(10_289), Some(10_190), 100);
+    let first = (Some(8193), Some(8193), 1);
+    same(rt, &ends_under(rt, alloc, table, b""), &all);
+    same(rt, &ends_under(rt, alloc, table, b"k"), &all);
+    same(rt, &ends_under(rt, alloc, table, b"k20"), &hundred);
+    same(rt, &ends_under(rt, alloc, table, b"k4096"), &first);
+    same(
+        rt,
+        &ends_under(rt, alloc, table, b"k4097"),
+        &(None, None, 0),
     );
-    let found = (table.upto(), shown(&table, b"a"), counts);
-    same(&rt, &found, &(greatest, Some((greatest, Some(2))), (1, 0)));
-    Ok(())
+}
+
+#[test]
+fn a_full_table_gives_all_that_it_has(rt: HostRuntime) {
+    let table = full_table(&rt, rt.alloc());
+    assert_ends_above(&rt, rt.alloc(), &table);
+    assert_ends_under(&rt, rt.alloc(), &table);
+}
+
+/// The last version, what is shown under a, and how many entries are above the last version but one, and above the last.
+fn last_two(table: &Table) -> (u64, Shown, (usize, usize)) {
+    let upto = table.upto();
+    let last = table.after(upto.saturating_sub(1)).count();
+    (upto, shown(table, b"a"), (last, table.after(upto).count()))
+}
+
+#[test]
+fn the_greatest_version_is_entered(rt: HostRuntime) {
+    let greatest = 18_446_744_073_709_551_615;
+    let mut table = Table::new(rt.alloc());
+    set(&rt, &mut table, b"a", greatest - 1, 1);
+    set(&rt, &mut table, b"a", greatest, 2);
+    let wanted = (greatest, Some((greatest, Some(2))), (1, 0));
+    same(&rt, &last_two(&table), &wanted);
 }
 
 // The letters as keys, at the versions from 1 on.
 const LETTERS: &[u8; 26] = b"qwertyuiopasdfghjklzxcvbnm";
 
-const BEHIND: &[Write<'static>] = &[
-    (b"j", 27, Some(1)),
-    (b"l", 28, Some(1)),
-    (b"kh", 29, Some(1)),
-    (b"kq", 30, None),
-];
+/// Behind a k each letter as a key.
+fn set_letters(rt: &impl Abort, table: &mut Table) {
+    for (version, letter) in (1..).zip(LETTERS.iter()) {
+        set(rt, table, &[b'k', *letter], version, 1);
+    }
+}
 
 /// Behind a k each letter as a key, then other keys, one written again, and one removed: 28 keys, 30 versions.
-fn many_keys(alloc: Global) -> Result<Table, Fault> {
+fn many_keys(rt: &impl Abort, alloc: Global) -> Table {
     let mut table = Table::new(alloc);
-    for (place, letter) in (1..).zip(LETTERS.iter()) {
-        write(&mut table, &[b'k', *letter], place, Some(1))?;
-    }
-    write_all(&mut table, BEHIND)?;
-    Ok(table)
+    set_letters(rt, &mut table);
+    set(rt, &mut table, b"j", 27, 1);
+    set(rt, &mut table, b"l", 28, 1);
+    set(rt, &mut table, b"kh", 29, 1);
+    remove(rt, &mut table, b"kq", 30);
+    table
 }
 
 const ABOVE_0: &[u64] = &[
@@ -298,38 +315,32 @@ const UNDER_K: &[u64] = &[
     11, 24, 22, 13, 3, 14, 15, 29, 8, 17, 18, 19, 26, 25, 9, 10, 30, 4, 12, 5, 7, 23, 2, 21, 6, 20,
 ];
 
-#[test]
-fn many_keys_come_in_order(rt: HostRuntime) -> Result<(), Fail> {
-    let alloc = rt.alloc();
-    let table = many_keys(alloc)?;
-    for (version, wanted) in [(0, ABOVE_0), (25, [26, 27, 28, 29, 30].as_slice())] {
-        let are_right = are_above(alloc, &table, version, wanted)?;
-        same_at(&rt, &version, &are_right, &true);
-    }
-    for (text, wanted) in [
-        (b"k".as_slice(), UNDER_K),
-        (b"kq", [30].as_slice()),
-        (b"kqa", &[]),
-        (b"j", &[27]),
-        (b"m", &[]),
-    ] {
-        let are_right = are_under(alloc, &table, text, wanted)?;
-        same_at(&rt, &text, &are_right, &true);
-    }
-    Ok(())
+fn assert_order(rt: &impl Abort, alloc: Global, table: &Table) {
+    assert_above(rt, alloc, table, 0, ABOVE_0);
+    assert_above(rt, alloc, table, 25, &[26, 27, 28, 29, 30]);
+    assert_under(rt, alloc, table, b"k", UNDER_K);
+    assert_under(rt, alloc, table, b"kq", &[30]);
+    assert_under(rt, alloc, table, b"kqa", &[]);
+    assert_under(rt, alloc, table, b"j", &[27]);
+    assert_under(rt, alloc, table, b"m", &[]);
 }
 
 #[test]
-fn many_keys_are_found(rt: HostRuntime) -> Result<(), Fail> {
-    let table = many_keys(rt.alloc())?;
+fn many_keys_come_in_order(rt: HostRuntime) {
+    let table = many_keys(&rt, rt.alloc());
+    assert_order(&rt, rt.alloc(), &table);
+}
+
+#[test]
+fn many_keys_are_found(rt: HostRuntime) {
+    let table = many_keys(&rt, rt.alloc());
     let found = shown_under(&table, [b"kz", b"kq", b"k"]);
     let wanted = [Some((20, Some(1))), Some((30, None)), None];
     same(&rt, &found, &(28, 30, wanted));
-    Ok(())
 }
 
 /// How many entries there are, by version and by key, the last version, and what is under a key.
-type Held = (usize, usize, usize, u64, Option<(u64, Option<u64>)>);
+type Held = (usize, usize, usize, u64, Shown);
 
 fn held(table: &Table, key: &[u8]) -> Held {
     let mut by_key: usize = 0;
@@ -349,9 +360,9 @@ fn held(table: &Table, key: &[u8]) -> Held {
 }
 
 /// Whether a write is entered, or leaves everything as it was for want of memory.
-fn is_written_or_left(table: &mut Table, key: &[u8], version: u64) -> bool {
+fn is_written_or_left(rt: &impl Abort, table: &mut Table, key: &[u8], version: u64) -> bool {
     let before = held(table, key);
-    let answer = write(table, key, version, Some(version));
+    let answer = enter(table, weighing(rt, key, version.max(1), version));
     let after = held(table, key);
     let is_right = match answer {
         Ok(()) => (after.3, after.4) == (version, Some((version, Some(version)))),
@@ -360,17 +371,22 @@ fn is_written_or_left(table: &mut Table, key: &[u8], version: u64) -> bool {
     is_right && (after.1, after.2) == (after.0, after.0)
 }
 
-/// Passes also where an allocation fails.
-#[test]
-fn a_write_without_memory_leaves_the_table(rt: HostRuntime) {
-    let mut table = Table::new(rt.alloc());
+/// Writes each letter as a key, and once more each of the first half.
+fn assert_left(rt: &impl Abort, table: &mut Table) {
     for place in 0..LETTERS.len() {
         let version = place as u64 * 2 + 1;
         let [key, again] = [[LETTERS[place]], [LETTERS[place / 2]]];
         let answers = [
-            is_written_or_left(&mut table, &key, version),
-            is_written_or_left(&mut table, &again, version + 1),
+            is_written_or_left(rt, table, &key, version),
+            is_written_or_left(rt, table, &again, version + 1),
         ];
-        same_at(&rt, &place, &answers, &[true, true]);
+        same_at(rt, &place, &answers, &[true, true]);
     }
+}
+
+/// Passes also where an allocation fails.
+#[test]
+fn a_write_without_memory_leaves_the_table(rt: HostRuntime) {
+    let mut table = Table::new(rt.alloc());
+    assert_left(&rt, &mut table);
 }

@@ -1,13 +1,13 @@
 //! Values, blocks, deltas and settings: what no clause says, and each limit at its full size.
 ghost use Rattle.std.specs.Prelude.{◌≤◌};
 
-use crate::{holds, same, same_at, settled};
+use crate::{entry, got, holds, key, name, one, push, refusal, same, same_at, settled, weighing};
 use sb_types::{
     Block, Delta, Entry, Fault, Key, Name, Order, Prefix, RawSettings, Settings, Slot, Value,
     ValueRef,
 };
 use std::alloc::Global;
-use std::test::Fail;
+use std::process::Abort;
 
 const MAX_32: &[u8] = b"abcdefghijklmnopqrstuvwxyz-01234";
 
@@ -34,41 +34,49 @@ fn read_text(text: &[u8]) -> [Result<bool, Fault>; 3] {
     ]
 }
 
+type Reads = [Result<bool, Fault>; 3];
+
+const ALL: Reads = [Ok(true), Ok(true), Ok(true)];
+
+const NO_NAME: Reads = [Err(Fault::BadName), Ok(true), Ok(true)];
+
+const A_PREFIX: Reads = [Err(Fault::BadName), Err(Fault::BadKey), Ok(true)];
+
+const NONE: Reads = [Err(Fault::BadName), Err(Fault::BadKey), Err(Fault::BadKey)];
+
+fn assert_read(rt: &impl Abort, text: &[u8], wanted: Reads) {
+    same_at(rt, &text, &read_text(text), &wanted);
+}
+
 #[test]
 fn texts_within_their_limits(rt: HostRuntime) {
-    let (yes, no_name, no_key) = (Ok(true), Err(Fault::BadName), Err(Fault::BadKey));
-    let long = [b'k'; 65];
-    for (text, read) in [
-        (b"a".as_slice(), [yes, yes, yes]),
-        (MAX_32, [yes, yes, yes]),
-        (MAX_64, [no_name, yes, yes]),
-        (b"", [no_name, no_key, yes]),
-        (b"abcdefghijklmnopqrstuvwxyz-012345", [no_name, yes, yes]),
-        (b"a.b", [no_name, yes, yes]),
-        (&long, [no_name, no_key, no_key]),
-        (b"A", [no_name, no_key, no_key]),
-        (b"a b", [no_name, no_key, no_key]),
-        (b"a:b", [no_name, no_key, no_key]),
-        (b"\xc3\xa4", [no_name, no_key, no_key]),
-    ] {
-        same_at(&rt, &text, &read_text(text), &read);
-    }
+    assert_read(&rt, b"a", ALL);
+    assert_read(&rt, MAX_32, ALL);
+    assert_read(&rt, MAX_64, NO_NAME);
+    assert_read(&rt, b"", A_PREFIX);
+    assert_read(&rt, b"abcdefghijklmnopqrstuvwxyz-012345", NO_NAME);
+    assert_read(&rt, b"a.b", NO_NAME);
+    assert_read(&rt, &[b'k'; 65], NONE);
+    assert_read(&rt, b"A", NONE);
+    assert_read(&rt, b"a b", NONE);
+    assert_read(&rt, b"a:b", NONE);
+    assert_read(&rt, b"\xc3\xa4", NONE);
 }
 
-/// Whether the first is below the second: as names, and as keys.
-fn are_ascending(first: &[u8], second: &[u8]) -> Result<(bool, bool), Fault> {
-    let names = Name::read(first)? < Name::read(second)?;
-    Ok((names, Key::read(first)? < Key::read(second)?))
+/// The first is below the second: as a name, and as a key.
+fn assert_ascending(rt: &impl Abort, first: &[u8], second: &[u8]) {
+    let names = name(rt, first) < name(rt, second);
+    let keys = key(rt, first) < key(rt, second);
+    same_at(rt, &first, &(names, keys), &(true, true));
 }
 
 #[test]
-fn texts_have_an_order(rt: HostRuntime) -> Result<(), Fail> {
-    for [first, second] in [[b"a".as_slice(), b"a-"], [b"a9", b"b"], [b"net", b"net-a"]] {
-        same(&rt, &are_ascending(first, second), &Ok((true, true)));
-    }
-    let is_below = Key::read(b"net")? < Key::read(b"net/a")?;
+fn texts_have_an_order(rt: HostRuntime) {
+    assert_ascending(&rt, b"a", b"a-");
+    assert_ascending(&rt, b"a9", b"b");
+    assert_ascending(&rt, b"net", b"net-a");
+    let is_below = key(&rt, b"net") < key(&rt, b"net/a");
     holds(&rt, "net is below net/a", is_below);
-    Ok(())
 }
 
 /// Whether the value is this one, in each way to read it.
@@ -91,167 +99,172 @@ fn address(alloc: Global, text: &[u8]) -> Result<(bool, u64), Fault> {
     ))
 }
 
+fn assert_address(rt: &impl Abort, alloc: Global, text: &[u8], wanted: Result<(bool, u64), Fault>) {
+    let found = settled(rt, address(alloc, text));
+    same_at(rt, &text, &found, &wanted);
+}
+
 #[test]
-fn addresses_within_their_limits(rt: HostRuntime) -> Result<(), Fail> {
-    let long = [b'p'; 129];
+fn addresses_within_their_limits(rt: HostRuntime) {
+    let alloc = rt.alloc();
     let no_value = Err(Fault::BadValue);
-    for (text, read) in [
-        (&long[..128], Ok((true, 129))),
-        (b"", no_value),
-        (&long, no_value),
-        (b"a b", no_value),
-        (b"\x7f", no_value),
-        (b"\x20", no_value),
-    ] {
-        let found = settled(address(rt.alloc(), text))?;
-        same_at(&rt, &text, &found, &read);
-    }
-    Ok(())
+    assert_address(&rt, alloc, &[b'p'; 128], Ok((true, 129)));
+    assert_address(&rt, alloc, b"", no_value);
+    assert_address(&rt, alloc, &[b'p'; 129], no_value);
+    assert_address(&rt, alloc, b"a b", no_value);
+    assert_address(&rt, alloc, b"\x7f", no_value);
+    assert_address(&rt, alloc, b"\x20", no_value);
 }
 
 /// What a weight is read as.
-fn weight(weight: u64) -> Result<Option<u64>, Fault> {
-    Ok(Value::weight(weight)?.as_weight())
+fn read_weight(weight: u64) -> Result<Option<u64>, Fault> {
+    match Value::weight(weight) {
+        Ok(value) => Ok(value.as_weight()),
+        Err(fault) => Err(fault),
+    }
 }
 
 #[test]
 fn weights_and_flags_within_their_limits(rt: HostRuntime) {
     let greatest = 9_223_372_036_854_775_807;
-    let weights = [weight(greatest), weight(greatest + 1)];
+    let weights = [read_weight(greatest), read_weight(greatest + 1)];
     same(&rt, &weights, &[Ok(Some(greatest)), Err(Fault::BadValue)]);
     same(&rt, &Value::flag(true).as_flag(), &Some(true));
 }
 
-/// Whether the words are this value, whose copy is the same, and which prints this line.
-fn is_value(
+/// The value prints this line.
+fn assert_line(rt: &impl Abort, alloc: Global, value: &Value, line: &str) {
+    let printed = got(rt, value.to_string(alloc));
+    same(rt, &printed.as_str(), &line);
+}
+
+/// The value's copy is this one too.
+fn assert_copied(rt: &impl Abort, alloc: Global, value: &Value, seen: ValueRef<'_>, line: &str) {
+    let copy = got(rt, value.copy(alloc));
+    holds(rt, line, is_seen(&copy, seen));
+}
+
+/// The line's words are this value, whose copy is the same, and which prints the line.
+fn assert_value(
+    rt: &impl Abort,
     alloc: Global,
-    words: (&str, &str),
+    kind: &str,
+    word: &str,
     seen: ValueRef<'_>,
     line: &str,
-) -> Result<bool, Fault> {
-    let value = Value::from_words(alloc, words.0.as_bytes(), words.1.as_bytes())?;
-    let copy = value.copy(alloc)?;
-    let is_printed = value.to_string(alloc)?.as_str() == line;
-    Ok(is_seen(&value, seen) && is_seen(&copy, seen) && is_printed)
+) {
+    let value = got(
+        rt,
+        Value::from_words(alloc, kind.as_bytes(), word.as_bytes()),
+    );
+    holds(rt, line, is_seen(&value, seen));
+    assert_copied(rt, alloc, &value, seen, line);
+    assert_line(rt, alloc, &value, line);
+}
+
+fn assert_addr(rt: &impl Abort, alloc: Global, word: &str, line: &str) {
+    assert_value(
+        rt,
+        alloc,
+        "addr",
+        word,
+        ValueRef::Addr(word.as_bytes()),
+        line,
+    );
+}
+
+fn assert_weight(rt: &impl Abort, alloc: Global, word: &str, weight: u64, line: &str) {
+    assert_value(rt, alloc, "weight", word, ValueRef::Weight(weight), line);
+}
+
+fn assert_flag(rt: &impl Abort, alloc: Global, word: &str, flag: bool, line: &str) {
+    assert_value(rt, alloc, "flag", word, ValueRef::Flag(flag), line);
 }
 
 #[test]
-fn values_from_words(rt: HostRuntime) -> Result<(), Fail> {
-    let greatest = ValueRef::Weight(9_223_372_036_854_775_807);
-    for (kind, word, seen, line) in [
-        (
-            "addr",
-            "host:80",
-            ValueRef::Addr(b"host:80"),
-            "addr host:80",
-        ),
-        ("addr", "~!", ValueRef::Addr(b"~!"), "addr ~!"),
-        ("weight", "0", ValueRef::Weight(0), "weight 0"),
-        ("weight", "5", ValueRef::Weight(5), "weight 5"),
-        (
-            "weight",
-            "9223372036854775807",
-            greatest,
-            "weight 9223372036854775807",
-        ),
-        ("flag", "true", ValueRef::Flag(true), "flag true"),
-        ("flag", "false", ValueRef::Flag(false), "flag false"),
-    ] {
-        let is_right = is_value(rt.alloc(), (kind, word), seen, line)?;
-        holds(&rt, line, is_right);
-    }
-    Ok(())
+fn values_from_words(rt: HostRuntime) {
+    let alloc = rt.alloc();
+    assert_addr(&rt, alloc, "host:80", "addr host:80");
+    assert_addr(&rt, alloc, "~!", "addr ~!");
+    assert_weight(&rt, alloc, "0", 0, "weight 0");
+    assert_weight(&rt, alloc, "5", 5, "weight 5");
+    let (greatest, line) = ("9223372036854775807", "weight 9223372036854775807");
+    assert_weight(&rt, alloc, greatest, 9_223_372_036_854_775_807, line);
+    assert_flag(&rt, alloc, "true", true, "flag true");
+    assert_flag(&rt, alloc, "false", false, "flag false");
 }
 
 /// The example of `Value`.
 #[test]
-fn example_of_values(rt: HostRuntime) -> Result<(), Fail> {
-    let alloc = rt.alloc();
-    let value = Value::from_words(alloc, b"weight", b"7")?;
-    let line = value.to_string(alloc)?;
-    let found = (value.view(), line.as_str());
-    same(&rt, &found, &(ValueRef::Weight(7), "weight 7"));
-    Ok(())
+fn example_of_values(rt: HostRuntime) {
+    let value = got(&rt, Value::from_words(rt.alloc(), b"weight", b"7"));
+    same(&rt, &value.view(), &ValueRef::Weight(7));
+    assert_line(&rt, rt.alloc(), &value, "weight 7");
 }
 
 /// The example of `Name`.
 #[test]
-fn example_of_names(rt: HostRuntime) -> Result<(), Fail> {
-    let name = Name::read(b"node-7")?;
+fn example_of_names(rt: HostRuntime) {
+    let name = name(&rt, b"node-7");
     same(&rt, &name.bytes(), &b"node-7".as_slice());
     same(&rt, &Name::read(b"Node 7").err(), &Some(Fault::BadName));
-    Ok(())
+}
+
+fn assert_no_value(rt: &impl Abort, alloc: Global, kind: &[u8], word: &[u8]) {
+    let found = Value::from_words(alloc, kind, word).err();
+    same_at(rt, &(kind, word), &found, &Some(Fault::BadValue));
 }
 
 #[test]
 fn words_that_are_no_value(rt: HostRuntime) {
-    for (kind, word) in [
-        (b"weight".as_slice(), b"".as_slice()),
-        (b"weight", b"+1"),
-        (b"weight", b"-1"),
-        (b"weight", b"01"),
-        (b"weight", b"9223372036854775808"),
-        (b"weight", b"18446744073709551616"),
-        (b"weight", b"\xff"),
-        (b"flag", b"True"),
-        (b"flag", b"1"),
-        (b"addr", b""),
-        (b"text", b"x"),
-        (b"removed", b""),
-    ] {
-        let found = Value::from_words(rt.alloc(), kind, word).err();
-        same_at(&rt, &(kind, word), &found, &Some(Fault::BadValue));
-    }
+    let alloc = rt.alloc();
+    assert_no_value(&rt, alloc, b"weight", b"");
+    assert_no_value(&rt, alloc, b"weight", b"+1");
+    assert_no_value(&rt, alloc, b"weight", b"-1");
+    assert_no_value(&rt, alloc, b"weight", b"01");
+    assert_no_value(&rt, alloc, b"weight", b"9223372036854775808");
+    assert_no_value(&rt, alloc, b"weight", b"18446744073709551616");
+    assert_no_value(&rt, alloc, b"weight", b"\xff");
+    assert_no_value(&rt, alloc, b"flag", b"True");
+    assert_no_value(&rt, alloc, b"flag", b"1");
+    assert_no_value(&rt, alloc, b"addr", b"");
+    assert_no_value(&rt, alloc, b"text", b"x");
+    assert_no_value(&rt, alloc, b"removed", b"");
 }
 
-/// The parts of the copy of an entry of an address, and whether it has that address.
-fn copied(alloc: Global) -> Result<(Key, u64, bool, u64), Fault> {
-    let value = Value::addr(alloc, b"host:1")?;
-    let copy = Entry::new(Key::read(b"net/a")?, 7, Slot::Set(value)).copy(alloc)?;
-    let is_address = match copy.slot() {
+/// A copy of an entry of an address.
+fn copied(rt: &impl Abort, alloc: Global) -> Entry {
+    let value = got(rt, Value::addr(alloc, b"host:1"));
+    let whole = entry(rt, b"net/a", 7, Slot::Set(value));
+    got(rt, whole.copy(alloc))
+}
+
+/// The parts of an entry, and whether it has that address.
+fn entry_parts(entry: &Entry) -> (Key, u64, bool, u64) {
+    let is_address = match entry.slot() {
         Slot::Set(value) => value.as_addr() == Some(b"host:1".as_slice()),
         Slot::Removed => false,
     };
-    Ok((
-        *copy.key(),
-        copy.version(),
-        is_address,
-        copy.encoded_length(),
-    ))
+    let length = entry.encoded_length();
+    (*entry.key(), entry.version(), is_address, length)
 }
 
 #[test]
-fn copies_are_equal(rt: HostRuntime) -> Result<(), Fail> {
-    let parts = copied(rt.alloc())?;
-    same(&rt, &parts, &(Key::read(b"net/a")?, 7, true, 10 + 5 + 7));
-    let is_removed = matches!(Slot::Removed.copy(rt.alloc())?, Slot::Removed);
-    holds(&rt, "a removal is copied", is_removed);
-    Ok(())
+fn copies_are_equal(rt: HostRuntime) {
+    let parts = entry_parts(&copied(&rt, rt.alloc()));
+    same(&rt, &parts, &(key(&rt, b"net/a"), 7, true, 10 + 5 + 7));
+    let removal = got(&rt, Slot::Removed.copy(rt.alloc()));
+    holds(&rt, "a removal is copied", matches!(removal, Slot::Removed));
 }
 
-fn entry(key: &[u8], version: u64, weight: u64) -> Result<Entry, Fault>
-    requires { 1 ≤ version }
-{
-    let slot = Slot::Set(Value::weight(weight)?);
-    Ok(Entry::new(Key::read(key)?, version, slot))
-}
-
-/// A block of weights of 5 under these keys, at these versions.
-fn block_of(
-    alloc: Global,
-    owner: &str,
-    after: u64,
-    writes: &[(&str, u64)],
-) -> Result<Block, Fault> {
+/// Weights of 5 under these keys, at these versions.
+fn entries(rt: &impl Abort, alloc: Global, writes: &[(&str, u64)]) -> Vec<Entry> {
     let mut entries = Vec::new(alloc);
-    for write in writes {
-        let (key, version) = *write;
-        if version == 0 {
-            return Err(Fault::BadVersion);
-        }
-        entries.push(entry(key.as_bytes(), version, 5)?)?;
+    for (key, version) in writes {
+        let entry = weighing(rt, key.as_bytes(), (*version).max(1), 5);
+        push(rt, &mut entries, entry);
     }
-    Block::new(Name::read(owner.as_bytes())?, after, entries)
+    entries
 }
 
 /// Whether a block's owner is a, what it begins after and reaches, how many entries it has, and its length.
@@ -264,96 +277,129 @@ fn parts_of(block: &Block) -> Parts {
     (is_a, range.0, range.1, count, block.encoded_length())
 }
 
-fn block_parts(alloc: Global, after: u64, writes: &[(&str, u64)]) -> Result<Parts, Fault> {
-    Ok(parts_of(&block_of(alloc, "a", after, writes)?))
+/// What is said of a block, or why there is none; where memory ran out, the end of the test.
+fn made(rt: &impl Abort, block: Result<Block, Fault>) -> Result<Parts, Fault> {
+    match block {
+        Ok(block) => Ok(parts_of(&block)),
+        Err(fault) => settled(rt, Err(fault)),
+    }
+}
+
+fn assert_block(
+    rt: &impl Abort,
+    alloc: Global,
+    after: u64,
+    writes: &[(&str, u64)],
+    wanted: Result<Parts, Fault>,
+) {
+    let block = Block::new(name(rt, b"a"), after, entries(rt, alloc, writes));
+    same(rt, &made(rt, block), &wanted);
 }
 
 #[test]
-fn blocks_within_their_limits(rt: HostRuntime) -> Result<(), Fail> {
+fn blocks_within_their_limits(rt: HostRuntime) {
+    let alloc = rt.alloc();
     let no_block = Err(Fault::Malformed(3));
-    for (after, writes, made) in [
-        (
-            0,
-            [("x", 1), ("y", 3)].as_slice(),
-            Ok((true, 0, 3, 2, 12 + 19 + 19)),
-        ),
-        (
-            u64::MAX - 1,
-            &[("x", 18_446_744_073_709_551_615)],
-            Ok((true, u64::MAX - 1, u64::MAX, 1, 12 + 19)),
-        ),
-        (0, &[("x", 2), ("y", 1)], no_block),
-        (0, &[("x", 2), ("y", 2)], no_block),
-        (1, &[("x", 1)], no_block),
-        (0, &[("x", 1), ("y", 2), ("x", 3)], no_block),
-        (0, &[], no_block),
-    ] {
-        let parts = settled(block_parts(rt.alloc(), after, writes))?;
-        same(&rt, &parts, &made);
-    }
-    Ok(())
+    let two = (true, 0, 3, 2, 12 + 19 + 19);
+    let last = (true, u64::MAX - 1, u64::MAX, 1, 12 + 19);
+    let last_version = 18_446_744_073_709_551_615;
+    assert_block(&rt, alloc, 0, &[("x", 1), ("y", 3)], Ok(two));
+    assert_block(&rt, alloc, u64::MAX - 1, &[("x", last_version)], Ok(last));
+    assert_block(&rt, alloc, 0, &[("x", 2), ("y", 1)], no_block);
+    assert_block(&rt, alloc, 0, &[("x", 2), ("y", 2)], no_block);
+    assert_block(&rt, alloc, 1, &[("x", 1)], no_block);
+    assert_block(&rt, alloc, 0, &[("x", 1), ("y", 2), ("x", 3)], no_block);
+    assert_block(&rt, alloc, 0, &[], no_block);
 }
 
-/// A block of this many entries of 23 bytes, the key of each its version in hexadecimal.
-fn long_block(alloc: Global, count: u32) -> Result<Parts, Fault> {
+/// An entry of 23 bytes, its key its version in hexadecimal.
+fn hexadecimal(rt: &impl Abort, alloc: Global, version: u64) -> Entry
+    requires { 1 ≤ version }
+{
+    let key = got(rt, format!(in alloc; "{version:05x}"));
+    weighing(rt, key.as_bytes(), version, 5)
+}
+
+fn long_entries(rt: &impl Abort, alloc: Global, count: u32) -> Vec<Entry> {
     let mut entries = Vec::new(alloc);
     for place in 0..count {
-        let version = u64::from(place) + 1;
-        let key = format!(in alloc; "{version:05x}")?;
-        entries.push(entry(key.as_bytes(), version, 5)?)?;
+        let entry = hexadecimal(rt, alloc, u64::from(place) + 1);
+        push(rt, &mut entries, entry);
     }
-    Ok(parts_of(&Block::new(Name::read(b"a")?, 0, entries)?))
+    entries
+}
+
+/// A block of this many entries of 23 bytes.
+fn long_block(rt: &impl Abort, alloc: Global, count: u32) -> Result<Parts, Fault> {
+    let entries = long_entries(rt, alloc, count);
+    made(rt, Block::new(name(rt, b"a"), 0, entries))
 }
 
 #[test]
-fn the_longest_block(rt: HostRuntime) -> Result<(), Fail> {
+fn the_longest_block(rt: HostRuntime) {
+    let alloc = rt.alloc();
     let longest = (true, 0, 65_535, 65_535, 12 + 65_535 * 23);
-    for (count, made) in [(65_535, Ok(longest)), (65_536, Err(Fault::Malformed(3)))] {
-        same(&rt, &settled(long_block(rt.alloc(), count))?, &made);
-    }
-    Ok(())
+    same(&rt, &long_block(&rt, alloc, 65_535), &Ok(longest));
+    let too_long = Err(Fault::Malformed(3));
+    same(&rt, &long_block(&rt, alloc, 65_536), &too_long);
 }
 
-/// The length of a delta of one block for each of these owners, 30 bytes and the owner's name, and whether it lends
-/// them.
-fn delta_of(alloc: Global, owners: &[&str]) -> Result<(u64, bool), Fault> {
+/// The weight 5 under w, the first write of this owner.
+fn first_block(rt: &impl Abort, alloc: Global, owner: &str) -> Block {
+    let entries = one(rt, alloc, weighing(rt, b"w", 1, 5));
+    got(rt, Block::new(name(rt, owner.as_bytes()), 0, entries))
+}
+
+fn first_blocks(rt: &impl Abort, alloc: Global, owners: &[&str]) -> Vec<Block> {
     let mut blocks = Vec::new(alloc);
     for owner in owners {
-        blocks.push(block_of(alloc, owner, 0, &[("w", 1)])?)?;
+        push(rt, &mut blocks, first_block(rt, alloc, owner));
     }
-    let delta = Delta::new(blocks)?;
+    blocks
+}
+
+/// Whether the delta lends a block of each of these owners.
+fn lends(delta: &Delta, owners: &[&str]) -> bool {
     let mut is_lent = delta.blocks().len() == owners.len();
     for (block, owner) in delta.blocks().iter().zip(owners) {
         is_lent &= block.owner().bytes() == owner.as_bytes();
     }
-    Ok((delta.encoded_length(), is_lent))
+    is_lent
+}
+
+/// The length of a delta of one block for each of these owners, 30 bytes and the owner's name, and whether it lends
+/// them.
+fn delta_of(rt: &impl Abort, alloc: Global, owners: &[&str]) -> Result<(u64, bool), Fault> {
+    match Delta::new(first_blocks(rt, alloc, owners)) {
+        Ok(delta) => Ok((delta.encoded_length(), lends(&delta, owners))),
+        Err(fault) => settled(rt, Err(fault)),
+    }
 }
 
 #[test]
-fn deltas_within_their_limits(rt: HostRuntime) -> Result<(), Fail> {
-    for (owners, made) in [
-        ([].as_slice(), Ok((3, true))),
-        (&["a", "a-", "b"], Ok((3 + 31 + 32 + 31, true))),
-        (&["b", "a"], Err(Fault::Malformed(3))),
-        (&["a", "a"], Err(Fault::Malformed(3))),
-    ] {
-        same(&rt, &settled(delta_of(rt.alloc(), owners))?, &made);
-    }
-    Ok(())
+fn deltas_within_their_limits(rt: HostRuntime) {
+    let alloc = rt.alloc();
+    let no_delta = Err(Fault::Malformed(3));
+    let three = Ok((3 + 31 + 32 + 31, true));
+    same(&rt, &delta_of(&rt, alloc, &[]), &Ok((3, true)));
+    same(&rt, &delta_of(&rt, alloc, &["a", "a-", "b"]), &three);
+    same(&rt, &delta_of(&rt, alloc, &["b", "a"]), &no_delta);
+    same(&rt, &delta_of(&rt, alloc, &["a", "a"]), &no_delta);
 }
 
 /// An entry of an address of this length, under a key of the version's four hexadecimal digits.
-fn addressed(alloc: Global, version: u16, length: usize) -> Result<Entry, Fault>
+fn addressed(rt: &impl Abort, alloc: Global, version: u16, length: usize) -> Entry
     requires { 1 ≤ version }
 {
-    let key = format!(in alloc; "{version:04x}")?;
+    let key = got(rt, format!(in alloc; "{version:04x}"));
     let text = [b'p'; 128];
-    let slot = Slot::Set(Value::addr(alloc, text.get(..length).unwrap_or(&[]))?);
-    Ok(Entry::new(Key::read(key.as_bytes())?, u64::from(version), slot))
+    let address = text.get(..length).unwrap_or(&[]);
+    let slot = Slot::Set(got(rt, Value::addr(alloc, address)));
+    entry(rt, key.as_bytes(), u64::from(version), slot)
 }
 
-/// The length of 15 bytes of heads, 1,000 entries of 65 bytes, three of 143, and one of 15 and the last length.
-fn long_delta(alloc: Global, last: usize) -> Result<u64, Fault> {
+/// 1,000 entries of 65 bytes, three of 143, and one of 15 and the last length.
+fn addresses(rt: &impl Abort, alloc: Global, last: usize) -> Vec<Entry> {
     let mut entries = Vec::new(alloc);
     for version in 1..1_005u16 {
         let length = match version {
@@ -361,18 +407,24 @@ fn long_delta(alloc: Global, last: usize) -> Result<u64, Fault> {
             1_004 => last,
             _ => 128,
         };
-        entries.push(addressed(alloc, version, length)?)?;
+        push(rt, &mut entries, addressed(rt, alloc, version, length));
     }
-    let block = Block::new(Name::read(b"a")?, 0, entries)?;
-    Ok(Delta::new(vec![in alloc; block]?)?.encoded_length())
+    entries
+}
+
+/// A delta of 15 bytes of heads and those entries.
+fn long_delta(rt: &impl Abort, alloc: Global, last: usize) -> Result<Delta, Fault> {
+    let entries = addresses(rt, alloc, last);
+    let block = got(rt, Block::new(name(rt, b"a"), 0, entries));
+    Delta::new(one(rt, alloc, block))
 }
 
 #[test]
-fn the_longest_delta(rt: HostRuntime) -> Result<(), Fail> {
-    for (last, made) in [(71, Ok(65_530)), (72, Err(Fault::Malformed(3)))] {
-        same(&rt, &settled(long_delta(rt.alloc(), last))?, &made);
-    }
-    Ok(())
+fn the_longest_delta(rt: HostRuntime) {
+    let longest = got(&rt, long_delta(&rt, rt.alloc(), 71));
+    same(&rt, &longest.encoded_length(), &65_530);
+    let too_long = refusal(&rt, long_delta(&rt, rt.alloc(), 72));
+    same(&rt, &too_long, &Some(Fault::Malformed(3)));
 }
 
 /// Settings of which each number is the least or the greatest that is allowed.
@@ -386,8 +438,8 @@ const OUTERMOST: RawSettings = RawSettings {
 };
 
 #[test]
-fn settings_within_their_limits(rt: HostRuntime) -> Result<(), Fail> {
-    let settings = Settings::check(OUTERMOST)?;
+fn settings_within_their_limits(rt: HostRuntime) {
+    let settings = got(&rt, Settings::check(OUTERMOST));
     let read = (
         settings.cluster(),
         settings.budget(),
@@ -396,53 +448,78 @@ fn settings_within_their_limits(rt: HostRuntime) -> Result<(), Fail> {
         settings.seats(),
         settings.workers(),
     );
-    let c1 = Name::read(b"c1")?;
-    same(
-        &rt,
-        &read,
-        &(c1, 256, Order::Depth, 1_099_511_627_775, 64, 62),
-    );
-    Settings::check(RawSettings {
+    let c1 = name(&rt, b"c1");
+    let wanted = (c1, 256, Order::Depth, 1_099_511_627_775, 64, 62);
+    same(&rt, &read, &wanted);
+    let other_ends = RawSettings {
         budget: 65_536,
         max_version: 1,
         seats: 1,
         workers: 1,
         ..OUTERMOST
-    })?;
-    Ok(())
+    };
+    got(&rt, Settings::check(other_ends));
+}
+
+fn assert_refused(rt: &impl Abort, raw: RawSettings<'_>) {
+    let found = Settings::check(raw).err();
+    same_at(rt, &raw, &found, &Some(Fault::BadSetting));
+}
+
+fn assert_cluster(rt: &impl Abort, cluster: &[u8]) {
+    assert_refused(
+        rt,
+        RawSettings {
+            cluster,
+            ..OUTERMOST
+        },
+    );
+}
+
+fn assert_budget(rt: &impl Abort, budget: u64) {
+    assert_refused(
+        rt,
+        RawSettings {
+            budget,
+            ..OUTERMOST
+        },
+    );
+}
+
+fn assert_max_version(rt: &impl Abort, max_version: u64) {
+    assert_refused(
+        rt,
+        RawSettings {
+            max_version,
+            ..OUTERMOST
+        },
+    );
+}
+
+fn assert_seats(rt: &impl Abort, seats: u64) {
+    assert_refused(rt, RawSettings { seats, ..OUTERMOST });
+}
+
+fn assert_workers(rt: &impl Abort, workers: u64) {
+    assert_refused(
+        rt,
+        RawSettings {
+            workers,
+            ..OUTERMOST
+        },
+    );
 }
 
 #[test]
 fn settings_past_their_limits(rt: HostRuntime) {
-    let raw = OUTERMOST;
-    let wrong = [
-        RawSettings {
-            cluster: b"",
-            ..raw
-        },
-        RawSettings {
-            cluster: b"C",
-            ..raw
-        },
-        RawSettings { budget: 255, ..raw },
-        RawSettings {
-            budget: 65_537,
-            ..raw
-        },
-        RawSettings {
-            max_version: 0,
-            ..raw
-        },
-        RawSettings {
-            max_version: 1_099_511_627_776,
-            ..raw
-        },
-        RawSettings { seats: 0, ..raw },
-        RawSettings { seats: 65, ..raw },
-        RawSettings { workers: 0, ..raw },
-        RawSettings { workers: 63, ..raw },
-    ];
-    for raw in wrong {
-        same(&rt, &Settings::check(raw).err(), &Some(Fault::BadSetting));
-    }
+    assert_cluster(&rt, b"");
+    assert_cluster(&rt, b"C");
+    assert_budget(&rt, 255);
+    assert_budget(&rt, 65_537);
+    assert_max_version(&rt, 0);
+    assert_max_version(&rt, 1_099_511_627_776);
+    assert_seats(&rt, 0);
+    assert_seats(&rt, 65);
+    assert_workers(&rt, 0);
+    assert_workers(&rt, 63);
 }
