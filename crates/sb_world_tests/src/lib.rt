@@ -12,6 +12,8 @@ mod transcripts;
 mod world;
 
 #[cfg(test)]
+use sb_types::{Key, Name};
+#[cfg(test)]
 use std::fmt::Debug;
 #[cfg(test)]
 use std::process::Abort;
@@ -22,14 +24,29 @@ fn same<T: PartialEq + Debug>(rt: &impl Abort, found: &T, wanted: &T) {
     assert_eq!(rt; found, wanted);
 }
 
-/// The same of one of many cases, which is named where the two differ.
-#[cfg(test)]
-fn same_at<N: Debug, T: PartialEq + Debug>(rt: &impl Abort, at: &N, found: &T, wanted: &T) {
-    assert_eq!(rt; found, wanted, "{at:?}");
-}
-
 /// Ends the test where this does not hold.
 #[cfg(test)]
 fn holds(rt: &impl Abort, what: &str, holds: bool) {
     assert!(rt; holds, "{what}");
+}
+
+/// The answer; where there is none, the end of the test, which names the fault.
+#[cfg(test)]
+fn got<T, E: Debug + Drop>(rt: &impl Abort, answer: Result<T, E>) -> T {
+    match answer {
+        Ok(answer) => answer,
+        Err(fault) => panic!(rt; "error: {fault:?}"),
+    }
+}
+
+/// The name of this text.
+#[cfg(test)]
+fn name(rt: &impl Abort, text: &[u8]) -> Name {
+    got(rt, Name::read(text))
+}
+
+/// The key of this text.
+#[cfg(test)]
+fn key(rt: &impl Abort, text: &[u8]) -> Key {
+    got(rt, Key::read(text))
 }

@@ -1,12 +1,12 @@
 //! What no clause says: what scripts print, and the ends of a run.
 use crate::transcripts::TRANSCRIPTS;
-use crate::{holds, same, same_at};
+use crate::{got, holds, same};
 use sb_script::{Detail, Ending, Output, sim_run_uncounted};
 use sb_types::Fault;
 use std::alloc::Global;
 use std::io;
 use std::io::{ErrorKind, Read, Write};
-use std::test::Fail;
+use std::process::Abort;
 
 const EXAMPLE: &str = "world 256 breadth 100 a b
 put a w weight 5
@@ -41,9 +41,23 @@ impl Page {
 
     /// Whether no line tells of want of memory, nor stands in the place of words for which there was none.
     fn had_memory(&self) -> bool {
-        let mut lines = self.printed().split(|byte| *byte == b'\n');
-        lines.all(|line| !line.ends_with(b"fault 1") && !line.starts_with(b"no-memory"))
+        for line in self.printed().split(is_newline) {
+            if line.ends_with(b"fault 1") || line.starts_with(b"no-memory") {
+                return false;
+            }
+        }
+        true
     }
+
+    /// Whether just this was printed. Want of memory ends the test.
+    fn has_just(&self, rt: &impl Abort, wanted: &[u8]) -> bool {
+        holds(rt, "error: NoMemory", self.had_memory());
+        self.printed() == wanted
+    }
+}
+
+fn is_newline(byte: &u8) -> bool {
+    *byte == b'\n'
 }
 
 impl Write for Page {
@@ -63,35 +77,37 @@ impl Write for Page {
     }
 }
 
-/// How a run of the example ended, but for want of memory, which is then the fault of the test: without it there
-/// is always a world.
-fn with_memory(ended: Result<Ending, Fault>) -> Result<Result<Ending, Fault>, Fault> {
+/// How a run of the example ended. Without want of memory, which ends the test, there is always a world.
+fn settled(rt: &impl Abort, ended: Result<Ending, Fault>) -> Result<Ending, Fault> {
     match ended {
-        Err(Fault::NoMemory) | Ok(Ending::NoWorld) => Err(Fault::NoMemory),
-        ended => Ok(ended),
+        Err(Fault::NoMemory) | Ok(Ending::NoWorld) => got(rt, Err(Fault::NoMemory)),
+        ended => ended,
     }
 }
 
-/// Runs a script to a writer, without words behind the answers.
+/// Runs a script to a writer.
 fn run_to<R: Read + Drop, W: Write + Drop>(
     alloc: Global,
     reader: R,
     writer: W,
     max_reads: u64,
+    detail: Detail,
 ) -> Result<Ending, Fault> {
     let mut output = Output::new(alloc, writer)?;
-    sim_run_uncounted(alloc, reader, &mut output, max_reads, Detail::Plain)
+    sim_run_uncounted(alloc, reader, &mut output, max_reads, detail)
 }
 
-/// Runs a script in ample reads, and answers how it ended with what it printed.
-fn run(alloc: Global, script: &[u8], detail: Detail) -> Result<(Ending, Page), Fault> {
-    let mut output = Output::new(alloc, Page::new())?;
-    let ending = sim_run_uncounted(alloc, script, &mut output, 100, detail)?;
-    let page = output.into_writer();
-    if !page.had_memory() {
-        return Err(Fault::NoMemory);
-    }
-    Ok((ending, page))
+/// How a script ends in ample reads, and whether just this was printed.
+fn ran(
+    rt: &impl Abort,
+    alloc: Global,
+    script: &[u8],
+    detail: Detail,
+    printed: &[u8],
+) -> (Ending, bool) {
+    let mut page = Page::new();
+    let ending = got(rt, run_to(alloc, script, &mut page, 100, detail));
+    (ending, page.has_just(rt, printed))
 }
 
 /// A reader that says so many times that it is at its end, and then fails.
@@ -152,142 +168,143 @@ const EMPTY_FRAME: &str = "a70100000003030000";
 const P: &str = "pppppppppppppppppppppppppppppppppppppppppppppppppppppppppppppppp\
 pppppppppppppppppppppppppppppppppppppppppppppppppppppppppppppppp";
 
-/// Adds a line, unless it is empty, with what its words stand for.
-fn add_line(out: &mut Vec<u8>, line: &[u8]) -> Result<(), Fault> {
-    for (number, word) in line.split(|byte| *byte == b' ').enumerate() {
-        if number > 0 {
-            out.push(b' ')?;
+/// What a word of a transcript stands for.
+fn meaning(word: &[u8]) -> &[u8] {
+    match word {
+        b"P" => P.as_bytes(),
+        b"Q" => P.as_bytes().get(1..).unwrap_or(&[]),
+        b"FRAME" => FRAME.as_bytes(),
+        b"EMPTY" => EMPTY_FRAME.as_bytes(),
+        word => word,
+    }
+}
+
+fn is_space(byte: &u8) -> bool {
+    *byte == b' '
+}
+
+fn add(rt: &impl Abort, out: &mut Vec<u8>, bytes: &[u8]) {
+    got(rt, out.extend_from_slice(bytes));
+}
+
+/// Adds a line with what its words stand for.
+fn add_line(rt: &impl Abort, out: &mut Vec<u8>, line: &[u8]) {
+    let mut before: &[u8] = b"";
+    for word in line.split(is_space) {
+        add(rt, out, before);
+        add(rt, out, meaning(word));
+        before = b" ";
+    }
+    add(rt, out, b"\n");
+}
+
+/// The lines of a transcript's script, or those that it prints.
+fn lines_of(rt: &impl Abort, alloc: Global, transcript: &str, are_printed: bool) -> Vec<u8> {
+    let mut lines = Vec::new(alloc);
+    for line in transcript.as_bytes().split(is_newline) {
+        match line.strip_prefix(b"> ".as_slice()) {
+            Some(printed) if are_printed => add_line(rt, &mut lines, printed),
+            None if !are_printed && !line.is_empty() => add_line(rt, &mut lines, line),
+            _ => {}
         }
-        out.extend_from_slice(match word {
-            b"P" => P.as_bytes(),
-            b"Q" => P.as_bytes().get(1..).unwrap_or(&[]),
-            b"FRAME" => FRAME.as_bytes(),
-            b"EMPTY" => EMPTY_FRAME.as_bytes(),
-            word => word,
-        })?;
     }
-    if !line.is_empty() {
-        out.push(b'\n')?;
-    }
-    Ok(())
+    lines
 }
 
 /// Whether the lines of a transcript print just what stands below them.
-fn prints(alloc: Global, detail: Detail, lines: &str) -> Result<bool, Fault> {
-    let mut script = Vec::new(alloc);
-    let mut wanted = Vec::new(alloc);
-    for line in lines.as_bytes().split(|byte| *byte == b'\n') {
-        match line.strip_prefix(b"> ".as_slice()) {
-            Some(printed) => add_line(&mut wanted, printed)?,
-            None => add_line(&mut script, line)?,
-        }
-    }
-    let (ending, page) = run(alloc, &script, detail)?;
-    Ok(ending == Ending::Whole && page.printed() == wanted.as_slice())
+fn prints(rt: &impl Abort, alloc: Global, detail: Detail, transcript: &str) -> bool {
+    let script = lines_of(rt, alloc, transcript, false);
+    let printed = lines_of(rt, alloc, transcript, true);
+    ran(rt, alloc, &script, detail, &printed) == (Ending::Whole, true)
 }
 
 #[test]
-fn lines_print_what_stands_below_them(rt: HostRuntime) -> Result<(), Fail> {
-    for (title, detail, lines) in TRANSCRIPTS {
-        holds(&rt, title, prints(rt.alloc(), detail, lines)?);
+fn lines_print_what_stands_below_them(rt: HostRuntime) {
+    for (title, detail, lines) in TRANSCRIPTS.iter() {
+        holds(&rt, title, prints(&rt, rt.alloc(), *detail, lines));
     }
-    Ok(())
 }
 
-/// The status of a run, and whether it printed just this.
-fn status_of(alloc: Global, script: &str, wanted: &str) -> Result<(u8, bool), Fault> {
-    let (ending, page) = run(alloc, script.as_bytes(), Detail::Plain)?;
-    Ok((ending.status(), page.printed() == wanted.as_bytes()))
+/// The script ends with this status, and has printed just this.
+fn ends_with(rt: &impl Abort, alloc: Global, script: &str, status: u8, printed: &str) {
+    let bytes = script.as_bytes();
+    let (ending, is_printed) = ran(rt, alloc, bytes, Detail::Plain, printed.as_bytes());
+    let found = (script, ending.status(), is_printed);
+    same(rt, &found, &(script, status, true));
 }
 
 #[test]
-fn a_wrong_line_ends_the_run(rt: HostRuntime) -> Result<(), Fail> {
-    for (script, status, wanted) in [
-        ("", 0, ""),
-        (
-            "world 256 breadth 100 a\n\nread a a\nput a w flag true\n",
-            2,
-            "line 3\n",
-        ),
-        ("world 255 breadth 100 a", 3, "fault 5\n"),
-    ] {
-        let found = status_of(rt.alloc(), script, wanted)?;
-        same_at(&rt, &script, &found, &(status, true));
-    }
-    Ok(())
-}
-
-/// How the example ends in so many reads.
-fn ended_within(alloc: Global, max_reads: u64) -> Result<Result<Ending, Fault>, Fault> {
-    with_memory(run_to(alloc, EXAMPLE.as_bytes(), io::sink(), max_reads))
-}
-
-#[test]
-fn reads_are_counted(rt: HostRuntime) -> Result<(), Fail> {
+fn a_wrong_line_ends_the_run(rt: HostRuntime) {
     let alloc = rt.alloc();
-    for max_reads in 0..2 {
-        let ended = ended_within(alloc, max_reads)?;
-        same_at(&rt, &max_reads, &ended, &Err(Fault::TurnsSpent));
-    }
-    same(&rt, &ended_within(alloc, 2)?, &Ok(Ending::Whole));
-    Ok(())
+    ends_with(&rt, alloc, "", 0, "");
+    let script = "world 256 breadth 100 a\n\nread a a\nput a w flag true\n";
+    ends_with(&rt, alloc, script, 2, "line 3\n");
+    ends_with(&rt, alloc, "world 255 breadth 100 a", 3, "fault 5\n");
 }
 
-/// How a script ends whose reader is at its end so many times before it fails, and whether just this was printed.
-fn ended_at_breaks(
+/// The example ends so in so many reads.
+fn ends_within(rt: &impl Abort, alloc: Global, max_reads: u64, wanted: Result<Ending, Fault>) {
+    let script = EXAMPLE.as_bytes();
+    let ended = run_to(alloc, script, io::sink(), max_reads, Detail::Plain);
+    same(rt, &(max_reads, settled(rt, ended)), &(max_reads, wanted));
+}
+
+#[test]
+fn reads_are_counted(rt: HostRuntime) {
+    ends_within(&rt, rt.alloc(), 0, Err(Fault::TurnsSpent));
+    ends_within(&rt, rt.alloc(), 1, Err(Fault::TurnsSpent));
+    ends_within(&rt, rt.alloc(), 2, Ok(Ending::Whole));
+}
+
+/// A script whose reader is at its end so many times before it fails ends so, and has printed just this.
+fn ends_at_breaks(
+    rt: &impl Abort,
     alloc: Global,
-    script: &str,
-    ends: u64,
+    (script, ends): (&str, u64),
+    wanted: Result<Ending, Fault>,
     printed: &str,
-) -> Result<(Result<Ending, Fault>, bool), Fault> {
+) {
     let mut page = Page::new();
     let bytes = script.as_bytes();
-    let ended = run_to(alloc, BreakingReader { bytes, ends }, &mut page, 100);
-    if !page.had_memory() {
-        return Err(Fault::NoMemory);
-    }
-    Ok((with_memory(ended)?, page.printed() == printed.as_bytes()))
+    let reader = BreakingReader { bytes, ends };
+    let ended = run_to(alloc, reader, &mut page, 100, Detail::Plain);
+    let is_printed = page.has_just(rt, printed.as_bytes());
+    let found = (script, ends, settled(rt, ended), is_printed);
+    same(rt, &found, &(script, ends, wanted, true));
 }
 
 #[test]
-fn a_failed_read_is_no_end_and_the_end_is_read_once(rt: HostRuntime) -> Result<(), Fail> {
-    for (script, ends, ended, printed) in [
-        ("", 0, Err(Fault::ReadFailed), ""),
-        (EXAMPLE, 0, Err(Fault::ReadFailed), PRINTED),
-        (EXAMPLE, 1, Ok(Ending::Whole), PRINTED),
-    ] {
-        let found = ended_at_breaks(rt.alloc(), script, ends, printed)?;
-        same_at(&rt, &(script, ends), &found, &(ended, true));
-    }
-    Ok(())
+fn a_failed_read_is_no_end_and_the_end_is_read_once(rt: HostRuntime) {
+    let alloc = rt.alloc();
+    ends_at_breaks(&rt, alloc, ("", 0), Err(Fault::ReadFailed), "");
+    ends_at_breaks(&rt, alloc, (EXAMPLE, 0), Err(Fault::ReadFailed), PRINTED);
+    ends_at_breaks(&rt, alloc, (EXAMPLE, 1), Ok(Ending::Whole), PRINTED);
 }
 
-/// How the example ends over such a writer, and how many writes failed.
-fn ended_at_writer(
+/// Over such a writer, of which so many writes fail, the example ends so.
+fn ends_at_writer(
+    rt: &impl Abort,
     alloc: Global,
-    left: usize,
-    is_flushed: bool,
-) -> Result<(Result<Ending, Fault>, u32), Fault> {
+    (left, is_flushed): (usize, bool),
+    wanted: Result<Ending, Fault>,
+    failed: u32,
+) {
     let mut writer = ClosingWriter {
         left,
         is_flushed,
         failed: 0,
     };
-    let ended = run_to(alloc, EXAMPLE.as_bytes(), &mut writer, 100);
-    Ok((with_memory(ended)?, writer.failed))
+    let ended = run_to(alloc, EXAMPLE.as_bytes(), &mut writer, 100, Detail::Plain);
+    let found = (left, settled(rt, ended), writer.failed);
+    same(rt, &found, &(left, wanted, failed));
 }
 
 #[test]
-fn a_failed_write_says_how_much_was_written(rt: HostRuntime) -> Result<(), Fail> {
-    for (left, is_flushed, failed, wanted) in [
-        (17, true, 1, Err(Fault::WriteFailed(17))),
-        (500, false, 0, Err(Fault::WriteFailed(114))),
-        (114, true, 0, Ok(Ending::Whole)),
-    ] {
-        let found = ended_at_writer(rt.alloc(), left, is_flushed)?;
-        same_at(&rt, &left, &found, &(wanted, failed));
-    }
-    Ok(())
+fn a_failed_write_says_how_much_was_written(rt: HostRuntime) {
+    let alloc = rt.alloc();
+    ends_at_writer(&rt, alloc, (17, true), Err(Fault::WriteFailed(17)), 1);
+    ends_at_writer(&rt, alloc, (500, false), Err(Fault::WriteFailed(114)), 0);
+    ends_at_writer(&rt, alloc, (114, true), Ok(Ending::Whole), 0);
 }
 
 fn are_lines(printed: &[u8], lines: &[&str]) -> bool {
@@ -337,7 +354,8 @@ fn may_end(ended: Result<Ending, Fault>, printed: &[u8]) -> bool {
 #[test]
 fn any_memory_may_be_refused(rt: HostRuntime) {
     let mut page = Page::new();
-    let ended = run_to(rt.alloc(), EXAMPLE.as_bytes(), &mut page, 100);
+    let script = EXAMPLE.as_bytes();
+    let ended = run_to(rt.alloc(), script, &mut page, 100, Detail::Plain);
     let is_allowed = may_end(ended, page.printed());
-    same_at(&rt, &ended, &is_allowed, &true);
+    same(&rt, &(ended, is_allowed), &(ended, true));
 }
