@@ -1,13 +1,13 @@
 //! Requests over a reader that holds the answers, against frames that are written out by hand.
 ghost use Rattle.std.specs.Prelude.{◌≡◌, ◌<◌};
 
-use crate::making::{key, weight};
+use crate::making::put_of_w;
 use crate::{got, holds, same};
 use sb_codec::{Ask, Message};
 use sb_frames::Steps;
 use sb_query::print_rows;
 use sb_run::ask_control;
-use sb_types::{Fault, Prefix, Write};
+use sb_types::{Fault, Prefix};
 use std::alloc::Global;
 use std::io;
 use std::marker::Brand;
@@ -45,13 +45,6 @@ impl io::Write for ShortWriter {
     }
 }
 
-fn put_of_w(rt: &impl Abort) -> Message {
-    Message::Put(Write {
-        key: key(rt, b"w"),
-        slot: weight(rt, 5),
-    })
-}
-
 fn ask_for_all(rt: &impl Abort) -> Message {
     Message::Ask(Ask {
         owner: None,
@@ -60,10 +53,10 @@ fn ask_for_all(rt: &impl Abort) -> Message {
     })
 }
 
-/// The answer that a reader of these bytes holds.
-fn ask_on<K: Ledger, W: io::Write>(
+/// What comes of a request over a reader and a writer.
+fn ask_on<K: Ledger, R: io::Read, W: io::Write>(
     alloc: Global,
-    held: &[u8],
+    reader: &mut R,
     writer: &mut W,
     request: &Message,
     max_reads: u64,
@@ -74,18 +67,17 @@ fn ask_on<K: Ledger, W: io::Write>(
     requires some { 0 < blank.parts }
 {
     let mut steps = Steps::<K>::new(blank);
-    let mut reader = held;
-    ask_control(alloc, &mut reader, writer, request, max_reads, &mut steps)
+    ask_control(alloc, reader, writer, request, max_reads, &mut steps)
 }
 
-fn asked<W: io::Write>(
+pub(crate) fn asked<R: io::Read, W: io::Write>(
     alloc: Global,
-    held: &[u8],
+    reader: &mut R,
     writer: &mut W,
     request: &Message,
     max_reads: u64,
 ) -> Result<Message, Fault> {
-    ask_on::<Brand, W>(alloc, held, writer, request, max_reads, Blank::new(1))
+    ask_on::<Brand, R, W>(alloc, reader, writer, request, max_reads, Blank::new(1))
 }
 
 /// The answer to a request over a reader of these bytes; the request is sent as this frame.
@@ -96,8 +88,8 @@ fn answer_to(
     request: Message,
     frame: &[u8],
 ) -> Message {
-    let mut sent = Vec::new(alloc);
-    let answer = got(rt, asked(alloc, held, &mut sent, &request, 1));
+    let (mut reader, mut sent) = (held, Vec::new(alloc));
+    let answer = got(rt, asked(alloc, &mut reader, &mut sent, &request, 1));
     same(rt, &sent.as_slice(), &frame);
     answer
 }
@@ -141,8 +133,8 @@ fn fault_of<W: io::Write>(
     writer: &mut W,
     max_reads: u64,
 ) -> Fault {
-    let request = put_of_w(rt);
-    fault_in(rt, asked(alloc, held, writer, &request, max_reads))
+    let (mut reader, request) = (held, put_of_w(rt));
+    fault_in(rt, asked(alloc, &mut reader, writer, &request, max_reads))
 }
 
 fn fault_in(rt: &impl Abort, answer: Result<Message, Fault>) -> Fault {

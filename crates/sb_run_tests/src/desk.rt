@@ -11,6 +11,7 @@ use sb_run::{Owner, Stored, serve_control};
 use sb_types::{Delta, Fault};
 use sb_views::Opened;
 use std::alloc::Global;
+use std::io;
 use std::marker::Brand;
 use std::process::Abort;
 use std::sync::Wait;
@@ -81,18 +82,33 @@ impl<S: Configured, H: Wait + Drop> Desk<S, H> {
         request: &[u8],
         answer: &mut Vec<u8>,
     ) {
+        let mut reader = request;
+        got(rt, self.serve_over(rt, alloc, &mut reader, answer, 1));
+    }
+
+    /// Answers one request over a reader and a writer, with at most so many reads.
+    pub(crate) fn serve_over<Q: Wait + Abort, R: io::Read, W: io::Write>(
+        &mut self,
+        rt: &Q,
+        alloc: Global,
+        reader: &mut R,
+        writer: &mut W,
+        max_reads: u64,
+    ) -> Result<(), Fault> {
         let seat = there(rt, self.seat.take());
-        let seat = serve_from::<S, H, Q, Brand>(
+        let (seat, ended) = serve_from::<S, H, Q, R, W, Brand>(
             rt,
             alloc,
             &self.directory,
             &mut self.owner,
             seat,
-            request,
-            answer,
+            reader,
+            writer,
+            max_reads,
             Blank::new(1),
         );
         self.seat = Some(seat);
+        ended
     }
 }
 
@@ -111,33 +127,24 @@ fn seen_of_a<S: Configured>(rt: &impl Abort, entered: &EnteredSeat<S>) -> u64 {
     entered.snapshot().upto(&name(rt, b"a"))
 }
 
-fn serve_from<S: Configured, H: Wait + Drop, Q: Wait + Abort, K: Ledger>(
+fn serve_from<S: Configured, H: Wait + Drop, Q: Wait + Abort, R: io::Read, W: io::Write, K: Ledger>(
     rt: &Q,
     alloc: Global,
     directory: &Directory<S, H>,
     owner: &mut Owner<PlainLog>,
     seat: ReaderSeat<S>,
-    request: &[u8],
-    answer: &mut Vec<u8>,
+    reader: &mut R,
+    writer: &mut W,
+    max_reads: u64,
     blank: Blank,
-) -> ReaderSeat<S>
+) -> (ReaderSeat<S>, Result<(), Fault>)
     requires name { blank.name ≡ K.name }
     requires parts { blank.parts ≡ K.parts }
     requires some { 0 < blank.parts }
 {
     let mut steps = Steps::<K>::new(blank);
-    let mut reader = request;
     let (seat, ended, _) = serve_control(
-        rt,
-        alloc,
-        &mut reader,
-        answer,
-        directory,
-        owner,
-        seat,
-        1,
-        &mut steps,
+        rt, alloc, reader, writer, directory, owner, seat, max_reads, &mut steps,
     );
-    got(rt, ended);
-    seat
+    (seat, ended)
 }

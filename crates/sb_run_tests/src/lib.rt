@@ -7,6 +7,8 @@ mod asking;
 #[cfg(test)]
 mod desk;
 #[cfg(test)]
+mod failing;
+#[cfg(test)]
 mod making;
 #[cfg(test)]
 mod owing;
