@@ -1,8 +1,8 @@
 //! That a delta is the same, made with a list of all that a peer lacks and without it, of a thousand made-up holdings.
 ghost use Rattle.std.specs.Prelude.{◌≤◌, ◌<◌};
 
-use crate::making::arranged;
-use crate::same_at;
+use crate::making::{address, apply, arranged, entries_in, items};
+use crate::{got, key, name, push, same_at};
 use rand_core::utils::NextWord;
 use rand_pcg::Pcg32;
 use sb_breadth::Breadth;
@@ -10,11 +10,11 @@ use sb_budget::{DeltaOrder, cut};
 use sb_codec::{Message, encode_payload};
 use sb_depth::Depth;
 use sb_digest::{Digest, Pair};
-use sb_holdings::{BlockEnd, Holdings};
+use sb_holdings::Holdings;
 use sb_table::Table;
-use sb_types::{BUDGET_LEAST, BUDGET_MOST, Block, Delta, Entry, Fault, Key, Name, Slot, Value};
+use sb_types::{BUDGET_LEAST, BUDGET_MOST, Block, Delta, Entry, Key, Name, Slot, Value};
 use std::alloc::Global;
-use std::test::Fail;
+use std::process::Abort;
 
 /// How many holdings are made up.
 const HOLDINGS: u64 = 1_000;
@@ -28,80 +28,109 @@ fn below(random: &mut Pcg32, limit: u32) -> u64
 }
 
 /// Something to write, of 1 to 131 bytes in a message.
-fn slot_of(alloc: Global, random: &mut Pcg32) -> Result<Slot, Fault> {
-    Ok(match below(random, 4) {
+fn slot_of(rt: &impl Abort, alloc: Global, random: &mut Pcg32) -> Slot {
+    match below(random, 4) {
         0 => Slot::Removed,
         1 => Slot::Set(Value::flag(true)),
-        2 => Slot::Set(Value::weight(below(random, 1_000))?),
-        _ => Slot::Set(Value::addr(alloc, &[b'p'; 128])?),
-    })
+        2 => Slot::Set(got(rt, Value::weight(below(random, 1_000)))),
+        _ => address(rt, alloc),
+    }
 }
 
 /// One of eight keys.
-fn key_of(number: u64) -> Result<Key, Fault> {
-    Key::read(&[b'k', b'a' + (number % 8) as u8])
+fn key_of(rt: &impl Abort, number: u64) -> Key {
+    key(rt, &[b'k', b'a' + (number % 8) as u8])
 }
 
 /// What an owner wrote in a round, above all of the rounds before: up to six keys, of which some are written again.
 fn round_of(
+    rt: &impl Abort,
     alloc: Global,
     random: &mut Pcg32,
     owner: Name,
     round: u64,
     after: u64,
-) -> Result<Block, Fault>
+) -> Block
     requires { round < 4 }
 {
     let first = below(random, 8);
     let mut entries = Vec::new(alloc);
     for number in 0..=below(random, 6) {
         let version = round * 8 + number + 1;
-        entries.push(Entry::new(key_of(first + number)?, version, slot_of(alloc, random)?))?;
+        let key = key_of(rt, first + number);
+        push(
+            rt,
+            &mut entries,
+            Entry::new(key, version, slot_of(rt, alloc, random)),
+        );
     }
-    Block::new(owner, after, entries)
+    got(rt, Block::new(owner, after, entries))
+}
+
+/// Up to seven own writes, under some of eight keys.
+fn write_own(rt: &impl Abort, alloc: Global, random: &mut Pcg32, holdings: &mut Holdings) {
+    for number in 0..below(random, 7) {
+        let key = key_of(rt, below(random, 8));
+        let entry = Entry::new(key, number + 1, slot_of(rt, alloc, random));
+        got(rt, holdings.push_own(entry));
+    }
+}
+
+/// What another owner wrote in up to three rounds.
+fn write_other(
+    rt: &impl Abort,
+    alloc: Global,
+    random: &mut Pcg32,
+    holdings: &mut Holdings,
+    owner: Name,
+) {
+    for round in 0..below(random, 4) {
+        let block = round_of(rt, alloc, random, owner, round, holdings.upto(&owner));
+        apply(rt, holdings, &block);
+    }
 }
 
 /// Up to seven owners, of which each wrote up to eight keys in up to three rounds.
-fn made_holdings(alloc: Global, random: &mut Pcg32) -> Result<Holdings, Fault> {
-    let mut holdings = Holdings::new(alloc, Name::read(b"d")?, Table::new(alloc))?;
-    for number in 0..below(random, 7) {
-        let key = key_of(below(random, 8))?;
-        holdings.push_own(Entry::new(key, number + 1, slot_of(alloc, random)?))?;
-    }
+fn made_holdings(rt: &impl Abort, alloc: Global, random: &mut Pcg32) -> Holdings {
+    let mut holdings = got(rt, Holdings::new(alloc, name(rt, b"d"), Table::new(alloc)));
+    write_own(rt, alloc, random, &mut holdings);
     for letter in [b'a', b'b', b'c', b'e', b'f', b'g'] {
-        let owner = Name::read(&[letter])?;
-        for round in 0..below(random, 4) {
-            let block = round_of(alloc, random, owner, round, holdings.upto(&owner))?;
-            if let BlockEnd::NoMemory(_) = holdings.apply_block(&block) {
-                return Err(Fault::NoMemory);
-            }
+        write_other(rt, alloc, random, &mut holdings, name(rt, &[letter]));
+    }
+    holdings
+}
+
+/// About half of the owners from a letter on and before another, held up to any version.
+fn made_pairs(
+    rt: &impl Abort,
+    alloc: Global,
+    random: &mut Pcg32,
+    first: u8,
+    behind: u8,
+) -> Vec<Pair> {
+    let mut pairs = Vec::new(alloc);
+    for letter in first..behind {
+        if below(random, 2) == 1 {
+            let owner = name(rt, &[letter]);
+            let upto = below(random, 40);
+            push(rt, &mut pairs, Pair { owner, upto });
         }
     }
-    Ok(holdings)
+    pairs
 }
 
 /// What a peer may send: about half of the owners, held up to any version, of all names or between two.
-fn made_digest(alloc: Global, random: &mut Pcg32) -> Result<Digest, Fault> {
-    let (low, high) = ([b'a', b'c'], [b'f', b'h']);
-    let (from, until) = (below(random, 2) as usize, below(random, 2) as usize);
-    let mut pairs = Vec::new(alloc);
-    for letter in low[from]..high[until] {
-        if below(random, 2) == 1 {
-            pairs.push(Pair {
-                owner: Name::read(&[letter])?,
-                upto: below(random, 40),
-            })?;
-        }
-    }
-    let from = match from {
-        0 => None,
-        _ => Some(Name::read(b"c")?),
+fn made_digest(rt: &impl Abort, alloc: Global, random: &mut Pcg32) -> Digest {
+    let (first, from) = match below(random, 2) {
+        0 => (b'a', None),
+        _ => (b'c', Some(name(rt, b"c"))),
     };
-    let until = match until {
-        0 => Some(Name::read(b"f")?),
-        _ => None,
+    let (behind, until) = match below(random, 2) {
+        0 => (b'f', Some(name(rt, b"f"))),
+        _ => (b'h', None),
     };
-    Digest::new(false, from, until, pairs)
+    let pairs = made_pairs(rt, alloc, random, first, behind);
+    got(rt, Digest::new(false, from, until, pairs))
 }
 
 /// The least budget, the greatest, or one between.
@@ -116,59 +145,55 @@ fn made_budget(random: &mut Pcg32) -> u64
     }
 }
 
-fn payload_of(alloc: Global, delta: Delta) -> Result<Vec<u8>, Fault> {
-    encode_payload(alloc, &Message::Delta(delta))
+fn payload_of(rt: &impl Abort, alloc: Global, delta: Delta) -> Vec<u8> {
+    got(rt, encode_payload(alloc, &Message::Delta(delta)))
 }
 
-fn entries_in(delta: &Delta) -> usize {
-    let mut entries = 0_usize;
-    for block in delta.blocks() {
-        entries = entries.wrapping_add(block.entries().len());
-    }
-    entries
+/// Whether two deltas are the same in a message.
+fn are_equal(rt: &impl Abort, alloc: Global, one: Delta, other: Delta) -> bool {
+    payload_of(rt, alloc, one) == payload_of(rt, alloc, other)
 }
 
 /// Whether both ways make the same delta, and whether it leaves something out.
 fn compare<O: DeltaOrder>(
+    rt: &impl Abort,
     alloc: Global,
     order: &O,
     holdings: &Holdings,
     digest: &Digest,
     budget: u64,
-) -> Result<(bool, bool), Fault>
+) -> (bool, bool)
     requires least { BUDGET_LEAST ≤ budget }
     requires most { budget ≤ BUDGET_MOST }
 {
-    let listed = arranged(alloc, holdings, digest, order)?;
+    let listed = items(rt, arranged(alloc, holdings, digest, order));
     let lacking = listed.len();
-    let cut = cut(alloc, listed, budget)?;
-    let walked = order.delta(alloc, holdings, digest, budget)?;
+    let cut = got(rt, cut(alloc, listed, budget));
+    let walked = got(rt, order.delta(alloc, holdings, digest, budget));
     let is_cut_short = entries_in(&walked) < lacking;
-    let are_equal = payload_of(alloc, cut)? == payload_of(alloc, walked)?;
-    Ok((are_equal, is_cut_short))
+    (are_equal(rt, alloc, cut, walked), is_cut_short)
 }
 
 /// Whether both ways make the same delta of holdings that are made up, by breadth and by depth; and whether it leaves
 /// something out by breadth.
-fn compare_made(alloc: Global, random: &mut Pcg32) -> Result<([bool; 2], bool), Fault> {
-    let holdings = made_holdings(alloc, random)?;
-    let digest = made_digest(alloc, random)?;
+fn compare_made(rt: &impl Abort, alloc: Global, random: &mut Pcg32) -> ([bool; 2], bool) {
+    let holdings = made_holdings(rt, alloc, random);
+    let digest = made_digest(rt, alloc, random);
     let budget = made_budget(random);
-    let (wide, is_short) = compare(alloc, &Breadth, &holdings, &digest, budget)?;
-    let (deep, _) = compare(alloc, &Depth, &holdings, &digest, budget)?;
-    Ok(([wide, deep], is_short))
+    let (wide, is_short) = compare(rt, alloc, &Breadth, &holdings, &digest, budget);
+    let (deep, _) = compare(rt, alloc, &Depth, &holdings, &digest, budget);
+    ([wide, deep], is_short)
 }
 
 #[test]
-fn both_ways_make_one_delta(rt: HostRuntime) -> Result<(), Fail> {
+fn both_ways_make_one_delta(rt: HostRuntime) {
     let mut random = Pcg32::new(42, 54);
     let mut cut_short = 0_u64;
     for number in 0..HOLDINGS {
-        let (are_equal, is_short) = compare_made(rt.alloc(), &mut random)?;
+        let (are_equal, is_short) = compare_made(&rt, rt.alloc(), &mut random);
         same_at(&rt, &number, &are_equal, &[true, true]);
         cut_short = cut_short.wrapping_add(u64::from(is_short));
     }
     // Not of holdings alone that fit a frame.
     same_at(&rt, &cut_short, &(cut_short > HOLDINGS / 8), &true);
-    Ok(())
 }

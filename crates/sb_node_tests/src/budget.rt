@@ -1,8 +1,8 @@
 //! What is offered and cut at exact budgets, also of all keys that an owner may have.
-ghost use Rattle.std.specs.Prelude.{◌≡◌, ◌≤◌, IfOk};
+ghost use Rattle.std.specs.Prelude.{◌≡◌, ◌≤◌, ◌<◌, IfOk, OnOk};
 
-use crate::making::letters_of;
-use crate::{same, same_at};
+use crate::making::{address, apply, items, letters_of, nothing, tells};
+use crate::{got, key, name, one, push, same, same_at, there};
 use sb_budget::{Offered, available, cut};
 use sb_digest::{Digest, Pair};
 use sb_holdings::{BlockEnd, Holdings};
@@ -11,273 +11,316 @@ use sb_types::{
     BUDGET_LEAST, BUDGET_MOST, Block, Delta, Entry, Fault, HEADER_LENGTH, Key, Name, Slot, Value,
 };
 use std::alloc::Global;
-use std::test::Fail;
+use std::process::Abort;
 
 const LONGEST_NAME: &[u8] = b"abcdefghijklmnopqrstuvwxyz-01234";
 
 const LONGEST_KEY: &[u8] = b"abcdefghijklmnopqrstuvwxyz012345.bcdefghijklmnopqrstuvwxyz_/-789";
 
 /// An address of 128 bytes under a key.
-fn longest_value(alloc: Global, key: &[u8], version: u64) -> Result<Entry, Fault>
+fn longest_value(rt: &impl Abort, alloc: Global, text: &[u8], version: u64) -> Entry
     requires { 1 ≤ version }
-    ensures { IfOk result (λ e. e.version ≡ version) }
+    ensures { result.version ≡ version }
 {
-    let text = [b'p'; 128];
-    let value = Value::addr(alloc, &text)?;
-    Ok(Entry::new(Key::read(key)?, version, Slot::Set(value)))
+    Entry::new(key(rt, text), version, address(rt, alloc))
 }
 
-/// The owner a, which wrote x, y and x again.
-fn three_writes(alloc: Global) -> Result<Holdings, Fault> {
-    let mut table = Table::new(alloc);
-    table.push(longest_value(alloc, b"x", 1)?)?;
-    table.push(longest_value(alloc, b"y", 2)?)?;
-    table.push(longest_value(alloc, b"x", 3)?)?;
-    Holdings::new(alloc, Name::read(b"a")?, table)
-}
-
-/// The owner a, which wrote three keys, and the owner b, which wrote one: entries of 203 bytes.
-fn two_owners(alloc: Global) -> Result<Holdings, Fault> {
-    let mut table = Table::new(alloc);
-    table.push(longest_value(alloc, &[b'x'; 64], 1)?)?;
-    table.push(longest_value(alloc, &[b'y'; 64], 2)?)?;
-    table.push(longest_value(alloc, &[b'z'; 64], 3)?)?;
-    let mut holdings = Holdings::new(alloc, Name::read(b"a")?, table)?;
-    let entry = longest_value(alloc, &[b'x'; 64], 1)?;
-    let block = Block::new(Name::read(b"b")?, 0, vec![in alloc; entry]?)?;
-    apply(&mut holdings, &block)?;
-    Ok(holdings)
-}
-
-/// How the block ended, where there was memory for it.
-fn apply(holdings: &mut Holdings, block: &Block) -> Result<BlockEnd, Fault> {
-    match holdings.apply_block(block) {
-        BlockEnd::NoMemory(_) => Err(Fault::NoMemory),
-        end => Ok(end),
+/// Enters a write of a later version than any before.
+fn enter(rt: &impl Abort, table: &mut Table, entry: Entry)
+    requires { table.old.held < entry.version }
+    ensures { table.new.held ≡ entry.version }
+{
+    match table.push(entry) {
+        Ok(()) => {}
+        Err(fault) => panic!(rt; "error: {fault:?}"),
     }
 }
 
+/// The holdings of an owner with its table.
+fn holdings_of(rt: &impl Abort, alloc: Global, owner: &[u8], table: Table) -> Holdings {
+    got(rt, Holdings::new(alloc, name(rt, owner), table))
+}
+
+/// The owner a, which wrote x, y and x again.
+fn three_writes(rt: &impl Abort, alloc: Global) -> Holdings {
+    let mut table = Table::new(alloc);
+    enter(rt, &mut table, longest_value(rt, alloc, b"x", 1));
+    enter(rt, &mut table, longest_value(rt, alloc, b"y", 2));
+    enter(rt, &mut table, longest_value(rt, alloc, b"x", 3));
+    holdings_of(rt, alloc, b"a", table)
+}
+
+/// Enters an entry of 203 bytes, whose key is 64 times the letter.
+fn enter_longest(alloc: Global, table: &mut Table, letter: u8, version: u64) -> Result<(), Fault>
+    requires { table.old.held < version }
+    ensures { OnOk result (table.new.held ≡ version) }
+{
+    let value = Value::addr(alloc, &[b'p'; 128])?;
+    let key = Key::read(&[letter; 64])?;
+    table.push(Entry::new(key, version, Slot::Set(value)))
+}
+
+/// The owner a, which wrote three keys: entries of 203 bytes.
+fn three_keys(alloc: Global, owner: Name) -> Result<Holdings, Fault> {
+    let mut table = Table::new(alloc);
+    enter_longest(alloc, &mut table, b'x', 1)?;
+    enter_longest(alloc, &mut table, b'y', 2)?;
+    enter_longest(alloc, &mut table, b'z', 3)?;
+    Holdings::new(alloc, owner, table)
+}
+
+/// The block of an owner that wrote one key: an entry of 203 bytes.
+fn one_key(alloc: Global, owner: Name) -> Result<Block, Fault> {
+    let value = Value::addr(alloc, &[b'p'; 128])?;
+    let entry = Entry::new(Key::read(&[b'x'; 64])?, 1, Slot::Set(value));
+    Block::new(owner, 0, vec![in alloc; entry]?)
+}
+
+/// The owner a, which wrote three keys, and the owner b, which wrote one: entries of 203 bytes.
+fn two_owners_or_none(alloc: Global, a: Name, b: Name) -> Result<Holdings, Fault> {
+    let mut holdings = three_keys(alloc, a)?;
+    let block = one_key(alloc, b)?;
+    match holdings.apply_block(&block) {
+        BlockEnd::NoMemory(_) => Err(Fault::NoMemory),
+        _ => Ok(holdings),
+    }
+}
+
+/// The same, where there is memory.
+fn two_owners(rt: &impl Abort, alloc: Global) -> Holdings {
+    let (a, b) = (name(rt, b"a"), name(rt, b"b"));
+    got(rt, two_owners_or_none(alloc, a, b))
+}
+
 /// The version under a key.
-fn version_at(holdings: &Holdings, owner: &Name, key: &[u8]) -> Result<Option<u64>, Fault> {
-    let key = Key::read(key)?;
-    let Some(table) = holdings.table(owner) else {
-        return Ok(None);
-    };
-    match table.get(&key) {
-        Some((version, _)) => Ok(Some(version)),
-        None => Ok(None),
+fn version_at(rt: &impl Abort, holdings: &Holdings, owner: &Name, text: &[u8]) -> Option<u64> {
+    let key = key(rt, text);
+    match holdings.table(owner)?.get(&key) {
+        Some((version, _)) => Some(version),
+        None => None,
     }
 }
 
 /// The digest of a range of names, with these owners held up to these versions.
 fn digest_of(
+    rt: &impl Abort,
     alloc: Global,
     from: Option<Name>,
     until: Option<Name>,
     held: &[(Name, u64)],
-) -> Result<Digest, Fault> {
+) -> Digest {
     let mut pairs = Vec::new(alloc);
     for (owner, version) in held {
-        pairs.push(Pair {
-            owner: *owner,
-            upto: *version,
-        })?;
+        let (owner, upto) = (*owner, *version);
+        push(rt, &mut pairs, Pair { owner, upto });
     }
-    Digest::new(false, from, until, pairs)
+    got(rt, Digest::new(false, from, until, pairs))
+}
+
+/// What a digest leaves, cut to the budget.
+fn cut_after(
+    rt: &impl Abort,
+    alloc: Global,
+    holdings: &Holdings,
+    digest: &Digest,
+    budget: u64,
+) -> Delta
+    requires least { BUDGET_LEAST ≤ budget }
+    requires most { budget ≤ BUDGET_MOST }
+{
+    let offered = items(rt, available(alloc, holdings, digest));
+    got(rt, cut(alloc, offered, budget))
 }
 
 /// All that is held, cut to the budget.
-fn cut_of_all(alloc: Global, holdings: &Holdings, budget: u64) -> Result<Delta, Fault>
+fn cut_of_all(rt: &impl Abort, alloc: Global, holdings: &Holdings, budget: u64) -> Delta
     requires least { BUDGET_LEAST ≤ budget }
     requires most { budget ≤ BUDGET_MOST }
 {
-    let digest = Digest::new(false, None, None, Vec::new(alloc))?;
-    cut(alloc, available(alloc, holdings, &digest)?, budget)
-}
-
-/// Of each block the owner's name and the versions.
-fn told(alloc: Global, delta: &Delta) -> Result<Vec<(Name, u64)>, Fault> {
-    let mut told = Vec::new(alloc);
-    for block in delta.blocks() {
-        for entry in block.entries() {
-            told.push((*block.owner(), entry.version()))?;
-        }
-    }
-    Ok(told)
+    cut_after(rt, alloc, holdings, &nothing(rt, alloc, false), budget)
 }
 
 /// The own name a, with a flag under each of as many keys of four letters.
-fn flags(alloc: Global, count: u64) -> Result<Holdings, Fault> {
-    let mut holdings = Holdings::new(alloc, Name::read(b"a")?, Table::new(alloc))?;
+fn flags(rt: &impl Abort, alloc: Global, count: u64) -> Holdings {
+    let mut holdings = holdings_of(rt, alloc, b"a", Table::new(alloc));
     for number in 0..count {
         let slot = Slot::Set(Value::flag(true));
-        let key = Key::read(&letters_of(number))?;
-        holdings.push_own(Entry::new(key, number + 1, slot))?;
+        let entry = Entry::new(key(rt, &letters_of(number)), number + 1, slot);
+        got(rt, holdings.push_own(entry));
     }
-    Ok(holdings)
+    holdings
 }
 
-/// How long the frame of a cut of all is, and of each of its blocks the owner, the range and how many entries it has.
-type Cut = (u64, Vec<(Name, u64, u64, usize)>);
+/// Of a block the owner, the range and how many entries it has.
+type Part = (Name, u64, u64, usize);
 
-fn cut_to(alloc: Global, holdings: &Holdings, budget: u64) -> Result<Cut, Fault>
+/// How long a frame the delta has, and whether just these are its blocks.
+fn consists(delta: &Delta, wanted: &[Part]) -> (u64, bool) {
+    let mut are_equal = delta.blocks().len() == wanted.len();
+    for (block, part) in delta.blocks().iter().zip(wanted) {
+        let range = (block.after(), block.upto());
+        are_equal &= (*block.owner(), range.0, range.1, block.entries().len()) == *part;
+    }
+    (delta.encoded_length() + HEADER_LENGTH, are_equal)
+}
+
+/// How long a frame a cut of all has, and whether just these are its blocks.
+fn cut_to(
+    rt: &impl Abort,
+    alloc: Global,
+    holdings: &Holdings,
+    budget: u64,
+    wanted: &[Part],
+) -> (u64, bool)
     requires least { BUDGET_LEAST ≤ budget }
     requires most { budget ≤ BUDGET_MOST }
 {
-    let delta = cut_of_all(alloc, holdings, budget)?;
-    let mut blocks = Vec::new(alloc);
-    for block in delta.blocks() {
-        let range = (block.after(), block.upto());
-        blocks.push((*block.owner(), range.0, range.1, block.entries().len()))?;
-    }
-    Ok((delta.encoded_length() + HEADER_LENGTH, blocks))
+    consists(&cut_of_all(rt, alloc, holdings, budget), wanted)
+}
+
+/// Ends the test where a cut of all is not a block of so many entries up to this version of a, and a frame so long.
+fn cut_of_a(
+    rt: &impl Abort,
+    alloc: Global,
+    holdings: &Holdings,
+    budget: u64,
+    length: u64,
+    taken: (u64, usize),
+)
+    requires least { BUDGET_LEAST ≤ budget }
+    requires most { budget ≤ BUDGET_MOST }
+{
+    let (upto, count) = taken;
+    let wanted = [(name(rt, b"a"), 0, upto, count)];
+    let found = cut_to(rt, alloc, holdings, budget, &wanted);
+    same_at(rt, &budget, &found, &(length, true));
 }
 
 /// All 4,096 keys of an owner are offered, and fit a frame of 61,461 bytes.
 #[test]
-fn all_keys_of_an_owner_are_cut(rt: HostRuntime) -> Result<(), Fail> {
+fn all_keys_of_an_owner_are_cut(rt: HostRuntime) {
     let alloc = rt.alloc();
-    let a = Name::read(b"a")?;
-    let holdings = flags(alloc, 4_096)?;
-    for (budget, count, length) in [
-        (65_536, 4_096, 61_461),
-        (61_461, 4_096, 61_461),
-        (61_460, 4_095, 61_446),
-        (256, 15, 246),
-    ] {
-        let (frame, blocks) = cut_to(alloc, &holdings, budget)?;
-        let wanted = (a, 0, count, count as usize);
-        let found = (frame, blocks.as_slice());
-        same(&rt, &found, &(length, [wanted].as_slice()));
-    }
-    Ok(())
+    let holdings = flags(&rt, alloc, 4_096);
+    cut_of_a(&rt, alloc, &holdings, 65_536, 61_461, (4_096, 4_096));
+    cut_of_a(&rt, alloc, &holdings, 61_461, 61_461, (4_096, 4_096));
+    cut_of_a(&rt, alloc, &holdings, 61_460, 61_446, (4_095, 4_095));
+    cut_of_a(&rt, alloc, &holdings, 256, 246, (15, 15));
 }
 
 /// The owner a, which wrote a flag.
-fn one_flag(alloc: Global) -> Result<Holdings, Fault> {
+fn one_flag(rt: &impl Abort, alloc: Global) -> Holdings {
     let mut table = Table::new(alloc);
     let slot = Slot::Set(Value::flag(true));
-    table.push(Entry::new(Key::read(b"up")?, 1, slot))?;
-    Holdings::new(alloc, Name::read(b"a")?, table)
+    enter(rt, &mut table, Entry::new(key(rt, b"up"), 1, slot));
+    holdings_of(rt, alloc, b"a", table)
 }
 
 /// How many blocks are in a cut of what a digest leaves, and its length.
-fn cut_after(alloc: Global, holdings: &Holdings, digest: &Digest) -> Result<(usize, u64), Fault> {
-    let delta = cut(alloc, available(alloc, holdings, digest)?, 256)?;
-    Ok((delta.blocks().len(), delta.encoded_length()))
+fn extent_after(
+    rt: &impl Abort,
+    alloc: Global,
+    holdings: &Holdings,
+    digest: &Digest,
+) -> (usize, u64) {
+    let delta = cut_after(rt, alloc, holdings, digest, 256);
+    (delta.blocks().len(), delta.encoded_length())
 }
 
 /// The example of `cut`.
 #[test]
-fn example_of_cut(rt: HostRuntime) -> Result<(), Fail> {
+fn example_of_cut(rt: HostRuntime) {
     let alloc = rt.alloc();
-    let digest = Digest::new(true, None, None, Vec::new(alloc))?;
-    let found = cut_after(alloc, &one_flag(alloc)?, &digest)?;
+    let digest = nothing(&rt, alloc, true);
+    let found = extent_after(&rt, alloc, &one_flag(&rt, alloc), &digest);
     // 3 bytes, the block's 12, and the entry's 13.
     same(&rt, &found, &(1, 28));
-    Ok(())
 }
 
 /// How a block ends, how far its owner is then held, and the versions under the keys y and x.
 type Taken = (BlockEnd, u64, Option<u64>, Option<u64>);
 
-/// What a peer makes of a delta of one block and one entry.
-fn taken(alloc: Global, delta: &Delta) -> Result<Option<Taken>, Fault> {
-    let mut peer = Holdings::new(alloc, Name::read(b"b")?, Table::new(alloc))?;
-    let Some(block) = delta.blocks().first() else {
-        return Ok(None);
-    };
-    let end = apply(&mut peer, block)?;
+/// What a peer makes of a block.
+fn taken(rt: &impl Abort, alloc: Global, block: &Block) -> Taken {
+    let mut peer = holdings_of(rt, alloc, b"b", Table::new(alloc));
+    let end = apply(rt, &mut peer, block);
     let owner = block.owner();
-    let [y, x] = [
-        version_at(&peer, owner, b"y")?,
-        version_at(&peer, owner, b"x")?,
-    ];
-    Ok(Some((end, peer.upto(owner), y, x)))
+    let y = version_at(rt, &peer, owner, b"y");
+    let x = version_at(rt, &peer, owner, b"x");
+    (end, peer.upto(owner), y, x)
 }
 
-/// What a cut of all tells, and what a peer makes of it.
+/// How long a frame a cut of all has, whether it tells just these writes, and what a peer makes of its first block.
 fn told_and_taken(
+    rt: &impl Abort,
     alloc: Global,
     holdings: &Holdings,
-) -> Result<(Vec<(Name, u64)>, Option<Taken>), Fault> {
-    let delta = cut_of_all(alloc, holdings, 256)?;
-    let taken = taken(alloc, &delta)?;
-    Ok((told(alloc, &delta)?, taken))
+    wanted: &[(Name, u64)],
+) -> ((u64, bool), Taken) {
+    let delta = cut_of_all(rt, alloc, holdings, 256);
+    let block = there(rt, delta.blocks().first());
+    (tells(&delta, wanted), taken(rt, alloc, block))
 }
 
 #[test]
-fn an_entry_that_does_not_fit_waits(rt: HostRuntime) -> Result<(), Fail> {
+fn an_entry_that_does_not_fit_waits(rt: HostRuntime) {
     let alloc = rt.alloc();
-    let a = Name::read(b"a")?;
-    let holdings = three_writes(alloc)?;
+    let holdings = three_writes(&rt, alloc);
     // The whole has a frame of 301 bytes.
-    for (budget, length, upto, count) in [(256, 161, 2, 1), (300, 161, 2, 1), (301, 301, 3, 2)] {
-        let (frame, blocks) = cut_to(alloc, &holdings, budget)?;
-        let wanted = [(a, 0, upto, count)];
-        let found = (frame, blocks.as_slice());
-        same(&rt, &found, &(length, wanted.as_slice()));
-    }
-    let (told, taken) = told_and_taken(alloc, &holdings)?;
+    cut_of_a(&rt, alloc, &holdings, 256, 161, (2, 1));
+    cut_of_a(&rt, alloc, &holdings, 300, 161, (2, 1));
+    cut_of_a(&rt, alloc, &holdings, 301, 301, (3, 2));
+    let found = told_and_taken(&rt, alloc, &holdings, &[(name(&rt, b"a"), 2)]);
     let wanted = (BlockEnd::Taken(1), 2, Some(2), None);
-    let found = (told.as_slice(), taken);
-    same(&rt, &found, &([(a, 2)].as_slice(), Some(wanted)));
-    Ok(())
+    same(&rt, &found, &((161, true), wanted));
 }
 
 /// The longest entry of all, under the longest name.
-fn longest_of_all(alloc: Global) -> Result<Holdings, Fault> {
+fn longest_of_all(rt: &impl Abort, alloc: Global) -> Holdings {
     let mut table = Table::new(alloc);
-    table.push(longest_value(alloc, LONGEST_KEY, 1)?)?;
-    Holdings::new(alloc, Name::read(LONGEST_NAME)?, table)
+    enter(rt, &mut table, longest_value(rt, alloc, LONGEST_KEY, 1));
+    holdings_of(rt, alloc, LONGEST_NAME, table)
 }
 
 #[test]
-fn the_longest_entry_fits_the_least_budget(rt: HostRuntime) -> Result<(), Fail> {
+fn the_longest_entry_fits_the_least_budget(rt: HostRuntime) {
     let alloc = rt.alloc();
-    let wanted = [(Name::read(LONGEST_NAME)?, 0, 1, 1)];
-    let (frame, blocks) = cut_to(alloc, &longest_of_all(alloc)?, 256)?;
-    same(&rt, &(frame, blocks.as_slice()), &(255, wanted.as_slice()));
-    Ok(())
+    let wanted = [(name(&rt, LONGEST_NAME), 0, 1, 1)];
+    let found = cut_to(&rt, alloc, &longest_of_all(&rt, alloc), 256, &wanted);
+    same(&rt, &found, &(255, true));
 }
 
-/// How long the frame of a cut of all is, and what it tells.
+/// Ends the test where a cut of all does not tell just the first so many of the writes, in a frame so long.
 fn told_to(
+    rt: &impl Abort,
     alloc: Global,
     holdings: &Holdings,
     budget: u64,
-) -> Result<(u64, Vec<(Name, u64)>), Fault>
+    count: usize,
+    length: u64,
+)
     requires least { BUDGET_LEAST ≤ budget }
     requires most { budget ≤ BUDGET_MOST }
 {
-    let delta = cut_of_all(alloc, holdings, budget)?;
-    let frame = delta.encoded_length() + HEADER_LENGTH;
-    Ok((frame, told(alloc, &delta)?))
+    let (a, b) = (name(rt, b"a"), name(rt, b"b"));
+    let all = [(a, 1), (a, 2), (a, 3), (b, 1)];
+    let front = there(rt, all.get(..count));
+    let found = tells(&cut_of_all(rt, alloc, holdings, budget), front);
+    same_at(rt, &budget, &found, &(length, true));
 }
 
 #[test]
-fn owners_follow_one_another(rt: HostRuntime) -> Result<(), Fail> {
+fn owners_follow_one_another(rt: HostRuntime) {
     let alloc = rt.alloc();
-    let [a, b] = [Name::read(b"a")?, Name::read(b"b")?];
-    let all = [(a, 1), (a, 2), (a, 3), (b, 1)];
-    let holdings = two_owners(alloc)?;
-    for (budget, count, length) in [
-        (256, 1, 224),
-        (426, 1, 224),
-        (427, 2, 427),
-        (438, 2, 427),
-        (440, 2, 427),
-        (629, 2, 427),
-        (630, 3, 630),
-        (844, 3, 630),
-        (845, 4, 845),
-    ] {
-        let (front, _) = all.split_at(count);
-        let (frame, told) = told_to(alloc, &holdings, budget)?;
-        let found = (frame, told.as_slice());
-        same_at(&rt, &budget, &found, &(length, front));
-    }
-    Ok(())
+    let holdings = two_owners(&rt, alloc);
+    told_to(&rt, alloc, &holdings, 256, 1, 224);
+    told_to(&rt, alloc, &holdings, 426, 1, 224);
+    told_to(&rt, alloc, &holdings, 427, 2, 427);
+    told_to(&rt, alloc, &holdings, 438, 2, 427);
+    told_to(&rt, alloc, &holdings, 440, 2, 427);
+    told_to(&rt, alloc, &holdings, 629, 2, 427);
+    told_to(&rt, alloc, &holdings, 630, 3, 630);
+    told_to(&rt, alloc, &holdings, 844, 3, 630);
+    told_to(&rt, alloc, &holdings, 845, 4, 845);
 }
 
 /// Of an item the owner, what it is offered after and up to, its rank and count, and its version.
@@ -294,74 +337,73 @@ fn place(item: &Offered) -> Place {
     )
 }
 
-/// Whether these items are what a digest leaves of a range of names, with these owners held up to these versions.
-fn are_left(
-    alloc: Global,
-    holdings: &Holdings,
-    from: Option<Name>,
-    until: Option<Name>,
-    held: &[(Name, u64)],
-    wanted: &[Place],
-) -> Result<bool, Fault> {
-    let digest = digest_of(alloc, from, until, held)?;
-    let offered = available(alloc, holdings, &digest)?;
+/// Ends the test where not just these items are what a digest leaves.
+fn leaves(rt: &impl Abort, alloc: Global, holdings: &Holdings, digest: &Digest, wanted: &[Place]) {
+    let offered = got(rt, available(alloc, holdings, digest));
     let mut are_equal = offered.len() == wanted.len();
     for (item, wanted) in offered.iter().zip(wanted) {
         are_equal &= place(item) == *wanted;
     }
-    Ok(are_equal)
+    same_at(rt, &wanted, &are_equal, &true);
 }
 
 #[test]
-fn what_a_digest_leaves(rt: HostRuntime) -> Result<(), Fail> {
+fn what_a_digest_leaves(rt: HostRuntime) {
     let alloc = rt.alloc();
-    let [a, b] = [Name::read(b"a")?, Name::read(b"b")?];
-    let holdings = two_owners(alloc)?;
+    let (a, b) = (name(&rt, b"a"), name(&rt, b"b"));
+    let holdings = two_owners(&rt, alloc);
     let of_a = [(a, 0, 3, 0, 3, 1), (a, 0, 3, 1, 3, 2), (a, 0, 3, 2, 3, 3)];
     let of_b = [(b, 0, 1, 0, 1, 1)];
     let rest = [(a, 1, 3, 0, 2, 2), (a, 1, 3, 1, 2, 3), (b, 0, 1, 0, 1, 1)];
-    for (from, until, held, wanted) in [
-        (None, None, [(a, 1)].as_slice(), rest.as_slice()),
-        (Some(b), None, &[], &of_b),
-        (None, Some(b), &[], &of_a),
-        (None, None, &[(a, 3), (b, 1)], &[]),
-    ] {
-        let are_right = are_left(alloc, &holdings, from, until, held, wanted)?;
-        same_at(&rt, &held, &are_right, &true);
-    }
-    Ok(())
+    let digest = digest_of(&rt, alloc, None, None, &[(a, 1)]);
+    leaves(&rt, alloc, &holdings, &digest, &rest);
+    let digest = digest_of(&rt, alloc, Some(b), None, &[]);
+    leaves(&rt, alloc, &holdings, &digest, &of_b);
+    let digest = digest_of(&rt, alloc, None, Some(b), &[]);
+    leaves(&rt, alloc, &holdings, &digest, &of_a);
+    let digest = digest_of(&rt, alloc, None, None, &[(a, 3), (b, 1)]);
+    leaves(&rt, alloc, &holdings, &digest, &[]);
 }
 
 #[test]
-fn nothing_is_cut_of_nothing(rt: HostRuntime) -> Result<(), Fail> {
+fn nothing_is_cut_of_nothing(rt: HostRuntime) {
     let alloc = rt.alloc();
-    let held = [(Name::read(b"a")?, 3), (Name::read(b"b")?, 1)];
-    let digest = digest_of(alloc, None, None, &held)?;
-    let found = cut_after(alloc, &two_owners(alloc)?, &digest)?;
+    let held = [(name(&rt, b"a"), 3), (name(&rt, b"b"), 1)];
+    let digest = digest_of(&rt, alloc, None, None, &held);
+    let found = extent_after(&rt, alloc, &two_owners(&rt, alloc), &digest);
     // A frame of 9 bytes.
     same(&rt, &found, &(0, 3));
-    Ok(())
 }
 
-/// A cut of all within 845 bytes, made once more where memory was refused.
-fn cut_again(alloc: Global, holdings: &Holdings) -> Result<Cut, Fault> {
-    match cut_to(alloc, holdings, 845) {
-        Err(Fault::NoMemory) => cut_to(alloc, holdings, 845),
-        made => made,
+/// What a digest leaves, cut within 845 bytes, where there is memory.
+fn cut_or_none(alloc: Global, holdings: &Holdings, digest: &Digest) -> Result<Delta, Fault> {
+    cut(alloc, available(alloc, holdings, digest)?, 845)
+}
+
+/// The same, made once more where memory was refused.
+fn cut_again(rt: &impl Abort, alloc: Global, holdings: &Holdings) -> Delta {
+    let digest = nothing(rt, alloc, false);
+    match cut_or_none(alloc, holdings, &digest) {
+        Err(Fault::NoMemory) => got(rt, cut_or_none(alloc, holdings, &digest)),
+        made => got(rt, made),
+    }
+}
+
+/// The two owners, made once more where memory was refused.
+fn two_owners_again(rt: &impl Abort, alloc: Global, a: Name, b: Name) -> Holdings {
+    match two_owners_or_none(alloc, a, b) {
+        Err(Fault::NoMemory) => got(rt, two_owners_or_none(alloc, a, b)),
+        made => got(rt, made),
     }
 }
 
 /// Whichever allocation is refused, what is held stays, and the next call answers.
 #[test]
-fn a_refused_cut_is_made_again(rt: HostRuntime) -> Result<(), Fail> {
+fn a_refused_cut_is_made_again(rt: HostRuntime) {
     let alloc = rt.alloc();
-    let [a, b] = [Name::read(b"a")?, Name::read(b"b")?];
-    let holdings = match two_owners(alloc) {
-        Err(Fault::NoMemory) => two_owners(alloc)?,
-        made => made?,
-    };
-    let (frame, blocks) = cut_again(alloc, &holdings)?;
-    let wanted = [(a, 0, 3, 3), (b, 0, 1, 1)];
-    same(&rt, &(frame, blocks.as_slice()), &(845, wanted.as_slice()));
-    Ok(())
+    let (a, b) = (name(&rt, b"a"), name(&rt, b"b"));
+    let holdings = two_owners_again(&rt, alloc, a, b);
+    let delta = cut_again(&rt, alloc, &holdings);
+    let found = consists(&delta, &[(a, 0, 3, 3), (b, 0, 1, 1)]);
+    same(&rt, &found, &(845, true));
 }

@@ -16,6 +16,10 @@ mod orders;
 mod sessions;
 
 #[cfg(test)]
+use sb_types::{Fault, Key, Name};
+#[cfg(test)]
+use std::alloc::Global;
+#[cfg(test)]
 use std::fmt::Debug;
 #[cfg(test)]
 use std::process::Abort;
@@ -36,4 +40,57 @@ fn same_at<N: Debug, T: PartialEq + Debug>(rt: &impl Abort, at: &N, found: &T, w
 #[cfg(test)]
 fn holds(rt: &impl Abort, what: &str, holds: bool) {
     assert!(rt; holds, "{what}");
+}
+
+/// The answer; where there is none, the end of the test, which names the fault.
+#[cfg(test)]
+fn got<T, E: Debug + Drop>(rt: &impl Abort, answer: Result<T, E>) -> T {
+    match answer {
+        Ok(answer) => answer,
+        Err(fault) => panic!(rt; "error: {fault:?}"),
+    }
+}
+
+/// What has to be there; where it is not, the end of the test.
+#[cfg(test)]
+fn there<T>(rt: &impl Abort, value: Option<T>) -> T {
+    match value {
+        Some(value) => value,
+        None => panic!(rt; "error: none"),
+    }
+}
+
+/// What is answered, a fault too; where memory ran out, the end of the test.
+#[cfg(test)]
+fn settled<T: Copy>(rt: &impl Abort, answer: Result<T, Fault>) -> Result<T, Fault> {
+    match answer {
+        Err(Fault::NoMemory) => panic!(rt; "error: NoMemory"),
+        answer => answer,
+    }
+}
+
+/// The name of this text.
+#[cfg(test)]
+fn name(rt: &impl Abort, text: &[u8]) -> Name {
+    got(rt, Name::read(text))
+}
+
+/// The key of this text.
+#[cfg(test)]
+fn key(rt: &impl Abort, text: &[u8]) -> Key {
+    got(rt, Key::read(text))
+}
+
+/// A vector of one item.
+#[cfg(test)]
+fn one<T: Drop>(rt: &impl Abort, alloc: Global, item: T) -> Vec<T> {
+    let mut items = Vec::new(alloc);
+    push(rt, &mut items, item);
+    items
+}
+
+/// Adds an item to the vector.
+#[cfg(test)]
+fn push<T: Drop>(rt: &impl Abort, items: &mut Vec<T>, item: T) {
+    got(rt, items.push(item));
 }

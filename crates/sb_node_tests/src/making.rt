@@ -1,12 +1,14 @@
-//! Names, entries and blocks for the tests, and what is offered of holdings.
-ghost use Rattle.std.specs.Prelude.{IfOk};
+//! Digests, entries and blocks for the tests, what is offered of holdings, and what a delta tells.
+ghost use Rattle.std.specs.Prelude.{◌≡◌, IfOk};
 ghost use Rattle.sb_budget.specs.Cut.{CanCut};
 
+use crate::{got, key, push};
 use sb_budget::{DeltaOrder, Offered, available, orders_keep_owners};
 use sb_digest::Digest;
-use sb_holdings::Holdings;
-use sb_types::{Block, Entry, Fault, Key, Name, Slot, Value};
+use sb_holdings::{BlockEnd, Holdings};
+use sb_types::{Block, Delta, Entry, Fault, HEADER_LENGTH, Name, Slot, Value};
 use std::alloc::Global;
+use std::process::Abort;
 
 /// The text of a number, in four letters.
 pub(crate) fn letters_of(number: u64) -> [u8; 4] {
@@ -20,13 +22,32 @@ pub(crate) fn letters_of(number: u64) -> [u8; 4] {
 }
 
 /// The owner's first writes: a flag under each of these letters.
-pub(crate) fn block_of(alloc: Global, owner: Name, letters: &[u8]) -> Result<Block, Fault> {
+pub(crate) fn block_of(rt: &impl Abort, alloc: Global, owner: Name, letters: &[u8]) -> Block {
     let mut entries = Vec::new(alloc);
     for (index, letter) in letters.iter().enumerate() {
         let slot = Slot::Set(Value::flag(true));
-        entries.push(Entry::new(Key::read(&[*letter])?, index as u64 + 1, slot))?;
+        let entry = Entry::new(key(rt, &[*letter]), index as u64 + 1, slot);
+        push(rt, &mut entries, entry);
     }
-    Block::new(owner, 0, entries)
+    got(rt, Block::new(owner, 0, entries))
+}
+
+/// How the block ends; where it finds no memory, the end of the test.
+pub(crate) fn apply(rt: &impl Abort, holdings: &mut Holdings, block: &Block) -> BlockEnd {
+    match holdings.apply_block(block) {
+        BlockEnd::NoMemory(_) => panic!(rt; "error: NoMemory"),
+        end => end,
+    }
+}
+
+/// The digest of all names of a peer that holds nothing.
+pub(crate) fn nothing(rt: &impl Abort, alloc: Global, want: bool) -> Digest {
+    got(rt, Digest::new(want, None, None, Vec::new(alloc)))
+}
+
+/// The address that is an entry's value, of 128 bytes.
+pub(crate) fn address(rt: &impl Abort, alloc: Global) -> Slot {
+    Slot::Set(got(rt, Value::addr(alloc, &[b'p'; 128])))
 }
 
 /// What a peer that sent this digest lacks, in an order.
@@ -42,4 +63,37 @@ pub(crate) fn arranged<O: DeltaOrder>(
     let ordered = order.arrange(alloc, offered)?;
     orders_keep_owners();
     Ok(ordered)
+}
+
+/// What is offered and can be cut; where there is none, the end of the test.
+pub(crate) fn items(rt: &impl Abort, answer: Result<Vec<Offered>, Fault>) -> Vec<Offered>
+    requires { IfOk answer (λ ordered. CanCut ordered.items) }
+    ensures { CanCut result.items }
+{
+    match answer {
+        Ok(items) => items,
+        Err(fault) => panic!(rt; "error: {fault:?}"),
+    }
+}
+
+/// How many entries a delta has.
+pub(crate) fn entries_in(delta: &Delta) -> usize {
+    let mut entries = 0_usize;
+    for block in delta.blocks() {
+        entries = entries.wrapping_add(block.entries().len());
+    }
+    entries
+}
+
+/// How long a frame the delta has, and whether it tells just these writes.
+pub(crate) fn tells(delta: &Delta, wanted: &[(Name, u64)]) -> (u64, bool) {
+    let mut wanted = wanted.iter().copied();
+    let mut are_equal = true;
+    for block in delta.blocks() {
+        for entry in block.entries() {
+            are_equal &= Some((*block.owner(), entry.version())) == wanted.next();
+        }
+    }
+    let is_all = wanted.next().is_none();
+    (delta.encoded_length() + HEADER_LENGTH, are_equal && is_all)
 }

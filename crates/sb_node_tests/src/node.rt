@@ -1,20 +1,19 @@
 //! The node: own writes, blocks of others, digests and answers.
 ghost use Rattle.std.specs.Prelude.{◌≤◌};
 
-use crate::{holds, same};
-use sb_digest::Digest;
+use crate::making::{address, nothing};
+use crate::{got, holds, key, name, one, push, same, same_at, settled};
 use sb_holdings::{BlockEnd, Report};
 use sb_log::{Committed, PlainLog, WriteLog};
 use sb_node::NodeCore;
 use sb_table::Table;
 use sb_types::{
-    Block, Delta, Entry, Fault, HEADER_LENGTH, Key, Name, Order, RawSettings, Settings, Slot, Value,
+    Block, Delta, Entry, Fault, HEADER_LENGTH, Name, Order, RawSettings, Settings, Slot, Value,
 };
 use std::alloc::Global;
-use std::test::Fail;
+use std::process::Abort;
 
-/// A new node of a name.
-pub(crate) fn node(alloc: Global, me: Name, budget: u64, order: Order) -> Result<NodeCore, Fault> {
+fn settings(rt: &impl Abort, budget: u64, order: Order) -> Settings {
     let settings = Settings::check(RawSettings {
         cluster: b"c1",
         budget,
@@ -22,302 +21,362 @@ pub(crate) fn node(alloc: Global, me: Name, budget: u64, order: Order) -> Result
         max_version: 100,
         seats: 2,
         workers: 1,
-    })?;
-    NodeCore::open(alloc, settings, me, Table::new(alloc))
+    });
+    got(rt, settings)
 }
 
-pub(crate) fn log_of(alloc: Global, owner: Name) -> Result<PlainLog, Fault> {
-    Ok(PlainLog::new(alloc, owner, Name::read(b"c1")?, 100))
-}
-
-fn commit(log: &mut PlainLog, key: &[u8], slot: &Slot) -> Result<Committed, Fault> {
-    log.put(&Key::read(key)?, slot)
-}
-
-/// A write that is committed and entered.
-pub(crate) fn write(
-    core: &mut NodeCore,
-    log: &mut PlainLog,
-    key: &[u8],
-    slot: &Slot,
-) -> Result<(), Fault> {
-    core.take_own(&commit(log, key, slot)?)
-}
-
-fn weight(weight: u64) -> Result<Slot, Fault> {
-    Ok(Slot::Set(Value::weight(weight)?))
-}
-
-/// A node that wrote addresses of 128 bytes under these keys.
-fn writer(
+/// A new node of a name.
+pub(crate) fn node(
+    rt: &impl Abort,
     alloc: Global,
     me: Name,
     budget: u64,
     order: Order,
-    keys: &[&[u8]],
-) -> Result<NodeCore, Fault> {
-    let mut core = node(alloc, me, budget, order)?;
-    let mut log = log_of(alloc, me)?;
-    let slot = Slot::Set(Value::addr(alloc, &[b'p'; 128])?);
-    for key in keys {
-        write(&mut core, &mut log, key, &slot)?;
+) -> NodeCore {
+    let settings = settings(rt, budget, order);
+    got(rt, NodeCore::open(alloc, settings, me, Table::new(alloc)))
+}
+
+/// A new node of the least budget.
+fn least(rt: &impl Abort, alloc: Global, me: &[u8]) -> NodeCore {
+    node(rt, alloc, name(rt, me), 256, Order::Breadth)
+}
+
+pub(crate) fn log_of(rt: &impl Abort, alloc: Global, owner: Name) -> PlainLog {
+    PlainLog::new(alloc, owner, name(rt, b"c1"), 100)
+}
+
+/// The answer to a write that is to be committed and entered.
+fn answer(
+    rt: &impl Abort,
+    core: &mut NodeCore,
+    log: &mut PlainLog,
+    text: &[u8],
+    slot: &Slot,
+) -> Result<(), Fault> {
+    let answer = match log.put(&key(rt, text), slot) {
+        Ok(committed) => core.take_own(&committed),
+        Err(fault) => Err(fault),
+    };
+    settled(rt, answer)
+}
+
+/// A write that is committed and entered.
+pub(crate) fn write(
+    rt: &impl Abort,
+    core: &mut NodeCore,
+    log: &mut PlainLog,
+    text: &[u8],
+    slot: &Slot,
+) {
+    got(rt, answer(rt, core, log, text, slot));
+}
+
+fn weight(rt: &impl Abort, weight: u64) -> Slot {
+    Slot::Set(got(rt, Value::weight(weight)))
+}
+
+/// A write of a weight.
+fn weigh(rt: &impl Abort, core: &mut NodeCore, log: &mut PlainLog, text: &[u8], number: u64) {
+    write(rt, core, log, text, &weight(rt, number));
+}
+
+/// Writes addresses of 128 bytes under these keys.
+fn write_all(rt: &impl Abort, alloc: Global, core: &mut NodeCore, keys: &[&[u8]]) {
+    let mut log = log_of(rt, alloc, *core.name());
+    let slot = address(rt, alloc);
+    for text in keys {
+        write(rt, core, &mut log, text, &slot);
     }
-    Ok(core)
+}
+
+/// A node that wrote addresses of 128 bytes under these keys.
+fn writer(
+    rt: &impl Abort,
+    alloc: Global,
+    me: &[u8],
+    budget: u64,
+    order: Order,
+    keys: &[&[u8]],
+) -> NodeCore {
+    let mut core = node(rt, alloc, name(rt, me), budget, order);
+    write_all(rt, alloc, &mut core, keys);
+    core
 }
 
 /// The writes under these letters, from the version behind `after` on, each of a weight that is its version.
-fn block(alloc: Global, owner: Name, after: u64, letters: &[u8]) -> Result<Block, Fault>
+fn block(rt: &impl Abort, alloc: Global, owner: Name, after: u64, letters: &[u8]) -> Block
     requires { after ≤ 10 }
 {
     let mut entries = Vec::new(alloc);
     for (index, letter) in letters.iter().enumerate() {
         let version = after + index as u64 + 1;
-        entries.push(Entry::new(Key::read(&[*letter])?, version, weight(version)?))?;
+        let entry = Entry::new(key(rt, &[*letter]), version, weight(rt, version));
+        push(rt, &mut entries, entry);
     }
-    Block::new(owner, after, entries)
+    got(rt, Block::new(owner, after, entries))
 }
 
-/// How the blocks end, unless one finds no memory.
-pub(crate) fn applied(core: &mut NodeCore, delta: &Delta) -> Result<Report, Fault> {
-    let report = core.apply(delta)?;
+/// How the blocks end; where one finds no memory, the end of the test.
+pub(crate) fn applied(rt: &impl Abort, core: &mut NodeCore, delta: &Delta) -> Report {
+    let report = got(rt, core.apply(delta));
     for end in report.ends() {
         if matches!(end, BlockEnd::NoMemory(_)) {
-            return Err(Fault::NoMemory);
+            panic!(rt; "error: NoMemory");
         }
     }
-    Ok(report)
+    report
 }
 
 /// Whether the blocks end so.
-fn take(core: &mut NodeCore, delta: &Delta, ends: &[BlockEnd]) -> Result<bool, Fault> {
-    Ok(applied(core, delta)?.ends() == ends)
+fn take(rt: &impl Abort, core: &mut NodeCore, delta: &Delta, ends: &[BlockEnd]) -> bool {
+    applied(rt, core, delta).ends() == ends
+}
+
+/// A delta of one block.
+fn delta_of(rt: &impl Abort, alloc: Global, block: Block) -> Delta {
+    got(rt, Delta::new(one(rt, alloc, block)))
 }
 
 /// Whether a delta of one block ends so.
 fn take_one(
+    rt: &impl Abort,
     core: &mut NodeCore,
     alloc: Global,
     block: Block,
     end: BlockEnd,
-) -> Result<bool, Fault> {
-    let delta = Delta::new(vec![in alloc; block]?)?;
-    take(core, &delta, &[end])
+) -> bool {
+    take(rt, core, &delta_of(rt, alloc, block), &[end])
 }
 
 /// How long a frame one node tells another, how far the other then holds the owner, and the versions of the values
 /// that it shows under x and y.
 type Told = (u64, u64, Option<u64>, Option<u64>);
 
-fn tell(from: &NodeCore, to: &mut NodeCore) -> Result<Told, Fault> {
-    let delta = from.deltas(&to.digest(None, true)?)?;
-    let length = delta.encoded_length() + HEADER_LENGTH;
-    applied(to, &delta)?;
+/// How long a frame one node tells another.
+fn pass_on(rt: &impl Abort, from: &NodeCore, to: &mut NodeCore) -> u64 {
+    let digest = got(rt, to.digest(None, true));
+    let delta = got(rt, from.deltas(&digest));
+    applied(rt, to, &delta);
+    delta.encoded_length() + HEADER_LENGTH
+}
+
+fn tell(rt: &impl Abort, from: &NodeCore, to: &mut NodeCore) -> Told {
+    let length = pass_on(rt, from, to);
     let owner = from.name();
-    let [x, y] = [shown(to, owner, b"x")?, shown(to, owner, b"y")?];
-    Ok((length, to.upto(owner), x, y))
+    let (x, y) = (shown(rt, to, owner, b"x"), shown(rt, to, owner, b"y"));
+    (length, to.upto(owner), x, y)
 }
 
 /// The version of the value under a key.
-fn shown(core: &NodeCore, owner: &Name, key: &[u8]) -> Result<Option<u64>, Fault> {
-    match core.get(owner, &Key::read(key)?) {
-        Some((_, version)) => Ok(Some(version)),
-        None => Ok(None),
+fn shown(rt: &impl Abort, core: &NodeCore, owner: &Name, text: &[u8]) -> Option<u64> {
+    match core.get(owner, &key(rt, text)) {
+        Some((_, version)) => Some(version),
+        None => None,
     }
 }
 
-/// How a node answers the same committed write the second time, and how another node answers it.
-fn write_again(alloc: Global) -> Result<[Result<(), Fault>; 2], Fault> {
-    let [a, b] = [Name::read(b"a")?, Name::read(b"b")?];
-    let mut log = log_of(alloc, a)?;
-    let write = commit(&mut log, b"x", &weight(5)?)?;
-    let mut core = node(alloc, a, 256, Order::Breadth)?;
-    core.take_own(&write)?;
-    let mut other = node(alloc, b, 256, Order::Breadth)?;
-    Ok([core.take_own(&write), other.take_own(&write)])
+/// The first write of a, committed.
+fn first_write(rt: &impl Abort, alloc: Global) -> Committed {
+    let mut log = log_of(rt, alloc, name(rt, b"a"));
+    got(rt, log.put(&key(rt, b"x"), &weight(rt, 5)))
+}
+
+/// How a node answers the same committed write the second time.
+fn answer_again(rt: &impl Abort, alloc: Global, write: &Committed) -> Result<(), Fault> {
+    let mut core = least(rt, alloc, b"a");
+    got(rt, core.take_own(write));
+    core.take_own(write)
+}
+
+/// How another node answers it.
+fn answer_of_another(rt: &impl Abort, alloc: Global, write: &Committed) -> Result<(), Fault> {
+    let mut core = least(rt, alloc, b"b");
+    core.take_own(write)
 }
 
 #[test]
-fn own_writes_come_once(rt: HostRuntime) -> Result<(), Fail> {
-    let answers = write_again(rt.alloc())?;
+fn own_writes_come_once(rt: HostRuntime) {
+    let alloc = rt.alloc();
+    let write = first_write(&rt, alloc);
+    let again = answer_again(&rt, alloc, &write);
+    let other = answer_of_another(&rt, alloc, &write);
     let wanted = [Err(Fault::OutOfTurn(2)), Err(Fault::WrongOwner)];
-    same(&rt, &answers, &wanted);
-    Ok(())
+    same(&rt, &[again, other], &wanted);
 }
 
 /// Of a node that writes x, takes a block, and writes y: whether the block ends so, the conflict, and the answer to the
 /// second write.
 fn write_around(
+    rt: &impl Abort,
     alloc: Global,
     core: &mut NodeCore,
     log: &mut PlainLog,
     block: Block,
     end: BlockEnd,
-) -> Result<(bool, Option<u64>, Result<(), Fault>), Fault> {
-    let first = weight(5)?;
-    let second = weight(6)?;
-    write(core, log, b"x", &first)?;
-    let ended = take_one(core, alloc, block, end)?;
+) -> (bool, Option<u64>, Result<(), Fault>) {
+    weigh(rt, core, log, b"x", 5);
+    let ended = take_one(rt, core, alloc, block, end);
     let conflict = core.conflict();
-    match write(core, log, b"y", &second) {
-        Err(Fault::NoMemory) => Err(Fault::NoMemory),
-        answer => Ok((ended, conflict, answer)),
-    }
+    (ended, conflict, answer(rt, core, log, b"y", &weight(rt, 6)))
 }
 
-/// The same of a node a.
+/// Ends the test where a node a does not so end a block of its own name, and answer its next write then.
 fn write_beside(
+    rt: &impl Abort,
     alloc: Global,
-    block: Block,
+    after: u64,
+    letters: &[u8],
     end: BlockEnd,
-) -> Result<(bool, Option<u64>, Result<(), Fault>), Fault> {
-    let a = Name::read(b"a")?;
-    let mut log = log_of(alloc, a)?;
-    let mut core = node(alloc, a, 256, Order::Breadth)?;
-    write_around(alloc, &mut core, &mut log, block, end)
+    conflict: Option<u64>,
+    answer: Result<(), Fault>,
+)
+    requires { after ≤ 10 }
+{
+    let a = name(rt, b"a");
+    let mut log = log_of(rt, alloc, a);
+    let mut core = least(rt, alloc, b"a");
+    let block = block(rt, alloc, a, after, letters);
+    let found = write_around(rt, alloc, &mut core, &mut log, block, end);
+    same(rt, &found, &(true, conflict, answer));
 }
 
 #[test]
-fn another_writes_under_the_name(rt: HostRuntime) -> Result<(), Fail> {
+fn another_writes_under_the_name(rt: HostRuntime) {
     let alloc = rt.alloc();
-    let a = Name::read(b"a")?;
-    for (after, letters, end, conflict, answer) in [
-        (0, b"x".as_slice(), BlockEnd::Own, None, Ok(())),
-        (
-            1,
-            b"y",
-            BlockEnd::OwnAhead(2),
-            Some(2),
-            Err(Fault::OwnerConflict(2)),
-        ),
-        (
-            1,
-            b"yzw",
-            BlockEnd::OwnAhead(4),
-            Some(4),
-            Err(Fault::OwnerConflict(4)),
-        ),
-    ] {
-        let found = write_beside(alloc, block(alloc, a, after, letters)?, end)?;
-        same(&rt, &found, &(true, conflict, answer));
-    }
-    Ok(())
+    write_beside(&rt, alloc, 0, b"x", BlockEnd::Own, None, Ok(()));
+    let refused = Err(Fault::OwnerConflict(2));
+    write_beside(&rt, alloc, 1, b"y", BlockEnd::OwnAhead(2), Some(2), refused);
+    let refused = Err(Fault::OwnerConflict(4));
+    write_beside(
+        &rt,
+        alloc,
+        1,
+        b"yzw",
+        BlockEnd::OwnAhead(4),
+        Some(4),
+        refused,
+    );
 }
 
 /// A delta of three blocks.
-fn three_blocks(alloc: Global, owners: &[Name; 3]) -> Result<Delta, Fault> {
+fn three_blocks(rt: &impl Abort, alloc: Global) -> Delta {
     let mut blocks = Vec::new(alloc);
-    for (owner, letters) in owners.iter().zip([b"xyz".as_slice(), b"x", b"xy"]) {
-        blocks.push(block(alloc, *owner, 0, letters)?)?;
-    }
-    Delta::new(blocks)
+    push(rt, &mut blocks, block(rt, alloc, name(rt, b"a"), 0, b"xyz"));
+    push(rt, &mut blocks, block(rt, alloc, name(rt, b"b"), 0, b"x"));
+    push(rt, &mut blocks, block(rt, alloc, name(rt, b"c"), 0, b"xy"));
+    got(rt, Delta::new(blocks))
 }
 
-/// Whether a delta of this block ends so, and how far its owner is then held.
+/// Ends the test where a delta of this block of a does not end so, or a is not held so far then.
 fn take_block(
+    rt: &impl Abort,
     alloc: Global,
     core: &mut NodeCore,
-    block: Block,
+    after: u64,
+    letters: &[u8],
     end: BlockEnd,
-) -> Result<(bool, u64), Fault> {
-    let owner = *block.owner();
-    let ended = take_one(core, alloc, block, end)?;
-    Ok((ended, core.upto(&owner)))
+    upto: u64,
+)
+    requires { after ≤ 10 }
+{
+    let a = name(rt, b"a");
+    let block = block(rt, alloc, a, after, letters);
+    let ended = take_one(rt, core, alloc, block, end);
+    same_at(rt, &end, &(ended, core.upto(&a)), &(true, upto));
 }
 
 /// Whether a delta of three blocks ends so, how far the first and the last of its owners are then held, and the conflict.
 fn take_three_blocks(
+    rt: &impl Abort,
     alloc: Global,
     core: &mut NodeCore,
-    owners: &[Name; 3],
     ends: &[BlockEnd],
-) -> Result<(bool, u64, u64, Option<u64>), Fault> {
-    let ended = take(core, &three_blocks(alloc, owners)?, ends)?;
-    let [first, _, last] = owners;
-    Ok((ended, core.upto(first), core.upto(last), core.conflict()))
+) -> (bool, u64, u64, Option<u64>) {
+    let ended = take(rt, core, &three_blocks(rt, alloc), ends);
+    let (first, last) = (name(rt, b"a"), name(rt, b"c"));
+    (ended, core.upto(&first), core.upto(&last), core.conflict())
 }
 
 #[test]
-fn blocks_end_in_turn(rt: HostRuntime) -> Result<(), Fail> {
+fn blocks_end_in_turn(rt: HostRuntime) {
     let alloc = rt.alloc();
-    let owners = [Name::read(b"a")?, Name::read(b"b")?, Name::read(b"c")?];
-    let [a, b, _] = owners;
-    let mut core = node(alloc, b, 256, Order::Breadth)?;
-    for (after, letters, end, upto) in [
-        (2, b"z".as_slice(), BlockEnd::Gap, 0),
-        (0, b"xy", BlockEnd::Taken(2), 2),
-        (2, b"z", BlockEnd::Taken(1), 3),
-        (2, b"z", BlockEnd::Stale, 3),
-    ] {
-        let block = block(alloc, a, after, letters)?;
-        let found = take_block(alloc, &mut core, block, end)?;
-        same(&rt, &found, &(true, upto));
-    }
+    let mut core = least(&rt, alloc, b"b");
+    take_block(&rt, alloc, &mut core, 2, b"z", BlockEnd::Gap, 0);
+    take_block(&rt, alloc, &mut core, 0, b"xy", BlockEnd::Taken(2), 2);
+    take_block(&rt, alloc, &mut core, 2, b"z", BlockEnd::Taken(1), 3);
+    take_block(&rt, alloc, &mut core, 2, b"z", BlockEnd::Stale, 3);
     let ends = [BlockEnd::Stale, BlockEnd::OwnAhead(1), BlockEnd::Taken(2)];
-    let found = take_three_blocks(alloc, &mut core, &owners, &ends)?;
+    let found = take_three_blocks(&rt, alloc, &mut core, &ends);
     same(&rt, &found, &(true, 3, 2, Some(1)));
-    Ok(())
 }
 
-/// What a node tells that removed its x: how a second removal was answered, what it told, whether the other has a
-/// marker of version 2, and what is told once x is written again.
-fn tell_of_a_removal(alloc: Global) -> Result<(Result<(), Fault>, Told, bool, Told), Fault> {
-    let [a, b] = [Name::read(b"a")?, Name::read(b"b")?];
-    let mut log = log_of(alloc, a)?;
-    let mut from = node(alloc, a, 256, Order::Breadth)?;
-    let mut to = node(alloc, b, 256, Order::Depth)?;
-    write(&mut from, &mut log, b"x", &weight(5)?)?;
-    write(&mut from, &mut log, b"x", &Slot::Removed)?;
-    let again = write(&mut from, &mut log, b"x", &Slot::Removed);
-    let told = tell(&from, &mut to)?;
-    let marked = has_marker(&to, &a)?;
-    write(&mut from, &mut log, b"x", &weight(7)?)?;
-    Ok((again, told, marked, tell(&from, &mut to)?))
+/// The answer to the second removal of x, which was written once.
+fn remove_twice(rt: &impl Abort, core: &mut NodeCore, log: &mut PlainLog) -> Result<(), Fault> {
+    weigh(rt, core, log, b"x", 5);
+    write(rt, core, log, b"x", &Slot::Removed);
+    answer(rt, core, log, b"x", &Slot::Removed)
+}
+
+/// How a second removal was answered, what was told, whether the other has a marker of version 2, and what is told once
+/// x is written again.
+type Removal = (Result<(), Fault>, Told, bool, Told);
+
+/// What a node a tells another that removed its x.
+fn tell_of_a_removal(
+    rt: &impl Abort,
+    from: &mut NodeCore,
+    log: &mut PlainLog,
+    to: &mut NodeCore,
+) -> Removal {
+    let again = remove_twice(rt, from, log);
+    let told = tell(rt, from, to);
+    let marked = has_marker(rt, to, from.name());
+    weigh(rt, from, log, b"x", 7);
+    (again, told, marked, tell(rt, from, to))
 }
 
 /// Whether x of the owner has the marker of version 2.
-fn has_marker(core: &NodeCore, owner: &Name) -> Result<bool, Fault> {
-    let x = Key::read(b"x")?;
+fn has_marker(rt: &impl Abort, core: &NodeCore, owner: &Name) -> bool {
+    let x = key(rt, b"x");
     let Some(table) = core.holdings().table(owner) else {
-        return Ok(false);
+        return false;
     };
-    Ok(matches!(table.get(&x), Some((2, Slot::Removed))))
+    matches!(table.get(&x), Some((2, Slot::Removed)))
 }
 
 #[test]
-fn removals_are_told(rt: HostRuntime) -> Result<(), Fail> {
-    let told = tell_of_a_removal(rt.alloc())?;
+fn removals_are_told(rt: HostRuntime) {
+    let alloc = rt.alloc();
+    let mut log = log_of(&rt, alloc, name(&rt, b"a"));
+    let mut from = least(&rt, alloc, b"a");
+    let mut to = node(&rt, alloc, name(&rt, b"b"), 256, Order::Depth);
+    let told = tell_of_a_removal(&rt, &mut from, &mut log, &mut to);
     let again = Err(Fault::NothingThere);
     let wanted = (again, (32, 2, None, None), true, (40, 3, Some(3), None));
     same(&rt, &told, &wanted);
-    Ok(())
 }
 
-/// What a node tells another, again and again, that wrote x, y and x.
-fn tell_until_all_is_held(alloc: Global) -> Result<[Told; 3], Fault> {
-    let [a, b] = [Name::read(b"a")?, Name::read(b"b")?];
-    let from = writer(alloc, a, 256, Order::Breadth, &[b"x", b"y", b"x"])?;
-    let mut to = node(alloc, b, 256, Order::Breadth)?;
-    let [first, second] = [tell(&from, &mut to)?, tell(&from, &mut to)?];
-    Ok([first, second, tell(&from, &mut to)?])
+/// What a node tells another three times.
+fn tell_thrice(rt: &impl Abort, from: &NodeCore, to: &mut NodeCore) -> [Told; 3] {
+    let (first, second) = (tell(rt, from, to), tell(rt, from, to));
+    [first, second, tell(rt, from, to)]
 }
 
 #[test]
-fn a_peer_learns_what_fits(rt: HostRuntime) -> Result<(), Fail> {
-    let told = tell_until_all_is_held(rt.alloc())?;
+fn a_peer_learns_what_fits(rt: HostRuntime) {
+    let alloc = rt.alloc();
+    let keys: [&[u8]; 3] = [b"x", b"y", b"x"];
+    let from = writer(&rt, alloc, b"a", 256, Order::Breadth, &keys);
+    let mut to = least(&rt, alloc, b"b");
+    let told = tell_thrice(&rt, &from, &mut to);
     let first = (161, 2, None, Some(2));
     let second = (161, 3, Some(3), Some(2));
     same(&rt, &told, &[first, second, (9, 3, Some(3), Some(2))]);
-    Ok(())
 }
 
-/// How long a frame a node tells that wrote three keys, and heard of another that wrote one, each an entry of 203
-/// bytes; and how many entries of either are in it.
-fn tell_of_two(alloc: Global, budget: u64, order: Order) -> Result<(u64, usize, usize), Fault> {
-    let [a, b] = [Name::read(b"a")?, Name::read(b"b")?];
-    let keys: [&[u8]; 3] = [&[b'x'; 64], &[b'y'; 64], &[b'z'; 64]];
-    let mut core = writer(alloc, a, budget, order, &keys)?;
-    tell(&writer(alloc, b, budget, order, &keys[..1])?, &mut core)?;
-    let delta = core.deltas(&Digest::new(false, None, None, Vec::new(alloc))?)?;
+/// How many entries of a and how many of others a delta has.
+fn entries_of(delta: &Delta, a: Name) -> (usize, usize) {
     let mut entries = (0, 0);
     for block in delta.blocks() {
         if *block.owner() == a {
@@ -326,80 +385,108 @@ fn tell_of_two(alloc: Global, budget: u64, order: Order) -> Result<(u64, usize, 
             entries.1 = block.entries().len();
         }
     }
-    Ok((delta.encoded_length() + HEADER_LENGTH, entries.0, entries.1))
+    entries
+}
+
+/// How long a frame a node a tells a peer that holds nothing, and how many entries of a and of others are in it.
+fn tell_all(rt: &impl Abort, alloc: Global, core: &NodeCore) -> (u64, (usize, usize)) {
+    let delta = got(rt, core.deltas(&nothing(rt, alloc, false)));
+    let length = delta.encoded_length() + HEADER_LENGTH;
+    (length, entries_of(&delta, *core.name()))
+}
+
+/// Ends the test where a node a does not tell so long a frame with so many entries of either, that wrote three keys, and
+/// heard of b that wrote one, each an entry of 203 bytes.
+fn tell_of_two(
+    rt: &impl Abort,
+    alloc: Global,
+    order: Order,
+    budget: u64,
+    length: u64,
+    entries: (usize, usize),
+) {
+    let (x, y, z) = ([b'x'; 64], [b'y'; 64], [b'z'; 64]);
+    let mut core = writer(rt, alloc, b"a", budget, order, &[&x, &y, &z]);
+    let other = writer(rt, alloc, b"b", budget, order, &[&x]);
+    pass_on(rt, &other, &mut core);
+    same(rt, &tell_all(rt, alloc, &core), &(length, entries));
 }
 
 #[test]
-fn deltas_come_in_the_order_of_the_settings(rt: HostRuntime) -> Result<(), Fail> {
-    for (order, budget, told) in [
-        (Order::Depth, 440, (427, 2, 0)),
-        (Order::Breadth, 440, (439, 1, 1)),
-        (Order::Depth, 438, (427, 2, 0)),
-        (Order::Breadth, 438, (224, 1, 0)),
-    ] {
-        same(&rt, &tell_of_two(rt.alloc(), budget, order)?, &told);
-    }
-    Ok(())
+fn deltas_come_in_the_order_of_the_settings(rt: HostRuntime) {
+    let alloc = rt.alloc();
+    tell_of_two(&rt, alloc, Order::Depth, 440, 427, (2, 0));
+    tell_of_two(&rt, alloc, Order::Breadth, 440, 439, (1, 1));
+    tell_of_two(&rt, alloc, Order::Depth, 438, 427, (2, 0));
+    tell_of_two(&rt, alloc, Order::Breadth, 438, 224, (1, 0));
 }
 
 /// Of a digest: whether it wants one in answer, its bytes, its pairs, and how far it tells that a and b are held.
 type Read = (bool, u64, usize, u64, u64);
 
-fn read_digest(core: &NodeCore, from: Option<Name>, want: bool) -> Result<Read, Fault> {
-    let [a, b] = [Name::read(b"a")?, Name::read(b"b")?];
-    let digest = core.digest(from, want)?;
+fn read_digest(rt: &impl Abort, core: &NodeCore, from: Option<Name>, want: bool) -> Read {
+    let (a, b) = (name(rt, b"a"), name(rt, b"b"));
+    let digest = got(rt, core.digest(from, want));
     let held = (digest.number(&a), digest.number(&b));
-    Ok((
+    (
         digest.want(),
         digest.encoded_length(),
         digest.pairs().len(),
         held.0,
         held.1,
-    ))
+    )
 }
 
 /// The digest of a node that holds nothing of b; then whether a block of b is taken, and the digests of all and from b on.
-fn digests(alloc: Global, core: &mut NodeCore, b: Name) -> Result<(Read, bool, [Read; 2]), Fault> {
-    let before = read_digest(core, None, true)?;
-    let block = block(alloc, b, 0, b"xy")?;
-    let ended = take_one(core, alloc, block, BlockEnd::Taken(2))?;
-    let all = read_digest(core, None, false)?;
-    Ok((before, ended, [all, read_digest(core, Some(b), false)?]))
+fn digests(
+    rt: &impl Abort,
+    alloc: Global,
+    core: &mut NodeCore,
+    b: Name,
+) -> (Read, bool, [Read; 2]) {
+    let before = read_digest(rt, core, None, true);
+    let block = block(rt, alloc, b, 0, b"xy");
+    let ended = take_one(rt, core, alloc, block, BlockEnd::Taken(2));
+    let all = read_digest(rt, core, None, false);
+    (before, ended, [all, read_digest(rt, core, Some(b), false)])
 }
 
 #[test]
-fn digests_tell_what_is_held(rt: HostRuntime) -> Result<(), Fail> {
+fn digests_tell_what_is_held(rt: HostRuntime) {
     let alloc = rt.alloc();
-    let [a, b] = [Name::read(b"a")?, Name::read(b"b")?];
-    let mut core = node(alloc, a, 256, Order::Breadth)?;
+    let (a, b) = (name(&rt, b"a"), name(&rt, b"b"));
+    let mut core = least(&rt, alloc, b"a");
     same(&rt, &(*core.name(), core.settings().budget()), &(a, 256));
-    let found = digests(alloc, &mut core, b)?;
+    let found = digests(&rt, alloc, &mut core, b);
     let after = [(false, 26, 2, 0, 2), (false, 17, 1, 0, 2)];
     same(&rt, &found, &((true, 16, 1, 0, 0), true, after));
-    Ok(())
+}
+
+/// How the first block of a delta ends, where there is room to say so.
+fn first_end(core: &mut NodeCore, delta: &Delta) -> Option<BlockEnd> {
+    match core.apply(delta) {
+        Ok(report) => report.ends().first().copied(),
+        Err(_) => None,
+    }
 }
 
 /// How three entries of a new owner end, where there is room to say so, and how far it is then held.
-fn take_three(alloc: Global) -> Result<(Option<BlockEnd>, u64), Fault> {
-    let [a, b] = [Name::read(b"a")?, Name::read(b"b")?];
-    let mut core = node(alloc, b, 256, Order::Breadth)?;
-    let delta = Delta::new(vec![in alloc; block(alloc, a, 0, b"xyz")?]?)?;
-    let end = match core.apply(&delta) {
-        Ok(report) => report.ends().first().copied(),
-        Err(_) => None,
-    };
-    Ok((end, core.upto(&a)))
+fn take_three(rt: &impl Abort, alloc: Global) -> (Option<BlockEnd>, u64) {
+    let a = name(rt, b"a");
+    let mut core = least(rt, alloc, b"b");
+    let delta = delta_of(rt, alloc, block(rt, alloc, a, 0, b"xyz"));
+    let end = first_end(&mut core, &delta);
+    (end, core.upto(&a))
 }
 
 /// Whichever allocation is refused, the answer tells what is held.
 #[test]
-fn what_finds_no_memory_is_told(rt: HostRuntime) -> Result<(), Fail> {
-    let (end, held) = take_three(rt.alloc())?;
+fn what_finds_no_memory_is_told(rt: HostRuntime) {
+    let (end, held) = take_three(&rt, rt.alloc());
     let told = match held {
         3 => BlockEnd::Taken(3),
         _ => BlockEnd::NoMemory(held),
     };
     let is_told = end == Some(told) || (end, held) == (None, 0);
     holds(&rt, "the answer tells what is held", is_told);
-    Ok(())
 }

@@ -1,247 +1,240 @@
 //! In which order items come and are cut, by breadth and by depth, also those of 1,000 owners.
-ghost use Rattle.std.specs.Prelude.{◌≤◌, IfOk};
+ghost use Rattle.std.specs.Prelude.{◌≤◌};
 ghost use Rattle.sb_budget.specs.Cut.{CanCut};
 
-use crate::making::{arranged, block_of, letters_of};
-use crate::{same, same_at};
-use sb_breadth::Breadth;
-use sb_budget::{DeltaOrder, Offered, available, cut};
-use sb_depth::Depth;
-use sb_digest::Digest;
-use sb_holdings::{BlockEnd, Holdings};
-use sb_table::Table;
-use sb_types::{
-    BUDGET_LEAST, BUDGET_MOST, Block, Delta, Entry, Fault, HEADER_LENGTH, Key, Name, Order, Slot,
-    Value,
+use crate::making::{
+    address, apply, arranged, block_of, entries_in, items, letters_of, nothing, tells,
 };
+use crate::{got, key, name, push, same, same_at};
+use sb_breadth::Breadth;
+use sb_budget::{DeltaOrder, Offered, cut};
+use sb_depth::Depth;
+use sb_holdings::Holdings;
+use sb_table::Table;
+use sb_types::{BUDGET_LEAST, BUDGET_MOST, Block, Delta, Entry, HEADER_LENGTH, Name, Order};
 use std::alloc::Global;
-use std::test::Fail;
+use std::process::Abort;
 
-/// Enters writes of an owner: addresses of 128 bytes under keys of 64 of these letters, entries of 203 bytes.
-fn enter(alloc: Global, holdings: &mut Holdings, owner: Name, letters: &[u8]) -> Result<(), Fault> {
+/// The block of an owner's first writes: addresses of 128 bytes under keys of 64 of these letters, entries of 203 bytes.
+fn long_block(rt: &impl Abort, alloc: Global, owner: Name, letters: &[u8]) -> Block {
     let mut entries = Vec::new(alloc);
     for (index, letter) in letters.iter().enumerate() {
-        let value = Value::addr(alloc, &[b'p'; 128])?;
-        let key = Key::read(&[*letter; 64])?;
-        entries.push(Entry::new(key, index as u64 + 1, Slot::Set(value)))?;
+        let key = key(rt, &[*letter; 64]);
+        let entry = Entry::new(key, index as u64 + 1, address(rt, alloc));
+        push(rt, &mut entries, entry);
     }
-    match holdings.apply_block(&Block::new(owner, 0, entries)?) {
-        BlockEnd::NoMemory(_) => Err(Fault::NoMemory),
-        _ => Ok(()),
-    }
+    got(rt, Block::new(owner, 0, entries))
+}
+
+/// Enters such a block.
+fn enter(rt: &impl Abort, alloc: Global, holdings: &mut Holdings, owner: Name, letters: &[u8]) {
+    apply(rt, holdings, &long_block(rt, alloc, owner, letters));
+}
+
+/// The holdings of n, which hold nothing.
+fn empty(rt: &impl Abort, alloc: Global) -> Holdings {
+    got(rt, Holdings::new(alloc, name(rt, b"n"), Table::new(alloc)))
 }
 
 /// An owner that wrote three keys, and others that wrote one each.
-fn one_and_others(alloc: Global, first: Name, others: &[Name]) -> Result<Holdings, Fault> {
-    let mut holdings = Holdings::new(alloc, Name::read(b"n")?, Table::new(alloc))?;
-    enter(alloc, &mut holdings, first, b"xyz")?;
+fn one_and_others(rt: &impl Abort, alloc: Global, first: Name, others: &[Name]) -> Holdings {
+    let mut holdings = empty(rt, alloc);
+    enter(rt, alloc, &mut holdings, first, b"xyz");
     for owner in others {
-        enter(alloc, &mut holdings, *owner, b"x")?;
+        enter(rt, alloc, &mut holdings, *owner, b"x");
     }
-    Ok(holdings)
+    holdings
 }
 
 /// 1,000 owners of names of four letters, each with two writes of 12 bytes.
-fn thousand_owners(alloc: Global) -> Result<Holdings, Fault> {
-    let mut holdings = Holdings::new(alloc, Name::read(b"n")?, Table::new(alloc))?;
+fn thousand_owners(rt: &impl Abort, alloc: Global) -> Holdings {
+    let mut holdings = empty(rt, alloc);
     for number in 0..1_000_u64 {
-        let owner = Name::read(&letters_of(number))?;
-        holdings.apply_block(&block_of(alloc, owner, b"xy")?);
+        let owner = name(rt, &letters_of(number));
+        apply(rt, &mut holdings, &block_of(rt, alloc, owner, b"xy"));
     }
-    Ok(holdings)
+    holdings
 }
 
 /// All that is held, in an order.
-fn arranged_by(alloc: Global, holdings: &Holdings, order: Order) -> Result<Vec<Offered>, Fault>
-    ensures { IfOk result (λ ordered. CanCut ordered.items) }
+fn arranged_by(rt: &impl Abort, alloc: Global, holdings: &Holdings, order: Order) -> Vec<Offered>
+    ensures { CanCut result.items }
 {
-    let digest = Digest::new(false, None, None, Vec::new(alloc))?;
+    let digest = nothing(rt, alloc, false);
     match order {
-        Order::Breadth => arranged(alloc, holdings, &digest, &Breadth),
-        Order::Depth => arranged(alloc, holdings, &digest, &Depth),
+        Order::Breadth => items(rt, arranged(alloc, holdings, &digest, &Breadth)),
+        Order::Depth => items(rt, arranged(alloc, holdings, &digest, &Depth)),
     }
 }
 
-fn cut_by(alloc: Global, holdings: &Holdings, order: Order, budget: u64) -> Result<Delta, Fault>
+fn cut_by(rt: &impl Abort, alloc: Global, holdings: &Holdings, order: Order, budget: u64) -> Delta
     requires least { BUDGET_LEAST ≤ budget }
     requires most { budget ≤ BUDGET_MOST }
 {
-    cut(alloc, arranged_by(alloc, holdings, order)?, budget)
+    got(
+        rt,
+        cut(alloc, arranged_by(rt, alloc, holdings, order), budget),
+    )
 }
 
 /// What a peer that holds nothing lacks, made without a list of what does not fit.
-fn delta_by(alloc: Global, holdings: &Holdings, order: Order, budget: u64) -> Result<Delta, Fault>
+fn delta_by(rt: &impl Abort, alloc: Global, holdings: &Holdings, order: Order, budget: u64) -> Delta
     requires least { BUDGET_LEAST ≤ budget }
     requires most { budget ≤ BUDGET_MOST }
 {
-    let digest = Digest::new(false, None, None, Vec::new(alloc))?;
-    match order {
+    let digest = nothing(rt, alloc, false);
+    let delta = match order {
         Order::Breadth => Breadth.delta(alloc, holdings, &digest, budget),
         Order::Depth => Depth.delta(alloc, holdings, &digest, budget),
-    }
+    };
+    got(rt, delta)
 }
 
-/// Whether an owner with three writes and others with one come in this order.
-fn are_in_order(
+/// Ends the test where an owner with three writes and others with one do not come in this order.
+fn come(
+    rt: &impl Abort,
     alloc: Global,
     order: Order,
     first: Name,
     others: &[Name],
     wanted: &[(Name, u64)],
-) -> Result<bool, Fault> {
-    let ordered = arranged_by(alloc, &one_and_others(alloc, first, others)?, order)?;
+) {
+    let holdings = one_and_others(rt, alloc, first, others);
+    let ordered = arranged_by(rt, alloc, &holdings, order);
     let mut are_equal = ordered.len() == wanted.len();
     for (item, place) in ordered.iter().zip(wanted) {
         are_equal &= (item.owner, item.entry.version()) == *place;
     }
-    Ok(are_equal)
+    same_at(rt, &order, &are_equal, &true);
 }
 
 #[test]
-fn items_come_in_their_order(rt: HostRuntime) -> Result<(), Fail> {
-    let [a, b, c] = [Name::read(b"a")?, Name::read(b"b")?, Name::read(b"c")?];
-    let (one, two) = ([b], [c, a]);
+fn items_come_in_their_order(rt: HostRuntime) {
+    let alloc = rt.alloc();
+    let (a, b, c) = (name(&rt, b"a"), name(&rt, b"b"), name(&rt, b"c"));
     let wide_of_two = [(a, 1), (b, 1), (a, 2), (a, 3)];
     let wide_of_three = [(a, 1), (b, 1), (c, 1), (b, 2), (b, 3)];
     let deep_of_two = [(a, 1), (a, 2), (a, 3), (b, 1)];
     let deep_of_three = [(b, 1), (b, 2), (b, 3), (a, 1), (c, 1)];
-    for (order, first, others, wanted) in [
-        (Order::Breadth, a, one.as_slice(), wide_of_two.as_slice()),
-        (Order::Breadth, b, &two, &wide_of_three),
-        (Order::Depth, a, &one, &deep_of_two),
-        (Order::Depth, b, &two, &deep_of_three),
-    ] {
-        let are_right = are_in_order(rt.alloc(), order, first, others, wanted)?;
-        same_at(&rt, &order, &are_right, &true);
-    }
-    Ok(())
+    come(&rt, alloc, Order::Breadth, a, &[b], &wide_of_two);
+    come(&rt, alloc, Order::Breadth, b, &[c, a], &wide_of_three);
+    come(&rt, alloc, Order::Depth, a, &[b], &deep_of_two);
+    come(&rt, alloc, Order::Depth, b, &[c, a], &deep_of_three);
 }
 
-/// How long a frame the delta has, and whether it tells just these writes.
-fn tells(delta: &Delta, wanted: &[(Name, u64)]) -> (u64, bool) {
-    let mut wanted = wanted.iter().copied();
-    let mut are_equal = true;
-    for block in delta.blocks() {
-        for entry in block.entries() {
-            are_equal &= Some((*block.owner(), entry.version())) == wanted.next();
-        }
-    }
-    let is_all = wanted.next().is_none();
-    (delta.encoded_length() + HEADER_LENGTH, are_equal && is_all)
-}
-
-/// How long a frame the delta has that is cut of a list, and the one made without it, and whether each tells just these
-/// writes.
-fn tell_both(
+/// Ends the test where not just these writes are told of, in a frame so long, by the delta that is cut of a list and by
+/// the one made without it.
+fn tell(
+    rt: &impl Abort,
     alloc: Global,
     holdings: &Holdings,
     order: Order,
     budget: u64,
+    length: u64,
     wanted: &[(Name, u64)],
-) -> Result<[(u64, bool); 2], Fault>
+)
     requires least { BUDGET_LEAST ≤ budget }
     requires most { budget ≤ BUDGET_MOST }
 {
-    let listed = cut_by(alloc, holdings, order, budget)?;
-    let walked = delta_by(alloc, holdings, order, budget)?;
-    Ok([tells(&listed, wanted), tells(&walked, wanted)])
+    let listed = tells(&cut_by(rt, alloc, holdings, order, budget), wanted);
+    let walked = tells(&delta_by(rt, alloc, holdings, order, budget), wanted);
+    same_at(
+        rt,
+        &budget,
+        &[listed, walked],
+        &[(length, true), (length, true)],
+    );
 }
 
 #[test]
-fn what_fits_is_told_of(rt: HostRuntime) -> Result<(), Fail> {
+fn what_fits_is_told_of(rt: HostRuntime) {
     let alloc = rt.alloc();
-    let [a, b] = [Name::read(b"a")?, Name::read(b"b")?];
-    let holdings = one_and_others(alloc, a, &[b])?;
-    let (wide, deep) = ([(a, 1), (b, 1)], [(a, 1), (a, 2)]);
-    for (order, budget, length, wanted) in [
-        (Order::Breadth, 440, 439, wide.as_slice()),
-        (Order::Breadth, 438, 224, &wide[..1]),
-        (Order::Depth, 440, 427, &deep),
-        (Order::Depth, 438, 427, &deep),
-    ] {
-        let found = tell_both(alloc, &holdings, order, budget, wanted)?;
-        same_at(&rt, &budget, &found, &[(length, true), (length, true)]);
-    }
-    Ok(())
+    let (a, b) = (name(&rt, b"a"), name(&rt, b"b"));
+    let holdings = one_and_others(&rt, alloc, a, &[b]);
+    let deep = [(a, 1), (a, 2)];
+    tell(
+        &rt,
+        alloc,
+        &holdings,
+        Order::Breadth,
+        440,
+        439,
+        &[(a, 1), (b, 1)],
+    );
+    tell(&rt, alloc, &holdings, Order::Breadth, 438, 224, &[(a, 1)]);
+    tell(&rt, alloc, &holdings, Order::Depth, 440, 427, &deep);
+    tell(&rt, alloc, &holdings, Order::Depth, 438, 427, &deep);
 }
 
 /// How many blocks and entries a delta has, and how long its frame is.
-fn extent(delta: &Delta) -> (usize, usize, u64) {
-    let mut entries = 0_usize;
-    for block in delta.blocks() {
-        entries = entries.wrapping_add(block.entries().len());
-    }
+type Extent = (usize, usize, u64);
+
+fn extent(delta: &Delta) -> Extent {
     let length = delta.encoded_length() + HEADER_LENGTH;
-    (delta.blocks().len(), entries, length)
+    (delta.blocks().len(), entries_in(delta), length)
 }
 
-/// The extents of the delta that is cut of a list, and of the one made without it.
-fn both_extents(
+/// Ends the test where not of this extent are both the delta that is cut of a list and the one made without it.
+fn extend(
+    rt: &impl Abort,
     alloc: Global,
     holdings: &Holdings,
     order: Order,
     budget: u64,
-) -> Result<[(usize, usize, u64); 2], Fault>
+    wanted: Extent,
+)
     requires least { BUDGET_LEAST ≤ budget }
     requires most { budget ≤ BUDGET_MOST }
 {
-    let listed = cut_by(alloc, holdings, order, budget)?;
-    let walked = delta_by(alloc, holdings, order, budget)?;
-    Ok([extent(&listed), extent(&walked)])
+    let listed = extent(&cut_by(rt, alloc, holdings, order, budget));
+    let walked = extent(&delta_by(rt, alloc, holdings, order, budget));
+    same_at(rt, &budget, &[listed, walked], &[wanted, wanted]);
 }
 
 #[test]
-fn a_thousand_owners_are_cut(rt: HostRuntime) -> Result<(), Fail> {
+fn a_thousand_owners_are_cut(rt: HostRuntime) {
     let alloc = rt.alloc();
-    let holdings = thousand_owners(alloc)?;
-    for (order, budget, wanted) in [
-        (Order::Breadth, 65_536, (1_000, 2_000, 39_009)),
-        (Order::Breadth, 30_000, (1_000, 1_249, 29_997)),
-        (Order::Breadth, 256, (9, 9, 252)),
-        (Order::Depth, 65_536, (1_000, 2_000, 39_009)),
-        (Order::Depth, 30_000, (769, 1_538, 30_000)),
-        (Order::Depth, 29_999, (769, 1_537, 29_988)),
-        (Order::Depth, 256, (6, 12, 243)),
-    ] {
-        let found = both_extents(alloc, &holdings, order, budget)?;
-        same_at(&rt, &budget, &found, &[wanted, wanted]);
-    }
-    Ok(())
+    let (wide, deep) = (Order::Breadth, Order::Depth);
+    let holdings = thousand_owners(&rt, alloc);
+    extend(&rt, alloc, &holdings, wide, 65_536, (1_000, 2_000, 39_009));
+    extend(&rt, alloc, &holdings, wide, 30_000, (1_000, 1_249, 29_997));
+    extend(&rt, alloc, &holdings, wide, 256, (9, 9, 252));
+    extend(&rt, alloc, &holdings, deep, 65_536, (1_000, 2_000, 39_009));
+    extend(&rt, alloc, &holdings, deep, 30_000, (769, 1_538, 30_000));
+    extend(&rt, alloc, &holdings, deep, 29_999, (769, 1_537, 29_988));
+    extend(&rt, alloc, &holdings, deep, 256, (6, 12, 243));
 }
 
 /// What a wrote under x and y, and b under x.
-fn two_and_one(alloc: Global) -> Result<Holdings, Fault> {
-    let mut holdings = Holdings::new(alloc, Name::read(b"n")?, Table::new(alloc))?;
-    enter(alloc, &mut holdings, Name::read(b"a")?, b"xy")?;
-    enter(alloc, &mut holdings, Name::read(b"b")?, b"x")?;
-    Ok(holdings)
+fn two_and_one(rt: &impl Abort, alloc: Global) -> Holdings {
+    let mut holdings = empty(rt, alloc);
+    enter(rt, alloc, &mut holdings, name(rt, b"a"), b"xy");
+    enter(rt, alloc, &mut holdings, name(rt, b"b"), b"x");
+    holdings
 }
 
-/// The versions of what a and b wrote, in an order.
-fn versions_by<O: DeltaOrder>(alloc: Global, order: &O) -> Result<Vec<u64>, Fault> {
-    let holdings = two_and_one(alloc)?;
-    let digest = Digest::new(true, None, None, Vec::new(alloc))?;
-    let offered = available(alloc, &holdings, &digest)?;
-    let ordered = order.arrange(alloc, offered)?;
-    let mut versions = Vec::new(alloc);
-    for item in ordered.iter() {
-        versions.push(item.entry.version())?;
+/// Whether what a and b wrote comes with these versions, in an order.
+fn come_by<O: DeltaOrder>(rt: &impl Abort, alloc: Global, order: &O, wanted: &[u64]) -> bool {
+    let holdings = two_and_one(rt, alloc);
+    let digest = nothing(rt, alloc, true);
+    let ordered = got(rt, arranged(alloc, &holdings, &digest, order));
+    let mut are_equal = ordered.len() == wanted.len();
+    for (item, version) in ordered.iter().zip(wanted) {
+        are_equal &= item.entry.version() == *version;
     }
-    Ok(versions)
+    are_equal
 }
 
 /// The example of `Breadth`.
 #[test]
-fn example_of_breadth(rt: HostRuntime) -> Result<(), Fail> {
-    let versions = versions_by(rt.alloc(), &Breadth)?;
-    same(&rt, &versions.as_slice(), &[1, 1, 2].as_slice());
-    Ok(())
+fn example_of_breadth(rt: HostRuntime) {
+    let are_right = come_by(&rt, rt.alloc(), &Breadth, &[1, 1, 2]);
+    same(&rt, &are_right, &true);
 }
 
 /// The example of `Depth`.
 #[test]
-fn example_of_depth(rt: HostRuntime) -> Result<(), Fail> {
-    let versions = versions_by(rt.alloc(), &Depth)?;
-    same(&rt, &versions.as_slice(), &[1, 2, 1].as_slice());
-    Ok(())
+fn example_of_depth(rt: HostRuntime) {
+    let are_right = come_by(&rt, rt.alloc(), &Depth, &[1, 2, 1]);
+    same(&rt, &are_right, &true);
 }

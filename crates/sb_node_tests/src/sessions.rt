@@ -2,17 +2,17 @@
 ghost use Rattle.std.specs.Prelude.{◌≡◌, ◌<◌};
 
 use crate::node::{applied, log_of, node, write};
-use crate::{same, same_at};
+use crate::{got, key, name, one, push, same, same_at, settled, there};
 use sb_codec::Message;
 use sb_frames::Steps;
 use sb_node::NodeCore;
 use sb_session::{Ended, Session, dial, serve};
-use sb_types::{Block, Delta, Entry, Fault, Key, Name, Order, Slot, Value};
+use sb_types::{Block, Delta, Entry, Fault, Name, Order, Slot, Value};
 use std::alloc::Global;
 use std::io::{self, ErrorKind, Read, Write};
 use std::marker::Brand;
+use std::process::Abort;
 use std::sync::ledger::{Blank, Ledger};
-use std::test::Fail;
 
 /// Hello and the digest of a node a of the cluster c1 that holds only itself with nothing written, and its Bye.
 const SAID_BY_A: &[u8] = b"\xa7\x01\x00\x00\x00\x06\x01\x02c1\x01a\
@@ -116,33 +116,30 @@ fn peer_terms(said: &[u8], rounds: Option<u64>) -> Terms<'_> {
     }
 }
 
-/// How a talk ended, and what was written.
+/// How a talk ended.
 fn talk_on<L: Ledger>(
     core: &mut NodeCore,
     alloc: Global,
+    session: Session,
+    writer: &mut Hearing,
     terms: Terms<'_>,
     blank: Blank,
-) -> Result<(Result<Ended, Fault>, Vec<u8>), Fault>
+) -> Result<Ended, Fault>
     requires name { blank.name ≡ L.name }
     requires parts { blank.parts ≡ L.parts }
     requires some { 0 < blank.parts }
 {
-    let session = Session::new(Name::read(b"c1")?, *core.name());
     let mut steps = Steps::<L>::new(blank);
     let mut reader = Saying {
         bytes: terms.said,
         piece: terms.piece,
         breaks: terms.breaks,
     };
-    let mut writer = Hearing {
-        bytes: Vec::new(alloc),
-        room: terms.room,
-    };
     let (ended, _) = match terms.rounds {
         None => serve(
             alloc,
             &mut reader,
-            &mut writer,
+            writer,
             session,
             core,
             terms.reads,
@@ -151,7 +148,7 @@ fn talk_on<L: Ledger>(
         Some(rounds) => dial(
             alloc,
             &mut reader,
-            &mut writer,
+            writer,
             session,
             core,
             rounds,
@@ -159,195 +156,226 @@ fn talk_on<L: Ledger>(
             &mut steps,
         ),
     };
-    Ok((ended, writer.bytes))
+    ended
 }
 
 /// How a talk ended, and whether it wrote just these bytes.
+type Talked = (Result<Ended, Fault>, bool);
+
 fn talk(
+    rt: &impl Abort,
     core: &mut NodeCore,
     alloc: Global,
     terms: Terms<'_>,
     said: &[u8],
-) -> Result<(Result<Ended, Fault>, bool), Fault> {
-    let (ended, written) = talk_on::<Brand>(core, alloc, terms, Blank::new(1))?;
-    Ok((ended, written.as_slice() == said))
+) -> Talked {
+    let session = Session::new(name(rt, b"c1"), *core.name());
+    let mut writer = Hearing {
+        bytes: Vec::new(alloc),
+        room: terms.room,
+    };
+    let ended = talk_on::<Brand>(core, alloc, session, &mut writer, terms, Blank::new(1));
+    (settled(rt, ended), writer.bytes.as_slice() == said)
 }
 
 /// The node b, which wrote the flag true under w.
-fn node_b(alloc: Global) -> Result<NodeCore, Fault> {
-    let b = Name::read(b"b")?;
-    let mut core = node(alloc, b, 256, Order::Breadth)?;
-    let mut log = log_of(alloc, b)?;
-    write(&mut core, &mut log, b"w", &Slot::Set(Value::flag(true)))?;
-    Ok(core)
+fn node_b(rt: &impl Abort, alloc: Global) -> NodeCore {
+    let b = name(rt, b"b");
+    let mut core = node(rt, alloc, b, 256, Order::Breadth);
+    let mut log = log_of(rt, alloc, b);
+    let slot = Slot::Set(Value::flag(true));
+    write(rt, &mut core, &mut log, b"w", &slot);
+    core
 }
 
 /// How a talk of b ends, and whether it wrote just these bytes.
-fn talk_of_b(
-    alloc: Global,
-    terms: Terms<'_>,
-    said: &[u8],
-) -> Result<(Result<Ended, Fault>, bool), Fault> {
-    let mut core = node_b(alloc)?;
-    talk(&mut core, alloc, terms, said)
+fn talk_of_b(rt: &impl Abort, alloc: Global, terms: Terms<'_>, said: &[u8]) -> Talked {
+    let mut core = node_b(rt, alloc);
+    talk(rt, &mut core, alloc, terms, said)
 }
 
 /// The same of a that asks b, and how far it then holds b.
-fn talk_of_a(alloc: Global) -> Result<((Result<Ended, Fault>, bool), u64), Fault> {
-    let [a, b] = [Name::read(b"a")?, Name::read(b"b")?];
-    let mut core = node(alloc, a, 256, Order::Breadth)?;
+fn talk_of_a(rt: &impl Abort, alloc: Global) -> (Talked, u64) {
+    let mut core = node(rt, alloc, name(rt, b"a"), 256, Order::Breadth);
     let terms = peer_terms(SAID_BY_B, Some(1));
-    let dialed = talk(&mut core, alloc, terms, DIALED_BY_A)?;
-    Ok((dialed, core.upto(&b)))
+    let dialed = talk(rt, &mut core, alloc, terms, DIALED_BY_A);
+    (dialed, core.upto(&name(rt, b"b")))
+}
+
+/// Ends the test where b does not serve a that says all in pieces of so many bytes.
+fn serve_pieces(rt: &impl Abort, alloc: Global, piece: usize) {
+    let terms = Terms {
+        piece,
+        ..peer_terms(SAID_BY_A, None)
+    };
+    let served = talk_of_b(rt, alloc, terms, SAID_BY_B);
+    same_at(rt, &piece, &served, &(Ok(Ended::Bye(1)), true));
 }
 
 #[test]
-fn two_nodes_talk(rt: HostRuntime) -> Result<(), Fail> {
+fn two_nodes_talk(rt: HostRuntime) {
     let alloc = rt.alloc();
-    for piece in [1usize, 7, 42] {
-        let terms = Terms {
-            piece,
-            ..peer_terms(SAID_BY_A, None)
-        };
-        let served = talk_of_b(alloc, terms, SAID_BY_B)?;
-        same_at(&rt, &piece, &served, &(Ok(Ended::Bye(1)), true));
-    }
-    let told = talk_of_b(alloc, peer_terms(b"", Some(0)), DIALED_BY_B)?;
+    serve_pieces(&rt, alloc, 1);
+    serve_pieces(&rt, alloc, 7);
+    serve_pieces(&rt, alloc, 42);
+    let told = talk_of_b(&rt, alloc, peer_terms(b"", Some(0)), DIALED_BY_B);
     same(&rt, &told, &(Ok(Ended::RoundsDone), true));
-    same(&rt, &talk_of_a(alloc)?, &((Ok(Ended::RoundsDone), true), 1));
-    Ok(())
+    let asked = talk_of_a(&rt, alloc);
+    same(&rt, &asked, &((Ok(Ended::RoundsDone), true), 1));
+}
+
+/// Ends the test where a write of b does not so fail of which a peer hears no more bytes than there is room for.
+fn fill(rt: &impl Abort, alloc: Global, room: usize, count: u64) {
+    let terms = Terms {
+        room,
+        ..peer_terms(SAID_BY_A, None)
+    };
+    let written = there(rt, SAID_BY_B.get(..room));
+    let served = talk_of_b(rt, alloc, terms, written);
+    same_at(rt, &room, &served, &(Err(Fault::WriteFailed(count)), true));
 }
 
 #[test]
-fn peers_that_give_out(rt: HostRuntime) -> Result<(), Fail> {
+fn peers_that_give_out(rt: HostRuntime) {
     let alloc = rt.alloc();
-    for (room, count) in [(20usize, 8u64), (12, 0), (45, 0)] {
-        let terms = Terms {
-            room,
-            ..peer_terms(SAID_BY_A, None)
-        };
-        let written = SAID_BY_B.get(..room).unwrap_or(&[]);
-        let served = talk_of_b(alloc, terms, written)?;
-        same_at(&rt, &room, &served, &(Err(Fault::WriteFailed(count)), true));
-    }
+    fill(&rt, alloc, 20, 8);
+    fill(&rt, alloc, 12, 0);
+    fill(&rt, alloc, 45, 0);
     let terms = Terms {
         breaks: true,
         ..peer_terms(HELLO_A, None)
     };
-    let written = SAID_BY_B.get(..12).unwrap_or(&[]);
-    let served = talk_of_b(alloc, terms, written)?;
+    let written = there(&rt, SAID_BY_B.get(..12));
+    let served = talk_of_b(&rt, alloc, terms, written);
     same(&rt, &served, &(Err(Fault::ReadFailed), true));
-    Ok(())
+}
+
+/// Hello of a, and these frames.
+fn said(rt: &impl Abort, alloc: Global, frames: &[&[u8]]) -> Vec<u8> {
+    let mut said = got(rt, Vec::from_slice(alloc, HELLO_A));
+    for frame in frames {
+        got(rt, said.extend_from_slice(frame));
+    }
+    said
 }
 
 /// How a talk of b with a peer a ends that says this behind its Hello, and how far a is held then.
-fn heard(
-    alloc: Global,
-    frames: &[&[u8]],
-    piece: usize,
-    reads: u64,
-) -> Result<(Result<Ended, Fault>, u64), Fault> {
-    let mut said = Vec::from_slice(alloc, HELLO_A)?;
-    for frame in frames {
-        said.extend_from_slice(frame)?;
-    }
-    let mut core = node_b(alloc)?;
+type Heard = (Result<Ended, Fault>, u64);
+
+fn heard(rt: &impl Abort, alloc: Global, frames: &[&[u8]], piece: usize, reads: u64) -> Heard {
+    let said = said(rt, alloc, frames);
+    let mut core = node_b(rt, alloc);
     let terms = Terms {
         piece,
         reads,
         ..peer_terms(&said, None)
     };
-    let (ended, _) = talk(&mut core, alloc, terms, b"")?;
-    Ok((ended, core.upto(&Name::read(b"a")?)))
+    let (ended, _) = talk(rt, &mut core, alloc, terms, b"");
+    (ended, core.upto(&name(rt, b"a")))
 }
 
 #[test]
-fn a_delta_in_any_pieces(rt: HostRuntime) -> Result<(), Fail> {
+fn a_delta_in_any_pieces(rt: HostRuntime) {
     let alloc = rt.alloc();
-    let whole = (Ok(Ended::End), 1);
-    let front = FRAME.get(..17).unwrap_or(&[]);
+    let front = there(&rt, FRAME.get(..17));
     let found = [
-        heard(alloc, &[FRAME], 1, 99)?,
-        heard(alloc, &[FRAME], 51, 99)?,
-        heard(alloc, &[FRAME, FRAME], 4_096, 99)?,
-        heard(alloc, &[front], 4_096, 99)?,
-        heard(alloc, &[FRAME], 4_096, 0)?,
+        heard(&rt, alloc, &[FRAME], 1, 99),
+        heard(&rt, alloc, &[FRAME], 51, 99),
+        heard(&rt, alloc, &[FRAME, FRAME], 4_096, 99),
+        heard(&rt, alloc, &[front], 4_096, 99),
+        heard(&rt, alloc, &[FRAME], 4_096, 0),
     ];
+    let whole = (Ok(Ended::End), 1);
     let part = (Err(Fault::Truncated), 0);
     let spent = (Err(Fault::TurnsSpent), 0);
     same(&rt, &found, &[whole, whole, whole, part, spent]);
-    Ok(())
+}
+
+/// Ends the test where this frame is not such a fault, or the one behind it is entered.
+fn refuse(rt: &impl Abort, alloc: Global, frame: &[u8], fault: Fault) {
+    let found = heard(rt, alloc, &[frame, FRAME], 4_096, 99);
+    same_at(rt, &frame, &found, &(Err(fault), 0));
 }
 
 #[test]
-fn faulty_frames_enter_nothing(rt: HostRuntime) -> Result<(), Fail> {
+fn faulty_frames_enter_nothing(rt: HostRuntime) {
     let alloc = rt.alloc();
-    for (frame, fault) in [
-        (b"\xa6".as_slice(), Fault::BadMark),
-        (b"\xa7\x09", Fault::BadVersion),
-        (b"\xa7\x01\x00\x00\x00\x00", Fault::BadLength),
-        (b"\xa7\x01\x00\x00\xff\xfb", Fault::BadLength),
-        (b"\xa7\x01\x00\x00\x00\x01\x55", Fault::UnknownKind(0x55)),
-        (DESCENDING, Fault::Malformed(3)),
-    ] {
-        let found = heard(alloc, &[frame, FRAME], 4_096, 99)?;
-        same_at(&rt, &frame, &found, &(Err(fault), 0));
-    }
-    Ok(())
+    refuse(&rt, alloc, b"\xa6", Fault::BadMark);
+    refuse(&rt, alloc, b"\xa7\x09", Fault::BadVersion);
+    refuse(&rt, alloc, b"\xa7\x01\x00\x00\x00\x00", Fault::BadLength);
+    refuse(&rt, alloc, b"\xa7\x01\x00\x00\xff\xfb", Fault::BadLength);
+    let unknown = b"\xa7\x01\x00\x00\x00\x01\x55";
+    refuse(&rt, alloc, unknown, Fault::UnknownKind(0x55));
+    refuse(&rt, alloc, DESCENDING, Fault::Malformed(3));
+}
+
+/// The flag true under k, the first write of an owner.
+fn write_of(rt: &impl Abort, alloc: Global, owner: &[u8]) -> Block {
+    let entry = Entry::new(key(rt, b"k"), 1, Slot::Set(Value::flag(true)));
+    got(rt, Block::new(name(rt, owner), 0, one(rt, alloc, entry)))
 }
 
 /// One write of each of so many owners, in the order of their names.
-fn writes_of(alloc: Global, owners: u64) -> Result<Delta, Fault> {
+fn writes_of(rt: &impl Abort, alloc: Global, owners: u64) -> Delta {
     let mut blocks = Vec::new(alloc);
     for number in 0..owners {
-        let name = format!(in alloc; "n{number:04}")?;
-        let entry = Entry::new(Key::read(b"k")?, 1, Slot::Set(Value::flag(true)));
-        blocks.push(Block::new(Name::read(name.as_bytes())?, 0, vec![in alloc; entry]?)?)?;
+        let owner = got(rt, format!(in alloc; "n{number:04}"));
+        push(rt, &mut blocks, write_of(rt, alloc, owner.as_bytes()));
     }
-    Delta::new(blocks)
+    got(rt, Delta::new(blocks))
+}
+
+/// How many pairs the next digest has that a session asks with, and where it ends; nothing where it does not begin there.
+fn ask_from(
+    rt: &impl Abort,
+    core: &mut NodeCore,
+    session: &mut Session,
+    from: Option<Name>,
+) -> Option<(usize, Option<Name>)> {
+    let Message::Digest(digest) = got(rt, session.ask(core)) else {
+        return None;
+    };
+    if digest.from() != from {
+        return None;
+    }
+    Some((digest.pairs().len(), digest.until()))
 }
 
 /// How many digests a session asks with until one has no end, and how many owners they tell of; nothing where one
 /// does not begin where the last one ended.
 fn asked_in_turn(
+    rt: &impl Abort,
     core: &mut NodeCore,
     session: &mut Session,
-) -> Result<Option<(u64, usize)>, Fault> {
+) -> Option<(u64, usize)> {
     let mut from = None;
     let mut told = 0usize;
     for count in 1..=1_024u64 {
-        let Message::Digest(digest) = session.ask(core)? else {
-            return Ok(None);
-        };
-        if digest.from() != from {
-            return Ok(None);
-        }
-        told = told.saturating_add(digest.pairs().len());
-        from = digest.until();
+        let (pairs, until) = ask_from(rt, core, session, from)?;
+        told = told.saturating_add(pairs);
+        from = until;
         if from.is_none() {
-            return Ok(Some((count, told)));
+            return Some((count, told));
         }
     }
-    Ok(None)
+    None
 }
 
 /// A node a that holds one write of each of as many other owners.
-fn node_of_writes(alloc: Global, owners: u64) -> Result<NodeCore, Fault> {
-    let writes = writes_of(alloc, owners)?;
-    let mut core = node(alloc, Name::read(b"a")?, 256, Order::Breadth)?;
-    applied(&mut core, &writes)?;
-    Ok(core)
+fn node_of_writes(rt: &impl Abort, alloc: Global, owners: u64) -> NodeCore {
+    let mut core = node(rt, alloc, name(rt, b"a"), 256, Order::Breadth);
+    applied(rt, &mut core, &writes_of(rt, alloc, owners));
+    core
 }
 
 #[test]
-fn each_owner_is_told_of_in_turn(rt: HostRuntime) -> Result<(), Fail> {
-    let mut session = Session::new(Name::read(b"c1")?, Name::read(b"a")?);
-    let mut core = node_of_writes(rt.alloc(), 1_023)?;
+fn each_owner_is_told_of_in_turn(rt: HostRuntime) {
+    let mut session = Session::new(name(&rt, b"c1"), name(&rt, b"a"));
+    let mut core = node_of_writes(&rt, rt.alloc(), 1_023);
     // 17 owners in the first digest, 16 in each of the next 62, and 15 in the last; then all once more.
     let found = [
-        asked_in_turn(&mut core, &mut session)?,
-        asked_in_turn(&mut core, &mut session)?,
+        asked_in_turn(&rt, &mut core, &mut session),
+        asked_in_turn(&rt, &mut core, &mut session),
     ];
     same(&rt, &found, &[Some((64, 1_024)), Some((64, 1_024))]);
-    Ok(())
 }
