@@ -1,11 +1,11 @@
 //! What no clause says: the lines of a log, and a write that fails.
-use crate::making::{ClosingWriter, Ended, Words, settled, whole};
-use crate::same;
+use crate::got;
+use crate::making::{ClosingWriter, Words, failed_behind, has_lines, key, name, settled, value_of};
 use sb_lines::log_run;
 use sb_log::{PlainLog, WriteLog};
-use sb_types::{Fault, Key, Name, Slot, Value};
+use sb_types::Slot;
 use std::alloc::Global;
-use std::test::Fail;
+use std::process::Abort;
 
 // A key and its value, or none where it is removed.
 type Write = (&'static [u8], Option<Words>);
@@ -25,65 +25,63 @@ const FIVE: [Write; 5] = [
     (b"x", None),
 ];
 
-// The writes of a log, and its lines.
-const LOGS: [(&[Write], &[u8]); 3] = [
-    (&[], b"last 0\n"),
-    (&THREE, b"a x 2 removed -\na y 3 flag true\nlast 3\n"),
-    (
-        &FIVE,
-        b"a w 4 weight 0\na x 5 removed -\na y/a 3 flag true\na y/b 2 addr 10.0.0.1:80\nlast 5\n",
-    ),
-];
-
-fn put(alloc: Global, log: &mut PlainLog, write: Write) -> Result<(), Fault> {
-    let (key, words) = write;
-    let key = Key::read(key)?;
-    let slot = match words {
-        Some((kind, word)) => Slot::Set(Value::from_words(alloc, kind, word)?),
+fn slot_of(rt: &impl Abort, alloc: Global, words: Option<Words>) -> Slot {
+    match words {
+        Some(words) => Slot::Set(value_of(rt, alloc, words)),
         None => Slot::Removed,
-    };
-    let _committed = log.put(&key, &slot)?;
-    Ok(())
+    }
+}
+
+fn put(rt: &impl Abort, alloc: Global, log: &mut PlainLog, write: Write) {
+    let slot = slot_of(rt, alloc, write.1);
+    let _committed = got(rt, log.put(&key(rt, write.0), &slot));
 }
 
 /// A log of a with these writes.
-fn log_of(alloc: Global, writes: &[Write]) -> Result<PlainLog, Fault> {
-    let (owner, cluster) = (Name::read(b"a")?, Name::read(b"c")?);
-    let mut log = PlainLog::new(alloc, owner, cluster, 100);
+fn log_of(rt: &impl Abort, alloc: Global, writes: &[Write]) -> PlainLog {
+    let mut log = PlainLog::new(alloc, name(rt, b"a"), name(rt, b"c"), 100);
     for write in writes {
-        put(alloc, &mut log, *write)?;
+        put(rt, alloc, &mut log, *write);
     }
-    Ok(log)
+    log
 }
 
-/// What is printed of a log of these writes, by writes of lines of which none is said to have failed.
-fn printed(alloc: Global, writes: &[Write]) -> Result<Vec<u8>, Fault> {
-    let mut log = log_of(alloc, writes)?;
+/// A log of these writes is printed so, by writes of lines of which none is said to have failed.
+fn is_printed(rt: &impl Abort, alloc: Global, writes: &[Write], wanted: &[u8]) {
+    let mut log = log_of(rt, alloc, writes);
     let mut lines = Vec::new(alloc);
     let printed = log_run(alloc, &mut log, &mut lines);
-    whole(printed, lines)
+    has_lines(rt, printed, &lines, wanted);
 }
 
 #[test]
-fn a_log_is_printed_in_ascending_key(rt: HostRuntime) -> Result<(), Fail> {
-    for (writes, wanted) in LOGS.iter() {
-        let lines = printed(rt.alloc(), writes)?;
-        same(&rt, &lines.as_slice(), wanted);
-    }
-    Ok(())
+fn a_log_is_printed_in_ascending_key(rt: HostRuntime) {
+    let alloc = rt.alloc();
+    is_printed(&rt, alloc, &[], b"last 0\n");
+    is_printed(
+        &rt,
+        alloc,
+        &THREE,
+        b"a x 2 removed -\na y 3 flag true\nlast 3\n",
+    );
+    is_printed(
+        &rt,
+        alloc,
+        &FIVE,
+        b"a w 4 weight 0\na x 5 removed -\na y/a 3 flag true\na y/b 2 addr 10.0.0.1:80\nlast 5\n",
+    );
 }
 
-/// How the printing of the log of five ends at a writer that closes behind so many bytes.
-fn ended_behind(alloc: Global, left: usize) -> Result<Ended, Fault> {
-    let mut log = log_of(alloc, &FIVE)?;
-    settled(log_run(alloc, &mut log, &mut ClosingWriter { left }))
+/// The printing of the log of five fails at a writer that closes behind so many bytes.
+fn fails_behind(rt: &impl Abort, alloc: Global, left: usize) {
+    let mut log = log_of(rt, alloc, &FIVE);
+    let printed = log_run(alloc, &mut log, &mut ClosingWriter { left });
+    failed_behind(rt, settled(rt, printed), left);
 }
 
 #[test]
-fn a_failed_write_is_counted(rt: HostRuntime) -> Result<(), Fail> {
-    for left in [0, 17, 79] {
-        let ended = ended_behind(rt.alloc(), left)?;
-        same(&rt, &ended, &(Err(Fault::WriteFailed(left as u64)), true));
-    }
-    Ok(())
+fn a_failed_write_is_counted(rt: HostRuntime) {
+    fails_behind(&rt, rt.alloc(), 0);
+    fails_behind(&rt, rt.alloc(), 17);
+    fails_behind(&rt, rt.alloc(), 79);
 }

@@ -1,12 +1,10 @@
 //! What changed between listings and its lines, and rows as JSON.
-use crate::making::{ClosingWriter, Ended, Told, rows_of, settled, whole};
-use crate::{holds, same};
-use sb_codec::Rows;
+use crate::making::{ClosingWriter, Ended, Told, failed_behind, has_lines, rows_of, settled};
+use crate::{got, same};
+use sb_codec::{Row, Rows};
 use sb_listing::{changes, print_changes, print_json_rows};
-use sb_types::Fault;
 use std::alloc::Global;
 use std::process::Abort;
-use std::test::Fail;
 
 const A_V: Told = (b"a", b"v", 1, (b"addr", b"h:80"));
 
@@ -26,59 +24,71 @@ const B_A: Told = (b"b", b"a", 3, (b"addr", b"h:80"));
 
 const B_A_OTHER: Told = (b"b", b"a", 3, (b"addr", b"h:81"));
 
-// An earlier listing, a later one, and the lines of what changed.
-type Case = (&'static [Told], &'static [Told], &'static [u8]);
+// Listings that are compared with others.
+const A_V_TO_B: [Told; 3] = [A_V, A_W, B_A];
 
-const CASES: [Case; 11] = [
-    (&[], &[], b""),
-    (&[A_V, A_W, B_A], &[A_V, A_W, B_A], b""),
-    (
-        &[],
-        &[A_V, AA_A],
-        b"set a v 1 addr h:80\nset aa a 1 flag true\n",
-    ),
-    (&[A_V, AA_A], &[], b"gone a v\ngone aa a\n"),
-    (&[A_W], &[A_W_LATER], b"set a w 9 weight 5\n"),
-    (&[A_W], &[A_W_OTHER], b"set a w 2 weight 6\n"),
-    (&[A_W], &[A_W_FLAG], b"set a w 2 flag true\n"),
-    (&[A_W_FLAG], &[A_W_NOT], b"set a w 2 flag false\n"),
-    (&[B_A], &[B_A_OTHER], b"set b a 3 addr h:81\n"),
-    // Each of the three in turn, with rows on both sides.
-    (
-        &[A_V, A_W, B_A],
-        &[A_W_OTHER, AA_A, B_A],
-        b"gone a v\nset a w 2 weight 6\nset aa a 1 flag true\n",
-    ),
-    (
-        &[AA_A],
-        &[A_W, B_A],
-        b"set a w 2 weight 5\ngone aa a\nset b a 3 addr h:80\n",
-    ),
-];
+const A_AND_AA: [Told; 2] = [A_V, AA_A];
 
-/// The lines of what changed from one of these listings to the other.
-fn lines_between(alloc: Global, earlier: &[Told], later: &[Told]) -> Result<Vec<u8>, Fault> {
-    let (earlier, later) = (rows_of(alloc, earlier)?, rows_of(alloc, later)?);
-    let told = changes(alloc, &earlier, &later)?;
+const A_OTHER_TO_B: [Told; 3] = [A_W_OTHER, AA_A, B_A];
+
+const A_AND_B: [Told; 2] = [A_W, B_A];
+
+/// The lines of what changed from one of these to the other are these.
+fn rows_change_to(rt: &impl Abort, alloc: Global, earlier: &[Row], later: &[Row], wanted: &[u8]) {
+    let told = got(rt, changes(alloc, earlier, later));
     let mut lines = Vec::new(alloc);
     let printed = print_changes(alloc, &mut lines, &told);
-    whole(printed, lines)
+    has_lines(rt, printed, &lines, wanted);
 }
 
-/// The lines of what changed are those of the case.
-fn lines_are_those(rt: &impl Abort, alloc: Global, case: &Case) -> Result<(), Fail> {
-    let (earlier, later, wanted) = case;
-    let lines = lines_between(alloc, earlier, later)?;
-    same(rt, &lines.as_slice(), wanted);
-    Ok(())
+/// The same of listings.
+fn lines_are(rt: &impl Abort, alloc: Global, earlier: &[Told], later: &[Told], wanted: &[u8]) {
+    let (earlier, later) = (rows_of(rt, alloc, earlier), rows_of(rt, alloc, later));
+    rows_change_to(rt, alloc, &earlier, &later, wanted);
+}
+
+/// The same of listings of one row each.
+fn line_is(rt: &impl Abort, alloc: Global, earlier: Told, later: Told, wanted: &[u8]) {
+    lines_are(rt, alloc, &[earlier], &[later], wanted);
+}
+
+fn one_row_changed(rt: &impl Abort, alloc: Global) {
+    line_is(rt, alloc, A_W, A_W_LATER, b"set a w 9 weight 5\n");
+    line_is(rt, alloc, A_W, A_W_OTHER, b"set a w 2 weight 6\n");
+    line_is(rt, alloc, A_W, A_W_FLAG, b"set a w 2 flag true\n");
+    line_is(rt, alloc, A_W_FLAG, A_W_NOT, b"set a w 2 flag false\n");
+    line_is(rt, alloc, B_A, B_A_OTHER, b"set b a 3 addr h:81\n");
 }
 
 #[test]
-fn what_changed_is_printed(rt: HostRuntime) -> Result<(), Fail> {
-    for case in CASES.iter() {
-        lines_are_those(&rt, rt.alloc(), case)?;
-    }
-    Ok(())
+fn what_changed_is_printed(rt: HostRuntime) {
+    let alloc = rt.alloc();
+    lines_are(&rt, alloc, &[], &[], b"");
+    lines_are(&rt, alloc, &A_V_TO_B, &A_V_TO_B, b"");
+    lines_are(
+        &rt,
+        alloc,
+        &[],
+        &A_AND_AA,
+        b"set a v 1 addr h:80\nset aa a 1 flag true\n",
+    );
+    lines_are(&rt, alloc, &A_AND_AA, &[], b"gone a v\ngone aa a\n");
+    one_row_changed(&rt, alloc);
+    // Each of the three in turn, with rows on both sides.
+    lines_are(
+        &rt,
+        alloc,
+        &A_V_TO_B,
+        &A_OTHER_TO_B,
+        b"gone a v\nset a w 2 weight 6\nset aa a 1 flag true\n",
+    );
+    lines_are(
+        &rt,
+        alloc,
+        &[AA_A],
+        &A_AND_B,
+        b"set a w 2 weight 5\ngone aa a\nset b a 3 addr h:80\n",
+    );
 }
 
 // An address with a quote and a backslash, the greatest weight, and a flag.
@@ -89,8 +99,8 @@ const KINDS: [Told; 3] = [
 ];
 
 /// A page of these.
-fn page_of_kinds(alloc: Global) -> Result<Rows, Fault> {
-    Rows::new(true, rows_of(alloc, &KINDS)?)
+fn page_of_kinds(rt: &impl Abort, alloc: Global) -> Rows {
+    got(rt, Rows::new(true, rows_of(rt, alloc, &KINDS)))
 }
 
 // The lines of that page.
@@ -100,44 +110,51 @@ const AS_JSON: &[u8] =
 {\"key\":\"up\",\"kind\":\"flag\",\"owner\":\"b-1\",\"value\":true,\"version\":3}
 ";
 
-/// A page as JSON.
-fn json_of(alloc: Global, page: &Rows) -> Result<Vec<u8>, Fault> {
+/// A page as JSON is this.
+fn json_is(rt: &impl Abort, alloc: Global, page: &Rows, wanted: &[u8]) {
     let mut lines = Vec::new(alloc);
     let printed = print_json_rows(alloc, &mut lines, page);
-    whole(printed, lines)
+    has_lines(rt, printed, &lines, wanted);
+}
+
+/// No rows make no lines.
+fn no_rows_are_empty(rt: &impl Abort, alloc: Global) {
+    json_is(rt, alloc, &got(rt, Rows::new(false, Vec::new(alloc))), b"");
 }
 
 #[test]
-fn a_page_is_printed_as_json(rt: HostRuntime) -> Result<(), Fail> {
+fn a_page_is_printed_as_json(rt: HostRuntime) {
     let alloc = rt.alloc();
-    let lines = json_of(alloc, &page_of_kinds(alloc)?)?;
-    same(&rt, &lines.as_slice(), &AS_JSON);
-    let none = json_of(alloc, &Rows::new(false, Vec::new(alloc))?)?;
-    holds(&rt, "no rows make no lines", none.is_empty());
-    Ok(())
+    json_is(&rt, alloc, &page_of_kinds(&rt, alloc), AS_JSON);
+    no_rows_are_empty(&rt, alloc);
 }
 
 /// How the printing of a change ends at a writer that closes behind so many bytes.
-fn changes_behind(alloc: Global, left: usize) -> Result<Ended, Fault> {
-    let rows = rows_of(alloc, &[A_V])?;
-    let told = changes(alloc, &[], &rows)?;
-    settled(print_changes(alloc, &mut ClosingWriter { left }, &told))
+fn changes_behind(rt: &impl Abort, alloc: Global, left: usize) -> Ended {
+    let rows = rows_of(rt, alloc, &[A_V]);
+    let told = got(rt, changes(alloc, &[], &rows));
+    settled(rt, print_changes(alloc, &mut ClosingWriter { left }, &told))
 }
 
 /// The same of that page as JSON.
-fn json_behind(alloc: Global, left: usize) -> Result<Ended, Fault> {
-    let page = page_of_kinds(alloc)?;
-    settled(print_json_rows(alloc, &mut ClosingWriter { left }, &page))
+fn json_behind(rt: &impl Abort, alloc: Global, left: usize) -> Ended {
+    let page = page_of_kinds(rt, alloc);
+    settled(
+        rt,
+        print_json_rows(alloc, &mut ClosingWriter { left }, &page),
+    )
+}
+
+/// Both fail behind so many bytes.
+fn both_fail_behind(rt: &impl Abort, alloc: Global, left: usize) {
+    failed_behind(rt, changes_behind(rt, alloc, left), left);
+    failed_behind(rt, json_behind(rt, alloc, left), left);
 }
 
 #[test]
-fn a_failed_write_of_lines_is_counted(rt: HostRuntime) -> Result<(), Fail> {
+fn a_failed_write_of_lines_is_counted(rt: HostRuntime) {
     let alloc = rt.alloc();
-    for left in [0, 19] {
-        let wanted = (Err(Fault::WriteFailed(left as u64)), true);
-        same(&rt, &changes_behind(alloc, left)?, &wanted);
-        same(&rt, &json_behind(alloc, left)?, &wanted);
-    }
-    same(&rt, &changes_behind(alloc, 20)?, &(Ok(()), false));
-    Ok(())
+    both_fail_behind(&rt, alloc, 0);
+    both_fail_behind(&rt, alloc, 19);
+    same(&rt, &changes_behind(&rt, alloc, 20), &(Ok(()), false));
 }

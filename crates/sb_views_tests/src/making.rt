@@ -1,23 +1,49 @@
-//! Entries, holdings and a writer for the tests.
+//! Names, entries, holdings and a writer for the tests.
+use crate::{got, same};
 use sb_codec::Row;
 use sb_frames::LastWrite;
 use sb_holdings::{BlockEnd, Holdings};
 use sb_table::Table;
-use sb_types::{Block, Entry, Fault, Key, Name, Slot, Value};
+use sb_types::{Block, Entry, Fault, Key, Name, Prefix, Slot, Value};
 use std::alloc::Global;
 use std::io;
 use std::io::{ErrorKind, Write};
+use std::process::Abort;
+
+pub(crate) fn name(rt: &impl Abort, text: &[u8]) -> Name {
+    got(rt, Name::read(text))
+}
+
+pub(crate) fn key(rt: &impl Abort, text: &[u8]) -> Key {
+    got(rt, Key::read(text))
+}
+
+pub(crate) fn prefix(rt: &impl Abort, text: &[u8]) -> Prefix {
+    got(rt, Prefix::read(text))
+}
+
+pub(crate) fn weight(rt: &impl Abort, number: u64) -> Value {
+    got(rt, Value::weight(number))
+}
+
+/// What is asked of one owner, or of all where none is named.
+pub(crate) fn owner_of(rt: &impl Abort, text: &[u8]) -> Option<Name> {
+    if text.is_empty() {
+        return None;
+    }
+    Some(name(rt, text))
+}
 
 /// A write of a key, or its removal where there is no value.
-pub(crate) fn entry(key: &[u8], version: u64, value: Option<Value>) -> Result<Entry, Fault> {
+pub(crate) fn entry(rt: &impl Abort, text: &[u8], version: u64, value: Option<Value>) -> Entry {
     if version == 0 {
-        return Err(Fault::BadValue);
+        panic!(rt; "error: version 0");
     }
     let slot = match value {
         Some(value) => Slot::Set(value),
         None => Slot::Removed,
     };
-    Ok(Entry::new(Key::read(key)?, version, slot))
+    Entry::new(key(rt, text), version, slot)
 }
 
 // The two words of a value.
@@ -26,30 +52,37 @@ pub(crate) type Words = (&'static [u8], &'static [u8]);
 // An owner, a key, a version, and a value.
 pub(crate) type Told = (&'static [u8], &'static [u8], u64, Words);
 
-fn row_of(alloc: Global, told: Told) -> Result<Row, Fault> {
-    let (owner, key, version, (kind, word)) = told;
-    let (owner, key) = (Name::read(owner)?, Key::read(key)?);
-    Row::new(owner, key, version, Value::from_words(alloc, kind, word)?)
+/// The value of these words.
+pub(crate) fn value_of(rt: &impl Abort, alloc: Global, words: Words) -> Value {
+    got(rt, Value::from_words(alloc, words.0, words.1))
 }
 
-pub(crate) fn rows_of(alloc: Global, told: &[Told]) -> Result<Vec<Row>, Fault> {
+fn row_of(rt: &impl Abort, alloc: Global, told: Told) -> Row {
+    let (owner, text, version, words) = told;
+    let (owner, key) = (name(rt, owner), key(rt, text));
+    got(
+        rt,
+        Row::new(owner, key, version, value_of(rt, alloc, words)),
+    )
+}
+
+pub(crate) fn rows_of(rt: &impl Abort, alloc: Global, told: &[Told]) -> Vec<Row> {
     let mut rows = Vec::new(alloc);
     for one in told {
-        rows.push(row_of(alloc, *one)?)?;
+        got(rt, rows.push(row_of(rt, alloc, *one)));
     }
-    Ok(rows)
+    rows
 }
 
 /// What a node a holds that has written nothing.
-pub(crate) fn holdings_of_a(alloc: Global) -> Result<Holdings, Fault> {
-    Holdings::new(alloc, Name::read(b"a")?, Table::new(alloc))
+pub(crate) fn holdings_of_a(rt: &impl Abort, alloc: Global) -> Holdings {
+    got(rt, Holdings::new(alloc, name(rt, b"a"), Table::new(alloc)))
 }
 
-/// The node takes a block. That there was no memory for it is the fault of the test.
-pub(crate) fn apply(holdings: &mut Holdings, block: &Block) -> Result<(), Fault> {
-    match holdings.apply_block(block) {
-        BlockEnd::NoMemory(_) => Err(Fault::NoMemory),
-        _ => Ok(()),
+/// The node takes a block. That there was no memory for it is the end of the test.
+pub(crate) fn apply(rt: &impl Abort, holdings: &mut Holdings, block: &Block) {
+    if let BlockEnd::NoMemory(_) = holdings.apply_block(block) {
+        panic!(rt; "error: NoMemory");
     }
 }
 
@@ -57,25 +90,28 @@ pub(crate) fn apply(holdings: &mut Holdings, block: &Block) -> Result<(), Fault>
 pub(crate) type Ended = (Result<(), Fault>, bool);
 
 /// The end of a printing, unless memory ran out.
-pub(crate) fn settled(printed: (Result<(), Fault>, LastWrite)) -> Result<Ended, Fault> {
+pub(crate) fn settled(rt: &impl Abort, printed: (Result<(), Fault>, LastWrite)) -> Ended {
     let (ended, last) = printed;
-    match ended {
-        Err(Fault::NoMemory) => Err(Fault::NoMemory),
-        ended => Ok((ended, last.has_failed())),
+    if ended == Err(Fault::NoMemory) {
+        panic!(rt; "error: NoMemory");
     }
+    (ended, last.has_failed())
 }
 
-/// The lines of a printing that ended so, by writes of which none is said to have failed.
-pub(crate) fn whole(
+/// A printing ended so that these are all its lines, by writes of which none is said to have failed.
+pub(crate) fn has_lines(
+    rt: &impl Abort,
     printed: (Result<(), Fault>, LastWrite),
-    lines: Vec<u8>,
-) -> Result<Vec<u8>, Fault> {
-    let (ended, last) = printed;
-    match (ended, last.has_failed()) {
-        (Ok(()), false) => Ok(lines),
-        (Ok(()), true) => Err(Fault::WriteFailed(lines.len() as u64)),
-        (Err(fault), _) => Err(fault),
-    }
+    lines: &[u8],
+    wanted: &[u8],
+) {
+    same(rt, &settled(rt, printed), &(Ok(()), false));
+    same(rt, &lines, &wanted);
+}
+
+/// A printing ended at the write that failed behind so many bytes.
+pub(crate) fn failed_behind(rt: &impl Abort, ended: Ended, left: usize) {
+    same(rt, &ended, &(Err(Fault::WriteFailed(left as u64)), true));
 }
 
 /// A writer that takes so many bytes, and then closes.

@@ -1,19 +1,25 @@
 //! Pages at exact budgets and behind places, and the lines of a page.
-use crate::making::{ClosingWriter, Ended, apply, entry, holdings_of_a, rows_of, settled, whole};
+use crate::making::{
+    ClosingWriter, Ended, apply, entry, failed_behind, has_lines, holdings_of_a, key, name,
+    owner_of, prefix, rows_of, settled, weight,
+};
 use crate::reading::{Look, read};
-use crate::{holds, making, same, same_at};
+use crate::{got, making, same, same_at};
 use sb_codec::{Ask, Row, Rows};
 use sb_holdings::Holdings;
 use sb_query::{answer, print_rows};
-use sb_types::{BUDGET_LEAST, BUDGET_MOST, Block, Entry, Fault, Key, Name, Prefix, Value};
+use sb_types::{BUDGET_LEAST, BUDGET_MOST, Block, Entry, Key, Name, Value};
 use sb_views::Snapshot;
 use std::alloc::Global;
 use std::process::Abort;
-use std::test::Fail;
 
 type Place = (&'static [u8], &'static [u8]);
 
 const NOWHERE: Place = (b"", b"");
+
+const NET_A: Place = (b"a", b"net/a");
+
+const LAST_OF_A: Place = (b"a", b"w");
 
 // An owner, a key and a version.
 type Told = (&'static [u8], &'static [u8], u64);
@@ -27,117 +33,69 @@ const ROWS: [Told; 5] = [
     (b"b", b"y", 2),
 ];
 
-#[derive(Clone, Copy)]
-enum Kind {
-    LongAddress,
-    Weight,
-    Flag,
-    Removed,
+/// A write of a long address.
+fn long_address(rt: &impl Abort, alloc: Global, text: &[u8], version: u64) -> Entry {
+    let value = got(rt, Value::addr(alloc, &[b'p'; 100]));
+    entry(rt, text, version, Some(value))
 }
 
-// A key, a version, and what is written.
-type Write = (&'static [u8], u64, Kind);
-
-const OF_A: [Write; 4] = [
-    (b"net/a", 1, Kind::LongAddress),
-    (b"net/b", 2, Kind::Weight),
-    (b"w", 3, Kind::LongAddress),
-    (b"x", 4, Kind::Removed),
-];
-
-const OF_B: [Write; 2] = [(b"net/a", 1, Kind::Flag), (b"y", 2, Kind::LongAddress)];
-
-fn entry_of(alloc: Global, write: Write) -> Result<Entry, Fault> {
-    let (key, version, kind) = write;
-    let value = match kind {
-        Kind::LongAddress => Some(Value::addr(alloc, &[b'p'; 100])?),
-        Kind::Weight => Some(Value::weight(5)?),
-        Kind::Flag => Some(Value::flag(true)),
-        Kind::Removed => None,
-    };
-    entry(key, version, value)
+fn flag(rt: &impl Abort, text: &[u8], version: u64) -> Entry {
+    entry(rt, text, version, Some(Value::flag(true)))
 }
 
-fn block_of_b(alloc: Global) -> Result<Block, Fault> {
+fn block_of_b(rt: &impl Abort, alloc: Global) -> Block {
     let mut entries = Vec::new(alloc);
-    for write in OF_B.iter() {
-        entries.push(entry_of(alloc, *write)?)?;
-    }
-    Block::new(Name::read(b"b")?, 0, entries)
+    got(rt, entries.push(flag(rt, b"net/a", 1)));
+    got(rt, entries.push(long_address(rt, alloc, b"y", 2)));
+    got(rt, Block::new(name(rt, b"b"), 0, entries))
 }
 
-fn holdings_of_two(alloc: Global) -> Result<Holdings, Fault> {
-    let mut holdings = holdings_of_a(alloc)?;
-    for write in OF_A.iter() {
-        holdings.push_own(entry_of(alloc, *write)?)?;
-    }
-    apply(&mut holdings, &block_of_b(alloc)?)?;
-    Ok(holdings)
+/// The four writes of a, the last a removal.
+fn write_own(rt: &impl Abort, alloc: Global, holdings: &mut Holdings) {
+    got(rt, holdings.push_own(long_address(rt, alloc, b"net/a", 1)));
+    got(
+        rt,
+        holdings.push_own(entry(rt, b"net/b", 2, Some(weight(rt, 5)))),
+    );
+    got(rt, holdings.push_own(long_address(rt, alloc, b"w", 3)));
+    got(rt, holdings.push_own(entry(rt, b"x", 4, None)));
 }
 
-// Behind a place, within a budget: which rows, and whether more follow.
-const BEHIND: [(Place, u64, &'static [usize], bool); 16] = [
-    // All five make a frame of 399 bytes, four one of 285, three one of 267 and two one of 153.
-    (NOWHERE, 65_536, &[0, 1, 2, 3, 4], false),
-    (NOWHERE, 399, &[0, 1, 2, 3, 4], false),
-    (NOWHERE, 398, &[0, 1, 2, 3], true),
-    (NOWHERE, 285, &[0, 1, 2, 3], true),
-    (NOWHERE, 284, &[0, 1, 2], true),
-    (NOWHERE, 267, &[0, 1, 2], true),
-    (NOWHERE, 266, &[0, 1], true),
-    (NOWHERE, 256, &[0, 1], true),
-    // In the middle of a. The last three rows make a frame of 256 bytes.
-    ((b"a", b"net/a"), 281, &[1, 2, 3, 4], false),
-    ((b"a", b"net/a"), 280, &[1, 2, 3], true),
-    ((b"a", b"net/b"), 256, &[2, 3, 4], false),
-    // At the last key of a, its removed key, an owner that is not there, and the end.
-    ((b"a", b"w"), 256, &[3, 4], false),
-    ((b"a", b"x"), 256, &[3, 4], false),
-    ((b"aa", b"net/a"), 256, &[3, 4], false),
-    ((b"b", b"y"), 256, &[], false),
-    ((b"c", b"a"), 256, &[], false),
-];
+fn holdings_of_two(rt: &impl Abort, alloc: Global) -> Holdings {
+    let mut holdings = holdings_of_a(rt, alloc);
+    write_own(rt, alloc, &mut holdings);
+    apply(rt, &mut holdings, &block_of_b(rt, alloc));
+    holdings
+}
 
-// Under net/, behind nothing, a key of it, a key before it and one behind it.
-const UNDER_NET: [(Place, &'static [usize]); 4] = [
-    (NOWHERE, &[0, 1, 3]),
-    ((b"a", b"net/a"), &[1, 3]),
-    ((b"a", b"k"), &[0, 1, 3]),
-    ((b"a", b"w"), &[3]),
-];
-
-// Of one owner, behind places of its own and of others.
-const OF_ONE: [(&'static [u8], Place, &'static [usize]); 5] = [
-    (b"a", (b"a", b"net/a"), &[1, 2]),
-    (b"b", (b"a", b"w"), &[3, 4]),
-    (b"a", (b"b", b"net/a"), &[]),
-    (b"b", (b"b", b"net/a"), &[4]),
-    (b"c", NOWHERE, &[]),
-];
+fn place_of(rt: &impl Abort, place: Place) -> Option<(Name, Key)> {
+    match place {
+        (b"", _) => None,
+        (owner, text) => Some((name(rt, owner), key(rt, text))),
+    }
+}
 
 /// What is asked, of all owners where none is named.
-fn ask_of(owner: &[u8], prefix: &[u8], after: Place) -> Result<Ask, Fault> {
-    let owner = match owner {
-        b"" => None,
-        name => Some(Name::read(name)?),
-    };
-    let after = match after {
-        (b"", _) => None,
-        (name, key) => Some((Name::read(name)?, Key::read(key)?)),
-    };
-    Ok(Ask {
-        owner,
-        prefix: Prefix::read(prefix)?,
-        after,
-    })
+fn ask_of(rt: &impl Abort, owner: &[u8], under: &[u8], after: Place) -> Ask {
+    Ask {
+        owner: owner_of(rt, owner),
+        prefix: prefix(rt, under),
+        after: place_of(rt, after),
+    }
 }
 
 /// The answer, where the budget is one.
-fn page_of(alloc: Global, snapshot: &Snapshot<'_>, ask: &Ask, budget: u64) -> Result<Rows, Fault> {
+fn page_of(
+    rt: &impl Abort,
+    alloc: Global,
+    snapshot: &Snapshot<'_>,
+    ask: &Ask,
+    budget: u64,
+) -> Rows {
     if budget < BUDGET_LEAST || budget > BUDGET_MOST {
-        return Err(Fault::BadSetting);
+        panic!(rt; "error: a budget of {budget}");
     }
-    answer(alloc, snapshot, ask, budget)
+    got(rt, answer(alloc, snapshot, ask, budget))
 }
 
 fn is_told(row: &Row, told: Told) -> bool {
@@ -145,10 +103,9 @@ fn is_told(row: &Row, told: Told) -> bool {
 }
 
 #[test]
-fn pages_answer_what_is_asked(rt: HostRuntime) -> Result<(), Fail> {
-    let alloc = rt.alloc();
-    let holdings = holdings_of_two(alloc)?;
-    read(&rt, alloc, &holdings, Look::Pages)
+fn pages_answer_what_is_asked(rt: HostRuntime) {
+    let holdings = holdings_of_two(&rt, rt.alloc());
+    read(&rt, rt.alloc(), &holdings, Look::Pages);
 }
 
 /// Whether just these rows are told, in order.
@@ -162,113 +119,204 @@ fn are_told(rows: &[Row], wanted: &[usize]) -> bool {
     rows.len() == wanted.len()
 }
 
-/// Of the page that is asked: whether more follow, how many rows it has, and whether these are they.
-fn told_of(
+/// Of a page: whether more follow, how many rows it has, and whether these are they.
+fn told_of(page: &Rows, wanted: &[usize]) -> (bool, usize, bool) {
+    let rows = page.rows();
+    (page.more(), rows.len(), are_told(rows, wanted))
+}
+
+/// Which rows a page is to have, and whether more are to follow.
+type Wanted = (&'static [usize], bool);
+
+/// The page that is asked has just these rows.
+fn page_is(
+    rt: &impl Abort,
     alloc: Global,
     snapshot: &Snapshot<'_>,
     ask: &Ask,
     budget: u64,
-    wanted: &[usize],
-) -> Result<(bool, usize, bool), Fault> {
-    let page = page_of(alloc, snapshot, ask, budget)?;
-    let rows = page.rows();
-    Ok((page.more(), rows.len(), are_told(rows, wanted)))
+    wanted: Wanted,
+) {
+    let (rows, more) = wanted;
+    let told = told_of(&page_of(rt, alloc, snapshot, ask, budget), rows);
+    same_at(rt, &(ask, budget), &told, &(more, rows.len(), true));
 }
 
-fn pages_behind<R: Abort>(rt: &R, alloc: Global, snapshot: &Snapshot<'_>) -> Result<(), Fail> {
-    for (number, (after, budget, rows, more)) in BEHIND.iter().enumerate() {
-        let ask = ask_of(b"", b"", *after)?;
-        let told = told_of(alloc, snapshot, &ask, *budget, rows)?;
-        same_at(rt, &("behind", number), &told, &(*more, rows.len(), true));
-    }
-    Ok(())
+/// The first page within a budget.
+fn first_is(
+    rt: &impl Abort,
+    alloc: Global,
+    snapshot: &Snapshot<'_>,
+    budget: u64,
+    rows: &'static [usize],
+    more: bool,
+) {
+    let ask = ask_of(rt, b"", b"", NOWHERE);
+    page_is(rt, alloc, snapshot, &ask, budget, (rows, more));
 }
 
-fn pages_under_net<R: Abort>(rt: &R, alloc: Global, snapshot: &Snapshot<'_>) -> Result<(), Fail> {
-    for (number, (after, rows)) in UNDER_NET.iter().enumerate() {
-        let ask = ask_of(b"", b"net/", *after)?;
-        let told = told_of(alloc, snapshot, &ask, 256, rows)?;
-        same_at(
-            rt,
-            &("under net/", number),
-            &told,
-            &(false, rows.len(), true),
-        );
-    }
-    Ok(())
+/// All five make a frame of 399 bytes, four one of 285, three one of 267 and two one of 153.
+fn first_pages(rt: &impl Abort, alloc: Global, snapshot: &Snapshot<'_>) {
+    first_is(rt, alloc, snapshot, 65_536, &[0, 1, 2, 3, 4], false);
+    first_is(rt, alloc, snapshot, 399, &[0, 1, 2, 3, 4], false);
+    first_is(rt, alloc, snapshot, 398, &[0, 1, 2, 3], true);
+    first_is(rt, alloc, snapshot, 285, &[0, 1, 2, 3], true);
+    first_is(rt, alloc, snapshot, 284, &[0, 1, 2], true);
+    first_is(rt, alloc, snapshot, 267, &[0, 1, 2], true);
+    first_is(rt, alloc, snapshot, 266, &[0, 1], true);
+    first_is(rt, alloc, snapshot, 256, &[0, 1], true);
 }
 
-fn pages_of_one<R: Abort>(rt: &R, alloc: Global, snapshot: &Snapshot<'_>) -> Result<(), Fail> {
-    for (number, (owner, after, rows)) in OF_ONE.iter().enumerate() {
-        let ask = ask_of(owner, b"", *after)?;
-        let told = told_of(alloc, snapshot, &ask, 400, rows)?;
-        same_at(rt, &("of one", number), &told, &(false, rows.len(), true));
-    }
-    Ok(())
+/// The page behind a place within a budget.
+fn behind_is(
+    rt: &impl Abort,
+    alloc: Global,
+    snapshot: &Snapshot<'_>,
+    after: Place,
+    budget: u64,
+    wanted: Wanted,
+) {
+    let ask = ask_of(rt, b"", b"", after);
+    page_is(rt, alloc, snapshot, &ask, budget, wanted);
+}
+
+/// In the middle of a. The last three rows make a frame of 256 bytes.
+fn pages_within_a(rt: &impl Abort, alloc: Global, snapshot: &Snapshot<'_>) {
+    behind_is(rt, alloc, snapshot, NET_A, 281, (&[1, 2, 3, 4], false));
+    behind_is(rt, alloc, snapshot, NET_A, 280, (&[1, 2, 3], true));
+    behind_is(
+        rt,
+        alloc,
+        snapshot,
+        (b"a", b"net/b"),
+        256,
+        (&[2, 3, 4], false),
+    );
+}
+
+/// At the last key of a, its removed key, an owner that is not there, and the end.
+fn pages_behind_a(rt: &impl Abort, alloc: Global, snapshot: &Snapshot<'_>) {
+    behind_is(rt, alloc, snapshot, LAST_OF_A, 256, (&[3, 4], false));
+    behind_is(rt, alloc, snapshot, (b"a", b"x"), 256, (&[3, 4], false));
+    behind_is(
+        rt,
+        alloc,
+        snapshot,
+        (b"aa", b"net/a"),
+        256,
+        (&[3, 4], false),
+    );
+    behind_is(rt, alloc, snapshot, (b"b", b"y"), 256, (&[], false));
+    behind_is(rt, alloc, snapshot, (b"c", b"a"), 256, (&[], false));
+}
+
+/// The last page under net/ behind a place.
+fn under_net_is(
+    rt: &impl Abort,
+    alloc: Global,
+    snapshot: &Snapshot<'_>,
+    after: Place,
+    rows: &'static [usize],
+) {
+    let ask = ask_of(rt, b"", b"net/", after);
+    page_is(rt, alloc, snapshot, &ask, 256, (rows, false));
+}
+
+/// Under net/, behind nothing, a key of it, a key before it and one behind it.
+fn pages_under_net(rt: &impl Abort, alloc: Global, snapshot: &Snapshot<'_>) {
+    under_net_is(rt, alloc, snapshot, NOWHERE, &[0, 1, 3]);
+    under_net_is(rt, alloc, snapshot, NET_A, &[1, 3]);
+    under_net_is(rt, alloc, snapshot, (b"a", b"k"), &[0, 1, 3]);
+    under_net_is(rt, alloc, snapshot, LAST_OF_A, &[3]);
+}
+
+/// The last page of one owner behind a place.
+fn of_one_is(
+    rt: &impl Abort,
+    alloc: Global,
+    snapshot: &Snapshot<'_>,
+    owner: &[u8],
+    after: Place,
+    rows: &'static [usize],
+) {
+    let ask = ask_of(rt, owner, b"", after);
+    page_is(rt, alloc, snapshot, &ask, 400, (rows, false));
+}
+
+/// Of one owner, behind places of its own and of others.
+fn pages_of_one(rt: &impl Abort, alloc: Global, snapshot: &Snapshot<'_>) {
+    of_one_is(rt, alloc, snapshot, b"a", NET_A, &[1, 2]);
+    of_one_is(rt, alloc, snapshot, b"b", LAST_OF_A, &[3, 4]);
+    of_one_is(rt, alloc, snapshot, b"a", (b"b", b"net/a"), &[]);
+    of_one_is(rt, alloc, snapshot, b"b", (b"b", b"net/a"), &[4]);
+    of_one_is(rt, alloc, snapshot, b"c", NOWHERE, &[]);
 }
 
 /// Each page that is asked has its rows.
-pub(crate) fn rows_are_told<R: Abort>(
-    rt: &R,
-    alloc: Global,
-    snapshot: &Snapshot<'_>,
-) -> Result<(), Fail> {
-    pages_behind(rt, alloc, snapshot)?;
-    pages_under_net(rt, alloc, snapshot)?;
-    pages_of_one(rt, alloc, snapshot)
+pub(crate) fn rows_are_told(rt: &impl Abort, alloc: Global, snapshot: &Snapshot<'_>) {
+    first_pages(rt, alloc, snapshot);
+    pages_within_a(rt, alloc, snapshot);
+    pages_behind_a(rt, alloc, snapshot);
+    pages_under_net(rt, alloc, snapshot);
+    pages_of_one(rt, alloc, snapshot);
 }
 
-/// A flag under each of 300 keys of three letters.
-fn holdings_of_300(alloc: Global) -> Result<Holdings, Fault> {
-    let mut holdings = holdings_of_a(alloc)?;
+/// A flag under a key of three letters.
+fn numbered(rt: &impl Abort, number: u64) -> Entry {
+    let text = [b'k', b'a' + (number / 26) as u8, b'a' + (number % 26) as u8];
+    flag(rt, &text, number + 1)
+}
+
+/// A flag under each of 300 keys.
+fn holdings_of_300(rt: &impl Abort, alloc: Global) -> Holdings {
+    let mut holdings = holdings_of_a(rt, alloc);
     for number in 0..300u64 {
-        let key = [b'k', b'a' + (number / 26) as u8, b'a' + (number % 26) as u8];
-        holdings.push_own(entry(&key, number + 1, Some(Value::flag(true)))?)?;
+        got(rt, holdings.push_own(numbered(rt, number)));
     }
-    Ok(holdings)
+    holdings
 }
 
 #[test]
-fn pages_follow_one_another(rt: HostRuntime) -> Result<(), Fail> {
-    let alloc = rt.alloc();
-    let holdings = holdings_of_300(alloc)?;
-    read(&rt, alloc, &holdings, Look::Following)
+fn pages_follow_one_another(rt: HostRuntime) {
+    let holdings = holdings_of_300(&rt, rt.alloc());
+    read(&rt, rt.alloc(), &holdings, Look::Following);
+}
+
+/// The version of the first row, 0 where there is none.
+fn first_version(rows: &[Row]) -> u64 {
+    match rows.first() {
+        Some(row) => row.version(),
+        None => 0,
+    }
+}
+
+/// Asks for the page behind this one.
+fn ask_behind(ask: &mut Ask, rows: &[Row]) {
+    if let Some(last) = rows.last() {
+        ask.after = Some((*last.owner(), *last.key()));
+    }
 }
 
 /// How many rows a page has, whether more follow, and the version of its first, 0 where there is none. Then the next is asked.
 fn turn(
+    rt: &impl Abort,
     alloc: Global,
     snapshot: &Snapshot<'_>,
     ask: &mut Ask,
-) -> Result<(usize, bool, u64), Fault> {
-    let page = page_of(alloc, snapshot, ask, 256)?;
-    let first = match page.rows().first() {
-        Some(row) => row.version(),
-        None => 0,
-    };
-    if let Some(last) = page.rows().last() {
-        ask.after = Some((*last.owner(), *last.key()));
-    }
-    Ok((page.rows().len(), page.more(), first))
+) -> (usize, bool, u64) {
+    let page = page_of(rt, alloc, snapshot, ask, 256);
+    ask_behind(ask, page.rows());
+    (page.rows().len(), page.more(), first_version(page.rows()))
 }
 
 /// At 16 bytes a row a frame of 256 has 15, and so 300 rows make 20 pages.
-pub(crate) fn pages_follow<R: Abort>(
-    rt: &R,
-    alloc: Global,
-    snapshot: &Snapshot<'_>,
-) -> Result<(), Fail> {
-    let mut ask = Ask {
-        owner: None,
-        prefix: Prefix::read(b"")?,
-        after: None,
-    };
+pub(crate) fn pages_follow(rt: &impl Abort, alloc: Global, snapshot: &Snapshot<'_>) {
+    let mut ask = ask_of(rt, b"", b"", NOWHERE);
     for number in 1..21u64 {
-        let told = turn(alloc, snapshot, &mut ask)?;
+        let told = turn(rt, alloc, snapshot, &mut ask);
         same_at(rt, &number, &told, &(15, number < 20, number * 15 - 14));
     }
-    same(rt, &turn(alloc, snapshot, &mut ask)?, &(0, false, 0));
-    Ok(())
+    same(rt, &turn(rt, alloc, snapshot, &mut ask), &(0, false, 0));
 }
 
 // A weight, an address and a flag: lines of 19, 16 and 16 bytes.
@@ -279,44 +327,45 @@ const THREE: [making::Told; 3] = [
 ];
 
 /// A page of these.
-fn page_of_three(alloc: Global) -> Result<Rows, Fault> {
-    Rows::new(true, rows_of(alloc, &THREE)?)
+fn page_of_three(rt: &impl Abort, alloc: Global) -> Rows {
+    got(rt, Rows::new(true, rows_of(rt, alloc, &THREE)))
 }
 
-/// The lines of a page.
-fn printed(alloc: Global, page: &Rows) -> Result<Vec<u8>, Fault> {
+/// These are the lines of a page.
+fn is_printed(rt: &impl Abort, alloc: Global, page: &Rows, wanted: &[u8]) {
     let mut lines = Vec::new(alloc);
     let printed = print_rows(alloc, &mut lines, page);
-    whole(printed, lines)
+    has_lines(rt, printed, &lines, wanted);
+}
+
+/// No rows make no lines.
+fn no_rows_are_printed(rt: &impl Abort, alloc: Global) {
+    is_printed(rt, alloc, &got(rt, Rows::new(false, Vec::new(alloc))), b"");
 }
 
 #[test]
-fn a_page_is_printed(rt: HostRuntime) -> Result<(), Fail> {
+fn a_page_is_printed(rt: HostRuntime) {
     let alloc = rt.alloc();
-    let lines = printed(alloc, &page_of_three(alloc)?)?;
-    same(
+    is_printed(
         &rt,
-        &lines.as_slice(),
-        &b"a net/a 1 weight 5\nb y 2 addr h:80\nb z 3 flag true\n".as_slice(),
+        alloc,
+        &page_of_three(&rt, alloc),
+        b"a net/a 1 weight 5\nb y 2 addr h:80\nb z 3 flag true\n",
     );
-    let none = printed(alloc, &Rows::new(false, Vec::new(alloc))?)?;
-    holds(&rt, "no rows make no lines", none.is_empty());
-    Ok(())
+    no_rows_are_printed(&rt, alloc);
 }
 
 /// How the printing of three rows ends at a writer that closes behind so many bytes.
-fn ended_behind(alloc: Global, left: usize) -> Result<Ended, Fault> {
-    let page = page_of_three(alloc)?;
-    settled(print_rows(alloc, &mut ClosingWriter { left }, &page))
+fn ended_behind(rt: &impl Abort, alloc: Global, left: usize) -> Ended {
+    let page = page_of_three(rt, alloc);
+    settled(rt, print_rows(alloc, &mut ClosingWriter { left }, &page))
 }
 
 #[test]
-fn a_failed_write_is_counted(rt: HostRuntime) -> Result<(), Fail> {
+fn a_failed_write_is_counted(rt: HostRuntime) {
     let alloc = rt.alloc();
-    for left in [0, 19, 50] {
-        let ended = ended_behind(alloc, left)?;
-        same(&rt, &ended, &(Err(Fault::WriteFailed(left as u64)), true));
-    }
-    same(&rt, &ended_behind(alloc, 51)?, &(Ok(()), false));
-    Ok(())
+    failed_behind(&rt, ended_behind(&rt, alloc, 0), 0);
+    failed_behind(&rt, ended_behind(&rt, alloc, 19), 19);
+    failed_behind(&rt, ended_behind(&rt, alloc, 50), 50);
+    same(&rt, &ended_behind(&rt, alloc, 51), &(Ok(()), false));
 }

@@ -3,13 +3,13 @@ ghost use Rattle.std.specs.Prelude.{◌≡◌};
 
 use crate::pages::{pages_follow, rows_are_told};
 use crate::views::live_is_shown;
+use crate::{got, there};
 use sb_holdings::Holdings;
-use sb_views::{Opened, Site, views};
+use sb_views::{Entered, Opened, Reader, Site, views};
 use std::alloc::Global;
 use std::marker::Brand;
 use std::process::Abort;
 use std::sync::Wait;
-use std::test::Fail;
 
 /// What a reader looks at.
 #[derive(Clone, Copy)]
@@ -23,13 +23,8 @@ pub(crate) enum Look {
 }
 
 /// Makes the views of what is held, and has a reader look at them.
-pub(crate) fn read<R: Wait + Abort>(
-    rt: &R,
-    alloc: Global,
-    holdings: &Holdings,
-    look: Look,
-) -> Result<(), Fail> {
-    read_on::<Brand, _>(rt, alloc, Opened::new(), holdings, look)
+pub(crate) fn read<R: Wait + Abort>(rt: &R, alloc: Global, holdings: &Holdings, look: Look) {
+    read_on::<Brand, _>(rt, alloc, Opened::new(), holdings, look);
 }
 
 fn read_on<S: Site, R: Wait + Abort>(
@@ -38,14 +33,21 @@ fn read_on<S: Site, R: Wait + Abort>(
     opened: Opened,
     holdings: &Holdings,
     look: Look,
-) -> Result<(), Fail>
+)
     requires story { opened.seen.book ≡ S.story }
     requires opening { S.opening.held ≡ holdings.now }
 {
     let (_story, start) = opened.named::<S>();
-    let (_writer, mut readers) = views::<S, &R>(alloc, rt, start, holdings, 1)?;
-    let reader = readers.pop().ok_or("a reader")?;
-    let entered = reader.enter().ok().ok_or("it enters")?;
+    let (_writer, mut readers) = got(rt, views::<S, &R>(alloc, rt, start, holdings, 1));
+    look_at(rt, alloc, &entered(rt, there(rt, readers.pop())), look);
+}
+
+/// A reader that entered.
+pub(crate) fn entered<S: Site>(rt: &impl Abort, reader: Reader<S>) -> Entered<S> {
+    there(rt, reader.enter().ok())
+}
+
+fn look_at<S: Site>(rt: &impl Abort, alloc: Global, entered: &Entered<S>, look: Look) {
     let snapshot = entered.snapshot();
     match look {
         Look::Live => live_is_shown(rt, &snapshot),

@@ -3,88 +3,89 @@
 ghost use Rattle.std.specs.Prelude.{◌≡◌, ◌+◌, []};
 ghost use Rattle.sb_holdings.specs.Held.{shown_of};
 
-use crate::making::{apply, entry, holdings_of_a};
-use crate::reading::{Look, read};
-use crate::{holds, same};
+use crate::making::{apply, entry, holdings_of_a, key, name, owner_of, prefix, weight};
+use crate::reading::{Look, entered, read};
+use crate::{got, holds, same, there};
 use sb_holdings::{BlockEnd, Holdings, Report};
-use sb_types::{Block, Delta, Entry, Fault, Key, Name, Prefix, Value, ValueRef};
-use sb_views::{Batch, Front, Opened, Reader, Row, Site, Snapshot, Story, ViewWriter, views};
+use sb_types::{Block, Delta, Entry, Key, Name, Value, ValueRef};
+use sb_views::{Batch, Front, Opened, Reader, Row, Rows, Site, Snapshot, Story, ViewWriter, views};
 use std::alloc::Global;
 use std::marker::Brand;
 use std::process::Abort;
 use std::sync::Wait;
-use std::test::Fail;
 
-// An owner's write of a weight, or its removal where there is none.
+// A write of a weight, or its removal where there is none.
 #[derive(Clone, Copy)]
 struct Case {
-    owner: &'static [u8],
     key: &'static [u8],
     version: u64,
     weight: Option<u64>,
 }
 
-const WRITES: [Case; 5] = [
-    Case {
-        owner: b"b",
-        key: b"net/a",
-        version: 1,
-        weight: Some(7),
-    },
-    Case {
-        owner: b"a",
-        key: b"net/b",
-        version: 1,
-        weight: Some(1),
-    },
-    Case {
-        owner: b"a",
-        key: b"net/a",
-        version: 2,
-        weight: Some(2),
-    },
-    Case {
-        owner: b"a",
-        key: b"w",
-        version: 3,
-        weight: Some(3),
-    },
-    Case {
-        owner: b"a",
-        key: b"net/b",
-        version: 4,
-        weight: None,
-    },
-];
+// The write of b, and those of a in turn.
+const OF_B: Case = Case {
+    key: b"net/a",
+    version: 1,
+    weight: Some(7),
+};
 
-fn entry_of(case: Case) -> Result<Entry, Fault> {
+const NET_B: Case = Case {
+    key: b"net/b",
+    version: 1,
+    weight: Some(1),
+};
+
+const NET_A: Case = Case {
+    key: b"net/a",
+    version: 2,
+    weight: Some(2),
+};
+
+const W: Case = Case {
+    key: b"w",
+    version: 3,
+    weight: Some(3),
+};
+
+const NET_B_REMOVED: Case = Case {
+    key: b"net/b",
+    version: 4,
+    weight: None,
+};
+
+fn entry_of(rt: &impl Abort, case: Case) -> Entry {
     let value = match case.weight {
-        Some(weight) => Some(Value::weight(weight)?),
+        Some(number) => Some(weight(rt, number)),
         None => None,
     };
-    entry(case.key, case.version, value)
+    entry(rt, case.key, case.version, value)
 }
 
-fn block_of(alloc: Global, case: Case) -> Result<Block, Fault> {
-    Block::new(Name::read(case.owner)?, 0, vec![in alloc; entry_of(case)?]?)
+fn block_of_b(rt: &impl Abort, alloc: Global) -> Block {
+    let entries = got(rt, vec![in alloc; entry_of(rt, OF_B)]);
+    got(rt, Block::new(name(rt, b"b"), 0, entries))
 }
 
-/// A write of the node is entered, and another is taken.
-fn enter(alloc: Global, holdings: &mut Holdings, case: Case) -> Result<(), Fault> {
-    if case.owner == b"a".as_slice() {
-        holdings.push_own(entry_of(case)?)
-    } else {
-        apply(holdings, &block_of(alloc, case)?)
-    }
+/// A write of the node is entered.
+fn enter(rt: &impl Abort, holdings: &mut Holdings, case: Case) {
+    got(rt, holdings.push_own(entry_of(rt, case)));
 }
 
-/// What the node a holds once it wrote what is its own of the first so many, and took the others.
-fn written(alloc: Global, count: usize) -> Result<Holdings, Fault> {
-    let mut holdings = holdings_of_a(alloc)?;
-    for case in WRITES.iter().take(count) {
-        enter(alloc, &mut holdings, *case)?;
-    }
-    Ok(holdings)
+/// What the node a holds once it took the write of b and made its own but the removal.
+fn before_removal(rt: &impl Abort, alloc: Global) -> Holdings {
+    let mut holdings = holdings_of_a(rt, alloc);
+    apply(rt, &mut holdings, &block_of_b(rt, alloc));
+    enter(rt, &mut holdings, NET_B);
+    enter(rt, &mut holdings, NET_A);
+    enter(rt, &mut holdings, W);
+    holdings
+}
+
+/// What it holds behind the removal.
+fn all_written(rt: &impl Abort, alloc: Global) -> Holdings {
+    let mut holdings = before_removal(rt, alloc);
+    enter(rt, &mut holdings, NET_B_REMOVED);
+    holdings
 }
 
 fn weight_of(found: Option<(&Value, u64)>) -> Option<(u64, u64)> {
@@ -104,67 +105,48 @@ fn shown_under(snapshot: &Snapshot<'_>, owner: &Name, key: &Key) -> Shown {
     (snapshot.upto(owner), weight_of(snapshot.get(owner, key)))
 }
 
-const SHOWN_UPTO: [(&[u8], u64); 3] = [(b"a", 4), (b"b", 1), (b"c", 0)];
+/// An owner is shown so far.
+fn is_upto(rt: &impl Abort, snapshot: &Snapshot<'_>, owner: &[u8], upto: u64) {
+    same(rt, &snapshot.upto(&name(rt, owner)), &upto);
+}
 
-// An owner, a key, and the weight and the version under it.
-type Found = (&'static [u8], &'static [u8], Option<(u64, u64)>);
-
-const FOUND: [Found; 3] = [
-    (b"a", b"net/a", Some((2, 2))),
-    (b"a", b"net/b", None),
-    (b"c", b"w", None),
-];
+/// This weight and its version stand under an owner's key.
+fn is_found(
+    rt: &impl Abort,
+    snapshot: &Snapshot<'_>,
+    owner: &[u8],
+    text: &[u8],
+    found: Option<(u64, u64)>,
+) {
+    let (owner, key) = (name(rt, owner), key(rt, text));
+    same(rt, &weight_of(snapshot.get(&owner, &key)), &found);
+}
 
 /// How far each owner is shown, and what stands under keys.
-fn keys_are_shown<R: Abort>(rt: &R, snapshot: &Snapshot<'_>) -> Result<(), Fail> {
-    for (owner, upto) in SHOWN_UPTO.iter() {
-        same(rt, &snapshot.upto(&Name::read(owner)?), upto);
-    }
-    for (owner, key, found) in FOUND.iter() {
-        let (owner, key) = (Name::read(owner)?, Key::read(key)?);
-        same(rt, &weight_of(snapshot.get(&owner, &key)), found);
-    }
-    Ok(())
+fn keys_are_shown(rt: &impl Abort, snapshot: &Snapshot<'_>) {
+    is_upto(rt, snapshot, b"a", 4);
+    is_upto(rt, snapshot, b"b", 1);
+    is_upto(rt, snapshot, b"c", 0);
+    is_found(rt, snapshot, b"a", b"net/a", Some((2, 2)));
+    is_found(rt, snapshot, b"a", b"net/b", None);
+    is_found(rt, snapshot, b"c", b"w", None);
 }
 
 // The owner, the key and the version of a row.
 type Told = (&'static [u8], &'static [u8], u64);
 
-// What is asked, and its rows in order.
-#[derive(Clone, Copy)]
-struct Asked {
-    wanted: &'static [u8],
-    prefix: &'static [u8],
-    rows: &'static [Told],
-}
+const A_NET_A: Told = (b"a", b"net/a", 2);
 
-const ASKED: [Asked; 5] = [
-    Asked {
-        wanted: b"",
-        prefix: b"",
-        rows: &[(b"a", b"net/a", 2), (b"a", b"w", 3), (b"b", b"net/a", 1)],
-    },
-    Asked {
-        wanted: b"",
-        prefix: b"net/",
-        rows: &[(b"a", b"net/a", 2), (b"b", b"net/a", 1)],
-    },
-    Asked {
-        wanted: b"a",
-        prefix: b"",
-        rows: &[(b"a", b"net/a", 2), (b"a", b"w", 3)],
-    },
-    Asked {
-        wanted: b"b",
-        prefix: b"w",
-        rows: &[],
-    },
-    Asked {
-        wanted: b"c",
-        prefix: b"",
-        rows: &[],
-    },
-];
+const A_W: Told = (b"a", b"w", 3);
+
+const B_NET_A: Told = (b"b", b"net/a", 1);
+
+// The rows of all, those under net/, and those of a.
+const OF_ALL: [Told; 3] = [A_NET_A, A_W, B_NET_A];
+
+const UNDER_NET: [Told; 2] = [A_NET_A, B_NET_A];
+
+const OF_A: [Told; 2] = [A_NET_A, A_W];
 
 fn is_told(row: Option<Row<'_>>, told: Told) -> bool {
     let (owner, key, version) = told;
@@ -176,72 +158,72 @@ fn is_told(row: Option<Row<'_>>, told: Told) -> bool {
     }
 }
 
-/// Whether just its rows come where this is asked.
-fn are_rows_of(snapshot: &Snapshot<'_>, asked: &Asked) -> Result<bool, Fault> {
-    let wanted = if asked.wanted.is_empty() {
-        None
-    } else {
-        Some(Name::read(asked.wanted)?)
-    };
-    let mut rows = snapshot.rows(wanted, Prefix::read(asked.prefix)?);
-    for told in asked.rows {
+/// Whether just these rows come.
+fn are_told(mut rows: Rows<'_>, wanted: &[Told]) -> bool {
+    for told in wanted {
         if !is_told(rows.next(), *told) {
-            return Ok(false);
+            return false;
         }
     }
-    Ok(rows.next().is_none())
+    rows.next().is_none()
+}
+
+/// Just these rows of an owner come under a prefix, in order; of all owners where none is named.
+fn rows_are(rt: &impl Abort, snapshot: &Snapshot<'_>, owner: &[u8], under: &[u8], wanted: &[Told]) {
+    let rows = snapshot.rows(owner_of(rt, owner), prefix(rt, under));
+    holds(rt, "its rows come in order", are_told(rows, wanted));
 }
 
 /// The rows of each that is asked.
-fn rows_come_in_order<R: Abort>(rt: &R, snapshot: &Snapshot<'_>) -> Result<(), Fail> {
-    for asked in ASKED.iter() {
-        holds(rt, "its rows come in order", are_rows_of(snapshot, asked)?);
-    }
-    Ok(())
+fn rows_come_in_order(rt: &impl Abort, snapshot: &Snapshot<'_>) {
+    rows_are(rt, snapshot, b"", b"", &OF_ALL);
+    rows_are(rt, snapshot, b"", b"net/", &UNDER_NET);
+    rows_are(rt, snapshot, b"a", b"", &OF_A);
+    rows_are(rt, snapshot, b"b", b"w", &[]);
+    rows_are(rt, snapshot, b"c", b"", &[]);
 }
 
-pub(crate) fn live_is_shown<R: Abort>(rt: &R, snapshot: &Snapshot<'_>) -> Result<(), Fail> {
-    keys_are_shown(rt, snapshot)?;
-    rows_come_in_order(rt, snapshot)
-}
-
-#[test]
-fn snapshots_show_what_is_live(rt: HostRuntime) -> Result<(), Fail> {
-    let holdings = written(rt.alloc(), WRITES.len())?;
-    read(&rt, rt.alloc(), &holdings, Look::Live)
+pub(crate) fn live_is_shown(rt: &impl Abort, snapshot: &Snapshot<'_>) {
+    keys_are_shown(rt, snapshot);
+    rows_come_in_order(rt, snapshot);
 }
 
 #[test]
-fn a_write_is_shown_once_published(rt: HostRuntime) -> Result<(), Fail> {
-    let seen = publish_behind(&rt, rt.alloc(), 0, WRITES[1])?;
+fn snapshots_show_what_is_live(rt: HostRuntime) {
+    let holdings = all_written(&rt, rt.alloc());
+    read(&rt, rt.alloc(), &holdings, Look::Live);
+}
+
+#[test]
+fn a_write_is_shown_once_published(rt: HostRuntime) {
+    let holdings = holdings_of_a(&rt, rt.alloc());
+    let seen = publish_behind(&rt, rt.alloc(), &holdings, NET_B);
     same(&rt, &seen, &[((0, None), 0), ((1, Some((1, 1))), 1)]);
-    Ok(())
 }
 
 #[test]
-fn a_removal_is_shown_once_published(rt: HostRuntime) -> Result<(), Fail> {
-    let seen = publish_behind(&rt, rt.alloc(), 4, WRITES[4])?;
+fn a_removal_is_shown_once_published(rt: HostRuntime) {
+    let holdings = before_removal(&rt, rt.alloc());
+    let seen = publish_behind(&rt, rt.alloc(), &holdings, NET_B_REMOVED);
     same(&rt, &seen, &[((3, Some((1, 1))), 0), ((4, None), 1)]);
-    Ok(())
 }
 
 /// What a reader sees of a key, and of how many events.
 type Seen = (Shown, u64);
 
-/// What is seen under the key of a write behind the first so many, before it is published and then.
+/// What is seen under the key of a write behind what is held, before it is published and then.
 fn publish_behind<R: Wait + Abort>(
     rt: &R,
     alloc: Global,
-    count: usize,
+    holdings: &Holdings,
     write: Case,
-) -> Result<[Seen; 2], Fail> {
-    let holdings = written(alloc, count)?;
-    let entry = entry_of(write)?;
+) -> [Seen; 2] {
+    let entry = entry_of(rt, write);
     let held = holdings.upto(holdings.me());
     if held == u64::MAX || entry.version() != held + 1 {
-        return Err("the write behind those".into());
+        panic!(rt; "error: the write behind those");
     }
-    publish_one::<Brand, _>(rt, alloc, Opened::new(), &holdings, entry)
+    publish_one::<Brand, _>(rt, alloc, Opened::new(), holdings, entry)
 }
 
 fn publish_one<S: Site, R: Wait + Abort>(
@@ -250,27 +232,29 @@ fn publish_one<S: Site, R: Wait + Abort>(
     opened: Opened,
     holdings: &Holdings,
     entry: Entry,
-) -> Result<[Seen; 2], Fail>
+) -> [Seen; 2]
     requires story { opened.seen.book ≡ S.story }
     requires opening { S.opening.held ≡ holdings.now }
     requires next { entry.version ≡ (shown_of holdings.now holdings.now.me).held + 1 }
 {
     let key = *entry.key();
     let (story, start) = opened.named::<S>();
-    let (mut writer, mut readers) = views::<S, &R>(alloc, rt, start.again(), holdings, 2)?;
-    append_own(alloc, &story, start, &mut writer, holdings, entry)?;
-    look_around(&mut writer, &mut readers, holdings.me(), &key)
+    let (mut writer, mut readers) = got(rt, views::<S, &R>(alloc, rt, start.again(), holdings, 2));
+    append_own(rt, alloc, &story, start, &mut writer, holdings, entry);
+    let reader = there(rt, readers.pop());
+    look_around(rt, &mut writer, reader, holdings.me(), &key)
 }
 
 /// Appends the first event of a story, an own write.
-fn append_own<S: Site, R: Wait + Drop>(
+fn append_own<S: Site, R: Wait + Abort>(
+    rt: &R,
     alloc: Global,
     story: &Story<S>,
     mut upto: Front<S>,
-    writer: &mut ViewWriter<S, R>,
+    writer: &mut ViewWriter<S, &R>,
     holdings: &Holdings,
     entry: Entry,
-) -> Result<(), Fail>
+)
     requires start { upto ≡ [] }
     requires ready { writer.old.ready ≡ [] }
     requires opening { S.opening.held ≡ holdings.now }
@@ -278,48 +262,49 @@ fn append_own<S: Site, R: Wait + Drop>(
 {
     let added = upto.add_own(story, &entry);
     let mut batch = Batch::new(alloc);
-    batch.push(*holdings.me(), entry)?;
+    if let Err(fault) = batch.push(*holdings.me(), entry) {
+        panic!(rt; "error: {fault:?}");
+    }
     if !added {
-        return Err("a write is added".into());
+        panic!(rt; "error: a write is not added");
     }
-    match writer.append(batch, &upto) {
-        Ok(()) => Ok(()),
-        Err(_) => Err(Fault::NoMemory)?,
+    if writer.append(batch, &upto).is_err() {
+        panic!(rt; "error: NoMemory");
     }
 }
 
-/// What one of the readers sees before all is published, and then.
-fn look_around<S: Site, R: Wait + Drop>(
-    writer: &mut ViewWriter<S, R>,
-    readers: &mut Vec<Reader<S>>,
-    owner: &Name,
-    key: &Key,
-) -> Result<[Seen; 2], Fail> {
-    let reader = readers.pop().ok_or("a reader")?;
-    let (reader, before) = look_once(reader, owner, key)?;
-    writer.publish()?;
-    let (_reader, after) = look_once(reader, owner, key)?;
-    Ok([before, after])
-}
-
-fn look_once<S: Site>(
+/// What a reader sees before all is published, and then.
+fn look_around<S: Site, R: Wait + Abort>(
+    rt: &R,
+    writer: &mut ViewWriter<S, &R>,
     reader: Reader<S>,
     owner: &Name,
     key: &Key,
-) -> Result<(Reader<S>, Seen), Fail> {
-    let entered = reader.enter().ok().ok_or("it enters")?;
+) -> [Seen; 2] {
+    let (reader, before) = look_once(rt, reader, owner, key);
+    got(rt, writer.publish());
+    let (_reader, after) = look_once(rt, reader, owner, key);
+    [before, after]
+}
+
+fn look_once<S: Site>(
+    rt: &impl Abort,
+    reader: Reader<S>,
+    owner: &Name,
+    key: &Key,
+) -> (Reader<S>, Seen) {
+    let entered = entered(rt, reader);
     let shown = shown_under(&entered.snapshot(), owner, key);
     let told = entered.told().len();
-    Ok((entered.leave(), (shown, told)))
+    (entered.leave(), (shown, told))
 }
 
 #[test]
-fn events_are_added_behind_others(rt: HostRuntime) -> Result<(), Fail> {
-    let events = events_to_add(rt.alloc())?;
+fn events_are_added_behind_others(rt: HostRuntime) {
+    let events = events_to_add(&rt, rt.alloc());
     let (added, counts) = add_events::<Brand>(Opened::new(), &events);
     same(&rt, &added, &[(true, false), (false, true), (true, false)]);
     same(&rt, &counts, &(0, 1, 2));
-    Ok(())
 }
 
 /// An own write, and a delta of one block with its end.
@@ -330,15 +315,18 @@ struct Events {
     ends: Report,
 }
 
-fn delta_of(alloc: Global, case: Case) -> Result<Delta, Fault> {
-    Delta::new(vec![in alloc; block_of(alloc, case)?]?)
+fn delta_of_b(rt: &impl Abort, alloc: Global) -> Delta {
+    let blocks = got(rt, vec![in alloc; block_of_b(rt, alloc)]);
+    got(rt, Delta::new(blocks))
 }
 
-fn events_to_add(alloc: Global) -> Result<Events, Fault> {
-    let ends = Report::new(vec![in alloc; BlockEnd::Taken(1)]?);
-    let delta = delta_of(alloc, WRITES[0])?;
-    let own = entry_of(WRITES[1])?;
-    Ok(Events { own, delta, ends })
+fn events_to_add(rt: &impl Abort, alloc: Global) -> Events {
+    let ends = got(rt, vec![in alloc; BlockEnd::Taken(1)]);
+    Events {
+        own: entry_of(rt, NET_B),
+        delta: delta_of_b(rt, alloc),
+        ends: Report::new(ends),
+    }
 }
 
 /// Whether an event was added, and then whether the front is that of another.

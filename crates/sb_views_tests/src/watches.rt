@@ -1,123 +1,49 @@
-//! Watches by tables of cases.
+//! Watches by small cases.
 
-use crate::{holds, same, same_at};
-use sb_types::{Fault, Key, Name, Prefix};
+use crate::making::{key, name, owner_of, prefix};
+use crate::{got, holds, same, same_at};
+use sb_types::Fault;
 use sb_watch::{Filter, Hub, Note, Polled, WatchId};
-use std::alloc::Global;
 use std::process::Abort;
-use std::test::Fail;
 
-fn note(owner: &[u8], key: &[u8], version: u64) -> Result<Note, Fault> {
-    Ok(Note {
-        owner: Name::read(owner)?,
-        key: Key::read(key)?,
+fn note(rt: &impl Abort, owner: &[u8], text: &[u8], version: u64) -> Note {
+    Note {
+        owner: name(rt, owner),
+        key: key(rt, text),
         version,
-    })
-}
-
-// Adds a watch for all notes.
-fn watch_all(hub: &mut Hub, capacity: usize) -> Result<WatchId, Fault> {
-    let prefix = Prefix::read(b"")?;
-    hub.add(
-        Filter {
-            owner: None,
-            prefix,
-        },
-        capacity,
-    )
-}
-
-// Of all owners where none is named.
-#[derive(Clone, Copy)]
-struct Case {
-    owner: &'static [u8],
-    prefix: &'static [u8],
-    capacity: usize,
-    lost: u64,
-    // which of the notes below are handed out
-    given: &'static [usize],
-}
-
-const NOTES: [(&[u8], &[u8], u64); 5] = [
-    (b"a", b"net/a", 1),
-    (b"a", b"net/b", 2),
-    (b"a", b"w", 3),
-    (b"a", b"net/c", 4),
-    (b"b", b"net/a", 1),
-];
-
-const CASES: [Case; 9] = [
-    Case {
-        owner: b"a",
-        prefix: b"net/",
-        capacity: 2,
-        lost: 1,
-        given: &[1, 3],
-    },
-    Case {
-        owner: b"a",
-        prefix: b"net/",
-        capacity: 3,
-        lost: 0,
-        given: &[0, 1, 3],
-    },
-    Case {
-        owner: b"",
-        prefix: b"net/",
-        capacity: 4,
-        lost: 0,
-        given: &[0, 1, 3, 4],
-    },
-    Case {
-        owner: b"",
-        prefix: b"",
-        capacity: 1,
-        lost: 4,
-        given: &[4],
-    },
-    Case {
-        owner: b"",
-        prefix: b"",
-        capacity: 1024,
-        lost: 0,
-        given: &[0, 1, 2, 3, 4],
-    },
-    Case {
-        owner: b"b",
-        prefix: b"",
-        capacity: 1,
-        lost: 0,
-        given: &[4],
-    },
-    Case {
-        owner: b"",
-        prefix: b"w",
-        capacity: 1,
-        lost: 0,
-        given: &[2],
-    },
-    Case {
-        owner: b"a",
-        prefix: b"net/a/",
-        capacity: 1,
-        lost: 0,
-        given: &[],
-    },
-    Case {
-        owner: b"c",
-        prefix: b"",
-        capacity: 1,
-        lost: 0,
-        given: &[],
-    },
-];
-
-fn read_notes(alloc: Global) -> Result<Vec<Note>, Fail> {
-    let mut notes = Vec::with_capacity(alloc, NOTES.len())?;
-    for (owner, key, version) in NOTES.iter() {
-        notes.push(note(owner, key, *version)?)?;
     }
-    Ok(notes)
+}
+
+fn all_notes(rt: &impl Abort) -> [Note; 5] {
+    [
+        note(rt, b"a", b"net/a", 1),
+        note(rt, b"a", b"net/b", 2),
+        note(rt, b"a", b"w", 3),
+        note(rt, b"a", b"net/c", 4),
+        note(rt, b"b", b"net/a", 1),
+    ]
+}
+
+/// Adds a watch of an owner under a prefix; of all owners where none is named.
+fn watch(
+    rt: &impl Abort,
+    hub: &mut Hub,
+    owner: &[u8],
+    under: &[u8],
+    capacity: usize,
+) -> Result<WatchId, Fault> {
+    let (owner, prefix) = (owner_of(rt, owner), prefix(rt, under));
+    hub.add(Filter { owner, prefix }, capacity)
+}
+
+/// Adds a watch for all notes, or is refused.
+fn watch_all(rt: &impl Abort, hub: &mut Hub, capacity: usize) -> Result<WatchId, Fault> {
+    watch(rt, hub, b"", b"", capacity)
+}
+
+/// Adds a watch for all notes.
+fn added(rt: &impl Abort, hub: &mut Hub, capacity: usize) -> WatchId {
+    got(rt, watch_all(rt, hub, capacity))
 }
 
 /// The note at this place, as a watch hands it out.
@@ -128,159 +54,172 @@ fn note_at(notes: &[Note], place: usize) -> Option<Polled> {
     }
 }
 
-// Lagged once where some were lost, then the notes, then none.
-fn answers_are(rt: &impl Abort, hub: &mut Hub, id: WatchId, case: &Case, notes: &[Note]) {
-    if case.lost > 0 {
-        same(rt, &hub.take(id), &Ok(Polled::Lagged(case.lost)));
+/// Lagged once where some were lost, then the notes at these places, then none.
+fn answers_are(
+    rt: &impl Abort,
+    hub: &mut Hub,
+    id: WatchId,
+    lost: u64,
+    given: &[usize],
+    notes: &[Note],
+) {
+    if lost > 0 {
+        same(rt, &hub.take(id), &Ok(Polled::Lagged(lost)));
     }
-    for place in case.given.iter() {
+    for place in given {
         same(rt, &hub.take(id).ok(), &note_at(notes, *place));
     }
     same(rt, &[hub.take(id), hub.take(id)], &[Ok(Polled::Empty); 2]);
 }
 
-fn watch_case(hub: &mut Hub, case: &Case) -> Result<WatchId, Fault> {
-    let owner = if case.owner.is_empty() {
-        None
-    } else {
-        Some(Name::read(case.owner)?)
-    };
-    let prefix = Prefix::read(case.prefix)?;
-    hub.add(Filter { owner, prefix }, case.capacity)
+/// Four watches under net/ or of all, which may lose notes.
+fn watch_some(rt: &impl Abort, hub: &mut Hub) -> [WatchId; 4] {
+    [
+        got(rt, watch(rt, hub, b"a", b"net/", 2)),
+        got(rt, watch(rt, hub, b"a", b"net/", 3)),
+        got(rt, watch(rt, hub, b"", b"net/", 4)),
+        got(rt, watch(rt, hub, b"", b"", 1)),
+    ]
 }
 
-/// Adds a watch for each case.
-fn watch_cases(alloc: Global, hub: &mut Hub) -> Result<Vec<WatchId>, Fail> {
-    let mut ids = Vec::with_capacity(alloc, CASES.len())?;
-    for case in CASES.iter() {
-        ids.push(watch_case(hub, case)?)?;
+/// Five more watches, which lose none.
+fn watch_others(rt: &impl Abort, hub: &mut Hub) -> [WatchId; 5] {
+    [
+        got(rt, watch(rt, hub, b"", b"", 1024)),
+        got(rt, watch(rt, hub, b"b", b"", 1)),
+        got(rt, watch(rt, hub, b"", b"w", 1)),
+        got(rt, watch(rt, hub, b"a", b"net/a/", 1)),
+        got(rt, watch(rt, hub, b"c", b"", 1)),
+    ]
+}
+
+fn some_answer(rt: &impl Abort, hub: &mut Hub, ids: [WatchId; 4], notes: &[Note]) {
+    let [two, three, four, last] = ids;
+    answers_are(rt, hub, two, 1, &[1, 3], notes);
+    answers_are(rt, hub, three, 0, &[0, 1, 3], notes);
+    answers_are(rt, hub, four, 0, &[0, 1, 3, 4], notes);
+    answers_are(rt, hub, last, 4, &[4], notes);
+}
+
+fn others_answer(rt: &impl Abort, hub: &mut Hub, ids: [WatchId; 5], notes: &[Note]) {
+    let [all, of_b, under_w, under_none, of_c] = ids;
+    answers_are(rt, hub, all, 0, &[0, 1, 2, 3, 4], notes);
+    answers_are(rt, hub, of_b, 0, &[4], notes);
+    answers_are(rt, hub, under_w, 0, &[2], notes);
+    answers_are(rt, hub, under_none, 0, &[], notes);
+    answers_are(rt, hub, of_c, 0, &[], notes);
+}
+
+fn push_all(hub: &mut Hub, notes: &[Note]) {
+    for note in notes {
+        hub.push(note);
     }
-    Ok(ids)
 }
 
 #[test]
-fn watches_keep_the_last_notes(rt: HostRuntime) -> Result<(), Fail> {
-    let notes = read_notes(rt.alloc())?;
+fn watches_keep_the_last_notes(rt: HostRuntime) {
+    let notes = all_notes(&rt);
     let mut hub = Hub::new(rt.alloc());
-    let ids = watch_cases(rt.alloc(), &mut hub)?;
-    for note in notes.iter() {
-        hub.push(note);
-    }
-    for (id, case) in ids.iter().zip(CASES.iter()) {
-        answers_are(&rt, &mut hub, *id, case, &notes);
-    }
-    Ok(())
+    let some = watch_some(&rt, &mut hub);
+    let others = watch_others(&rt, &mut hub);
+    push_all(&mut hub, &notes);
+    some_answer(&rt, &mut hub, some, &notes);
+    others_answer(&rt, &mut hub, others, &notes);
 }
 
-// What a watch with room for two notes answers behind the third, and behind the last.
-fn answers_between(hub: &mut Hub, notes: &[Note]) -> Result<[Result<Polled, Fault>; 5], Fault> {
-    let id = watch_all(hub, 2)?;
-    for note in notes.iter().take(3) {
-        hub.push(note);
-    }
+/// What a watch with room for two notes answers behind the third, and behind the last.
+fn answers_between(rt: &impl Abort, hub: &mut Hub, notes: [Note; 5]) -> [Result<Polled, Fault>; 5] {
+    let [first, second, third, fourth, last] = notes;
+    let id = added(rt, hub, 2);
+    push_all(hub, &[first, second, third]);
     let early = hub.take(id);
-    for note in notes.iter().skip(3) {
-        hub.push(note);
-    }
-    Ok([
+    push_all(hub, &[fourth, last]);
+    [
         early,
         hub.take(id),
         hub.take(id),
         hub.take(id),
         hub.take(id),
-    ])
+    ]
 }
 
 // The fourth note pushes out the second after the first was told as lost, and so on.
 #[test]
-fn lost_notes_are_told_once(rt: HostRuntime) -> Result<(), Fail> {
-    let notes = read_notes(rt.alloc())?;
-    let [fourth, last] = [note(b"a", b"net/c", 4)?, note(b"b", b"net/a", 1)?];
-    let found = answers_between(&mut Hub::new(rt.alloc()), &notes)?;
+fn lost_notes_are_told_once(rt: HostRuntime) {
+    let found = answers_between(&rt, &mut Hub::new(rt.alloc()), all_notes(&rt));
     let wanted = [
         Ok(Polled::Lagged(1)),
         Ok(Polled::Lagged(2)),
-        Ok(Polled::Note(fourth)),
-        Ok(Polled::Note(last)),
+        Ok(Polled::Note(note(&rt, b"a", b"net/c", 4))),
+        Ok(Polled::Note(note(&rt, b"b", b"net/a", 1))),
         Ok(Polled::Empty),
     ];
     same(&rt, &found, &wanted);
-    Ok(())
 }
 
-fn add_least_and_greatest(hub: &mut Hub) -> Result<[WatchId; 2], Fault> {
-    Ok([watch_all(hub, 1)?, watch_all(hub, 1024)?])
+fn is_refused(rt: &impl Abort, hub: &mut Hub, capacity: usize) {
+    let refused = watch_all(rt, hub, capacity);
+    same_at(rt, &capacity, &refused, &Err(Fault::BadSetting));
 }
 
 #[test]
-fn capacities_are_1_to_1024(rt: HostRuntime) -> Result<(), Fail> {
+fn capacities_are_1_to_1024(rt: HostRuntime) {
     let mut hub = Hub::new(rt.alloc());
-    for capacity in [0, 1025, usize::MAX] {
-        same_at(
-            &rt,
-            &capacity,
-            &watch_all(&mut hub, capacity),
-            &Err(Fault::BadSetting),
-        );
-    }
-    let [least, greatest] = add_least_and_greatest(&mut hub)?;
+    is_refused(&rt, &mut hub, 0);
+    is_refused(&rt, &mut hub, 1025);
+    is_refused(&rt, &mut hub, usize::MAX);
+    let least = added(&rt, &mut hub, 1);
+    let greatest = added(&rt, &mut hub, 1024);
     holds(&rt, "both stand", hub.has(least) && hub.has(greatest));
-    Ok(())
 }
 
-/// What two more are answered where 64 stand; whether one is dropped, first and once more; what the one that was added then and the one
-/// that was dropped are told; and whether that one is another, and stands.
-type Full = (
-    [Result<WatchId, Fault>; 2],
-    [Result<(), Fault>; 2],
-    Told,
-    bool,
-);
-
-type Told = [Result<Polled, Fault>; 2];
-
-// The note comes once the other was added.
-fn fill(hub: &mut Hub, note: &Note) -> Result<Full, Fault> {
-    let first = watch_all(hub, 1)?;
+/// Adds watches until 64 stand, and gives the first.
+fn fill(rt: &impl Abort, hub: &mut Hub) -> WatchId {
+    let first = added(rt, hub, 1);
     for _ in 1..64 {
-        watch_all(hub, 1)?;
+        added(rt, hub, 1);
     }
-    let refused = [watch_all(hub, 1), watch_all(hub, 0)];
+    first
+}
+
+/// Two more are refused where 64 stand.
+fn are_full(rt: &impl Abort, hub: &mut Hub) {
+    let refused = [watch_all(rt, hub, 1), watch_all(rt, hub, 0)];
+    let wanted = [Err(Fault::WatchesFull), Err(Fault::BadSetting)];
+    same(rt, &refused, &wanted);
+}
+
+/// Drops a watch and adds another, which stands and is not the first.
+fn replaced(rt: &impl Abort, hub: &mut Hub, first: WatchId) -> WatchId {
     let dropped = hub.drop_watch(first);
-    let last = watch_all(hub, 1)?;
+    let last = added(rt, hub, 1);
     let is_added = last != first && hub.has(last);
-    hub.push(note);
+    same(rt, &(dropped, is_added), &(Ok(()), true));
+    last
+}
+
+#[test]
+fn at_most_64_watches_stand(rt: HostRuntime) {
+    let note = note(&rt, b"a", b"x", 7);
+    let mut hub = Hub::new(rt.alloc());
+    let first = fill(&rt, &mut hub);
+    are_full(&rt, &mut hub);
+    let last = replaced(&rt, &mut hub, first);
+    hub.push(&note);
     let told = [hub.take(last), hub.take(first)];
-    Ok((refused, [dropped, hub.drop_watch(first)], told, is_added))
+    same(&rt, &told, &[Ok(Polled::Note(note)), Err(Fault::NoWatch)]);
+    same(&rt, &hub.drop_watch(first), &Err(Fault::NoWatch));
 }
 
 #[test]
-fn at_most_64_watches_stand(rt: HostRuntime) -> Result<(), Fail> {
-    let note = note(b"a", b"x", 7)?;
-    let found = fill(&mut Hub::new(rt.alloc()), &note)?;
-    let wanted = (
-        [Err(Fault::WatchesFull), Err(Fault::BadSetting)],
-        [Ok(()), Err(Fault::NoWatch)],
-        [Ok(Polled::Note(note)), Err(Fault::NoWatch)],
-        true,
-    );
-    same(&rt, &found, &wanted);
-    Ok(())
-}
-
-#[test]
-fn example_of_watches(rt: HostRuntime) -> Result<(), Fail> {
+fn example_of_watches(rt: HostRuntime) {
     let filter = Filter {
         owner: None,
-        prefix: Prefix::read(b"net/")?,
+        prefix: prefix(&rt, b"net/"),
     };
-    let note = Note {
-        owner: Name::read(b"a")?,
-        key: Key::read(b"net/b")?,
-        version: 2,
-    };
+    let note = note(&rt, b"a", b"net/b", 2);
     let mut hub = Hub::new(rt.alloc());
-    let id = hub.add(filter, 2)?;
+    let id = got(&rt, hub.add(filter, 2));
     hub.push(&note);
     let told = hub.take(id);
     holds(
@@ -289,5 +228,4 @@ fn example_of_watches(rt: HostRuntime) -> Result<(), Fail> {
         matches!(told, Ok(Polled::Note(note)) if note.version == 2),
     );
     same(&rt, &hub.take(id), &Ok(Polled::Empty));
-    Ok(())
 }
