@@ -109,20 +109,10 @@ fn measure_node(
     blocks: &[Block],
     node: &Holdings,
 ) -> Result<(), Problem> {
-    tell(
-        rt,
-        telling,
-        layers::apply(rt, sizes, blocks),
-        "apply",
-        "entry",
-    )?;
-    tell(
-        rt,
-        telling,
-        layers::digest(rt, sizes, node),
-        "digest",
-        "owner",
-    )
+    let applied = layers::apply(rt, sizes, blocks);
+    tell(rt, telling, applied, "apply", "entry")?;
+    let built = layers::digest(rt, sizes, node);
+    tell(rt, telling, built, "digest", "owner")
 }
 
 /// How a delta is made: step by step with a list of all that is lacking, and without it.
@@ -132,48 +122,18 @@ fn measure_delta(
     telling: Telling,
     node: &Holdings,
 ) -> Result<(), Problem> {
-    tell(
-        rt,
-        telling,
-        layers::offer(rt, sizes, node),
-        "available",
-        "entry",
-    )?;
-    tell(
-        rt,
-        telling,
-        layers::arrange(rt, sizes, node, &Breadth),
-        "breadth",
-        "entry",
-    )?;
-    tell(
-        rt,
-        telling,
-        layers::arrange(rt, sizes, node, &Depth),
-        "depth",
-        "entry",
-    )?;
-    tell(
-        rt,
-        telling,
-        layers::cut_front(rt, sizes, node),
-        "cut",
-        "entry",
-    )?;
-    tell(
-        rt,
-        telling,
-        layers::delta(rt, sizes, node, &Breadth),
-        "delta-breadth",
-        "frame",
-    )?;
-    tell(
-        rt,
-        telling,
-        layers::delta(rt, sizes, node, &Depth),
-        "delta-depth",
-        "frame",
-    )
+    let offered = layers::offer(rt, sizes, node);
+    tell(rt, telling, offered, "available", "entry")?;
+    let by_breadth = layers::arrange(rt, sizes, node, &Breadth);
+    tell(rt, telling, by_breadth, "breadth", "entry")?;
+    let by_depth = layers::arrange(rt, sizes, node, &Depth);
+    tell(rt, telling, by_depth, "depth", "entry")?;
+    let cut = layers::cut_front(rt, sizes, node);
+    tell(rt, telling, cut, "cut", "entry")?;
+    let by_breadth = layers::delta(rt, sizes, node, &Breadth);
+    tell(rt, telling, by_breadth, "delta-breadth", "frame")?;
+    let by_depth = layers::delta(rt, sizes, node, &Depth);
+    tell(rt, telling, by_depth, "delta-depth", "frame")
 }
 
 /// How the greatest delta of a node becomes bytes, and is read of them.
@@ -184,27 +144,12 @@ fn measure_bytes(
     node: &Holdings,
 ) -> Result<(), Problem> {
     let delta = layers::greatest_delta(rt.alloc(), node)?;
-    tell(
-        rt,
-        telling,
-        layers::encode(rt, sizes, &delta),
-        "encode",
-        "entry",
-    )?;
-    tell(
-        rt,
-        telling,
-        layers::decode(rt, sizes, &delta),
-        "decode",
-        "entry",
-    )?;
-    tell(
-        rt,
-        telling,
-        layers::frames(rt, sizes, &delta),
-        "frames",
-        "entry",
-    )
+    let encoded = layers::encode(rt, sizes, &delta);
+    tell(rt, telling, encoded, "encode", "entry")?;
+    let decoded = layers::decode(rt, sizes, &delta);
+    tell(rt, telling, decoded, "decode", "entry")?;
+    let read = layers::frames(rt, sizes, &delta);
+    tell(rt, telling, read, "frames", "entry")
 }
 
 /// What is measured of a node that holds these blocks.
