@@ -10,20 +10,24 @@ use std::process::Abort;
 // A key and its value, or none where it is removed.
 type Write = (&'static [u8], Option<Words>);
 
-const THREE: [Write; 3] = [
-    (b"x", Some((b"weight", b"5"))),
-    (b"x", None),
-    (b"y", Some((b"flag", b"true"))),
-];
+fn three() -> [Write; 3] {
+    [
+        (b"x", Some((b"weight", b"5"))),
+        (b"x", None),
+        (b"y", Some((b"flag", b"true"))),
+    ]
+}
 
-// An address, a flag and a weight, and x again is last in time.
-const FIVE: [Write; 5] = [
-    (b"x", Some((b"weight", b"5"))),
-    (b"y/b", Some((b"addr", b"10.0.0.1:80"))),
-    (b"y/a", Some((b"flag", b"true"))),
-    (b"w", Some((b"weight", b"0"))),
-    (b"x", None),
-];
+/// An address, a flag and a weight, and x again is last in time.
+fn five() -> [Write; 5] {
+    [
+        (b"x", Some((b"weight", b"5"))),
+        (b"y/b", Some((b"addr", b"10.0.0.1:80"))),
+        (b"y/a", Some((b"flag", b"true"))),
+        (b"w", Some((b"weight", b"0"))),
+        (b"x", None),
+    ]
+}
 
 fn slot_of(rt: &impl Abort, alloc: Global, words: Option<Words>) -> Slot {
     match words {
@@ -61,20 +65,20 @@ fn a_log_is_printed_in_ascending_key(rt: HostRuntime) {
     is_printed(
         &rt,
         alloc,
-        &THREE,
+        &three(),
         b"a x 2 removed -\na y 3 flag true\nlast 3\n",
     );
     is_printed(
         &rt,
         alloc,
-        &FIVE,
+        &five(),
         b"a w 4 weight 0\na x 5 removed -\na y/a 3 flag true\na y/b 2 addr 10.0.0.1:80\nlast 5\n",
     );
 }
 
 /// The printing of the log of five fails at a writer that closes behind so many bytes.
 fn fails_behind(rt: &impl Abort, alloc: Global, left: usize) {
-    let mut log = log_of(rt, alloc, &FIVE);
+    let mut log = log_of(rt, alloc, &five());
     let printed = log_run(alloc, &mut log, &mut ClosingWriter { left });
     failed_behind(rt, settled(rt, printed), left);
 }

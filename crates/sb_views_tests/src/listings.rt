@@ -25,13 +25,21 @@ const B_A: Told = (b"b", b"a", 3, (b"addr", b"h:80"));
 const B_A_OTHER: Told = (b"b", b"a", 3, (b"addr", b"h:81"));
 
 // Listings that are compared with others.
-const A_V_TO_B: [Told; 3] = [A_V, A_W, B_A];
+fn a_to_b() -> [Told; 3] {
+    [A_V, A_W, B_A]
+}
 
-const A_AND_AA: [Told; 2] = [A_V, AA_A];
+fn a_and_aa() -> [Told; 2] {
+    [A_V, AA_A]
+}
 
-const A_OTHER_TO_B: [Told; 3] = [A_W_OTHER, AA_A, B_A];
+fn a_other_to_b() -> [Told; 3] {
+    [A_W_OTHER, AA_A, B_A]
+}
 
-const A_AND_B: [Told; 2] = [A_W, B_A];
+fn a_and_b() -> [Told; 2] {
+    [A_W, B_A]
+}
 
 /// The lines of what changed from one of these to the other are these.
 fn rows_change_to(rt: &impl Abort, alloc: Global, earlier: &[Row], later: &[Row], wanted: &[u8]) {
@@ -52,43 +60,65 @@ fn line_is(rt: &impl Abort, alloc: Global, earlier: Told, later: Told, wanted: &
     lines_are(rt, alloc, &[earlier], &[later], wanted);
 }
 
-fn one_row_changed(rt: &impl Abort, alloc: Global) {
-    line_is(rt, alloc, A_W, A_W_LATER, b"set a w 9 weight 5\n");
-    line_is(rt, alloc, A_W, A_W_OTHER, b"set a w 2 weight 6\n");
-    line_is(rt, alloc, A_W, A_W_FLAG, b"set a w 2 flag true\n");
+/// The line of a weight of which a later row stands in its place.
+fn weight_becomes(rt: &impl Abort, alloc: Global, later: Told, wanted: &[u8]) {
+    line_is(rt, alloc, A_W, later, wanted);
+}
+
+fn weight_changed(rt: &impl Abort, alloc: Global) {
+    weight_becomes(rt, alloc, A_W_LATER, b"set a w 9 weight 5\n");
+    weight_becomes(rt, alloc, A_W_OTHER, b"set a w 2 weight 6\n");
+    weight_becomes(rt, alloc, A_W_FLAG, b"set a w 2 flag true\n");
+}
+
+fn flag_changed(rt: &impl Abort, alloc: Global) {
     line_is(rt, alloc, A_W_FLAG, A_W_NOT, b"set a w 2 flag false\n");
+}
+
+fn address_changed(rt: &impl Abort, alloc: Global) {
     line_is(rt, alloc, B_A, B_A_OTHER, b"set b a 3 addr h:81\n");
+}
+
+/// All rows came, and all went.
+fn all_changed(rt: &impl Abort, alloc: Global) {
+    lines_are(
+        rt,
+        alloc,
+        &[],
+        &a_and_aa(),
+        b"set a v 1 addr h:80\nset aa a 1 flag true\n",
+    );
+    lines_are(rt, alloc, &a_and_aa(), &[], b"gone a v\ngone aa a\n");
+}
+
+/// Rows came, went and changed in turn, with rows on both sides.
+fn each_in_turn(rt: &impl Abort, alloc: Global) {
+    lines_are(
+        rt,
+        alloc,
+        &a_to_b(),
+        &a_other_to_b(),
+        b"gone a v\nset a w 2 weight 6\nset aa a 1 flag true\n",
+    );
+    lines_are(
+        rt,
+        alloc,
+        &[AA_A],
+        &a_and_b(),
+        b"set a w 2 weight 5\ngone aa a\nset b a 3 addr h:80\n",
+    );
 }
 
 #[test]
 fn what_changed_is_printed(rt: HostRuntime) {
     let alloc = rt.alloc();
     lines_are(&rt, alloc, &[], &[], b"");
-    lines_are(&rt, alloc, &A_V_TO_B, &A_V_TO_B, b"");
-    lines_are(
-        &rt,
-        alloc,
-        &[],
-        &A_AND_AA,
-        b"set a v 1 addr h:80\nset aa a 1 flag true\n",
-    );
-    lines_are(&rt, alloc, &A_AND_AA, &[], b"gone a v\ngone aa a\n");
-    one_row_changed(&rt, alloc);
-    // Each of the three in turn, with rows on both sides.
-    lines_are(
-        &rt,
-        alloc,
-        &A_V_TO_B,
-        &A_OTHER_TO_B,
-        b"gone a v\nset a w 2 weight 6\nset aa a 1 flag true\n",
-    );
-    lines_are(
-        &rt,
-        alloc,
-        &[AA_A],
-        &A_AND_B,
-        b"set a w 2 weight 5\ngone aa a\nset b a 3 addr h:80\n",
-    );
+    lines_are(&rt, alloc, &a_to_b(), &a_to_b(), b"");
+    all_changed(&rt, alloc);
+    weight_changed(&rt, alloc);
+    flag_changed(&rt, alloc);
+    address_changed(&rt, alloc);
+    each_in_turn(&rt, alloc);
 }
 
 // An address with a quote and a backslash, the greatest weight, and a flag.

@@ -98,6 +98,15 @@ pub(crate) fn settled(rt: &impl Abort, printed: (Result<(), Fault>, LastWrite)) 
     (ended, last.has_failed())
 }
 
+/// The end of a printing of these lines: a fault too where its last write is said to have failed.
+fn whole(printed: (Result<(), Fault>, LastWrite), lines: &[u8]) -> Result<(), Fault> {
+    let (ended, last) = printed;
+    match (ended, last.has_failed()) {
+        (Ok(()), true) => Err(Fault::WriteFailed(lines.len() as u64)),
+        (ended, _) => ended,
+    }
+}
+
 /// A printing ended so that these are all its lines, by writes of which none is said to have failed.
 pub(crate) fn has_lines(
     rt: &impl Abort,
@@ -105,7 +114,7 @@ pub(crate) fn has_lines(
     lines: &[u8],
     wanted: &[u8],
 ) {
-    same(rt, &settled(rt, printed), &(Ok(()), false));
+    got(rt, whole(printed, lines));
     same(rt, &lines, &wanted);
 }
 

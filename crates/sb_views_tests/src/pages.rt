@@ -261,17 +261,12 @@ pub(crate) fn rows_are_told(rt: &impl Abort, alloc: Global, snapshot: &Snapshot<
     pages_of_one(rt, alloc, snapshot);
 }
 
-/// A flag under a key of three letters.
-fn numbered(rt: &impl Abort, number: u64) -> Entry {
-    let text = [b'k', b'a' + (number / 26) as u8, b'a' + (number % 26) as u8];
-    flag(rt, &text, number + 1)
-}
-
-/// A flag under each of 300 keys.
+/// A flag under each of 300 keys of three letters.
 fn holdings_of_300(rt: &impl Abort, alloc: Global) -> Holdings {
     let mut holdings = holdings_of_a(rt, alloc);
     for number in 0..300u64 {
-        got(rt, holdings.push_own(numbered(rt, number)));
+        let text = [b'k', b'a' + (number / 26) as u8, b'a' + (number % 26) as u8];
+        got(rt, holdings.push_own(flag(rt, &text, number + 1)));
     }
     holdings
 }

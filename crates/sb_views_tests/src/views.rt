@@ -239,7 +239,10 @@ fn publish_one<S: Site, R: Wait + Abort>(
 {
     let key = *entry.key();
     let (story, start) = opened.named::<S>();
-    let (mut writer, mut readers) = got(rt, views::<S, &R>(alloc, rt, start.again(), holdings, 2));
+    let (mut writer, mut readers) = match views::<S, &R>(alloc, rt, start.again(), holdings, 2) {
+        Ok(made) => made,
+        Err(fault) => panic!(rt; "error: {fault:?}"),
+    };
     append_own(rt, alloc, &story, start, &mut writer, holdings, entry);
     let reader = there(rt, readers.pop());
     look_around(rt, &mut writer, reader, holdings.me(), &key)
@@ -262,8 +265,9 @@ fn append_own<S: Site, R: Wait + Abort>(
 {
     let added = upto.add_own(story, &entry);
     let mut batch = Batch::new(alloc);
-    if let Err(fault) = batch.push(*holdings.me(), entry) {
-        panic!(rt; "error: {fault:?}");
+    match batch.push(*holdings.me(), entry) {
+        Ok(()) => {}
+        Err(fault) => panic!(rt; "error: {fault:?}"),
     }
     if !added {
         panic!(rt; "error: a write is not added");

@@ -11,7 +11,7 @@ append-requires-clause-leads g c =
     let upto : c.add_own-added.new.self ≡ TookOwn entry ∷ [] =
     c.if-not-added.ensures ∙ ap (λ (l : List Event). l ++ TookOwn entry ∷ []) c.requires.start in
     let batch : c.push.new.self ≡ (c.args.holdings.now.me, entry) ∷ [] =
-    c.in_ok-push.ensures.ok ∙ ap (λ (b : List (List ℕ × Entry)). b ++ (c.me.result.now, entry) ∷ []) c.new-batch.ensures
+    c.in-Ok.ensures.ok ∙ ap (λ (b : List (List ℕ × Entry)). b ++ (c.me.result.now, entry) ∷ []) c.new-batch.ensures
     ∙ ap (λ (o : List ℕ). (o, entry) ∷ []) c.me.ensures.name in
     first-leads g.S.Site.opening c.args.holdings.now entry c.args.writer.now.ready c.add_own-added.new.self c.push.new.self
     c.requires.opening c.requires.next c.requires.ready upto batch
