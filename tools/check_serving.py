@@ -4,7 +4,7 @@ import socket
 import threading
 import time
 
-from nodes import BYE, Difference, ask, connect, delta, digest, exchange, hello, read_frame, run, send_in_pieces, want, weight
+from nodes import BYE, SECONDS, Difference, ask, connect, delta, digest, exchange, hello, read_frame, run, send_in_pieces, want, weight
 
 # the most bytes of the path of a socket
 PATH_MOST = 107
@@ -114,40 +114,82 @@ def paths(check):
 
 
 class Peer:
-    """A socket that enters its number in a list for each connection, and ends that."""
+    """A socket that enters its number in a list for each connection, hears the Hello and the Digest that come first, says this, and ends that."""
 
-    def __init__(self, path, number, list_of):
+    def __init__(self, path, number, list_of, says=b""):
         self.door = socket.socket(socket.AF_UNIX, socket.SOCK_STREAM)
         self.door.bind(str(path))
         self.door.listen(8)
-        self.number, self.list_of = number, list_of
+        self.path, self.number, self.list_of, self.says = path, number, list_of, says
         threading.Thread(target=self.serve, daemon=True).start()
 
     def serve(self):
         while True:
-            stream, _ = self.door.accept()
+            try:
+                stream, _ = self.door.accept()
+            except OSError:
+                return
             self.list_of.append(self.number)
-            stream.close()
+            with stream:
+                if read_frame(stream) and read_frame(stream):
+                    stream.sendall(self.says)
+
+    def end(self):
+        self.path.unlink()
+        self.door.shutdown(socket.SHUT_RDWR)
+        self.door.close()
 
 
 def turns(check):
-    """Each peer is dialed in its turn, one a round; those that are not there are named when the node starts, and no others."""
+    """Each peer is dialed in its turn, one a round, and how that ended is said of each once."""
     folder, dialed = check.folder(), []
     there = [folder / f"peer{at}" for at in range(3)]
     for at, path in enumerate(there):
         Peer(path, at, dialed)
     node = check.node("a", "--rounds", "7", "--pause", "0", folder=folder, peers=there).start()
     status, printed, said = node.ended()
-    want("the end", (status, printed.split()[:2], len(said)), (0, ["rounds", "7"], 2))
+    want("the end", (status, printed), (0, "rounds 7 faults 0 events 0\n"))
     want("the peers that were dialed", dialed, [0, 1, 2, 0, 1, 2, 0])
-    nobody = [folder / "nobody", folder / "no-folder/nobody"]
-    node.peers = [nobody[0], there[1], nobody[1]]
+    want("what is said of them", said[1:-1], [f"attrdir: peer {path} ended a session before its end" for path in there])
+    node.peers = [folder / "nobody", there[1], folder / "no-folder/nobody"]
     status, printed, said = node.start().ended()
+    want("the end", (status, printed), (0, "rounds 7 faults 5 events 0\n"))
     want("the first line", [said[0].find(str(it)) > 0 for it in (node.sock, node.control)], [True, True])
     if not said[0].index(str(node.sock)) < said[0].index("set") < said[0].index(str(node.control)):
         raise Difference(f"which socket is for whom: {said[0]}")
-    want("the peers that are not there", [[str(path) in line for path in node.peers] for line in said[1:3]], [[True, False, False], [False, False, True]])
-    want("the lines, and the name in each", (len(said), [it.split(":")[0] for it in said]), (4, ["attrdir"] * 4))
+    ends = ("does not answer", "ended a session before its end", "does not answer")
+    want("what is said of them", said[1:-1], [f"attrdir: peer {path} {end}" for path, end in zip(node.peers, ends)])
+    want("the name in each line", [it.split(":")[0] for it in said], ["attrdir"] * 5)
+
+
+def changes(check):
+    """Where a round with a peer ends otherwise than the one before, that is said, once."""
+    folder = check.folder()
+    peer = check.node("b", folder=folder)
+    node = check.node("a", "--pause", "300", folder=folder, peers=[peer.sock]).start()
+    wanted = [f"attrdir: peer {peer.sock} does not answer"]
+
+    def await_lines():
+        end = time.monotonic() + SECONDS
+        while len(node.lines()) <= len(wanted) and time.monotonic() < end:
+            time.sleep(0.005)
+        want("what is said of a peer", node.lines()[1:], wanted)
+
+    await_lines()
+    other = Peer(peer.sock, 0, [], hello("b", "d"))
+    wanted.append(f"attrdir: peer {peer.sock}: fault 23: the peer is of another cluster")
+    await_lines()
+    other.end()
+    wanted.append(wanted[0])
+    await_lines()
+    peer.start()
+    wanted.append(f"attrdir: peer {peer.sock} answers")
+    await_lines()
+    peer.kill()
+    wanted.append(wanted[0])
+    await_lines()
+    time.sleep(0.7)
+    want("what is said of a peer", node.lines()[1:], wanted)
 
 
 def paces(check):
@@ -185,4 +227,4 @@ def workers(check):
         check.node("a", *options).start().kill()
 
 
-PARTS = (orders, budgets, versions, paths, turns, paces, reads, workers)
+PARTS = (orders, budgets, versions, paths, turns, changes, paces, reads, workers)

@@ -153,14 +153,6 @@ def run(program, *words, seconds=SECONDS):
     return ran.returncode, ran.stdout, ran.stderr
 
 
-def first_line(stream):
-    """The first line of a stream, byte by byte: what a longer read takes beside it would not be communicated any more."""
-    line = b""
-    while not line.endswith(b"\n") and (byte := os.read(stream.fileno(), 1)):
-        line += byte
-    return line.decode(errors="replace")
-
-
 class Node:
     """A node of the cluster c in a folder, which can be started again and again."""
 
@@ -169,8 +161,8 @@ class Node:
         self.log, self.sock, self.control = (Path(folder) / f"{name}.{end}" for end in ("log", "sock", "ctl"))
         self.log.touch()
         # what Popen is given beside the words
-        self.how = {"stdin": subprocess.DEVNULL, "stdout": subprocess.PIPE, "stderr": subprocess.PIPE, "text": True}
-        self.ran = None
+        self.how = {"stdin": subprocess.DEVNULL, "stdout": subprocess.PIPE, "text": True}
+        self.ran = self.said = None
 
     def words(self):
         places = ["--log", self.log, "--sock", self.sock, "--control", self.control]
@@ -180,12 +172,23 @@ class Node:
         """Starts it, without the sockets of an earlier run, and waits until it listens."""
         for path in (self.sock, self.control):
             path.unlink(missing_ok=True)
-        self.ran = subprocess.Popen(self.words(), **self.how)
-        self.first = first_line(self.ran.stderr)
-        if "listens" not in self.first:
-            _, rest = self.ran.communicate()
-            raise Difference(f"node {self.name} did not start: {self.first}{rest}")
+        # (a file, since a pipe that nobody empties would stop it)
+        self.said = tempfile.TemporaryFile()
+        self.ran = subprocess.Popen(self.words(), stderr=self.said, **self.how)
+        while not self.lines():
+            if self.ran.poll() is not None:
+                break
+            time.sleep(0.002)
+        if "listens" not in "".join(self.lines()[:1]):
+            self.kill()
+            raise Difference(f"node {self.name} did not start: {self.lines()}")
         return self
+
+    def lines(self):
+        """The whole lines that it has said on standard error since it started."""
+        file = self.said.fileno()
+        said = os.pread(file, os.fstat(file).st_size, 0).decode(errors="replace")
+        return said[: said.rfind("\n") + 1].splitlines()
 
     def kill(self):
         self.ran.kill()
@@ -198,8 +201,8 @@ class Node:
 
     def ended(self):
         """Its exit status, what it printed, and the lines that it said."""
-        printed, said = self.ran.communicate(timeout=SECONDS)
-        return self.ran.returncode, printed, (self.first + said).splitlines()
+        printed, _ = self.ran.communicate(timeout=SECONDS)
+        return self.ran.returncode, printed, self.lines()
 
     def put(self, key, value):
         return version_of(exchange(self.control, put(key, weight(value))))

@@ -103,11 +103,12 @@ removes them when it ends. On --sock it serves other nodes, and each PEER is the
 asks in its turn, one a round, for what it lacks. On --control it answers `set`, `del`, `get` and `watch`. Peers and callers are not
 authenticated: whoever may open a socket may use it.
 
-One line on standard error says that the node listens, and one more names each PEER at whose path no socket can be seen yet. With
---rounds it ends after the last one, prints `rounds R faults F events E` on standard output, and says so in one more line on standard
-error: R rounds were made, F of them and of the connections that came had a fault, and E events were seen, its own writes and each delta
-of a peer, also one that brought nothing. Without --rounds it runs until it is killed. Then the files of its sockets stay, and have to be removed before it starts again; each write that was
-answered by a version is in the log.
+One line on standard error says that the node listens. After its first round with a PEER, and then whenever a round ends otherwise than
+the one before, one line says that this peer answers, that it does not, or by which fault its session ended. With --rounds the node ends
+after the last one, prints `rounds R faults F events E` on standard output, and says so in one more line on standard error: R rounds were
+made, F of them and of the connections that came had a fault, and E events were seen, its own writes and each delta of a peer, also one
+that brought nothing. Without --rounds it runs until it is killed. Then the files of its sockets stay, and have to be removed before it
+starts again; each write that was answered by a version is in the log.
 
 A fault ends the node, with `fault N`, its text and what to do about it on standard error: 1 no memory, 2 the name, 5 a setting, 16 a
 socket cannot be made, as where a file is at its path, or the path of a peer has none or more than 107 bytes, 17 the last line cannot be

@@ -3,7 +3,8 @@ use crate::failure::{Failure, Place, Setting};
 use crate::log_file::open_log;
 use crate::words::name_of;
 use sb_log::WriteLog;
-use sb_run::{Pace, Paths, Ran, run_node};
+use sb_run::{Observer, Pace, Paths, Ran, run_node};
+use sb_session::Ended;
 use sb_types::{
     BUDGET_LEAST, BUDGET_MOST, Fault, Name, RawSettings, Settings, VERSION_MOST, WORKERS_MOST,
 };
@@ -29,18 +30,29 @@ pub(crate) struct Given<'a> {
     pub(crate) pace: Pace,
 }
 
-/// Tells that the node listens, and which of its peers are not there yet.
-fn tell_listening(rt: &HostRuntime, given: &Given<'_>) {
-    let _ = eprintln!(rt;
-        "attrdir: node {} listens on {}, and for set, del, get and watch on {}",
-        given.name, given.sock, given.control
-    );
-    for path in &given.peers {
-        if symlink_metadata(rt, *path).is_err() {
-            let _ = eprintln!(rt;
-                "attrdir: no socket can be seen at {path} yet; it is tried each time its turn comes"
-            );
-        }
+/// Tells on standard error what the node meets.
+struct Console<'a> {
+    rt: &'a HostRuntime,
+    given: &'a Given<'a>,
+}
+
+impl Observer for Console<'_> {
+    fn listening(&self) {
+        let (rt, given) = (self.rt, self.given);
+        let _ = eprintln!(rt;
+            "attrdir: node {} listens on {}, and for set, del, get and watch on {}",
+            given.name, given.sock, given.control
+        );
+    }
+
+    fn dialed(&self, peer: &str, ended: &Result<Ended, Fault>) {
+        let rt = self.rt;
+        let _ = match ended {
+            Ok(Ended::RoundsDone) => eprintln!(rt; "attrdir: peer {peer} answers"),
+            Ok(_) => eprintln!(rt; "attrdir: peer {peer} ended a session before its end"),
+            Err(Fault::ReadFailed) => eprintln!(rt; "attrdir: peer {peer} does not answer"),
+            Err(fault) => eprintln!(rt; "attrdir: peer {peer}: fault {}: {fault}", fault.number()),
+        };
     }
 }
 
@@ -144,7 +156,7 @@ fn run<
         log,
         &paths,
         given.pace,
-        &|| tell_listening(rt, given),
+        &Console { rt, given },
     );
     match ran {
         Ok(ran) => print_ran(rt, given, ran),

@@ -1,14 +1,16 @@
 //! The thread that dials the peers of a node.
-ghost use Rattle.std.specs.Prelude.{◌≡◌, ◌<◌};
+ghost use Rattle.std.specs.Prelude.{◌≡◌, ◌<◌, IfErr};
 ghost use Rattle.sb_directory.specs.Serving.{IsLater};
 
+use crate::observer::Observer;
 use crate::rounds::{Paced, Rounds};
 use crate::shared::Shared;
 use crate::sockets::{connect, limit};
 use sb_directory::{ReaderSeat, Served};
 use sb_frames::Steps;
-use sb_session::dial;
-use sb_types::OWNERS_MOST;
+use sb_session::{Ended, dial};
+use sb_types::{Fault, OWNERS_MOST};
+use std::alloc::Global;
 use std::marker::Brand;
 use std::net::Net;
 use std::os::unix::net::UnixStream;
@@ -36,13 +38,13 @@ fn digests_of_all<S: Paced, H: Wait + Drop, Q: Wait>(
     most
 }
 
-/// A session over a connection, of as many rounds as it takes to tell of all owners; whether it ended with a fault.
+/// A session over a connection, of as many rounds as it takes to tell of all owners, and how it ended.
 fn talk<S: Paced, H: Wait + Drop, Q: Wait, K: Ledger>(
     node: &Shared<S, H, Q>,
     stream: UnixStream,
     seat: ReaderSeat<S>,
     blank: Blank,
-) -> (ReaderSeat<S>, bool)
+) -> (ReaderSeat<S>, Result<Ended, Fault>)
     requires name { blank.name ≡ K.name }
     requires parts { blank.parts ≡ K.parts }
     requires some { 0 < blank.parts }
@@ -62,43 +64,105 @@ fn talk<S: Paced, H: Wait + Drop, Q: Wait, K: Ledger>(
         node.pace.max_reads,
         &mut steps,
     );
-    (handler.into_seat(), ended.is_err())
+    (handler.into_seat(), ended)
 }
 
-/// Dials the peer at a path; whether it can't be reached, or the session ended with a fault.
+/// Dials the peer at a path, and how that ended: by `ReadFailed` also where the peer can't be reached.
 fn dial_peer<S: Paced, H: Wait + Drop, Q: Wait + Net>(
     node: &Shared<S, H, Q>,
     path: &str,
     seat: ReaderSeat<S>,
-) -> (ReaderSeat<S>, bool)
+) -> (ReaderSeat<S>, Result<Ended, Fault>)
     ensures { IsLater seat result.0 }
 {
     let Ok(stream) = connect(node.rt, path) else {
-        return (seat, true);
+        return (seat, Err(Fault::ReadFailed));
     };
     if limit(&stream, node.pace.idle).is_err() {
-        return (seat, true);
+        return (seat, Err(Fault::ReadFailed));
     }
     talk::<S, H, Q, Brand>(node, stream, seat, Blank::new(1))
 }
 
-/// Whose turn it is to be dialed, and how many rounds had a fault so far.
+/// What was told of a peer last.
+#[derive(Clone, Copy, PartialEq, Eq, Drop)]
+enum Told {
+    Nothing,
+    /// A session of which all rounds were done.
+    Done,
+    /// A session that the peer ended before.
+    Early,
+    /// The fault of this number.
+    Failed(u8),
+}
+
+impl Told {
+    fn of(ended: &Result<Ended, Fault>) -> Told {
+        match ended {
+            Ok(Ended::RoundsDone) => Told::Done,
+            Ok(_) => Told::Early,
+            Err(fault) => Told::Failed(fault.number()),
+        }
+    }
+}
+
+/// A peer that is dialed.
 #[derive(Drop)]
-struct Turns {
+struct Peer<'a> {
+    path: &'a str,
+    told: Told,
+}
+
+impl Peer<'_> {
+    /// Tells how a round ended, where that is otherwise than was told last.
+    fn tell<O: Observer>(&mut self, observer: &O, ended: &Result<Ended, Fault>) {
+        let told = Told::of(ended);
+        if told != self.told {
+            self.told = told;
+            observer.dialed(self.path, ended);
+        }
+    }
+}
+
+/// Whose turn it is to be dialed, who is told of it, and how many rounds had a fault so far.
+#[derive(Drop)]
+pub(crate) struct Dialer<'a, O> {
+    peers: Vec<Peer<'a>>,
+    observer: &'a O,
     next: usize,
     faults: u64,
 }
 
-impl Turns {
+impl<'a, O: Observer> Dialer<'a, O> {
+    /// It dials those at these paths in turn, and begins with the first. `NoMemory`.
+    pub(crate) fn new(
+        alloc: Global,
+        paths: &[&'a str],
+        observer: &'a O,
+    ) -> Result<Dialer<'a, O>, Fault>
+        ensures { IfErr result (λ fault. fault ≡ Fault.NoMemory) }
+    {
+        let unheard = |path: &&'a str| Peer {
+            path: *path,
+            told: Told::Nothing,
+        };
+        Ok(Dialer {
+            peers: paths.iter().map(unheard).collect(alloc)?,
+            observer,
+            next: 0,
+            faults: 0,
+        })
+    }
+
     /// The next peer; behind the last comes the first. Nobody where there are no peers.
-    fn peer<'a>(&mut self, peers: &[&'a str]) -> Option<&'a str> {
-        let turn = if self.next < peers.len() {
+    fn turn(&mut self) -> Option<&mut Peer<'a>> {
+        let turn = if self.next < self.peers.len() {
             self.next
         } else {
             0
         };
         self.next = turn.saturating_add(1);
-        peers.get(turn).copied()
+        self.peers.get_mut(turn)
     }
 
     /// One round: the next peer is dialed, and then there is a pause.
@@ -107,33 +171,39 @@ impl Turns {
         node: &Shared<S, H, Q>,
         seat: ReaderSeat<S>,
     ) -> ReaderSeat<S> {
-        let (seat, failed) = match self.peer(node.peers) {
-            Some(path) => dial_peer(node, path, seat),
-            None => (seat, false),
-        };
+        let observer = self.observer;
+        let mut sitting = seat;
+        let mut failed = false;
+        if let Some(peer) = self.turn() {
+            let (seat, ended) = dial_peer(node, peer.path, sitting);
+            sitting = seat;
+            failed = ended.is_err();
+            peer.tell(observer, &ended);
+        }
         if failed {
             self.faults = self.faults.saturating_add(1);
         }
         thread::sleep(node.rt, Duration::from_millis(node.pace.pause));
-        seat
+        sitting
     }
-}
 
-/// Makes all rounds; 0 for rounds without end.
-pub(crate) fn dial_peers<S: Paced, H: Wait + Drop, Q: Wait + Net + Clock>(
-    node: &Shared<S, H, Q>,
-    seat: ReaderSeat<S>,
-) -> (ReaderSeat<S>, Rounds<S>) {
-    let mut turns = Turns { next: 0, faults: 0 };
-    let mut sitting = seat;
-    if node.pace.rounds == 0 {
-        for _ in node.rt.forever() {
-            sitting = turns.round(node, sitting);
+    /// Makes all rounds; 0 for rounds without end.
+    pub(crate) fn dial_all<S: Paced, H: Wait + Drop, Q: Wait + Net + Clock>(
+        self,
+        node: &Shared<S, H, Q>,
+        seat: ReaderSeat<S>,
+    ) -> (ReaderSeat<S>, Rounds<S>) {
+        let mut dialer = self;
+        let mut sitting = seat;
+        if node.pace.rounds == 0 {
+            for _ in node.rt.forever() {
+                sitting = dialer.round(node, sitting);
+            }
+            unreachable!();
         }
-        unreachable!();
+        for _ in 0..node.pace.rounds {
+            sitting = dialer.round(node, sitting);
+        }
+        (sitting, Rounds::new(node.pace.rounds, dialer.faults))
     }
-    for _ in 0..node.pace.rounds {
-        sitting = turns.round(node, sitting);
-    }
-    (sitting, Rounds::new(node.pace.rounds, turns.faults))
 }

@@ -3,6 +3,7 @@ ghost use Rattle.std.specs.Prelude.{◌≡◌, false, None, Err, IfOk, IfErr, If
 ghost use Rattle.sb_run.specs.Running as spec;
 ghost use Rattle.sb_run.specs.Running.{IsRunningFault};
 
+use crate::observer::Observer;
 use crate::owner::Owner;
 use crate::site::run_site;
 use sb_log::WriteLog;
@@ -68,11 +69,12 @@ fn refusal<L: WriteLog>(settings: &Settings, log: &L) -> Option<Fault>
     None
 }
 
-/// Runs the node that owns a log. It binds both sockets, each at a path where no file is, and calls `listening`. Then it
+/// Runs the node that owns a log. It binds both sockets, each at a path where no file is, and tells the observer. Then it
 /// serves peers on `sock`, as many at once as there are workers, and its owner on `control`, one connection after another;
 /// and it dials its peers in turn, one a round, for as many exchanges of digests and deltas as it takes to tell of all owners
-/// that it holds: one, where the budget has room for a digest of all. After the last round it ends, once the connections that
-/// are open have ended, and removes what is at the paths of both sockets, also where another put it there since.
+/// that it holds: one, where the budget has room for a digest of all. It tells the observer of a round where the one before
+/// with that peer ended otherwise. After the last round it ends, once the connections that are open have ended, and removes
+/// what is at the paths of both sockets, also where another put it there since.
 ///
 /// A connection ends with a fault where its peer breaks the rules of a session or of the control socket, where it takes
 /// more than `max_reads` reads, or where no byte moved for `idle` milliseconds. That costs this connection alone.
@@ -90,7 +92,7 @@ pub fn run_node<
         + Net<Listener = TcpListener, Stream = TcpStream>
         + Send
         + Sync,
-    F: Fn(),
+    O: Observer + Sync,
 >(
     rt: &R,
     alloc: Global,
@@ -98,9 +100,8 @@ pub fn run_node<
     log: L,
     paths: &Paths,
     pace: Pace,
-    listening: &F,
+    observer: &O,
 ) -> Result<Ran, Fault>
-    requires { F.IsAlwaysCallable listening.now }
     ensures refused { IfSome (spec.refusal settings (L.seen log)) (λ fault. result ≡ Err fault) }
     ensures closed { spec.refusal settings (L.seen log) ≡ None → (L.seen log).is_open ≡ false → result ≡ Err Fault.Closed }
     ensures fault { IfErr result (IsRunningFault settings (L.seen log)) }
@@ -114,7 +115,7 @@ pub fn run_node<
     let table = log.load(alloc)?;
     let core = NodeCore::open(alloc, settings, me, table)?;
     let blank = Blank::new(settings.seats());
-    run_site::<Brand, L, R, F>(
+    run_site::<Brand, L, R, O>(
         rt,
         alloc,
         Opened::new(),
@@ -123,6 +124,6 @@ pub fn run_node<
         Owner::new(log),
         paths,
         pace,
-        listening,
+        observer,
     )
 }

@@ -22,7 +22,6 @@ pub(crate) struct Shared<'a, S: Paced, H: Wait + Drop, Q> {
     pub(crate) doors: &'a Doors<'a>,
     pub(crate) ending: &'a Ending,
     pub(crate) workers: u64,
-    pub(crate) peers: &'a [&'a str],
     pub(crate) pace: Pace,
     ghost paced: { pace.rounds ≡ S.rounds },
 }

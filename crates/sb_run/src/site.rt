@@ -1,8 +1,10 @@
 //! A running node over a directory of its own.
 ghost use Rattle.std.specs.Prelude.{◌≡◌, ◌⊎◌, ◌+◌, ◌≤◌, vec_len, vec_capacity, IsOk, IfOk, IfErr};
 
+use crate::dialing::Dialer;
 use crate::ending::Ending;
 use crate::node::{Pace, Paths, Ran};
+use crate::observer::Observer;
 use crate::owner::Owner;
 use crate::rounds::{Paced, ends};
 use crate::seats::{gather, part};
@@ -35,7 +37,7 @@ pub(crate) fn run_site<
         + Net<Listener = TcpListener, Stream = TcpStream>
         + Send
         + Sync,
-    F: Fn(),
+    O: Observer + Sync,
 >(
     rt: &R,
     alloc: Global,
@@ -45,7 +47,7 @@ pub(crate) fn run_site<
     owner: Owner<L>,
     paths: &Paths,
     pace: Pace,
-    listening: &F,
+    observer: &O,
 ) -> Result<Ran, Fault>
     requires story { opened.seen.book ≡ S.story }
     requires opening { S.opening ≡ core.node }
@@ -55,7 +57,6 @@ pub(crate) fn run_site<
     requires all { (core.settings.seats ≡ S.seats) × (core.settings.seats ≡ S.parts) }
     requires enough { core.settings.workers + 2 ≤ core.settings.seats }
     requires rounds { pace.rounds ≡ S.rounds }
-    requires listening { F.IsAlwaysCallable listening.now }
     ensures rounds { IfOk result (λ ran. ran.rounds ≡ pace.rounds) }
     ensures fault { IfErr result (λ fault. (fault ≡ Fault.NoMemory) ⊎ (fault ≡ Fault.ReadFailed)) }
 {
@@ -69,8 +70,9 @@ pub(crate) fn run_site<
     };
     let (crew, spare) = part(seats, settings.workers() as usize)?;
     let (teller, hearer) = ends::<S>(alloc)?;
+    let dialer = Dialer::new(alloc, paths.peers, observer)?;
     let doors = Doors::bind(rt, paths.sock, paths.control)?;
-    listening();
+    observer.listening();
     let ending = Ending::new();
     let node = Shared {
         rt,
@@ -80,10 +82,9 @@ pub(crate) fn run_site<
         doors: &doors,
         ending: &ending,
         workers: settings.workers(),
-        peers: paths.peers,
         pace,
     };
-    let finished = run_threads(&node, owner, crew, teller, hearer);
+    let finished = run_threads(&node, dialer, owner, crew, teller, hearer);
     doors.remove(rt);
     close(rt, directory, finished?, spare)
 }

@@ -4,8 +4,9 @@ ghost use Rattle.std.specs.Thread.{IsSend, IsSync};
 
 use crate::accepting::Acceptor;
 use crate::attending::attend;
-use crate::dialing::dial_peers;
+use crate::dialing::Dialer;
 use crate::gate::Open;
+use crate::observer::Observer;
 use crate::owner::Owner;
 use crate::pool::{Pooled, serve_pool};
 use crate::rounds::{Hearer, Paced, Rounds, Teller};
@@ -66,12 +67,13 @@ fn tend_sock<
 }
 
 /// Makes all rounds, tells of them, and ends the node.
-fn dial_to_the_end<S: Paced, H: Wait + Drop, Q: Wait + Net + Clock>(
+fn dial_to_the_end<S: Paced, H: Wait + Drop, Q: Wait + Net + Clock, O: Observer>(
     node: &Shared<S, H, Q>,
+    dialer: Dialer<'_, O>,
     seat: ReaderSeat<S>,
     teller: Teller<S>,
 ) -> ReaderSeat<S> {
-    let (seat, rounds) = dial_peers(node, seat);
+    let (seat, rounds) = dialer.dial_all(node, seat);
     teller.tell(node.rt, rounds);
     node.end();
     seat
@@ -84,8 +86,10 @@ pub(crate) fn run_threads<
     L: WriteLog + Drop,
     H: Wait + Drop + Send + Sync,
     Q: Threads + Wait + Clock + Net<Listener = TcpListener, Stream = TcpStream> + Send + Sync,
+    O: Observer + Sync,
 >(
     node: &Shared<S, H, Q>,
+    dialer: Dialer<'_, O>,
     owner: Owner<L>,
     crew: Crew<S>,
     teller: Teller<S>,
@@ -104,14 +108,14 @@ pub(crate) fn run_threads<
         thread::scope_env(),
         node.rt,
         move |scope| -> Result<Finished<S>, Fault>
-            requires { IsSend S.row × IsSync S.row × IsSend H.row × IsSync H.row × IsSend Q.row × IsSync Q.row × (vec_len workers ≡ count) }
+            requires { IsSend S.row × IsSync S.row × IsSend H.row × IsSync H.row × IsSend Q.row × IsSync Q.row × IsSync O.row × (vec_len workers ≡ count) }
             ensures crew { IfOk result (λ finished. vec_len finished.crew.workers ≡ count) }
             ensures memory { IfErr result (λ fault. fault ≡ Fault.NoMemory) }
         {
             let Ok(pool) = scope.spawn_with(AsMany(count), move || tend_sock(node, workers)) else {
                 return Err(Fault::NoMemory);
             };
-            let Ok(line) = scope.spawn(move || dial_to_the_end(node, dialing, teller)) else {
+            let Ok(line) = scope.spawn(move || dial_to_the_end(node, dialer, dialing, teller)) else {
                 node.end();
                 pool.join(node.rt);
                 return Err(Fault::NoMemory);

@@ -2,24 +2,28 @@
 
 use crate::making::{name, new_log, settings};
 use crate::peers::{hears_only, next_of, node_with, put_is_done, reach, talk};
-use crate::{got, same};
-use sb_run::{Pace, Paths, Ran, run_node};
+use crate::{got, holds, same};
+use sb_run::{Nobody, Observer, Pace, Paths, Ran, run_node};
 use sb_session::Ended;
 use sb_types::Fault;
 use std::alloc::Global;
-use std::cell::Cell;
 use std::fs::File;
 use std::net::{Net, TcpListener, TcpStream};
 use std::os::unix::net::{UnixListener, UnixStream};
 use std::process::Abort;
 use std::rt::Files;
-use std::sync::Wait;
+use std::sync::atomic::{AtomicBool, Ordering};
+use std::sync::{Mutex, Wait};
 use std::thread::Threads;
 use std::time::Clock;
+use std::io::{Read, Write};
 use std::{fs, io, thread};
 
 /// The length of the Hello that a says.
 const HELLO: usize = 12;
+
+/// The Hello of the node b of the cluster c2.
+const HELLO_OF_C2: &[u8] = b"\xa7\x01\x00\x00\x00\x06\x01\x02c2\x01b";
 
 fn pace(rounds: u64, idle: u64) -> Pace {
     Pace {
@@ -50,11 +54,11 @@ fn run_a<
         + Send
         + Sync,
 >(rt: &R, alloc: Global, paths: &Paths, pace: Pace) -> Result<Ran, Fault> {
-    run_listening(rt, alloc, paths, pace, &|| ())
+    run_observed(rt, alloc, paths, pace, &Nobody)
 }
 
-/// The same, which calls this once its sockets are bound.
-fn run_listening<
+/// The same, with this observer.
+fn run_observed<
     R: Threads
         + Wait
         + Clock
@@ -63,12 +67,26 @@ fn run_listening<
         + Abort
         + Send
         + Sync,
-    F: Fn(),
->(rt: &R, alloc: Global, paths: &Paths, pace: Pace, listening: &F) -> Result<Ran, Fault>
-    requires { F.IsAlwaysCallable listening.now }
-{
+    O: Observer + Sync,
+>(rt: &R, alloc: Global, paths: &Paths, pace: Pace, observer: &O) -> Result<Ran, Fault> {
     let log = new_log(rt, alloc, b"a");
-    run_node(rt, alloc, settings(rt, 3), log, paths, pace, listening)
+    run_node(rt, alloc, settings(rt, 3), log, paths, pace, observer)
+}
+
+/// Looks whether the sockets are there once the node listens.
+struct Looker<'a> {
+    rt: &'a HostRuntime,
+    paths: &'a Paths<'a>,
+    saw_both: AtomicBool,
+}
+
+impl Observer for Looker<'_> {
+    fn listening(&self) {
+        let both = are_there(self.rt, self.paths) == [true, true];
+        self.saw_both.store(both, Ordering::SeqCst);
+    }
+
+    fn dialed(&self, _peer: &str, _ended: &Result<Ended, Fault>) {}
 }
 
 #[test]
@@ -78,21 +96,19 @@ fn rounds_without_peers(rt: HostRuntime) {
         control: "quiet.control",
         peers: &[],
     };
-    let bound = Cell::new(false);
-    let ran = run_listening(
-        &rt,
-        rt.alloc(),
-        &paths,
-        pace(3, 0),
-        &|| bound.set(are_there(&rt, &paths) == [true, true]),
-    );
+    let looker = Looker {
+        rt: &rt,
+        paths: &paths,
+        saw_both: AtomicBool::new(false),
+    };
+    let ran = run_observed(&rt, rt.alloc(), &paths, pace(3, 0), &looker);
     let whole = Ran {
         rounds: 3,
         faults: 0,
         events: 0,
     };
     same(&rt, &got(&rt, ran), &whole);
-    let met = (bound.get(), are_there(&rt, &paths));
+    let met = (looker.saw_both.load(Ordering::SeqCst), are_there(&rt, &paths));
     same(&rt, &met, &(true, [false, false]));
 }
 
@@ -295,4 +311,77 @@ fn a_connection_that_says_nothing_ends(rt: HostRuntime) {
         events: 2,
     };
     same(&rt, &ran, &whole);
+}
+
+/// Keeps what it is told of peers: the path's last byte, and how the round ended.
+struct Keeper<'a> {
+    rt: &'a HostRuntime,
+    told: Mutex<Vec<(Option<u8>, Result<Ended, Fault>)>>,
+}
+
+impl Observer for Keeper<'_> {
+    fn listening(&self) {}
+
+    fn dialed(&self, peer: &str, ended: &Result<Ended, Fault>) {
+        let mut told = self.told.lock(self.rt);
+        let of = peer.as_bytes().last().copied();
+        got(self.rt, told.push((of, *ended)));
+    }
+}
+
+/// Answers by the Hello of another cluster, and hears until the node hangs up.
+fn answer_as_another_cluster(rt: &impl Abort, dialed: &UnixStream) {
+    let mut writer = dialed;
+    got(rt, writer.write_all(HELLO_OF_C2));
+    let mut reader = dialed;
+    let mut heard = [0u8; 64];
+    for _ in 0..64 {
+        if !reader.read(&mut heard).is_ok_and(|count| count > 0) {
+            return;
+        }
+    }
+}
+
+/// Is dialed as b four times: of another cluster in the first two.
+fn change_the_cluster(rt: &impl Abort, alloc: Global, listener: &UnixListener) {
+    for _ in 0..2 {
+        let dialed = next_of(rt, listener);
+        answer_as_another_cluster(rt, &dialed);
+    }
+    for _ in 0..2 {
+        let dialed = next_of(rt, listener);
+        serve_as_b(rt, alloc, &dialed);
+    }
+}
+
+#[test]
+fn an_observer_is_told_of_each_change_of_a_peer_once(rt: HostRuntime) {
+    let paths = Paths {
+        sock: "told.sock",
+        control: "told.control",
+        peers: &["told.nobody", "told.b"],
+    };
+    let alloc = rt.alloc();
+    let keeper = Keeper {
+        rt: &rt,
+        told: Mutex::new(Vec::new(alloc)),
+    };
+    let listener = got(&rt, UnixListener::bind(&rt, "told.b"));
+    let (ran, ()) = thread::join(
+        &rt,
+        || run_observed(&rt, alloc, &paths, pace(8, 0), &keeper),
+        || change_the_cluster(&rt, alloc, &listener),
+    );
+    got(&rt, fs::remove_file(&rt, "told.b"));
+    same(&rt, &got(&rt, ran).faults, &6);
+    let wanted = [
+        (Some(b'y'), Err(Fault::ReadFailed)),
+        (Some(b'b'), Err(Fault::WrongCluster)),
+        (Some(b'b'), Ok(Ended::RoundsDone)),
+    ];
+    holds(
+        &rt,
+        "each change was told once",
+        keeper.told.lock(&rt).as_slice() == wanted.as_slice(),
+    );
 }

@@ -1,0 +1,24 @@
+//! Who is told of what a running node meets.
+
+use sb_session::Ended;
+use sb_types::Fault;
+
+/// Who is told of what a running node meets, by the thread that met it, which waits until the call is back.
+pub trait Observer {
+    /// Both sockets are bound, and nothing is served or dialed yet. It is told once.
+    fn listening(&self);
+
+    /// How a round with the peer at this path ended: `ReadFailed` also where the peer could not be reached. Each peer's first
+    /// round is told, and then each that ended otherwise than its round before, be it by another fault.
+    fn dialed(&self, peer: &str, ended: &Result<Ended, Fault>);
+}
+
+/// Nobody.
+#[derive(Clone, Copy, Debug)]
+pub struct Nobody;
+
+impl Observer for Nobody {
+    fn listening(&self) {}
+
+    fn dialed(&self, _peer: &str, _ended: &Result<Ended, Fault>) {}
+}
