@@ -265,7 +265,7 @@ workers and 2 more up to 64"
 fn advice(fault: &Fault, place: Place<'_>) -> &'static str {
     match fault {
         Fault::NoMemory =>
-            "end other programs, or give the machine or the process more memory, and try again",
+            "end other programs, or give the machine or the process more memory or threads, and try again",
         Fault::BadName => "give 1 to 32 lower-case letters, digits and -",
         Fault::BadKey => "give at most 64 lower-case letters, digits and the signs . _ / -",
         Fault::BadValue => "give a kind and a word, as: addr 10.0.0.1:80, weight 5, flag true",

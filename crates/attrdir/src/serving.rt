@@ -54,6 +54,11 @@ impl Observer for Console<'_> {
             Err(fault) => eprintln!(rt; "attrdir: peer {peer}: fault {}: {fault}", fault.number()),
         };
     }
+
+    fn conflict(&self, version: u64) {
+        let (rt, fault) = (self.rt, Fault::OwnerConflict(version));
+        let _ = eprintln!(rt; "attrdir: fault {}: {fault}", fault.number());
+    }
 }
 
 /// Prints what the node did. `WriteFailed` where standard output does not take it.
@@ -164,8 +169,8 @@ fn run<
     }
 }
 
-/// Runs a node. `BadName` of its name, then `BadSetting`, then `ReadFailed` where the path of a peer is none of a socket,
-/// before the log is opened; then the faults of `open_log` and of `run_node`, and `WriteFailed` of what is printed at the end.
+/// Runs a node. `BadName` of its name, then `BadSetting`, of too few seats too, then `ReadFailed` where the path of a peer is none
+/// of a socket, before the log is opened; then the faults of `open_log` and of `run_node`, and `WriteFailed` of what is printed at the end.
 pub(crate) fn serve<
     'a,
     R: Threads
@@ -181,6 +186,9 @@ pub(crate) fn serve<
         Ok(settings) => settings,
         Err(fault) => return Err(Failure::at(place_of(rt, &fault, given), fault)),
     };
+    if settings.seats() < settings.workers() + 2 {
+        return Err(Failure::at(Place::Setting(Setting::Seats), Fault::BadSetting));
+    }
     if let Some(path) = unreachable_peer(given) {
         return Err(Failure::at(Place::Peer(path), Fault::ReadFailed));
     }

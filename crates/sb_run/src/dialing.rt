@@ -131,6 +131,8 @@ pub(crate) struct Dialer<'a, O> {
     observer: &'a O,
     next: usize,
     faults: u64,
+    /// Whether it was told that another node writes under this node's name.
+    told_conflict: bool,
 }
 
 impl<'a, O: Observer> Dialer<'a, O> {
@@ -151,6 +153,7 @@ impl<'a, O: Observer> Dialer<'a, O> {
             observer,
             next: 0,
             faults: 0,
+            told_conflict: false,
         })
     }
 
@@ -163,6 +166,21 @@ impl<'a, O: Observer> Dialer<'a, O> {
         };
         self.next = turn.saturating_add(1);
         self.peers.get_mut(turn)
+    }
+
+    /// Tells, once, that another node writes under this node's name.
+    fn tell_conflict<S: Paced, H: Wait + Drop, Q: Wait>(
+        &mut self,
+        node: &Shared<S, H, Q>,
+        seat: &ReaderSeat<S>,
+    ) {
+        if self.told_conflict {
+            return;
+        }
+        if let Some(version) = node.directory.conflict(node.rt, seat) {
+            self.told_conflict = true;
+            self.observer.conflict(version);
+        }
     }
 
     /// One round: the next peer is dialed, and then there is a pause.
@@ -183,6 +201,7 @@ impl<'a, O: Observer> Dialer<'a, O> {
         if failed {
             self.faults = self.faults.saturating_add(1);
         }
+        self.tell_conflict(node, &sitting);
         thread::sleep(node.rt, Duration::from_millis(node.pace.pause));
         sitting
     }

@@ -11,6 +11,9 @@ pub trait Observer {
     /// How a round with the peer at this path ended: `ReadFailed` also where the peer could not be reached. Each peer's first
     /// round is told, and then each that ended otherwise than its round before, be it by another fault.
     fn dialed(&self, peer: &str, ended: &Result<Ended, Fault>);
+
+    /// Another node writes under this node's name, of which this version was seen. It is told once, behind a round.
+    fn conflict(&self, version: u64);
 }
 
 /// Nobody.
@@ -21,4 +24,6 @@ impl Observer for Nobody {
     fn listening(&self) {}
 
     fn dialed(&self, _peer: &str, _ended: &Result<Ended, Fault>) {}
+
+    fn conflict(&self, _version: u64) {}
 }

@@ -87,6 +87,8 @@ impl Observer for Looker<'_> {
     }
 
     fn dialed(&self, _peer: &str, _ended: &Result<Ended, Fault>) {}
+
+    fn conflict(&self, _version: u64) {}
 }
 
 #[test]
@@ -327,6 +329,8 @@ impl Observer for Keeper<'_> {
         let of = peer.as_bytes().last().copied();
         got(self.rt, told.push((of, *ended)));
     }
+
+    fn conflict(&self, _version: u64) {}
 }
 
 /// Answers by the Hello of another cluster, and hears until the node hangs up.
