@@ -144,12 +144,15 @@ impl<'a, O: Observer> Dialer<'a, O> {
     ) -> Result<Dialer<'a, O>, Fault>
         ensures { IfErr result (λ fault. fault ≡ Fault.NoMemory) }
     {
-        let unheard = |path: &&'a str| Peer {
-            path: *path,
-            told: Told::Nothing,
-        };
+        let mut peers = Vec::with_capacity(alloc, paths.len())?;
+        for path in paths {
+            peers.push(Peer {
+                path: *path,
+                told: Told::Nothing,
+            })?;
+        }
         Ok(Dialer {
-            peers: paths.iter().map(unheard).collect(alloc)?,
+            peers,
             observer,
             next: 0,
             faults: 0,
