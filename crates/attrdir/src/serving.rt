@@ -31,6 +31,7 @@ pub(crate) struct Given<'a> {
 }
 
 /// Tells on standard error what the node meets.
+#[derive(Drop)]
 struct Console<'a> {
     rt: &'a HostRuntime,
     given: &'a Given<'a>,

@@ -8,7 +8,7 @@ use sb_session::Ended;
 use sb_types::Fault;
 use std::alloc::Global;
 use std::fs::File;
-use std::net::{Net, TcpListener, TcpStream};
+use std::net::{Net, Shutdown, TcpListener, TcpStream};
 use std::os::unix::net::{UnixListener, UnixStream};
 use std::process::Abort;
 use std::rt::Files;
@@ -24,6 +24,10 @@ const HELLO: usize = 12;
 
 /// The Hello of the node b of the cluster c2.
 const HELLO_OF_C2: &[u8] = b"\xa7\x01\x00\x00\x00\x06\x01\x02c2\x01b";
+
+/// The Hello of the node b of the cluster c1, and a delta in which a has written the weight 5 under w.
+const WRITTEN_AS_A: &[u8] = b"\xa7\x01\x00\x00\x00\x06\x01\x02c1\x01b\xa7\x01\x00\x00\x00\x22\x03\x00\x01\x01a\
+\x00\x00\x00\x00\x00\x00\x00\x00\x00\x01\x01w\x00\x00\x00\x00\x00\x00\x00\x01\x02\x00\x00\x00\x00\x00\x00\x00\x05";
 
 fn pace(rounds: u64, idle: u64) -> Pace {
     Pace {
@@ -74,6 +78,7 @@ fn run_observed<
 }
 
 /// Looks whether the sockets are there once the node listens.
+#[derive(Drop)]
 struct Looker<'a> {
     rt: &'a HostRuntime,
     paths: &'a Paths<'a>,
@@ -315,13 +320,15 @@ fn a_connection_that_says_nothing_ends(rt: HostRuntime) {
     same(&rt, &ran, &whole);
 }
 
-/// Keeps what it is told of peers: the path's last byte, and how the round ended.
-struct Keeper<'a> {
-    rt: &'a HostRuntime,
+/// Keeps what it is told of peers, the path's last byte and how the round ended, and of another node under its name.
+#[derive(Drop)]
+struct Keeper<'a, R> {
+    rt: &'a R,
     told: Mutex<Vec<(Option<u8>, Result<Ended, Fault>)>>,
+    conflicts: Mutex<Vec<u64>>,
 }
 
-impl Observer for Keeper<'_> {
+impl<R: Wait + Abort> Observer for Keeper<'_, R> {
     fn listening(&self) {}
 
     fn dialed(&self, peer: &str, ended: &Result<Ended, Fault>) {
@@ -330,14 +337,27 @@ impl Observer for Keeper<'_> {
         got(self.rt, told.push((of, *ended)));
     }
 
-    fn conflict(&self, _version: u64) {}
+    fn conflict(&self, version: u64) {
+        let mut conflicts = self.conflicts.lock(self.rt);
+        got(self.rt, conflicts.push(version));
+    }
 }
 
-/// Answers by the Hello of another cluster, and hears until the node hangs up.
-fn answer_as_another_cluster(rt: &impl Abort, dialed: &UnixStream) {
-    let mut writer = dialed;
-    got(rt, writer.write_all(HELLO_OF_C2));
-    let mut reader = dialed;
+/// It was told of nothing yet.
+fn new_keeper<R>(rt: &R, alloc: Global) -> Keeper<'_, R> {
+    Keeper {
+        rt,
+        told: Mutex::new(Vec::new(alloc)),
+        conflicts: Mutex::new(Vec::new(alloc)),
+    }
+}
+
+/// Says this and no more where it is dialed next, and hears until the node hangs up.
+fn answer_by(rt: &impl Abort, listener: &UnixListener, says: &[u8]) {
+    let dialed = next_of(rt, listener);
+    let (mut writer, mut reader) = (&dialed, &dialed);
+    got(rt, writer.write_all(says));
+    got(rt, dialed.shutdown(Shutdown::Write));
     let mut heard = [0u8; 64];
     for _ in 0..64 {
         if !reader.read(&mut heard).is_ok_and(|count| count > 0) {
@@ -349,8 +369,7 @@ fn answer_as_another_cluster(rt: &impl Abort, dialed: &UnixStream) {
 /// Is dialed as b four times: of another cluster in the first two.
 fn change_the_cluster(rt: &impl Abort, alloc: Global, listener: &UnixListener) {
     for _ in 0..2 {
-        let dialed = next_of(rt, listener);
-        answer_as_another_cluster(rt, &dialed);
+        answer_by(rt, listener, HELLO_OF_C2);
     }
     for _ in 0..2 {
         let dialed = next_of(rt, listener);
@@ -366,10 +385,7 @@ fn an_observer_is_told_of_each_change_of_a_peer_once(rt: HostRuntime) {
         peers: &["told.nobody", "told.b"],
     };
     let alloc = rt.alloc();
-    let keeper = Keeper {
-        rt: &rt,
-        told: Mutex::new(Vec::new(alloc)),
-    };
+    let keeper = new_keeper(&rt, alloc);
     let listener = got(&rt, UnixListener::bind(&rt, "told.b"));
     let (ran, ()) = thread::join(
         &rt,
@@ -387,5 +403,33 @@ fn an_observer_is_told_of_each_change_of_a_peer_once(rt: HostRuntime) {
         &rt,
         "each change was told once",
         keeper.told.lock(&rt).as_slice() == wanted.as_slice(),
+    );
+}
+
+#[test]
+fn an_observer_is_told_of_another_node_under_the_name_once(rt: HostRuntime) {
+    let paths = Paths {
+        sock: "named.sock",
+        control: "named.control",
+        peers: &["named.b"],
+    };
+    let alloc = rt.alloc();
+    let keeper = new_keeper(&rt, alloc);
+    let listener = got(&rt, UnixListener::bind(&rt, "named.b"));
+    let (ran, ()) = thread::join(
+        &rt,
+        || run_observed(&rt, alloc, &paths, pace(3, 0), &keeper),
+        || {
+            for _ in 0..3 {
+                answer_by(&rt, &listener, WRITTEN_AS_A);
+            }
+        },
+    );
+    got(&rt, fs::remove_file(&rt, "named.b"));
+    same(&rt, &got(&rt, ran).faults, &0);
+    holds(
+        &rt,
+        "the version that was seen was told once",
+        keeper.conflicts.lock(&rt).as_slice() == [1].as_slice(),
     );
 }
