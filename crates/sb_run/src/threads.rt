@@ -115,7 +115,8 @@ pub(crate) fn run_threads<
             let Ok(pool) = scope.spawn_with(AsMany(count), move || tend_sock(node, workers)) else {
                 return Err(Fault::NoMemory);
             };
-            let Ok(line) = scope.spawn(move || dial_to_the_end(node, dialer, dialing, teller)) else {
+            let Ok(line) = scope.spawn(move || dial_to_the_end(node, dialer, dialing, teller))
+            else {
                 node.end();
                 pool.join(node.rt);
                 return Err(Fault::NoMemory);

@@ -8,6 +8,7 @@ use sb_session::Ended;
 use sb_types::Fault;
 use std::alloc::Global;
 use std::fs::File;
+use std::io::{Read, Write};
 use std::net::{Net, Shutdown, TcpListener, TcpStream};
 use std::os::unix::net::{UnixListener, UnixStream};
 use std::process::Abort;
@@ -16,7 +17,6 @@ use std::sync::atomic::{AtomicBool, Ordering};
 use std::sync::{Mutex, Wait};
 use std::thread::Threads;
 use std::time::Clock;
-use std::io::{Read, Write};
 use std::{fs, io, thread};
 
 /// The length of the Hello that a says.
@@ -26,7 +26,8 @@ const HELLO: usize = 12;
 const HELLO_OF_C2: &[u8] = b"\xa7\x01\x00\x00\x00\x06\x01\x02c2\x01b";
 
 /// The Hello of the node b of the cluster c1, and a delta in which a has written the weight 5 under w.
-const WRITTEN_AS_A: &[u8] = b"\xa7\x01\x00\x00\x00\x06\x01\x02c1\x01b\xa7\x01\x00\x00\x00\x22\x03\x00\x01\x01a\
+const WRITTEN_AS_A: &[u8] =
+    b"\xa7\x01\x00\x00\x00\x06\x01\x02c1\x01b\xa7\x01\x00\x00\x00\x22\x03\x00\x01\x01a\
 \x00\x00\x00\x00\x00\x00\x00\x00\x00\x01\x01w\x00\x00\x00\x00\x00\x00\x00\x01\x02\x00\x00\x00\x00\x00\x00\x00\x05";
 
 fn pace(rounds: u64, idle: u64) -> Pace {
@@ -115,7 +116,10 @@ fn rounds_without_peers(rt: HostRuntime) {
         events: 0,
     };
     same(&rt, &got(&rt, ran), &whole);
-    let met = (looker.saw_both.load(Ordering::SeqCst), are_there(&rt, &paths));
+    let met = (
+        looker.saw_both.load(Ordering::SeqCst),
+        are_there(&rt, &paths),
+    );
     same(&rt, &met, &(true, [false, false]));
 }
 
