@@ -1,3 +1,4 @@
 pub mod Numbers
 pub mod Handing
 pub mod Pooling
+pub mod Enduring

@@ -1,0 +1,65 @@
+//! What follows from the definitions alone. The function does nothing: each clause is a law.
+ghost use Rattle.std.specs.Prelude.{◌≡◌, ℕ, ◌≤◌, true, List, length, Option, Some, Ok};
+ghost use Rattle.std.specs.List.{flat_map};
+ghost use mathlib.Core.List.{IsPrefix};
+ghost use Rattle.sb_types.specs.declared.entry.Slot.TheVariants.{Set};
+ghost use Rattle.sb_types.specs.declared.entry.Write.{Write};
+ghost use Rattle.sb_types.specs.Value.{Value};
+ghost use Rattle.sb_types.specs.Records.{Entry, Block, Settings};
+ghost use Rattle.sb_types.specs.Runs.{Stands, shown_slot};
+ghost use Rattle.sb_types.specs.Writes.{Written, Superseded, Honest};
+ghost use Rattle.sb_holdings.specs.Held.{shown_of};
+ghost use Rattle.sb_holdings.specs.Nodes.{Node, AreNodeEvents, AllTrueAt, IsNode, NodeHolds, NodeLater};
+ghost use Rattle.sb_digest.specs.Digests.{Digest, covers, held_in};
+ghost use Rattle.sb_session.specs.Handlers.{tells, gives};
+ghost use Rattle.sb_views.specs.declared.event.Event.{Event};
+ghost use Rattle.sb_views.specs.Pages.{Page, upto_of, row_of};
+ghost use Rattle.sb_views.specs.Stories.{steps_of, node_after};
+ghost use Rattle.sb_views.specs.Views.{IsView};
+ghost use Rattle.sb_directory.specs.Serving.{AnswersAfter};
+
+use sb_digest::digests_are_true;
+use sb_holdings::{nodes_hold, reads_are_true, runs_join};
+use sb_node::answers_are_honest;
+use sb_views::views_show_what_is_held;
+
+/// What one running node gives is true and exact where what it was told is true. Said of all lists of writes, one for each
+/// owner, of each opening node that holds only what is true of them, and of each story whose own writes are the owner's and
+/// whose blocks are honest, whatever their ends: what a view of the node after the story has under an owner and a key was
+/// written by that owner under that version (`given`); a write whose key was not written again, at or below the version
+/// that the view shows of its owner, is what the view has under its key, or nothing for a removal (`exact`); each block of a
+/// delta that the node gives after the story is honest (`honest`); and a digest that it tells says of each owner that it
+/// covers how far the node holds it (`told`), which is no further than was written (`reached`). After more events, true or
+/// not, no version is lower (`later`).
+///
+/// That the events are true is a premise: it is what peers give whose sessions hear only what is true
+/// (`sessions_keep_truth` of `sb_node`). A node that opens with what its log holds is such an opening node
+/// (`opened_nodes_hold` and `holdings_make_nodes` of `sb_holdings`). Nothing here speaks of many nodes.
+pub fn running_nodes_keep_truth()
+    ensures given { (writes : List ℕ → List Write) (opening : Node) (story : List Event) (page : Page) (owner key : List ℕ) (value : Value) (version : ℕ) →
+        IsNode opening → NodeHolds writes opening → AreNodeEvents (flat_map steps_of story) → AllTrueAt writes opening.held.me (flat_map steps_of story) →
+        IsView (node_after opening story) page → row_of page owner key ≡ Some (value, version) →
+        Written (writes owner) (record { key = key; version = version; slot = Set value }) }
+    ensures exact { (writes : List ℕ → List Write) (opening : Node) (story : List Event) (page : Page) (owner : List ℕ) (e : Entry) →
+        IsNode opening → NodeHolds writes opening → AreNodeEvents (flat_map steps_of story) → AllTrueAt writes opening.held.me (flat_map steps_of story) →
+        IsView (node_after opening story) page → Written (writes owner) e → (Superseded (writes owner) e → ⊥) → e.version ≤ upto_of page owner →
+        row_of page owner e.key ≡ shown_slot e.version e.slot }
+    ensures honest { (writes : List ℕ → List Write) (opening : Node) (settings : Settings) (story : List Event) (digest : Digest) (blocks : List Block) (b : Block) →
+        IsNode opening → NodeHolds writes opening → AreNodeEvents (flat_map steps_of story) → AllTrueAt writes opening.held.me (flat_map steps_of story) →
+        AnswersAfter opening settings story (gives digest (Ok blocks)) → Stands blocks b → Honest (writes b.owner) b }
+    ensures told { (opening : Node) (settings : Settings) (story : List Event) (from : Option (List ℕ)) (want : Bool) (digest : Digest) (owner : List ℕ) →
+        AnswersAfter opening settings story (tells from want (Ok digest)) → covers digest owner ≡ true →
+        held_in digest owner ≡ (shown_of (node_after opening story).held owner).held }
+    ensures reached { (writes : List ℕ → List Write) (opening : Node) (settings : Settings) (story : List Event) (from : Option (List ℕ)) (want : Bool) (digest : Digest) (owner : List ℕ) →
+        IsNode opening → NodeHolds writes opening → AreNodeEvents (flat_map steps_of story) → AllTrueAt writes opening.held.me (flat_map steps_of story) →
+        AnswersAfter opening settings story (tells from want (Ok digest)) → covers digest owner ≡ true → held_in digest owner ≤ length (writes owner) }
+    ensures later { (opening : Node) (story more : List Event) →
+        IsNode opening → AreNodeEvents (flat_map steps_of more) → IsPrefix story more → NodeLater (node_after opening story) (node_after opening more) }
+{
+    nodes_hold();
+    runs_join();
+    reads_are_true();
+    views_show_what_is_held();
+    answers_are_honest();
+    digests_are_true();
+}
