@@ -1,8 +1,9 @@
 -- What a run of the machine keeps, claim by claim.
-use Rattle.std.specs.Prelude.{◌≡◌, ℕ, ◌≤◌, List, [], ◌∷◌, length, Option, Some, IfSome, Result, Ok}
+use Rattle.std.specs.Prelude.{◌≡◌, ◌⊎◌, ℕ, ◌≤◌, false, List, [], ◌∷◌, ◌++◌, length, map, Option, Some, None, IfSome, Result, Ok, Err}
 use Rattle.sb_types.specs.declared.entry.Slot.TheVariants.{Set}
 use Rattle.sb_types.specs.declared.entry.Write.{Write}
 use Rattle.sb_types.specs.declared.fault.Fault.{Fault}
+use Rattle.sb_types.specs.declared.fault.Fault.TheVariants.{Closed}
 use Rattle.sb_types.specs.Value.{Value}
 use Rattle.sb_types.specs.Records.{Entry, Block}
 use Rattle.sb_types.specs.Runs.{Stands, shown_slot, shown_at}
@@ -12,16 +13,19 @@ use Rattle.sb_holdings.specs.Held.{shown_of}
 use Rattle.sb_holdings.specs.Ends.{JoinsOn}
 use Rattle.sb_holdings.specs.Nodes.{Node, node_after_block, NodeLater}
 use Rattle.sb_holdings.specs.TakenUp.{IsTakenUp}
+use Rattle.sb_codec.specs.declared.message.Message.{Message}
+use Rattle.sb_frames.specs.Streams.{Stream, open_with, shut, Splits}
 use Rattle.sb_node.specs.Calls.{Call, TookOwn, Applied}
 use Rattle.sb_world.specs.declared.event.Event.{Event}
 use Rattle.sb_world.specs.declared.event.Event.TheVariants.{Piece, Read}
 use Rattle.sb_world.specs.declared.event.Answer.{Answer}
 use Rattle.sb_world.specs.declared.event.Answer.TheVariants as answers
 use Rattle.sb_world.specs.declared.event.Item.{Item}
-use Rattle.sb_world.specs.Connections.{connection_at}
+use Rattle.sb_world.specs.Connections.{Connection, connection_at}
 use Rattle.sb_world.specs.Places.{Place, Seen, place_at, IsClean}
-use Rattle.sb_world.specs.Hearing.{Heard, Listener, Hears, IsFront, items_of, calls_in}
-use Rattle.sb_world.specs.Connecting.{listener}
+use Rattle.sb_world.specs.Hearing.{Heard, Listener, Hears, Tells, calls_in}
+use Rattle.sb_world.specs.Connecting.{listener, heard_by, connections_after}
+use Rattle.sb_world.specs.Turns.{with_core}
 use Rattle.sb_world.specs.States.{State, Run, FitsWorld, last_of}
 
 -- ---- of each state, and of each step
@@ -69,13 +73,39 @@ AllTakenUp node [] new = new ≡ node
 AllTakenUp node (TookOwn e ∷ calls) new = ⊥
 AllTakenUp node (Applied blocks ends ∷ calls) new = (mid : Node) × AreTakenUp node blocks ends mid × AllTakenUp mid calls new
 
--- where a piece comes, its node takes the messages that have come whole, tells of them, and takes up the deltas among them
+-- what has come on a stream is the frames of these messages, and then a rest that begins with no message's frame
+abbrev pub HaveCome : Stream → List Message → Type 0
+HaveCome (open_with came) messages = (rest : List ℕ) × Splits came messages rest
+HaveCome shut messages = ⊥
+
+-- what becomes of a piece: the messages that have come whole are heard, and each delta among them is taken up
+pub record TakesPiece (old : Seen) (number count : ℕ) (c : Connection) (p : Place) (answer : Result Answer Fault) (new : Seen) : Type 0 where
+  pub heard : List Heard
+  pub mid : Listener
+  pub last : Listener
+  pub fault : Option Fault
+  pub items : List Item
+  pub frames : List (List ℕ)
+  -- each in its turn
+  pub hears : Hears (listener p.core c count) heard mid
+  -- all of them, unless a fault is told
+  pub whole : fault ≡ None → HaveCome (listener p.core c count).stream (map (λ (h : Heard). h.message) heard)
+  -- the next is then refused with that fault, or memory was wanting
+  pub tells : Tells (length old.sent) heard mid last fault items frames
+  pub answered : answer ≡ Ok (answers.Delivered items fault)
+  pub sent : new.sent ≡ old.sent ++ frames
+  -- what has not come whole is kept, where no fault closes the connection
+  pub left : new.connections ≡ connections_after fault old.connections number (heard_by c count last)
+  -- and the node is as the deltas left it
+  pub node : place_at new.places c.me ≡ Some (with_core p last.core)
+  pub taken : AllTakenUp p.core.node (calls_in heard) last.core.node
+
+-- each piece of a connection is taken so by its node, unless that is down
 abbrev pub JoinedIsTaken : State → Event → Result Answer Fault → State → Type 0
 JoinedIsTaken old event answer new =
-    (number count : ℕ) (items : List Item) (fault : Option Fault) → event ≡ Piece number count → answer ≡ Ok (answers.Delivered items fault) →
-    IfSome (connection_at old.now.connections number) (λ c. IfSome (place_at old.now.places c.me) (λ p. IfSome (place_at new.now.places c.me) (λ q.
-    (heard : List Heard) × (last : Listener) × Hears (listener p.core c count) heard last × IsFront items (items_of (length old.now.sent) heard)
-    × AllTakenUp p.core.node (calls_in heard) q.core.node)))
+    (number count : ℕ) → event ≡ Piece number count →
+    IfSome (connection_at old.now.connections number) (λ c. IfSome (place_at old.now.places c.me) (λ p.
+    ((p.is_up ≡ false) × (answer ≡ Err Closed)) ⊎ TakesPiece old.now number count c p answer new.now))
 
 -- ---- within a node's run no version falls
 
