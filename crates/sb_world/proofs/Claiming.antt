@@ -46,7 +46,7 @@ use Rattle.sb_world.specs.Turns.{Effect, Turn}
 use Rattle.sb_world.specs.Steps.{StepAt, seen_after}
 use Rattle.sb_world.specs.States.{State, Moves, remembered}
 use Rattle.sb_world.specs.Truth.{IsTruePlace, IsTrueState}
-use Rattle.sb_world.specs.Claims.{GivenIsWritten, IsExact, AreTakenUp, AllTakenUp, HaveCome, TakesPiece, JoinedIsTaken, IsWithinBudget}
+use Rattle.sb_world.specs.Claims.{GivenIsWritten, IsExact, IsShown, ReadIsExact, AreTakenUp, AllTakenUp, HaveCome, TakesPiece, JoinedIsTaken, IsWithinBudget}
 use Rattle.sb_world.proofs.Names.{found_me, placed_there}
 use Rattle.sb_world.proofs.Going.{grown, written_on}
 use Rattle.sb_world.proofs.Acting.{does_same}
@@ -78,26 +78,39 @@ ok_answer answer = Ok answer
 shown_is : (a b : Option (Value × ℕ)) → ok_answer (answers.Shown a) ≡ ok_answer (answers.Shown b) → a ≡ b
 shown_is a b e = ap (λ (r : Result Answer Fault). given_or a (answer_or (answers.Shown a) r)) e
 
+-- a node that answered with this holds it
+given_is : (found held : Option (Value × ℕ)) (p : Place) → IsShown held p (ok_answer (answers.Shown found)) → held ≡ found
+given_is found held p is =
+    ⊎_elim
+    (λ same. sym (shown_is found held same))
+    (λ others. ⊎_elim (λ memory. let no : ok_answer (answers.Shown found) ≡ Err NoMemory = memory in absurd (cc)) (λ down. let no : ok_answer (answers.Shown found) ≡ Err Closed = down.1 in absurd (cc)) others)
+    is
+
+true_at : (s : State) → IsTrueState s → (name : List ℕ) (p : Place) → place_at s.now.places name ≡ Some p → IsTruePlace s.writes (s.past p.me) s.now.settings p
+true_at s t name p is = subst (λ (o : Option Place). IfSome o (λ r. IsTruePlace s.writes (s.past r.me) s.now.settings r)) is (t.places name)
+
+module _ (old : State) (me owner key : List ℕ) (answer : Result Answer Fault) (effect : Effect) where
+  -- what is shown is what the node holds
+  read_acts : (p : Place) (q : Place) (conns : List Connection) (frames : List (List ℕ)) (b : Bool) → p.is_up ≡ b →
+      ActsWhere b (Read me owner key) p old.now.connections old.now.sent (record { answer = answer; effect = effect; place = q; frames = frames }) conns →
+      IsShown (shown_at key (shown_of p.core.node.held owner).entries) p answer
+  read_acts p q conns frames false down is = inr (inr (down, ap (λ (turn : Turn). turn.answer) is.0))
+  read_acts p q conns frames true up acts = ⊎_elim (λ is. inr (inl (ap (λ (turn : Turn). turn.answer) is))) (λ is. inl (ap (λ (turn : Turn). turn.answer) is)) acts.0
+
+  read_shown : (found : Option Place) (seen : Seen) → StepAt found old.now (Read me owner key) answer effect seen → IfSome found (λ p. IsShown (shown_at key (shown_of p.core.node.held owner).entries) p answer)
+  read_shown None seen step = tt
+  read_shown (Some p) seen step = read_acts p step.0 step.1 step.2 p.is_up refl step.3
+
 module _ (old : State) (me owner key : List ℕ) (value : Value) (version : ℕ) (effect : Effect) (t : IsTrueState old) where
   abbrev given : Result Answer Fault
   given = ok_answer (answers.Shown (Some (value, version)))
 
-  -- what was shown is what the node holds
-  read_acts : (p : Place) (q : Place) (conns : List Connection) (frames : List (List ℕ)) (b : Bool) →
-      ActsWhere b (Read me owner key) p old.now.connections old.now.sent (record { answer = given; effect = effect; place = q; frames = frames }) conns →
-      shown_at key (shown_of p.core.node.held owner).entries ≡ Some (value, version)
-  read_acts p q conns frames false is = let no : given ≡ Err Closed = ap (λ (turn : Turn). turn.answer) is.0 in absurd (cc)
-  read_acts p q conns frames true acts =
-      ⊎_elim
-      (λ is. let no : given ≡ Err NoMemory = ap (λ (turn : Turn). turn.answer) is in absurd (cc))
-      (λ is. sym (shown_is (Some (value, version)) (shown_at key (shown_of p.core.node.held owner).entries) (ap (λ (turn : Turn). turn.answer) is)))
-      acts.0
-
   read_given : (found : Option Place) → place_at old.now.places me ≡ found → (seen : Seen) → StepAt found old.now (Read me owner key) given effect seen → Written (old.writes owner) (record { key = key; version = version; slot = Set value })
   read_given None is seen step = let no : given ≡ Ok answers.Nothing = step.0 in absurd (cc)
   read_given (Some p) is seen step =
-      let place : IsTruePlace old.writes (old.past p.me) old.now.settings p = subst (λ (o : Option Place). IfSome o (λ r. IsTruePlace old.writes (old.past r.me) old.now.settings r)) is (t.places me) in
-      read_written (old.writes owner) (shown_of p.core.node.held owner) key value version (place.holds owner).shown (read_acts p step.0 step.1 step.2 _ step.3)
+      let held = shown_of p.core.node.held owner in
+      read_written (old.writes owner) held key value version ((true_at old t me p is).holds owner).shown
+      (given_is (Some (value, version)) (shown_at key held.entries) p (read_shown old me owner key given effect (Some p) seen step))
 
 -- what was written is written afterwards
 later_written : (old : State) (found : Option Place) (effect : Effect) (seen : Seen) (owner : List ℕ) (e : Entry) → Written (old.writes owner) e → Written ((remembered old found effect seen).writes owner) e
@@ -117,6 +130,15 @@ given_written old event answer new moves t u me owner key value version is_event
 pub state_exact : (s : State) → IsTrueState s → IsExact s
 state_exact s t name = some_map _ _ (place_at s.now.places name)
     (λ p is place owner e written last within. read_exact (s.writes owner) (shown_of p.core.node.held owner) e (place.is owner).shown (place.holds owner).shown written last within) (t.places name)
+
+pub reads_exact : (old : State) (event : Event) (answer : Result Answer Fault) (new : State) → Moves old event answer new → IsTrueState old → IsTrueState new → ReadIsExact old event answer new
+reads_exact old event answer new moves t u me owner e is_event written last =
+    let step = subst (λ (x : Event). StepAt (place_for old.now x) old.now x answer moves.0 new.now) is_event moves.1 in
+    some_map _ _ (place_at old.now.places me)
+    (λ p is shown within.
+    let place = true_at old t me p is in
+    subst (λ (found : Option (Value × ℕ)). IsShown found p answer) (read_exact (old.writes owner) (shown_of p.core.node.held owner) e (place.is owner).shown (place.holds owner).shown written last within) shown)
+    (read_shown old me owner e.key answer moves.0 (place_at old.now.places me) new.now step)
 
 pub state_within : (s : State) → IsTrueState s → IsWithinBudget s
 state_within s t bytes stands = (t.frames bytes stands).fits

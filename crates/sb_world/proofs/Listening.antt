@@ -32,7 +32,7 @@ use Rattle.sb_node.specs.Talks.{taken_of, IsReply, AreEnds, TrueMessage}
 use Rattle.sb_node.proofs.Sessions.{up_unless, taken, refused, replied, ended}
 use Rattle.sb_node.proofs.Told.{Laws, asked_in_true, calls_are, calls_true, heard_kept, heard_said}
 use Rattle.sb_world.specs.declared.event.Item.{Item}
-use Rattle.sb_world.specs.Hearing.{Listener, Heard, HearsNext, Hears, Ends, Tells, IsFront, calls_in, frames_of, items_of}
+use Rattle.sb_world.specs.Hearing.{Listener, Heard, HearsNext, Hears, Ends, Tells, calls_in, frames_of}
 use Rattle.sb_world.specs.Lines.{IsLine}
 use Rattle.sb_world.specs.Truth.{IsTrueFrame}
 use Rattle.sb_world.proofs.Keeping.{same_me_all}

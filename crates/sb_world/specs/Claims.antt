@@ -3,7 +3,7 @@ use Rattle.std.specs.Prelude.{◌≡◌, ◌⊎◌, ℕ, ◌≤◌, false, List,
 use Rattle.sb_types.specs.declared.entry.Slot.TheVariants.{Set}
 use Rattle.sb_types.specs.declared.entry.Write.{Write}
 use Rattle.sb_types.specs.declared.fault.Fault.{Fault}
-use Rattle.sb_types.specs.declared.fault.Fault.TheVariants.{Closed}
+use Rattle.sb_types.specs.declared.fault.Fault.TheVariants.{NoMemory, Closed}
 use Rattle.sb_types.specs.Value.{Value}
 use Rattle.sb_types.specs.Records.{Entry, Block}
 use Rattle.sb_types.specs.Runs.{Stands, shown_slot, shown_at}
@@ -56,6 +56,16 @@ IsExactAt writes p =
 
 abbrev pub IsExact : State → Type 0
 IsExact s = (name : List ℕ) → IfSome (place_at s.now.places name) (IsExactAt s.writes)
+
+-- a reader is shown this, unless the node is down or memory is wanting
+abbrev pub IsShown : Option (Value × ℕ) → Place → Result Answer Fault → Type 0
+IsShown found p answer = (answer ≡ Ok (answers.Shown found)) ⊎ ((answer ≡ Err NoMemory) ⊎ ((p.is_up ≡ false) × (answer ≡ Err Closed)))
+
+-- a read of a key that was last written at or below what its node holds of the owner shows exactly that write
+abbrev pub ReadIsExact : State → Event → Result Answer Fault → State → Type 0
+ReadIsExact old event answer new =
+    (me owner : List ℕ) (e : Entry) → event ≡ Read me owner e.key → Written (old.writes owner) e → (Superseded (old.writes owner) e → ⊥) →
+    IfSome (place_at old.now.places me) (λ p. e.version ≤ (shown_of p.core.node.held owner).held → IsShown (shown_slot e.version e.slot) p answer)
 
 -- ---- whatever joins on is taken up
 
@@ -132,6 +142,7 @@ IsWithinBudget s = (bytes : List ℕ) → Stands s.now.sent bytes → length byt
 
 pub record Promise (old : State) (events : List Event) (answers : List (Result Answer Fault)) (states : List State) : Type 0 where
   pub given : EachStep GivenIsWritten old events answers states
+  pub reads : EachStep ReadIsExact old events answers states
   pub exact : EachState IsExact old states
   pub taken : EachStep JoinedIsTaken old events answers states
   pub later : NothingFalls old states
