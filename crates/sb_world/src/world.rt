@@ -142,7 +142,7 @@ impl<L: WriteLog + Drop> World<L> {
     /// than the settings'; then the faults of `load`, and `NoMemory`.
     pub fn new(alloc: Global, settings: Settings, logs: Vec<L>) -> Result<World<L>, Fault>
         ensures refused { IfSome (refusal settings (map L.seen logs.items)) (λ fault. result ≡ Err fault) }
-        ensures why { IfErr result (λ fault. IsMakingFault (refusal settings (map L.seen logs.items)) fault) }
+        ensures why { IfErr result (λ fault. IsMakingFault (refusal settings (map L.seen logs.items)) (map L.seen logs.items) fault) }
         ensures settings { IfOk result (λ w. w.settings ≡ settings) }
         ensures names { IfOk result (λ w. map (λ (p : spec.Place). p.me) w.places ≡ map (λ (log : records.Log). log.owner) (map L.seen logs.items)) }
         ensures logs { IfOk result (λ w. HaveNodes (map L.seen logs.items) w.places) }
