@@ -253,8 +253,8 @@ module _ (old : State) (number count : ℕ) (answer : Result Answer Fault) (effe
           answered = ap (λ (x : Turn). x.answer) d.turn_is;
           sent = ap (λ (s : Seen). s.sent) after ∙ ap (λ (x : Turn). old.now.sent ++ x.frames) d.turn_is;
           left = ap (λ (s : Seen). s.connections) after ∙ d.left;
-          node = there ∙ ap (λ (x : Turn). Some x.place) d.turn_is;
           taken = subst (AllTakenUp p.core.node (calls_in d.heard)) (ap (λ (x : Core). x.node) (sym core)) (all_taken (listener p.core c count) d.heard d.mid d.hears);
+          node = there ∙ ap (λ (x : Turn). Some x.place) d.turn_is;
         }
 
     acts_taken : connection_at old.now.connections number ≡ Some c → (b : Bool) → p.is_up ≡ b → ActsWhere b (Piece number count) p old.now.connections old.now.sent turn conns → Claim c seen p

@@ -61,11 +61,15 @@ IsExact s = (name : List ℕ) → IfSome (place_at s.now.places name) (IsExactAt
 abbrev pub IsShown : Option (Value × ℕ) → Place → Result Answer Fault → Type 0
 IsShown found p answer = (answer ≡ Ok (answers.Shown found)) ⊎ ((answer ≡ Err NoMemory) ⊎ ((p.is_up ≡ false) × (answer ≡ Err Closed)))
 
--- a read of a key that was last written at or below what its node holds of the owner shows exactly that write
+-- a read of a key that was last written at or below the version up to which its node holds the owner shows exactly that write
 abbrev pub ReadIsExact : State → Event → Result Answer Fault → State → Type 0
 ReadIsExact old event answer new =
     (me owner : List ℕ) (e : Entry) → event ≡ Read me owner e.key → Written (old.writes owner) e → (Superseded (old.writes owner) e → ⊥) →
     IfSome (place_at old.now.places me) (λ p. e.version ≤ (shown_of p.core.node.held owner).held → IsShown (shown_slot e.version e.slot) p answer)
+
+-- so it is of each read, and of look-up in each state
+abbrev pub AreExact : State → List Event → List (Result Answer Fault) → List State → Type 0
+AreExact old events answers states = EachStep ReadIsExact old events answers states × EachState IsExact old states
 
 -- ---- whatever joins on is taken up
 
@@ -88,7 +92,7 @@ abbrev pub HaveCome : Stream → List Message → Type 0
 HaveCome (open_with came) messages = (rest : List ℕ) × Splits came messages rest
 HaveCome shut messages = ⊥
 
--- what becomes of a piece: the messages that have come whole are heard, and each delta among them is taken up
+-- the messages of a piece that have come whole are heard, and each delta among them is taken up
 pub record TakesPiece (old : Seen) (number count : ℕ) (c : Connection) (p : Place) (answer : Result Answer Fault) (new : Seen) : Type 0 where
   pub heard : List Heard
   pub mid : Listener
@@ -96,21 +100,22 @@ pub record TakesPiece (old : Seen) (number count : ℕ) (c : Connection) (p : Pl
   pub fault : Option Fault
   pub items : List Item
   pub frames : List (List ℕ)
-  -- each in its turn
+  -- each is heard in its turn
   pub hears : Hears (listener p.core c count) heard mid
-  -- all of them, unless a fault is told
+  -- where no fault is told these are all that have come whole
   pub whole : fault ≡ None → HaveCome (listener p.core c count).stream (map (λ (h : Heard). h.message) heard)
-  -- the next is then refused with that fault, or memory was wanting
+  -- a fault is that of the next, or memory was wanting
   pub tells : Tells (length old.sent) heard mid last fault items frames
+  -- what is told is the answer, and what is replied is sent
   pub answered : answer ≡ Ok (answers.Delivered items fault)
   pub sent : new.sent ≡ old.sent ++ frames
-  -- what has not come whole is kept, where no fault closes the connection
+  -- what has not come whole is kept, and a fault closes the connection
   pub left : new.connections ≡ connections_after fault old.connections number (heard_by c count last)
-  -- and the node is as the deltas left it
-  pub node : place_at new.places c.me ≡ Some (with_core p last.core)
+  -- each delta is taken up, and so the node is left
   pub taken : AllTakenUp p.core.node (calls_in heard) last.core.node
+  pub node : place_at new.places c.me ≡ Some (with_core p last.core)
 
--- each piece of a connection is taken so by its node, unless that is down
+-- each piece of a connection is taken so at its node, unless that is down
 abbrev pub JoinedIsTaken : State → Event → Result Answer Fault → State → Type 0
 JoinedIsTaken old event answer new =
     (number count : ℕ) → event ≡ Piece number count →
@@ -142,8 +147,7 @@ IsWithinBudget s = (bytes : List ℕ) → Stands s.now.sent bytes → length byt
 
 pub record Promise (old : State) (events : List Event) (answers : List (Result Answer Fault)) (states : List State) : Type 0 where
   pub given : EachStep GivenIsWritten old events answers states
-  pub reads : EachStep ReadIsExact old events answers states
-  pub exact : EachState IsExact old states
+  pub exact : AreExact old events answers states
   pub taken : EachStep JoinedIsTaken old events answers states
   pub later : NothingFalls old states
   pub budget : EachState IsWithinBudget old states

@@ -13,7 +13,7 @@ ghost use Rattle.sb_world.specs.Making.{refusal, IsMakingFault, HaveNodes, IsMad
 ghost use Rattle.sb_types.specs.declared.entry.Write.{Write};
 ghost use Rattle.sb_log.specs.Records as records;
 ghost use Rattle.sb_world.specs.Truth.{IsTrueState};
-ghost use Rattle.sb_world.specs.Claims.{EachState, EachStep, GivenIsWritten, ReadIsExact, IsExact, JoinedIsTaken, NothingFalls, IsWithinBudget, OnEachRun};
+ghost use Rattle.sb_world.specs.Claims.{EachState, EachStep, GivenIsWritten, AreExact, JoinedIsTaken, NothingFalls, IsWithinBudget, OnEachRun};
 
 use crate::connection::{Connection, drop_those_of, node_of};
 use crate::event::{Answer, Event};
@@ -206,9 +206,8 @@ impl<L: WriteLog> World<L> {
     ///
     /// For all that the owners wrote before, and for every list of events, as long as each log's store keeps its promise:
     /// what a reader is given was written by its owner under that version (`given`); a reader that holds an owner up to a
-    /// version gets of each key that was last written at or below it exactly that write (`reads`; and in each state look-up
-    /// finds it, `exact`); whatever joins on is taken up (`taken`); within a node's run no version falls (`later`); no
-    /// frame exceeds its budget (`budget`).
+    /// version gets of each key that was last written at or below it exactly that write (`exact`); whatever joins on is
+    /// taken up (`taken`); within a node's run no version falls (`later`); no frame exceeds its budget (`budget`).
     pub fn run(&mut self, events: &[Event]) -> Result<Vec<Result<Answer, Fault>>, Fault>
         ensures passes { IfOk result (λ answers. Passes self.old events.now answers.items self.new) }
         ensures err { OnErr result (self.new ≡ self.old) }
@@ -222,8 +221,7 @@ impl<L: WriteLog> World<L> {
         // And this holds of each such run, as long as each log's store keeps its promise.
         ensures sound { IfOk result (λ answers. OnEachRun self.old events.now answers.items (λ old states. EachState IsTrueState old states)) }
         ensures given { IfOk result (λ answers. OnEachRun self.old events.now answers.items (λ old states. EachStep GivenIsWritten old events.now answers.items states)) }
-        ensures reads { IfOk result (λ answers. OnEachRun self.old events.now answers.items (λ old states. EachStep ReadIsExact old events.now answers.items states)) }
-        ensures exact { IfOk result (λ answers. OnEachRun self.old events.now answers.items (λ old states. EachState IsExact old states)) }
+        ensures exact { IfOk result (λ answers. OnEachRun self.old events.now answers.items (λ old states. AreExact old events.now answers.items states)) }
         ensures taken { IfOk result (λ answers. OnEachRun self.old events.now answers.items (λ old states. EachStep JoinedIsTaken old events.now answers.items states)) }
         ensures later { IfOk result (λ answers. OnEachRun self.old events.now answers.items (λ old states. NothingFalls old states)) }
         ensures budget { IfOk result (λ answers. OnEachRun self.old events.now answers.items (λ old states. EachState IsWithinBudget old states)) }

@@ -12,13 +12,10 @@ pub returns-clause-given : goal.returns-clause-given
 returns-clause-given c = λ world events answers old states fits run clean.
     each_step GivenIsWritten given_written old events answers states run (all_true_states (record { holds = c.calls_keep_truth.ensures.holds; is = c.calls_keep_truth.ensures.is; honest = c.answers_are_honest.ensures.honest }) world events answers old states fits run clean)
 
-pub returns-clause-reads : goal.returns-clause-reads
-returns-clause-reads c = λ world events answers old states fits run clean.
-    each_step ReadIsExact reads_exact old events answers states run (all_true_states (record { holds = c.calls_keep_truth.ensures.holds; is = c.calls_keep_truth.ensures.is; honest = c.answers_are_honest.ensures.honest }) world events answers old states fits run clean)
-
 pub returns-clause-exact : goal.returns-clause-exact
 returns-clause-exact c = λ world events answers old states fits run clean.
-    each_state IsTrueState IsExact state_exact old states (all_true_states (record { holds = c.calls_keep_truth.ensures.holds; is = c.calls_keep_truth.ensures.is; honest = c.answers_are_honest.ensures.honest }) world events answers old states fits run clean)
+    let each = all_true_states (record { holds = c.calls_keep_truth.ensures.holds; is = c.calls_keep_truth.ensures.is; honest = c.answers_are_honest.ensures.honest }) world events answers old states fits run clean in
+    (each_step ReadIsExact reads_exact old events answers states run each, each_state IsTrueState IsExact state_exact old states each)
 
 pub returns-clause-taken : goal.returns-clause-taken
 returns-clause-taken c = λ world events answers old states fits run clean.

@@ -10,7 +10,6 @@ returns-clause-promise c =
     let law = c.worlds_keep_their_promise.ensures in
     record {
       given = law.given c.args.world.now c.args.events.now answers.items old states fits run clean;
-      reads = law.reads c.args.world.now c.args.events.now answers.items old states fits run clean;
       exact = law.exact c.args.world.now c.args.events.now answers.items old states fits run clean;
       taken = law.taken c.args.world.now c.args.events.now answers.items old states fits run clean;
       later = law.later c.args.world.now c.args.events.now answers.items old states fits run clean;
