@@ -208,25 +208,27 @@ nothing_whole = Ok None
 short_splits : (rest : List ℕ) → front_of rest ≡ short → Splits rest [] rest
 short_splits rest is = record { whole = refl; each = refl; partial = λ m more fits e. let no : short ≡ whole m more = sym is ∙ ap front_of e ∙ front_frame m more fits in absurd (cc) }
 
-none_come : (s t : Stream) → TakesNext s nothing_whole t → HaveCome s []
-none_come (open_with held) t takes = (held, short_splits held takes.0)
+none_come : (s t : Stream) → TakesNext s nothing_whole t → HaveCome s [] t
+none_come (open_with held) t takes = (held, short_splits held takes.0, takes.1)
 none_come shut t takes = let no : nothing_whole ≡ Err Closed = takes.0 in absurd (cc)
 
-one_more : (s t : Stream) (m : Message) (ms : List Message) → TakesNext s (some_next m) t → HaveCome t ms → HaveCome s (m ∷ ms)
-one_more (open_with held) t m ms hands come =
-    let more = subst (λ (x : Stream). HaveCome x ms) hands.left come in (
+one_more : (s t : Stream) (m : Message) (ms : List Message) (new : Stream) → TakesNext s (some_next m) t → HaveCome t ms new → HaveCome s (m ∷ ms) new
+one_more (open_with held) t m ms new hands come =
+    let more = subst (λ (x : Stream). HaveCome x ms new) hands.left come in
+    let splits = more.1 in (
       more.0,
       record {
-        whole = hands.leads.laid ∙ ap (λ (x : List ℕ). frame m ++ x) more.1.whole ∙ sym (append_assoc (frame m) (flat_map frame ms) more.0);
-        each = rw (hands.leads.limits, more.1.each) refl;
-        partial = more.1.partial;
+        whole = hands.leads.laid ∙ ap (λ (x : List ℕ). frame m ++ x) splits.whole ∙ sym (append_assoc (frame m) (flat_map frame ms) more.0);
+        each = rw (hands.leads.limits, splits.each) refl;
+        partial = splits.partial;
       },
+      more.2,
     )
-one_more shut t m ms takes come = let no : some_next m ≡ Err Closed = takes.0 in absurd (cc)
+one_more shut t m ms new takes come = let no : some_next m ≡ Err Closed = takes.0 in absurd (cc)
 
-all_come : (a : Listener) (heard : List Heard) (b last : Listener) → Hears a heard b → Ends b None last → HaveCome a.stream (messages_in heard)
+all_come : (a : Listener) (heard : List Heard) (b last : Listener) → Hears a heard b → Ends b None last → HaveCome a.stream (messages_in heard) last.stream
 all_come a [] b last is ends = none_come a.stream last.stream (subst (λ (l : Listener). TakesNext l.stream nothing_whole last.stream) is ends.0)
-all_come a (h ∷ hs) b last hears ends = one_more a.stream hears.0.stream h.message (messages_in hs) hears.1.0 (all_come hears.0 hs b last hears.2 ends)
+all_come a (h ∷ hs) b last hears ends = one_more a.stream hears.0.stream h.message (messages_in hs) last.stream hears.1.0 (all_come hears.0 hs b last hears.2 ends)
 
 module _ (old : State) (number count : ℕ) (answer : Result Answer Fault) (effect : Effect) where
   abbrev Claim : Connection → Seen → Place → Type 0

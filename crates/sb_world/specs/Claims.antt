@@ -1,5 +1,5 @@
 -- What a run of the machine keeps, claim by claim.
-use Rattle.std.specs.Prelude.{◌≡◌, ◌⊎◌, ℕ, ◌≤◌, false, List, [], ◌∷◌, ◌++◌, length, map, Option, Some, None, IfSome, Result, Ok, Err}
+use Rattle.std.specs.Prelude.{◌≡◌, ◌⊎◌, ℕ, ◌≤◌, false, List, [], ◌∷◌, ◌++◌, length, map, take, Option, Some, None, IfSome, Result, Ok, Err}
 use Rattle.sb_types.specs.declared.entry.Slot.TheVariants.{Set}
 use Rattle.sb_types.specs.declared.entry.Write.{Write}
 use Rattle.sb_types.specs.declared.fault.Fault.{Fault}
@@ -24,7 +24,7 @@ use Rattle.sb_world.specs.declared.event.Item.{Item}
 use Rattle.sb_world.specs.Connections.{Connection, connection_at}
 use Rattle.sb_world.specs.Places.{Place, Seen, place_at, IsClean}
 use Rattle.sb_world.specs.Hearing.{Heard, Listener, Hears, Tells, calls_in}
-use Rattle.sb_world.specs.Connecting.{listener, heard_by, connections_after}
+use Rattle.sb_world.specs.Connecting.{fed, listener, heard_by, connections_after}
 use Rattle.sb_world.specs.Turns.{with_core}
 use Rattle.sb_world.specs.States.{State, Run, FitsWorld, last_of}
 
@@ -49,11 +49,13 @@ GivenIsWritten old event answer new =
 
 -- ---- a reader that holds an owner up to a version gets of each key that was last written at or below it exactly that write
 
+-- look-up at a node finds it
 abbrev pub IsExactAt : (List ℕ → List Write) → Place → Type 0
 IsExactAt writes p =
     (owner : List ℕ) (e : Entry) → Written (writes owner) e → (Superseded (writes owner) e → ⊥) → e.version ≤ (shown_of p.core.node.held owner).held →
     shown_at e.key (shown_of p.core.node.held owner).entries ≡ shown_slot e.version e.slot
 
+-- at each node
 abbrev pub IsExact : State → Type 0
 IsExact s = (name : List ℕ) → IfSome (place_at s.now.places name) (IsExactAt s.writes)
 
@@ -87,10 +89,10 @@ AllTakenUp node [] new = new ≡ node
 AllTakenUp node (TookOwn e ∷ calls) new = ⊥
 AllTakenUp node (Applied blocks ends ∷ calls) new = (mid : Node) × AreTakenUp node blocks ends mid × AllTakenUp mid calls new
 
--- what has come on a stream is the frames of these messages, and then a rest that begins with no message's frame
-abbrev pub HaveCome : Stream → List Message → Type 0
-HaveCome (open_with came) messages = (rest : List ℕ) × Splits came messages rest
-HaveCome shut messages = ⊥
+-- what has come is the frames of these messages, and then a rest that begins with no message's frame and is kept
+abbrev pub HaveCome : Stream → List Message → Stream → Type 0
+HaveCome (open_with came) messages new = (rest : List ℕ) × Splits came messages rest × (new ≡ open_with rest)
+HaveCome shut messages new = ⊥
 
 -- the messages of a piece that have come whole are heard, and each delta among them is taken up
 pub record TakesPiece (old : Seen) (number count : ℕ) (c : Connection) (p : Place) (answer : Result Answer Fault) (new : Seen) : Type 0 where
@@ -103,13 +105,13 @@ pub record TakesPiece (old : Seen) (number count : ℕ) (c : Connection) (p : Pl
   -- each is heard in its turn
   pub hears : Hears (listener p.core c count) heard mid
   -- where no fault is told these are all that have come whole
-  pub whole : fault ≡ None → HaveCome (listener p.core c count).stream (map (λ (h : Heard). h.message) heard)
+  pub whole : fault ≡ None → HaveCome (fed c.stream (take count c.left)) (map (λ (h : Heard). h.message) heard) last.stream
   -- a fault is that of the next, or memory was wanting
   pub tells : Tells (length old.sent) heard mid last fault items frames
   -- what is told is the answer, and what is replied is sent
   pub answered : answer ≡ Ok (answers.Delivered items fault)
   pub sent : new.sent ≡ old.sent ++ frames
-  -- what has not come whole is kept, and a fault closes the connection
+  -- the bytes behind the piece are still to come, and a fault closes the connection
   pub left : new.connections ≡ connections_after fault old.connections number (heard_by c count last)
   -- each delta is taken up, and so the node is left
   pub taken : AllTakenUp p.core.node (calls_in heard) last.core.node
