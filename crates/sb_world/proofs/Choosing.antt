@@ -1,6 +1,5 @@
 -- How an event goes, by what a log or a node answered.
-use Rattle.std.proofs.Common.{◌≡◌, ℕ, true, false, List, [], ◌∷◌, drop, slice_get, IfErr, Result, Ok, Err, Option, Some, inl, inr, ⊎_elim, refl, sym, ap, subst}
-use Rattle.std.proofs.lemmas.Bool.{cases_Bool}
+use Rattle.std.proofs.Common.{◌≡◌, ℕ, List, [], ◌∷◌, drop, slice_get, IfErr, Result, Ok, Err, Option, Some, inl, refl, sym, ap, subst}
 use Rattle.std.specs.Prelude.{unwrap_or}
 use Rattle.sb_types.specs.declared.entry.Slot.{Slot}
 use Rattle.sb_types.specs.declared.fault.Fault.{Fault}
@@ -8,10 +7,7 @@ use Rattle.sb_types.specs.Faults.{Gives}
 use Rattle.sb_codec.specs.declared.message.Message.{Message}
 use Rattle.sb_frames.specs.Frames.{whole, front_of}
 use Rattle.sb_frames.specs.Streams.{Stream, open_with, Feeds, TakesNext}
-use Rattle.sb_types.specs.Records.{Table}
-use Rattle.sb_log.specs.Records.{Committed, Log}
-use Rattle.sb_log.specs.Puts.{Loads}
-use Rattle.sb_world.specs.Making.{IsOpeningFault}
+use Rattle.sb_log.specs.Records.{Committed}
 use Rattle.sb_node.specs.Cores.{committed_answer}
 use Rattle.sb_world.specs.Places.{Place}
 use Rattle.sb_world.specs.Turns.{Effect, rests, logs, write_of, IsLogged, Turn, TakesFirst, take_turn}
@@ -39,18 +35,3 @@ fed_front {X} old mid new bytes done message empty feeds takes =
     let fed : mid ≡ open_with bytes = subst (λ (s : Stream). Feeds s bytes (done_with done) mid) empty feeds in
     let hands = subst (λ (s : Stream). TakesNext s (Ok (Some message)) new) fed takes in
     (hands.rest, hands.front)
-
-abbrev load_failure : Fault → Result Table Fault
-load_failure fault = Err fault
-
-abbrev load_fault_or : Fault → Result Table Fault → Fault
-load_fault_or other (Ok table) = other
-load_fault_or other (Err fault) = fault
-
--- why a log could not be read
-pub opening_fault : (old new : Log) (fault : Fault) → Loads old (load_failure fault) new → IsOpeningFault fault
-opening_fault old new fault loads =
-    ⊎_elim
-    (λ (stood : old.is_open ≡ true). ⊎_elim inl (λ others. inr (inr (⊎_elim inl (λ damaged. inr damaged.0) others))) (loads.failed.reason stood))
-    (λ (shut : old.is_open ≡ false). inr (inl (ap (load_fault_or fault) (loads.closed.1 shut))))
-    (cases_Bool old.is_open)

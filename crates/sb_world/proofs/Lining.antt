@@ -1,5 +1,6 @@
 -- Nodes that are made of logs, one after the other.
-use Rattle.std.proofs.Common.{◌≡◌, List, [], ◌∷◌, ◌++◌, map, inl, inr, ⊎_elim, refl, sym, ap, subst}
+use Rattle.std.proofs.Common.{◌≡◌, ℕ, zero, suc, ◌<◌, List, [], ◌∷◌, ◌++◌, get_or, length, map, Option, Some, None, inl, inr, ⊎_elim, refl, sym, ap, subst, arith}
+use Rattle.sb_types.specs.declared.fault.Fault.{Fault}
 use Rattle.sb_types.specs.Runs.{Stands}
 use Rattle.sb_log.specs.Records.{Log}
 use Rattle.sb_world.specs.Places.{Place}
@@ -42,3 +43,18 @@ sure_before f xs x all = λ log stands. all log (subst (λ logs. Stands logs log
 
 pub last_of_them : {X : Type 0} (f : X → Log) (xs : List X) (x : X) → Stands (map f (xs ++ x ∷ [])) (f x)
 last_of_them f xs x = subst (λ logs. Stands logs (f x)) (sym (map_more f xs x)) (stands_last (map f xs) (f x))
+
+-- what is found at a place of a list stands in it
+pub stands_at : {X : Type 0} (xs : List X) (n : ℕ) (x : X) → n < length xs → x ≡ get_or xs n x → Stands xs x
+stands_at [] n x few is = absurd (omega (arith, few))
+stands_at (y ∷ ys) zero x few is = inl (sym is)
+stands_at (y ∷ ys) (suc n) x few is = inr (stands_at ys n x (omega (arith, few)) is)
+
+pub stands_mapped : {X Y : Type 0} (f : X → Y) (xs : List X) (x : X) → Stands xs x → Stands (map f xs) (f x)
+stands_mapped f [] x stands = absurd stands
+stands_mapped f (y ∷ ys) x stands = ⊎_elim (λ same. inl (ap f same)) (λ rest. inr (stands_mapped f ys x rest)) stands
+
+-- where no fault is given there is none
+pub none_given : (o : Option Fault) → ((fault : Fault) → o ≡ Some fault → ⊥) → o ≡ None
+none_given None none = refl
+none_given (Some fault) none = absurd (none fault refl)

@@ -3,7 +3,6 @@ use Rattle.std.proofs.Common.{◌≡◌, ℕ, ◌≤◌, true, List, [], ◌∷�
 use Rattle.std.specs.List.{flat_map, list_all}
 use Rattle.std.proofs.lemmas.Bool.{and_parts}
 use Rattle.std.proofs.lemmas.Grind.{flat_map-append}
-use Rattle.std.proofs.lemmas.List.{append-nil}
 use Rattle.sb_types.specs.declared.entry.Write.{Write}
 use Rattle.sb_types.specs.declared.fault.Fault.{Fault}
 use Rattle.sb_types.specs.declared.fault.Fault.TheVariants.{NoMemory}
@@ -33,7 +32,7 @@ use Rattle.sb_node.specs.Talks.{taken_of, IsReply, AreEnds, TrueMessage}
 use Rattle.sb_node.proofs.Sessions.{up_unless, taken, refused, replied, ended}
 use Rattle.sb_node.proofs.Told.{Laws, asked_in_true, calls_are, calls_true, heard_kept, heard_said}
 use Rattle.sb_world.specs.declared.event.Item.{Item}
-use Rattle.sb_world.specs.Hearing.{Listener, Heard, HearsNext, Hears, Ends, Tells, IsFront, calls_in, frames_of, items_of}
+use Rattle.sb_world.specs.Hearing.{Listener, Heard, HearsNext, Hears, Ends, Tells, calls_in, frames_of}
 use Rattle.sb_world.specs.Lines.{IsLine}
 use Rattle.sb_world.specs.Truth.{IsTrueFrame}
 use Rattle.sb_world.proofs.Keeping.{same_me_all}
@@ -142,9 +141,6 @@ pub tells_frames : (sent : ℕ) (heard : List Heard) (mid last : Listener) (faul
     (bytes : List ℕ) → Stands frames bytes → Stands (frames_of heard) bytes
 tells_frames sent heard mid last fault items frames tells bytes stands =
     ⊎_elim (λ all. subst (λ (fs : List (List ℕ)). Stands fs bytes) all.2 stands) (λ short. let front = short.3 in subst (λ (fs : List (List ℕ)). Stands fs bytes) (sym front.1) (left_of frames front.0 bytes stands)) tells
-
-pub tells_items : (sent : ℕ) (heard : List Heard) (mid last : Listener) (fault : Option Fault) (items : List Item) (frames : List (List ℕ)) → Tells sent heard mid last fault items frames → IsFront items (items_of sent heard)
-tells_items sent heard mid last fault items frames tells = ⊎_elim (λ all. ([], sym all.1 ∙ sym (append-nil items))) (λ short. short.2) tells
 
 -- ---- frames of true messages
 

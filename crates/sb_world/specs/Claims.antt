@@ -1,8 +1,9 @@
 -- What a run of the machine keeps, claim by claim.
-use Rattle.std.specs.Prelude.{◌≡◌, ℕ, ◌≤◌, List, [], ◌∷◌, length, Option, Some, IfSome, Result, Ok}
+use Rattle.std.specs.Prelude.{◌≡◌, ◌⊎◌, ℕ, ◌≤◌, false, List, [], ◌∷◌, ◌++◌, length, map, take, Option, Some, None, IfSome, Result, Ok, Err}
 use Rattle.sb_types.specs.declared.entry.Slot.TheVariants.{Set}
 use Rattle.sb_types.specs.declared.entry.Write.{Write}
 use Rattle.sb_types.specs.declared.fault.Fault.{Fault}
+use Rattle.sb_types.specs.declared.fault.Fault.TheVariants.{NoMemory, Closed}
 use Rattle.sb_types.specs.Value.{Value}
 use Rattle.sb_types.specs.Records.{Entry, Block}
 use Rattle.sb_types.specs.Runs.{Stands, shown_slot, shown_at}
@@ -12,16 +13,19 @@ use Rattle.sb_holdings.specs.Held.{shown_of}
 use Rattle.sb_holdings.specs.Ends.{JoinsOn}
 use Rattle.sb_holdings.specs.Nodes.{Node, node_after_block, NodeLater}
 use Rattle.sb_holdings.specs.TakenUp.{IsTakenUp}
+use Rattle.sb_codec.specs.declared.message.Message.{Message}
+use Rattle.sb_frames.specs.Streams.{Stream, open_with, shut, Splits}
 use Rattle.sb_node.specs.Calls.{Call, TookOwn, Applied}
 use Rattle.sb_world.specs.declared.event.Event.{Event}
 use Rattle.sb_world.specs.declared.event.Event.TheVariants.{Piece, Read}
 use Rattle.sb_world.specs.declared.event.Answer.{Answer}
 use Rattle.sb_world.specs.declared.event.Answer.TheVariants as answers
 use Rattle.sb_world.specs.declared.event.Item.{Item}
-use Rattle.sb_world.specs.Connections.{connection_at}
+use Rattle.sb_world.specs.Connections.{Connection, connection_at}
 use Rattle.sb_world.specs.Places.{Place, Seen, place_at, IsClean}
-use Rattle.sb_world.specs.Hearing.{Heard, Listener, Hears, IsFront, items_of, calls_in}
-use Rattle.sb_world.specs.Connecting.{listener}
+use Rattle.sb_world.specs.Hearing.{Heard, Listener, Hears, Tells, calls_in}
+use Rattle.sb_world.specs.Connecting.{fed, listener, heard_by, connections_after}
+use Rattle.sb_world.specs.Turns.{with_core}
 use Rattle.sb_world.specs.States.{State, Run, FitsWorld, last_of}
 
 -- ---- of each state, and of each step
@@ -45,13 +49,29 @@ GivenIsWritten old event answer new =
 
 -- ---- a reader that holds an owner up to a version gets of each key that was last written at or below it exactly that write
 
+-- look-up at a node finds it
 abbrev pub IsExactAt : (List ℕ → List Write) → Place → Type 0
 IsExactAt writes p =
     (owner : List ℕ) (e : Entry) → Written (writes owner) e → (Superseded (writes owner) e → ⊥) → e.version ≤ (shown_of p.core.node.held owner).held →
     shown_at e.key (shown_of p.core.node.held owner).entries ≡ shown_slot e.version e.slot
 
+-- at each node
 abbrev pub IsExact : State → Type 0
 IsExact s = (name : List ℕ) → IfSome (place_at s.now.places name) (IsExactAt s.writes)
+
+-- a reader is shown this, unless the node is down or memory is wanting
+abbrev pub IsShown : Option (Value × ℕ) → Place → Result Answer Fault → Type 0
+IsShown found p answer = (answer ≡ Ok (answers.Shown found)) ⊎ ((answer ≡ Err NoMemory) ⊎ ((p.is_up ≡ false) × (answer ≡ Err Closed)))
+
+-- a read of a key that was last written at or below the version up to which its node holds the owner shows exactly that write
+abbrev pub ReadIsExact : State → Event → Result Answer Fault → State → Type 0
+ReadIsExact old event answer new =
+    (me owner : List ℕ) (e : Entry) → event ≡ Read me owner e.key → Written (old.writes owner) e → (Superseded (old.writes owner) e → ⊥) →
+    IfSome (place_at old.now.places me) (λ p. e.version ≤ (shown_of p.core.node.held owner).held → IsShown (shown_slot e.version e.slot) p answer)
+
+-- so it is of each read, and of look-up in each state
+abbrev pub AreExact : State → List Event → List (Result Answer Fault) → List State → Type 0
+AreExact old events answers states = EachStep ReadIsExact old events answers states × EachState IsExact old states
 
 -- ---- whatever joins on is taken up
 
@@ -69,13 +89,40 @@ AllTakenUp node [] new = new ≡ node
 AllTakenUp node (TookOwn e ∷ calls) new = ⊥
 AllTakenUp node (Applied blocks ends ∷ calls) new = (mid : Node) × AreTakenUp node blocks ends mid × AllTakenUp mid calls new
 
--- where a piece comes, its node takes the messages that have come whole, tells of them, and takes up the deltas among them
+-- what has come is the frames of these messages, and then a rest that begins with no message's frame and is kept
+abbrev pub HaveCome : Stream → List Message → Stream → Type 0
+HaveCome (open_with came) messages new = (rest : List ℕ) × Splits came messages rest × (new ≡ open_with rest)
+HaveCome shut messages new = ⊥
+
+-- the messages of a piece that have come whole are heard, and each delta among them is taken up
+pub record TakesPiece (old : Seen) (number count : ℕ) (c : Connection) (p : Place) (answer : Result Answer Fault) (new : Seen) : Type 0 where
+  pub heard : List Heard
+  pub mid : Listener
+  pub last : Listener
+  pub fault : Option Fault
+  pub items : List Item
+  pub frames : List (List ℕ)
+  -- each is heard in its turn
+  pub hears : Hears (listener p.core c count) heard mid
+  -- where no fault is told these are all that have come whole
+  pub whole : fault ≡ None → HaveCome (fed c.stream (take count c.left)) (map (λ (h : Heard). h.message) heard) last.stream
+  -- a fault is that of the next, or memory was wanting
+  pub tells : Tells (length old.sent) heard mid last fault items frames
+  -- what is told is the answer, and what is replied is sent
+  pub answered : answer ≡ Ok (answers.Delivered items fault)
+  pub sent : new.sent ≡ old.sent ++ frames
+  -- the bytes behind the piece are still to come, and a fault closes the connection
+  pub left : new.connections ≡ connections_after fault old.connections number (heard_by c count last)
+  -- each delta is taken up, and so the node is left
+  pub taken : AllTakenUp p.core.node (calls_in heard) last.core.node
+  pub node : place_at new.places c.me ≡ Some (with_core p last.core)
+
+-- each piece of a connection is taken so at its node, unless that is down
 abbrev pub JoinedIsTaken : State → Event → Result Answer Fault → State → Type 0
 JoinedIsTaken old event answer new =
-    (number count : ℕ) (items : List Item) (fault : Option Fault) → event ≡ Piece number count → answer ≡ Ok (answers.Delivered items fault) →
-    IfSome (connection_at old.now.connections number) (λ c. IfSome (place_at old.now.places c.me) (λ p. IfSome (place_at new.now.places c.me) (λ q.
-    (heard : List Heard) × (last : Listener) × Hears (listener p.core c count) heard last × IsFront items (items_of (length old.now.sent) heard)
-    × AllTakenUp p.core.node (calls_in heard) q.core.node)))
+    (number count : ℕ) → event ≡ Piece number count →
+    IfSome (connection_at old.now.connections number) (λ c. IfSome (place_at old.now.places c.me) (λ p.
+    ((p.is_up ≡ false) × (answer ≡ Err Closed)) ⊎ TakesPiece old.now number count c p answer new.now))
 
 -- ---- within a node's run no version falls
 
@@ -102,7 +149,7 @@ IsWithinBudget s = (bytes : List ℕ) → Stands s.now.sent bytes → length byt
 
 pub record Promise (old : State) (events : List Event) (answers : List (Result Answer Fault)) (states : List State) : Type 0 where
   pub given : EachStep GivenIsWritten old events answers states
-  pub exact : EachState IsExact old states
+  pub exact : AreExact old events answers states
   pub taken : EachStep JoinedIsTaken old events answers states
   pub later : NothingFalls old states
   pub budget : EachState IsWithinBudget old states

@@ -1,16 +1,16 @@
 -- A world that has just been made.
-use Rattle.std.specs.Prelude.{◌≡◌, ◌⊎◌, ℕ, Bool, true, false, ◌||◌, nat_eq, nat_lt, if◌then◌else◌, List, [], ◌∷◌, length, IfSome, Option, Some, None}
+use Rattle.std.specs.Prelude.{◌≡◌, ◌⊎◌, ℕ, Bool, true, false, ◌||◌, nat_eq, nat_lt, if◌then◌else◌, List, [], ◌∷◌, length, IfSome, Option, Some, None, Err}
 use Rattle.std.specs.List.{list_any, list_all}
 use Rattle.std.specs.Cmp.Lexicographic.{pointwise}
 use Rattle.sb_types.specs.declared.fault.Fault.{Fault}
-use Rattle.sb_types.specs.declared.fault.Fault.TheVariants.{NoMemory, BadSetting, Closed, StoreFailed, LogDamaged, SameName, WrongCluster}
+use Rattle.sb_types.specs.declared.fault.Fault.TheVariants.{NoMemory, BadSetting, SameName, WrongCluster}
 use Rattle.sb_types.specs.declared.limits.TheConstants.{OWNERS_MOST}
 use Rattle.sb_types.specs.Records.{Settings}
 use Rattle.sb_table.specs.Plain.{IsPlainTable}
 use Rattle.sb_holdings.specs.Nodes.{opened_node}
 use Rattle.sb_types.specs.Runs.{Stands}
 use Rattle.sb_log.specs.Records.{Log}
-use Rattle.sb_log.specs.Puts.{IsSure, Stays}
+use Rattle.sb_log.specs.Puts.{IsSure, Stays, Loads}
 use Rattle.sb_world.specs.Places.{Place, Seen, place_at}
 
 -- a log has the name
@@ -33,14 +33,14 @@ refusal settings logs =
     else (if has_twins logs then Some SameName
     else (if are_of settings.cluster logs then None else Some WrongCluster))
 
--- why a log could not be read, or no node opened with what it has
-abbrev pub IsOpeningFault : Fault → Type 0
-IsOpeningFault fault = (fault ≡ NoMemory) ⊎ ((fault ≡ Closed) ⊎ ((fault ≡ StoreFailed) ⊎ (fault ≡ LogDamaged)))
+-- why no node opened with what a log has: memory was wanting, or the log gives this fault when it is read
+abbrev pub IsOpeningFault : Log → Fault → Type 0
+IsOpeningFault log fault = (fault ≡ NoMemory) ⊎ ((new : Log) × Loads log (Err fault) new)
 
--- the fault of logs of which no world is made; else one of those
-abbrev pub IsMakingFault : Option Fault → Fault → Type 0
-IsMakingFault (Some refused) fault = fault ≡ refused
-IsMakingFault None fault = IsOpeningFault fault
+-- the fault of logs of which no world is made; else memory was wanting, or one of the logs gives this fault when it is read
+abbrev pub IsMakingFault : Option Fault → List Log → Fault → Type 0
+IsMakingFault (Some refused) logs fault = fault ≡ refused
+IsMakingFault None logs fault = (fault ≡ NoMemory) ⊎ ((log : Log) × Stands logs log × IsOpeningFault log fault)
 
 -- nothing can make the store of one of these logs break its promise
 abbrev pub AreSureLogs : List Log → Type 0

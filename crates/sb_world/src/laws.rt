@@ -9,7 +9,7 @@ ghost use Rattle.sb_world.specs.States.{State, Moves, Run, last_of, FitsWorld};
 ghost use Rattle.sb_world.specs.Steps.{Step, Passes};
 ghost use Rattle.sb_world.specs.Turns.{Effect};
 ghost use Rattle.sb_world.specs.Truth.{IsTrueState};
-ghost use Rattle.sb_world.specs.Claims.{EachState, EachStep, GivenIsWritten, IsExact, JoinedIsTaken, NothingFalls, IsWithinBudget, OnEachRun};
+ghost use Rattle.sb_world.specs.Claims.{EachState, EachStep, GivenIsWritten, AreExact, JoinedIsTaken, NothingFalls, IsWithinBudget, OnEachRun};
 
 use sb_node::{answers_are_honest, calls_keep_truth};
 
@@ -19,7 +19,7 @@ use sb_node::{answers_are_honest, calls_keep_truth};
 pub fn worlds_keep_their_promise()
     ensures sound { (world : Seen) (events : List Event) (answers : List (Result Answer Fault)) → OnEachRun world events answers (λ old states. EachState IsTrueState old states) }
     ensures given { (world : Seen) (events : List Event) (answers : List (Result Answer Fault)) → OnEachRun world events answers (λ old states. EachStep GivenIsWritten old events answers states) }
-    ensures exact { (world : Seen) (events : List Event) (answers : List (Result Answer Fault)) → OnEachRun world events answers (λ old states. EachState IsExact old states) }
+    ensures exact { (world : Seen) (events : List Event) (answers : List (Result Answer Fault)) → OnEachRun world events answers (λ old states. AreExact old events answers states) }
     ensures taken { (world : Seen) (events : List Event) (answers : List (Result Answer Fault)) → OnEachRun world events answers (λ old states. EachStep JoinedIsTaken old events answers states) }
     ensures later { (world : Seen) (events : List Event) (answers : List (Result Answer Fault)) → OnEachRun world events answers (λ old states. NothingFalls old states) }
     ensures budget { (world : Seen) (events : List Event) (answers : List (Result Answer Fault)) → OnEachRun world events answers (λ old states. EachState IsWithinBudget old states) }

@@ -79,7 +79,7 @@ fn opened<L: WriteLog + Drop>(
     ensures name { IfOk result (λ p. p.me ≡ (L.seen log).owner) }
     ensures log { IfOk result (IsNodeOf (L.seen log)) }
     ensures sure { IsSure (L.seen log) → IfOk result (λ p. IsSure p.log) }
-    ensures why { IfErr result IsOpeningFault }
+    ensures why { IfErr result (IsOpeningFault (L.seen log)) }
 {
     let me = *log.owner();
     let table = match log.load(alloc) {
@@ -104,7 +104,7 @@ pub(crate) fn places_of<L: WriteLog + Drop>(
     logs: Vec<L>,
 ) -> Result<Vec<Place<L>>, Fault>
     ensures refused { IfSome (spec.refusal settings (map L.seen logs.items)) (λ fault. result ≡ Err fault) }
-    ensures why { IfErr result (λ fault. IsMakingFault (spec.refusal settings (map L.seen logs.items)) fault) }
+    ensures why { IfErr result (λ fault. IsMakingFault (spec.refusal settings (map L.seen logs.items)) (map L.seen logs.items) fault) }
     ensures names { IfOk result (λ places. map (λ (p : world.Place). p.me) places.items ≡ map (λ (log : records.Log). log.owner) (map L.seen logs.items)) }
     ensures new { IfOk result (λ places. (p : world.Place) → Stands places.items p → IsNew settings p) }
     ensures logs { IfOk result (λ places. HaveNodes (map L.seen logs.items) places.items) }

@@ -13,7 +13,7 @@ ghost use Rattle.sb_world.specs.Making.{refusal, IsMakingFault, HaveNodes, IsMad
 ghost use Rattle.sb_types.specs.declared.entry.Write.{Write};
 ghost use Rattle.sb_log.specs.Records as records;
 ghost use Rattle.sb_world.specs.Truth.{IsTrueState};
-ghost use Rattle.sb_world.specs.Claims.{EachState, EachStep, GivenIsWritten, IsExact, JoinedIsTaken, NothingFalls, IsWithinBudget, OnEachRun};
+ghost use Rattle.sb_world.specs.Claims.{EachState, EachStep, GivenIsWritten, AreExact, JoinedIsTaken, NothingFalls, IsWithinBudget, OnEachRun};
 
 use crate::connection::{Connection, drop_those_of, node_of};
 use crate::event::{Answer, Event};
@@ -142,7 +142,7 @@ impl<L: WriteLog + Drop> World<L> {
     /// than the settings'; then the faults of `load`, and `NoMemory`.
     pub fn new(alloc: Global, settings: Settings, logs: Vec<L>) -> Result<World<L>, Fault>
         ensures refused { IfSome (refusal settings (map L.seen logs.items)) (λ fault. result ≡ Err fault) }
-        ensures why { IfErr result (λ fault. IsMakingFault (refusal settings (map L.seen logs.items)) fault) }
+        ensures why { IfErr result (λ fault. IsMakingFault (refusal settings (map L.seen logs.items)) (map L.seen logs.items) fault) }
         ensures settings { IfOk result (λ w. w.settings ≡ settings) }
         ensures names { IfOk result (λ w. map (λ (p : spec.Place). p.me) w.places ≡ map (λ (log : records.Log). log.owner) (map L.seen logs.items)) }
         ensures logs { IfOk result (λ w. HaveNodes (map L.seen logs.items) w.places) }
@@ -221,7 +221,7 @@ impl<L: WriteLog> World<L> {
         // And this holds of each such run, as long as each log's store keeps its promise.
         ensures sound { IfOk result (λ answers. OnEachRun self.old events.now answers.items (λ old states. EachState IsTrueState old states)) }
         ensures given { IfOk result (λ answers. OnEachRun self.old events.now answers.items (λ old states. EachStep GivenIsWritten old events.now answers.items states)) }
-        ensures exact { IfOk result (λ answers. OnEachRun self.old events.now answers.items (λ old states. EachState IsExact old states)) }
+        ensures exact { IfOk result (λ answers. OnEachRun self.old events.now answers.items (λ old states. AreExact old events.now answers.items states)) }
         ensures taken { IfOk result (λ answers. OnEachRun self.old events.now answers.items (λ old states. EachStep JoinedIsTaken old events.now answers.items states)) }
         ensures later { IfOk result (λ answers. OnEachRun self.old events.now answers.items (λ old states. NothingFalls old states)) }
         ensures budget { IfOk result (λ answers. OnEachRun self.old events.now answers.items (λ old states. EachState IsWithinBudget old states)) }

@@ -1,12 +1,14 @@
-use Rattle.std.proofs.Common.{◌≡◌, List, [], ◌∷◌, ◌++◌, map, refl, sym, ap, subst, ◌∙◌}
+use Rattle.std.proofs.Common.{◌≡◌, List, [], ◌∷◌, ◌++◌, length, map, Option, None, inr, refl, sym, ap, subst, ◌∙◌}
+use Rattle.sb_types.specs.declared.fault.Fault.{Fault}
 use Rattle.std.proofs.lemmas.Iterator.Adapters.{YieldsList-from_vec}
-use Rattle.std.proofs.lemmas.Iterator.Consumers.{YieldsList-end}
+use Rattle.std.proofs.lemmas.Iterator.Consumers.{YieldsList-end, YieldsList-turn}
+use Rattle.std.proofs.lemmas.Result.{err_from_is_err_and}
 use Rattle.sb_types.specs.Runs.{Stands}
 use Rattle.sb_log.specs.Records as records
 use Rattle.sb_world.specs.Places as world
 use Rattle.sb_log.specs.Puts.{IsSure}
-use Rattle.sb_world.specs.Making.{IsNew, HaveNodes, AreSureLogs}
-use Rattle.sb_world.proofs.Lining.{before_or_last, map_same, map_more, nodes_more, sure_before, last_of_them}
+use Rattle.sb_world.specs.Making.{IsNew, HaveNodes, AreSureLogs, refusal, IsOpeningFault, IsMakingFault}
+use Rattle.sb_world.proofs.Lining.{before_or_last, map_same, map_more, nodes_more, sure_before, last_of_them, stands_at, stands_mapped, none_given}
 use Rattle.sb_world.proofs.making.places_of.Goals as goal
 
 pub loop-log-preserved : goal.loop-log-preserved
@@ -52,3 +54,17 @@ returns-clause-sure g c =
     sym (map_same c.loop-log.yielded)
     ∙ (YieldsList-end (YieldsList-from_vec c.args.logs.items c.into_iter-log-iterator.ensures.into_iter_gives.0 (c.into_iter-log-iterator.ensures.into_iter_gives.1 ∙ c.args.logs.ok.0)) c.loop-log.yielded _ c.loop-log.yielded_by _ c.next.new.self c.in-None.is c.next.ensures.steps).0 in
     λ all. c.loop-log.invariant.sure (subst (λ ls. AreSureLogs (map g.L.WriteLog.seen ls)) (sym done) all)
+
+pub returns-in_err-opened-clause-why : goal.returns-in_err-opened-clause-why
+returns-in_err-opened-clause-why g c =
+    let seen = g.L.WriteLog.seen in
+    let logs = c.args.logs.items in
+    let log = c.in-Some-log.log in
+    let source = YieldsList-from_vec logs c.into_iter-log-iterator.ensures.into_iter_gives.0 (c.into_iter-log-iterator.ensures.into_iter_gives.1 ∙ c.args.logs.ok.0) in
+    let turn = YieldsList-turn source c.loop-log.yielded _ c.loop-log.yielded_by _ c.next.new.self log c.in-Some-log.is c.next.ensures.steps in
+    let stands : Stands (map seen logs) (seen log) = stands_mapped seen logs log (stands_at logs (length c.loop-log.yielded) log turn.0 turn.1) in
+    let given : c.refusal.result ≡ refusal c.args.settings (map seen logs) = c.refusal.ensures ∙ ap (λ ls. refusal c.args.settings (map seen ls)) c.deref.ensures.value in
+    let none : refusal c.args.settings (map seen logs) ≡ None = sym given ∙ none_given c.refusal.result c.in_default.not-Some in
+    let p = err_from_is_err_and c.from_residual-in_err-opened.result c.from_residual-in_err-opened.ensures.1 in
+    let why : IsOpeningFault (seen log) p.0 = subst (IsOpeningFault (seen log)) (sym p.2) c.in_err-opened.ensures.why in
+    rw p.1 (subst (λ (o : Option Fault). IsMakingFault o (map seen logs) p.0) (sym none) (inr (seen log, stands, why)))
