@@ -1,5 +1,5 @@
 //! What follows from the definitions alone. The function does nothing: each clause is a law.
-ghost use Rattle.std.specs.Prelude.{◌≡◌, ℕ, ◌≤◌, true, List, length, Option, Some, Ok};
+ghost use Rattle.std.specs.Prelude.{◌≡◌, ℕ, ◌≤◌, Bool, true, List, length, Option, Some, Ok};
 ghost use Rattle.std.specs.List.{flat_map};
 ghost use mathlib.Core.List.{IsPrefix};
 ghost use Rattle.sb_types.specs.declared.entry.Slot.TheVariants.{Set};
