@@ -381,6 +381,11 @@ fn change_the_cluster(rt: &impl Abort, alloc: Global, listener: &UnixListener) {
     }
 }
 
+/// Whether it was told of these rounds and no others.
+fn was_told<R: Wait>(keeper: &Keeper<R>, rounds: &[(Option<u8>, Result<Ended, Fault>)]) -> bool {
+    keeper.told.lock(keeper.rt).as_slice() == rounds
+}
+
 #[test]
 fn an_observer_is_told_of_each_change_of_a_peer_once(rt: HostRuntime) {
     let paths = Paths {
@@ -406,7 +411,7 @@ fn an_observer_is_told_of_each_change_of_a_peer_once(rt: HostRuntime) {
     holds(
         &rt,
         "each change was told once",
-        keeper.told.lock(&rt).as_slice() == wanted.as_slice(),
+        was_told(&keeper, wanted.as_slice()),
     );
 }
 
