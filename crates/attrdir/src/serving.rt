@@ -32,17 +32,19 @@ pub(crate) struct Given<'a> {
 
 /// Tells on standard error what the node meets.
 #[derive(Drop)]
-struct Console<'a> {
-    rt: &'a HostRuntime,
-    given: &'a Given<'a>,
+struct Console<'r, 'a> {
+    rt: &'r HostRuntime,
+    name: &'a str,
+    sock: &'a str,
+    control: &'a str,
 }
 
-impl Observer for Console<'_> {
+impl Observer for Console<'_, '_> {
     fn listening(&self) {
-        let (rt, given) = (self.rt, self.given);
+        let rt = self.rt;
         let _ = eprintln!(rt;
             "attrdir: node {} listens on {}, and for set, del, get and watch on {}",
-            given.name, given.sock, given.control
+            self.name, self.sock, self.control
         );
     }
 
@@ -155,6 +157,12 @@ fn run<
         control: given.control,
         peers: given.peers.as_slice(),
     };
+    let console = Console {
+        rt,
+        name: given.name,
+        sock: given.sock,
+        control: given.control,
+    };
     let ran = run_node(
         runtime,
         rt.alloc(),
@@ -162,7 +170,7 @@ fn run<
         log,
         &paths,
         given.pace,
-        &Console { rt, given },
+        &console,
     );
     match ran {
         Ok(ran) => print_ran(rt, given, ran),
