@@ -20,15 +20,15 @@ IsLet lets (gives digest (Ok blocks)) = lets AfterAnswer
 IsLet lets (gives digest (Err fault)) = Unit {0}
 IsLet lets (applies blocks answer) = lets BeforeApply
 
--- the call is refused, since no more turns are granted
-abbrev pub IsTurned : Act → Type 0
-IsTurned (tells from want answer) = answer ≡ Err TurnsSpent
-IsTurned (gives digest answer) = answer ≡ Err TurnsSpent
-IsTurned (applies blocks answer) = answer ≡ Err TurnsSpent
+-- it turned the session away behind an answer, or before this delta was applied, and so no more turns are granted
+abbrev pub IsTurned : (Step → Type 0) → Act → Type 0
+IsTurned turns (tells from want answer) = ⊥
+IsTurned turns (gives digest answer) = (answer ≡ Err TurnsSpent) × turns AfterAnswer
+IsTurned turns (applies blocks answer) = (answer ≡ Err TurnsSpent) × turns BeforeApply
 
 -- a step of the handler itself, where the gate lets it be; or the gate turns the session away, and nothing is entered
-abbrev pub GatedStep : {H : Type 0} → (Step → Type 0) → (H → Act → H → Type 0) → (H → H → Type 0) → (H → H → Type 0) → H → Act → H → Type 0
-GatedStep lets step stays grows old act new = (IsLet lets act × step old act new) ⊎ (IsTurned act × (stays old new × grows old new))
+abbrev pub GatedStep : {H : Type 0} → (Step → Type 0) → (Step → Type 0) → (H → Act → H → Type 0) → (H → H → Type 0) → (H → H → Type 0) → H → Act → H → Type 0
+GatedStep lets turns step stays grows old act new = (IsLet lets act × step old act new) ⊎ (IsTurned turns act × (stays old new × grows old new))
 
 -- behind a gate that lets the session apply no delta nothing is entered
 pub let-enters : (lets : Step → Type 0) (act : Act) → IsLet lets act → IsShut lets → may_enter act ≡ false

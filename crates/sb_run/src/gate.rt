@@ -23,9 +23,12 @@ pub trait Gate {
     /// What is known where it lets the session of this number take the step: nothing need be.
     ghost lets: { Self → ℕ → Step → Type 0 };
 
+    /// What is known where it turns the session away: nothing need be.
+    ghost turns: { Self → ℕ → Step → Type 0 };
+
     /// Whether the session may go on. Where it may not, it ends with `TurnsSpent`.
     fn pass(&self, session: u64, step: Step) -> bool
-        ensures { MatchBool result (lets self.now session step) (Unit {0}) };
+        ensures { MatchBool result (lets self.now session step) (turns self.now session step) };
 }
 
 /// A gate that every session passes.
@@ -34,6 +37,9 @@ pub struct Open;
 
 impl Gate for Open {
     ghost lets = { λ gate session step. Unit {0} };
+
+    // It turns nobody away.
+    ghost turns = { λ gate session step. ⊥ };
 
     fn pass(&self, _session: u64, _step: Step) -> bool {
         true
@@ -79,7 +85,7 @@ impl<H: Handler, G: Gate> Handler for Gated<'_, H, G> {
     ghost use Rattle.sb_run.specs.Gates.{GatedStep, IsShut, let-enters};
 
     ghost step = { λ old act new. (new.gate.now ≡ old.gate.now) × (new.session ≡ old.session)
-        × GatedStep (G.lets old.gate.now old.session) H.step H.stays H.grows old.inner act new.inner };
+        × GatedStep (G.lets old.gate.now old.session) (G.turns old.gate.now old.session) H.step H.stays H.grows old.inner act new.inner };
 
     ghost stays = { λ old new. (new.gate.now ≡ old.gate.now) × (new.session ≡ old.session) × H.stays old.inner new.inner };
 

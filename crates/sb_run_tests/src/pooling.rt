@@ -63,6 +63,8 @@ struct Holding<'a, R> {
 impl<R: Clock> Gate for Holding<'_, R> {
     ghost lets = { λ gate session step. Unit {0} };
 
+    ghost turns = { λ gate session step. Unit {0} };
+
     fn pass(&self, session: u64, step: Step) -> bool {
         match (session, step) {
             (1, Step::BeforeApply) => {
