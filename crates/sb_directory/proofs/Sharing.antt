@@ -1,8 +1,7 @@
 -- Seats that get their parts of a ledger, and give them back.
 use Rattle.std.proofs.Common.{◌≡◌, ℕ, zero, suc, ◌+◌, List, [], ◌∷◌, ◌++◌, length, map, replicate, refl, sym, ap, subst, ◌∙◌, arith, append_assoc, append-nil}
-use mathlib.Core.List.{IsPrefix}
 use Rattle.sb_views.specs.declared.event.Event.{Event}
-use Rattle.sb_directory.specs.Seats.{Seat, new_seat, events_of_all, AllBegin}
+use Rattle.sb_directory.specs.Seats.{Seat, Begins, new_seat, events_of_all, AllBegin}
 
 -- ---- giving: so many parts and so much of the amount are left, and these seats and readers
 
@@ -35,7 +34,7 @@ pub record IsJoining (story : List Event) (all : List Seat) (parts amount : ℕ)
   pub begin : AllBegin story rest → AllBegin story all
 
 pub joining_goes_on : (story : List Event) (all : List Seat) (parts amount : ℕ) (seat : Seat) (rest : List Seat) (more sum : ℕ)
-    → IsJoining story all parts amount (seat ∷ rest) → IsPrefix seat.told story → more ≡ parts + 1 → sum ≡ amount + seat.events → IsJoining story all more sum rest
+    → IsJoining story all parts amount (seat ∷ rest) → Begins story seat → more ≡ parts + 1 → sum ≡ amount + seat.events → IsJoining story all more sum rest
 joining_goes_on story all parts amount seat rest more sum is knew one counted = record {
   joined = omega (arith, is.joined, one);
   added = omega (arith, is.added, counted);

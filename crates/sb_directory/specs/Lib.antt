@@ -3,3 +3,4 @@ pub mod Notes
 pub mod Locks
 pub mod Seats
 pub mod Serving
+pub mod Served

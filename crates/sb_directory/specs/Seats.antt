@@ -12,24 +12,34 @@ use Rattle.sb_views.specs.declared.event.Event.{Event}
 use Rattle.sb_views.specs.Stories.{node_after}
 use Rattle.sb_directory.specs.Locks.{Locked, unless_spent}
 
--- what its reader was told or has seen, and how many events its calls made
+-- what its reader was told or has seen, all that had happened when its last call was answered, and how many events its calls made
 pub record Seat : Type 0 where
   pub told : List Event
+  pub known : List Event
   pub events : ℕ
 
 -- a seat whose calls made no event
 abbrev pub new_seat : List Event → Seat
-new_seat told = record { told = told; events = 0 }
+new_seat told = record { told = told; known = told; events = 0 }
+
+-- a seat that called once more, when all this had happened
+abbrev pub with_known : Seat → List Event → Seat
+with_known seat known = record { told = seat.told; known = known; events = seat.events }
+
+-- the story begins with what the seat was told, and with what it knew
+pub record Begins (story : List Event) (seat : Seat) : Type 0 where
+  pub told : IsPrefix seat.told story
+  pub known : IsPrefix seat.known story
 
 -- how many events the calls of these seats made
 abbrev pub events_of_all : List Seat → ℕ
 events_of_all [] = 0
 events_of_all (seat ∷ seats) = seat.events + events_of_all seats
 
--- what each of these seats was told or has seen begins the story
+-- what each of these seats was told and knew begins the story
 abbrev pub AllBegin : List Event → List Seat → Type 0
 AllBegin story [] = Unit {0}
-AllBegin story (seat ∷ seats) = IsPrefix seat.told story × AllBegin story seats
+AllBegin story (seat ∷ seats) = Begins story seat × AllBegin story seats
 
 -- whether a directory may have so many seats
 abbrev pub seats_due : ℕ → Result (Unit {0}) Fault

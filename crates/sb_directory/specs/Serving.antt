@@ -1,5 +1,5 @@
 -- The calls that a session makes to a directory from a seat: what it answers, and what they leave of the seat.
-use Rattle.std.proofs.Common.{◌≡◌, ◌+◌, ◌≤◌, Bool, true, false, MatchBool, List, Ok, Err, sym, subst, arith}
+use Rattle.std.specs.Prelude.{◌≡◌, ◌+◌, ◌++◌, ◌≤◌, false, List, [], ◌∷◌, length, Ok, Err}
 use mathlib.Core.List.{IsPrefix}
 use Rattle.sb_types.specs.declared.fault.Fault.TheVariants.{NoMemory}
 use Rattle.sb_types.specs.Records.{Settings}
@@ -10,9 +10,9 @@ use Rattle.sb_digest.specs.Pairs.{pairs_from}
 use Rattle.sb_session.specs.Handlers.{Act, tells, gives, applies, may_enter}
 use Rattle.sb_node.specs.Answers.{IsDelta, IsAnswer}
 use Rattle.sb_views.specs.declared.event.Event.{Event}
+use Rattle.sb_views.specs.declared.event.Event.TheVariants.{Applied}
 use Rattle.sb_views.specs.Stories.{node_after}
-use Rattle.sb_views.proofs.Fronts.{prefix_self, prefix_trans}
-use Rattle.sb_directory.specs.Seats.{Seat, delta_due_after, Refuses}
+use Rattle.sb_directory.specs.Seats.{Seat, Begins, delta_due_after, Refuses}
 
 -- what a node with these settings answers after these events
 abbrev pub AnswersAfter : Node → Settings → List Event → Act → Type 0
@@ -25,38 +25,32 @@ AnswersAfter opening settings story (gives told (Err fault)) = fault ≡ NoMemor
 AnswersAfter opening settings story (applies blocks (Ok ends)) = (delta_due_after story ≡ Ok tt) × Treats (node_after opening story) blocks ends
 AnswersAfter opening settings story (applies blocks (Err fault)) = Refuses (delta_due_after story) fault
 
--- the seat was told no less, and made one event more
-pub record IsOneMore (old new : Seat) : Type 0 where
-  pub told : IsPrefix old.told new.told
-  pub events : new.events ≡ old.events + 1
+-- the events that a call with this answer makes: one, where it took a delta
+abbrev pub events_of : Act → List Event
+events_of (tells from want answer) = []
+events_of (gives told answer) = []
+events_of (applies blocks (Ok ends)) = Applied blocks ends ∷ []
+events_of (applies blocks (Err fault)) = []
 
--- The node answers so after events that begin with what the seat was told, whatever others entered since; where the call
--- entered a delta the seat made one event more, and else it is as it was.
+-- The node answers so after all that had happened, which begins with what the seat was told and knew; then the seat knows that, and
+-- the event that the call made, if it made one. Only then is the seat told more.
 pub record Serves (opening : Node) (settings : Settings) (old : Seat) (act : Act) (new : Seat) : Type 0 where
   pub story : List Event
-  pub knew : IsPrefix old.told story
+  pub begins : Begins story old
   pub answers : AnswersAfter opening settings story act
-  pub entered : MatchBool (may_enter act) (IsOneMore old new) (new ≡ old)
+  pub known : new.known ≡ story ++ events_of act
+  pub events : new.events ≡ old.events + length (events_of act)
+  pub grows : IsPrefix old.told new.told
+  pub told : may_enter act ≡ false → new.told ≡ old.told
 
--- what the seat was told only grows, and so does the number of events that it made
+-- the seat made no event and was told of none; it may know more
+pub record IsStill (old new : Seat) : Type 0 where
+  pub told : new.told ≡ old.told
+  pub known : IsPrefix old.known new.known
+  pub events : new.events ≡ old.events
+
+-- what the seat was told and knows only grows, and so does the number of events that it made
 pub record IsLater (old new : Seat) : Type 0 where
   pub told : IsPrefix old.told new.told
+  pub known : IsPrefix old.known new.known
   pub events : old.events ≤ new.events
-
-pub serves-nothing : (opening : Node) (settings : Settings) (old new : Seat) (act : Act) → may_enter act ≡ false
-    → Serves opening settings old act new → new ≡ old
-serves-nothing opening settings old new act none step = subst (λ (b : Bool). MatchBool b (IsOneMore old new) (new ≡ old)) none step.entered
-
-pub later-same : (seat : Seat) → IsLater seat seat
-later-same seat = record { told = prefix_self seat.told; events = omega arith }
-
-later-entered : (old new : Seat) (b : Bool) → MatchBool b (IsOneMore old new) (new ≡ old) → IsLater old new
-later-entered old new true more = record { told = more.told; events = omega (arith, more.events) }
-later-entered old new false same = subst (IsLater old) (sym same) (later-same old)
-
-pub serves-later : (opening : Node) (settings : Settings) (old new : Seat) (act : Act) → Serves opening settings old act new → IsLater old new
-serves-later opening settings old new act step = later-entered old new (may_enter act) step.entered
-
-pub later-on : (old mid new : Seat) → IsLater old mid → IsLater mid new → IsLater old new
-later-on old mid new first next =
-    record { told = prefix_trans old.told mid.told new.told first.told next.told; events = omega (arith, first.events, next.events) }

@@ -45,7 +45,9 @@ struct Fixed<S: Configured> {
 }
 
 /// A node that threads share, each from a seat of its own. Each call but `settings` and `name` takes the one lock, so that
-/// its answer is that of the node after all events up to then; these begin with those that the seat was told or has seen.
+/// its answer is that of the node after all events up to then. These begin with those that the seat was told or has seen and with those
+/// that it knew, and from then on the seat knows them. What a seat knows or was told begins the one story of the node: nothing else
+/// can make a `Front`, and where the directory is closed all seats' events are the story's.
 #[derive(Drop)]
 pub struct Directory<S: Configured, R: Wait + Drop> {
     under: Mutex<Under<S, R>>,
@@ -108,18 +110,19 @@ impl<S: Configured, R: Wait + Drop> Directory<S, R> {
     /// Enters a committed write of the node's own, tells watches of it, and shows readers all that happened; gives its
     /// version, and whether the seat saw it. Where it did not, the next call that shows makes up for it. `WrongOwner`,
     /// `OwnerConflict`, `OutOfTurn` and `TableFull` as of the node; `TurnsSpent` after 2^64 - 1 events; `NoMemory`. Each
-    /// leaves everything as it was, the seat too.
+    /// leaves everything as it was, but that the seat knows what had happened.
     pub fn take_own<Q: Wait>(
         &self,
         rt: &Q,
         seat: &mut ReaderSeat<S>,
         committed: &Committed,
     ) -> Result<Receipt, Fault>
-        ensures answer { (l : List Event) × IsPrefix seat.old.told l × MatchResult result
+        ensures answer { (l : List Event) × spec.Begins l seat.old × MatchResult result
             (λ receipt. (spec.own_due_after S.opening l committed.now ≡ Ok tt)
+            × (seat.new.known ≡ l ++ events.TookOwn committed.now.entry ∷ [])
             × (receipt.shown ≡ true → seat.new.told ≡ l ++ events.TookOwn committed.now.entry ∷ []))
-            (spec.Refuses (spec.own_due_after S.opening l committed.now)) }
-        ensures count { MatchResult result (λ _. seat.new.events ≡ seat.old.events + 1) (λ _. seat.new ≡ seat.old) }
+            (λ fault. spec.Refuses (spec.own_due_after S.opening l committed.now) fault × (seat.new ≡ spec.with_known seat.old l)) }
+        ensures count { OnOk result (seat.new.events ≡ seat.old.events + 1) }
         ensures grows { IsPrefix seat.old.told seat.new.told }
         ensures version { IfOk result (λ receipt. receipt.version ≡ committed.now.entry.version) }
     {
@@ -129,19 +132,20 @@ impl<S: Configured, R: Wait + Drop> Directory<S, R> {
     /// Takes each block of a delta in turn, tells watches of each entry that it entered, and shows readers all that
     /// happened; gives how the blocks ended, and whether the seat saw it. Where it did not, the next call that shows
     /// makes up for it. `TurnsSpent` after 2^64 - 1 events; `NoMemory` where there is no room for the ends, or to note of which
-    /// owners watches and readers are to be told. Each leaves everything as it was, the seat too.
+    /// owners watches and readers are to be told. Each leaves everything as it was, but that the seat knows what had happened.
     pub fn apply<Q: Wait>(
         &self,
         rt: &Q,
         seat: &mut ReaderSeat<S>,
         delta: &Delta,
     ) -> Result<Applied, Fault>
-        ensures answer { (l : List Event) × IsPrefix seat.old.told l × MatchResult result
+        ensures answer { (l : List Event) × spec.Begins l seat.old × MatchResult result
             (λ applied. (spec.delta_due_after l ≡ Ok tt) × Treats (node_after S.opening l) delta.now applied.ends
+            × (seat.new.known ≡ l ++ events.Applied delta.now applied.ends ∷ [])
             × (applied.shown ≡ true → seat.new.told ≡ l ++ events.Applied delta.now applied.ends ∷ []))
-            (spec.Refuses (spec.delta_due_after l)) }
+            (λ fault. spec.Refuses (spec.delta_due_after l) fault × (seat.new ≡ spec.with_known seat.old l)) }
         ensures fault { IfErr result IsRefusal }
-        ensures count { MatchResult result (λ _. seat.new.events ≡ seat.old.events + 1) (λ _. seat.new ≡ seat.old) }
+        ensures count { OnOk result (seat.new.events ≡ seat.old.events + 1) }
         ensures grows { IsPrefix seat.old.told seat.new.told }
     {
         self.under.lock(rt).apply(rt, seat, delta)
@@ -152,11 +156,13 @@ impl<S: Configured, R: Wait + Drop> Directory<S, R> {
     pub fn digest<Q: Wait>(
         &self,
         rt: &Q,
-        seat: &ReaderSeat<S>,
+        seat: &mut ReaderSeat<S>,
         from: Option<Name>,
         want: bool,
     ) -> Result<Digest, Fault>
-        ensures answer { (l : List Event) × IsPrefix seat.now.told l × AnswersAfter S.opening S.settings l (tells from want result) }
+        ensures answer { AnswersAfter S.opening S.settings seat.new.known (tells from want result) }
+        ensures knew { spec.Begins seat.new.known seat.old }
+        ensures seat { seat.new ≡ spec.with_known seat.old seat.new.known }
         ensures memory { IfErr result (λ fault. fault ≡ Fault.NoMemory) }
     {
         self.under.lock(rt).digest(rt, seat, from, want)
@@ -166,18 +172,22 @@ impl<S: Configured, R: Wait + Drop> Directory<S, R> {
     pub fn deltas<Q: Wait>(
         &self,
         rt: &Q,
-        seat: &ReaderSeat<S>,
+        seat: &mut ReaderSeat<S>,
         digest: &Digest,
     ) -> Result<Delta, Fault>
-        ensures answer { (l : List Event) × IsPrefix seat.now.told l × AnswersAfter S.opening S.settings l (gives digest.now result) }
+        ensures answer { AnswersAfter S.opening S.settings seat.new.known (gives digest.now result) }
+        ensures knew { spec.Begins seat.new.known seat.old }
+        ensures seat { seat.new ≡ spec.with_known seat.old seat.new.known }
         ensures memory { IfErr result (λ fault. fault ≡ Fault.NoMemory) }
     {
         self.under.lock(rt).deltas(rt, seat, digest)
     }
 
     /// The greatest version under the own name that a block told of and the node never wrote; none where no block did.
-    pub fn conflict<Q: Wait>(&self, rt: &Q, seat: &ReaderSeat<S>) -> Option<u64>
-        ensures { (l : List Event) × IsPrefix seat.now.told l × (result ≡ (node_after S.opening l).conflict) }
+    pub fn conflict<Q: Wait>(&self, rt: &Q, seat: &mut ReaderSeat<S>) -> Option<u64>
+        ensures answer { result ≡ (node_after S.opening seat.new.known).conflict }
+        ensures knew { spec.Begins seat.new.known seat.old }
+        ensures seat { seat.new ≡ spec.with_known seat.old seat.new.known }
     {
         self.under.lock(rt).conflict(rt, seat)
     }
@@ -200,6 +210,8 @@ impl<S: Configured, R: Wait + Drop> Directory<S, R> {
     /// Shows readers all that happened, and says whether the seat saw it: then it was told at least as many events as its own calls
     /// made. Where there is no memory to show it, what is shown stays; where the seat may not see it, it is shown all the same.
     pub fn refresh<Q: Wait>(&self, rt: &Q, seat: &mut ReaderSeat<S>) -> bool
+        ensures told { result ≡ true → seat.new.told ≡ seat.new.known }
+        ensures knew { spec.Begins seat.new.known seat.old }
         ensures made { result ≡ true → seat.new.events ≤ length seat.new.told }
         ensures grows { IsPrefix seat.old.told seat.new.told }
         ensures count { seat.new.events ≡ seat.old.events }
@@ -219,6 +231,8 @@ impl<S: Configured, R: Wait + Drop> Directory<S, R> {
     ) -> Result<Polled, Fault>
         ensures answer { (hub : Hub) × Gives result (answer_at hub id) × IfErr (answer_at hub id) (λ fault. result ≡ Err fault) }
         ensures held { (note : Note) → result ≡ Ok (answers.Note note) → note.version ≤ (shown_of (node_after S.opening seat.new.told).held note.owner).held }
+        ensures told { OnOk result (seat.new.told ≡ seat.new.known) }
+        ensures knew { spec.Begins seat.new.known seat.old }
         ensures made { OnOk result (seat.new.events ≤ length seat.new.told) }
         ensures grows { IsPrefix seat.old.told seat.new.told }
         ensures count { seat.new.events ≡ seat.old.events }

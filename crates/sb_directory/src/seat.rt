@@ -3,6 +3,7 @@ ghost use Rattle.std.specs.Prelude.{◌≡◌, ◌≤◌, ◌+◌, MatchBool, Ma
 ghost use mathlib.Core.List.{IsPrefix};
 ghost use Rattle.sb_views.specs.Stories.{node_after};
 ghost use Rattle.sb_views.specs.Views.{IsView};
+ghost use Rattle.sb_directory.specs.Seats as spec;
 
 use core::mem::replace_with;
 use sb_views::{Entered, Front, Reader, Site, Snapshot};
@@ -10,11 +11,12 @@ use std::marker::Model;
 use std::sync::Wait;
 use std::sync::ledger::{Book, Share};
 
-/// A seat. Contracts see it as the beginning of the story that it was told or has seen, and the number of events that
-/// its calls made.
+/// A seat. Contracts see it as two beginnings of the story, that which it was told or has seen, and all that had happened when its
+/// last call was answered; and as the number of events that its calls made.
 #[derive(Drop)]
 pub struct ReaderSeat<S: Site> {
     reader: Reader<S>,
+    known: Front<S>,
     share: Share<S>,
 }
 
@@ -24,7 +26,7 @@ impl<S: Site> Model for ReaderSeat<S> {
 
     ghost Value = { spec.Seat };
 
-    ghost view = { λ s. record { told = s.reader; events = s.share.amount } };
+    ghost view = { λ s. record { told = s.reader; known = s.known; events = s.share.amount } };
 
     ghost invariant = { λ s. s.share.parts ≡ 1 };
 }
@@ -33,6 +35,7 @@ impl<S: Site> Model for ReaderSeat<S> {
 #[derive(Drop)]
 pub struct EnteredSeat<S: Site> {
     entered: Entered<S>,
+    known: Front<S>,
     share: Share<S>,
 }
 
@@ -42,30 +45,48 @@ impl<S: Site> Model for EnteredSeat<S> {
 
     ghost Value = { spec.Seat };
 
-    ghost view = { λ s. record { told = s.entered; events = s.share.amount } };
+    ghost view = { λ s. record { told = s.entered; known = s.known; events = s.share.amount } };
 
     ghost invariant = { λ s. s.share.parts ≡ 1 };
 }
 
 impl<S: Site> ReaderSeat<S> {
-    /// A seat for a reader, with one part of the ledger.
+    /// A seat for a reader, with one part of the ledger. It knows what the reader was told.
     pub(crate) fn new(reader: Reader<S>, share: Share<S>) -> ReaderSeat<S>
         requires { share.parts ≡ 1 }
-        ensures { result ≡ record { told = reader; events = share.amount } }
+        ensures { result ≡ record { told = reader; known = reader; events = share.amount } }
     {
-        ReaderSeat { reader, share }
+        let known = reader.told().again();
+        ReaderSeat {
+            reader,
+            known,
+            share,
+        }
     }
 
     /// Takes what is published, which stays as it is until the seat leaves. It waits for nobody and takes no memory.
     /// Where it is refused, as when the directory is gone, the seat comes back unchanged.
     /// A reader can't be kept behind the directory's lock: to take a lock a call needs a `Wait`, and this one has none.
     pub fn enter(self) -> Result<EnteredSeat<S>, ReaderSeat<S>>
-        ensures { MatchResult result (λ entered. IsPrefix self.told entered.told × (entered.events ≡ self.events)) (λ seat. seat ≡ self) }
+        ensures { MatchResult result (λ entered. IsPrefix self.told entered.told × (entered.known ≡ self.known) × (entered.events ≡ self.events))
+            (λ seat. seat ≡ self) }
     {
-        let ReaderSeat { reader, share } = self;
+        let ReaderSeat {
+            reader,
+            known,
+            share,
+        } = self;
         match reader.enter() {
-            Ok(entered) => Ok(EnteredSeat { entered, share }),
-            Err(reader) => Err(ReaderSeat { reader, share }),
+            Ok(entered) => Ok(EnteredSeat {
+                entered,
+                known,
+                share,
+            }),
+            Err(reader) => Err(ReaderSeat {
+                reader,
+                known,
+                share,
+            }),
         }
     }
 
@@ -79,6 +100,7 @@ impl<S: Site> ReaderSeat<S> {
     // Enters and leaves at once, where that is not refused.
     fn looked(self) -> (ReaderSeat<S>, ())
         ensures grows { IsPrefix self.told result.0.told }
+        ensures known { result.0.known ≡ self.known }
         ensures events { result.0.events ≡ self.events }
     {
         match self.enter() {
@@ -91,21 +113,31 @@ impl<S: Site> ReaderSeat<S> {
     pub(crate) fn look(&mut self, front: &Front<S>) -> bool
         ensures told { MatchBool result (self.new.told ≡ front.now) (Unit {0}) }
         ensures grows { IsPrefix self.old.told self.new.told }
+        ensures known { self.new.known ≡ self.old.known }
         ensures events { self.new.events ≡ self.old.events }
     {
         replace_with(self, (), |seat, _| seat.looked());
         front.is_same(self.reader.told())
     }
 
-    /// Tells that its events begin the story up to here, which no run has found otherwise: where it were, this would
-    /// not return.
-    pub(crate) fn know<Q: Wait>(&self, rt: &Q, front: &Front<S>)
-        ensures { IsPrefix self.now.told front.now }
+    /// Knows all that happened up to here. What it was told and knew begins that, which no run has found otherwise: where it did
+    /// not, this would not return.
+    pub(crate) fn know<Q: Wait>(&mut self, rt: &Q, front: &Front<S>)
+        ensures begins { spec.Begins front.now self.old }
+        ensures known { self.new ≡ spec.with_known self.old front.now }
     {
-        if !self.reader.told().begins(front) {
+        if !self.reader.told().begins(front) || !self.known.begins(front) {
             for _ in rt.forever() {}
             unreachable!();
         }
+        self.learn(front);
+    }
+
+    /// Knows all that happened up to here.
+    pub(crate) fn learn(&mut self, front: &Front<S>)
+        ensures { self.new ≡ spec.with_known self.old front.now }
+    {
+        self.known = front.again();
     }
 
     /// Its part of the ledger, with the number of events that its calls made.
@@ -115,6 +147,7 @@ impl<S: Site> ReaderSeat<S> {
     {
         let ReaderSeat {
             reader: _reader,
+            known: _known,
             share,
         } = self;
         share
@@ -132,7 +165,7 @@ impl<S: Site> ReaderSeat<S> {
     /// Counts an event that a call of it made.
     pub(crate) fn count(&mut self, book: &mut Book<S>)
         ensures total { book.new.total ≡ book.old.total + 1 }
-        ensures seat { self.new ≡ record { told = self.old.told; events = self.old.events + 1 } }
+        ensures seat { self.new ≡ record { told = self.old.told; known = self.old.known; events = self.old.events + 1 } }
     {
         book.add(&mut self.share, 1);
     }
@@ -157,9 +190,14 @@ impl<S: Site> EnteredSeat<S> {
     pub fn leave(self) -> ReaderSeat<S>
         ensures { result ≡ self }
     {
-        let EnteredSeat { entered, share } = self;
+        let EnteredSeat {
+            entered,
+            known,
+            share,
+        } = self;
         ReaderSeat {
             reader: entered.leave(),
+            known,
             share,
         }
     }

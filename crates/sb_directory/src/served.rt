@@ -58,24 +58,22 @@ impl<'a, S: Configured, R: Wait + Drop, Q: Wait> Served<'a, S, R, Q> {
 }
 
 impl<'a, S: Configured, R: Wait + Drop, Q: Wait> Handler for Served<'a, S, R, Q> {
-    ghost use Rattle.std.specs.Prelude.{◌≡◌};
-    ghost use Rattle.std.proofs.Common.{refl, ◌∙◌};
-    ghost use Rattle.sb_directory.specs.Serving.{Serves, IsLater, serves-nothing, serves-later, later-same, later-on};
+    ghost use Rattle.sb_directory.specs.Serving.{Serves, IsStill, IsLater};
+    ghost use Rattle.sb_directory.specs.Served.{serves-nothing, still-same, still-on, serves-later, later-same, later-on};
 
     // Others may have entered anything since the last call.
     ghost step = { Serves S.opening S.settings };
 
-    // The seat is as it was.
-    ghost stays = { λ old new. new ≡ old };
+    ghost stays = { IsStill };
 
     ghost grows = { IsLater };
 
     fn digest(&mut self, from: Option<Name>, want: bool) -> Result<Digest, Fault> {
-        self.directory.digest(self.rt, &self.seat, from, want)
+        self.directory.digest(self.rt, &mut self.seat, from, want)
     }
 
     fn deltas(&mut self, told: &Digest) -> Result<Delta, Fault> {
-        self.directory.deltas(self.rt, &self.seat, told)
+        self.directory.deltas(self.rt, &mut self.seat, told)
     }
 
     fn apply(&mut self, delta: &Delta) -> Result<Report, Fault> {
@@ -87,9 +85,9 @@ impl<'a, S: Configured, R: Wait + Drop, Q: Wait> Handler for Served<'a, S, R, Q>
 
     ghost enters_nothing = { serves-nothing S.opening S.settings };
 
-    ghost stays_still = { λ state. refl };
+    ghost stays_still = { still-same };
 
-    ghost stays_on = { λ old mid new a b. b ∙ a };
+    ghost stays_on = { still-on };
 
     ghost step_grows = { serves-later S.opening S.settings };
 

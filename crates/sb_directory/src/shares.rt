@@ -31,7 +31,7 @@ pub(crate) fn seat_all<S: Site>(
     Ok(seats)
 }
 
-/// Joins the parts of these seats, and tells that what they were told begins the story up to here.
+/// Joins the parts of these seats, and tells that what they were told and knew begins the story up to here.
 #[tactic(auto, using(crate::proofs::Sharing::joining_goes_on, crate::proofs::Sharing::joining_ends))]
 pub(crate) fn join_all<S: Site, Q: Wait>(
     rt: &Q,
@@ -46,7 +46,7 @@ pub(crate) fn join_all<S: Site, Q: Wait>(
     ensures told { spec.AllBegin front.now seats.items }
 {
     let mut all = rest;
-    for seat in seats {
+    for mut seat in seats {
         seat.know(rt, front);
         all.merge(seat.into_share());
     }

@@ -52,8 +52,8 @@ impl<S: Configured, R: Wait + Drop> Model for Under<S, R> {
     ghost invariant = { λ u. (u.book.total ≡ length u.locked.story) × (u.locked.core.settings ≡ S.settings) × (u.rest.parts ≡ 0) × (u.rest.amount ≡ 0) };
 }
 
-/// Counts the event that a call of this seat made, and lets the seat see what readers are shown; says whether that is
-/// all that happened.
+/// Counts the event that a call of this seat made, which the seat then knows, and lets it see what readers are shown; says whether
+/// that is all that happened.
 fn settle<S: Site, R: Wait + Drop>(
     locked: &Locked<S, R>,
     book: &mut Book<S>,
@@ -62,11 +62,13 @@ fn settle<S: Site, R: Wait + Drop>(
 ) -> bool
     ensures total { book.new.total ≡ book.old.total + 1 }
     ensures count { seat.new.events ≡ seat.old.events + 1 }
+    ensures known { seat.new.known ≡ locked.now.story }
     ensures grows { IsPrefix seat.old.told seat.new.told }
     ensures said { result ≡ true → shown ≡ true }
     ensures told { result ≡ true → seat.new.told ≡ locked.now.story }
 {
     seat.count(book);
+    seat.learn(locked.front());
     if !shown {
         return false;
     }
@@ -98,10 +100,11 @@ impl<S: Configured, R: Wait + Drop> Under<S, R> {
         ensures err { OnErr result (self.new ≡ self.old) }
         ensures answer { MatchResult result
             (λ receipt. (spec.own_due_after S.opening self.old.story committed.now ≡ Ok tt)
+            × (seat.new.known ≡ self.old.story ++ events.TookOwn committed.now.entry ∷ [])
             × (receipt.shown ≡ true → seat.new.told ≡ self.old.story ++ events.TookOwn committed.now.entry ∷ []))
             (spec.Refuses (spec.own_due_after S.opening self.old.story committed.now)) }
-        ensures count { MatchResult result (λ _. seat.new.events ≡ seat.old.events + 1) (λ _. seat.new ≡ seat.old) }
-        ensures knew { IsPrefix seat.old.told self.old.story }
+        ensures count { MatchResult result (λ _. seat.new.events ≡ seat.old.events + 1) (λ _. seat.new ≡ spec.with_known seat.old self.old.story) }
+        ensures knew { spec.Begins self.old.story seat.old }
         ensures grows { IsPrefix seat.old.told seat.new.told }
         ensures version { IfOk result (λ receipt. receipt.version ≡ committed.now.entry.version) }
     {
@@ -131,11 +134,12 @@ impl<S: Configured, R: Wait + Drop> Under<S, R> {
         ensures answer { MatchResult result
             (λ applied. (spec.delta_due_after self.old.story ≡ Ok tt)
             × Treats (node_after S.opening self.old.story) delta.now applied.ends
+            × (seat.new.known ≡ self.old.story ++ events.Applied delta.now applied.ends ∷ [])
             × (applied.shown ≡ true → seat.new.told ≡ self.old.story ++ events.Applied delta.now applied.ends ∷ []))
             (spec.Refuses (spec.delta_due_after self.old.story)) }
         ensures fault { IfErr result IsRefusal }
-        ensures count { MatchResult result (λ _. seat.new.events ≡ seat.old.events + 1) (λ _. seat.new ≡ seat.old) }
-        ensures knew { IsPrefix seat.old.told self.old.story }
+        ensures count { MatchResult result (λ _. seat.new.events ≡ seat.old.events + 1) (λ _. seat.new ≡ spec.with_known seat.old self.old.story) }
+        ensures knew { spec.Begins self.old.story seat.old }
         ensures grows { IsPrefix seat.old.told seat.new.told }
     {
         seat.know(rt, self.locked.front());
@@ -152,13 +156,14 @@ impl<S: Configured, R: Wait + Drop> Under<S, R> {
     pub(crate) fn digest<Q: Wait>(
         &self,
         rt: &Q,
-        seat: &ReaderSeat<S>,
+        seat: &mut ReaderSeat<S>,
         from: Option<Name>,
         want: bool,
     ) -> Result<Digest, Fault>
         ensures answer { AnswersAfter S.opening S.settings self.now.story (tells from want result) }
         ensures memory { IfErr result (λ fault. fault ≡ Fault.NoMemory) }
-        ensures knew { IsPrefix seat.now.told self.now.story }
+        ensures knew { spec.Begins self.now.story seat.old }
+        ensures known { seat.new ≡ spec.with_known seat.old self.now.story }
     {
         seat.know(rt, self.locked.front());
         self.locked.digest(from, want)
@@ -168,21 +173,23 @@ impl<S: Configured, R: Wait + Drop> Under<S, R> {
     pub(crate) fn deltas<Q: Wait>(
         &self,
         rt: &Q,
-        seat: &ReaderSeat<S>,
+        seat: &mut ReaderSeat<S>,
         digest: &Digest,
     ) -> Result<Delta, Fault>
         ensures answer { AnswersAfter S.opening S.settings self.now.story (gives digest.now result) }
         ensures memory { IfErr result (λ fault. fault ≡ Fault.NoMemory) }
-        ensures knew { IsPrefix seat.now.told self.now.story }
+        ensures knew { spec.Begins self.now.story seat.old }
+        ensures known { seat.new ≡ spec.with_known seat.old self.now.story }
     {
         seat.know(rt, self.locked.front());
         self.locked.deltas(digest)
     }
 
     /// The greatest version under the own name that the node never wrote, for a seat.
-    pub(crate) fn conflict<Q: Wait>(&self, rt: &Q, seat: &ReaderSeat<S>) -> Option<u64>
+    pub(crate) fn conflict<Q: Wait>(&self, rt: &Q, seat: &mut ReaderSeat<S>) -> Option<u64>
         ensures answer { result ≡ (node_after S.opening self.now.story).conflict }
-        ensures knew { IsPrefix seat.now.told self.now.story }
+        ensures knew { spec.Begins self.now.story seat.old }
+        ensures known { seat.new ≡ spec.with_known seat.old self.now.story }
     {
         seat.know(rt, self.locked.front());
         self.locked.conflict()
@@ -210,7 +217,8 @@ impl<S: Configured, R: Wait + Drop> Under<S, R> {
     pub(crate) fn refresh<Q: Wait>(&mut self, rt: &Q, seat: &mut ReaderSeat<S>) -> bool
         ensures left { self.new ≡ locks.with_shown self.old self.new.shown }
         ensures shown { spec.ShowsWhereSaid result self.old self.new }
-        ensures knew { IsPrefix seat.old.told self.old.story }
+        ensures knew { spec.Begins self.old.story seat.old }
+        ensures known { seat.new.known ≡ self.old.story }
         ensures grows { IsPrefix seat.old.told seat.new.told }
         ensures count { seat.new.events ≡ seat.old.events }
         ensures told { result ≡ true → seat.new.told ≡ self.new.story }
@@ -237,7 +245,8 @@ impl<S: Configured, R: Wait + Drop> Under<S, R> {
         ensures ok { OnOk result (self.new ≡ locks.with_shown (locks.with_hub self.old (with_answer self.old.hub id)) self.old.story) }
         ensures err { OnErr result (self.new ≡ locks.with_shown self.old self.new.shown) }
         ensures shown { OnErr result (spec.ShowsWhereSaid false self.old self.new) }
-        ensures knew { IsPrefix seat.old.told self.old.story }
+        ensures knew { spec.Begins self.old.story seat.old }
+        ensures known { seat.new.known ≡ self.old.story }
         ensures grows { IsPrefix seat.old.told seat.new.told }
         ensures count { seat.new.events ≡ seat.old.events }
         ensures told { OnOk result (seat.new.told ≡ self.new.story) }

@@ -1,29 +1,30 @@
 -- What is kept of a seat over the sessions of a worker.
-use Rattle.std.proofs.Common.{◌≡◌, ℕ, refl, ◌∙◌, sym, subst}
+use Rattle.std.proofs.Common.{◌≡◌, ℕ, sym, subst}
 use Rattle.sb_directory.specs.Seats.{Seat}
-use Rattle.sb_directory.specs.Serving.{IsLater, later-same, later-on}
+use Rattle.sb_directory.specs.Serving.{IsStill, IsLater}
+use Rattle.sb_directory.specs.Served.{still-same, still-on, later-same, later-on}
 use Rattle.sb_run.specs.declared.gate.Step.{Step}
 use Rattle.sb_run.specs.Gates.{IsShut, AreShut}
 use Rattle.sb_run.specs.Pools.{IsKept}
 
 pub kept_same : (shut : Type 0) (seat : Seat) → IsKept shut seat seat
-kept_same shut seat = record { later = later-same seat; same = λ _. refl }
+kept_same shut seat = record { later = later-same seat; still = λ _. still-same seat }
 
 -- a gate that is shut for every session is shut for the next
 pub kept_on : (lets : ℕ → Step → Type 0) (session : ℕ) (old mid new : Seat)
     → IsKept (AreShut lets) old mid → IsKept (IsShut (lets session)) mid new → IsKept (AreShut lets) old new
 kept_on lets session old mid new first next = record {
   later = later-on old mid new first.later next.later;
-  same = λ shut. next.same (shut session) ∙ first.same shut;
+  still = λ shut. still-on old mid new (first.still shut) (next.still (shut session));
 }
 
 -- what a session behind a gate keeps of a seat
 pub kept_behind : {G : Type 0} (lets : G → ℕ → Step → Type 0) (gate held : G) (session named : ℕ) (old before after new : Seat)
     → held ≡ gate → named ≡ session → before ≡ old → new ≡ after
-    → IsLater before after → (IsShut (lets held named) → after ≡ before) → IsKept (IsShut (lets gate session)) old new
-kept_behind lets gate held session named old before after new by of from to later same =
+    → IsLater before after → (IsShut (lets held named) → IsStill before after) → IsKept (IsShut (lets gate session)) old new
+kept_behind lets gate held session named old before after new by of from to later still =
     let kept : IsKept (IsShut (lets gate session)) before after = record {
       later = later;
-      same = λ shut. same (subst (λ (n : ℕ). IsShut (lets held n)) (sym of) (subst (λ g. IsShut (lets g session)) (sym by) shut));
+      still = λ shut. still (subst (λ (n : ℕ). IsShut (lets held n)) (sym of) (subst (λ g. IsShut (lets g session)) (sym by) shut));
     } in
     subst (IsKept (IsShut (lets gate session)) old) (sym to) (subst (λ (seat : Seat). IsKept (IsShut (lets gate session)) seat after) from kept)

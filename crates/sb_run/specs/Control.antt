@@ -20,6 +20,7 @@ use Rattle.sb_views.specs.Stories.{node_after}
 use Rattle.sb_views.specs.Views.{IsView}
 use Rattle.sb_query.specs.Pages.{asked_rows, IsLongestPage}
 use Rattle.sb_directory.specs.Seats.{Seat}
+use Rattle.sb_directory.specs.Serving.{IsLater}
 use Rattle.sb_run.specs.declared.owner.Stored.{Stored}
 use Rattle.sb_run.specs.Owners.{version_of, count_owed, count_shared, IsStored, IsRefused}
 use Rattle.sb_run.specs.Hearing.{Hears}
@@ -27,10 +28,10 @@ use Rattle.sb_run.specs.Hearing.{Hears}
 -- what the owner's `put` leaves with this answer
 pub record IsPut {L : Type 0} (seen : L → Log) (opening : Node) (old : L) (owed : Option Committed) (before : Seat) (key : List ℕ) (slot : Slot)
     (new : L) (owes : Option Committed) (after : Seat) (answer : Result Stored Fault) : Type 0 where
-  pub stored : IfOk answer (λ stored. IsStored opening (seen old) before.told key slot stored (seen new) owes after.told)
+  pub stored : IfOk answer (λ stored. IsStored opening (seen old) before key slot stored (seen new) owes after)
   pub count : IfOk answer (λ stored. after.events ≡ before.events + count_owed owed + count_shared stored)
   pub refused : IfErr answer (λ fault. IsRefused seen opening old owed before key slot new owes after fault)
-  pub grows : IsPrefix before.told after.told
+  pub later : IsLater before after
 
 -- the version of a write that was taken, or the number of the fault
 abbrev pub reply_of : Result Stored Fault → Message
@@ -50,7 +51,7 @@ IsLookedUp opening budget told ask reply =
 -- the seat sees what it reads; or it may not enter
 abbrev pub IsPageReply : Node → ℕ → Seat → asking.Ask → Seat → Message → Type 0
 IsPageReply opening budget before ask after reply =
-    (IsPrefix before.told after.told × (after.events ≡ before.events) × IsLookedUp opening budget after.told ask reply)
+    (IsPrefix before.told after.told × (after.known ≡ before.known) × (after.events ≡ before.events) × IsLookedUp opening budget after.told ask reply)
     ⊎ ((after ≡ before) × (reply ≡ kinds.Refused (number_of Closed)))
 
 -- any other message is none that is answered here

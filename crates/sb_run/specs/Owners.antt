@@ -11,7 +11,7 @@ use Rattle.sb_views.specs.declared.event.Event.{Event}
 use Rattle.sb_views.specs.declared.event.Event.TheVariants.{TookOwn}
 use Rattle.sb_views.specs.Stories.{node_after}
 use Rattle.sb_directory.specs.declared.receipt.Receipt.{Receipt}
-use Rattle.sb_directory.specs.Seats.{Seat, Refuses, own_due_after}
+use Rattle.sb_directory.specs.Seats.{Seat, Begins, Refuses, with_known, own_due_after}
 use Rattle.sb_run.specs.declared.owner.Stored.{Stored}
 use Rattle.sb_run.specs.declared.owner.Stored.TheVariants.{Shared, Owed}
 
@@ -29,41 +29,41 @@ abbrev pub count_shared : Stored → ℕ
 count_shared (Shared receipt) = 1
 count_shared (Owed version) = 0
 
--- the directory takes the write, after events that begin with those that were told
-abbrev pub IsTaken : Node → List Event → Committed → Receipt → List Event → Type 0
-IsTaken opening told c receipt seen =
-    (l : List Event) × IsPrefix told l × (own_due_after opening l c ≡ Ok tt) × (receipt.shown ≡ true → seen ≡ l ++ TookOwn c.entry ∷ [])
+-- the directory takes the write after all that had happened, and with that the seat knows it, as the last; where that is said it was told so
+abbrev pub IsTaken : Node → Seat → Committed → Receipt → Seat → Type 0
+IsTaken opening before c receipt after =
+    (l : List Event) × Begins l before × (own_due_after opening l c ≡ Ok tt) × (after.known ≡ l ++ TookOwn c.entry ∷ [])
+    × (receipt.shown ≡ true → after.told ≡ l ++ TookOwn c.entry ∷ [])
 
--- the directory refuses the write, after events that begin with those that were told: with this fault, where there is memory
-abbrev pub IsTurnedAway : Node → List Event → Committed → Fault → Type 0
-IsTurnedAway opening told c fault = (l : List Event) × IsPrefix told l × Refuses (own_due_after opening l c) fault
+-- the directory refuses the write after all that the seat now knows: with this fault, where there is memory
+abbrev pub IsTurnedAway : Node → Seat → Committed → Fault → Seat → Type 0
+IsTurnedAway opening before c fault after = Begins after.known before × Refuses (own_due_after opening after.known c) fault
 
--- the write is an event of the directory, the last that the seat sees where it is told so, and nothing is owed; or the directory refuses
--- it, and it is owed
-abbrev pub PassesOn : Node → List Event → Committed → Stored → Option Committed → List Event → Type 0
-PassesOn opening told c (Shared receipt) owed seen = (owed ≡ None) × IsTaken opening told c receipt seen
-PassesOn opening told c (Owed version) owed seen = (owed ≡ Some c) × ((fault : Fault) × IsTurnedAway opening told c fault)
+-- the write is an event of the directory, the last that the seat knows, and nothing is owed; or the directory refuses it, and it is owed
+abbrev pub PassesOn : Node → Seat → Committed → Stored → Option Committed → Seat → Type 0
+PassesOn opening before c (Shared receipt) owed after = (owed ≡ None) × IsTaken opening before c receipt after
+PassesOn opening before c (Owed version) owed after = (owed ≡ Some c) × ((fault : Fault) × IsTurnedAway opening before c fault after)
 
 -- the log took the write in this call, and what it took is passed on under the version that it gave
-pub record IsStored (opening : Node) (old : Log) (told : List Event) (key : List ℕ) (slot : Slot) (stored : Stored)
-    (new : Log) (owed : Option Committed) (seen : List Event) : Type 0 where
+pub record IsStored (opening : Node) (old : Log) (before : Seat) (key : List ℕ) (slot : Slot) (stored : Stored)
+    (new : Log) (owed : Option Committed) (after : Seat) : Type 0 where
   pub committed : Committed
   pub puts : Puts old key slot (Ok committed) new
   pub version : version_of stored ≡ committed.entry.version
-  pub passes : PassesOn opening told committed stored owed seen
+  pub passes : PassesOn opening before committed stored owed after
 
--- at some time behind what was told, no other node had written under the own name
-abbrev pub IsUndisputed : Node → List Event → Type 0
-IsUndisputed opening told = (l : List Event) × IsPrefix told l × ((node_after opening l).conflict ≡ None)
+-- when the call was made, no other node had written under the own name
+abbrev pub IsUndisputed : Node → Seat → Seat → Type 0
+IsUndisputed opening before after = (l : List Event) × Begins l before × IsPrefix l after.known × ((node_after opening l).conflict ≡ None)
 
 -- another node writes under the own name; or the directory refuses what is owed
-abbrev pub IsHeldBack : Node → List Event → Option Committed → Fault → Type 0
-IsHeldBack opening told owed fault =
-    ((l : List Event) × IsPrefix told l × ((version : ℕ) × ((node_after opening l).conflict ≡ Some version) × (fault ≡ OwnerConflict version)))
-    ⊎ ((c : Committed) × (owed ≡ Some c) × IsTurnedAway opening told c fault)
+abbrev pub IsHeldBack : Node → Seat → Option Committed → Fault → Seat → Type 0
+IsHeldBack opening before owed fault after =
+    (Begins after.known before × ((version : ℕ) × ((node_after opening after.known).conflict ≡ Some version) × (fault ≡ OwnerConflict version)))
+    ⊎ ((c : Committed) × (owed ≡ Some c) × IsTurnedAway opening before c fault after)
 
--- nothing changes and the log is not asked; or what was owed is handed in, and the log refuses
+-- nothing changes but what the seat knows, and the log is not asked; or what was owed is handed in, and the log refuses
 abbrev pub IsRefused : {L : Type 0} → (L → Log) → Node → L → Option Committed → Seat → List ℕ → Slot → L → Option Committed → Seat → Fault → Type 0
 IsRefused seen opening old owed before key slot new owes after fault =
-    (IsHeldBack opening before.told owed fault × (new ≡ old) × (owes ≡ owed) × (after ≡ before))
+    (IsHeldBack opening before owed fault after × (new ≡ old) × (owes ≡ owed) × (after ≡ with_known before after.known))
     ⊎ (Puts (seen old) key slot (Err fault) (seen new) × (owes ≡ None) × (after.events ≡ before.events + count_owed owed))

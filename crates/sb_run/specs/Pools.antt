@@ -1,12 +1,12 @@
 -- What a pool leaves of its seats.
 use Rattle.std.specs.Prelude.{◌≡◌, ℕ, ◌<◌, List, length, slice_index_or}
 use Rattle.sb_directory.specs.Seats.{Seat}
-use Rattle.sb_directory.specs.Serving.{IsLater}
+use Rattle.sb_directory.specs.Serving.{IsStill, IsLater}
 
--- the seat was told no less and made no fewer events; where the gate is shut it is as it was
+-- the seat was told and knows no less, and made no fewer events; where the gate is shut it made none, and was told nothing more
 pub record IsKept (shut : Type 0) (old new : Seat) : Type 0 where
   pub later : IsLater old new
-  pub same : shut → new ≡ old
+  pub still : shut → IsStill old new
 
 -- the same seats, each of them so kept
 pub record AreKept (shut : Type 0) (old new : List Seat) : Type 0 where

@@ -1,6 +1,6 @@
 //! The thread that dials the peers of a node.
 ghost use Rattle.std.specs.Prelude.{◌≡◌, ◌<◌, IfErr};
-ghost use Rattle.sb_directory.specs.Serving.{IsLater};
+ghost use Rattle.sb_directory.specs.Serving.{IsStill, IsLater};
 
 use crate::observer::Observer;
 use crate::rounds::{Paced, Rounds};
@@ -22,8 +22,10 @@ use std::time::{Clock, Duration};
 /// How many digests it takes to tell of all owners that the node holds, at least 1. Where memory is wanting, 1.
 fn digests_of_all<S: Paced, H: Wait + Drop, Q: Wait>(
     node: &Shared<S, H, Q>,
-    seat: &ReaderSeat<S>,
-) -> u64 {
+    seat: &mut ReaderSeat<S>,
+) -> u64
+    ensures { IsStill seat.old seat.new }
+{
     let mut from = None;
     let most = OWNERS_MOST as u64;
     for count in 1..most {
@@ -50,7 +52,8 @@ fn talk<S: Paced, H: Wait + Drop, Q: Wait, K: Ledger>(
     requires some { 0 < blank.parts }
     ensures { IsLater seat result.0 }
 {
-    let rounds = digests_of_all(node, &seat);
+    let mut seat = seat;
+    let rounds = digests_of_all(node, &mut seat);
     let mut steps = Steps::<K>::new(blank);
     let mut handler = Served::new(node.rt, node.directory, seat);
     let (mut input, mut output) = (&stream, &stream);
@@ -175,7 +178,7 @@ impl<'a, O: Observer> Dialer<'a, O> {
     fn tell_conflict<S: Paced, H: Wait + Drop, Q: Wait>(
         &mut self,
         node: &Shared<S, H, Q>,
-        seat: &ReaderSeat<S>,
+        seat: &mut ReaderSeat<S>,
     ) {
         if self.told_conflict {
             return;
@@ -204,7 +207,7 @@ impl<'a, O: Observer> Dialer<'a, O> {
         if failed {
             self.faults = self.faults.saturating_add(1);
         }
-        self.tell_conflict(node, &sitting);
+        self.tell_conflict(node, &mut sitting);
         thread::sleep(node.rt, Duration::from_millis(node.pace.pause));
         sitting
     }

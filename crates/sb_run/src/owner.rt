@@ -1,8 +1,9 @@
 //! The owner of a node's writes: each is kept in its log before the directory is told of it.
 ghost use Rattle.std.specs.Prelude.{◌≡◌, ◌+◌, true, None, OnOk, IfOk, IfErr};
-ghost use mathlib.Core.List.{IsPrefix};
 ghost use Rattle.sb_codec.specs.Limits.{is_version};
 ghost use Rattle.sb_log.specs.Puts.{IsSettled};
+ghost use Rattle.sb_directory.specs.Seats.{with_known};
+ghost use Rattle.sb_directory.specs.Serving.{IsLater};
 ghost use Rattle.sb_run.specs.Owners.{IsUndisputed, version_of, count_owed, count_shared, IsHeldBack, IsStored, IsRefused};
 
 use sb_directory::{Configured, Directory, ReaderSeat, Receipt};
@@ -48,7 +49,7 @@ impl<L: WriteLog> Owner<L> {
     }
 
     /// Hands in what is owed. `OwnerConflict` where another node writes under the own name; then the faults of
-    /// the directory for what is owed. Each leaves everything as it was.
+    /// the directory for what is owed. Each leaves everything as it was, but that the seat knows what had happened.
     fn settle<S: Configured, H: Wait + Drop, Q: Wait>(
         &mut self,
         rt: &Q,
@@ -58,11 +59,11 @@ impl<L: WriteLog> Owner<L> {
         ensures log { self.new.log ≡ self.old.log }
         ensures owed { OnOk result (self.new.owed ≡ None) }
         ensures count { OnOk result (seat.new.events ≡ seat.old.events + count_owed self.old.owed) }
-        ensures free { IfOk result (λ _. IsUndisputed S.opening seat.old.told) }
-        ensures refused { IfErr result (λ fault. IsHeldBack S.opening seat.old.told self.old.owed fault) }
+        ensures free { IfOk result (λ _. IsUndisputed S.opening seat.old seat.new) }
+        ensures refused { IfErr result (λ fault. IsHeldBack S.opening seat.old self.old.owed fault seat.new) }
         ensures owes { IfErr result (λ _. self.new.owed ≡ self.old.owed) }
-        ensures seat { IfErr result (λ _. seat.new ≡ seat.old) }
-        ensures grows { IsPrefix seat.old.told seat.new.told }
+        ensures seat { IfErr result (λ _. seat.new ≡ with_known seat.old seat.new.known) }
+        ensures later { IsLater seat.old seat.new }
     {
         if let Some(version) = directory.conflict(rt, seat) {
             return Err(Fault::OwnerConflict(version));
@@ -78,7 +79,7 @@ impl<L: WriteLog> Owner<L> {
     /// it, it is owed, and is handed in before the next write.
     ///
     /// `OwnerConflict` where another node writes under the own name; the faults of the directory for what is owed.
-    /// Each of these leaves everything as it was. Then, with what was owed handed in, the faults of `WriteLog::put`: with
+    /// Each of these leaves everything as it was, but that the seat knows what had happened. Then, with what was owed handed in, the faults of `WriteLog::put`: with
     /// `StoreFailed` the write stands or does not, and the log is closed; with each other one the log took nothing.
     pub fn put<S: Configured, H: Wait + Drop, Q: Wait>(
         &mut self,
@@ -88,15 +89,15 @@ impl<L: WriteLog> Owner<L> {
         key: &Key,
         slot: &Slot,
     ) -> Result<Stored, Fault>
-        ensures stored { IfOk result (λ stored. IsStored S.opening (L.seen self.old.log) seat.old.told key.now slot.now stored
-            (L.seen self.new.log) self.new.owed seat.new.told) }
+        ensures stored { IfOk result (λ stored. IsStored S.opening (L.seen self.old.log) seat.old key.now slot.now stored
+            (L.seen self.new.log) self.new.owed seat.new) }
         ensures version { IfOk result (λ stored. is_version (version_of stored) ≡ true) }
         ensures count { IfOk result (λ stored. seat.new.events ≡ seat.old.events + count_owed self.old.owed + count_shared stored) }
-        ensures free { IfOk result (λ _. IsUndisputed S.opening seat.old.told) }
+        ensures free { IfOk result (λ _. IsUndisputed S.opening seat.old seat.new) }
         ensures refused { IfErr result (λ fault. IsRefused L.seen S.opening self.old.log self.old.owed seat.old key.now slot.now
             self.new.log self.new.owed seat.new fault) }
         ensures settled { IsSettled (L.seen self.old.log) (L.leaves self.old.log) → IsSettled (L.seen self.new.log) (L.leaves self.new.log) }
-        ensures grows { IsPrefix seat.old.told seat.new.told }
+        ensures later { IsLater seat.old seat.new }
     {
         self.settle(rt, directory, seat)?;
         let committed = self.log.put(key, slot)?;

@@ -13,8 +13,8 @@ returns-in-Ok-clause-stored g c =
       version = c.in-Ok.ensures.version;
       passes = (
         c.in_ok-settle.ensures.owed,
-        taken_from g.S.Site.opening c.args.seat.now.told c.settle.new.seat.told kept c.in-Ok.receipt c.take_own.new.seat.told c.settle.ensures.grows
-            (taken.0, taken.1, taken.2.0, taken.2.1),
+        taken_from g.S.Site.opening c.args.seat.now c.settle.new.seat kept c.in-Ok.receipt c.take_own.new.seat c.settle.ensures.later
+            (taken.0, taken.1, taken.2.0, taken.2.1, taken.2.2),
       );
     }
 
@@ -27,6 +27,6 @@ returns-in-Err-clause-stored g c =
       version = c.version-version.ensures.version ∙ ap (λ (e : Entry). e.version) c.entry.ensures.entry;
       passes = (
         refl,
-        (c.in-Err.field-0, turned_from g.S.Site.opening c.args.seat.now.told c.settle.new.seat.told kept c.in-Err.field-0 c.settle.ensures.grows c.in-Err.ensures.answer),
+        (c.in-Err.field-0, turned_from g.S.Site.opening c.args.seat.now c.settle.new.seat kept c.in-Err.field-0 c.take_own.new.seat c.settle.ensures.later (turned_away c.in-Err.ensures.answer)),
       );
     }
