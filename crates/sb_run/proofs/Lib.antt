@@ -1,4 +1,5 @@
 pub mod Numbers
 pub mod Handing
+pub mod Together
 pub mod Pooling
 pub mod Enduring

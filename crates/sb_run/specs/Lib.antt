@@ -4,3 +4,4 @@ pub mod Control
 pub mod Gates
 pub mod Pools
 pub mod Running
+pub mod Together

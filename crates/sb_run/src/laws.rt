@@ -17,6 +17,7 @@ ghost use Rattle.sb_views.specs.Pages.{Page, upto_of, row_of};
 ghost use Rattle.sb_views.specs.Stories.{steps_of, node_after};
 ghost use Rattle.sb_views.specs.Views.{IsView};
 ghost use Rattle.sb_directory.specs.Serving.{AnswersAfter};
+ghost use Rattle.sb_run.specs.Together.{Happened, story_of, AreOpened, WasGiven, HappenInTurn};
 
 use sb_digest::digests_are_true;
 use sb_holdings::{nodes_hold, reads_are_true, runs_join};
@@ -34,7 +35,7 @@ use sb_views::views_show_what_is_held;
 ///
 /// That the events are true is a premise: it is what peers give whose sessions hear only what is true
 /// (`sessions_keep_truth` of `sb_node`). A node that opens with what its log holds is such an opening node
-/// (`opened_nodes_hold` and `holdings_make_nodes` of `sb_holdings`). Nothing here speaks of many nodes.
+/// (`opened_nodes_hold` and `holdings_make_nodes` of `sb_holdings`). `running_nodes_tell_truth` speaks of many nodes.
 pub fn running_nodes_keep_truth()
     ensures given { (writes : List ℕ → List Write) (opening : Node) (story : List Event) (page : Page) (owner key : List ℕ) (value : Value) (version : ℕ) →
         IsNode opening → NodeHolds writes opening → AreNodeEvents (flat_map steps_of story) → AllTrueAt writes opening.held.me (flat_map steps_of story) →
@@ -62,4 +63,37 @@ pub fn running_nodes_keep_truth()
     views_show_what_is_held();
     answers_are_honest();
     digests_are_true();
+}
+
+/// What running nodes give is true and exact where they are told nothing but what one of them gave. Said of all lists of writes, of
+/// any number of runs, each of a node that opened with what is true of the writes, be it after a crash, and of all that happens to them
+/// in one order (`HappenInTurn`): a run takes writes of its owner, and deltas that some run gave before, which come late, again, in
+/// any order, or never. Then in each run, what a view has under an owner and a key was written by that owner under that version
+/// (`given`); a write whose key was not written again, at or below the version that the view shows of its owner, is what the view has
+/// under its key, or nothing for a removal (`exact`); each block of a delta that is given is honest (`honest`); and no version is
+/// lower than it was in this run (`later`). All that happens is any list, so this holds at each moment.
+///
+/// The premise that no other delta comes is the peers' and the sockets': that whoever dials or is dialed runs this program, and that
+/// what is read from a socket was written to it. That each run takes and gives so is what the contracts of `Directory` say, whose
+/// calls are answered after what had happened in the run, and those of `serve_pool` and `Owner::put` over them.
+pub fn running_nodes_tell_truth()
+    ensures given { (writes : List ℕ → List Write) (opening : ℕ → Node) (settings : ℕ → Settings) (all : List Happened) (run : ℕ)
+        (page : Page) (owner key : List ℕ) (value : Value) (version : ℕ) →
+        AreOpened writes opening → HappenInTurn writes opening settings all →
+        IsView (node_after (opening run) (story_of run all)) page → row_of page owner key ≡ Some (value, version) →
+        Written (writes owner) (record { key = key; version = version; slot = Set value }) }
+    ensures exact { (writes : List ℕ → List Write) (opening : ℕ → Node) (settings : ℕ → Settings) (all : List Happened) (run : ℕ)
+        (page : Page) (owner : List ℕ) (e : Entry) →
+        AreOpened writes opening → HappenInTurn writes opening settings all →
+        IsView (node_after (opening run) (story_of run all)) page → Written (writes owner) e → (Superseded (writes owner) e → ⊥) → e.version ≤ upto_of page owner →
+        row_of page owner e.key ≡ shown_slot e.version e.slot }
+    ensures honest { (writes : List ℕ → List Write) (opening : ℕ → Node) (settings : ℕ → Settings) (all : List Happened) (blocks : List Block) (b : Block) →
+        AreOpened writes opening → HappenInTurn writes opening settings all → WasGiven opening settings all blocks → Stands blocks b → Honest (writes b.owner) b }
+    ensures later { (writes : List ℕ → List Write) (opening : ℕ → Node) (settings : ℕ → Settings) (earlier all : List Happened) (run : ℕ) →
+        AreOpened writes opening → HappenInTurn writes opening settings all → IsPrefix earlier all →
+        NodeLater (node_after (opening run) (story_of run earlier)) (node_after (opening run) (story_of run all)) }
+{
+    running_nodes_keep_truth();
+    nodes_hold();
+    answers_are_honest();
 }

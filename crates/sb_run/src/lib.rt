@@ -25,7 +25,7 @@ mod threads;
 pub use asking::ask_control;
 pub use control::serve_control;
 pub use gate::{Gate, Open, Step};
-pub use laws::running_nodes_keep_truth;
+pub use laws::{running_nodes_keep_truth, running_nodes_tell_truth};
 pub use node::{Pace, Paths, Ran, run_node};
 pub use observer::{Nobody, Observer};
 pub use owner::{Owner, Stored};

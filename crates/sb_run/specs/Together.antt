@@ -1,0 +1,45 @@
+-- Runs of nodes that tell each other, and what happens to them all, in one order.
+use Rattle.std.specs.Prelude.{◌≡◌, ℕ, ◌==◌, if◌then◌else◌, List, [], ◌∷◌, ◌++◌, Ok}
+use Rattle.std.specs.List.{flat_map}
+use mathlib.Core.List.{IsPrefix}
+use Rattle.sb_types.specs.declared.entry.Write.{Write}
+use Rattle.sb_types.specs.Records.{Block, Settings}
+use Rattle.sb_types.specs.Writes.{Written}
+use Rattle.sb_holdings.specs.Nodes.{Node, IsNode, NodeHolds}
+use Rattle.sb_digest.specs.Digests.{Digest}
+use Rattle.sb_session.specs.Handlers.{gives}
+use Rattle.sb_views.specs.declared.event.Event.{Event}
+use Rattle.sb_views.specs.declared.event.Event.TheVariants.{TookOwn, Applied}
+use Rattle.sb_directory.specs.Serving.{AnswersAfter}
+
+-- an event of one of the runs, each of which has a number
+pub record Happened : Type 0 where
+  pub run : ℕ
+  pub event : Event
+
+-- the event, if it is of this run
+abbrev pub in_run : ℕ → Happened → List Event
+in_run run h = if h.run == run then h.event ∷ [] else []
+
+-- all that happened in this run: its story
+abbrev pub story_of : ℕ → List Happened → List Event
+story_of run all = flat_map (in_run run) all
+
+-- each run opened with what is true of the writes, as it does with what its log holds
+abbrev pub AreOpened : (List ℕ → List Write) → (ℕ → Node) → Type 0
+AreOpened writes opening = (run : ℕ) → IsNode (opening run) × NodeHolds writes (opening run)
+
+-- when all this had happened, some run gave this delta in answer to some digest
+abbrev pub WasGiven : (ℕ → Node) → (ℕ → Settings) → List Happened → List Block → Type 0
+WasGiven opening settings all blocks =
+    (run : ℕ) × (digest : Digest) × AnswersAfter (opening run) (settings run) (story_of run all) (gives digest (Ok blocks))
+
+-- after all this a run may take a write of its owner, and a delta that some run gave before: late, again, in any order, or never
+abbrev pub MayHappen : (List ℕ → List Write) → (ℕ → Node) → (ℕ → Settings) → List Happened → ℕ → Event → Type 0
+MayHappen writes opening settings all run (TookOwn e) = Written (writes (opening run).held.me) e
+MayHappen writes opening settings all run (Applied blocks ends) = (earlier : List Happened) × IsPrefix earlier all × WasGiven opening settings earlier blocks
+
+-- each of these events came when it could
+abbrev pub HappenInTurn : (List ℕ → List Write) → (ℕ → Node) → (ℕ → Settings) → List Happened → Type 0
+HappenInTurn writes opening settings all =
+    (earlier : List Happened) (h : Happened) (later : List Happened) → earlier ++ h ∷ later ≡ all → MayHappen writes opening settings earlier h.run h.event
