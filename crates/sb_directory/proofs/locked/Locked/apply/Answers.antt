@@ -18,7 +18,7 @@ use Rattle.sb_directory.proofs.locked.Locked.apply.Goals as goal
 entered : (g : Over) (c : After-add_applied g) (hub : Hub)
     → hub ≡ with_notes c.self.inside.hub (entered_of c.args.delta.now c.self.inside.core.node.held (replay_node c.self.inside.core.node (took_each c.args.delta.now c.in_ok-ends.ends)).held)
     → IsLocked g.S.Site.opening c.self.inside.views.ready c.add_owners.new.self
-      (record { core = c.apply.new.self; hub = hub; story = c.add_applied.new.front; shown = c.self.inside.views.shown })
+    (record { core = c.apply.new.self; hub = hub; story = c.add_applied.new.front; shown = c.self.inside.views.shown })
 entered g c hub told =
     let opening = g.S.Site.opening in
     let inside = c.self.inside in

@@ -15,7 +15,7 @@ use Rattle.sb_directory.proofs.locked.Locked.take_own.Goals as goal
 -- what lies under the lock once the write is entered, where watches are told of it
 entered : (g : Over) (c : After-add_own g) (hub : Hub) → hub ≡ with_notes c.self.inside.hub ((c.self.inside.core.node.held.me, c.args.committed.now.entry) ∷ [])
     → IsLocked g.S.Site.opening c.self.inside.views.ready c.add.new.self
-      (record { core = c.take_own.new.self; hub = hub; story = c.add_own.new.front; shown = c.self.inside.views.shown })
+    (record { core = c.take_own.new.self; hub = hub; story = c.add_own.new.front; shown = c.self.inside.views.shown })
 entered g c hub told =
     let opening = g.S.Site.opening in
     let inside = c.self.inside in
