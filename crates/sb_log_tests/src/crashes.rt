@@ -1,5 +1,6 @@
-//! What a crash leaves of a log in files, on disks that stop after so many calls.
+//! What a crash leaves of a log in files, on disks of which a call fails, and each one after it or none.
 use crate::disks::{Calls, ENDLESS, Visit, new_disks, on_disks};
+use crate::faulty::After;
 use crate::writes::{OWNER, key, name, set};
 use crate::{got, same, same_at};
 use sb_log::{SqlLog, WriteLog};
@@ -46,8 +47,16 @@ fn open<S: Alter + Drop>(
     SqlLog::open(alloc, conn, name(rt, OWNER), name(rt, b"c"), 9)
 }
 
-/// Where the write behind so many acknowledged ones failed.
-fn failed_after(acknowledged: usize) -> Progress {
+/// Where the write behind so many acknowledged ones failed. Where the store did, the log takes no other, be the disk as it may.
+fn failed_after<L: WriteLog>(
+    rt: &impl Abort,
+    log: &mut L,
+    acknowledged: usize,
+    fault: Fault,
+) -> Progress {
+    if fault == Fault::StoreFailed {
+        same(rt, &set(rt, log, b"z", 1), &Err(Fault::Closed));
+    }
     Progress {
         acknowledged,
         begun: acknowledged.saturating_add(1),
@@ -56,14 +65,14 @@ fn failed_after(acknowledged: usize) -> Progress {
 
 /// Writes until a write fails.
 fn put_three<L: WriteLog>(rt: &impl Abort, log: &mut L) -> Progress {
-    if set(rt, log, b"x", 5).is_err() {
-        return failed_after(0);
+    if let Err(fault) = set(rt, log, b"x", 5) {
+        return failed_after(rt, log, 0, fault);
     }
-    if set(rt, log, b"y", 6).is_err() {
-        return failed_after(1);
+    if let Err(fault) = set(rt, log, b"y", 6) {
+        return failed_after(rt, log, 1, fault);
     }
-    if set(rt, log, b"x", 7).is_err() {
-        return failed_after(2);
+    if let Err(fault) = set(rt, log, b"x", 7) {
+        return failed_after(rt, log, 2, fault);
     }
     ALL
 }
@@ -158,7 +167,7 @@ fn recovers_whole(rt: &impl Abort, alloc: Global, disks: &Files<Memory>, progres
     recovers(rt, alloc, &mut whole, progress);
 }
 
-/// Stops the disks, and lets what was not synced stay, and then be lost.
+/// Lets calls of the disks fail, and then what was not synced stay, and be lost.
 fn stop(rt: &impl Abort, alloc: Global, calls: Calls) -> Progress {
     let mut disks = new_disks(alloc);
     let progress = on_disks(rt, alloc, &mut disks, calls, Writing).unwrap_or(NOTHING);
@@ -184,7 +193,12 @@ fn stop_db(rt: &impl Abort, alloc: Global, from: u64, to: u64) {
 // The log file answers 50 calls, and the database file 14, until the third write is acknowledged: each of them is stopped at.
 #[test]
 fn no_call_is_left_out(rt: HostRuntime) {
-    let progress = stop(&rt, rt.alloc(), Calls { log: 50, db: 14 });
+    let calls = Calls {
+        log: 50,
+        db: 14,
+        ..ENDLESS
+    };
+    let progress = stop(&rt, rt.alloc(), calls);
     same(&rt, &progress, &ALL);
 }
 
@@ -251,4 +265,46 @@ fn the_database_file_stops_at_calls_6_to_10(rt: HostRuntime) {
 #[test]
 fn the_database_file_stops_at_calls_11_to_14(rt: HostRuntime) {
     stop_db(&rt, rt.alloc(), 10, 14);
+}
+
+/// Lets one call of the log file fail, each from the one to the other in its turn; all others are answered.
+fn miss_log(rt: &impl Abort, alloc: Global, from: u64, to: u64) {
+    for log in from..to {
+        let after = After::Answering;
+        stop(
+            rt,
+            alloc,
+            Calls {
+                log,
+                after,
+                ..ENDLESS
+            },
+        );
+    }
+}
+
+#[test]
+fn one_of_calls_1_to_25_of_the_log_file_fails(rt: HostRuntime) {
+    miss_log(&rt, rt.alloc(), 0, 25);
+}
+
+#[test]
+fn one_of_calls_26_to_50_of_the_log_file_fails(rt: HostRuntime) {
+    miss_log(&rt, rt.alloc(), 25, 50);
+}
+
+#[test]
+fn one_call_of_the_database_file_fails(rt: HostRuntime) {
+    for db in 0..14 {
+        let after = After::Answering;
+        stop(
+            &rt,
+            rt.alloc(),
+            Calls {
+                db,
+                after,
+                ..ENDLESS
+            },
+        );
+    }
 }

@@ -1,21 +1,24 @@
-//! Two disks in memory, and a database over them that stops after so many calls.
+//! Two disks in memory, and a database over them of which a call fails.
+use crate::faulty::{After, Faulty};
 use crate::lent::Lent;
 use sb_types::Fault;
 use sqlite::{Alter, Connection, Files, Options};
-use sqlite_disk::{Disk, Fuse, Memory};
+use sqlite_disk::{Disk, Memory};
 use std::alloc::Global;
 use std::process::Abort;
 
-/// The calls that each file answers before it stops.
+/// The calls that each file answers before one fails, and what comes after that.
 #[derive(Clone, Copy)]
 pub struct Calls {
     pub log: u64,
     pub db: u64,
+    pub after: After,
 }
 
 pub const ENDLESS: Calls = Calls {
     log: u64::MAX,
     db: u64::MAX,
+    after: After::Failing,
 };
 
 /// Two empty files.
@@ -48,8 +51,8 @@ pub fn on_disks<V: Visit + Drop>(
     visitor: V,
 ) -> Result<V::Told, Fault> {
     let files = Files {
-        log: Fuse::new(Lent::new(&mut disks.log), calls.log),
-        db: Fuse::new(Lent::new(&mut disks.db), calls.db),
+        log: Faulty::new(Lent::new(&mut disks.log), calls.log, calls.after),
+        db: Faulty::new(Lent::new(&mut disks.db), calls.db, calls.after),
     };
     on_files(rt, alloc, files, visitor)
 }

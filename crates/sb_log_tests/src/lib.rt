@@ -9,6 +9,8 @@ mod database;
 #[cfg(test)]
 mod disks;
 #[cfg(test)]
+mod faulty;
+#[cfg(test)]
 mod lent;
 #[cfg(test)]
 mod plain;
