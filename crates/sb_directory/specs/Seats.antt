@@ -1,5 +1,5 @@
 -- What is known of a seat, and what the node answers after some events.
-use Rattle.std.specs.Prelude.{◌≡◌, ◌≢◌, ℕ, ◌+◌, Bool, MatchBool, if◌then◌else◌, ◌⊎◌, List, [], ◌∷◌, Result, Ok, Err, IfErr}
+use Rattle.std.specs.Prelude.{◌≡◌, ◌≢◌, ℕ, ◌+◌, ◌++◌, Bool, MatchBool, if◌then◌else◌, ◌⊎◌, List, [], ◌∷◌, Result, Ok, Err, IfErr}
 use mathlib.Core.List.{IsPrefix}
 use Rattle.sb_types.specs.Text.{is_between}
 use Rattle.sb_types.specs.declared.limits.TheConstants.{SEATS_MOST}
@@ -12,7 +12,7 @@ use Rattle.sb_views.specs.declared.event.Event.{Event}
 use Rattle.sb_views.specs.Stories.{node_after}
 use Rattle.sb_directory.specs.Locks.{Locked, unless_spent}
 
--- what its reader was told or has seen, all that had happened when its last call was answered, and how many events its calls made
+-- what its reader was told or has seen, what had happened when its last call was answered, and how many events its calls made
 pub record Seat : Type 0 where
   pub told : List Event
   pub known : List Event
@@ -22,7 +22,7 @@ pub record Seat : Type 0 where
 abbrev pub new_seat : List Event → Seat
 new_seat told = record { told = told; known = told; events = 0 }
 
--- a seat that called once more, when all this had happened
+-- a seat that called once more, when this had happened
 abbrev pub with_known : Seat → List Event → Seat
 with_known seat known = record { told = seat.told; known = known; events = seat.events }
 
@@ -30,6 +30,13 @@ with_known seat known = record { told = seat.told; known = known; events = seat.
 pub record Begins (story : List Event) (seat : Seat) : Type 0 where
   pub told : IsPrefix seat.told story
   pub known : IsPrefix seat.known story
+
+-- This had happened when a call was made, and the call may make this event then; with it the seat knows the event, as the last.
+pub record IsEntered (due : List Event → Result (Unit {0}) Fault) (event : Event) (old new : Seat) : Type 0 where
+  pub story : List Event
+  pub begins : Begins story old
+  pub may : due story ≡ Ok tt
+  pub known : new.known ≡ story ++ event ∷ []
 
 -- how many events the calls of these seats made
 abbrev pub events_of_all : List Seat → ℕ

@@ -1,5 +1,5 @@
 -- What calls of a session leave of a seat, as the directory at one end of it promises.
-use Rattle.std.proofs.Common.{◌≡◌, ◌≤◌, false, List, [], length, Ok, Err, refl, sym, ap, ◌∙◌, arith}
+use Rattle.std.proofs.Common.{◌≡◌, false, List, [], length, Ok, Err, refl, sym, ap, ◌∙◌, arith}
 use Rattle.std.proofs.lemmas.Bool.{false≢true}
 use mathlib.Core.List.{IsPrefix}
 use Rattle.sb_types.specs.Records.{Settings}

@@ -1,5 +1,5 @@
 //! The directory: a node that threads share.
-ghost use Rattle.std.specs.Prelude.{◌≡◌, ◌≢◌, ◌≤◌, ◌+◌, ◌++◌, ◌∷◌, List, [], true, length, replicate, if◌then◌else◌, Ok, Err, MatchResult, IfOk, IfErr, OnOk};
+ghost use Rattle.std.specs.Prelude.{◌≡◌, ◌≢◌, ◌≤◌, ◌+◌, ◌++◌, ◌∷◌, List, [], true, length, replicate, if◌then◌else◌, Ok, Err, MatchResult, IfOk, IfErr, OnOk, OnErr};
 ghost use mathlib.Core.List.{IsPrefix};
 ghost use Rattle.sb_types.specs.Faults.{Gives};
 ghost use Rattle.sb_holdings.specs.Held.{shown_of};
@@ -45,9 +45,9 @@ struct Fixed<S: Configured> {
 }
 
 /// A node that threads share, each from a seat of its own. Each call but `settings` and `name` takes the one lock, so that
-/// its answer is that of the node after all events up to then. These begin with those that the seat was told or has seen and with those
-/// that it knew, and from then on the seat knows them. What a seat knows or was told begins the one story of the node: nothing else
-/// can make a `Front`, and where the directory is closed all seats' events are the story's.
+/// its answer is that of the node after the events up to then. These begin with those that the seat was told or has seen and with those
+/// that it knew, and from then on the seat knows them. Of two seats' lists one begins the other, since each is a `Front` of the one story;
+/// and once the directory is closed, the story has as many events as the calls of all seats made.
 #[derive(Drop)]
 pub struct Directory<S: Configured, R: Wait + Drop> {
     under: Mutex<Under<S, R>>,
@@ -117,11 +117,12 @@ impl<S: Configured, R: Wait + Drop> Directory<S, R> {
         seat: &mut ReaderSeat<S>,
         committed: &Committed,
     ) -> Result<Receipt, Fault>
-        ensures answer { (l : List Event) × spec.Begins l seat.old × MatchResult result
-            (λ receipt. (spec.own_due_after S.opening l committed.now ≡ Ok tt)
-            × (seat.new.known ≡ l ++ events.TookOwn committed.now.entry ∷ [])
-            × (receipt.shown ≡ true → seat.new.told ≡ l ++ events.TookOwn committed.now.entry ∷ []))
-            (λ fault. spec.Refuses (spec.own_due_after S.opening l committed.now) fault × (seat.new ≡ spec.with_known seat.old l)) }
+        ensures entered { IfOk result (λ _. spec.IsEntered (λ story. spec.own_due_after S.opening story committed.now)
+            (events.TookOwn committed.now.entry) seat.old seat.new) }
+        ensures shown { IfOk result (λ receipt. receipt.shown ≡ true → seat.new.told ≡ seat.new.known) }
+        ensures refused { IfErr result (spec.Refuses (spec.own_due_after S.opening seat.new.known committed.now)) }
+        ensures knew { OnErr result (spec.Begins seat.new.known seat.old) }
+        ensures seat { OnErr result (seat.new ≡ spec.with_known seat.old seat.new.known) }
         ensures count { OnOk result (seat.new.events ≡ seat.old.events + 1) }
         ensures grows { IsPrefix seat.old.told seat.new.told }
         ensures version { IfOk result (λ receipt. receipt.version ≡ committed.now.entry.version) }
@@ -139,12 +140,13 @@ impl<S: Configured, R: Wait + Drop> Directory<S, R> {
         seat: &mut ReaderSeat<S>,
         delta: &Delta,
     ) -> Result<Applied, Fault>
-        ensures answer { (l : List Event) × spec.Begins l seat.old × MatchResult result
-            (λ applied. (spec.delta_due_after l ≡ Ok tt) × Treats (node_after S.opening l) delta.now applied.ends
-            × (seat.new.known ≡ l ++ events.Applied delta.now applied.ends ∷ [])
-            × (applied.shown ≡ true → seat.new.told ≡ l ++ events.Applied delta.now applied.ends ∷ []))
-            (λ fault. spec.Refuses (spec.delta_due_after l) fault × (seat.new ≡ spec.with_known seat.old l)) }
+        ensures entered { IfOk result (λ applied. (entered : spec.IsEntered spec.delta_due_after (events.Applied delta.now applied.ends) seat.old seat.new)
+            × Treats (node_after S.opening entered.story) delta.now applied.ends) }
+        ensures shown { IfOk result (λ applied. applied.shown ≡ true → seat.new.told ≡ seat.new.known) }
+        ensures refused { IfErr result (spec.Refuses (spec.delta_due_after seat.new.known)) }
         ensures fault { IfErr result IsRefusal }
+        ensures knew { OnErr result (spec.Begins seat.new.known seat.old) }
+        ensures seat { OnErr result (seat.new ≡ spec.with_known seat.old seat.new.known) }
         ensures count { OnOk result (seat.new.events ≡ seat.old.events + 1) }
         ensures grows { IsPrefix seat.old.told seat.new.told }
     {

@@ -98,12 +98,12 @@ impl<S: Configured, R: Wait + Drop> Under<S, R> {
         ensures taken { IfOk result (λ _. self.new ≡ locks.after_own self.old committed.now.entry self.new.shown) }
         ensures shown { IfOk result (λ receipt. spec.ShowsWhereSaid receipt.shown self.old self.new) }
         ensures err { OnErr result (self.new ≡ self.old) }
-        ensures answer { MatchResult result
-            (λ receipt. (spec.own_due_after S.opening self.old.story committed.now ≡ Ok tt)
-            × (seat.new.known ≡ self.old.story ++ events.TookOwn committed.now.entry ∷ [])
-            × (receipt.shown ≡ true → seat.new.told ≡ self.old.story ++ events.TookOwn committed.now.entry ∷ []))
-            (spec.Refuses (spec.own_due_after S.opening self.old.story committed.now)) }
-        ensures count { MatchResult result (λ _. seat.new.events ≡ seat.old.events + 1) (λ _. seat.new ≡ spec.with_known seat.old self.old.story) }
+        ensures due { OnOk result (spec.own_due_after S.opening self.old.story committed.now ≡ Ok tt) }
+        ensures known { OnOk result (seat.new.known ≡ self.old.story ++ events.TookOwn committed.now.entry ∷ []) }
+        ensures told { IfOk result (λ receipt. receipt.shown ≡ true → seat.new.told ≡ seat.new.known) }
+        ensures count { OnOk result (seat.new.events ≡ seat.old.events + 1) }
+        ensures refused { IfErr result (spec.Refuses (spec.own_due_after S.opening self.old.story committed.now)) }
+        ensures seat { OnErr result (seat.new ≡ spec.with_known seat.old self.old.story) }
         ensures knew { spec.Begins self.old.story seat.old }
         ensures grows { IsPrefix seat.old.told seat.new.told }
         ensures version { IfOk result (λ receipt. receipt.version ≡ committed.now.entry.version) }
@@ -131,14 +131,14 @@ impl<S: Configured, R: Wait + Drop> Under<S, R> {
         ensures taken { IfOk result (λ applied. self.new ≡ locks.after_delta self.old delta.now applied.ends self.new.shown) }
         ensures shown { IfOk result (λ applied. spec.ShowsWhereSaid applied.shown self.old self.new) }
         ensures err { OnErr result (self.new ≡ self.old) }
-        ensures answer { MatchResult result
-            (λ applied. (spec.delta_due_after self.old.story ≡ Ok tt)
-            × Treats (node_after S.opening self.old.story) delta.now applied.ends
-            × (seat.new.known ≡ self.old.story ++ events.Applied delta.now applied.ends ∷ [])
-            × (applied.shown ≡ true → seat.new.told ≡ self.old.story ++ events.Applied delta.now applied.ends ∷ []))
-            (spec.Refuses (spec.delta_due_after self.old.story)) }
+        ensures due { OnOk result (spec.delta_due_after self.old.story ≡ Ok tt) }
+        ensures ends { IfOk result (λ applied. Treats (node_after S.opening self.old.story) delta.now applied.ends) }
+        ensures known { IfOk result (λ applied. seat.new.known ≡ self.old.story ++ events.Applied delta.now applied.ends ∷ []) }
+        ensures told { IfOk result (λ applied. applied.shown ≡ true → seat.new.told ≡ seat.new.known) }
+        ensures count { OnOk result (seat.new.events ≡ seat.old.events + 1) }
+        ensures refused { IfErr result (spec.Refuses (spec.delta_due_after self.old.story)) }
         ensures fault { IfErr result IsRefusal }
-        ensures count { MatchResult result (λ _. seat.new.events ≡ seat.old.events + 1) (λ _. seat.new ≡ spec.with_known seat.old self.old.story) }
+        ensures seat { OnErr result (seat.new ≡ spec.with_known seat.old self.old.story) }
         ensures knew { spec.Begins self.old.story seat.old }
         ensures grows { IsPrefix seat.old.told seat.new.told }
     {

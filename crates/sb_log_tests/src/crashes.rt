@@ -83,7 +83,7 @@ struct Writing;
 impl Visit for Writing {
     type Told = Progress;
 
-    /// Opens a log over disks that stop, and writes.
+    /// Opens a log over disks that fail, and writes.
     fn visit<S: Alter + Drop>(
         self,
         rt: &impl Abort,

@@ -20,7 +20,7 @@ use Rattle.sb_views.specs.declared.event.Event.TheVariants.{TookOwn, Applied}
 use Rattle.sb_views.specs.Stories.{steps_of, node_after}
 use Rattle.sb_views.proofs.Fronts.{prefix_trans}
 use Rattle.sb_directory.specs.Serving.{AnswersAfter}
-use Rattle.sb_run.specs.Together.{Happened, in_run, story_of, AreOpened, WasGiven, MayHappen, HappenInTurn}
+use Rattle.sb_run.specs.Together.{Happened, in_run, story_of, AreOpened, CanGive, MayHappen, HappenInTurn}
 
 -- what comes of a run whose events are true is true
 abbrev pub GivesTruth : Type 0
@@ -47,7 +47,7 @@ abbrev AreTrue : (List ℕ → List Write) → Node → List Event → Type 0
 AreTrue writes opening story = (event : NodeEvent) → Stands (flat_map steps_of story) event → IsTrue writes opening.held.me event
 
 abbrev GiveTruth : (List ℕ → List Write) → (ℕ → Node) → (ℕ → Settings) → List Happened → Type 0
-GiveTruth writes opening settings all = (blocks : List Block) (b : Block) → WasGiven opening settings all blocks → Stands blocks b → IsBlock b × Honest (writes b.owner) b
+GiveTruth writes opening settings all = (blocks : List Block) (b : Block) → CanGive opening settings all blocks → Stands blocks b → IsBlock b × Honest (writes b.owner) b
 
 took_of : (blocks : List Block) (ends : List BlockEnd) (event : NodeEvent) → Stands (took_each blocks ends) event
     → (b : Block) × (end : BlockEnd) × Stands blocks b × (Took b end ≡ event)

@@ -1,5 +1,5 @@
 -- What comes of a write of the node's owner.
-use Rattle.std.specs.Prelude.{◌≡◌, ◌⊎◌, ℕ, ◌+◌, true, List, [], ◌∷◌, ◌++◌, Option, Some, None, Ok, Err}
+use Rattle.std.specs.Prelude.{◌≡◌, ◌⊎◌, ℕ, ◌+◌, true, List, Option, Some, None, Ok, Err}
 use mathlib.Core.List.{IsPrefix}
 use Rattle.sb_types.specs.declared.entry.Slot.{Slot}
 use Rattle.sb_types.specs.declared.fault.Fault.{Fault}
@@ -11,7 +11,7 @@ use Rattle.sb_views.specs.declared.event.Event.{Event}
 use Rattle.sb_views.specs.declared.event.Event.TheVariants.{TookOwn}
 use Rattle.sb_views.specs.Stories.{node_after}
 use Rattle.sb_directory.specs.declared.receipt.Receipt.{Receipt}
-use Rattle.sb_directory.specs.Seats.{Seat, Begins, Refuses, with_known, own_due_after}
+use Rattle.sb_directory.specs.Seats.{Seat, Begins, IsEntered, Refuses, with_known, own_due_after}
 use Rattle.sb_run.specs.declared.owner.Stored.{Stored}
 use Rattle.sb_run.specs.declared.owner.Stored.TheVariants.{Shared, Owed}
 
@@ -29,15 +29,20 @@ abbrev pub count_shared : Stored → ℕ
 count_shared (Shared receipt) = 1
 count_shared (Owed version) = 0
 
--- the directory takes the write after all that had happened, and with that the seat knows it, as the last; where that is said it was told so
+-- the directory takes the write when it may, and with that the seat knows it, as the last; where that is said it was told so
 abbrev pub IsTaken : Node → Seat → Committed → Receipt → Seat → Type 0
 IsTaken opening before c receipt after =
-    (l : List Event) × Begins l before × (own_due_after opening l c ≡ Ok tt) × (after.known ≡ l ++ TookOwn c.entry ∷ [])
-    × (receipt.shown ≡ true → after.told ≡ l ++ TookOwn c.entry ∷ [])
+    IsEntered (λ story. own_due_after opening story c) (TookOwn c.entry) before after × (receipt.shown ≡ true → after.told ≡ after.known)
 
--- the directory refuses the write after all that the seat now knows: with this fault, where there is memory
+-- the directory refuses the write after what the seat now knows: with this fault, where there is memory
 abbrev pub IsTurnedAway : Node → Seat → Committed → Fault → Seat → Type 0
 IsTurnedAway opening before c fault after = Begins after.known before × Refuses (own_due_after opening after.known c) fault
+
+-- what was owed is an event of the directory, which the seat knows
+abbrev pub IsHandedIn : Node → Seat → Option Committed → Seat → Type 0
+IsHandedIn opening before None after = Unit {0}
+IsHandedIn opening before (Some c) after =
+    (handed : Seat) × IsEntered (λ story. own_due_after opening story c) (TookOwn c.entry) before handed × IsPrefix handed.known after.known
 
 -- the write is an event of the directory, the last that the seat knows, and nothing is owed; or the directory refuses it, and it is owed
 abbrev pub PassesOn : Node → Seat → Committed → Stored → Option Committed → Seat → Type 0
@@ -52,7 +57,7 @@ pub record IsStored (opening : Node) (old : Log) (before : Seat) (key : List ℕ
   pub version : version_of stored ≡ committed.entry.version
   pub passes : PassesOn opening before committed stored owed after
 
--- when the call was made, no other node had written under the own name
+-- at some moment of the call, no block that the node had taken told of a write of another under the own name
 abbrev pub IsUndisputed : Node → Seat → Seat → Type 0
 IsUndisputed opening before after = (l : List Event) × Begins l before × IsPrefix l after.known × ((node_after opening l).conflict ≡ None)
 
@@ -66,4 +71,4 @@ IsHeldBack opening before owed fault after =
 abbrev pub IsRefused : {L : Type 0} → (L → Log) → Node → L → Option Committed → Seat → List ℕ → Slot → L → Option Committed → Seat → Fault → Type 0
 IsRefused seen opening old owed before key slot new owes after fault =
     (IsHeldBack opening before owed fault after × (new ≡ old) × (owes ≡ owed) × (after ≡ with_known before after.known))
-    ⊎ (Puts (seen old) key slot (Err fault) (seen new) × (owes ≡ None) × (after.events ≡ before.events + count_owed owed))
+    ⊎ (Puts (seen old) key slot (Err fault) (seen new) × (owes ≡ None) × IsHandedIn opening before owed after × (after.events ≡ before.events + count_owed owed))

@@ -29,15 +29,15 @@ story_of run all = flat_map (in_run run) all
 abbrev pub AreOpened : (List ℕ → List Write) → (ℕ → Node) → Type 0
 AreOpened writes opening = (run : ℕ) → IsNode (opening run) × NodeHolds writes (opening run)
 
--- when all this had happened, some run gave this delta in answer to some digest
-abbrev pub WasGiven : (ℕ → Node) → (ℕ → Settings) → List Happened → List Block → Type 0
-WasGiven opening settings all blocks =
+-- when all this had happened, some run could give this delta in answer to some digest
+abbrev pub CanGive : (ℕ → Node) → (ℕ → Settings) → List Happened → List Block → Type 0
+CanGive opening settings all blocks =
     (run : ℕ) × (digest : Digest) × AnswersAfter (opening run) (settings run) (story_of run all) (gives digest (Ok blocks))
 
--- after all this a run may take a write of its owner, and a delta that some run gave before: late, again, in any order, or never
+-- after all this a run may take a write of its owner, and a delta that some run could give by then: late, again, in any order, or never
 abbrev pub MayHappen : (List ℕ → List Write) → (ℕ → Node) → (ℕ → Settings) → List Happened → ℕ → Event → Type 0
 MayHappen writes opening settings all run (TookOwn e) = Written (writes (opening run).held.me) e
-MayHappen writes opening settings all run (Applied blocks ends) = (earlier : List Happened) × IsPrefix earlier all × WasGiven opening settings earlier blocks
+MayHappen writes opening settings all run (Applied blocks ends) = (earlier : List Happened) × IsPrefix earlier all × CanGive opening settings earlier blocks
 
 -- each of these events came when it could
 abbrev pub HappenInTurn : (List ℕ → List Write) → (ℕ → Node) → (ℕ → Settings) → List Happened → Type 0

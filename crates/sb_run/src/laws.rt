@@ -17,7 +17,7 @@ ghost use Rattle.sb_views.specs.Pages.{Page, upto_of, row_of};
 ghost use Rattle.sb_views.specs.Stories.{steps_of, node_after};
 ghost use Rattle.sb_views.specs.Views.{IsView};
 ghost use Rattle.sb_directory.specs.Serving.{AnswersAfter};
-ghost use Rattle.sb_run.specs.Together.{Happened, story_of, AreOpened, WasGiven, HappenInTurn};
+ghost use Rattle.sb_run.specs.Together.{Happened, story_of, AreOpened, CanGive, HappenInTurn};
 
 use sb_digest::digests_are_true;
 use sb_holdings::{nodes_hold, reads_are_true, runs_join};
@@ -65,17 +65,19 @@ pub fn running_nodes_keep_truth()
     digests_are_true();
 }
 
-/// What running nodes give is true and exact where they are told nothing but what one of them gave. Said of all lists of writes, of
-/// any number of runs, each of a node that opened with what is true of the writes, be it after a crash, and of all that happens to them
-/// in one order (`HappenInTurn`): a run takes writes of its owner, and deltas that some run gave before, which come late, again, in
-/// any order, or never. Then in each run, what a view has under an owner and a key was written by that owner under that version
+/// What running nodes give is true and exact where they are told nothing but what one of them gave. Said of all lists of writes, one for
+/// each owner, of any number of runs, each of a node that opened with what is true of the writes, be it after a crash, and of all that
+/// happens to them in one order (`HappenInTurn`): a run takes writes of its owner, and deltas that some run could give by then, which come
+/// late, again, in any order, or never. Then in each run, what a view has under an owner and a key was written by that owner under that version
 /// (`given`); a write whose key was not written again, at or below the version that the view shows of its owner, is what the view has
-/// under its key, or nothing for a removal (`exact`); each block of a delta that is given is honest (`honest`); and no version is
-/// lower than it was in this run (`later`). All that happens is any list, so this holds at each moment.
+/// under its key, or nothing for a removal (`exact`); each block of a delta that is given is honest (`honest`); a digest that is told
+/// reaches no further than was written (`reached`); and no version is lower than it was in this run (`later`). All that happens is any
+/// list, so this holds at each moment.
 ///
-/// The premise that no other delta comes is the peers' and the sockets': that whoever dials or is dialed runs this program, and that
-/// what is read from a socket was written to it. That each run takes and gives so is what the contracts of `Directory` say, whose
-/// calls are answered after what had happened in the run, and those of `serve_pool` and `Owner::put` over them.
+/// Premises are that no two nodes that live at once have one name; that no log forgets a write that a delta told of; and that no
+/// other delta comes: that whoever dials or is dialed runs this program, that what is read from a socket was written to it, and that the
+/// workers and the dialing thread hand on just what they read. That what a run is handed becomes its events, and what it gives is an
+/// answer after them, is what the contracts of `Directory` say.
 pub fn running_nodes_tell_truth()
     ensures given { (writes : List ℕ → List Write) (opening : ℕ → Node) (settings : ℕ → Settings) (all : List Happened) (run : ℕ)
         (page : Page) (owner key : List ℕ) (value : Value) (version : ℕ) →
@@ -88,7 +90,11 @@ pub fn running_nodes_tell_truth()
         IsView (node_after (opening run) (story_of run all)) page → Written (writes owner) e → (Superseded (writes owner) e → ⊥) → e.version ≤ upto_of page owner →
         row_of page owner e.key ≡ shown_slot e.version e.slot }
     ensures honest { (writes : List ℕ → List Write) (opening : ℕ → Node) (settings : ℕ → Settings) (all : List Happened) (blocks : List Block) (b : Block) →
-        AreOpened writes opening → HappenInTurn writes opening settings all → WasGiven opening settings all blocks → Stands blocks b → Honest (writes b.owner) b }
+        AreOpened writes opening → HappenInTurn writes opening settings all → CanGive opening settings all blocks → Stands blocks b → Honest (writes b.owner) b }
+    ensures reached { (writes : List ℕ → List Write) (opening : ℕ → Node) (settings : ℕ → Settings) (all : List Happened) (run : ℕ)
+        (from : Option (List ℕ)) (want : Bool) (digest : Digest) (owner : List ℕ) →
+        AreOpened writes opening → HappenInTurn writes opening settings all →
+        AnswersAfter (opening run) (settings run) (story_of run all) (tells from want (Ok digest)) → covers digest owner ≡ true → held_in digest owner ≤ length (writes owner) }
     ensures later { (writes : List ℕ → List Write) (opening : ℕ → Node) (settings : ℕ → Settings) (earlier all : List Happened) (run : ℕ) →
         AreOpened writes opening → HappenInTurn writes opening settings all → IsPrefix earlier all →
         NodeLater (node_after (opening run) (story_of run earlier)) (node_after (opening run) (story_of run all)) }

@@ -4,7 +4,7 @@ ghost use Rattle.sb_codec.specs.Limits.{is_version};
 ghost use Rattle.sb_log.specs.Puts.{IsSettled};
 ghost use Rattle.sb_directory.specs.Seats.{with_known};
 ghost use Rattle.sb_directory.specs.Serving.{IsLater};
-ghost use Rattle.sb_run.specs.Owners.{IsUndisputed, version_of, count_owed, count_shared, IsHeldBack, IsStored, IsRefused};
+ghost use Rattle.sb_run.specs.Owners.{IsUndisputed, version_of, count_owed, count_shared, IsHeldBack, IsHandedIn, IsStored, IsRefused};
 
 use sb_directory::{Configured, Directory, ReaderSeat, Receipt};
 use sb_log::{Committed, WriteLog};
@@ -58,6 +58,7 @@ impl<L: WriteLog> Owner<L> {
     ) -> Result<(), Fault>
         ensures log { self.new.log ≡ self.old.log }
         ensures owed { OnOk result (self.new.owed ≡ None) }
+        ensures handed { OnOk result (IsHandedIn S.opening seat.old self.old.owed seat.new) }
         ensures count { OnOk result (seat.new.events ≡ seat.old.events + count_owed self.old.owed) }
         ensures free { IfOk result (λ _. IsUndisputed S.opening seat.old seat.new) }
         ensures refused { IfErr result (λ fault. IsHeldBack S.opening seat.old self.old.owed fault seat.new) }
@@ -92,6 +93,7 @@ impl<L: WriteLog> Owner<L> {
         ensures stored { IfOk result (λ stored. IsStored S.opening (L.seen self.old.log) seat.old key.now slot.now stored
             (L.seen self.new.log) self.new.owed seat.new) }
         ensures version { IfOk result (λ stored. is_version (version_of stored) ≡ true) }
+        ensures handed { OnOk result (IsHandedIn S.opening seat.old self.old.owed seat.new) }
         ensures count { IfOk result (λ stored. seat.new.events ≡ seat.old.events + count_owed self.old.owed + count_shared stored) }
         ensures free { IfOk result (λ _. IsUndisputed S.opening seat.old seat.new) }
         ensures refused { IfErr result (λ fault. IsRefused L.seen S.opening self.old.log self.old.owed seat.old key.now slot.now

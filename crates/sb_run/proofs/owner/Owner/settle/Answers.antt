@@ -1,8 +1,8 @@
 use Rattle.std.proofs.Common.{◌≡◌, None, sym}
 use Rattle.sb_views.specs.Stories.{node_after}
 use Rattle.sb_views.proofs.Fronts.{prefix_self}
-use Rattle.sb_run.proofs.Handing.{event_knows, event_later, known_later}
 use Rattle.sb_directory.specs.Served.{later-on, later-same}
+use Rattle.sb_run.proofs.Handing.{handed_from, event_knows, event_later, known_later}
 use Rattle.sb_run.proofs.owner.Owner.settle.Goals.{in-Some-owed+in_ok-take_own, in_default-owed}
 use Rattle.sb_run.proofs.owner.Owner.settle.Goals as goal
 
@@ -12,8 +12,7 @@ returns-clause-free g c =
     let none : (node_after g.S.Site.opening asked.known).conflict ≡ None = sym c.in_default.ensures.answer in
     elim c.match-self.branch [
       | in-Some-owed+in_ok-take_own w ↦
-          let answer = w.in_ok-take_own.ensures.answer in
-          rw w.seat-is (asked.known, c.in_default.ensures.knew, event_knows answer.0 _ asked w.take_own.new.seat answer.1 answer.2.1, none)
+          rw w.seat-is (asked.known, c.in_default.ensures.knew, event_knows _ _ asked w.take_own.new.seat w.in_ok-take_own.ensures.entered, none)
       | in_default-owed w ↦ rw w.seat-is (asked.known, c.in_default.ensures.knew, prefix_self asked.known, none)
     ]
 
@@ -21,10 +20,22 @@ pub returns-clause-later : goal.returns-clause-later
 returns-clause-later g c =
     let before = c.args.seat.now in
     let asked = c.conflict.new.seat in
-    let later = known_later before before asked.known asked (later-same before) c.in_default.ensures.knew c.in_default.ensures.seat in
+    let later = known_later before before asked (later-same before) c.in_default.ensures.knew c.in_default.ensures.seat in
     elim c.match-self.branch [
       | in-Some-owed+in_ok-take_own w ↦
           let is = w.in_ok-take_own.ensures in
-          rw w.seat-is (later-on before asked w.take_own.new.seat later (event_later is.answer.0 _ asked w.take_own.new.seat is.grows is.answer.1 is.answer.2.1 is.count))
+          rw w.seat-is (later-on before asked w.take_own.new.seat later (event_later _ _ asked w.take_own.new.seat is.grows is.entered is.count))
       | in_default-owed w ↦ rw w.seat-is later
+    ]
+
+pub returns-clause-handed : goal.returns-clause-handed
+returns-clause-handed g c =
+    let opening = g.S.Site.opening in
+    let before = c.args.seat.now in
+    let asked = c.conflict.new.seat in
+    let later = known_later before before asked (later-same before) c.in_default.ensures.knew c.in_default.ensures.seat in
+    elim c.match-self.branch [
+      | in-Some-owed+in_ok-take_own w ↦
+          rw w.seat-is (rw w.in-Some-owed.is (handed_from opening w.in-Some-owed.committed before asked w.take_own.new.seat later w.in_ok-take_own.ensures.entered))
+      | in_default-owed w ↦ rw w.seat-is (rw w.in_default-owed.is tt)
     ]
