@@ -1,5 +1,5 @@
 -- What comes of one request on the control socket.
-use Rattle.std.specs.Prelude.{◌≡◌, ◌⊎◌, ℕ, ◌+◌, List, Option, Result, Ok, Err, IfOk, IfErr}
+use Rattle.std.specs.Prelude.{◌≡◌, ◌⊎◌, ℕ, ◌+◌, List, Option, Result, Ok, Err, OnOk, IfOk, IfErr}
 use Rattle.std.specs.Io.KnownBytes.{Keeps}
 use mathlib.Core.List.{IsPrefix}
 use Rattle.sb_types.specs.declared.entry.Slot.{Slot}
@@ -22,12 +22,14 @@ use Rattle.sb_query.specs.Pages.{asked_rows, IsLongestPage}
 use Rattle.sb_directory.specs.Seats.{Seat}
 use Rattle.sb_directory.specs.Serving.{IsLater}
 use Rattle.sb_run.specs.declared.owner.Stored.{Stored}
-use Rattle.sb_run.specs.Owners.{version_of, count_owed, count_shared, IsStored, IsRefused}
+use Rattle.sb_run.specs.Owners.{version_of, count_owed, count_shared, IsUndisputed, IsHandedIn, IsStored, IsRefused}
 use Rattle.sb_run.specs.Hearing.{Hears}
 
 -- what the owner's `put` leaves with this answer
 pub record IsPut {L : Type 0} (seen : L → Log) (opening : Node) (old : L) (owed : Option Committed) (before : Seat) (key : List ℕ) (slot : Slot)
     (new : L) (owes : Option Committed) (after : Seat) (answer : Result Stored Fault) : Type 0 where
+  pub handed : OnOk answer (IsHandedIn opening before owed after)
+  pub free : OnOk answer (IsUndisputed opening before after)
   pub stored : IfOk answer (λ stored. IsStored opening (seen old) before key slot stored (seen new) owes after)
   pub count : IfOk answer (λ stored. after.events ≡ before.events + count_owed owed + count_shared stored)
   pub refused : IfErr answer (λ fault. IsRefused seen opening old owed before key slot new owes after fault)
