@@ -15,6 +15,7 @@ use Rattle.sb_table.specs.Plain.{IsPlainTable, with_entry, is_full_for}
 use Rattle.sb_log.specs.Records.{Committed, Log}
 use Rattle.sb_log.specs.Puts.{is_idle, Puts, Loads, refusal, next_entry, next_content, IsReason}
 use Rattle.sb_log.specs.Rows.{AreRowsOf, Enters, content_of}
+use Rattle.sb_log.specs.Opening.{IsNamed}
 use Rattle.sb_log.specs.Standing.{IsReady, IsKept, MayLeave}
 use Rattle.sb_log.specs.Sql.{SqlView, log_in}
 use Rattle.sb_log.proofs.Unique.{content_is}
@@ -59,18 +60,20 @@ module _ (old : Log) (up : old.is_open ≡ true) (key : List ℕ) (slot : Slot) 
           refuses_reason fault (λ e. let c : NoMemory ≡ Closed = sym same ∙ e in cc) (λ e. let c : NoMemory ≡ StoreFailed = sym same ∙ e in cc)
           (subst (λ (o : Option Fault). IsReason o fault) (sym is) (inl same))
 
-module _ {S : Type 0} (g : Ghosts S) (settled : (s : S) (db : Trees) → IsTrue (g.view s).is_open → g.recovers s db → db ≡ (g.view s).committed) where
-  -- a crash leaves of a log that stands what it holds
-  left_is : (conn : Held S) (table : Table) → IsReady (state g conn) → AreRowsOf table ((state g conn).now.trees 1) → (left : Table) → MayLeave g conn left → left ≡ table
-  left_is conn table ready are left may =
-      may.2 ∙ ap (λ (trees : Trees). content_of (trees 1)) (settled conn.store may.0 ready.is_open may.1 ∙ sym (ap (λ (d : Database). d.trees) ready.settled)) ∙ content_is _ table are
+module _ {S : Type 0} (g : Ghosts S) (settled : (s : S) (db : Trees) → IsTrue (g.view s).is_open → g.recovers s db → db ≡ (g.view s).committed) (owner cluster : List ℕ) where
+  -- after a crash what a log that stands holds is found
+  left_is : (conn : Held S) (table : Table) → IsReady (state g conn) → AreRowsOf table ((state g conn).now.trees 1) → IsNamed owner cluster ((state g conn).now.trees 0)
+      → (left : Table) → MayLeave g owner cluster conn left → left ≡ table
+  left_is conn table ready are named left may =
+      let same : may.0 ≡ (state g conn).now.trees = settled conn.store may.0 ready.is_open may.1 ∙ sym (ap (λ (d : Database). d.trees) ready.settled) in
+      may.2 (subst (λ (trees : Trees). IsNamed owner cluster (trees 0)) (sym same) named) ∙ ap (λ (trees : Trees). content_of (trees 1)) same ∙ content_is _ table are
 
-  pub settles : (conn : Held S) (table : Table) (is_open : Bool) → IsKept g conn table is_open → (g.view conn.store).is_clean ≡ true → is_open ≡ true
-      → (left : Table) → MayLeave g conn left → left ≡ content_of ((g.view conn.store).trees 1)
+  pub settles : (conn : Held S) (table : Table) (is_open : Bool) → IsKept g owner cluster conn table is_open → (g.view conn.store).is_clean ≡ true → is_open ≡ true
+      → (left : Table) → MayLeave g owner cluster conn left → left ≡ content_of ((g.view conn.store).trees 1)
   settles conn table is_open kept clean up left may =
-      let stands = kept up (no_doubt _ clean) in left_is conn table stands.0 stands.1 left may ∙ sym (content_is _ table stands.1)
+      let stands = kept up (no_doubt _ clean) in left_is conn table stands.0 stands.1 stands.2 left may ∙ sym (content_is _ table stands.1)
 
-  module _ (owner cluster : List ℕ) (most : ℕ) (is_open : Bool) (up : is_open ≡ true) (conn : Held S) (table : Table) (kept : IsKept g conn table is_open) where
+  module _ (most : ℕ) (is_open : Bool) (up : is_open ≡ true) (conn : Held S) (table : Table) (kept : IsKept g owner cluster conn table is_open) where
     abbrev pub view_with : Bool → Held S → SqlView S
     view_with b h = record { owner = owner; cluster = cluster; most = most; is_open = b; conn = h }
 
@@ -161,18 +164,23 @@ module _ {S : Type 0} (g : Ghosts S) (settled : (s : S) (db : Trees) → IsTrue 
               }
 
           pub now_kept : (table' : Table) → table' ≡ with_entry table e → (HasCleanDisk (state g conn') → IsReady (state g conn) → Enters e ((state g conn).now.trees 1) ((state g conn').now.trees 1))
-              → (HasCleanDisk (state g conn') → IsReady (state g conn) → IsReady (state g conn')) → IsKept g conn' table' is_open
-          now_kept table' is enters ready _ clean =
-              let stands = kept up (no_doubt _ (was_clean (clean_of _ clean))) in
-              (ready clean stands.0, subst (λ (t : Table). AreRowsOf t ((state g conn').now.trees 1)) (sym is) (enters clean stands.0 table plain stands.1))
+              → (HasCleanDisk (state g conn') → IsReady (state g conn) → IsReady (state g conn'))
+              → (HasCleanDisk (state g conn') → IsReady (state g conn) → (state g conn').now.trees 0 ≡ (state g conn).now.trees 0) → IsKept g owner cluster conn' table' is_open
+          now_kept table' is enters ready meta _ clean =
+              let stands = kept up (no_doubt _ (was_clean (clean_of _ clean))) in (
+                ready clean stands.0,
+                subst (λ (t : Table). AreRowsOf t ((state g conn').now.trees 1)) (sym is) (enters clean stands.0 table plain stands.1),
+                subst (IsNamed owner cluster) (sym (meta clean stands.0)) stands.2,
+              )
 
-          pub survives : (HasCleanDisk (state g conn') → IsReady (state g conn) → (db : Trees) → g.recovers conn'.store db → g.recovers conn.store db ⊎ Enters e ((state g conn).now.trees 1) (db 1))
-              → (g.view conn'.store).is_clean ≡ true → (left : Table) → MayLeave g conn' left → (left ≡ before.content) ⊎ (left ≡ next_content before key slot)
+          pub survives : (HasCleanDisk (state g conn') → IsReady (state g conn) → (db : Trees) → g.recovers conn'.store db
+              → g.recovers conn.store db ⊎ (Enters e ((state g conn).now.trees 1) (db 1) × (db 0 ≡ (state g conn).now.trees 0)))
+              → (g.view conn'.store).is_clean ≡ true → (left : Table) → MayLeave g owner cluster conn' left → (left ≡ before.content) ⊎ (left ≡ next_content before key slot)
           survives crash clean left may =
               let stands = kept up (no_doubt _ (was_clean clean)) in
               elim (crash (no_doubt _ clean) stands.0 may.0 may.1) [
                 | inl was ↦ inl (settles conn table is_open kept (was_clean clean) up left (may.0, was, may.2))
-                | inr enters ↦ inr (may.2 ∙ content_is _ (with_entry table e) (enters table plain stands.1) ∙ entered_is (was_clean clean))
+                | inr put ↦ inr (may.2 (subst (IsNamed owner cluster) (sym put.1) stands.2) ∙ content_is _ (with_entry table e) (put.0 table plain stands.1) ∙ entered_is (was_clean clean))
               ]
 
     -- ---- reading it again
@@ -187,12 +195,12 @@ module _ {S : Type 0} (g : Ghosts S) (settled : (s : S) (db : Trees) → IsTrue 
       same_content : Read → (g.view conn'.store).is_clean ≡ true → content_of ((g.view conn'.store).trees 1) ≡ before.content
       same_content read clean = ap (λ (d : Database). content_of (d.trees 1)) (read (no_doubt _ clean) (kept up (no_doubt _ (still_clean clean))).0).1
 
-      pub still_kept : Read → IsKept g conn' table is_open
+      pub still_kept : Read → IsKept g owner cluster conn' table is_open
       still_kept read _ clean =
           let was = still_clean (clean_of _ clean) in
           let stands = kept up (no_doubt _ was) in
           let now = read clean stands.0 in
-          (now.0, subst (λ (d : Database). AreRowsOf table (d.trees 1)) (sym now.1) stands.1)
+          (now.0, subst (λ (d : Database). AreRowsOf table (d.trees 1)) (sym now.1) stands.1, subst (λ (d : Database). IsNamed owner cluster (d.trees 0)) (sym now.1) stands.2)
 
       pub gives : (t : Table) → IsPlainTable t → Read → (HasCleanDisk (state g conn') → IsReady (state g conn) → AreRowsOf t ((state g conn).now.trees 1))
           → Loads before (Ok t) (log_in g (view_with is_open conn'))
@@ -271,7 +279,7 @@ module _ {S : Type 0} (g : Ghosts S) (settled : (s : S) (db : Trees) → IsTrue 
 
       -- what a crash leaves now, it left before
       pub same_left : (HasCleanDisk (state g conn') → IsReady (state g conn) → (db : Trees) → g.recovers conn'.store db → g.recovers conn.store db)
-          → (g.view conn'.store).is_clean ≡ true → (left : Table) → MayLeave g conn' left → left ≡ before.content
+          → (g.view conn'.store).is_clean ≡ true → (left : Table) → MayLeave g owner cluster conn' left → left ≡ before.content
       same_left crash clean left may =
           let was = still_clean clean in
           settles conn table is_open kept was up left (may.0, crash (no_doubt _ clean) (kept up (no_doubt _ was)).0 may.0 may.1, may.2)

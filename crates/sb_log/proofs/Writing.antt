@@ -135,6 +135,19 @@ module _ (e : Entry) where
     entered (inl new) = inserted new.0 new.1
     entered (inr old) = there_changed old.0 old.1 old.2 old.3 old.4 old.5
 
+-- the rows that say whose log it is stay, whether a row goes in or is changed
+apart : ◌≡◌ {A = ℕ} 0 1 → ⊥
+apart e = absurd (omega (arith, e))
+
+spares : (limit : Option ℕ) (mode : Mode) (a b c d e : Value) (fits : cast_all writes_columns (a ∷ b ∷ c ∷ d ∷ e ∷ []) ≡ a ∷ b ∷ c ∷ d ∷ e ∷ []) (db next : Trees)
+    → Leaves limit mode a b c d e fits db next → next 0 ≡ db 0
+spares limit mode a b c d e fits db next (inl new) = new.1.tables.0 apart
+spares limit mode a b c d e fits db next (inr old) =
+    let first = went old.5 in
+    let second = went first.2 in
+    let put = one_step log_schema mode.keys db second.0 (edit_of db writes_table (ids_of first.0) Given 1 first.0) refl second.1 in
+    ap (λ (trees : Trees). trees 0) (sym old.4 ∙ ap (λ (it : Written). it.trees) (same_value second.2)) ∙ put.tables.0 apart
+
 -- ---- the statement
 
 abbrev upsert : Command
@@ -145,17 +158,20 @@ text_run = statement_of upsert_text (understood log_schema upsert_text)
 
 module _ (e : Entry) (kept : is_kept e ≡ true) (old : State) (ready : IsReady old) where
   does : (limit : Option ℕ) (mode : Mode) (tally : Tally) (after : Database) → Does limit mode (cells_of e) old.now text_run None upsert (Ok (tally, after))
-      → (after.schema ≡ log_schema) × Enters e (old.now.trees 1) (after.trees 1)
+      → (after.schema ≡ log_schema) × Enters e (old.now.trees 1) (after.trees 1) × (after.trees 0 ≡ old.now.trees 0)
   does limit mode tally after h =
       let d = subst (λ (params : Row). Does limit mode params old.now text_run None upsert (Ok (tally, after))) (spread_is e) h in
       let up = upserted limit mode (Text e.key) (Int (pos e.version)) (c0 e.slot) (c1 e.slot) (c2 e.slot) (fits e) text_run old.now tally after ready.schema d in
-      (up.0, λ t plain are. entered e limit mode t old.now.trees after.trees are kept plain up.1)
+      (up.0, λ t plain are. entered e limit mode t old.now.trees after.trees are kept plain up.1, spares limit mode (Text e.key) (Int (pos e.version)) (c0 e.slot) (c1 e.slot) (c2 e.slot) (fits e) old.now.trees after.trees up.1)
 
   ran : (new : State) (count : ℕ) → Executes upsert_text (cells_of e) old new (Ok count) → Writes old new None upsert text_run (cells_of e) count
   ran new count h = runs_as upsert_text (cells_of e) old new log_schema ready.schema upsert upsert_is upsert_plain count h
 
   pub write_enters : (new : State) (count : ℕ) → Executes upsert_text (cells_of e) old new (Ok count) → Enters e (old.now.trees 1) (new.now.trees 1)
   write_enters new count h = let w = ran new count h in (does old.step_limit (mode_of old) w.tally new.now w.changed).1
+
+  pub write_spares : (new : State) (count : ℕ) → Executes upsert_text (cells_of e) old new (Ok count) → new.now.trees 0 ≡ old.now.trees 0
+  write_spares new count h = let w = ran new count h in (does old.step_limit (mode_of old) w.tally new.now w.changed).2
 
   pub write_ready : (new : State) (count : ℕ) → Executes upsert_text (cells_of e) old new (Ok count) → IsReady new
   write_ready new count h =
@@ -168,11 +184,14 @@ module _ (e : Entry) (kept : is_kept e ≡ true) (old : State) (ready : IsReady 
         schema = (does old.step_limit (mode_of old) w.tally new.now w.changed).0;
       }
 
-  may_commit : (db : Trees) → MayCommit old None upsert text_run (cells_of e) db → Enters e (old.now.trees 1) (db 1)
-  may_commit db (inl ends) = absurd (elim ends.0 [ inl commits ↦ cc | inr releases ↦ let is = releases.2 in cc ])
-  may_commit db (inr writes) = subst (λ (trees : Trees). Enters e (old.now.trees 1) (trees 1)) (sym writes.5) (does old.step_limit (mode_of old) writes.1 writes.2 writes.3).1
+  abbrev WritesOnce : Trees → Type 0
+  WritesOnce db = Enters e (old.now.trees 1) (db 1) × (db 0 ≡ old.now.trees 0)
 
-  pub write_commits : (db : Trees) → CommitsBy upsert_text (cells_of e) old db → Enters e (old.now.trees 1) (db 1)
+  may_commit : (db : Trees) → MayCommit old None upsert text_run (cells_of e) db → WritesOnce db
+  may_commit db (inl ends) = absurd (elim ends.0 [ inl commits ↦ cc | inr releases ↦ let is = releases.2 in cc ])
+  may_commit db (inr writes) = let done = does old.step_limit (mode_of old) writes.1 writes.2 writes.3 in subst WritesOnce (sym writes.5) (done.1, done.2)
+
+  pub write_commits : (db : Trees) → CommitsBy upsert_text (cells_of e) old db → Enters e (old.now.trees 1) (db 1) × (db 0 ≡ old.now.trees 0)
   unfolding CommitsBy
   write_commits db h =
       let known = sym h.1.is ∙ ap (λ (s : Schema). understood s upsert_text) ready.schema in

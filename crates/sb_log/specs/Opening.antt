@@ -23,9 +23,13 @@ meta_cells row = column row 2 ∷ column row 3 ∷ column row 4 ∷ column row 5
 abbrev pub meta_row : List ℕ → List ℕ → Row
 meta_row owner cluster = Int (pos 1) ∷ Text owner ∷ Text cluster ∷ Int (pos 0) ∷ Int (pos 0) ∷ []
 
--- the one row that says whose log it is, or none yet
+-- the one row says that it is this owner's log, of this cluster
+abbrev pub IsNamed : List ℕ → List ℕ → List Row → Type 0
+IsNamed owner cluster rows = map meta_cells rows ≡ meta_row owner cluster ∷ []
+
+-- it says so, or there is no row yet
 abbrev pub IsMetaOf : List ℕ → List ℕ → List Row → Type 0
-IsMetaOf owner cluster rows = (rows ≡ []) ⊎ (map meta_cells rows ≡ meta_row owner cluster ∷ [])
+IsMetaOf owner cluster rows = (rows ≡ []) ⊎ IsNamed owner cluster rows
 
 -- the rows of each table, and none of a table that is not there
 abbrev pub meta_found : Made → Trees → List Row

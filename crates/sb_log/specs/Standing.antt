@@ -1,5 +1,5 @@
 -- How a log's connection stands.
-use Rattle.std.specs.Prelude.{◌≡◌, Bool, true, false, IsTrue}
+use Rattle.std.specs.Prelude.{◌≡◌, ℕ, Bool, true, false, List, IsTrue}
 use Rattle.sqlite_trees.specs.declared.store.Store.{Ghosts}
 use Rattle.sqlite_trees.specs.Tree.{Trees}
 use Rattle.sqlite.specs.Held.{Held, state}
@@ -7,6 +7,7 @@ use Rattle.sqlite.specs.State.{State, HasCleanDisk}
 use Rattle.sb_types.specs.Records.{Table}
 use Rattle.sb_log.specs.Form.{log_schema}
 use Rattle.sb_log.specs.Rows.{AreRowsOf, content_of}
+use Rattle.sb_log.specs.Opening.{IsNamed}
 
 -- it has the tables of a log, and all that it shows is committed
 pub record IsReady (s : State) : Type 0 where
@@ -21,10 +22,16 @@ pub record IsPrepared (s : State) : Type 0 where
   pub settled : IsTrue s.is_open → s.now ≡ s.committed
   pub schema : s.now.schema ≡ log_schema
 
--- while the log stands, its rows are those of the table
-abbrev pub IsKept : {S : Type 0} → Ghosts S → Held S → Table → Bool → Type 0
-IsKept g conn table is_open = is_open ≡ true → HasCleanDisk (state g conn) → IsReady (state g conn) × AreRowsOf table ((state g conn).now.trees 1)
+-- while the log stands, its rows are those of the table, and it says whose it is
+abbrev pub IsKept : {S : Type 0} → Ghosts S → List ℕ → List ℕ → Held S → Table → Bool → Type 0
+IsKept g owner cluster conn table is_open =
+    is_open ≡ true → HasCleanDisk (state g conn)
+    → IsReady (state g conn) × AreRowsOf table ((state g conn).now.trees 1) × IsNamed owner cluster ((state g conn).now.trees 0)
 
--- a crash at this moment may leave rows that hold the table
-abbrev pub MayLeave : {S : Type 0} → Ghosts S → Held S → Table → Type 0
-MayLeave g conn table = (db : Trees) × (state g conn).may_leave db × (table ≡ content_of (db 1))
+-- who opens these tables as the owner's log finds what their rows hold; where they don't say whose they are, there is no telling what
+abbrev pub Finds : List ℕ → List ℕ → Trees → Table → Type 0
+Finds owner cluster db table = IsNamed owner cluster (db 0) → table ≡ content_of (db 1)
+
+-- who opens it after a crash at this moment may find the table
+abbrev pub MayLeave : {S : Type 0} → Ghosts S → List ℕ → List ℕ → Held S → Table → Type 0
+MayLeave g owner cluster conn table = (db : Trees) × (state g conn).may_leave db × Finds owner cluster db table

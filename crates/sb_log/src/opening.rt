@@ -7,7 +7,7 @@ ghost use Rattle.sqlite.specs.Held.{state};
 ghost use Rattle.sqlite.specs.State.{HasCleanDisk};
 ghost use Rattle.sb_table.specs.Plain.{plain_table};
 ghost use Rattle.sb_log.specs.Form.{no_schema, meta_schema, log_schema};
-ghost use Rattle.sb_log.specs.Opening.{meta_cells, meta_row, Completes, Opens, IsOpeningFault};
+ghost use Rattle.sb_log.specs.Opening.{meta_row, IsNamed, Completes, Opens, IsOpeningFault};
 ghost use Rattle.sb_log.specs.Rows.{AreRowsOf};
 ghost use Rattle.sb_log.specs.Standing.{IsPrepared, IsReady};
 
@@ -33,7 +33,7 @@ pub(crate) fn open_tables<S: Alter>(
     ensures ready { HasCleanDisk (state S.Store conn.new) → OnOk result (IsReady (state S.Store conn.new)) }
     ensures rows { HasCleanDisk (state S.Store conn.new) → IfOk result (λ t. AreRowsOf t ((state S.Store conn.new).now.trees 1)) }
     ensures meta { HasCleanDisk (state S.Store conn.new)
-        → OnOk result (map meta_cells ((state S.Store conn.new).now.trees 0) ≡ meta_row owner.now cluster.now ∷ []) }
+        → OnOk result (IsNamed owner.now cluster.now ((state S.Store conn.new).now.trees 0)) }
     ensures clean { doubt (state S.Store conn.old).is_clean ≤ doubt (state S.Store conn.new).is_clean }
     ensures fault { IfErr result IsOpeningFault }
 {
@@ -60,7 +60,7 @@ fn open_new<S: Alter>(
     ensures same { HasCleanDisk (state S.Store conn.new) → IsReady (state S.Store conn.old)
         → OnOk result ((state S.Store conn.new).now.trees 1 ≡ (state S.Store conn.old).now.trees 1) }
     ensures meta { HasCleanDisk (state S.Store conn.new) → IsReady (state S.Store conn.old) → (state S.Store conn.old).now.trees 0 ≡ []
-        → OnOk result (map meta_cells ((state S.Store conn.new).now.trees 0) ≡ meta_row owner.now cluster.now ∷ []) }
+        → OnOk result (IsNamed owner.now cluster.now ((state S.Store conn.new).now.trees 0)) }
     ensures clean { doubt (state S.Store conn.old).is_clean ≤ doubt (state S.Store conn.new).is_clean }
     ensures fault { IfErr result IsOpeningFault }
 {

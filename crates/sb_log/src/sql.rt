@@ -1,9 +1,9 @@
 //! A log that is kept in a database.
-ghost use Rattle.std.specs.Prelude.{◌≡◌, ◌≤◌, [], ◌∷◌, map, IfOk, IfErr};
+ghost use Rattle.std.specs.Prelude.{◌≡◌, ◌≤◌, IfOk, IfErr};
 ghost use Rattle.sqlite_trees.specs.View.{doubt};
 ghost use Rattle.sqlite.specs.Held.{state};
 ghost use Rattle.sqlite.specs.State.{HasCleanDisk};
-ghost use Rattle.sb_log.specs.Opening.{meta_cells, meta_row, Opens, IsOpeningFault, IsOpenedAs};
+ghost use Rattle.sb_log.specs.Opening.{IsNamed, Opens, IsOpeningFault, IsOpenedAs};
 ghost use Rattle.sb_log.specs.Puts.{IsSettled};
 ghost use Rattle.sb_log.specs.Sql.{log_in};
 ghost use Rattle.sb_log.specs.Standing.{MayLeave};
@@ -45,7 +45,7 @@ impl<S: Alter> Model for SqlLog<S> {
 
     ghost view = { λ l. record { owner = l.owner; cluster = l.cluster; most = l.max_version; is_open = l.is_open; conn = l.conn } };
 
-    ghost invariant = { λ l. IsKept S.Store l.conn l.table l.is_open × (l.max_version ≤ VERSION_MOST) };
+    ghost invariant = { λ l. IsKept S.Store l.owner l.cluster l.conn l.table l.is_open × (l.max_version ≤ VERSION_MOST) };
 }
 
 impl<S: Alter + Drop> SqlLog<S> {
@@ -67,9 +67,8 @@ impl<S: Alter + Drop> SqlLog<S> {
         ensures log { IfOk result (λ l. IsOpenedAs owner cluster max_version (log_in S.Store l)) }
         ensures clean { IfOk result (λ l. doubt (state S.Store conn).is_clean ≤ doubt (state S.Store l.conn).is_clean) }
         ensures found { IfOk result (λ l. HasCleanDisk (state S.Store l.conn) → Opens owner cluster (state S.Store conn).now (log_in S.Store l).content) }
-        ensures meta { IfOk result (λ l. HasCleanDisk (state S.Store l.conn)
-            → map meta_cells ((state S.Store l.conn).now.trees 0) ≡ meta_row owner cluster ∷ []) }
-        ensures settled { IfOk result (λ l. IsSettled (log_in S.Store l) (MayLeave S.Store l.conn)) }
+        ensures meta { IfOk result (λ l. HasCleanDisk (state S.Store l.conn) → IsNamed owner cluster ((state S.Store l.conn).now.trees 0)) }
+        ensures settled { IfOk result (λ l. IsSettled (log_in S.Store l) (MayLeave S.Store owner cluster l.conn)) }
         ensures fault { IfErr result IsOpeningFault }
     {
         let mut conn = conn;
@@ -90,7 +89,7 @@ impl<S: Alter + Drop> SqlLog<S> {
 impl<S: Alter + Drop> WriteLog for SqlLog<S> {
     ghost seen = { λ l. log_in S.Store l };
 
-    ghost leaves = { λ l left. MayLeave S.Store l.conn left };
+    ghost leaves = { λ l left. MayLeave S.Store l.owner l.cluster l.conn left };
 
     fn owner(&self) -> &Name {
         &self.owner

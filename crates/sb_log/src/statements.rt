@@ -8,7 +8,7 @@ ghost use Rattle.sb_types.specs.Records as records;
 ghost use Rattle.sb_table.specs.Plain.{IsPlainTable};
 ghost use Rattle.sb_log.specs.Form.{no_schema, meta_schema, log_schema};
 ghost use Rattle.sb_log.specs.Rows.{cells_of, numbered_cells, is_kept, Enters, AreRowsOf};
-ghost use Rattle.sb_log.specs.Opening.{meta_cells, meta_row};
+ghost use Rattle.sb_log.specs.Opening.{meta_cells, IsNamed};
 ghost use Rattle.sb_log.specs.Standing.{IsReady, IsPrepared};
 
 use crate::rows::{cells_of, table_of};
@@ -92,7 +92,7 @@ pub(crate) fn write_meta<S: Alter>(
     ensures rows { HasCleanDisk (state S.Store conn.new) → IsReady (state S.Store conn.old)
         → OnOk result ((state S.Store conn.new).now.trees 1 ≡ (state S.Store conn.old).now.trees 1) }
     ensures meta { HasCleanDisk (state S.Store conn.new) → IsReady (state S.Store conn.old) → (state S.Store conn.old).now.trees 0 ≡ []
-        → OnOk result (map meta_cells ((state S.Store conn.new).now.trees 0) ≡ meta_row owner.now cluster.now ∷ []) }
+        → OnOk result (IsNamed owner.now cluster.now ((state S.Store conn.new).now.trees 0)) }
     ensures clean { doubt (state S.Store conn.old).is_clean ≤ doubt (state S.Store conn.new).is_clean }
     ensures fault { IfErr result (λ fault. fault ≡ Fault.StoreFailed) }
 {
@@ -138,8 +138,12 @@ pub(crate) fn write_entry<S: Alter>(conn: &mut Connection<S>, entry: &Entry) -> 
     ensures enters { HasCleanDisk (state S.Store conn.new) → IsReady (state S.Store conn.old)
         → OnOk result (Enters entry.now ((state S.Store conn.old).now.trees 1) ((state S.Store conn.new).now.trees 1)) }
     ensures ready { HasCleanDisk (state S.Store conn.new) → IsReady (state S.Store conn.old) → OnOk result (IsReady (state S.Store conn.new)) }
+    // Whose log it is stays, also where the write fails or a crash comes.
+    ensures meta { HasCleanDisk (state S.Store conn.new) → IsReady (state S.Store conn.old)
+        → OnOk result ((state S.Store conn.new).now.trees 0 ≡ (state S.Store conn.old).now.trees 0) }
     ensures crash { HasCleanDisk (state S.Store conn.new) → IsReady (state S.Store conn.old) → (db : Trees) → (state S.Store conn.new).may_leave db
-        → (state S.Store conn.old).may_leave db ⊎ Enters entry.now ((state S.Store conn.old).now.trees 1) (db 1) }
+        → (state S.Store conn.old).may_leave db
+            ⊎ (Enters entry.now ((state S.Store conn.old).now.trees 1) (db 1) × (db 0 ≡ (state S.Store conn.old).now.trees 0)) }
     ensures clean { doubt (state S.Store conn.old).is_clean ≤ doubt (state S.Store conn.new).is_clean }
     ensures fault { IfErr result (λ fault. fault ≡ Fault.StoreFailed) }
 {

@@ -13,4 +13,4 @@ returns-clause-found g c clean =
 pub returns-clause-settled : goal.returns-clause-settled
 returns-clause-settled g c =
     let o = c.in_ok-table.ensures in
-    settles g.S.Store g.met.S.Store.settled c.open_tables.new.conn c.in_ok-table.table _ (λ _ clean. (o.ready clean, o.rows clean))
+    settles g.S.Store g.met.S.Store.settled c.args.owner c.args.cluster c.open_tables.new.conn c.in_ok-table.table _ (λ _ clean. (o.ready clean, o.rows clean, o.meta clean))

@@ -21,7 +21,7 @@ pub returns-in-Ok-clause-settled : goal.returns-in-Ok-clause-settled
 returns-in-Ok-clause-settled g c =
     let i = c.self.inside in
     let r = c.read_table in
-    settles g.S.Store g.met.S.Store.settled r.new.conn i.table i.is_open
+    settles g.S.Store g.met.S.Store.settled i.owner i.cluster r.new.conn i.table i.is_open
     (still_kept g.S.Store g.met.S.Store.settled i.owner i.cluster i.max_version i.is_open c.if-not-self.false i.conn i.table c.self.invariant.0 r.new.conn r.ensures.clean (λ clean ready. c.in-Ok.ensures.ready clean ready (λ e. cc)))
 
 pub returns-in-Err-NoMemory-clause-loads : goal.returns-in-Err-NoMemory-clause-loads
@@ -42,7 +42,7 @@ pub returns-in-Err-NoMemory-clause-settled : goal.returns-in-Err-NoMemory-clause
 returns-in-Err-NoMemory-clause-settled g c =
     let i = c.self.inside in
     let r = c.read_table in
-    settles g.S.Store g.met.S.Store.settled r.new.conn i.table i.is_open
+    settles g.S.Store g.met.S.Store.settled i.owner i.cluster r.new.conn i.table i.is_open
     (still_kept g.S.Store g.met.S.Store.settled i.owner i.cluster i.max_version i.is_open c.if-not-self.false i.conn i.table c.self.invariant.0 r.new.conn r.ensures.clean (λ clean ready. c.in-Err-NoMemory.ensures.ready clean ready (λ e. cc)))
 
 pub returns-in-Err : goal.returns-in-Err

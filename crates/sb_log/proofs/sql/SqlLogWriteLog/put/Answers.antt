@@ -14,12 +14,12 @@ returns-in-Err-clause-puts g c =
 pub returns-in-Err-clause-crash : goal.returns-in-Err-clause-crash
 returns-in-Err-clause-crash g c clean up left may =
     let i = c.self.inside in
-    rw (← c.self.view_is) (inl (settles g.S.Store g.met.S.Store.settled i.conn i.table i.is_open c.self.invariant.0 clean c.if-not-self.false left may))
+    rw (← c.self.view_is) (inl (settles g.S.Store g.met.S.Store.settled i.owner i.cluster i.conn i.table i.is_open c.self.invariant.0 clean c.if-not-self.false left may))
 
 pub returns-in-Err-clause-settled : goal.returns-in-Err-clause-settled
 returns-in-Err-clause-settled g c =
     let i = c.self.inside in
-    settles g.S.Store g.met.S.Store.settled i.conn i.table i.is_open c.self.invariant.0
+    settles g.S.Store g.met.S.Store.settled i.owner i.cluster i.conn i.table i.is_open c.self.invariant.0
 
 pub returns-in-Ok-write_entry-clause-puts : goal.returns-in-Ok-write_entry-clause-puts
 returns-in-Ok-write_entry-clause-puts g c =
@@ -44,9 +44,9 @@ returns-in-Ok-write_entry-clause-settled g c =
     let i = c.self.inside in
     let a = c.in-Ok.ensures in
     let w = c.write_entry in
-    settles g.S.Store g.met.S.Store.settled w.new.conn c.accept.new.table i.is_open
+    settles g.S.Store g.met.S.Store.settled i.owner i.cluster w.new.conn c.accept.new.table i.is_open
     (now_kept g.S.Store g.met.S.Store.settled i.owner i.cluster i.max_version i.is_open c.if-not-self.false i.conn i.table c.self.invariant.0 c.args.key.now c.args.slot.now w.new.conn w.ensures.clean c.in-Ok.entry
-    a.entry (rw (← a.entered) a.plain) c.accept.new.table a.entered c.in-Ok-write_entry.ensures.enters c.in-Ok-write_entry.ensures.ready)
+    a.entry (rw (← a.entered) a.plain) c.accept.new.table a.entered c.in-Ok-write_entry.ensures.enters c.in-Ok-write_entry.ensures.ready c.in-Ok-write_entry.ensures.meta)
 
 pub returns-in-Err-write_entry-clause-puts : goal.returns-in-Err-write_entry-clause-puts
 returns-in-Err-write_entry-clause-puts g c =
