@@ -1,6 +1,6 @@
 -- What was found where a log is opened.
 use Rattle.std.specs.Prelude.{IfOk, OnOk, slice_index_or, ◌==◌, true}
-use Rattle.std.proofs.Common.{◌≡◌, ◌⊎◌, inl, inr, ℕ, ◌≤◌, ◌<◌, List, [], ◌∷◌, length, map, Result, Ok, Err, refl, sym, ap, subst, ◌∙◌, arith, eqb-true, IsPermutation}
+use Rattle.std.proofs.Common.{◌≡◌, inl, inr, ℕ, ◌≤◌, ◌<◌, List, [], ◌∷◌, length, map, Result, Ok, Err, refl, sym, ap, subst, ◌∙◌, arith, eqb-true, IsPermutation}
 use Rattle.std.proofs.lemmas.List.Sorted.{IsPermutation-sym, length_permutation}
 use Rattle.sqlite_value.specs.Order.{Row}
 use Rattle.sqlite.specs.Effect.{Database}
@@ -8,7 +8,7 @@ use Rattle.sqlite.proofs.Callers.{one_permutation}
 use Rattle.sb_types.specs.declared.fault.Fault.{Fault}
 use Rattle.sb_types.specs.Records.{Table}
 use Rattle.sb_table.specs.Plain.{plain_table}
-use Rattle.sb_log.specs.Opening.{meta_cells, meta_row, meta_found, writes_found, IsMetaOf, Completes, Opens}
+use Rattle.sb_log.specs.Opening.{meta_cells, meta_row, meta_found, Completes, Opens}
 use Rattle.sb_log.specs.Rows.{AreRowsOf}
 
 pub was_clean : (a b : ℕ) → b ≡ 0 → a ≤ b → a ≡ 0

@@ -1,5 +1,5 @@
 -- Rows hold the entries of one table alone.
-use Rattle.std.proofs.Common.{◌≡◌, ℕ, zero, suc, ◌<◌, ◌≤◌, add-one, arith, is_lt, length, get_or, pos, true, false, List, [], ◌∷◌, map, refl, sym, ap, subst, subst₂, ◌∙◌, IsPermutation, IsSorted}
+use Rattle.std.proofs.Common.{◌≡◌, ℕ, zero, suc, ◌<◌, ◌≤◌, add-one, arith, is_lt, length, get_or, true, false, List, [], ◌∷◌, map, refl, sym, ap, subst, subst₂, ◌∙◌, IsPermutation, IsSorted}
 use Rattle.std.specs.Prelude.{nat_lt}
 use Rattle.std.proofs.lemmas.List.Sorted.{IsPermutation-refl, IsPermutation-cons, IsPermutation-middle, IsPermutation-sym, IsPermutation-map, IsPermutation-trans}
 use Rattle.sqlite_value.specs.Order.{Row, column}

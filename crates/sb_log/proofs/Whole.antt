@@ -1,5 +1,5 @@
 -- Of the rows of a whole table nothing is taken for damage.
-use Rattle.std.proofs.Common.{◌≡◌, ◌≢◌, ℕ, zero, suc, ◌+◌, ℤ, pos, ◌<◌, ◌≤◌, Bool, true, false, List, [], ◌∷◌, ◌++◌, length, map, take, drop, flat_map, get_or, Option, None, Some, Result, Ok, Err, refl, sym, ap, subst, subst₂, ◌∙◌, arith, add-one, Ordering, Equal, is_lt, int_cmp, nat_cmp, IsPermutation, IsSorted, length-append}
+use Rattle.std.proofs.Common.{◌≡◌, ℕ, zero, suc, pos, ◌<◌, ◌≤◌, true, false, List, [], ◌∷◌, ◌++◌, length, map, take, drop, flat_map, get_or, Option, None, Some, Result, Ok, Err, refl, sym, ap, subst, ◌∙◌, arith, add-one, Equal, is_lt, int_cmp, nat_cmp, IsPermutation, IsSorted, length-append}
 use Rattle.std.specs.List.{AllByRecursion, list_all}
 use Rattle.std.specs.Ordering.{ordering_then}
 use Rattle.std.specs.Prelude.{nat_eq, IfSome, IfErr}

@@ -1,14 +1,11 @@
 -- What the statement that writes an entry does, and what it commits.
-use Rattle.std.proofs.Common.{◌≡◌, ◌≢◌, ◌⊎◌, inl, inr, ℕ, ℤ, pos, Bool, true, false, cond, not, ◌&&◌, List, [], ◌∷◌, ◌++◌, append-nil, map, drop, Option, None, Some, Ok, refl, sym, ap, subst, subst₂, ◌∙◌, arith, IsTrue, IsPermutation}
-use Rattle.std.specs.List.{AllByRecursion}
+use Rattle.std.proofs.Common.{◌≡◌, ◌⊎◌, inl, inr, ℕ, ℤ, pos, Bool, true, false, cond, not, List, [], ◌∷◌, ◌++◌, append-nil, drop, Option, None, Some, Ok, refl, sym, ap, subst, subst₂, ◌∙◌, arith, IsPermutation}
 use Rattle.std.proofs.lemmas.Bool.{and_parts, not-true}
-use Rattle.std.proofs.lemmas.List.Sorted.{IsPermutation-filter_both, IsPermutation-trans}
+use Rattle.std.proofs.lemmas.List.Sorted.{IsPermutation-filter_both}
 use Rattle.sqlite_value.specs.declared.value.Value.{Value}
 use Rattle.sqlite_value.specs.declared.value.Value.TheVariants.{Null, Int, Text}
 use Rattle.sqlite_value.specs.Order.{Row, column}
 use Rattle.sqlite_trees.specs.Tree.{Trees, rowid, has_rowid, put_row, without_rowid}
-use Rattle.sqlite_trees.specs.View.{is_int}
-use Rattle.sqlite_trees.proofs.ListLemmas.{IsPermutation-same}
 use Rattle.sqlite_sql.specs.Program.{overlay}
 use Rattle.sqlite_sql.specs.Query.{IsAnswer}
 use Rattle.sqlite_schema.specs.declared.command.Command.{Command}
@@ -19,8 +16,7 @@ use Rattle.sqlite_schema.specs.declared.schema.Schema.{Schema}
 use Rattle.sqlite_rules.specs.declared.error.Rowids.TheVariants.{Given}
 use Rattle.sqlite_rules.specs.Cast.{cast_all, cast_row}
 use Rattle.sqlite_rules.specs.Edit.{next_rowid, id_in, edit_of, is_taken, without_all, Applies}
-use Rattle.sqlite_rules.specs.Lists.{Has}
-use Rattle.sqlite_rules.specs.Keys.{AreConflicts, conflicts}
+use Rattle.sqlite_rules.specs.Keys.{AreConflicts}
 use Rattle.sqlite_rules.proofs.ListLemmas.{all_has}
 use Rattle.sqlite_rules.proofs.TableLemmas.{int_is}
 use Rattle.sqlite_rules.specs.Calls.{ids_of}
@@ -29,7 +25,7 @@ use Rattle.sqlite.specs.Effect.{Database}
 use Rattle.sqlite.specs.Rows.{Written, Updates, shown}
 use Rattle.sqlite.specs.declared.run.Mode.{Mode}
 use Rattle.sqlite.specs.Listing.{understood}
-use Rattle.sqlite.specs.State.{State, Writes, Executes, CommitsBy, MayCommit, MayWrite, mode_of}
+use Rattle.sqlite.specs.State.{State, Writes, Executes, CommitsBy, MayCommit, mode_of}
 use Rattle.sqlite.proofs.Callers.{IsPlain, command_of, statement_of, runs_as, one_step}
 use Rattle.sb_types.specs.declared.entry.Slot.{Slot}
 use Rattle.sb_types.specs.declared.entry.Slot.TheVariants.{Set, Removed}
@@ -37,7 +33,7 @@ use Rattle.sb_types.specs.Value.{Addr, Weight, Flag}
 use Rattle.sb_types.specs.Records.{Entry, Table}
 use Rattle.sb_table.specs.Plain.{IsPlainTable, with_entry}
 use Rattle.sb_log.specs.Form.{log_schema, writes_table, writes_columns, upsert_text}
-use Rattle.sb_log.specs.Rows.{cells, cells_of, slot_cells, is_kept, AreNumbered, AreRowsOf, Enters}
+use Rattle.sb_log.specs.Rows.{cells, cells_of, slot_cells, is_kept, AreRowsOf, Enters}
 use Rattle.sb_log.specs.Standing.{IsReady}
 use Rattle.sb_log.proofs.Making.{went, same_value}
 use Rattle.sb_log.proofs.Texts.{upsert_terms, on_key, update_query, update_program, upsert_is, upsert_plain}

@@ -34,6 +34,9 @@ pub(crate) fn open_tables<S: Alter>(
     ensures rows { HasCleanDisk (state S.Store conn.new) → IfOk result (λ t. AreRowsOf t ((state S.Store conn.new).now.trees 1)) }
     ensures meta { HasCleanDisk (state S.Store conn.new)
         → OnOk result (IsNamed owner.now cluster.now ((state S.Store conn.new).now.trees 0)) }
+    // What is refused is refused again: at most the tables that were missing are made.
+    ensures refused { HasCleanDisk (state S.Store conn.new) → IfErr result (λ fault. fault ≢ Fault.StoreFailed
+        → ((state S.Store conn.new).now ≡ (state S.Store conn.old).now) ⊎ Completes (state S.Store conn.old).now (state S.Store conn.new).now) }
     ensures clean { doubt (state S.Store conn.old).is_clean ≤ doubt (state S.Store conn.new).is_clean }
     ensures fault { IfErr result IsOpeningFault }
 {
@@ -61,6 +64,8 @@ fn open_new<S: Alter>(
         → OnOk result ((state S.Store conn.new).now.trees 1 ≡ (state S.Store conn.old).now.trees 1) }
     ensures meta { HasCleanDisk (state S.Store conn.new) → IsReady (state S.Store conn.old) → (state S.Store conn.old).now.trees 0 ≡ []
         → OnOk result (IsNamed owner.now cluster.now ((state S.Store conn.new).now.trees 0)) }
+    ensures refused { HasCleanDisk (state S.Store conn.new) → IsReady (state S.Store conn.old)
+        → IfErr result (λ fault. fault ≢ Fault.StoreFailed → (state S.Store conn.new).now ≡ (state S.Store conn.old).now) }
     ensures clean { doubt (state S.Store conn.old).is_clean ≤ doubt (state S.Store conn.new).is_clean }
     ensures fault { IfErr result IsOpeningFault }
 {
@@ -89,6 +94,8 @@ fn open_old<S: Alter>(
     ensures same { HasCleanDisk (state S.Store conn.new) → IsReady (state S.Store conn.old)
         → OnOk result ((state S.Store conn.new).now ≡ (state S.Store conn.old).now) }
     ensures meta { OnOk result (row.now ≡ meta_row owner.now cluster.now) }
+    ensures refused { HasCleanDisk (state S.Store conn.new) → IsReady (state S.Store conn.old)
+        → IfErr result (λ fault. fault ≢ Fault.StoreFailed → (state S.Store conn.new).now ≡ (state S.Store conn.old).now) }
     ensures clean { doubt (state S.Store conn.old).is_clean ≤ doubt (state S.Store conn.new).is_clean }
     ensures fault { IfErr result IsOpeningFault }
 {
@@ -105,6 +112,8 @@ fn open_old<S: Alter>(
 fn make_tables<S: Alter>(conn: &mut Connection<S>) -> Result<(), Fault>
     ensures completes { HasCleanDisk (state S.Store conn.new) → OnOk result (Completes (state S.Store conn.old).now (state S.Store conn.new).now) }
     ensures prepared { HasCleanDisk (state S.Store conn.new) → OnOk result (IsPrepared (state S.Store conn.new)) }
+    ensures refused { HasCleanDisk (state S.Store conn.new)
+        → IfErr result (λ fault. fault ≢ Fault.StoreFailed → (state S.Store conn.new).now ≡ (state S.Store conn.old).now) }
     ensures clean { doubt (state S.Store conn.old).is_clean ≤ doubt (state S.Store conn.new).is_clean }
     ensures fault { IfErr result (λ fault. (fault ≡ Fault.StoreFailed) ⊎ (fault ≡ Fault.LogDamaged)) }
 {
@@ -133,6 +142,8 @@ fn make_second<S: Alter>(conn: &mut Connection<S>) -> Result<(), Fault>
     ensures settled { HasCleanDisk (state S.Store conn.new) → (state S.Store conn.old).now.schema ≡ meta_schema
         → (state S.Store conn.old).in_transaction ≡ false
         → OnOk result (((state S.Store conn.new).in_transaction ≡ false) × ((state S.Store conn.new).now ≡ (state S.Store conn.new).committed)) }
+    ensures refused { HasCleanDisk (state S.Store conn.new) → (state S.Store conn.old).now.schema ≡ meta_schema
+        → IfErr result (λ fault. fault ≢ Fault.StoreFailed → (state S.Store conn.new).now ≡ (state S.Store conn.old).now) }
     ensures clean { doubt (state S.Store conn.old).is_clean ≤ doubt (state S.Store conn.new).is_clean }
     ensures fault { IfErr result (λ fault. (fault ≡ Fault.StoreFailed) ⊎ (fault ≡ Fault.LogDamaged)) }
 {

@@ -143,7 +143,7 @@ pub(crate) fn write_entry<S: Alter>(conn: &mut Connection<S>, entry: &Entry) -> 
         → OnOk result ((state S.Store conn.new).now.trees 0 ≡ (state S.Store conn.old).now.trees 0) }
     ensures crash { HasCleanDisk (state S.Store conn.new) → IsReady (state S.Store conn.old) → (db : Trees) → (state S.Store conn.new).may_leave db
         → (state S.Store conn.old).may_leave db
-            ⊎ (Enters entry.now ((state S.Store conn.old).now.trees 1) (db 1) × (db 0 ≡ (state S.Store conn.old).now.trees 0)) }
+        ⊎ (Enters entry.now ((state S.Store conn.old).now.trees 1) (db 1) × (db 0 ≡ (state S.Store conn.old).now.trees 0)) }
     ensures clean { doubt (state S.Store conn.old).is_clean ≤ doubt (state S.Store conn.new).is_clean }
     ensures fault { IfErr result (λ fault. fault ≡ Fault.StoreFailed) }
 {

@@ -75,7 +75,9 @@ fn keeps<L: WriteLog>(rt: &impl Abort, alloc: Global, log: &mut L) {
 }
 
 fn keeps_writes<S: Alter + Drop>(rt: &impl Abort, alloc: Global, conn: Connection<S>) {
-    keeps(rt, alloc, &mut open(rt, alloc, conn, 4));
+    let mut log = open(rt, alloc, conn, 4);
+    keeps(rt, alloc, &mut log);
+    same(rt, &log.close(), &Ok(()));
 }
 
 // Opened again: what it holds, and what the next write is answered, with a lesser greatest version.

@@ -1,4 +1,4 @@
-use Rattle.std.proofs.Common.{◌≡◌, List, rules, Ok, None, Some, sym, subst}
+use Rattle.std.proofs.Common.{rules, sym, subst}
 use Rattle.sqlite_value.specs.Order.{Row}
 use Rattle.sb_log.proofs.Whole.{IsNext, next_of_rows, next_fits, cells_found}
 use Rattle.sb_log.proofs.rows.table_of.Goals as goal

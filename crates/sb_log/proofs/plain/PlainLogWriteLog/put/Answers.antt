@@ -1,4 +1,4 @@
-use Rattle.std.proofs.Common.{◌≡◌, sym, ◌∙◌, refl}
+use Rattle.std.proofs.Common.{sym, ◌∙◌, refl}
 use Rattle.sb_log.proofs.Keeping.{log_refuses, same_fault}
 use Rattle.sb_log.proofs.plain.PlainLogWriteLog.put.Goals as goal
 

@@ -1,5 +1,4 @@
 use Rattle.std.proofs.Common.{◌≡◌, true, true≢false, sym, ◌∙◌}
-use Rattle.sqlite.specs.Held.{state}
 use Rattle.sb_log.proofs.Keeping.{gives, gives_no_memory, gives_nothing, gives_damaged, same_left, settles, still_kept}
 use Rattle.sb_log.proofs.sql.SqlLogWriteLog.load.Goals as goal
 

@@ -1,5 +1,4 @@
-use Rattle.std.proofs.Common.{◌≡◌, inl, Some, None, Ok, Err, sym, ap, subst, ◌∙◌, rules}
-use Rattle.sqlite.specs.Held.{state}
+use Rattle.std.proofs.Common.{inl, sym, ◌∙◌}
 use Rattle.sb_log.proofs.Keeping.{refuses, fails, keeps, survives, settles, now_kept, same_fault}
 use Rattle.sb_log.proofs.sql.SqlLogWriteLog.put.Goals as goal
 
