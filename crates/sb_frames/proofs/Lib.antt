@@ -2,3 +2,4 @@ pub mod Fronts
 pub mod Taking
 pub mod Splitting
 pub mod OutOfReaders
+pub mod Outcomes

@@ -1,6 +1,7 @@
 //! The messages of a stream.
 
 ghost use Rattle.std.specs.Prelude.{◌≡◌, ◌+◌, ◌≤◌, false, [], drop, length};
+ghost use Rattle.sb_frames.specs.Frames.{short, front_of};
 ghost use Rattle.sb_frames.specs.Streams.{open_with, Feeds, TakesNext};
 ghost use Rattle.sb_frames.specs.Receiving.{is_shut, held_of, end_of, Fills};
 
@@ -146,7 +147,8 @@ impl Frames {
         left: &mut u64,
         steps: &mut Steps<L>,
     ) -> Result<usize, Fault>
-        requires { is_shut self.old ≡ false }
+        requires open { is_shut self.old ≡ false }
+        requires short { front_of (held_of self.old) ≡ short }
         ensures filled { Fills (held_of self.old) (R.remaining reader.old) (R.remaining reader.new) left.old left.new result self.new }
         ensures counted { steps.new + left.new ≡ steps.old + left.old }
     {

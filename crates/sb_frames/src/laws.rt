@@ -7,6 +7,7 @@ ghost use Rattle.sb_codec.specs.Messages.{spelling, is_message};
 ghost use Rattle.sb_frames.specs.Frames.{frame, short, whole, bad, front_of, Leads, Extends};
 ghost use Rattle.sb_frames.specs.Streams.{Stream, open_with, Splits};
 ghost use Rattle.sb_frames.specs.Receiving.{is_frame_fault};
+ghost use Rattle.sb_frames.specs.declared.frames.TheConstants.{READ_LENGTH};
 ghost use Rattle.sb_frames.specs.Runs.{Call, Run, bytes_fed, messages_taken, IsLeft, IsSpent, Accounts};
 
 use sb_types::{BUDGET_MOST, HEADER_LENGTH};
@@ -60,4 +61,9 @@ pub fn pieces_do_not_matter()
         Accounts (bytes_fed calls) (messages_taken calls) new }
     ensures splits { (calls : List Call) (new : Stream) → Run (open_with []) calls new → IsSpent new →
         (rest : List ℕ) × IsLeft rest new × Splits (bytes_fed calls) (messages_taken calls) rest }
+{}
+
+/// One read asks for so many bytes.
+pub fn a_read_has_this_length()
+    ensures { READ_LENGTH ≡ 4_096 }
 {}

@@ -1,6 +1,6 @@
 //! A message onto a writer.
 
-ghost use Rattle.std.specs.Prelude.{◌≡◌, true, IfOk, IfErr, OnOk};
+ghost use Rattle.std.specs.Prelude.{◌≡◌, ◌≢◌, true, Err, IfOk, IfErr, OnOk};
 ghost use Rattle.sb_codec.specs.Messages.{is_message};
 ghost use Rattle.sb_frames.specs.Frames.{frame};
 ghost use Rattle.sb_frames.specs.Sending.{Sends, OnlyWhereFailed};
@@ -9,7 +9,7 @@ use crate::last_write::LastWrite;
 use sb_codec::{Message, append_payload, length};
 use sb_types::{FRAME_MARK, FRAME_VERSION, Fault, HEADER_LENGTH};
 use std::alloc::Global;
-use std::io::{ErrorKind, Write};
+use std::io::Write;
 
 /// Puts the message's frame into a buffer, in place of what was in it. It takes memory only where the buffer
 /// has no room for it. `NoMemory` is its only fault.
@@ -47,6 +47,7 @@ const INTERRUPTED_MOST: u32 = 1_000;
 pub fn write_counted<W: Write>(writer: &mut W, bytes: &[u8]) -> (Result<(), Fault>, LastWrite)
     ensures sends { Sends (W.contents writer.old) (W.contents writer.new) bytes.now result.0 }
     ensures failed { OnlyWhereFailed result.0 result.1 }
+    ensures memory { result.0 ≢ Err Fault.NoMemory }
 {
     let mut last = LastWrite::new();
     let (mut count, mut left) = (0, INTERRUPTED_MOST);
@@ -57,7 +58,7 @@ pub fn write_counted<W: Write>(writer: &mut W, bytes: &[u8]) -> (Result<(), Faul
                 count += written;
                 left = INTERRUPTED_MOST;
             }
-            Err(error) if left > 0 && error.kind() == ErrorKind::Interrupted => left -= 1,
+            Err(_) if left > 0 && last.was_interrupted() => left -= 1,
             Err(_) => return (Err(Fault::WriteFailed(count as u64)), last),
         }
     }

@@ -14,7 +14,7 @@ use Rattle.sb_holdings.specs.Taken.{routed, holder_after_block}
 use Rattle.sb_holdings.specs.Held.{Held, holder_of, shown_of, held_after_taking}
 use Rattle.sb_holdings.specs.Ends.{is_own, JoinsOn, Fits}
 use Rattle.sb_holdings.specs.Nodes.{Node, node_after_block}
-use Rattle.sb_holdings.specs.TakenUp.{HasFront, IsTakenUp}
+use Rattle.sb_holdings.specs.TakenUp.{HasFront, HasAll, IsTakenUp}
 use Rattle.sb_types.proofs.Standing.{right}
 use Rattle.sb_types.proofs.Texts.{text_same}
 use Rattle.sb_holdings.proofs.Nodes.{put_with}
@@ -53,7 +53,7 @@ taken_up node b OwnersFull is joins fits = refl
 taken_up node b (Taken n) is joins fits =
     let h = holder_of node.held.owners b.owner in
     let same = shown-taken node.held b is joins (Taken n) ∙ routed-shown node.held b is joins (part_above h.shown.held b) (staged_all h b) in
-    omega (arith, ap (λ (t : Table). t.held) same)
+    subst (HasAll h.shown b) (sym same) (record { held = omega arith; each = λ e s. right _ (above h.shown.held b.entries) e s })
 taken_up node b (TooManyKeys n) is joins fits =
     let h = holder_of node.held.owners b.owner in
     front-shown node.held b is joins n _ (shown-taken node.held b is joins (TooManyKeys n) ∙ routed-shown node.held b is joins (front n (part_above h.shown.held b)) (staged_front n h b))

@@ -18,13 +18,18 @@ IsFrontTaken old b n new =
     let t = shown_of old.held b.owner in
     HasFront t (take n (above t.held b.entries)) (shown_of new.held b.owner)
 
--- with no room for its owner nothing changes, with none for its next entry the ones before are taken, and else all of it
+-- the new table is held as far as the block tells, and has each of its entries above what the old one held
+pub record HasAll (old : Table) (b : Block) (new : Table) : Type 0 where
+  pub held : b.upto ≤ new.held
+  pub each : (e : Entry) → Stands (above old.held b.entries) e → Stands new.entries e
+
+-- with no room for its owner nothing changes, with none for its next entry the ones before are taken, and else all of it; it ends in no other way
 abbrev pub IsTakenUp : Node → Block → BlockEnd → Node → Type 0
 IsTakenUp old b OwnersFull new = new ≡ old
 IsTakenUp old b (TooManyKeys n) new = IsFrontTaken old b n new
 IsTakenUp old b (NoMemory n) new = IsFrontTaken old b n new
-IsTakenUp old b (Taken n) new = b.upto ≤ (shown_of new.held b.owner).held
-IsTakenUp old b Own new = b.upto ≤ (shown_of new.held b.owner).held
-IsTakenUp old b (OwnAhead upto) new = b.upto ≤ (shown_of new.held b.owner).held
-IsTakenUp old b Gap new = b.upto ≤ (shown_of new.held b.owner).held
-IsTakenUp old b Stale new = b.upto ≤ (shown_of new.held b.owner).held
+IsTakenUp old b (Taken n) new = HasAll (shown_of old.held b.owner) b (shown_of new.held b.owner)
+IsTakenUp old b Own new = ⊥
+IsTakenUp old b (OwnAhead upto) new = ⊥
+IsTakenUp old b Gap new = ⊥
+IsTakenUp old b Stale new = ⊥

@@ -44,7 +44,7 @@ module _ (old : Log) (up : old.is_open ≡ true) (key : List ℕ) (slot : Slot) 
         stays = record { owner = refl; cluster = refl; most = refl; clean = λ c. c; sure = λ s. s };
         closed = (λ e. absurd (open_fault (same_fault e)), λ shut. absurd (true≢false (sym up ∙ shut)));
         kept = tt;
-        refused = record { reason = λ _ _. reason; unchanged = λ _. refl; closes = λ e. absurd (kept_fault e) };
+        refused = record { reason = λ _ _. reason; unchanged = λ _. refl; closes = λ e. absurd (kept_fault e); sure = λ _. kept_fault };
       }
 
   pub log_refuses : (fault : Fault) → ((f : Fault) → refusal old.most old.content key slot ≡ Some f → fault ≡ f) → (refusal old.most old.content key slot ≡ None → fault ≡ NoMemory) → Puts old key slot (Err fault) old
@@ -96,6 +96,7 @@ module _ {S : Type 0} (g : Ghosts S) (settled : (s : S) (db : Trees) → IsTrue 
               reason = λ clean _. subst (λ (o : Option Fault). IsReason o fault) (sym (tested clean ∙ is)) refl;
               unchanged = λ _. refl;
               closes = λ e. absurd (others.1 e);
+              sure = λ _. others.1;
             };
           }
 
@@ -109,6 +110,7 @@ module _ {S : Type 0} (g : Ghosts S) (settled : (s : S) (db : Trees) → IsTrue 
               reason = λ clean _. subst (λ (o : Option Fault). IsReason o NoMemory) (sym (tested clean ∙ is)) (inl refl);
               unchanged = λ _. refl;
               closes = λ e. absurd (cc);
+              sure = λ _ e. cc;
             };
           }
 
@@ -133,6 +135,7 @@ module _ {S : Type 0} (g : Ghosts S) (settled : (s : S) (db : Trees) → IsTrue 
                 reason = λ clean _. subst (λ (o : Option Fault). IsReason o StoreFailed) (sym (tested (was_clean clean) ∙ is)) (inr refl);
                 unchanged = λ other. absurd (other refl);
                 closes = λ _. refl;
+                sure = λ s. absurd (cc);
               };
             }
 
@@ -229,6 +232,7 @@ module _ {S : Type 0} (g : Ghosts S) (settled : (s : S) (db : Trees) → IsTrue 
               content = λ _. same_content read;
               closes = λ e. absurd (elim e [ inl f ↦ cc | inr f ↦ cc ]);
               unchanged = λ e. absurd (cc);
+              sure = λ _. inl refl;
             };
           }
 
@@ -244,6 +248,7 @@ module _ {S : Type 0} (g : Ghosts S) (settled : (s : S) (db : Trees) → IsTrue 
               content = λ e. absurd (cc);
               closes = λ _. refl;
               unchanged = λ e. absurd (cc);
+              sure = λ s. absurd (cc);
             };
           }
 
@@ -259,6 +264,7 @@ module _ {S : Type 0} (g : Ghosts S) (settled : (s : S) (db : Trees) → IsTrue 
               content = λ e. absurd (cc);
               closes = λ _. refl;
               unchanged = λ e. absurd (cc);
+              sure = λ s. absurd (cc);
             };
           }
 

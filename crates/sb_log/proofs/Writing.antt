@@ -137,8 +137,8 @@ apart e = absurd (omega (arith, e))
 
 spares : (limit : Option ℕ) (mode : Mode) (a b c d e : Value) (fits : cast_all writes_columns (a ∷ b ∷ c ∷ d ∷ e ∷ []) ≡ a ∷ b ∷ c ∷ d ∷ e ∷ []) (db next : Trees)
     → Leaves limit mode a b c d e fits db next → next 0 ≡ db 0
-spares limit mode a b c d e fits db next (inl new) = new.1.tables.0 apart
-spares limit mode a b c d e fits db next (inr old) =
+spares limit mode a b c d e cast db next (inl new) = new.1.tables.0 apart
+spares limit mode a b c d e cast db next (inr old) =
     let first = went old.5 in
     let second = went first.2 in
     let put = one_step log_schema mode.keys db second.0 (edit_of db writes_table (ids_of first.0) Given 1 first.0) refl second.1 in

@@ -69,6 +69,7 @@ pub record Refuses (old : Log) (key : List ℕ) (slot : Slot) (fault : Fault) (n
   pub reason : new.is_clean ≡ true → old.is_open ≡ true → IsReason (refusal old.most old.content key slot) fault
   pub unchanged : fault ≢ StoreFailed → new ≡ old
   pub closes : fault ≡ StoreFailed → new.is_open ≡ false
+  pub sure : IsSure old → fault ≢ StoreFailed
 
 pub record Puts (old : Log) (key : List ℕ) (slot : Slot) (result : Result Committed Fault) (new : Log) : Type 0 where
   pub stays : Stays old new
@@ -93,6 +94,7 @@ pub record FailsToLoad (old : Log) (fault : Fault) (new : Log) : Type 0 where
   pub content : fault ≡ NoMemory → new.is_clean ≡ true → new.content ≡ old.content
   pub closes : (fault ≡ StoreFailed) ⊎ (fault ≡ LogDamaged) → new.is_open ≡ false
   pub unchanged : fault ≡ Closed → new ≡ old
+  pub sure : IsSure old → (fault ≡ NoMemory) ⊎ (fault ≡ Closed)
 
 pub record Loads (old : Log) (result : Result Table Fault) (new : Log) : Type 0 where
   pub stays : Stays old new

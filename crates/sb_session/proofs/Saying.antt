@@ -1,5 +1,5 @@
 -- Messages that are sent one after the other.
-use Rattle.std.proofs.Common.{◌≡◌, ℕ, Bool, true, List, [], ◌∷◌, ◌++◌, take, Option, Result, Ok, Err, refl, sym, ap, subst, ◌∙◌, inl, inr, append_assoc, arith}
+use Rattle.std.proofs.Common.{◌≡◌, ℕ, true, List, [], ◌∷◌, ◌++◌, take, Option, Result, Ok, Err, refl, sym, ap, subst, ◌∙◌, inl, inr, append_assoc, arith}
 use Rattle.std.specs.List.{flat_map}
 use Rattle.std.specs.Io.KnownBytes.{Keeps, Appends}
 use Rattle.std.proofs.KnownBytes.{Appends-trans, Appends-kept, Appends-nil}
@@ -10,6 +10,7 @@ use Rattle.sb_types.specs.declared.fault.Fault.TheVariants.{NoMemory, Closed, Wr
 use Rattle.sb_codec.specs.declared.message.Message.{Message}
 use Rattle.sb_frames.specs.Frames.{frame}
 use Rattle.sb_frames.specs.Streams.{Stream, open_with, shut}
+use Rattle.sb_frames.specs.declared.last_write.Outcome.{Outcome}
 use Rattle.sb_frames.specs.Sending.{Sends, OnlyWhereFailed}
 use Rattle.sb_frames.specs.Receiving.{is_frame_fault, Receives, Stops, is_bad, no_memory, read_failed, cut_short, turns_spent}
 use Rattle.sb_frames.proofs.Fronts.{of_a_frame}
@@ -81,26 +82,26 @@ cut_in_front a b ms ns fault cut =
 
 -- ---- no write failed
 
-frame_wrote : (X : Type 0) (fault : Fault) (b : Bool) → is_frame_fault fault ≡ true → OnlyWhereFailed {X = X} (Err fault) b
-frame_wrote X (WriteFailed count) b is = absurd cc
-frame_wrote X _ b is = tt
+frame_wrote : (X : Type 0) (fault : Fault) (last : Outcome) → is_frame_fault fault ≡ true → OnlyWhereFailed {X = X} (Err fault) last
+frame_wrote X (WriteFailed count) last is = absurd cc
+frame_wrote X _ last is = tt
 
-stops_wrote : (X : Type 0) (fault : Fault) (bytes : List ℕ) (new : Stream) (to : Option (List ℕ)) (before left : ℕ) (b : Bool)
-    → Stops fault bytes new to before left → OnlyWhereFailed {X = X} (Err fault) b
-stops_wrote X fault bytes new to before left b (is_bad front closed) = frame_wrote X fault b (of_a_frame bytes fault front)
-stops_wrote X fault bytes new to before left b (no_memory is held) = rw is tt
-stops_wrote X fault bytes new to before left b (read_failed is front held made) = rw is tt
-stops_wrote X fault bytes new to before left b (cut_short is front held some end) = rw is tt
-stops_wrote X fault bytes new to before left b (turns_spent is front held spent) = rw is tt
+stops_wrote : (X : Type 0) (fault : Fault) (bytes : List ℕ) (new : Stream) (to : Option (List ℕ)) (before left : ℕ) (last : Outcome)
+    → Stops fault bytes new to before left → OnlyWhereFailed {X = X} (Err fault) last
+stops_wrote X fault bytes new to before left last (is_bad front closed) = frame_wrote X fault last (of_a_frame bytes fault front)
+stops_wrote X fault bytes new to before left last (no_memory is held) = rw is tt
+stops_wrote X fault bytes new to before left last (read_failed is front held made) = rw is tt
+stops_wrote X fault bytes new to before left last (cut_short is front held some end) = rw is tt
+stops_wrote X fault bytes new to before left last (turns_spent is front held spent) = rw is tt
 
-fault_wrote : (X : Type 0) (frames new : Stream) (from to : Option (List ℕ)) (before left : ℕ) (fault : Fault) (b : Bool)
-    → Receives frames new from to before left (Err fault) → OnlyWhereFailed {X = X} (Err fault) b
-fault_wrote X (open_with held) new from to before left fault b r = stops_wrote X fault (held ++ r.bytes) new to before left b r.given
-fault_wrote X shut new from to before left fault b r =
+fault_wrote : (X : Type 0) (frames new : Stream) (from to : Option (List ℕ)) (before left : ℕ) (fault : Fault) (last : Outcome)
+    → Receives frames new from to before left (Err fault) → OnlyWhereFailed {X = X} (Err fault) last
+fault_wrote X (open_with held) new from to before left fault last r = stops_wrote X fault (held ++ r.bytes) new to before left last r.given
+fault_wrote X shut new from to before left fault last r =
     let is : fault ≡ Closed = cc (r.0) in
     rw is tt
 
 -- what is received tells of no write
-pub received_wrote : {X : Type 0} (answer : Result X Fault) (frames new : Stream) (from to : Option (List ℕ)) (before left : ℕ) (fault : Fault) (b : Bool)
-    → answer ≡ Err fault → Receives frames new from to before left (Err fault) → OnlyWhereFailed answer b
-received_wrote {X} answer frames new from to before left fault b is r = rw is (fault_wrote X frames new from to before left fault b r)
+pub received_wrote : {X : Type 0} (answer : Result X Fault) (frames new : Stream) (from to : Option (List ℕ)) (before left : ℕ) (fault : Fault) (last : Outcome)
+    → answer ≡ Err fault → Receives frames new from to before left (Err fault) → OnlyWhereFailed answer last
+received_wrote {X} answer frames new from to before left fault last is r = rw is (fault_wrote X frames new from to before left fault last r)

@@ -1,4 +1,5 @@
-use Rattle.std.proofs.Common.{◌+◌, ◌-◌, ◌*◌, ◌≤◌, length, take}
+use Rattle.std.proofs.Common.{◌≢◌, ◌+◌, ◌-◌, ◌*◌, ◌≤◌, length, take}
+use Rattle.sb_frames.specs.declared.last_write.Outcome.TheVariants.{Failed}
 use Rattle.std.specs.Io.KnownBytes.{Appends}
 use Rattle.sb_frames.proofs.sending.write_counted.Given as goal
 
@@ -6,6 +7,7 @@ abbrev pub invariant-loop-count : goal.invariant-loop-count
 invariant-loop-count g l = record {
   within : l.count ≤ length l.bytes;
   few : l.left ≤ 1000;
+  goes_on : l.last ≢ Failed;
   written : Appends (g.W.Write.contents l.initial.writer) (g.W.Write.contents l.writer) (take l.count l.bytes);
 }
 

@@ -9,7 +9,7 @@ pub returns-clause-filled : goal.returns-clause-filled
 returns-clause-filled g c =
     let f = c.self.inside in
     let old = f.bytes.items in
-    let o = open_view f.is_closed (drop f.taken old) c.args.self.now c.self.view_is c.requires in
+    let o = open_view f.is_closed (drop f.taken old) c.args.self.now c.self.view_is c.requires.open in
     let all = c.deref_mut.result.now in
     let got = c.read_within-answer.new.bytes in
     let start = c.len-start.result in
