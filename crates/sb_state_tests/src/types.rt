@@ -186,6 +186,12 @@ fn values_from_words(rt: HostRuntime) {
     let alloc = rt.alloc();
     assert_addr(&rt, alloc, "host:80", "addr host:80");
     assert_addr(&rt, alloc, "~!", "addr ~!");
+    assert_addr(
+        &rt,
+        alloc,
+        "host.host.host.host.host.host.host.host.host.host.host.host.host.host.host.host.host.host.host.host.host.host.host.host.host.:80",
+        "addr host.host.host.host.host.host.host.host.host.host.host.host.host.host.host.host.host.host.host.host.host.host.host.host.host.:80",
+    );
     assert_weight(&rt, alloc, "0", 0, "weight 0");
     assert_weight(&rt, alloc, "5", 5, "weight 5");
     let (greatest, line) = ("9223372036854775807", "weight 9223372036854775807");
