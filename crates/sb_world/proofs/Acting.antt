@@ -86,7 +86,8 @@ restarts_same p (Err fault) log turn loads ends = turned_same p turn (refused_tu
 
 crashes_same : (p : Place) (key : List ℕ) (slot : Slot) (is_kept : Bool) (turn : Turn) → Crashes p key slot is_kept turn → Same p turn
 crashes_same p key slot false turn is = turned_same p turn (crash_turn p rests p.log) is (record { me = refl; clean = λ e. e; sure = λ s. s })
-crashes_same p key slot true turn c = turned_same p turn (crash_turn p c.1 c.2) c.5 (record { me = refl; clean = c.3.stays.clean; sure = c.3.stays.sure })
+crashes_same p key slot true turn crashes =
+    ⊎_elim (λ is. turned_same p turn _ is (still_same p _)) (λ c. turned_same p turn (crash_turn p c.1 c.2) c.6 (record { me = refl; clean = c.3.stays.clean; sure = c.3.stays.sure })) crashes
 
 stays_same : (p : Place) (conns : List Connection) (answer : Result Answer Fault) (turn : Turn) (new : List Connection) → Stays p conns answer turn new → Same p turn
 stays_same p conns answer turn new stays = turned_same p turn _ stays.0 (still_same p answer)
@@ -260,7 +261,8 @@ module _ (writes : List ℕ → List Write) (past : Past) (settings : Settings) 
     }
 
     crashes_kept : (is_kept : Bool) (turn : Turn) → Crashes p key slot is_kept turn → Kept turn
-    crashes_kept true turn c = turned_kept turn (crash_turn p c.1 c.2) c.5 (crash_kept c.0 c.1 c.2 c.3 c.4)
+    crashes_kept true turn crashes =
+        ⊎_elim (λ is. turned_kept turn _ is (still_kept _)) (λ c. turned_kept turn (crash_turn p c.1 c.2) c.6 (crash_kept c.0 c.1 c.2 c.3 c.5)) crashes
     crashes_kept false turn is = turned_kept turn (crash_turn p rests p.log) is (record {
       place = λ clean. relogged writes (after rests) (grows rests) past settings p t p.log p.waiting false t.owner (same_content p.log rests refl t.content) (waiting_on writes (after rests) (grows rests) past settings p t);
       frames = λ bytes stands. absurd stands;
@@ -547,11 +549,16 @@ module _ (writes : List ℕ → List Write) (past : Past) (settings : Settings) 
     fewer : (turn : Turn) (new : List Connection) → Kept turn → new ≡ of_others p.me conns → AllKept turn new
     fewer turn new kept is = record { kept = kept; each = fewer_conns turn new is }
 
+    -- all of them are left, or those of others
+    some_left : (all : Bool) (turn : Turn) (new : List Connection) → Kept turn → new ≡ cond all conns (of_others p.me conns) → AllKept turn new
+    some_left true turn new kept is = alone turn new kept is
+    some_left false turn new kept is = fewer turn new kept is
+
     acts_kept : (event : Event) (turn : Turn) (new : List Connection) → Acts event p conns sent turn new → AllKept turn new
     acts_kept (Commit me key slot) turn new acts =
         alone turn new (⊎_elim (λ is. turned_kept turn _ is (still_kept _)) (λ c. turned_kept turn (commit_turn p c.0 c.1 c.2) c.5 (commit_kept key slot c.0 c.1 c.2 c.3 c.4)) acts.0) acts.1
     acts_kept (Take me) turn new acts = alone turn new (takes_kept p.waiting refl turn acts.0) acts.1
-    acts_kept (CrashInCommit me key slot is_kept) turn new acts = fewer turn new (crashes_kept key slot is_kept turn acts.0) acts.1
+    acts_kept (CrashInCommit me key slot is_kept) turn new acts = some_left turn.place.is_up turn new (crashes_kept key slot is_kept turn acts.0) acts.1
     acts_kept (Restart me) turn new acts = let r = acts.0 in fewer turn new (restarts_kept r.0 r.1 turn r.2 r.3) acts.1
     acts_kept (Connect me number) turn new acts = connects_kept (connection_at conns number) number turn new acts
     acts_kept (Close number) turn new acts = closes_kept (connection_at conns number) number turn new acts

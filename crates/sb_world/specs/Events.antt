@@ -1,5 +1,5 @@
 -- All events, each at its node.
-use Rattle.std.specs.Prelude.{◌≡◌, ◌⊎◌, ℕ, Bool, true, false, List, Option, Some, Ok, Err, option_map, option_and_then}
+use Rattle.std.specs.Prelude.{◌≡◌, ◌⊎◌, ℕ, Bool, true, false, if◌then◌else◌, List, Option, Some, Ok, Err, option_map, option_and_then}
 use Rattle.sb_types.specs.declared.fault.Fault.TheVariants.{NoMemory, Closed}
 use Rattle.sb_types.specs.Runs.{shown_at}
 use Rattle.sb_holdings.specs.Held.{shown_of}
@@ -33,11 +33,11 @@ node_of conns (Upto me owner) = Some me
 abbrev pub place_for : Seen → Event → Option Place
 place_for world event = option_and_then (place_at world.places) (node_of world.connections event)
 
--- what comes of an event at its node, and the connections that are left; the connections of a node go when it goes down or opens anew
+-- what comes of an event at its node, and the connections that are left: those of a node go when it goes down or opens anew
 abbrev pub Acts : Event → Place → List Connection → List (List ℕ) → Turn → List Connection → Type 0
 Acts (Commit me key slot) p conns sent turn new = Commits p key slot turn × (new ≡ conns)
 Acts (Take me) p conns sent turn new = TakesFirst p p.waiting turn × (new ≡ conns)
-Acts (CrashInCommit me key slot is_kept) p conns sent turn new = Crashes p key slot is_kept turn × (new ≡ of_others p.me conns)
+Acts (CrashInCommit me key slot is_kept) p conns sent turn new = Crashes p key slot is_kept turn × (new ≡ (if turn.place.is_up then conns else of_others p.me conns))
 Acts (Restart me) p conns sent turn new = Restarts p turn × (new ≡ of_others p.me conns)
 Acts (Connect me number) p conns sent turn new = Connects (connection_at conns number) p number conns sent turn new
 Acts (Close number) p conns sent turn new = Closes (connection_at conns number) p number conns turn new

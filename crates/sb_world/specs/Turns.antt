@@ -1,5 +1,5 @@
 -- What each event does at its node.
-use Rattle.std.specs.Prelude.{◌≡◌, ◌⊎◌, ℕ, ◌+◌, Bool, true, false, if◌then◌else◌, nat_eq, List, [], ◌∷◌, ◌++◌, length, map, None, IfErr, Result, Ok, Err}
+use Rattle.std.specs.Prelude.{◌≡◌, ◌≢◌, ◌⊎◌, ℕ, ◌+◌, Bool, true, false, if◌then◌else◌, nat_eq, List, [], ◌∷◌, ◌++◌, length, map, None, IfErr, Result, Ok, Err}
 use Rattle.std.specs.Cmp.Lexicographic.{pointwise}
 use Rattle.sb_types.specs.declared.entry.Slot.{Slot}
 use Rattle.sb_types.specs.declared.entry.Write.{Write}
@@ -96,10 +96,12 @@ crash_turn p effect log = record {
   frames = [];
 }
 
--- the node goes down before its log is asked, or behind that, and nothing of what the log answered is left to it
+-- the node goes down before its log is asked, or behind that, and nothing of what the log answered is left to it; want of memory is no crash
 abbrev pub Crashes : Place → List ℕ → Slot → Bool → Turn → Type 0
 Crashes p key slot false turn = turn ≡ crash_turn p rests p.log
-Crashes p key slot true turn = (put : Result Committed Fault) × (effect : Effect) × (log : Log) × Puts p.log key slot put log × IsLogged key slot put effect × (turn ≡ crash_turn p effect log)
+Crashes p key slot true turn =
+    (turn ≡ still p (Err NoMemory))
+    ⊎ ((put : Result Committed Fault) × (effect : Effect) × (log : Log) × Puts p.log key slot put log × (put ≢ Err NoMemory) × IsLogged key slot put effect × (turn ≡ crash_turn p effect log))
 
 -- ---- an own write enters
 

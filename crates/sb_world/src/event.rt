@@ -16,6 +16,7 @@ pub enum Event {
     /// The oldest of its writes that wait is entered.
     Take(Name),
     /// It goes down: behind a write where the last part is true, else before its log is asked. Its connections are gone.
+    /// Where the log finds no memory for the write nothing happens.
     CrashInCommit(Name, Key, Slot, bool),
     /// What waits is dropped, its connections too, and the node opens anew with what its log has.
     Restart(Name),

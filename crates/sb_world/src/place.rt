@@ -1,7 +1,7 @@
 //! A node of a world, with its log.
 
 ghost use Rattle.std.specs.Cmp.Lexicographic.{pointwise};
-ghost use Rattle.std.specs.Prelude.{◌≡◌, true, nat_eq, List, [], Some, Ok, IfOk, IfErr};
+ghost use Rattle.std.specs.Prelude.{◌≡◌, ◌≢◌, true, nat_eq, List, [], Some, Ok, Err, IfOk, IfErr};
 ghost use Rattle.sb_types.specs.Limits.{is_delta};
 ghost use Rattle.sb_types.specs.Records as records;
 ghost use Rattle.sb_codec.specs.declared.message.Message.TheVariants as messages;
@@ -47,8 +47,16 @@ impl<L: WriteLog> Model for Place<L> {
     ghost view = { λ p. record { me = p.me; log = L.seen p.log; core = p.core; waiting = p.waiting.items; is_up = p.is_up } };
 }
 
-/// Lets go of what a log answered.
-fn lose(_result: Result<Committed, Fault>) {}
+/// Lets go of what a log answered. `NoMemory` where it answered so.
+fn lose(put: Result<Committed, Fault>) -> Result<(), Fault>
+    ensures lost { IfOk result (λ done. put ≢ Err Fault.NoMemory) }
+    ensures memory { IfErr result (λ fault. (fault ≡ Fault.NoMemory) × (put ≡ Err Fault.NoMemory)) }
+{
+    match put {
+        Err(Fault::NoMemory) => Err(Fault::NoMemory),
+        _ => Ok(()),
+    }
+}
 
 /// Lets go of a write that was entered.
 fn lose_first(_oldest: Option<Committed>) {}
@@ -90,16 +98,17 @@ impl<L: WriteLog> Place<L> {
         }
     }
 
-    /// The node goes down, behind a write or before it.
-    pub(crate) fn crash(&mut self, key: &Key, slot: &Slot, is_kept: bool) -> Answer
-        ensures { (effect : Effect) × Crashes self.old key.now slot.now is_kept (record { answer = Ok result; effect = effect; place = self.new; frames = [] }) }
+    /// The node goes down, behind a write or before it. `NoMemory` where the log answers so, with nothing changed.
+    pub(crate) fn crash(&mut self, key: &Key, slot: &Slot, is_kept: bool) -> Result<Answer, Fault>
+        ensures { (effect : Effect) × Crashes self.old key.now slot.now is_kept (record { answer = result; effect = effect; place = self.new; frames = [] }) }
     {
-        self.is_up = false;
         if !is_kept {
-            return Answer::Crashed;
+            self.is_up = false;
+            return Ok(Answer::Crashed);
         }
-        lose(self.log.put(key, slot));
-        Answer::Crashed
+        lose(self.log.put(key, slot))?;
+        self.is_up = false;
+        Ok(Answer::Crashed)
     }
 
     /// The oldest write that waits is entered.

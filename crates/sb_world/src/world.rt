@@ -101,8 +101,12 @@ fn perform<L: WriteLog>(
         Event::Commit(_, key, slot) => place.commit(key, slot),
         Event::Take(_) => place.take(),
         Event::CrashInCommit(_, key, slot, is_kept) => {
-            drop_those_of(connections, &place.name());
-            Ok(place.crash(key, slot, *is_kept))
+            let me = place.name();
+            let answer = place.crash(key, slot, *is_kept);
+            if !place.is_up() {
+                drop_those_of(connections, &me);
+            }
+            answer
         }
         Event::Restart(_) => {
             drop_those_of(connections, &place.name());
@@ -169,10 +173,10 @@ impl<L: WriteLog> World<L> {
     /// no write waits; then what it asks for.
     ///
     /// Its faults: of a commit `NoMemory`, and those of `WriteLog::put`; of a take those of `NodeCore::take_own`; of a
-    /// restart those of `WriteLog::load`, and `NoMemory`; of an ask `Closed` after a Bye; and `NoMemory` of a new
-    /// connection, an ask, a frame that is lined up, an offer and a read. A fault of a piece is told in its answer. A node
-    /// whose restart has a fault is down, with nothing that waits and no connection; `StoreFailed` of a commit closes the
-    /// log; every other fault leaves everything as it was.
+    /// restart those of `WriteLog::load`, and `NoMemory`; of an ask `Closed` after a Bye; and `NoMemory` of a crash behind a
+    /// write, a new connection, an ask, a frame that is lined up, an offer and a read. A fault of a piece is told in its
+    /// answer, and a crash tells no other fault of its log. A node whose restart has a fault is down, with nothing that waits
+    /// and no connection; `StoreFailed` of a commit closes the log; every other fault leaves everything as it was.
     pub fn step(&mut self, event: &Event) -> Result<Answer, Fault>
         ensures step { (effect : Effect) × Step self.old event.now result effect self.new }
         ensures fits { (old : State) → FitsWorld old self.old → (new : State) × Moves old event.now result new × FitsWorld new self.new }
