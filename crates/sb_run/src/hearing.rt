@@ -1,5 +1,6 @@
 //! The one message of a connection.
-ghost use Rattle.std.specs.Prelude.{◌≡◌, ◌+◌, ℕ, Bool};
+ghost use Rattle.std.specs.Prelude.{◌≡◌, ◌+◌, ℕ};
+ghost use Rattle.sb_frames.specs.declared.last_write.Outcome.{Outcome};
 ghost use Rattle.sb_frames.specs.Sending.{OnlyWhereFailed};
 ghost use Rattle.sb_run.specs.Hearing.{Hears};
 
@@ -21,7 +22,7 @@ pub(crate) fn hear<R: Read, K: Ledger>(
 ) -> Result<Message, Fault>
     ensures hears { (left : ℕ) × Hears (R.remaining reader.old) (R.remaining reader.new) max_reads left result × (steps.new + left ≡ steps.old + max_reads) }
     // It writes nothing, and no fault of it says that a write failed.
-    ensures unwritten { (has_failed : Bool) → OnlyWhereFailed result has_failed }
+    ensures unwritten { (last : Outcome) → OnlyWhereFailed result last }
 {
     let mut frames = Frames::new(alloc);
     match receive(reader, &mut frames, max_reads, steps) {

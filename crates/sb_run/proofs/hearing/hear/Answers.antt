@@ -7,5 +7,5 @@ pub returns-clause-unwritten : goal.returns-clause-unwritten
 returns-clause-unwritten g c =
     let rem = g.R.Read.remaining in
     let heard = c.in-Err.ensures in
-    λ has_failed. received_wrote {X = Message} (Err c.in-Err.fault) c.new-frames.result c.receive.new.frames (rem c.args.reader.now) (rem c.receive.new.reader) c.args.max_reads heard.0
-    c.in-Err.fault has_failed refl heard.1
+    λ last. received_wrote {X = Message} (Err c.in-Err.fault) c.new-frames.result c.receive.new.frames (rem c.args.reader.now) (rem c.receive.new.reader) c.args.max_reads heard.0
+    c.in-Err.fault last refl heard.1
