@@ -4,7 +4,7 @@ import socket
 import threading
 import time
 
-from nodes import BYE, SECONDS, Difference, ask, connect, delta, digest, exchange, hello, read_frame, run, send_in_pieces, want, weight
+from nodes import BYE, ROWS, SECONDS, Difference, ask, connect, delta, digest, exchange, hello, read_frame, run, send_in_pieces, want, weight
 
 # the most bytes of the path of a socket
 PATH_MOST = 107
@@ -132,7 +132,10 @@ class Peer:
             self.list_of.append(self.number)
             with stream:
                 if read_frame(stream) and read_frame(stream):
-                    stream.sendall(self.says)
+                    self.say(stream)
+
+    def say(self, stream):
+        stream.sendall(self.says)
 
     def end(self):
         self.path.unlink()
@@ -201,6 +204,17 @@ def paces(check):
         raise Difference(f"three rounds took {time.monotonic() - began:.2f} s")
 
 
+class SlowPeer(Peer):
+    """A peer that says this in so many pieces, and hears what comes."""
+
+    def __init__(self, path, says, pieces):
+        self.pieces = pieces
+        super().__init__(path, 0, [], says)
+
+    def say(self, stream):
+        slowly(stream, self.says, self.pieces)
+
+
 def reads(check):
     """A connection may take as many reads as --max-reads says, without limit where it is not given; --idle 0 lets a peer be silent."""
     asked = hello("zz") + digest(0) + BYE
@@ -210,12 +224,31 @@ def reads(check):
             time.sleep(0.3)
             want(f"whether byte by byte is answered by {options}", 3 in slowly(stream, asked), is_answered)
         node.kill()
+    for pieces, ends_well in ((9, True), (10, False)):
+        read_from_all(check, pieces, 9, ends_well)
 
 
-def slowly(stream, content):
-    """Sends bytes one by one, and gives the kinds of what comes."""
+def read_from_all(check, pieces, max_reads, ends_well):
+    """A peer that calls, the owner and a peer that is dialed each speak in so many pieces to a node that makes so many reads of each connection. It
+    serves each to its end, or ends each with a fault."""
+    folder = check.folder()
+    peer = SlowPeer(folder / "peer", hello("b") + digest(0), pieces)
+    node = check.node("a", "--max-reads", str(max_reads), "--rounds", "1", "--pause", "2000", folder=folder, peers=[peer.path]).start()
+    for path, asked, kind in ((node.sock, hello("zz") + digest(0) + BYE, 3), (node.control, ask(), ROWS)):
+        with connect(path) as stream:
+            want(f"whether {pieces} pieces are answered at {path.name}", kind in slowly(stream, asked, pieces), ends_well)
+    status, printed, said = node.ended()
+    want(f"the end after {pieces} pieces", (status, printed), (0, f"rounds 1 faults {0 if ends_well else 3} events 0\n"))
+    end = " answers" if ends_well else ": fault 29: the turns that were allowed are spent"
+    want(f"what is said of a peer of {pieces} pieces", said[1:-1], [f"attrdir: peer {peer.path}{end}"])
+
+
+def slowly(stream, content, pieces=None):
+    """Sends bytes one by one, all or as the first of so many pieces, and gives the kinds of what comes."""
+    alone = len(content) if pieces is None else pieces - 1
     try:
-        send_in_pieces(stream, content, 1)
+        send_in_pieces(stream, content[:alone], 1)
+        stream.sendall(content[alone:])
         return [kind for kind, _ in messages_of(stream)]
     except OSError:
         return []

@@ -44,14 +44,15 @@ fn exchange<K: Ledger>(
 {
     let mut steps = Steps::<K>::new(blank);
     let (mut reader, mut writer) = (stream, stream);
-    ask_control(
+    let (answer, _) = ask_control(
         alloc,
         &mut reader,
         &mut writer,
         request,
         MAX_READS,
         &mut steps,
-    )
+    );
+    answer
 }
 
 /// The answer of the node behind a control socket. `ReadFailed` where it can't be reached, or is silent for a minute; then

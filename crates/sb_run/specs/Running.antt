@@ -1,5 +1,5 @@
 -- Why a node does not run.
-use Rattle.std.specs.Prelude.{◌≡◌, ◌⊎◌, ◌+◌, ℕ, true, nat_eq, nat_lt, if◌then◌else◌, Option, Some, None, Err}
+use Rattle.std.specs.Prelude.{◌≡◌, ◌⊎◌, ◌+◌, true, nat_eq, nat_lt, if◌then◌else◌, Option, Some, None, Err}
 use Rattle.std.specs.Cmp.Lexicographic.{pointwise}
 use Rattle.sb_types.specs.declared.fault.Fault.{Fault}
 use Rattle.sb_types.specs.declared.fault.Fault.TheVariants.{NoMemory, BadSetting, ReadFailed, WrongCluster}

@@ -1,5 +1,5 @@
 //! The calling thread of a running node, at its control socket.
-ghost use Rattle.std.specs.Prelude.{◌≡◌, ◌<◌};
+ghost use Rattle.std.specs.Prelude.{◌≡◌, ◌+◌, ◌<◌, ◌≤◌};
 
 use crate::accepting::Acceptor;
 use crate::control::serve_control;
@@ -16,7 +16,32 @@ use std::sync::Wait;
 use std::sync::ledger::{Blank, Ledger};
 use std::time::Clock;
 
-/// One connection: a request and its answer; whether it ended with a fault.
+/// One connection: a request and its answer; whether it ended with a fault. It makes at most the node's `max_reads` reads.
+fn answer_within<L: WriteLog, S: Paced, H: Wait + Drop, Q: Wait, K: Ledger>(
+    node: &Shared<S, H, Q>,
+    owner: &mut Owner<L>,
+    input: &mut UnixStream,
+    output: &mut UnixStream,
+    seat: ReaderSeat<S>,
+    steps: &mut Steps<K>,
+) -> (ReaderSeat<S>, bool)
+    ensures reads { steps.new ≤ steps.old + node.now.pace.max_reads }
+{
+    let (seat, ended, _) = serve_control(
+        node.rt,
+        node.alloc,
+        input,
+        output,
+        node.directory,
+        owner,
+        seat,
+        node.pace.max_reads,
+        steps,
+    );
+    (seat, ended.is_err())
+}
+
+/// The same, where nothing was read before.
 fn answer_one<L: WriteLog, S: Paced, H: Wait + Drop, Q: Wait, K: Ledger>(
     node: &Shared<S, H, Q>,
     owner: &mut Owner<L>,
@@ -30,18 +55,7 @@ fn answer_one<L: WriteLog, S: Paced, H: Wait + Drop, Q: Wait, K: Ledger>(
     requires some { 0 < blank.parts }
 {
     let mut steps = Steps::<K>::new(blank);
-    let (seat, ended, _) = serve_control(
-        node.rt,
-        node.alloc,
-        input,
-        output,
-        node.directory,
-        owner,
-        seat,
-        node.pace.max_reads,
-        &mut steps,
-    );
-    (seat, ended.is_err())
+    answer_within(node, owner, input, output, seat, &mut steps)
 }
 
 /// Serves one connection after another at the control socket, until the node is to end. Gives the seat back, and how many

@@ -1,5 +1,5 @@
 //! The thread that dials the peers of a node.
-ghost use Rattle.std.specs.Prelude.{◌≡◌, ◌<◌, IfErr};
+ghost use Rattle.std.specs.Prelude.{◌≡◌, ◌+◌, ◌<◌, ◌≤◌, IfErr};
 ghost use Rattle.sb_directory.specs.Serving.{IsStill, IsLater};
 
 use crate::observer::Observer;
@@ -40,7 +40,35 @@ fn digests_of_all<S: Paced, H: Wait + Drop, Q: Wait>(
     most
 }
 
-/// A session over a connection, of as many rounds as it takes to tell of all owners, and how it ended.
+/// A session over a connection, of as many rounds as it takes to tell of all owners, and how it ended. It makes at most
+/// the node's `max_reads` reads.
+fn talk_within<S: Paced, H: Wait + Drop, Q: Wait, K: Ledger>(
+    node: &Shared<S, H, Q>,
+    stream: UnixStream,
+    seat: ReaderSeat<S>,
+    steps: &mut Steps<K>,
+) -> (ReaderSeat<S>, Result<Ended, Fault>)
+    ensures later { IsLater seat result.0 }
+    ensures reads { steps.new ≤ steps.old + node.now.pace.max_reads }
+{
+    let mut seat = seat;
+    let rounds = digests_of_all(node, &mut seat);
+    let mut handler = Served::new(node.rt, node.directory, seat);
+    let (mut input, mut output) = (&stream, &stream);
+    let (ended, _) = dial(
+        node.alloc,
+        &mut input,
+        &mut output,
+        node.session,
+        &mut handler,
+        rounds,
+        node.pace.max_reads,
+        steps,
+    );
+    (handler.into_seat(), ended)
+}
+
+/// The same, where nothing was read before.
 fn talk<S: Paced, H: Wait + Drop, Q: Wait, K: Ledger>(
     node: &Shared<S, H, Q>,
     stream: UnixStream,
@@ -52,22 +80,8 @@ fn talk<S: Paced, H: Wait + Drop, Q: Wait, K: Ledger>(
     requires some { 0 < blank.parts }
     ensures { IsLater seat result.0 }
 {
-    let mut seat = seat;
-    let rounds = digests_of_all(node, &mut seat);
     let mut steps = Steps::<K>::new(blank);
-    let mut handler = Served::new(node.rt, node.directory, seat);
-    let (mut input, mut output) = (&stream, &stream);
-    let (ended, _) = dial(
-        node.alloc,
-        &mut input,
-        &mut output,
-        node.session,
-        &mut handler,
-        rounds,
-        node.pace.max_reads,
-        &mut steps,
-    );
-    (handler.into_seat(), ended)
+    talk_within(node, stream, seat, &mut steps)
 }
 
 /// Dials the peer at a path, and how that ended: by `ReadFailed` also where the peer can't be reached.

@@ -1,5 +1,5 @@
 //! Workers that serve the connections of a source, each from a seat of its own.
-ghost use Rattle.std.specs.Prelude.{◌≡◌, ◌<◌, IfOk, IsOk};
+ghost use Rattle.std.specs.Prelude.{◌≡◌, ◌+◌, ◌<◌, ◌≤◌, IfOk, IsOk};
 ghost use Rattle.std.specs.Thread.{IsSend};
 ghost use Rattle.sb_run.specs.Gates.{IsShut, AreShut};
 ghost use Rattle.sb_run.specs.Pools.{IsKept, AreKept};
@@ -48,7 +48,37 @@ struct Tally {
     faults: AtomicU64,
 }
 
-/// Serves one connection from a seat, and says whether it ended with a fault.
+/// Serves one connection from a seat, with at most `max_reads` reads, and says whether it ended with a fault.
+fn meet_within<S: Configured, H: Wait + Drop, Q: Wait, I: Read, O: Write, G: Gate, K: Ledger>(
+    rt: &Q,
+    alloc: Global,
+    directory: &Directory<S, H>,
+    session: Session,
+    gate: &G,
+    max_reads: u64,
+    number: u64,
+    input: &mut I,
+    output: &mut O,
+    seat: ReaderSeat<S>,
+    steps: &mut Steps<K>,
+) -> (ReaderSeat<S>, bool)
+    ensures kept { IsKept (IsShut (G.lets gate.now number)) seat result.0 }
+    ensures reads { steps.new ≤ steps.old + max_reads }
+{
+    let mut handler = Gated::new(Served::new(rt, directory, seat), gate, number);
+    let (ended, _) = serve(
+        alloc,
+        input,
+        output,
+        session,
+        &mut handler,
+        max_reads,
+        steps,
+    );
+    (handler.into_inner().into_seat(), ended.is_err())
+}
+
+/// The same, where nothing was read before.
 fn meet<S: Configured, H: Wait + Drop, Q: Wait, I: Read, O: Write, G: Gate, K: Ledger>(
     rt: &Q,
     alloc: Global,
@@ -68,17 +98,9 @@ fn meet<S: Configured, H: Wait + Drop, Q: Wait, I: Read, O: Write, G: Gate, K: L
     ensures { IsKept (IsShut (G.lets gate.now number)) seat result.0 }
 {
     let mut steps = Steps::<K>::new(blank);
-    let mut handler = Gated::new(Served::new(rt, directory, seat), gate, number);
-    let (ended, _) = serve(
-        alloc,
-        input,
-        output,
-        session,
-        &mut handler,
-        max_reads,
-        &mut steps,
-    );
-    (handler.into_inner().into_seat(), ended.is_err())
+    meet_within(
+        rt, alloc, directory, session, gate, max_reads, number, input, output, seat, &mut steps,
+    )
 }
 
 /// Serves connections from a seat until the source has no more.

@@ -67,7 +67,8 @@ fn ask_on<K: Ledger, R: io::Read, W: io::Write>(
     requires some { 0 < blank.parts }
 {
     let mut steps = Steps::<K>::new(blank);
-    ask_control(alloc, reader, writer, request, max_reads, &mut steps)
+    let (answer, _) = ask_control(alloc, reader, writer, request, max_reads, &mut steps);
+    answer
 }
 
 pub(crate) fn asked<R: io::Read, W: io::Write>(
