@@ -248,7 +248,9 @@ def slowly(stream, content, pieces=None):
     alone = len(content) if pieces is None else pieces - 1
     try:
         send_in_pieces(stream, content[:alone], 1)
-        stream.sendall(content[alone:])
+        # (even a send of nothing fails where the node has closed)
+        if content[alone:]:
+            stream.sendall(content[alone:])
         return [kind for kind, _ in messages_of(stream)]
     except OSError:
         return []
