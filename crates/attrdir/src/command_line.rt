@@ -9,7 +9,7 @@ use crate::words::{key_of, name_of, prefix_of, value_of};
 use clap::ArgMatches;
 use clap::error::ErrorKind;
 use sb_codec::Ask;
-use sb_run::Pace;
+use sb_run::{OnLogFault, Pace};
 use sb_script::{Detail, Output, sim_run_uncounted};
 use sb_types::{Fault, Key, Name, Order, RawSettings, Slot};
 use std::{env, io};
@@ -24,14 +24,17 @@ pub(crate) const USAGE_STATUS: u8 = 2;
 const FAULT_STATUS: u8 = 3;
 
 /// The options of `serve` that take a number.
-const NUMBERS: [&str; 8] = [
+const NUMBERS: [&str; 11] = [
     "budget",
     "max-version",
     "seats",
     "workers",
     "rounds",
     "pause",
+    "fanout",
     "idle",
+    "dial-idle",
+    "request",
     "max-reads",
 ];
 
@@ -114,11 +117,19 @@ fn settings_of<'a>(given: &ArgMatches<'a>) -> RawSettings<'a> {
 }
 
 fn pace_of(given: &ArgMatches<'_>) -> Pace {
+    let on_log_fault = match value(given, "on-log-fault") {
+        "exit" => OnLogFault::Exit,
+        _ => OnLogFault::Serve,
+    };
     Pace {
         rounds: given.get_one::<u64>("rounds").unwrap_or(0),
         pause: given.get_one::<u64>("pause").unwrap_or(0),
+        fanout: given.get_one::<u64>("fanout").unwrap_or(0),
         idle: given.get_one::<u64>("idle").unwrap_or(0),
+        dial_idle: given.get_one::<u64>("dial-idle").unwrap_or(0),
+        request: given.get_one::<u64>("request").unwrap_or(0),
         max_reads: given.get_one::<u64>("max-reads").unwrap_or(u64::MAX),
+        on_log_fault,
     }
 }
 

@@ -1,37 +1,45 @@
 //! The calling thread of a running node, at its control socket.
-ghost use Rattle.std.specs.Prelude.{◌≡◌, ◌+◌, ◌<◌, ◌≤◌};
+ghost use Rattle.std.specs.Prelude.{◌≡◌, ◌+◌, ◌<◌, ◌≤◌, true};
 
 use crate::accepting::Acceptor;
 use crate::control::serve_control;
+use crate::node::OnLogFault;
+use crate::observer::Observer;
 use crate::owner::Owner;
 use crate::pool::Source;
 use crate::rounds::Paced;
 use crate::shared::Shared;
+use crate::timed::Timed;
 use sb_directory::ReaderSeat;
 use sb_frames::Steps;
 use sb_log::WriteLog;
 use std::marker::Brand;
+use std::net::Net;
 use std::os::unix::net::UnixStream;
 use std::sync::Wait;
 use std::sync::ledger::{Blank, Ledger};
 use std::time::Clock;
 
-/// One connection: a request and its answer; whether it ended with a fault. It makes at most the node's `max_reads` reads.
-fn answer_within<L: WriteLog, S: Paced, H: Wait + Drop, Q: Wait, K: Ledger>(
+/// One connection: a request and its answer, each whole within the node's `request`; whether it ended with a fault. It makes
+/// at most the node's `max_reads` reads.
+fn answer_within<L: WriteLog, S: Paced, H: Wait + Drop, Q: Wait + Clock, K: Ledger>(
     node: &Shared<S, H, Q>,
     owner: &mut Owner<L>,
-    input: &mut UnixStream,
-    output: &mut UnixStream,
+    input: &UnixStream,
+    output: &UnixStream,
     seat: ReaderSeat<S>,
     steps: &mut Steps<K>,
 ) -> (ReaderSeat<S>, bool)
     ensures reads { steps.new ≤ steps.old + node.now.pace.max_reads }
 {
+    let pace = &node.pace;
+    let mut request = Timed::new(node.rt, input, pace.idle, pace.request);
+    let mut reply = Timed::new(node.rt, output, pace.idle, pace.request);
     let (seat, ended, _) = serve_control(
         node.rt,
         node.alloc,
-        input,
-        output,
+        &mut request,
+        &mut reply,
         node.directory,
         owner,
         seat,
@@ -42,11 +50,11 @@ fn answer_within<L: WriteLog, S: Paced, H: Wait + Drop, Q: Wait, K: Ledger>(
 }
 
 /// The same, where nothing was read before.
-fn answer_one<L: WriteLog, S: Paced, H: Wait + Drop, Q: Wait, K: Ledger>(
+fn answer_one<L: WriteLog, S: Paced, H: Wait + Drop, Q: Wait + Clock, K: Ledger>(
     node: &Shared<S, H, Q>,
     owner: &mut Owner<L>,
-    input: &mut UnixStream,
-    output: &mut UnixStream,
+    input: &UnixStream,
+    output: &UnixStream,
     seat: ReaderSeat<S>,
     blank: Blank,
 ) -> (ReaderSeat<S>, bool)
@@ -58,13 +66,49 @@ fn answer_one<L: WriteLog, S: Paced, H: Wait + Drop, Q: Wait, K: Ledger>(
     answer_within(node, owner, input, output, seat, &mut steps)
 }
 
-/// Serves one connection after another at the control socket, until the node is to end. Gives the seat back, and how many
-/// connections ended with a fault or could not be accepted.
-pub(crate) fn attend<L: WriteLog + Drop, S: Paced, H: Wait + Drop, Q: Wait + Clock>(
+/// What comes of the control socket.
+#[derive(Drop)]
+pub(crate) struct Attended<S: Paced> {
+    pub(crate) seat: ReaderSeat<S>,
+    /// How many connections ended with a fault or could not be accepted.
+    pub(crate) faults: u64,
+    /// Whether it ended the node since its log had failed.
+    pub(crate) has_left: bool,
+}
+
+/// Tells of what came of the last request: the dialing thread of a write, and the observer of a log that failed. Whether the
+/// node is to end with that.
+fn tell_of<L: WriteLog, S: Paced, H: Wait + Drop, Q, O: Observer>(
     node: &Shared<S, H, Q>,
-    owner: Owner<L>,
-    seat: ReaderSeat<S>,
-) -> (ReaderSeat<S>, u64) {
+    owner: &mut Owner<L>,
+    observer: &O,
+) -> bool
+    ensures { result ≡ true → node.now.pace.on_log_fault ≡ OnLogFault.Exit }
+{
+    if let Some(version) = owner.take_stored() {
+        node.bell.ring(version == 1);
+    }
+    if !owner.take_failure() {
+        return false;
+    }
+    observer.log_failed();
+    match node.pace.on_log_fault {
+        OnLogFault::Exit => true,
+        OnLogFault::Serve => false,
+    }
+}
+
+/// Serves one connection after another at the control socket, until the node is to end, or ends it where its log has failed
+/// and it is to exit then.
+pub(crate) fn attend<
+    L: WriteLog + Drop,
+    S: Paced,
+    H: Wait + Drop,
+    Q: Wait + Net + Clock,
+    O: Observer,
+>(node: &Shared<S, H, Q>, owner: Owner<L>, seat: ReaderSeat<S>, observer: &O) -> Attended<S>
+    ensures { result.has_left ≡ true → node.now.pace.on_log_fault ≡ OnLogFault.Exit }
+{
     let door = &node.doors.control;
     let acceptor = Acceptor::new(node.rt, door, node.ending, node.pace.idle);
     let mut owner = owner;
@@ -72,14 +116,20 @@ pub(crate) fn attend<L: WriteLog + Drop, S: Paced, H: Wait + Drop, Q: Wait + Clo
     let mut faults: u64 = 0;
     for _ in node.rt.forever() {
         let failed = match acceptor.next() {
-            None => return (sitting, faults),
+            None => {
+                return Attended {
+                    seat: sitting,
+                    faults,
+                    has_left: false,
+                };
+            }
             Some(Err(_)) => true,
-            Some(Ok((_, mut input, mut output))) => {
+            Some(Ok((_, input, output))) => {
                 let (seat, failed) = answer_one::<L, S, H, Q, Brand>(
                     node,
                     &mut owner,
-                    &mut input,
-                    &mut output,
+                    &input,
+                    &output,
                     sitting,
                     Blank::new(1),
                 );
@@ -89,6 +139,14 @@ pub(crate) fn attend<L: WriteLog + Drop, S: Paced, H: Wait + Drop, Q: Wait + Clo
         };
         if failed {
             faults = faults.saturating_add(1);
+        }
+        if tell_of(node, &mut owner, observer) {
+            node.end();
+            return Attended {
+                seat: sitting,
+                faults,
+                has_left: true,
+            };
         }
     }
     unreachable!()

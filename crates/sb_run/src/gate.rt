@@ -2,7 +2,7 @@
 ghost use Rattle.std.specs.Prelude.{◌≡◌, ◌⊎◌, MatchBool};
 
 use sb_digest::Digest;
-use sb_holdings::Report;
+use sb_holdings::{BlockEnd, Report};
 use sb_session::Handler;
 use sb_types::{Delta, Fault, Name};
 
@@ -29,6 +29,9 @@ pub trait Gate {
     /// Whether the session may go on. Where it may not, it ends with `TurnsSpent`.
     fn pass(&self, session: u64, step: Step) -> bool
         ensures { MatchBool result (lets self.now session step) (turns self.now session step) };
+
+    /// It is told of each delta of which something was entered, behind that.
+    fn entered(&self, _delta: &Delta) {}
 }
 
 /// A gate that every session passes.
@@ -43,6 +46,15 @@ impl Gate for Open {
 
     fn pass(&self, _session: u64, _step: Step) -> bool {
         true
+    }
+}
+
+/// Whether a block that ended so brought something that was not held.
+fn has_entered(end: &BlockEnd) -> bool {
+    match end {
+        BlockEnd::Taken(_) => true,
+        BlockEnd::TooManyKeys(count) | BlockEnd::NoMemory(count) => *count != 0,
+        _ => false,
     }
 }
 
@@ -109,7 +121,11 @@ impl<H: Handler, G: Gate> Handler for Gated<'_, H, G> {
         if !self.gate.pass(self.session, Step::BeforeApply) {
             return Err(Fault::TurnsSpent);
         }
-        self.inner.apply(delta)
+        let report = self.inner.apply(delta)?;
+        if report.ends().iter().any(has_entered) {
+            self.gate.entered(delta);
+        }
+        Ok(report)
     }
 
     ghost enters_nothing = { λ old new act none step. (

@@ -30,17 +30,35 @@ pub struct Paths<'a> {
     pub peers: &'a [&'a str],
 }
 
+/// What a node does once a fault of its store has closed its log.
+#[derive(Clone, Copy, Debug, PartialEq, Eq)]
+pub enum OnLogFault {
+    /// It goes on serving peers and readers, and refuses writes.
+    Serve,
+    /// It ends.
+    Exit,
+}
+
 /// How often a node dials, and how long it waits.
 #[derive(Clone, Copy, Debug)]
 pub struct Pace {
     /// How many rounds it makes; 0 for rounds without end.
     pub rounds: u64,
-    /// How long it waits after each round, in milliseconds.
+    /// How long it waits after each round in turn, in milliseconds.
     pub pause: u64,
+    /// How many peers it dials at once where it has something new to pass on; 0 for none.
+    pub fanout: u64,
     /// How long a connection may move no byte, in milliseconds; 0 for no limit.
     pub idle: u64,
+    /// The same of a connection to a peer that it dials.
+    pub dial_idle: u64,
+    /// How long the request of a connection at the control socket may take until it is whole, and then its answer, in
+    /// milliseconds; 0 for no limit.
+    pub request: u64,
     /// How many reads a connection may take.
     pub max_reads: u64,
+    /// What it does once its log has failed.
+    pub on_log_fault: OnLogFault,
 }
 
 /// What a node did that ran.
@@ -69,20 +87,29 @@ fn refusal<L: WriteLog>(settings: &Settings, log: &L) -> Option<Fault>
     None
 }
 
-/// Runs the node that owns a log. It binds both sockets, each at a path where no file is, and tells the observer. Then it
-/// serves peers on `sock`, as many at once as there are workers, and its owner on `control`, one connection after another;
-/// and it dials its peers in turn, one a round, for as many exchanges of digests and deltas as it takes to tell of all owners
-/// that it holds: one, where the budget has room for a digest of all. It tells the observer of a round where the one before
-/// with that peer ended otherwise. After the last round it ends, once the connections that are open have ended, and removes
-/// what is at the paths of both sockets, also where another put it there since.
+/// Runs the node that owns a log. It binds both sockets, each at a path where no file is or a socket at which nobody listens,
+/// and tells the observer. Then it serves peers on `sock`, as many at once as there are workers, and its owner on `control`,
+/// one connection after another; and it dials its peers in turn, one a round, with a pause after each, for as many exchanges of
+/// digests and deltas as it takes to tell of all owners that it holds: one, where the budget has room for a digest of all. A
+/// peer that let a round wait for `dial_idle` milliseconds is passed over in its next seven turns, unless nobody else is left.
+/// It tells the observer of a round where the one before with that peer ended otherwise. After the last round it ends, once
+/// the connections that are open have ended, and removes what is at the paths of both sockets, also where another put it
+/// there since.
+///
+/// Where its owner wrote, or a peer told of something new, it dials the next `fanout` peers at once, without a pause, but for
+/// those whose last round had a fault; news that comes within ten milliseconds goes together. These are rounds too. With no
+/// pause there is no need of them.
 ///
 /// A connection ends with a fault where its peer breaks the rules of a session or of the control socket, where it takes
-/// more than `max_reads` reads, or where no byte moved for `idle` milliseconds. That costs this connection alone.
+/// more than `max_reads` reads, where no byte moved for `idle` milliseconds, or for `dial_idle` where the node has dialed, or
+/// where a request or its answer took longer than `request`. That costs this connection alone.
+///
+/// Where a fault of its store closes the log it tells the observer, and goes on or ends, as `on_log_fault` says.
 ///
 /// `BadSetting` where there are fewer seats than two beside one for each worker; `WrongCluster` where the log is of another
 /// cluster than the settings'; the faults of the log's `load`; `NoMemory`; `ReadFailed` where a socket can't be bound;
-/// `NoMemory` where the thread of the pool, or the one that dials, can't be made. With each of these no file is left that
-/// was not there before. Where the thread of a worker can't be made, the node serves fewer peers at once.
+/// `NoMemory` where the thread of the pool, or the one that dials, can't be made; `StoreFailed` where the log failed and the
+/// node is to exit then. With each of these no file is left that was not there before. Where the thread of a worker can't be made, the node serves fewer peers at once.
 pub fn run_node<
     L: WriteLog + Drop,
     R: Threads
@@ -104,7 +131,7 @@ pub fn run_node<
 ) -> Result<Ran, Fault>
     ensures refused { IfSome (spec.refusal settings (L.seen log)) (λ fault. result ≡ Err fault) }
     ensures closed { spec.refusal settings (L.seen log) ≡ None → (L.seen log).is_open ≡ false → result ≡ Err Fault.Closed }
-    ensures fault { IfErr result (IsRunningFault settings (L.seen log)) }
+    ensures fault { IfErr result (IsRunningFault settings (L.seen log) pace.on_log_fault) }
     ensures rounds { IfOk result (λ ran. ran.rounds ≡ pace.rounds) }
 {
     if let Some(fault) = refusal(&settings, &log) {

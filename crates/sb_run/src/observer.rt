@@ -9,11 +9,18 @@ pub trait Observer {
     fn listening(&self);
 
     /// How a round with the peer at this path ended: `ReadFailed` also where the peer could not be reached. Each peer's first
-    /// round is told, and then each that ended otherwise than its round before, be it by another fault.
+    /// round is told, and then each that ended otherwise than its round before, be it by another fault; but `WriteFailed` is
+    /// not told behind a refusal of the peer's Hello, since it is the same one.
     fn dialed(&self, peer: &str, ended: &Result<Ended, Fault>);
 
     /// Another node writes under this node's name, of which this version was seen. It is told once, behind a round.
     fn conflict(&self, version: u64);
+
+    /// A fault of its store closed the node's own log behind a write, which stands or does not. It is told once.
+    fn log_failed(&self) {}
+
+    /// At this path lay the socket of a node that no longer runs, and it was removed. It is told before `listening`.
+    fn socket_removed(&self, _path: &str) {}
 }
 
 /// Nobody.

@@ -1,7 +1,7 @@
 //! The owner of a node's writes: each is kept in its log before the directory is told of it.
 ghost use Rattle.std.specs.Prelude.{◌≡◌, ◌+◌, true, None, OnOk, IfOk, IfErr};
 ghost use Rattle.sb_codec.specs.Limits.{is_version};
-ghost use Rattle.sb_log.specs.Puts.{IsSettled};
+ghost use Rattle.sb_log.specs.Puts.{Puts, IsSettled};
 ghost use Rattle.sb_directory.specs.Seats.{with_known};
 ghost use Rattle.sb_directory.specs.Serving.{IsLater};
 ghost use Rattle.sb_run.specs.Owners.{IsUndisputed, version_of, count_owed, count_shared, IsHeldBack, IsHandedIn, IsStored, IsRefused};
@@ -37,6 +37,10 @@ impl Stored {
 pub struct Owner<L: WriteLog> {
     log: L,
     owed: Option<Committed>,
+    /// The version of the last write that the log took, where it was not asked for since.
+    stored: Option<u64>,
+    /// Whether a write closed the log by a fault of its store, where it was not asked for since.
+    has_failed: bool,
 }
 
 impl<L: WriteLog> Owner<L> {
@@ -45,7 +49,39 @@ impl<L: WriteLog> Owner<L> {
         ensures log { result.log ≡ log }
         ensures owed { result.owed ≡ None }
     {
-        Owner { log, owed: None }
+        Owner {
+            log,
+            owed: None,
+            stored: None,
+            has_failed: false,
+        }
+    }
+
+    /// The version of the last write that the log took since this was last asked; none where it took none.
+    pub(crate) fn take_stored(&mut self) -> Option<u64> {
+        self.stored.take()
+    }
+
+    /// Whether a fault of its store closed the log since this was last asked.
+    pub(crate) fn take_failure(&mut self) -> bool {
+        let has_failed = self.has_failed;
+        self.has_failed = false;
+        has_failed
+    }
+
+    /// Keeps a write in the log, and takes down whether it did.
+    fn keep(&mut self, key: &Key, slot: &Slot) -> Result<Committed, Fault>
+        ensures puts { Puts (L.seen self.old.log) key.now slot.now result (L.seen self.new.log) }
+        ensures settled { IsSettled (L.seen self.new.log) (L.leaves self.new.log) }
+        ensures owed { self.new.owed ≡ self.old.owed }
+    {
+        let kept = self.log.put(key, slot);
+        match &kept {
+            Ok(committed) => self.stored = Some(committed.entry().version()),
+            Err(Fault::StoreFailed) => self.has_failed = true,
+            Err(_) => {}
+        }
+        kept
     }
 
     /// Hands in what is owed. `OwnerConflict` where another node writes under the own name; then the faults of
@@ -102,7 +138,7 @@ impl<L: WriteLog> Owner<L> {
         ensures later { IsLater seat.old seat.new }
     {
         self.settle(rt, directory, seat)?;
-        let committed = self.log.put(key, slot)?;
+        let committed = self.keep(key, slot)?;
         let version = committed.entry().version();
         match directory.take_own(rt, seat, &committed) {
             Ok(receipt) => Ok(Stored::Shared(receipt)),

@@ -1,6 +1,7 @@
 //! What all threads of a running node share.
 ghost use Rattle.std.specs.Prelude.{◌≡◌};
 
+use crate::bell::Bell;
 use crate::ending::Ending;
 use crate::node::Pace;
 use crate::rounds::Paced;
@@ -21,14 +22,16 @@ pub(crate) struct Shared<'a, S: Paced, H: Wait + Drop, Q> {
     pub(crate) session: Session,
     pub(crate) doors: &'a Doors<'a>,
     pub(crate) ending: &'a Ending,
+    pub(crate) bell: &'a Bell,
     pub(crate) workers: u64,
     pub(crate) pace: Pace,
     ghost paced: { pace.rounds ≡ S.rounds },
 }
 
 impl<S: Paced, H: Wait + Drop, Q: Net> Shared<'_, S, H, Q> {
-    /// Ends each thread that accepts.
+    /// Ends each thread that accepts, and the one that dials.
     pub(crate) fn end(&self) {
         self.ending.come(self.rt, self.doors, self.workers);
+        self.bell.wake();
     }
 }

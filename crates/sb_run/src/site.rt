@@ -1,11 +1,14 @@
 //! A running node over a directory of its own.
 ghost use Rattle.std.specs.Prelude.{◌≡◌, ◌⊎◌, ◌+◌, ◌≤◌, vec_len, vec_capacity, IsOk, IfOk, IfErr};
+ghost use Rattle.sb_run.specs.Running.{IsEndFault};
 
-use crate::dialing::Dialer;
+use crate::bell::Bell;
+use crate::dialer::Dialer;
 use crate::ending::Ending;
 use crate::node::{Pace, Paths, Ran};
 use crate::observer::Observer;
 use crate::owner::Owner;
+use crate::peers::Peers;
 use crate::rounds::{Paced, ends};
 use crate::seats::{gather, part};
 use crate::shared::Shared;
@@ -26,7 +29,7 @@ use std::thread::Threads;
 use std::time::Clock;
 
 /// Makes the directory and its seats, binds both sockets, runs the threads, and removes the sockets' files. `NoMemory`;
-/// `ReadFailed` where a socket can't be bound.
+/// `ReadFailed` where a socket can't be bound; `StoreFailed` where the log failed and the node is to exit then.
 pub(crate) fn run_site<
     S: Paced + Send + Sync,
     L: WriteLog + Drop,
@@ -58,7 +61,7 @@ pub(crate) fn run_site<
     requires enough { core.settings.workers + 2 ≤ core.settings.seats }
     requires rounds { pace.rounds ≡ S.rounds }
     ensures rounds { IfOk result (λ ran. ran.rounds ≡ pace.rounds) }
-    ensures fault { IfErr result (λ fault. (fault ≡ Fault.NoMemory) ⊎ (fault ≡ Fault.ReadFailed)) }
+    ensures fault { IfErr result (λ fault. IsEndFault pace.on_log_fault fault ⊎ (fault ≡ Fault.ReadFailed)) }
 {
     let settings = core.settings();
     let session = Session::new(settings.cluster(), *core.name());
@@ -70,8 +73,9 @@ pub(crate) fn run_site<
     };
     let (crew, spare) = part(seats, settings.workers() as usize)?;
     let (teller, hearer) = ends::<S>(alloc)?;
-    let dialer = Dialer::new(alloc, paths.peers, observer)?;
-    let doors = Doors::bind(rt, paths.sock, paths.control)?;
+    let (bell, parker) = Bell::new(alloc)?;
+    let dialer = Dialer::new(Peers::new(alloc, paths.peers)?, observer, parker);
+    let doors = Doors::bind(rt, paths.sock, paths.control, observer)?;
     observer.listening();
     let ending = Ending::new();
     let node = Shared {
@@ -81,6 +85,7 @@ pub(crate) fn run_site<
         session,
         doors: &doors,
         ending: &ending,
+        bell: &bell,
         workers: settings.workers(),
         pace,
     };

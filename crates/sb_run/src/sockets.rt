@@ -1,12 +1,14 @@
 //! The two sockets that a node binds, and the connections on them and to its peers.
 ghost use Rattle.std.specs.Prelude.{◌≡◌, IfErr};
 
+use crate::observer::Observer;
 use mio::net;
 use sb_types::Fault;
-use std::fs::remove_file;
+use std::fs::{remove_file, symlink_metadata};
 use std::io;
 use std::net::{Net, Shutdown};
 use std::os::fd::OwnedFd;
+use std::os::unix::fs::FileTypeExt;
 use std::os::unix::net::{UnixListener, UnixStream};
 use std::rt::Files;
 use std::time::Duration;
@@ -31,15 +33,29 @@ fn latch_of(listener: &UnixListener) -> io::Result<UnixStream> {
     Ok(UnixStream::from(OwnedFd::from(listener.try_clone()?)))
 }
 
+/// Whether a socket lies at a path, and nobody listens at it any more.
+fn is_left_behind<R: Files + Net>(rt: &R, path: &str) -> bool {
+    let is_socket = symlink_metadata(rt, path).is_ok_and(|found| found.file_type().is_socket());
+    is_socket
+        && connect(rt, path).is_err_and(|error| error.kind() == io::ErrorKind::ConnectionRefused)
+}
+
 impl<'a> Door<'a> {
-    /// Binds a socket at a path where no file is, and makes one. `ReadFailed`, also of an empty path, which leaves what
-    /// was there.
-    fn bind<R: Files + Net>(rt: &R, path: &'a str) -> Result<Door<'a>, Fault>
+    /// Binds a socket at a path where no file is, and makes one. A socket at which nobody listens any more is removed before,
+    /// and the observer is told. `ReadFailed`, also of an empty path, which leaves what was there.
+    fn bind<R: Files + Net, O: Observer>(
+        rt: &R,
+        path: &'a str,
+        observer: &O,
+    ) -> Result<Door<'a>, Fault>
         ensures { IfErr result (λ fault. fault ≡ Fault.ReadFailed) }
     {
         // The system would give such a socket a name of its own, to which no path leads.
         if path.is_empty() {
             return Err(Fault::ReadFailed);
+        }
+        if is_left_behind(rt, path) && remove_file(rt, path).is_ok() {
+            observer.socket_removed(path);
         }
         let Ok(listener) = UnixListener::bind(rt, path) else {
             return Err(Fault::ReadFailed);
@@ -79,16 +95,17 @@ impl<'a> Door<'a> {
 }
 
 impl<'a> Doors<'a> {
-    /// Binds both sockets. `ReadFailed` where one can't be bound; then there is no file that was not there.
-    pub(crate) fn bind<R: Files + Net>(
+    /// Binds both sockets, and tells the observer of each that was left behind. `ReadFailed` where one can't be bound; then there is no file that was not there.
+    pub(crate) fn bind<R: Files + Net, O: Observer>(
         rt: &R,
         sock: &'a str,
         control: &'a str,
+        observer: &O,
     ) -> Result<Doors<'a>, Fault>
         ensures { IfErr result (λ fault. fault ≡ Fault.ReadFailed) }
     {
-        let sock = Door::bind(rt, sock)?;
-        match Door::bind(rt, control) {
+        let sock = Door::bind(rt, sock, observer)?;
+        match Door::bind(rt, control, observer) {
             Ok(control) => Ok(Doors { sock, control }),
             Err(fault) => {
                 sock.remove(rt);

@@ -1,11 +1,11 @@
 //! The threads of a running node.
 ghost use Rattle.std.specs.Prelude.{◌≡◌, vec_len, IfOk, IfErr};
 ghost use Rattle.std.specs.Thread.{IsSend, IsSync};
+ghost use Rattle.sb_run.specs.Running.{IsEndFault};
 
 use crate::accepting::Acceptor;
-use crate::attending::attend;
-use crate::dialing::Dialer;
-use crate::gate::Open;
+use crate::attending::{Attended, attend};
+use crate::dialer::Dialer;
 use crate::observer::Observer;
 use crate::owner::Owner;
 use crate::pool::{Pooled, serve_pool};
@@ -57,7 +57,7 @@ fn tend_sock<
         node.session,
         seats,
         &source,
-        &Open,
+        node.bell,
         node.pace.max_reads,
     );
     match pooled {
@@ -66,7 +66,7 @@ fn tend_sock<
     }
 }
 
-/// Makes all rounds, tells of them, and ends the node.
+/// Makes all rounds, tells of them, and ends the node; or leaves where the node ended before.
 fn dial_to_the_end<S: Paced, H: Wait + Drop, Q: Wait + Net + Clock, O: Observer>(
     node: &Shared<S, H, Q>,
     dialer: Dialer<'_, O>,
@@ -74,13 +74,16 @@ fn dial_to_the_end<S: Paced, H: Wait + Drop, Q: Wait + Net + Clock, O: Observer>
     teller: Teller<S>,
 ) -> ReaderSeat<S> {
     let (seat, rounds) = dialer.dial_all(node, seat);
-    teller.tell(node.rt, rounds);
-    node.end();
+    if let Some(rounds) = rounds {
+        teller.tell(node.rt, rounds);
+        node.end();
+    }
     seat
 }
 
 /// Runs the threads of a node to their end: its workers, the one that dials, and the calling one at the control socket.
-/// `NoMemory` where the thread of the pool, or the one that dials, can't be made.
+/// `NoMemory` where the thread of the pool, or the one that dials, can't be made; `StoreFailed` where the log failed and the node
+/// is to exit then.
 pub(crate) fn run_threads<
     S: Paced + Send + Sync,
     L: WriteLog + Drop,
@@ -96,8 +99,9 @@ pub(crate) fn run_threads<
     hearer: Hearer<S>,
 ) -> Result<Finished<S>, Fault>
     ensures crew { IfOk result (λ finished. vec_len finished.crew.workers ≡ vec_len crew.workers) }
-    ensures memory { IfErr result (λ fault. fault ≡ Fault.NoMemory) }
+    ensures fault { IfErr result (IsEndFault node.now.pace.on_log_fault) }
 {
+    let observer = dialer.observer();
     let Crew {
         workers,
         dialing,
@@ -110,7 +114,7 @@ pub(crate) fn run_threads<
         move |scope| -> Result<Finished<S>, Fault>
             requires { IsSend S.row × IsSync S.row × IsSend H.row × IsSync H.row × IsSend Q.row × IsSync Q.row × IsSync O.row × (vec_len workers ≡ count) }
             ensures crew { IfOk result (λ finished. vec_len finished.crew.workers ≡ count) }
-            ensures memory { IfErr result (λ fault. fault ≡ Fault.NoMemory) }
+            ensures fault { IfErr result (IsEndFault node.now.pace.on_log_fault) }
         {
             let Ok(pool) = scope.spawn_with(AsMany(count), move || tend_sock(node, workers)) else {
                 return Err(Fault::NoMemory);
@@ -121,11 +125,14 @@ pub(crate) fn run_threads<
                 pool.join(node.rt);
                 return Err(Fault::NoMemory);
             };
-            let (control, faults) = attend(node, owner, control);
+            let attended = attend(node, owner, control, observer);
             let rounds = hearer.hear(node.rt);
             let dialing = line.join(node.rt);
             let pooled = pool.join(node.rt);
-            Ok(finish(pooled, dialing, control, rounds?, faults))
+            if attended.has_left {
+                return Err(Fault::StoreFailed);
+            }
+            Ok(finish(pooled, dialing, attended, rounds?))
         },
     )
 }
@@ -134,9 +141,8 @@ pub(crate) fn run_threads<
 fn finish<S: Paced>(
     pooled: Pooled<S>,
     dialing: ReaderSeat<S>,
-    control: ReaderSeat<S>,
+    attended: Attended<S>,
     rounds: Rounds<S>,
-    faults: u64,
 ) -> Finished<S>
     ensures { result.crew.workers ≡ pooled.seats }
 {
@@ -145,7 +151,12 @@ fn finish<S: Paced>(
         faults: of_workers,
         seats: workers,
     } = pooled;
-    let faults = faults
+    let Attended {
+        seat: control,
+        faults: of_control,
+        has_left: _,
+    } = attended;
+    let faults = of_control
         .saturating_add(of_workers)
         .saturating_add(rounds.faults);
     let crew = Crew {

@@ -3,7 +3,7 @@
 use crate::making::{name, new_log, settings};
 use crate::peers::{hears_only, next_of, node_with, put_is_done, reach, talk};
 use crate::{got, holds, same};
-use sb_run::{Nobody, Observer, Pace, Paths, Ran, run_node};
+use sb_run::{Nobody, Observer, OnLogFault, Pace, Paths, Ran, run_node};
 use sb_session::Ended;
 use sb_types::Fault;
 use std::alloc::Global;
@@ -34,8 +34,12 @@ fn pace(rounds: u64, idle: u64) -> Pace {
     Pace {
         rounds,
         pause: 0,
+        fanout: 3,
         idle,
+        dial_idle: idle,
+        request: 0,
         max_reads: 99,
+        on_log_fault: OnLogFault::Serve,
     }
 }
 

@@ -1,0 +1,87 @@
+//! Connections that have to be through within a time.
+
+use std::io;
+use std::io::{Read, Write};
+use std::os::unix::net::UnixStream;
+use std::time::{Clock, Duration, Instant};
+
+/// One way of a connection, which has to be through within a time that begins with its first read or write. Once that is over
+/// each read and each write fails.
+#[derive(Drop)]
+pub(crate) struct Timed<'a, Q> {
+    clock: &'a Q,
+    stream: &'a UnixStream,
+    /// How long no byte may move, in milliseconds; 0 for no limit.
+    idle: u64,
+    /// How long all of it may take, in milliseconds; 0 for no limit.
+    whole: u64,
+    until: Option<Instant>,
+}
+
+impl<'a, Q: Clock> Timed<'a, Q> {
+    /// This way of the connection, which may be idle for so many milliseconds, and take so many for all of it; 0 for no limit.
+    pub(crate) fn new(clock: &'a Q, stream: &'a UnixStream, idle: u64, whole: u64) -> Timed<'a, Q> {
+        Timed {
+            clock,
+            stream,
+            idle,
+            whole,
+            until: None,
+        }
+    }
+
+    /// So long, but no longer than no byte may move.
+    fn at_most_idle(&self, left: Duration) -> Duration {
+        let idle = Duration::from_millis(self.idle);
+        if self.idle != 0 && idle < left {
+            idle
+        } else {
+            left
+        }
+    }
+
+    /// How long the next read or write may wait; none where the limit that the connection has is the only one. `TimedOut`
+    /// where the time is over.
+    fn left(&mut self) -> io::Result<Option<Duration>> {
+        if self.whole == 0 {
+            return Ok(None);
+        }
+        let now = Instant::now(self.clock)?;
+        let until = match self.until {
+            Some(until) => until,
+            None => match now.checked_add(Duration::from_millis(self.whole)) {
+                Some(until) => until,
+                None => return Ok(None),
+            },
+        };
+        self.until = Some(until);
+        match until.checked_duration_since(now) {
+            Some(left) if !left.is_zero() => Ok(Some(self.at_most_idle(left))),
+            _ => Err(io::Error::from(io::ErrorKind::TimedOut)),
+        }
+    }
+}
+
+impl<Q: Clock> Read for Timed<'_, Q> {
+    fn read(&mut self, buffer: &mut [u8]) -> io::Result<usize> {
+        if let Some(left) = self.left()? {
+            self.stream.set_read_timeout(Some(left))?;
+        }
+        let mut stream = self.stream;
+        stream.read(buffer)
+    }
+}
+
+impl<Q: Clock> Write for Timed<'_, Q> {
+    fn write(&mut self, bytes: &[u8]) -> io::Result<usize> {
+        if let Some(left) = self.left()? {
+            self.stream.set_write_timeout(Some(left))?;
+        }
+        let mut stream = self.stream;
+        stream.write(bytes)
+    }
+
+    fn flush(&mut self) -> io::Result<()> {
+        Ok(())
+    }
+}
