@@ -148,6 +148,7 @@ fn node_of<'a>(rt: &HostRuntime, given: &ArgMatches<'a>) -> Result<Next<'a>, Fai
         control: value(given, "control"),
         peers,
         pace: pace_of(given),
+        has_time: given.get_flag("log-time"),
     }))
 }
 

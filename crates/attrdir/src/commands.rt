@@ -233,6 +233,13 @@ const PAUSE: Part = Part {
     help: "How many milliseconds it waits after a round",
 };
 
+const FANOUT: Part = Part {
+    name: "fanout",
+    form: Form::NumberOr("3"),
+    value: "K",
+    help: "How many nodes it asks at once when it has news, 0 for none",
+};
+
 const IDLE: Part = Part {
     name: "idle",
     form: Form::NumberOr("30000"),
@@ -240,11 +247,39 @@ const IDLE: Part = Part {
     help: "After how many milliseconds without a byte it ends a connection, 0 for never",
 };
 
+const DIAL_IDLE: Part = Part {
+    name: "dial-idle",
+    form: Form::NumberOr("2000"),
+    value: "MS",
+    help: "The same where it asks a node, 0 for never",
+};
+
+const REQUEST: Part = Part {
+    name: "request",
+    form: Form::NumberOr("2000"),
+    value: "MS",
+    help: "How many milliseconds a request may take to come, and its answer to be read, 0 for no limit",
+};
+
 const MAX_READS: Part = Part {
     name: "max-reads",
     form: Form::Number,
     value: "M",
     help: "How many reads a connection may take [default: without limit]",
+};
+
+const ON_LOG_FAULT: Part = Part {
+    name: "on-log-fault",
+    form: Form::OneOf(&["serve", "exit"], "serve"),
+    value: "WHAT",
+    help: "What it does when its log cannot be written: go on without writes, or end",
+};
+
+const LOG_TIME: Part = Part {
+    name: "log-time",
+    form: Form::Flag,
+    value: "",
+    help: "Begins each line on standard error with the time",
 };
 
 const SERVE_TASK: Task = Task {
@@ -265,8 +300,13 @@ const SERVE_TASK: Task = Task {
         WORKERS,
         ROUNDS,
         PAUSE,
+        FANOUT,
         IDLE,
+        DIAL_IDLE,
+        REQUEST,
         MAX_READS,
+        ON_LOG_FAULT,
+        LOG_TIME,
     ],
 };
 

@@ -60,6 +60,8 @@ pub(crate) enum Place<'a> {
     Node(&'a str),
     /// At the path of a socket that a node makes, where a file is.
     Taken(&'a str),
+    /// At the path of a socket that a node makes, where another node listens.
+    Listening(&'a str),
     /// At the path of a socket that a node makes, which is too long for one.
     TooLong(&'a str),
     /// At the path of a socket that a node makes, whose folder is not there.
@@ -149,7 +151,11 @@ fn write_text<W: fmt::Write>(
         (Fault::ReadFailed, Place::Peer(_)) => f.write_str("a peer can never be reached"),
         (
             Fault::ReadFailed,
-            Place::Taken(_) | Place::TooLong(_) | Place::NoFolder(_) | Place::Sockets(..),
+            Place::Taken(_)
+            | Place::Listening(_)
+            | Place::TooLong(_)
+            | Place::NoFolder(_)
+            | Place::Sockets(..),
         ) => f.write_str("a socket could not be made"),
         (Fault::StoreFailed, Place::NoLog(_)) => f.write_str(
             "there is no such log, or you may not read it",
@@ -187,8 +193,9 @@ fn about_reading(place: Place<'_>) -> &'static str {
 once the node answers"
         }
         Place::Taken(_) => {
-            "a file is at this path: where a node that was killed left it, and none runs there, remove it; else give another path"
+            "a file is at this path that is no socket: give another path, or remove the file"
         }
+        Place::Listening(_) => { "a node listens at this path: end it, or give another path" }
         Place::TooLong(_) | Place::Peer(_) => {
             "the path of a socket has 1 to 107 bytes: give another one, as from the folder in which the node is started"
         }
@@ -310,9 +317,10 @@ impl fmt::Display for Place<'_> {
             Place::Unreached(path) | Place::Control(path) | Place::Node(path) => {
                 write!(f, "control socket {path}: ")
             }
-            Place::Taken(path) | Place::TooLong(path) | Place::NoFolder(path) => {
-                write!(f, "socket {path}: ")
-            }
+            Place::Taken(path)
+            | Place::Listening(path)
+            | Place::TooLong(path)
+            | Place::NoFolder(path) => { write!(f, "socket {path}: ") }
             Place::Peer(path) => write!(f, "peer {path}: "),
             Place::Sockets(sock, control) => write!(f, "sockets {sock} and {control}: "),
         }

@@ -98,22 +98,27 @@ Example:
   last 3";
 
 pub(crate) const SERVE: &str =
-    "The log is a file that is there; an empty one becomes a new log. The node makes both sockets, each at a path where no file is, and
-removes them when it ends. On --sock it serves other nodes, and each PEER is the path of the --sock of another node, which it
-asks in its turn, one a round, for what it lacks. On --control it answers `set`, `del`, `get` and `watch`. Peers and callers are not
-authenticated: whoever may open a socket may use it.
+    "The log is a file that is there; an empty one becomes a new log. The node makes both sockets, each at a path where no file is or where
+a node that no longer runs left its socket, and removes them when it ends. On --sock it serves other nodes, and each PEER is the path of
+the --sock of another node. On --control it answers `set`, `del`, `get` and `watch`. Peers and callers are not authenticated: whoever may
+open a socket may use it.
 
-One line on standard error says that the node listens. After its first round with a PEER, and then whenever a round ends otherwise than
-the one before, one line says that this peer answers, that it does not, or by which fault its session ended. With --rounds the node ends
-after the last one, prints `rounds R faults F events E` on standard output, and says so in one more line on standard error: R rounds were
-made, F of them and of the connections that came had a fault, and E events were seen, its own writes and each delta of a peer, also one
-that brought nothing. Without --rounds it runs until it is killed. Then the files of its sockets stay, and have to be removed before it
-starts again; each write that was answered by a version is in the log.
+It asks its peers for what it lacks, and gives them what they lack: one a round, in turn, with a --pause after each. When its own owner
+writes, or a peer has news, it asks --fanout of them at once. A peer that keeps it waiting for --dial-idle is passed over in its next seven
+turns. A request that has not come whole within --request is dropped.
+
+Each line on standard error is `attrdir: LEVEL WHAT: ..`, where LEVEL is info, warning or error: the node listens; a peer answers, does
+not, or ended its session by a fault, after its first round and then whenever a round ends otherwise than the one before; a socket was left
+and is removed; the log cannot be written, or another node writes under this name. With --rounds the node ends after the last one and
+prints `rounds R faults F events E` on standard output: R rounds were made, F of them and of the connections that came had a fault, and E
+events were seen, its own writes and each delta of a peer, also one that brought nothing. Without --rounds it runs until it is killed; each
+write that was answered by a version is in the log.
 
 A fault ends the node, with `fault N`, its text and what to do about it on standard error: 1 no memory, 2 the name, 5 a setting, 16 a
-socket cannot be made, as where a file is at its path, or the path of a peer has none or more than 107 bytes, 17 the last line cannot be
-written, 18 the log is not there, cannot be read or written, or is open elsewhere, 19 the file is no log of this release, or a damaged
-one, 20 it belongs to another owner or cluster. A fault of a connection ends that connection alone, and is counted.
+socket cannot be made, as where a node listens or a file is at its path, or the path of a peer has none or more than 107 bytes, 17 the
+last line cannot be written, 18 the log is not there, cannot be read or written, or is open elsewhere, or a write failed and
+--on-log-fault is exit, 19 the file is no log of this release, or a damaged one, 20 it belongs to another owner or cluster. A fault of a
+connection ends that connection alone, and is counted.
 
 The exit status is 0 after the last round, 2 after a command line that is wrong, and 3 after a fault.
 
@@ -123,7 +128,7 @@ Examples:
   $ attrdir serve --name b --cluster c --log b.log --sock b.sock --control b.ctl a.sock &
   $ sleep 1; attrdir set --control a.ctl web/addr addr 10.0.0.1:80
   version 1
-  $ sleep 2; attrdir get --control b.ctl
+  $ sleep 1; attrdir get --control b.ctl
   a web/addr 1 addr 10.0.0.1:80
 
   $ touch one.log; attrdir serve --name one --cluster c --log one.log --sock one.sock --control one.ctl --rounds 1 --pause 0

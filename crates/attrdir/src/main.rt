@@ -4,6 +4,7 @@
 mod asking;
 mod command_line;
 mod commands;
+mod console;
 mod failure;
 mod help;
 mod log_file;

@@ -1,15 +1,16 @@
 //! A node that runs.
+use crate::console::Console;
 use crate::failure::{Failure, Place, Setting};
 use crate::log_file::open_log;
 use crate::words::name_of;
 use sb_log::WriteLog;
-use sb_run::{Observer, Pace, Paths, Ran, run_node};
-use sb_session::Ended;
+use sb_run::{Pace, Paths, Ran, run_node};
 use sb_types::{
     BUDGET_LEAST, BUDGET_MOST, Fault, Name, RawSettings, Settings, VERSION_MOST, WORKERS_MOST,
 };
 use std::fs::{metadata, symlink_metadata};
 use std::net::{Net, TcpListener, TcpStream};
+use std::os::unix::fs::FileTypeExt;
 use std::rt::Files;
 use std::sync::Wait;
 use std::thread::Threads;
@@ -28,45 +29,12 @@ pub(crate) struct Given<'a> {
     pub(crate) control: &'a str,
     pub(crate) peers: Vec<&'a str>,
     pub(crate) pace: Pace,
-}
-
-/// Tells on standard error what the node meets.
-#[derive(Drop)]
-struct Console<'r, 'a> {
-    rt: &'r HostRuntime,
-    name: &'a str,
-    sock: &'a str,
-    control: &'a str,
-}
-
-impl Observer for Console<'_, '_> {
-    fn listening(&self) {
-        let rt = self.rt;
-        let _ = eprintln!(rt;
-            "attrdir: node {} listens on {}, and for set, del, get and watch on {}",
-            self.name, self.sock, self.control
-        );
-    }
-
-    fn dialed(&self, peer: &str, ended: &Result<Ended, Fault>) {
-        let rt = self.rt;
-        let _ = match ended {
-            Ok(Ended::RoundsDone) => eprintln!(rt; "attrdir: peer {peer} answers"),
-            Ok(_) => eprintln!(rt; "attrdir: peer {peer} ended a session before its end"),
-            Err(Fault::ReadFailed) => eprintln!(rt; "attrdir: peer {peer} does not answer"),
-            Err(fault) => eprintln!(rt; "attrdir: peer {peer}: fault {}: {fault}", fault.number()),
-        };
-    }
-
-    fn conflict(&self, version: u64) {
-        let (rt, fault) = (self.rt, Fault::OwnerConflict(version));
-        let _ = eprintln!(rt; "attrdir: fault {}: {fault}", fault.number());
-    }
+    /// Whether each line on standard error begins with the time.
+    pub(crate) has_time: bool,
 }
 
 /// Prints what the node did. `WriteFailed` where standard output does not take it.
-fn print_ran(rt: &HostRuntime, given: &Given<'_>, ran: Ran) -> Result<(), Failure<'static>> {
-    let _ = eprintln!(rt; "attrdir: node {} ended after its last round", given.name);
+fn print_ran(rt: &HostRuntime, ran: Ran) -> Result<(), Failure<'static>> {
     match println!(rt;
         "rounds {} faults {} events {}",
         ran.rounds, ran.faults, ran.events
@@ -105,8 +73,12 @@ fn socket_of<'a>(rt: &HostRuntime, given: &Given<'a>) -> Place<'a> {
         if path.len() > SOCKET_PATH_MOST {
             return Place::TooLong(path);
         }
-        if symlink_metadata(rt, path).is_ok() {
-            return Place::Taken(path);
+        if let Ok(found) = symlink_metadata(rt, path) {
+            return if found.file_type().is_socket() {
+                Place::Listening(path)
+            } else {
+                Place::Taken(path)
+            };
         }
         if !has_folder(rt, path) {
             return Place::NoFolder(path);
@@ -160,8 +132,10 @@ fn run<
     let console = Console {
         rt,
         name: given.name,
+        log: given.log,
         sock: given.sock,
         control: given.control,
+        has_time: given.has_time,
     };
     let ran = run_node(
         runtime,
@@ -173,7 +147,10 @@ fn run<
         &console,
     );
     match ran {
-        Ok(ran) => print_ran(rt, given, ran),
+        Ok(ran) => {
+            console.ended();
+            print_ran(rt, ran)
+        }
         Err(fault) => Err(Failure::at(place_of(rt, &fault, given), fault)),
     }
 }

@@ -1,0 +1,128 @@
+//! What a node that runs says on standard error.
+use jiff::Timestamp;
+use sb_run::Observer;
+use sb_session::Ended;
+use sb_types::Fault;
+use std::fmt;
+
+/// How much a line matters.
+#[derive(Clone, Copy)]
+enum Level {
+    Info,
+    Warning,
+    Error,
+}
+
+impl fmt::Display for Level {
+    fn fmt<W: fmt::Write>(&self, f: &mut fmt::Formatter<W>) -> fmt::Result {
+        f.write_str(match self {
+            Level::Info => "info",
+            Level::Warning => "warning",
+            Level::Error => "error",
+        })
+    }
+}
+
+/// What a line begins with: the time, where it is wanted and the clock can be read; the program; and how much it matters.
+#[derive(Clone, Copy)]
+struct Head {
+    time: Option<Timestamp>,
+    level: Level,
+}
+
+impl fmt::Display for Head {
+    fn fmt<W: fmt::Write>(&self, f: &mut fmt::Formatter<W>) -> fmt::Result {
+        if let Some(time) = self.time {
+            write!(f, "{time} ")?;
+        }
+        write!(f, "attrdir: {}", self.level)
+    }
+}
+
+/// Says on standard error what a node meets, each thing in a line.
+#[derive(Drop)]
+pub(crate) struct Console<'r, 'a> {
+    pub(crate) rt: &'r HostRuntime,
+    pub(crate) name: &'a str,
+    pub(crate) log: &'a str,
+    pub(crate) sock: &'a str,
+    pub(crate) control: &'a str,
+    /// Whether each line begins with the time.
+    pub(crate) has_time: bool,
+}
+
+impl Console<'_, '_> {
+    /// The time, in milliseconds.
+    fn time(&self) -> Option<Timestamp> {
+        if !self.has_time {
+            return None;
+        }
+        let now = Timestamp::now(self.rt).ok()?;
+        Timestamp::from_millisecond(now.as_millisecond()).ok()
+    }
+
+    fn head(&self, level: Level) -> Head {
+        Head {
+            time: self.time(),
+            level,
+        }
+    }
+
+    /// The node ended after its last round.
+    pub(crate) fn ended(&self) {
+        let (rt, head) = (self.rt, self.head(Level::Info));
+        let _ = eprintln!(rt; "{head} node {}: ended after its last round", self.name);
+    }
+}
+
+impl Observer for Console<'_, '_> {
+    fn listening(&self) {
+        let (rt, head) = (self.rt, self.head(Level::Info));
+        let _ = eprintln!(rt;
+            "{head} node {}: listens on {}, and for set, del, get and watch on {}",
+            self.name, self.sock, self.control
+        );
+    }
+
+    fn dialed(&self, peer: &str, ended: &Result<Ended, Fault>) {
+        let rt = self.rt;
+        let level = match ended {
+            Ok(Ended::RoundsDone) => Level::Info,
+            _ => Level::Warning,
+        };
+        let head = self.head(level);
+        let _ = match ended {
+            Ok(Ended::RoundsDone) => eprintln!(rt; "{head} peer {peer}: answers"),
+            Ok(_) => eprintln!(rt; "{head} peer {peer}: ended a session before its end"),
+            Err(Fault::ReadFailed) => eprintln!(rt; "{head} peer {peer}: does not answer"),
+            Err(fault) => eprintln!(rt; "{head} peer {peer}: fault {}: {fault}", fault.number()),
+        };
+    }
+
+    fn conflict(&self, version: u64) {
+        let (rt, head) = (self.rt, self.head(Level::Error));
+        let fault = Fault::OwnerConflict(version);
+        let _ = eprintln!(rt;
+            "{head} node {}: fault {}: {fault}",
+            self.name,
+            fault.number()
+        );
+    }
+
+    fn log_failed(&self) {
+        let (rt, head) = (self.rt, self.head(Level::Error));
+        let fault = Fault::StoreFailed;
+        let _ = eprintln!(rt;
+            "{head} log {}: fault {}: {fault}: no more writes are taken; see that its disk has room and works, and start the node again",
+            self.log,
+            fault.number()
+        );
+    }
+
+    fn socket_removed(&self, path: &str) {
+        let (rt, head) = (self.rt, self.head(Level::Info));
+        let _ = eprintln!(rt;
+            "{head} socket {path}: left by a node that no longer runs, and removed"
+        );
+    }
+}
