@@ -4,14 +4,12 @@ import fcntl
 import os
 import socket
 import subprocess
-import sys
 import tempfile
 import termios
 import time
 from pathlib import Path
 
-ROOT = Path(__file__).resolve().parent.parent
-PROGRAM = ROOT / "crates/attrdir/out/attrdir"
+ROOT = Path(__file__).resolve().parent.parent.parent
 SECONDS = 30
 DONE, ROWS, REFUSED = 0x13, 0x11, 0x14
 
@@ -245,11 +243,3 @@ class Nodes:
             if node.ran and node.ran.poll() is None:
                 node.kill()
         self.nodes = []
-
-
-def program_at(path, tool):
-    """The whole path of the program. Ends the tool where it is not there."""
-    program = os.path.abspath(path)
-    if not os.access(program, os.X_OK):
-        sys.exit(f"{tool}: {program} is not there; tools/build makes it")
-    return program
