@@ -33,7 +33,7 @@ struct Head {
 impl fmt::Display for Head {
     fn fmt<W: fmt::Write>(&self, f: &mut fmt::Formatter<W>) -> fmt::Result {
         if let Some(time) = self.time {
-            write!(f, "{time} ")?;
+            write!(f, "{time:.3} ")?;
         }
         write!(f, "attrdir: {}", self.level)
     }

@@ -20,6 +20,8 @@ mod peers;
 mod pooling;
 #[cfg(test)]
 mod running;
+#[cfg(test)]
+mod waking;
 
 #[cfg(test)]
 use std::fmt::Debug;

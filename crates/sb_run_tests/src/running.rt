@@ -30,7 +30,7 @@ const WRITTEN_AS_A: &[u8] =
     b"\xa7\x01\x00\x00\x00\x06\x01\x02c1\x01b\xa7\x01\x00\x00\x00\x22\x03\x00\x01\x01a\
 \x00\x00\x00\x00\x00\x00\x00\x00\x00\x01\x01w\x00\x00\x00\x00\x00\x00\x00\x01\x02\x00\x00\x00\x00\x00\x00\x00\x05";
 
-fn pace(rounds: u64, idle: u64) -> Pace {
+pub(crate) fn pace(rounds: u64, idle: u64) -> Pace {
     Pace {
         rounds,
         pause: 0,
@@ -43,7 +43,7 @@ fn pace(rounds: u64, idle: u64) -> Pace {
     }
 }
 
-fn is_there(files: &impl Files, path: &str) -> bool {
+pub(crate) fn is_there(files: &impl Files, path: &str) -> bool {
     fs::metadata(files, path).is_ok()
 }
 
