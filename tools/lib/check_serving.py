@@ -153,7 +153,7 @@ def turns(check):
     status, printed, said = node.ended()
     want("the end", (status, printed), (0, "rounds 7 faults 0 events 0\n"))
     want("the peers that were dialed", dialed, [0, 1, 2, 0, 1, 2, 0])
-    want("what is said of them", said[1:-1], [f"attrdir: peer {path} ended a session before its end" for path in there])
+    want("what is said of them", said[1:-1], [f"attrdir: warning peer {path}: ended a session before its end" for path in there])
     node.peers = [folder / "nobody", there[1], folder / "no-folder/nobody"]
     status, printed, said = node.start().ended()
     want("the end", (status, printed), (0, "rounds 7 faults 5 events 0\n"))
@@ -161,7 +161,7 @@ def turns(check):
     if not said[0].index(str(node.sock)) < said[0].index("set") < said[0].index(str(node.control)):
         raise Difference(f"which socket is for whom: {said[0]}")
     ends = ("does not answer", "ended a session before its end", "does not answer")
-    want("what is said of them", said[1:-1], [f"attrdir: peer {path} {end}" for path, end in zip(node.peers, ends)])
+    want("what is said of them", said[1:-1], [f"attrdir: warning peer {path}: {end}" for path, end in zip(node.peers, ends)])
     want("the name in each line", [it.split(":")[0] for it in said], ["attrdir"] * 5)
 
 
@@ -170,7 +170,7 @@ def changes(check):
     folder = check.folder()
     peer = check.node("b", folder=folder)
     node = check.node("a", "--pause", "300", folder=folder, peers=[peer.sock]).start()
-    wanted = [f"attrdir: peer {peer.sock} does not answer"]
+    wanted = [f"attrdir: warning peer {peer.sock}: does not answer"]
 
     def await_lines():
         end = time.monotonic() + SECONDS
@@ -180,13 +180,13 @@ def changes(check):
 
     await_lines()
     other = Peer(peer.sock, 0, [], hello("b", "d"))
-    wanted.append(f"attrdir: peer {peer.sock}: fault 23: the peer is of another cluster")
+    wanted.append(f"attrdir: warning peer {peer.sock}: fault 23: the peer is of another cluster")
     await_lines()
     other.end()
     wanted.append(wanted[0])
     await_lines()
     peer.start()
-    wanted.append(f"attrdir: peer {peer.sock} answers")
+    wanted.append(f"attrdir: info peer {peer.sock}: answers")
     await_lines()
     peer.kill()
     wanted.append(wanted[0])
@@ -239,8 +239,8 @@ def read_from_all(check, pieces, max_reads, ends_well):
             want(f"whether {pieces} pieces are answered at {path.name}", kind in slowly(stream, asked, pieces), ends_well)
     status, printed, said = node.ended()
     want(f"the end after {pieces} pieces", (status, printed), (0, f"rounds 1 faults {0 if ends_well else 3} events 0\n"))
-    end = " answers" if ends_well else ": fault 29: the turns that were allowed are spent"
-    want(f"what is said of a peer of {pieces} pieces", said[1:-1], [f"attrdir: peer {peer.path}{end}"])
+    level, end = ("info", "answers") if ends_well else ("warning", "fault 29: the turns that were allowed are spent")
+    want(f"what is said of a peer of {pieces} pieces", said[1:-1], [f"attrdir: {level} peer {peer.path}: {end}"])
 
 
 def slowly(stream, content, pieces=None):

@@ -166,18 +166,18 @@ class Node:
         places = ["--log", self.log, "--sock", self.sock, "--control", self.control]
         return [self.program, "serve", "--name", self.name, "--cluster", "c", *map(str, places), *self.options, *map(str, self.peers)]
 
-    def start(self):
-        """Starts it, without the sockets of an earlier run, and waits until it listens."""
-        for path in (self.sock, self.control):
+    def start(self, with_left=False):
+        """Starts it, without the sockets of an earlier run where it is not told to leave them, and waits until it listens."""
+        for path in () if with_left else (self.sock, self.control):
             path.unlink(missing_ok=True)
         # (a file, since a pipe that nobody empties would stop it)
         self.said = tempfile.TemporaryFile()
         self.ran = subprocess.Popen(self.words(), stderr=self.said, **self.how)
-        while not self.lines():
+        while "listens" not in "".join(self.lines()):
             if self.ran.poll() is not None:
                 break
             time.sleep(0.002)
-        if "listens" not in "".join(self.lines()[:1]):
+        if "listens" not in "".join(self.lines()):
             self.kill()
             raise Difference(f"node {self.name} did not start: {self.lines()}")
         return self

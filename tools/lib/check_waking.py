@@ -1,0 +1,172 @@
+"""The parts of tools/check-node that look at when a node dials, how long it waits for others, and what it does where its log or its sockets are not as
+they should be."""
+import re
+import resource
+import signal
+import socket
+import threading
+import time
+
+from nodes import SECONDS, Difference, ask, connect, exchange, number, put, version_of, want, weight
+
+# How many milliseconds no part waits out.
+LONG = "60000"
+
+
+def seconds_until(node, owner, version):
+    """How long it takes until a node has a row of this owner and version."""
+    began = time.monotonic()
+    while number(version) not in exchange(node.control, ask(owner))[1]:
+        if time.monotonic() - began > SECONDS:
+            raise Difference(f"{node.name} did not hear of version {version} of {owner}")
+        time.sleep(0.002)
+    return time.monotonic() - began
+
+
+def chain(check, *options):
+    """Three nodes of which each dials the one before and the one behind it, once all have said that these answer."""
+    folder = check.folder()
+    sock = {it: folder / f"{it}.sock" for it in "abc"}
+    peers = {"a": "b", "b": "ac", "c": "b"}
+    nodes = [check.node(it, *options, folder=folder, peers=[sock[peer] for peer in peers[it]]) for it in "abc"]
+    for node in nodes:
+        node.start()
+    return nodes
+
+
+def news(check):
+    """A write is at a node two hops away long before the next pause is over; with --fanout 0 it is not."""
+    nodes = chain(check, "--pause", "3000")
+    nodes[0].awaits("a row of c", lambda rows: nodes[2].put("hello", 1) and any(it.startswith("c ") for it in rows))
+    for at in range(5):
+        seconds = seconds_until(nodes[2], "a", nodes[0].put("k", at))
+        if seconds > 1.5:
+            raise Difference(f"a write took {seconds:.2f} s over two hops")
+    check.stop()
+    folder = check.folder()
+    other = check.node("b", folder=folder).start()
+    node = check.node("a", "--pause", "3000", "--fanout", "0", folder=folder, peers=[other.sock]).start()
+    end = time.monotonic() + SECONDS
+    while len(node.lines()) < 2 and time.monotonic() < end:
+        time.sleep(0.01)
+    seconds = seconds_until(other, "a", node.put("k", 1))
+    if seconds < 1:
+        raise Difference(f"with --fanout 0 a write took {seconds:.2f} s")
+
+
+class Swallower:
+    """A socket that takes connections and says nothing."""
+
+    def __init__(self, path):
+        self.streams, self.door = [], socket.socket(socket.AF_UNIX, socket.SOCK_STREAM)
+        self.door.bind(str(path))
+        self.door.listen(8)
+        threading.Thread(target=self.take, daemon=True).start()
+
+    def take(self):
+        while True:
+            try:
+                self.streams.append(self.door.accept()[0])
+            except OSError:
+                return
+
+
+def silent_peers(check):
+    """A peer that takes connections and says nothing costs its own turn alone, and is dialed in every eighth of its turns at most."""
+    folder = check.folder()
+    silent, other = Swallower(folder / "silent.sock"), check.node("b", folder=folder).start()
+    peers = [folder / "silent.sock", other.sock]
+    node = check.node("a", "--pause", "50", "--dial-idle", "400", folder=folder, peers=peers).start()
+    began, count = time.monotonic(), 0
+    while time.monotonic() - began < 4:
+        seconds = seconds_until(node, "b", other.put("k", count))
+        count += 1
+        if seconds > 2:
+            raise Difference(f"a write took {seconds:.2f} s beside a silent peer")
+    # (a turn in eight of some fifty a second at most, each with a wait of 0.4 s)
+    if not 2 <= len(silent.streams) <= 7:
+        raise Difference(f"a silent peer was dialed {len(silent.streams)} times in 4 s")
+    silent.door.close()
+
+
+def silent_callers(check):
+    """Callers at the control socket that say nothing, or a byte now and then, hold it for --request alone."""
+    node = check.node("a", "--request", "500").start()
+    silent = [connect(node.control) for _ in range(4)]
+    began = time.monotonic()
+    want("a write", node.put("k", 5), 1)
+    if not 1.5 <= time.monotonic() - began <= 6:
+        raise Difference(f"four silent callers delayed a write by {time.monotonic() - began:.2f} s")
+    request, began = put("k", weight(6)), time.monotonic()
+    with connect(node.control) as slow:
+        try:
+            for at in range(len(request)):
+                slow.sendall(request[at : at + 1])
+                time.sleep(0.1)
+            raise Difference("a request that took 1.8 s was taken whole")
+        except OSError:
+            pass
+    want("a write behind a slow caller", node.put("k", 7), 2)
+    for stream in silent:
+        stream.close()
+
+
+def without_room():
+    """No file of this process gets longer than 400,000 bytes, and a write that would fails."""
+    signal.signal(signal.SIGXFSZ, signal.SIG_IGN)
+    resource.setrlimit(resource.RLIMIT_FSIZE, (400_000, 400_000))
+
+
+def fill(node):
+    """Writes until the log has no room for more; the answer to that."""
+    for at in range(2000):
+        status, printed, said = node.command("set", f"k{at}", "weight", "5")
+        if status:
+            return status, said.splitlines()[0]
+    raise Difference("the log never filled up")
+
+
+def full_disks(check):
+    """A log that has no room closes: the node says so once, and goes on without writes, or ends with --on-log-fault exit."""
+    node = check.node("a")
+    node.how["preexec_fn"] = without_room
+    node.start()
+    want("the write that had no room", fill(node), (3, "fault 18"))
+    want("the next write", node.command("set", "k", "weight", "6")[2].splitlines()[0], "fault 15")
+    rows = len(node.get())
+    want("what it says", [it.split(":")[:3] for it in node.lines()[1:]], [["attrdir", f" error log {node.log}", " fault 18"]])
+    node.kill()
+    del node.how["preexec_fn"]
+    node.start()
+    if not rows <= len(node.get()) <= rows + 1:
+        raise Difference(f"{len(node.get())} rows came back of {rows}")
+    node.kill()
+    node = check.node("a", "--on-log-fault", "exit")
+    node.how["preexec_fn"] = without_room
+    node.start()
+    want("the write that had no room", fill(node), (3, "fault 18"))
+    status, printed, said = node.ended()
+    want("its end", (status, printed, said[-3]), (3, "", "fault 18"))
+    want("its sockets", (node.sock.exists(), node.control.exists()), (False, False))
+
+
+def left_sockets(check):
+    """A node that was killed starts again where its sockets lie, and says so. A file that is no socket is left."""
+    node = check.node("a").start()
+    want("a write", node.put("k", 5), 1)
+    node.kill()
+    node.start(with_left=True)
+    left = [f"attrdir: info socket {it}: left by a node that no longer runs, and removed" for it in (node.sock, node.control)]
+    want("what it says", node.lines()[:2], left)
+    want("its rows", node.get(), ["a k 1 weight 5"])
+
+
+def times(check):
+    """With --log-time each line begins with the time."""
+    node = check.node("a", "--rounds", "2", "--pause", "0", "--log-time").start()
+    status, printed, said = node.ended()
+    moment = r"\d{4}-\d\d-\d\dT\d\d:\d\d:\d\d\.\d{3}Z attrdir: info node a: "
+    want("how its lines begin", [bool(re.match(moment, it)) for it in said], [True, True])
+
+
+PARTS = (news, silent_peers, silent_callers, full_disks, left_sockets, times)
