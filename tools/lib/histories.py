@@ -1,5 +1,6 @@
 """What owners were asked to write, and whether the rows that readers are given come of it. tools/storm writes and judges rows by it."""
 import threading
+import time
 import zlib
 from array import array
 from bisect import bisect_left, bisect_right, insort
@@ -59,6 +60,8 @@ class History:
         self.last, self.count = 0, 0
         # the number of the write of each version, 0 where it is not known
         self.numbers = array("Q", [0])
+        # when each version was answered
+        self.answered = {}
         self.versions = {key: array("Q") for key in self.keys}
         self.open = {key: {} for key in self.keys}
 
@@ -96,6 +99,7 @@ class History:
             if self.numbers[version]:
                 return f"was acknowledged as version {version}, and so was write {self.numbers[version]}"
             self.numbers[version] = number
+            self.answered[version] = time.monotonic()
             insort(self.versions[it.asked.key], version)
             # (the writer of a key asks for one write after the other)
             for earlier in self.open[it.asked.key].values():
