@@ -12,7 +12,7 @@ _attrdir() {
       continue
     elif [[ $value_of ]]; then
       value_of=''
-    elif [[ $it == --explain || $it == --help || $it == --version || $it == -h || $it == -V || $it == -- ]]; then
+    elif [[ $it == --explain || $it == --log-time || $it == --help || $it == --version || $it == -h || $it == -V || $it == -- ]]; then
       :
     elif [[ $it == --* ]]; then
       value_of=$it
@@ -36,6 +36,10 @@ _attrdir() {
       mapfile -t COMPREPLY < <(compgen -W 'breadth depth' -- "$word")
       return
       ;;
+    --on-log-fault)
+      mapfile -t COMPREPLY < <(compgen -W 'serve exit' -- "$word")
+      return
+      ;;
     --format)
       mapfile -t COMPREPLY < <(compgen -W 'text json' -- "$word")
       return
@@ -47,7 +51,7 @@ _attrdir() {
   case $command in
     '') options='serve set del get watch log sim --help --version' ;;
     serve)
-      options='--name --cluster --log --sock --control --budget --order --max-version --seats --workers --rounds --pause --idle --max-reads --help'
+      options='--name --cluster --log --sock --control --budget --order --max-version --seats --workers --rounds --pause --fanout --idle --dial-idle --request --max-reads --on-log-fault --log-time --help'
       ;;
     set | del) options='--control --help' ;;
     get) options='--control --owner --prefix --format --help' ;;
