@@ -2,32 +2,41 @@
 #![tactic(auto)]
 
 mod asking;
+mod batch;
 mod command_line;
 mod commands;
+mod environment;
 mod failure;
 mod help;
+mod keeping;
 mod log_file;
+mod one_row;
+mod owners;
+mod pausing;
 mod serving;
 mod watching;
 mod words;
 
 use crate::command_line::{Next, USAGE_STATUS, follow, print_failure, words};
+use crate::environment::control_set;
 use crate::failure::Failure;
 use crate::serving::serve;
 use std::process::ExitCode;
 
 fn main(rt: HostRuntime) -> ExitCode {
-    let status = match words(&rt) {
-        Ok(Some(words)) => match follow(&rt, words.as_slice()) {
-            Ok(Next::Ended(status)) => status,
-            Ok(Next::Serve(node)) => match serve(&rt, &rt, &node) {
-                Ok(()) => 0,
+    let status = match (words(&rt), control_set(&rt)) {
+        (Ok(Some(words)), Ok(set)) => {
+            match follow(&rt, words.as_slice(), set.as_ref().map(|path| path.as_str())) {
+                Ok(Next::Ended(status)) => status,
+                Ok(Next::Serve(node)) => match serve(&rt, &rt, &node) {
+                    Ok(()) => 0,
+                    Err(failure) => print_failure(&rt, failure),
+                },
                 Err(failure) => print_failure(&rt, failure),
-            },
-            Err(failure) => print_failure(&rt, failure),
-        },
-        Ok(None) => USAGE_STATUS,
-        Err(fault) => print_failure(&rt, Failure::from(fault)),
+            }
+        }
+        (Ok(None), _) => USAGE_STATUS,
+        (Err(fault), _) | (_, Err(fault)) => print_failure(&rt, Failure::from(fault)),
     };
     ExitCode::from(status)
 }
