@@ -104,37 +104,49 @@ impl Handler for Heard {
     ghost grows_on = { λ old mid new a b. tt };
 }
 
-/// Hears a session until a digest was answered. The faults of `receive_within`, of `Session::take` and of `send`; `Truncated` where the
-/// session ends before; `Malformed` of a digest that asks, or that begins elsewhere than it was to.
-fn hear_digest<R: Read, W: Write, L: Ledger>(
+/// The next message of a session, taken. The faults of `receive_within` and of `Session::take`; `Truncated` where none comes, and at a Bye.
+fn hear<R: Read, L: Ledger>(
     reader: &mut R,
-    writer: &mut W,
     session: &mut Session,
     heard: &mut Heard,
     frames: &mut Frames,
     left: &mut u64,
     steps: &mut Steps<L>,
-) -> Result<(), Fault> {
+) -> Result<Replies, Fault> {
+    let Some(message) = receive_within(reader, frames, left, steps)? else {
+        return Err(Fault::Truncated);
+    };
+    match session.take(message, heard)? {
+        Replies::Ended(_) => Err(Fault::Truncated),
+        replies => Ok(replies),
+    }
+}
+
+/// Hears a session until a digest was told, and gives what answers it. The faults of `hear`; `Malformed` of a digest that asks, or that
+/// begins elsewhere than it was to.
+fn hear_digest<R: Read, L: Ledger>(
+    reader: &mut R,
+    session: &mut Session,
+    heard: &mut Heard,
+    frames: &mut Frames,
+    left: &mut u64,
+    steps: &mut Steps<L>,
+) -> Result<Delta, Fault> {
     for _ in 0..u64::MAX {
-        let Some(message) = receive_within(reader, frames, left, steps)? else {
-            return Err(Fault::Truncated);
-        };
-        match session.take(message, heard)? {
-            Replies::Greeted | Replies::Applied(_) => {}
-            Replies::Answered(delta) if !heard.is_broken => {
-                return send(heard.alloc, writer, &Message::Delta(delta));
-            }
+        match hear(reader, session, heard, frames, left, steps)? {
+            Replies::Answered(delta) if !heard.is_broken => return Ok(delta),
             Replies::Answered(_) | Replies::Exchanged(..) => {
                 return Err(Fault::Malformed(KIND_DIGEST));
             }
-            Replies::Ended(_) => return Err(Fault::Truncated),
+            _ => {}
         }
     }
     Err(Fault::TurnsSpent)
 }
 
-/// A whole session: Hello, as many exchanges as it takes until all owners were told, and Bye. The faults of `hear_digest`; `TurnsSpent`
-/// where more digests are told than there may be owners, or where more reads are needed than it may take.
+/// A whole session: Hello, as many exchanges as it takes until all owners were told, and Bye. Nothing is asked before the node's Hello
+/// came, since a node ends a session that it refuses. The faults of `hear_digest` and of `send`; `TurnsSpent` where more digests are told
+/// than there may be owners, or where more reads are needed than it may take.
 fn hear_all<R: Read, W: Write, L: Ledger>(
     reader: &mut R,
     writer: &mut W,
@@ -145,18 +157,12 @@ fn hear_all<R: Read, W: Write, L: Ledger>(
     let alloc = heard.alloc;
     let (mut session, mut left, mut frames) = (session, MAX_READS, Frames::new(alloc));
     send(alloc, writer, &session.hello())?;
+    let _ = hear(reader, &mut session, heard, &mut frames, &mut left, steps)?;
     for _ in 0..OWNERS_MOST {
         let asked = session.ask(heard)?;
         send(alloc, writer, &asked)?;
-        hear_digest(
-            reader,
-            writer,
-            &mut session,
-            heard,
-            &mut frames,
-            &mut left,
-            steps,
-        )?;
+        let delta = hear_digest(reader, &mut session, heard, &mut frames, &mut left, steps)?;
+        send(alloc, writer, &Message::Delta(delta))?;
         if heard.is_whole {
             return send(alloc, writer, &Message::Bye(Bye::new(REASON_ROUNDS_DONE)?));
         }
