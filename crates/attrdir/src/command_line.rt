@@ -314,13 +314,13 @@ fn tell(rt: &HostRuntime, error: &clap::Error) -> Result<u8, Fault> {
     }
 }
 
-/// Does what these words say, but for running a node, where the environment has this path of a control socket, or none.
+/// Does what these words say, but for running a node, with the path of the control socket that is meant where none is given.
 pub(crate) fn follow<'a>(
     rt: &HostRuntime,
     words: &'a [String],
-    set: Option<&'a str>,
+    fallback: Option<&'a str>,
 ) -> Result<Next<'a>, Failure<'a>> {
-    match command(rt.alloc(), set)?.try_get_matches_from(words) {
+    match command(rt.alloc(), fallback)?.try_get_matches_from(words) {
         Ok(matches) => carry_out(rt, &matches),
         Err(error) => Ok(Next::Ended(tell(rt, &error)?)),
     }

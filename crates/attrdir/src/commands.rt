@@ -401,9 +401,9 @@ fn flag<'a>(alloc: Global, part: &Part) -> Arg<'a> {
         .action(ArgAction::SetTrue)
 }
 
-/// The option of the control socket, where the environment has this path of one, or none.
-fn control<'a>(alloc: Global, part: &Part, set: Option<&'a str>) -> Arg<'a> {
-    match set {
+/// The option of the control socket, which is this path where it is not given; it has to be given where there is none.
+fn control<'a>(alloc: Global, part: &Part, fallback: Option<&'a str>) -> Arg<'a> {
+    match fallback {
         Some(path) => option(alloc, part).default_value(path),
         None => option(alloc, part).required(true),
     }
@@ -412,7 +412,7 @@ fn control<'a>(alloc: Global, part: &Part, set: Option<&'a str>) -> Arg<'a> {
 fn arg_of<'a>(
     alloc: Global,
     part: &Part,
-    set: Option<&'a str>,
+    fallback: Option<&'a str>,
 ) -> Result<Arg<'a>, AllocError> {
     Ok(match part.form {
         Form::Word => word(alloc, part).required(true).action(ArgAction::Set),
@@ -420,7 +420,7 @@ fn arg_of<'a>(
         Form::WordOrNone => word(alloc, part).action(ArgAction::Set),
         Form::Flag => flag(alloc, part),
         Form::Needed => option(alloc, part).required(true),
-        Form::Control => control(alloc, part, set),
+        Form::Control => control(alloc, part, fallback),
         Form::Value => option(alloc, part),
         Form::ValueOr(default) => option(alloc, part).default_value(default),
         Form::ValueBeside(beside, other) => option(alloc, part)
@@ -441,21 +441,21 @@ fn arg_of<'a>(
 fn command_of<'a>(
     alloc: Global,
     task: &Task,
-    set: Option<&'a str>,
+    fallback: Option<&'a str>,
 ) -> Result<Command<'a>, AllocError> {
     let mut command = Command::new(alloc, task.name)
         .about(task.about)
         .after_help(task.more);
     for part in task.parts {
-        command = command.arg(arg_of(alloc, part, set)?)?;
+        command = command.arg(arg_of(alloc, part, fallback)?)?;
     }
     Ok(command)
 }
 
-/// The command line that the program takes, where the environment has this path of a control socket, or none.
+/// The command line that the program takes, with the path of the control socket that is meant where none is given.
 pub(crate) fn command<'a>(
     alloc: Global,
-    set: Option<&'a str>,
+    fallback: Option<&'a str>,
 ) -> Result<Command<'a>, AllocError> {
     let mut command = Command::new(alloc, "attrdir")
         .version("0.1.0")
@@ -463,7 +463,7 @@ pub(crate) fn command<'a>(
         .after_help(help::EXAMPLE)
         .subcommand_required(true);
     for task in TASKS.iter() {
-        command = command.subcommand(command_of(alloc, task, set)?)?;
+        command = command.subcommand(command_of(alloc, task, fallback)?)?;
     }
     Ok(command)
 }

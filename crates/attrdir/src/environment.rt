@@ -6,7 +6,7 @@ use std::env::{self, VarError};
 const CONTROL: &str = "ATTRDIR_CONTROL";
 
 /// The path of a control socket that the environment has; none where it is not set, is empty, or is not UTF-8. `NoMemory`.
-pub(crate) fn control_set(rt: &HostRuntime) -> Result<Option<String>, Fault> {
+pub(crate) fn control_path(rt: &HostRuntime) -> Result<Option<String>, Fault> {
     match env::var(rt, CONTROL) {
         Ok(path) if !path.is_empty() => Ok(Some(path)),
         Err(VarError::OutOfMemory) => Err(Fault::NoMemory),

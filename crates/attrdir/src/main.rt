@@ -18,15 +18,15 @@ mod watching;
 mod words;
 
 use crate::command_line::{Next, USAGE_STATUS, follow, print_failure, words};
-use crate::environment::control_set;
+use crate::environment::control_path;
 use crate::failure::Failure;
 use crate::serving::serve;
 use std::process::ExitCode;
 
 fn main(rt: HostRuntime) -> ExitCode {
-    let status = match (words(&rt), control_set(&rt)) {
-        (Ok(Some(words)), Ok(set)) => {
-            match follow(&rt, words.as_slice(), set.as_ref().map(|path| path.as_str())) {
+    let status = match (words(&rt), control_path(&rt)) {
+        (Ok(Some(words)), Ok(fallback)) => {
+            match follow(&rt, words.as_slice(), fallback.as_ref().map(|path| path.as_str())) {
                 Ok(Next::Ended(status)) => status,
                 Ok(Next::Serve(node)) => match serve(&rt, &rt, &node) {
                     Ok(()) => 0,
