@@ -1,15 +1,15 @@
 -- Which rows a watch that outlasts its node keeps.
-use Rattle.std.specs.Prelude.{ℕ, Bool, ◌&&◌, nat_le, nat_lt, if◌then◌else◌, List, [], ◌∷◌}
+use Rattle.std.specs.Prelude.{Bool, ◌&&◌, nat_eq, nat_le, nat_lt, if◌then◌else◌, List, [], ◌∷◌}
 use Rattle.std.specs.List.{list_any}
-use Rattle.std.specs.Cmp.Lexicographic.{slice_cmp}
-use Rattle.std.specs.Ordering.{nat_cmp, match_ordering, is_eq}
+use Rattle.std.specs.Cmp.Lexicographic.{pointwise}
+use Rattle.std.specs.Ordering.{match_ordering}
 use Rattle.sb_codec.specs.Records.{Row}
 use Rattle.sb_digest.specs.Digests.{Pair}
 use Rattle.sb_listing.specs.Changes.{place_order}
 
 -- the node has shown a row of this owner and of this version or a later one, so it holds the write of this row
 abbrev pub is_known : List Pair → Row → Bool
-is_known shown x = list_any (λ pair. is_eq (slice_cmp nat_cmp pair.owner x.owner) && nat_le x.version pair.held) shown
+is_known shown x = list_any (λ pair. pointwise nat_eq pair.owner x.owner && nat_le x.version pair.held) shown
 
 -- of two rows of one owner and key the one of the later version
 abbrev pub later : Row → Row → Row

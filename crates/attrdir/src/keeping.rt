@@ -25,7 +25,7 @@ fn is_known(shown: &[Pair], row: &Row) -> bool
 {
     shown
         .iter()
-        .any(|pair| pair.owner.bytes().cmp(row.owner().bytes()).is_eq() && row.version() <= pair.upto)
+        .any(|pair| pair.owner == *row.owner() && row.version() <= pair.upto)
 }
 
 /// An equal row. `NoMemory`.

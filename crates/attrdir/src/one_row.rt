@@ -1,5 +1,7 @@
 //! The row of one key, and its value alone.
-ghost use Rattle.std.specs.Prelude.{◌≡◌, IfSome};
+ghost use Rattle.std.specs.Prelude.{◌≡◌};
+ghost use Rattle.std.specs.Option.{option_copied};
+ghost use Rattle.attrdir.specs.Rows as spec;
 
 use crate::asking::{Form, page_of, print_page};
 use crate::failure::Failure;
@@ -18,11 +20,17 @@ pub(crate) struct Wanted {
 /// The first row, where it is that of this owner and key. On a page of an owner's rows whose keys begin with this key no other row
 /// can be it.
 fn first_at<'a>(rows: &'a [Row], owner: &Name, key: &Key) -> Option<&'a Row>
-    ensures at { IfSome result (λ row. (row.now.owner ≡ owner.now) × (row.now.key ≡ key.now)) }
+    ensures { option_copied result ≡ spec.first_at rows.now owner.now key.now }
 {
-    match rows.first() {
-        Some(row) if row.owner() == owner && row.key() == key => Some(row),
-        _ => None,
+    match rows.split_first() {
+        Some((row, _)) => {
+            if row.owner() == owner && row.key() == key {
+                Some(row)
+            } else {
+                None
+            }
+        }
+        None => None,
     }
 }
 
