@@ -16,7 +16,11 @@ fn split_at_space(line: &[u8]) -> Option<(&[u8], &[u8])>
     ensures parts { IfSome result (λ parts. line.now ≡ parts.0.now ++ 32 ∷ parts.1.now) }
 {
     let place = line.iter().position(|byte| *byte == b' ')?;
-    Some((&line[..place], &line[place + 1..]))
+    let (word, behind) = line.split_at_checked(place)?;
+    match behind.split_first() {
+        Some((space, words)) if *space == b' ' => Some((word, words)),
+        _ => None,
+    }
 }
 
 /// What is to stand under a key: `KIND VALUE`, or `removed`. `BadValue`; `NoMemory`.
