@@ -134,23 +134,23 @@ pub(crate) fn kept_rows(
     Ok(kept)
 }
 
-/// Enters that a node has shown a row of this owner and version. `NoMemory`.
-fn enter(shown: &mut Vec<Pair>, owner: Name, version: u64) -> Result<(), Fault> {
+/// Enters that a node has shown so much of an owner. `NoMemory`.
+fn enter(shown: &mut Vec<Pair>, found: &Pair) -> Result<(), Fault> {
     for pair in shown.iter_mut() {
-        if pair.owner == owner {
-            pair.upto = pair.upto.max(version);
+        if pair.owner == found.owner {
+            pair.upto = pair.upto.max(found.upto);
             return Ok(());
         }
     }
     shown.push(Pair {
-        owner,
-        upto: version,
+        owner: found.owner,
+        upto: found.upto,
     })?;
     Ok(())
 }
 
 /// What is shown of the owner of a row, behind what the rows before it showed of theirs.
-fn with_row(before: Option<Pair>, row: &Row) -> Pair {
+fn with_row(before: &Option<Pair>, row: &Row) -> Pair {
     let upto = match before {
         Some(pair) if pair.owner == *row.owner() => pair.upto.max(row.version()),
         _ => row.version(),
@@ -165,16 +165,16 @@ fn with_row(before: Option<Pair>, row: &Row) -> Pair {
 pub(crate) fn enter_all(shown: &mut Vec<Pair>, rows: &[Row]) -> Result<(), Fault> {
     let mut last = None;
     for row in rows {
-        let next = with_row(last, row);
-        if let Some(pair) = last {
+        let next = with_row(&last, row);
+        if let Some(pair) = &last {
             if pair.owner != next.owner {
-                enter(shown, pair.owner, pair.upto)?;
+                enter(shown, pair)?;
             }
         }
         last = Some(next);
     }
-    if let Some(pair) = last {
-        enter(shown, pair.owner, pair.upto)?;
+    match &last {
+        Some(pair) => enter(shown, pair),
+        None => Ok(()),
     }
-    Ok(())
 }
