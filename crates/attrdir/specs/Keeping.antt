@@ -23,9 +23,9 @@ unless_known shown x xs = if is_known shown x then xs else x ∷ xs
 abbrev pub keeping : List Pair → Row → (List Row → List Row) → List Row → List Row
 keeping shown y next [] = y ∷ next []
 keeping shown y next (x ∷ xs) = match_ordering (place_order x y)
-  (unless_known shown x (keeping shown y next xs))
-  (later x y ∷ next xs)
-  (y ∷ next (x ∷ xs))
+    (unless_known shown x (keeping shown y next xs))
+    (later x y ∷ next xs)
+    (y ∷ next (x ∷ xs))
 
 -- those that the node does not know better
 abbrev pub unknown : List Pair → List Row → List Row

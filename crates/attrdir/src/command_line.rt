@@ -160,7 +160,9 @@ fn write<'a>(rt: &HostRuntime, control: &'a str, key: Key, slot: Slot) -> Result
 
 /// Says what `set` wants behind a key.
 fn tell_lacking(rt: &HostRuntime) -> u8 {
-    let _ = eprintln!(rt; "error: KEY wants a KIND and a VALUE behind it; - alone reads lines of standard input");
+    let _ = eprintln!(rt;
+        "error: KEY wants a KIND and a VALUE behind it; - alone reads lines of standard input"
+    );
     USAGE_STATUS
 }
 

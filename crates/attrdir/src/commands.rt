@@ -373,7 +373,14 @@ const SIM_TASK: Task = Task {
 
 /// The commands, in the order of the help.
 const TASKS: [Task; 8] = [
-    SERVE_TASK, SET_TASK, DEL_TASK, GET_TASK, WATCH_TASK, OWNERS_TASK, LOG_TASK, SIM_TASK,
+    SERVE_TASK,
+    SET_TASK,
+    DEL_TASK,
+    GET_TASK,
+    WATCH_TASK,
+    OWNERS_TASK,
+    LOG_TASK,
+    SIM_TASK,
 ];
 
 /// An option with one value.
@@ -396,9 +403,7 @@ fn word<'a>(alloc: Global, part: &Part) -> Arg<'a> {
 
 /// An option without a value.
 fn flag<'a>(alloc: Global, part: &Part) -> Arg<'a> {
-    word(alloc, part)
-        .long(part.name)
-        .action(ArgAction::SetTrue)
+    word(alloc, part).long(part.name).action(ArgAction::SetTrue)
 }
 
 /// The option of the control socket, which is this path where it is not given; it has to be given where there is none.

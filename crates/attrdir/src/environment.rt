@@ -13,3 +13,11 @@ pub(crate) fn control_path(rt: &HostRuntime) -> Result<Option<String>, Fault> {
         _ => Ok(None),
     }
 }
+
+/// A path that may be there, as text.
+pub(crate) fn text_of(path: &Option<String>) -> Option<&str> {
+    match path {
+        Some(path) => Some(path.as_str()),
+        None => None,
+    }
+}

@@ -105,10 +105,8 @@ impl<'a> Failure<'a> {
     pub(crate) fn may_pass(&self) -> bool {
         match (&self.fault, self.place) {
             (_, Place::Unreached(_) | Place::Node(_)) => true,
-            (
-                Fault::ReadFailed | Fault::WriteFailed(_) | Fault::Truncated,
-                Place::Control(_),
-            ) => true,
+            (Fault::ReadFailed | Fault::WriteFailed(_) | Fault::Truncated, Place::Control(_)) =>
+                true,
             _ => false,
         }
     }
@@ -176,7 +174,9 @@ fn write_text<W: fmt::Write>(
 ) -> fmt::Result {
     match (fault, place) {
         (fault, Place::Node(_)) => write_told(fault, f),
-        (Fault::ReadFailed, Place::Unreached(_) | Place::NoPeer(_)) => f.write_str("no node could be reached"),
+        (Fault::ReadFailed, Place::Unreached(_) | Place::NoPeer(_)) => f.write_str(
+            "no node could be reached",
+        ),
         (Fault::ReadFailed, Place::Peer(_)) => f.write_str("a peer can never be reached"),
         (
             Fault::ReadFailed,

@@ -23,9 +23,7 @@ fn place_order(one: &Row, other: &Row) -> Ordering
 fn is_known(shown: &[Pair], row: &Row) -> bool
     ensures { result ≡ spec.is_known shown.now row.now }
 {
-    shown
-        .iter()
-        .any(|pair| pair.owner == *row.owner() && row.version() <= pair.upto)
+    shown.iter().any(|pair| pair.owner == *row.owner() && row.version() <= pair.upto)
 }
 
 /// An equal row. `NoMemory`.
@@ -49,12 +47,7 @@ fn later<'a>(held: &'a Row, found: &'a Row) -> &'a Row
 }
 
 /// Keeps a row, where the node does not know better.
-fn keep_unknown(
-    alloc: Global,
-    kept: &mut Vec<Row>,
-    row: &Row,
-    shown: &[Pair],
-) -> Result<(), Fault>
+fn keep_unknown(alloc: Global, kept: &mut Vec<Row>, row: &Row, shown: &[Pair]) -> Result<(), Fault>
     ensures kept { OnOk result ((next : List records.Row) → kept.new.items ++ next ≡ kept.old.items ++ spec.unless_known shown.now row.now next) }
     ensures memory { IfErr result (λ fault. fault ≡ Fault.NoMemory) }
 {
@@ -98,12 +91,7 @@ fn keep_to<'a>(
 }
 
 /// Keeps of these rows those that the node does not know better.
-fn keep_rest(
-    alloc: Global,
-    kept: &mut Vec<Row>,
-    rows: &[Row],
-    shown: &[Pair],
-) -> Result<(), Fault>
+fn keep_rest(alloc: Global, kept: &mut Vec<Row>, rows: &[Row], shown: &[Pair]) -> Result<(), Fault>
     ensures kept { OnOk result (kept.new.items ≡ kept.old.items ++ spec.unknown shown.now rows.now) }
     ensures memory { IfErr result (λ fault. fault ≡ Fault.NoMemory) }
 {

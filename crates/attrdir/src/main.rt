@@ -18,25 +18,26 @@ mod watching;
 mod words;
 
 use crate::command_line::{Next, USAGE_STATUS, follow, print_failure, words};
-use crate::environment::control_path;
+use crate::environment::{control_path, text_of};
 use crate::failure::Failure;
 use crate::serving::serve;
 use std::process::ExitCode;
 
 fn main(rt: HostRuntime) -> ExitCode {
-    let status = match (words(&rt), control_path(&rt)) {
-        (Ok(Some(words)), Ok(fallback)) => {
-            match follow(&rt, words.as_slice(), fallback.as_ref().map(|path| path.as_str())) {
+    let status = match words(&rt) {
+        Ok(Some(words)) => match control_path(&rt) {
+            Ok(fallback) => match follow(&rt, words.as_slice(), text_of(&fallback)) {
                 Ok(Next::Ended(status)) => status,
                 Ok(Next::Serve(node)) => match serve(&rt, &rt, &node) {
                     Ok(()) => 0,
                     Err(failure) => print_failure(&rt, failure),
                 },
                 Err(failure) => print_failure(&rt, failure),
-            }
-        }
-        (Ok(None), _) => USAGE_STATUS,
-        (Err(fault), _) | (_, Err(fault)) => print_failure(&rt, Failure::from(fault)),
+            },
+            Err(fault) => print_failure(&rt, Failure::from(fault)),
+        },
+        Ok(None) => USAGE_STATUS,
+        Err(fault) => print_failure(&rt, Failure::from(fault)),
     };
     ExitCode::from(status)
 }
