@@ -8,9 +8,6 @@ use sb_types::{Fault, Key, Slot, Value, Write};
 use std::alloc::Global;
 use std::io::{BufRead, BufReader, ErrorKind};
 
-/// What stands in a line in place of a kind and a value where the key is to be removed.
-const REMOVED: &[u8] = b"removed";
-
 /// The part of a line before its first space, and what stands behind that; nothing where there is no space.
 fn split_at_space(line: &[u8]) -> Option<(&[u8], &[u8])>
     ensures parts { IfSome result (λ parts. line.now ≡ parts.0.now ++ 32 ∷ parts.1.now) }
@@ -27,12 +24,12 @@ fn split_at_space(line: &[u8]) -> Option<(&[u8], &[u8])>
 fn slot_of(alloc: Global, words: &[u8]) -> Result<Slot, Fault>
     ensures words { IfOk result (λ slot. words.now ≡ slot_words slot) }
 {
-    if words == REMOVED {
-        return Ok(Slot::Removed);
-    }
-    match split_at_space(words) {
-        Some((kind, word)) => Ok(Slot::Set(Value::from_words(alloc, kind, word)?)),
-        None => Err(Fault::BadValue),
+    match words {
+        b"removed" => Ok(Slot::Removed),
+        _ => match split_at_space(words) {
+            Some((kind, word)) => Ok(Slot::Set(Value::from_words(alloc, kind, word)?)),
+            None => Err(Fault::BadValue),
+        },
     }
 }
 
