@@ -12,7 +12,7 @@ _attrdir() {
       continue
     elif [[ $value_of ]]; then
       value_of=''
-    elif [[ $it == --explain || $it == --log-time || $it == --help || $it == --version || $it == -h || $it == -V || $it == -- ]]; then
+    elif [[ $it == --explain || $it == --log-time || $it == --value || $it == --mark || $it == --retry || $it == --help || $it == --version || $it == -h || $it == -V || $it == -- ]]; then
       :
     elif [[ $it == --* ]]; then
       value_of=$it
@@ -49,13 +49,14 @@ _attrdir() {
 
   local options=''
   case $command in
-    '') options='serve set del get watch log sim --help --version' ;;
+    '') options='serve set del get watch owners log sim --help --version' ;;
     serve)
       options='--name --cluster --log --sock --control --budget --order --max-version --seats --workers --rounds --pause --fanout --idle --dial-idle --request --max-reads --on-log-fault --log-time --help'
       ;;
     set | del) options='--control --help' ;;
-    get) options='--control --owner --prefix --format --help' ;;
-    watch) options='--control --owner --prefix --every --count --help' ;;
+    get) options='--control --owner --prefix --key --value --format --help' ;;
+    watch) options='--control --owner --prefix --every --count --mark --retry --help' ;;
+    owners) options='--sock --cluster --name --help' ;;
     log) options='--log --name --cluster --help' ;;
     sim) options='--explain --help' ;;
   esac

@@ -128,12 +128,12 @@ def watched_requests(check):
 
 
 def watched_times(check):
-    """A watch asks at first at once, and a second later again where --every is not given."""
+    """A watch asks at first at once, and a fifth of a second later again where --every is not given."""
     began = time.monotonic()
     want("one asking", asked(check, [rows()], "watch", "--every", "60000", "--count", "1")[0], (0, "", ""))
-    want("two askings", asked(check, [rows()] * 2, "watch", "--count", "2")[0], (0, "", ""))
+    want("six askings", asked(check, [rows()] * 6, "watch", "--count", "6")[0], (0, "", ""))
     if not 1 <= time.monotonic() - began <= 10:
-        raise Difference(f"an asking and then two took {time.monotonic() - began:.2f} s")
+        raise Difference(f"an asking and then six took {time.monotonic() - began:.2f} s")
 
 
 def wrong_answers(check):
@@ -294,14 +294,14 @@ def helped(check, folder, command):
 
 
 def helps(check):
-    """What a help shows is what comes of it: of sim, and in this order of set, del and get at a node that has a peer, and of log."""
+    """What a help shows is what comes of it: of sim, and in this order of set, del, get and owners at a node that has a peer, and of log."""
     folder = check.folder()
     helped(check, folder, "sim")
     other = check.node("b", folder=folder).start()
     want("set", other.command("set", "web/addr", "addr", "10.0.0.2:80"), (0, "version 1\n", ""))
     node = check.node("a", "--pause", "20", folder=folder, peers=[other.sock]).start()
     node.awaits("the peer's write", lambda found: found == ["b web/addr 1 addr 10.0.0.2:80"])
-    for command in ("set", "del", "get"):
+    for command in ("set", "del", "get", "owners"):
         helped(check, folder, command)
     folder = check.folder()
     node = check.node("a", folder=folder).start()

@@ -25,7 +25,7 @@ const MAX_READS: u64 = 65_536;
 const LONGEST_SILENCE: u64 = 60;
 
 /// Lets a connection fail where no byte moved for too long.
-fn limit(stream: &UnixStream) -> io::Result<()> {
+pub(crate) fn limit(stream: &UnixStream) -> io::Result<()> {
     let longest = Some(Duration::from_secs(LONGEST_SILENCE));
     stream.set_read_timeout(longest)?;
     stream.set_write_timeout(longest)
@@ -177,7 +177,8 @@ pub(crate) enum Form {
     Json,
 }
 
-fn print_page(rt: &HostRuntime, page: &Rows, form: Form) -> Result<(), Fault> {
+/// Prints the rows of a page. `NoMemory`; `WriteFailed`.
+pub(crate) fn print_page(rt: &HostRuntime, page: &Rows, form: Form) -> Result<(), Fault> {
     let mut output = rt.stdout();
     let (printed, _) = match form {
         Form::Text => print_rows(rt.alloc(), &mut output, page),

@@ -1,10 +1,13 @@
 //! What the program does by its command line.
 use crate::asking::{Form, print_all, put};
+use crate::batch::write_lines;
 use crate::commands::command;
 use crate::failure::Failure;
 use crate::log_file::print_log;
+use crate::one_row::{Wanted, print_one};
+use crate::owners::print_owners;
 use crate::serving::Given;
-use crate::watching::{Watched, watch};
+use crate::watching::{Watched, watch, watch_on};
 use crate::words::{key_of, name_of, prefix_of, value_of};
 use clap::ArgMatches;
 use clap::error::ErrorKind;
@@ -19,6 +22,12 @@ const MAX_READS: u64 = 1_000_000;
 
 /// The exit status of a command line that is wrong.
 pub(crate) const USAGE_STATUS: u8 = 2;
+
+/// The exit status of `get --key` where there is no such row.
+const NONE_STATUS: u8 = 1;
+
+/// The word that stands for lines of standard input.
+const LINES: &str = "-";
 
 /// The exit status of a run that had a fault.
 const FAULT_STATUS: u8 = 3;
@@ -161,10 +170,28 @@ fn write<'a>(rt: &HostRuntime, control: &'a str, key: Key, slot: Slot) -> Result
     }
 }
 
+/// Says what `set` wants behind a key.
+fn tell_lacking(rt: &HostRuntime) -> u8 {
+    let _ = eprintln!(rt;
+        "error: KEY wants a KIND and a VALUE behind it; - alone reads lines of standard input"
+    );
+    USAGE_STATUS
+}
+
 fn run_set<'a>(rt: &HostRuntime, given: &ArgMatches<'a>) -> Result<u8, Failure<'a>> {
-    let key = key_of(value(given, "KEY"))?;
-    let written = value_of(rt.alloc(), value(given, "KIND"), value(given, "VALUE"))?;
-    write(rt, value(given, "control"), key, Slot::Set(written))
+    let (key, control) = (value(given, "KEY"), value(given, "control"));
+    match (given.get_str("KIND"), given.get_str("VALUE")) {
+        (Some(kind), Some(word)) => {
+            let key = key_of(key)?;
+            let written = value_of(rt.alloc(), kind, word)?;
+            write(rt, control, key, Slot::Set(written))
+        }
+        (None, None) if key == LINES => {
+            write_lines(rt, control)?;
+            Ok(0)
+        }
+        _ => Ok(tell_lacking(rt)),
+    }
 }
 
 fn run_del<'a>(rt: &HostRuntime, given: &ArgMatches<'a>) -> Result<u8, Failure<'a>> {
@@ -191,14 +218,41 @@ fn asked_of<'a>(given: &ArgMatches<'a>) -> Result<Ask, Failure<'a>> {
     })
 }
 
+/// Prints the row of one key, and says whether there is one.
+fn run_get_one<'a>(
+    rt: &HostRuntime,
+    given: &ArgMatches<'a>,
+    key: &'a str,
+    form: Form,
+) -> Result<u8, Failure<'a>> {
+    let wanted = Wanted {
+        owner: name_of("--owner", value(given, "owner"))?,
+        key: key_of(key)?,
+        form: if given.get_flag("value") {
+            None
+        } else {
+            Some(form)
+        },
+    };
+    if print_one(rt, value(given, "control"), &wanted)? {
+        Ok(0)
+    } else {
+        Ok(NONE_STATUS)
+    }
+}
+
 fn run_get<'a>(rt: &HostRuntime, given: &ArgMatches<'a>) -> Result<u8, Failure<'a>> {
-    let asked = asked_of(given)?;
     let form = match value(given, "format") {
         "json" => Form::Json,
         _ => Form::Text,
     };
-    print_all(rt, value(given, "control"), asked, form)?;
-    Ok(0)
+    match given.get_str("key") {
+        Some(key) => run_get_one(rt, given, key, form),
+        None => {
+            print_all(rt, value(given, "control"), asked_of(given)?, form)?;
+            Ok(0)
+        }
+    }
 }
 
 fn run_watch<'a>(rt: &HostRuntime, given: &ArgMatches<'a>) -> Result<u8, Failure<'a>> {
@@ -209,8 +263,20 @@ fn run_watch<'a>(rt: &HostRuntime, given: &ArgMatches<'a>) -> Result<u8, Failure
         asked: asked_of(given)?,
         every: given.get_one::<u64>("every").unwrap_or(0),
         count: given.get_one::<u64>("count").unwrap_or(0),
+        marks: given.get_flag("mark"),
     };
-    watch(rt, value(given, "control"), &watched)?;
+    if given.get_flag("retry") {
+        watch_on(rt, value(given, "control"), &watched)?;
+    } else {
+        watch(rt, value(given, "control"), &watched)?;
+    }
+    Ok(0)
+}
+
+fn run_owners<'a>(rt: &HostRuntime, given: &ArgMatches<'a>) -> Result<u8, Failure<'a>> {
+    let cluster = name_of("--cluster", value(given, "cluster"))?;
+    let name = name_of("--name", value(given, "name"))?;
+    print_owners(rt, value(given, "sock"), cluster, name)?;
     Ok(0)
 }
 
@@ -235,6 +301,7 @@ fn status_of<'a>(
         "del" => run_del(rt, given),
         "get" => run_get(rt, given),
         "watch" => run_watch(rt, given),
+        "owners" => run_owners(rt, given),
         "log" => run_log(rt, given),
         "sim" => run_sim(rt, given),
         _ => Ok(USAGE_STATUS),
@@ -261,9 +328,13 @@ fn tell(rt: &HostRuntime, error: &clap::Error) -> Result<u8, Fault> {
     }
 }
 
-/// Does what these words say, but for running a node.
-pub(crate) fn follow<'a>(rt: &HostRuntime, words: &'a [String]) -> Result<Next<'a>, Failure<'a>> {
-    match command(rt.alloc())?.try_get_matches_from(words) {
+/// Does what these words say, but for running a node, with the path of the control socket that is meant where none is given.
+pub(crate) fn follow<'a>(
+    rt: &HostRuntime,
+    words: &'a [String],
+    fallback: Option<&'a str>,
+) -> Result<Next<'a>, Failure<'a>> {
+    match command(rt.alloc(), fallback)?.try_get_matches_from(words) {
         Ok(matches) => carry_out(rt, &matches),
         Err(error) => Ok(Next::Ended(tell(rt, &error)?)),
     }

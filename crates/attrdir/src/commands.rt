@@ -12,10 +12,20 @@ enum Form {
     Words,
     /// An option without a value.
     Flag,
+    /// A word that may be left out.
+    WordOrNone,
     /// An option with one value that has to be given.
     Needed,
+    /// An option with one value, which is that of the environment where it is not given, and has to be given where there is none.
+    Control,
     /// An option with one value.
     Value,
+    /// An option with one value, which is this where none is given.
+    ValueOr(&'static str),
+    /// An option with one value, only beside the first of these options, and not beside the second.
+    ValueBeside(&'static str, &'static str),
+    /// An option without a value, only beside the first of these options, and not beside the second.
+    FlagBeside(&'static str, &'static str),
     /// An option with one number.
     Number,
     /// An option with one number, which is this where none is given.
@@ -46,28 +56,28 @@ struct Task {
 
 const CONTROL: Part = Part {
     name: "control",
-    form: Form::Needed,
+    form: Form::Control,
     value: "PATH",
-    help: "The control socket of the node",
+    help: "The control socket of the node, or ATTRDIR_CONTROL in the environment",
 };
 
 const KEY: Part = Part {
     name: "KEY",
     form: Form::Word,
     value: "",
-    help: "What it is written under",
+    help: "What it is written under; - alone for lines of standard input",
 };
 
 const KIND: Part = Part {
     name: "KIND",
-    form: Form::Word,
+    form: Form::WordOrNone,
     value: "",
     help: "addr, weight or flag",
 };
 
 const VALUE: Part = Part {
     name: "VALUE",
-    form: Form::Word,
+    form: Form::WordOrNone,
     value: "",
     help: "What is written",
 };
@@ -93,6 +103,20 @@ const PREFIX: Part = Part {
     help: "Only keys that begin so",
 };
 
+const ONE_KEY: Part = Part {
+    name: "key",
+    form: Form::ValueBeside("owner", "prefix"),
+    value: "K",
+    help: "Only the row of this key; it wants --owner",
+};
+
+const VALUE_ALONE: Part = Part {
+    name: "value",
+    form: Form::FlagBeside("key", "format"),
+    value: "",
+    help: "Prints the value alone; it wants --key",
+};
+
 const FORMAT: Part = Part {
     name: "format",
     form: Form::OneOf(&["text", "json"], "text"),
@@ -102,7 +126,7 @@ const FORMAT: Part = Part {
 
 const EVERY: Part = Part {
     name: "every",
-    form: Form::NumberOr("1000"),
+    form: Form::NumberOr("200"),
     value: "MS",
     help: "How many milliseconds it waits before it asks again",
 };
@@ -112,6 +136,34 @@ const COUNT: Part = Part {
     form: Form::NumberOr("0"),
     value: "N",
     help: "After how many times it ends, 0 for never",
+};
+
+const MARK: Part = Part {
+    name: "mark",
+    form: Form::Flag,
+    value: "",
+    help: "Prints a line 'asked' behind what each asking brought",
+};
+
+const RETRY: Part = Part {
+    name: "retry",
+    form: Form::Flag,
+    value: "",
+    help: "Goes on where the node does not answer, and keeps its rows",
+};
+
+const PEER_SOCK: Part = Part {
+    name: "sock",
+    form: Form::Needed,
+    value: "PATH",
+    help: "The socket of the node for other nodes",
+};
+
+const ASKING_NAME: Part = Part {
+    name: "name",
+    form: Form::ValueOr("attrdir-owners"),
+    value: "N",
+    help: "The name under which it asks, another than the node's",
 };
 
 const LOG: Part = Part {
@@ -312,7 +364,7 @@ const SERVE_TASK: Task = Task {
 
 const SET_TASK: Task = Task {
     name: "set",
-    about: "Has a node write a value under a key",
+    about: "Has a node write a value under a key, or what lines of standard input say",
     more: help::SET,
     parts: &[CONTROL, KEY, KIND, VALUE],
 };
@@ -328,14 +380,21 @@ const GET_TASK: Task = Task {
     name: "get",
     about: "Prints what a node has, its own and what it heard of others",
     more: help::GET,
-    parts: &[CONTROL, OWNER, PREFIX, FORMAT],
+    parts: &[CONTROL, OWNER, PREFIX, ONE_KEY, VALUE_ALONE, FORMAT],
 };
 
 const WATCH_TASK: Task = Task {
     name: "watch",
     about: "Asks a node again and again, and prints what changed",
     more: help::WATCH,
-    parts: &[CONTROL, OWNER, PREFIX, EVERY, COUNT],
+    parts: &[CONTROL, OWNER, PREFIX, EVERY, COUNT, MARK, RETRY],
+};
+
+const OWNERS_TASK: Task = Task {
+    name: "owners",
+    about: "Prints how far a node holds each owner",
+    more: help::OWNERS,
+    parts: &[PEER_SOCK, LOG_CLUSTER, ASKING_NAME],
 };
 
 const LOG_TASK: Task = Task {
@@ -353,8 +412,15 @@ const SIM_TASK: Task = Task {
 };
 
 /// The commands, in the order of the help.
-const TASKS: [Task; 7] = [
-    SERVE_TASK, SET_TASK, DEL_TASK, GET_TASK, WATCH_TASK, LOG_TASK, SIM_TASK,
+const TASKS: [Task; 8] = [
+    SERVE_TASK,
+    SET_TASK,
+    DEL_TASK,
+    GET_TASK,
+    WATCH_TASK,
+    OWNERS_TASK,
+    LOG_TASK,
+    SIM_TASK,
 ];
 
 /// An option with one value.
@@ -375,41 +441,74 @@ fn word<'a>(alloc: Global, part: &Part) -> Arg<'a> {
     Arg::new(alloc, part.name).help(part.help)
 }
 
-fn arg_of<'a>(alloc: Global, part: &Part) -> Arg<'a> {
-    match part.form {
+/// An option without a value.
+fn flag<'a>(alloc: Global, part: &Part) -> Arg<'a> {
+    word(alloc, part).long(part.name).action(ArgAction::SetTrue)
+}
+
+/// The option of the control socket, which is this path where it is not given; it has to be given where there is none.
+fn control<'a>(alloc: Global, part: &Part, fallback: Option<&'a str>) -> Arg<'a> {
+    match fallback {
+        Some(path) => option(alloc, part).default_value(path),
+        None => option(alloc, part).required(true),
+    }
+}
+
+fn arg_of<'a>(
+    alloc: Global,
+    part: &Part,
+    fallback: Option<&'a str>,
+) -> Result<Arg<'a>, AllocError> {
+    Ok(match part.form {
         Form::Word => word(alloc, part).required(true).action(ArgAction::Set),
         Form::Words => word(alloc, part).num_args(0..).action(ArgAction::Append),
-        Form::Flag => word(alloc, part).long(part.name).action(ArgAction::SetTrue),
+        Form::WordOrNone => word(alloc, part).action(ArgAction::Set),
+        Form::Flag => flag(alloc, part),
         Form::Needed => option(alloc, part).required(true),
+        Form::Control => control(alloc, part, fallback),
         Form::Value => option(alloc, part),
+        Form::ValueOr(default) => option(alloc, part).default_value(default),
+        Form::ValueBeside(beside, other) => option(alloc, part)
+            .requires_arg(beside)?
+            .conflicts_with(other)?,
+        Form::FlagBeside(beside, other) => flag(alloc, part)
+            .requires_arg(beside)?
+            .conflicts_with(other)?,
         Form::Number => number(alloc, part),
         Form::NumberOr(default) => number(alloc, part).default_value(default),
         Form::OneOf(values, default) => option(alloc, part)
             .value_parser(values)
             .default_value(default),
-    }
+    })
 }
 
 /// A command with its options and words.
-fn command_of<'a>(alloc: Global, task: &Task) -> Result<Command<'a>, AllocError> {
+fn command_of<'a>(
+    alloc: Global,
+    task: &Task,
+    fallback: Option<&'a str>,
+) -> Result<Command<'a>, AllocError> {
     let mut command = Command::new(alloc, task.name)
         .about(task.about)
         .after_help(task.more);
     for part in task.parts {
-        command = command.arg(arg_of(alloc, part))?;
+        command = command.arg(arg_of(alloc, part, fallback)?)?;
     }
     Ok(command)
 }
 
-/// The command line that the program takes.
-pub(crate) fn command<'a>(alloc: Global) -> Result<Command<'a>, AllocError> {
+/// The command line that the program takes, with the path of the control socket that is meant where none is given.
+pub(crate) fn command<'a>(
+    alloc: Global,
+    fallback: Option<&'a str>,
+) -> Result<Command<'a>, AllocError> {
     let mut command = Command::new(alloc, "attrdir")
         .version("0.1.0")
         .about("A directory of the attributes of nodes")
         .after_help(help::EXAMPLE)
         .subcommand_required(true);
     for task in TASKS.iter() {
-        command = command.subcommand(command_of(alloc, task)?)?;
+        command = command.subcommand(command_of(alloc, task, fallback)?)?;
     }
     Ok(command)
 }

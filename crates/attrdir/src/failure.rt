@@ -58,6 +58,10 @@ pub(crate) enum Place<'a> {
     Control(&'a str),
     /// In the node behind a control socket, which answered so.
     Node(&'a str),
+    /// At a socket for peers at which nobody could be reached.
+    NoPeer(&'a str),
+    /// In a session with the node behind a socket for peers.
+    Session(&'a str),
     /// At the path of a socket that a node makes, where a file is.
     Taken(&'a str),
     /// At the path of a socket that a node makes, where another node listens.
@@ -77,11 +81,36 @@ pub(crate) enum Place<'a> {
 pub(crate) struct Failure<'a> {
     fault: Fault,
     place: Place<'a>,
+    /// At which line of standard input, counted from 1; 0 where it was at none.
+    line: u64,
 }
 
 impl<'a> Failure<'a> {
     pub(crate) fn at(place: Place<'a>, fault: Fault) -> Failure<'a> {
-        Failure { fault, place }
+        Failure {
+            fault,
+            place,
+            line: 0,
+        }
+    }
+
+    /// The same, met at a line of standard input.
+    pub(crate) fn in_line(self, line: u64) -> Failure<'a> {
+        Failure {
+            fault: self.fault,
+            place: self.place,
+            line,
+        }
+    }
+
+    /// Whether it may pass while nothing is changed but the node: it could not be reached, ended, fell silent, or refused.
+    pub(crate) fn may_pass(&self) -> bool {
+        match (&self.fault, self.place) {
+            (_, Place::Unreached(_) | Place::Node(_)) => true,
+            (Fault::ReadFailed | Fault::WriteFailed(_) | Fault::Truncated, Place::Control(_)) =>
+                true,
+            _ => false,
+        }
     }
 
     /// The failure that a node answered by its number, 1 to 31.
@@ -147,7 +176,9 @@ fn write_text<W: fmt::Write>(
 ) -> fmt::Result {
     match (fault, place) {
         (fault, Place::Node(_)) => write_told(fault, f),
-        (Fault::ReadFailed, Place::Unreached(_)) => f.write_str("no node could be reached"),
+        (Fault::ReadFailed, Place::Unreached(_) | Place::NoPeer(_)) => f.write_str(
+            "no node could be reached",
+        ),
         (Fault::ReadFailed, Place::Peer(_)) => f.write_str("a peer can never be reached"),
         (
             Fault::ReadFailed,
@@ -268,8 +299,8 @@ workers and 2 more up to 64"
     }
 }
 
-/// What to do about a fault, in one line.
-fn advice(fault: &Fault, place: Place<'_>) -> &'static str {
+/// What to do about a fault that is none of a session as a peer.
+fn about_fault(fault: &Fault, place: Place<'_>) -> &'static str {
     match fault {
         Fault::NoMemory =>
             "end other programs, or give the machine or the process more memory or threads, and try again",
@@ -306,6 +337,31 @@ in its place, since an older one would give versions a second time"
     }
 }
 
+/// What to do about a fault of a session as a peer, in which nothing is written at the node.
+fn about_session(fault: &Fault) -> &'static str {
+    match fault {
+        Fault::NoMemory => about_fault(fault, Place::Line),
+        Fault::WrongCluster => "give --cluster as the node has it",
+        Fault::SameName => "give another --name than that of the node",
+        Fault::ReadFailed | Fault::WriteFailed(_) | Fault::Truncated => {
+            "the node ended the session, or fell silent: see whether it runs, and try again"
+        }
+        _ => "give the --sock of a node of the same release, which is not its control socket",
+    }
+}
+
+/// What to do about a fault, in one line.
+fn advice(fault: &Fault, place: Place<'_>) -> &'static str {
+    match place {
+        Place::NoPeer(_) => {
+            "no node answers at this path, or you may not open it: see that a node runs with this --sock, that the path is right and has \
+1 to 107 bytes, and that you may write to the socket"
+        }
+        Place::Session(_) => about_session(fault),
+        _ => about_fault(fault, place),
+    }
+}
+
 impl fmt::Display for Place<'_> {
     fn fmt<W: fmt::Write>(&self, f: &mut fmt::Formatter<W>) -> fmt::Result {
         match self {
@@ -317,10 +373,12 @@ impl fmt::Display for Place<'_> {
             Place::Unreached(path) | Place::Control(path) | Place::Node(path) => {
                 write!(f, "control socket {path}: ")
             }
-            Place::Taken(path)
+            Place::NoPeer(path)
+            | Place::Session(path)
+            | Place::Taken(path)
             | Place::Listening(path)
             | Place::TooLong(path)
-            | Place::NoFolder(path) => { write!(f, "socket {path}: ") }
+            | Place::NoFolder(path) => write!(f, "socket {path}: "),
             Place::Peer(path) => write!(f, "peer {path}: "),
             Place::Sockets(sock, control) => write!(f, "sockets {sock} and {control}: "),
         }
@@ -332,6 +390,10 @@ impl fmt::Display for Failure<'_> {
     fn fmt<W: fmt::Write>(&self, f: &mut fmt::Formatter<W>) -> fmt::Result {
         writeln!(f, "fault {}", self.fault.number())?;
         write_text(&self.fault, self.place, f)?;
-        write!(f, "\n{}{}", self.place, advice(&self.fault, self.place))
+        f.write_str("\n")?;
+        if self.line > 0 {
+            write!(f, "line {}: ", self.line)?;
+        }
+        write!(f, "{}{}", self.place, advice(&self.fault, self.place))
     }
 }

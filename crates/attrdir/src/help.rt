@@ -1,7 +1,7 @@
 //! What `--help` says behind the options.
 
 pub(crate) const EXAMPLE: &str =
-    "A node runs by `serve`; `set`, `del`, `get` and `watch` talk to one that runs. `sim` plays many nodes in memory, and `log` reads the
+    "A node runs by `serve`; `set`, `del`, `get`, `watch` and `owners` talk to one that runs. `sim` plays many nodes in memory, and `log` reads the
 log of a node that does not run. `attrdir COMMAND --help` says more of each.
 
 Example of a node, which is then asked from a second terminal:
@@ -138,6 +138,10 @@ pub(crate) const SET: &str =
     "KIND and VALUE are addr TEXT, weight NUMBER or flag true|false. Where KEY or VALUE begins with -, put -- before KEY. The node answers
 when its log has the write, and this prints `version V`. Other nodes have it once they asked, as is seen by `get` there.
 
+With - alone it reads lines `KEY KIND VALUE` and `KEY removed` from standard input, with one space between two words, and makes the write of
+each as it comes, one after the other: other writes may come between them. It prints the version of each. An empty line is passed over. The
+first fault ends it, and says the number of its line; the writes of the lines before stand.
+
 A fault ends the command, with `fault N`, its text and what to do about it on standard error: 1 no memory, 3 the key, 4 the value, 6
 the node has 4,096 keys, removed ones counted, 8 it has no version left, 10 to 14 what answers is no control socket, 15 its log met
 a fault before, 16 no node answers, or it is silent for a minute, 17 the request or the answer cannot be written, 18 its log cannot be
@@ -148,9 +152,8 @@ The exit status is 0, 2 after a command line that is wrong, and 3 after a fault.
 Examples:
   $ attrdir set --control a.ctl web/addr addr 10.0.0.1:80
   version 1
-  $ attrdir set --control a.ctl web/weight weight 5
+  $ printf 'web/weight weight 5\\nweb/up flag true\\n' | attrdir set --control a.ctl -
   version 2
-  $ attrdir set --control a.ctl web/up flag true
   version 3";
 
 pub(crate) const DEL: &str =
@@ -172,11 +175,15 @@ none. With --format json it is a JSON object of key, kind, owner, value and vers
 weight a number, and that of a flag true or false. What others wrote stands as far as the node has heard of it. The rows come page by
 page: each page is what the node has at one time, and a later page is never older.
 
+With --owner and --key it prints the row of that key alone, and with --value too only its value; where there is no such row it prints
+nothing, and the exit status is 1.
+
 A fault ends the command, with `fault N`, its text and what to do about it on standard error: 1 no memory, 2 the owner, 3 the
-prefix, 10 to 14 what answers is no control socket, 15 the node cannot read, 16 no node answers, or it is silent for a minute, 17 the
+prefix or the key, 10 to 14 what answers is no control socket, 15 the node cannot read, 16 no node answers, or it is silent for a minute, 17 the
 request or the rows cannot be written, 28 the node ended before it answered, 29 a page takes more than 65,536 reads.
 
-The exit status is 0, also where there is no row, 2 after a command line that is wrong, and 3 after a fault.
+The exit status is 0, also where there is no row, 1 where --key is given and there is none, 2 after a command line that is wrong, and 3
+after a fault.
 
 Examples:
   $ attrdir get --control a.ctl
@@ -185,8 +192,26 @@ Examples:
   b web/addr 1 addr 10.0.0.2:80
   $ attrdir get --control a.ctl --owner a --prefix web/w
   a web/weight 2 weight 5
+  $ attrdir get --control a.ctl --owner b --key web/addr --value
+  10.0.0.2:80
   $ attrdir get --control a.ctl --owner b --format json
   {\"key\":\"web/addr\",\"kind\":\"addr\",\"owner\":\"b\",\"value\":\"10.0.0.2:80\",\"version\":1}";
+
+pub(crate) const OWNERS: &str =
+    "It asks the node as another node would, under a name of its own, and writes nothing there. Each line has an owner and the last version up
+to which the node holds its writes, in ascending owner. So a script can tell whether a node has heard of a write: `set` prints its version.
+
+A fault ends the command, with `fault N`, its text and what to do about it on standard error: 1 no memory, 2 the cluster or the name, 10 to
+14 what answers is no node's socket for other nodes, 16 no node answers, or it is silent for a minute, 17 the session or the lines cannot be
+written, 23 the node is of another cluster, 24 the node has this name, 28 it ended before it told all, 29 the session takes more than 65,536
+reads.
+
+The exit status is 0, 2 after a command line that is wrong, and 3 after a fault.
+
+Example:
+  $ attrdir owners --sock a.sock --cluster c
+  a 4
+  b 1";
 
 pub(crate) const WATCH: &str =
     "It asks as `attrdir get` does, page after page until it has all rows, waits, and asks again. Each time it prints what changed since it
@@ -194,10 +219,17 @@ asked before, at first each row, in ascending owner and then key:
   set OWNER KEY VERSION KIND VALUE   the row is new, or has another version or value
   gone OWNER KEY                     there is no row any more
 Who enters each line in turn has the rows of the last asking. Of what changed between two askings only the last is seen. The lines of one
-asking are written at once, and where nothing changed nothing is printed.
+asking are written at once, and where nothing changed nothing is printed. With --mark a line `asked` follows each asking, also where nothing
+changed.
 
 A fault ends the command, the first time that it asks and later, with `fault N`, its text and what to do about it on standard error:
-those of `attrdir get`. Of an asking that has a fault nothing is printed; what was printed before stands.
+those of `attrdir get`. Of an asking that has a fault nothing is printed; what was printed before stands. Standard output that is closed ends
+it before it asks again.
+
+With --retry it goes on where the node can't be reached, ends or refuses, and says so on standard error, once each time that this changes;
+what was printed stands. A node that was started again may know less for a while. So `gone` is only printed once the node, since it was
+started, has shown that row, or another of that owner among those asked for with the same version or a later one; and a row is not printed
+with an earlier version than before. --count counts the askings that were answered.
 
 The exit status is 0 after the last of --count, 2 after a command line that is wrong, and 3 after a fault.
 

@@ -1,11 +1,15 @@
 //! What changes at a node that runs, which is asked again and again.
 use crate::asking::{page_of, place_behind};
 use crate::failure::{Failure, Place};
+use crate::keeping::{copy_of, enter_all, kept_rows};
+use crate::pausing::Pauses;
 use sb_codec::{Ask, Row, Rows};
+use sb_digest::Pair;
 use sb_listing::{changes, print_changes};
 use sb_types::{Fault, Key, Name};
-use std::thread;
-use std::time::Duration;
+use std::alloc::Global;
+use std::fs::metadata;
+use std::os::unix::fs::MetadataExt;
 
 /// What is watched, and how often.
 #[derive(Clone, Copy)]
@@ -15,13 +19,14 @@ pub(crate) struct Watched {
     pub(crate) every: u64,
     /// How many times it asks; 0 for without end.
     pub(crate) count: u64,
+    /// Whether it says that it has asked.
+    pub(crate) marks: bool,
 }
 
 /// Adds the rows of a page. `NoMemory`.
 fn add_rows(rt: &HostRuntime, rows: &mut Vec<Row>, page: &Rows) -> Result<(), Fault> {
     for row in page.rows() {
-        let value = row.value().copy(rt.alloc())?;
-        rows.push(Row::new(*row.owner(), *row.key(), row.version(), value)?)?;
+        rows.push(copy_of(rt.alloc(), row)?)?;
     }
     Ok(())
 }
@@ -51,15 +56,34 @@ fn listing<'a>(rt: &HostRuntime, control: &'a str, asked: &Ask) -> Result<Vec<Ro
     Err(Failure::at(Place::Control(control), Fault::TurnsSpent))
 }
 
-/// Prints what changed from one listing to the next, in one piece. `NoMemory`; `WriteFailed`.
-fn print_difference(rt: &HostRuntime, earlier: &[Row], later: &[Row]) -> Result<(), Fault> {
+/// Prints what changed from one listing to the next, in one piece, and behind it that it has asked, where it says so. `NoMemory`;
+/// `WriteFailed`.
+fn print_difference(
+    rt: &HostRuntime,
+    earlier: &[Row],
+    later: &[Row],
+    marks: bool,
+) -> Result<(), Fault> {
     let told = changes(rt.alloc(), earlier, later)?;
     let (printed, _) = print_changes(rt.alloc(), &mut rt.stdout(), &told);
-    printed
+    printed?;
+    if marks && println!(rt; "asked").is_err() {
+        return Err(Fault::WriteFailed(0));
+    }
+    Ok(())
+}
+
+/// Waits until it is time to ask again. `WriteFailed` where standard output is closed.
+fn wait(rt: &HostRuntime, pauses: &mut Pauses) -> Result<(), Fault> {
+    if pauses.wait(rt) {
+        return Err(Fault::WriteFailed(0));
+    }
+    Ok(())
 }
 
 /// Asks a node for rows, again and again, and prints what changed since it asked before; at first, each row. The faults of asking,
-/// the first time and later: nothing is printed of pages that are not all there.
+/// the first time and later: nothing is printed of pages that are not all there. `WriteFailed`, also where standard output was closed
+/// since it asked.
 pub(crate) fn watch<'a>(
     rt: &HostRuntime,
     control: &'a str,
@@ -69,14 +93,138 @@ pub(crate) fn watch<'a>(
         0 => u64::MAX,
         count => count,
     };
+    let mut pauses = Pauses::new(rt, watched.every)?;
     let mut last = Vec::new(rt.alloc());
     for turn in 0..turns {
         if turn > 0 {
-            thread::sleep(rt, Duration::from_millis(watched.every));
+            wait(rt, &mut pauses)?;
         }
         let rows = listing(rt, control, &watched.asked)?;
-        print_difference(rt, &last, &rows)?;
+        print_difference(rt, &last, &rows, watched.marks)?;
         last = rows;
     }
     Ok(())
+}
+
+/// Which socket stands at a path: another one once a node was started again.
+#[derive(Clone, Copy, PartialEq, Eq, Drop)]
+struct Mark {
+    device: u64,
+    file: u64,
+    seconds: i64,
+    nanoseconds: i64,
+}
+
+/// The socket at a path; none where there is none.
+fn mark_of(rt: &HostRuntime, path: &str) -> Option<Mark> {
+    let found = metadata(rt, path).ok()?;
+    Some(Mark {
+        device: found.dev(),
+        file: found.ino(),
+        seconds: found.mtime(),
+        nanoseconds: found.mtime_nsec(),
+    })
+}
+
+/// What was printed of a node's rows, and what the node that runs now has shown.
+#[derive(Drop)]
+struct Kept {
+    rows: Vec<Row>,
+    /// The socket of the last asking.
+    mark: Option<Mark>,
+    /// Of each owner the last version that was shown since the node was started.
+    shown: Vec<Pair>,
+    /// Whether it was said that the node does not answer.
+    is_away: bool,
+    /// How many askings were answered.
+    count: u64,
+}
+
+impl Kept {
+    fn new(alloc: Global) -> Kept {
+        Kept {
+            rows: Vec::new(alloc),
+            mark: None,
+            shown: Vec::new(alloc),
+            is_away: false,
+            count: 0,
+        }
+    }
+
+    /// Takes a listing that came from this socket, and prints what changed. `NoMemory`; `WriteFailed`.
+    fn take(
+        &mut self,
+        rt: &HostRuntime,
+        mark: Option<Mark>,
+        found: &[Row],
+        marks: bool,
+    ) -> Result<(), Fault> {
+        if mark.is_none() || mark != self.mark {
+            self.shown.clear();
+        }
+        self.mark = mark;
+        enter_all(&mut self.shown, found)?;
+        let rows = kept_rows(rt.alloc(), &self.rows, found, &self.shown)?;
+        print_difference(rt, &self.rows, &rows, marks)?;
+        self.rows = rows;
+        self.count = self.count.saturating_add(1);
+        Ok(())
+    }
+
+    /// Says whether the node answers, where that is otherwise than was said last; at first it is taken to answer.
+    fn tell(&mut self, rt: &HostRuntime, control: &str, is_away: bool) {
+        if is_away != self.is_away {
+            self.is_away = is_away;
+            let how = if is_away {
+                "does not answer"
+            } else {
+                "answers"
+            };
+            let _ = eprintln!(rt; "attrdir: control socket {control} {how}");
+        }
+    }
+
+    /// Asks once. Of rows that came while the node was started again nothing is taken.
+    fn ask<'a>(
+        &mut self,
+        rt: &HostRuntime,
+        control: &'a str,
+        watched: &Watched,
+    ) -> Result<(), Failure<'a>> {
+        let mark = mark_of(rt, control);
+        match listing(rt, control, &watched.asked) {
+            Ok(found) => {
+                if mark == mark_of(rt, control) {
+                    self.tell(rt, control, false);
+                    self.take(rt, mark, &found, watched.marks)?;
+                }
+                Ok(())
+            }
+            Err(failure) if failure.may_pass() => {
+                self.tell(rt, control, true);
+                Ok(())
+            }
+            Err(failure) => Err(failure),
+        }
+    }
+}
+
+/// Does what `watch` does, and goes on where the node does not answer: what was printed stands. That a row is gone is printed only once
+/// the node, since it was started, has shown a row of that owner of the same version or a later one; and a row of an earlier version
+/// than was printed is not printed. It ends after as many askings that were answered as it is to make.
+pub(crate) fn watch_on<'a>(
+    rt: &HostRuntime,
+    control: &'a str,
+    watched: &Watched,
+) -> Result<(), Failure<'a>> {
+    let mut pauses = Pauses::new(rt, watched.every)?;
+    let mut kept = Kept::new(rt.alloc());
+    for _ in 0..u64::MAX {
+        kept.ask(rt, control, watched)?;
+        if watched.count > 0 && kept.count >= watched.count {
+            return Ok(());
+        }
+        wait(rt, &mut pauses)?;
+    }
+    Err(Failure::at(Place::Control(control), Fault::TurnsSpent))
 }

@@ -1,0 +1,78 @@
+//! The row of one key, and its value alone.
+ghost use Rattle.std.specs.Prelude.{◌≡◌};
+ghost use Rattle.std.specs.Option.{option_copied};
+ghost use Rattle.attrdir.specs.Rows as spec;
+
+use crate::asking::{Form, page_of, print_page};
+use crate::failure::Failure;
+use sb_codec::{Ask, Row, Rows};
+use sb_types::{Fault, Key, Name, Prefix, Value, ValueRef};
+use std::alloc::Global;
+
+/// The row that is asked for, and how it is printed: its value alone where no form is given.
+#[derive(Clone, Copy)]
+pub(crate) struct Wanted {
+    pub(crate) owner: Name,
+    pub(crate) key: Key,
+    pub(crate) form: Option<Form>,
+}
+
+/// The first row, where it is that of this owner and key. On a page of an owner's rows whose keys begin with this key no other row
+/// can be it.
+fn first_at<'a>(rows: &'a [Row], owner: &Name, key: &Key) -> Option<&'a Row>
+    ensures { option_copied result ≡ spec.first_at rows.now owner.now key.now }
+{
+    match rows.split_first() {
+        Some((row, _)) => {
+            if row.owner() == owner && row.key() == key {
+                Some(row)
+            } else {
+                None
+            }
+        }
+        None => None,
+    }
+}
+
+/// A page of this row alone. `NoMemory`.
+fn page_with(alloc: Global, row: &Row) -> Result<Rows, Fault> {
+    let value = row.value().copy(alloc)?;
+    let copy = Row::new(*row.owner(), *row.key(), row.version(), value)?;
+    Rows::new(false, vec![in alloc; copy]?)
+}
+
+/// Prints a value alone, in a line. `WriteFailed`.
+fn print_value(rt: &HostRuntime, value: &Value) -> Result<(), Fault> {
+    let printed = match value.view() {
+        ValueRef::Addr(text) => println!(rt; "{}", str::from_utf8(text).unwrap_or("")),
+        ValueRef::Weight(weight) => println!(rt; "{weight}"),
+        ValueRef::Flag(flag) => println!(rt; "{flag}"),
+    };
+    match printed {
+        Ok(()) => Ok(()),
+        Err(_) => Err(Fault::WriteFailed(0)),
+    }
+}
+
+/// Prints the row of one owner and key, or its value alone, and says whether there is one. The faults of asking; then `NoMemory` and
+/// `WriteFailed`.
+pub(crate) fn print_one<'a>(
+    rt: &HostRuntime,
+    control: &'a str,
+    wanted: &Wanted,
+) -> Result<bool, Failure<'a>> {
+    let ask = Ask {
+        owner: Some(wanted.owner),
+        prefix: Prefix::read(wanted.key.bytes())?,
+        after: None,
+    };
+    let page = page_of(rt, control, ask)?;
+    let Some(row) = first_at(page.rows(), &wanted.owner, &wanted.key) else {
+        return Ok(false);
+    };
+    match wanted.form {
+        Some(form) => print_page(rt, &page_with(rt.alloc(), row)?, form)?,
+        None => print_value(rt, row.value())?,
+    }
+    Ok(true)
+}

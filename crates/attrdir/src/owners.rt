@@ -1,0 +1,220 @@
+//! How far a node holds each owner, which it is asked as by a peer.
+ghost use Rattle.std.specs.Prelude.{◌≡◌, ◌<◌, IfErr};
+ghost use Rattle.sb_session.specs.Handlers.{IsRefusal};
+
+use crate::asking::limit;
+use crate::failure::{Failure, Place};
+use sb_codec::{Bye, Message};
+use sb_digest::{Digest, Pair};
+use sb_frames::{Frames, Steps, receive_within, send};
+use sb_holdings::Report;
+use sb_session::{Handler, Replies, Session};
+use sb_types::{Delta, Fault, KIND_DIGEST, Name, OWNERS_MOST, REASON_ROUNDS_DONE};
+use std::alloc::Global;
+use std::io::{Read, Write};
+use std::marker::Brand;
+use std::os::unix::net::UnixStream;
+use std::sync::ledger::{Blank, Ledger};
+
+/// How many reads a session may take.
+const MAX_READS: u64 = 65_536;
+
+/// The least name of all.
+const LEAST_NAME: &[u8] = b"-";
+
+/// What a node told in the digests of a session. It has nothing to tell itself, asks for no writes, and takes none.
+#[derive(Drop)]
+struct Heard {
+    alloc: Global,
+    /// The end of the range of its digests, before which no name is.
+    least: Name,
+    pairs: Vec<Pair>,
+    /// Where the next digest is to begin; with the least name where there is none.
+    next: Option<Name>,
+    /// Whether all owners were told.
+    is_whole: bool,
+    /// Whether a digest began elsewhere than it was to.
+    is_broken: bool,
+}
+
+impl Heard {
+    /// Nothing was told yet.
+    fn new(alloc: Global, least: Name) -> Heard {
+        Heard {
+            alloc,
+            least,
+            pairs: Vec::new(alloc),
+            next: None,
+            is_whole: false,
+            is_broken: false,
+        }
+    }
+
+    /// Takes up a digest. `NoMemory`.
+    fn add(&mut self, told: &Digest) -> Result<(), Fault> {
+        self.is_broken = self.is_broken || self.is_whole || told.from() != self.next;
+        self.pairs.extend_from_slice(told.pairs())?;
+        self.next = told.next_from();
+        self.is_whole = self.next.is_none();
+        Ok(())
+    }
+}
+
+/// What a handler may answer.
+fn granted<T: Drop>(answer: Result<T, Fault>) -> Result<T, Fault>
+    ensures { IfErr result IsRefusal }
+{
+    match answer {
+        Ok(answer) => Ok(answer),
+        Err(_) => Err(Fault::NoMemory),
+    }
+}
+
+impl Handler for Heard {
+    ghost step = { λ _ _ _. Unit {0} };
+
+    ghost stays = { λ _ _. Unit {0} };
+
+    ghost grows = { λ _ _. Unit {0} };
+
+    /// A digest of a range that has no name, so that no writes are sent for it.
+    fn digest(&mut self, _from: Option<Name>, want: bool) -> Result<Digest, Fault> {
+        granted(Digest::new(want, None, Some(self.least), Vec::new(self.alloc)))
+    }
+
+    fn deltas(&mut self, told: &Digest) -> Result<Delta, Fault> {
+        granted(self.add(told))?;
+        granted(Delta::new(Vec::new(self.alloc)))
+    }
+
+    fn apply(&mut self, _delta: &Delta) -> Result<Report, Fault> {
+        Ok(Report::new(Vec::new(self.alloc)))
+    }
+
+    ghost enters_nothing = { λ old new act e s. tt };
+
+    ghost stays_still = { λ state. tt };
+
+    ghost stays_on = { λ old mid new a b. tt };
+
+    ghost step_grows = { λ old new act s. tt };
+
+    ghost grows_still = { λ state. tt };
+
+    ghost grows_on = { λ old mid new a b. tt };
+}
+
+/// The next message of a session, taken. The faults of `receive_within` and of `Session::take`; `Truncated` where none comes, and at a Bye.
+fn hear<R: Read, L: Ledger>(
+    reader: &mut R,
+    session: &mut Session,
+    heard: &mut Heard,
+    frames: &mut Frames,
+    left: &mut u64,
+    steps: &mut Steps<L>,
+) -> Result<Replies, Fault> {
+    let Some(message) = receive_within(reader, frames, left, steps)? else {
+        return Err(Fault::Truncated);
+    };
+    match session.take(message, heard)? {
+        Replies::Ended(_) => Err(Fault::Truncated),
+        replies => Ok(replies),
+    }
+}
+
+/// Hears a session until a digest was told, and gives what answers it. The faults of `hear`; `Malformed` of a digest that asks, or that
+/// begins elsewhere than it was to.
+fn hear_digest<R: Read, L: Ledger>(
+    reader: &mut R,
+    session: &mut Session,
+    heard: &mut Heard,
+    frames: &mut Frames,
+    left: &mut u64,
+    steps: &mut Steps<L>,
+) -> Result<Delta, Fault> {
+    for _ in 0..u64::MAX {
+        match hear(reader, session, heard, frames, left, steps)? {
+            Replies::Answered(delta) if !heard.is_broken => return Ok(delta),
+            Replies::Answered(_) | Replies::Exchanged(..) => {
+                return Err(Fault::Malformed(KIND_DIGEST));
+            }
+            _ => {}
+        }
+    }
+    Err(Fault::TurnsSpent)
+}
+
+/// A whole session: Hello, as many exchanges as it takes until all owners were told, and Bye. Nothing is asked before the node's Hello
+/// came, since a node ends a session that it refuses. The faults of `hear_digest` and of `send`; `TurnsSpent` where more digests are told
+/// than there may be owners, or where more reads are needed than it may take.
+fn hear_all<R: Read, W: Write, L: Ledger>(
+    reader: &mut R,
+    writer: &mut W,
+    session: Session,
+    heard: &mut Heard,
+    steps: &mut Steps<L>,
+) -> Result<(), Fault> {
+    let alloc = heard.alloc;
+    let (mut session, mut left, mut frames) = (session, MAX_READS, Frames::new(alloc));
+    send(alloc, writer, &session.hello())?;
+    let _ = hear(reader, &mut session, heard, &mut frames, &mut left, steps)?;
+    for _ in 0..OWNERS_MOST {
+        let asked = session.ask(heard)?;
+        send(alloc, writer, &asked)?;
+        let delta = hear_digest(reader, &mut session, heard, &mut frames, &mut left, steps)?;
+        send(alloc, writer, &Message::Delta(delta))?;
+        if heard.is_whole {
+            return send(alloc, writer, &Message::Bye(Bye::new(REASON_ROUNDS_DONE)?));
+        }
+    }
+    Err(Fault::TurnsSpent)
+}
+
+/// A session over a connection, in which nothing was read before.
+fn hear_from<L: Ledger>(
+    stream: &UnixStream,
+    session: Session,
+    heard: &mut Heard,
+    blank: Blank,
+) -> Result<(), Fault>
+    requires name { blank.name ≡ L.name }
+    requires parts { blank.parts ≡ L.parts }
+    requires some { 0 < blank.parts }
+{
+    let mut steps = Steps::<L>::new(blank);
+    let (mut reader, mut writer) = (stream, stream);
+    hear_all(&mut reader, &mut writer, session, heard, &mut steps)
+}
+
+/// Prints how far each owner is held, a line for each. `NoMemory`; `WriteFailed`.
+fn print_pairs(rt: &HostRuntime, pairs: &[Pair]) -> Result<(), Fault> {
+    for pair in pairs {
+        let name = str::from_utf8(pair.owner.bytes()).unwrap_or("");
+        if println!(rt; "{name} {}", pair.upto).is_err() {
+            return Err(Fault::WriteFailed(0));
+        }
+    }
+    Ok(())
+}
+
+/// Asks the node behind a socket for peers how far it holds each owner, as a peer of this name, and prints that, in ascending owner. It
+/// writes nothing at the node. `ReadFailed` where it can't be reached, or is silent for a minute; the faults of a session; `WriteFailed`.
+pub(crate) fn print_owners<'a>(
+    rt: &HostRuntime,
+    sock: &'a str,
+    cluster: Name,
+    name: Name,
+) -> Result<(), Failure<'a>> {
+    let Ok(stream) = UnixStream::connect(rt, sock) else {
+        return Err(Failure::at(Place::NoPeer(sock), Fault::ReadFailed));
+    };
+    if limit(&stream).is_err() {
+        return Err(Failure::at(Place::Session(sock), Fault::ReadFailed));
+    }
+    let mut heard = Heard::new(rt.alloc(), Name::read(LEAST_NAME)?);
+    let session = Session::new(cluster, name);
+    match hear_from::<Brand>(&stream, session, &mut heard, Blank::new(1)) {
+        Ok(()) => Ok(print_pairs(rt, &heard.pairs)?),
+        Err(fault) => Err(Failure::at(Place::Session(sock), fault)),
+    }
+}

@@ -1,0 +1,305 @@
+"""A part of tools/check-node: what commands do for scripts. It asks nodes that run for one row, has them write lines of standard input, sets the
+path of the control socket in the environment, has a watch outlast its node, and asks how far a node holds each owner."""
+import os
+import signal
+import socket
+import subprocess
+import threading
+import time
+
+from check_asking import MadeUp, rows
+from check_watch import Watching
+from nodes import BYE, SECONDS, Difference, connect, delta, frame, hello, number, read_frame, run, text, want, weight
+
+
+def ended(program, words, given="", **more):
+    """The status of a command with this standard input, a text or a descriptor, what it printed and what it said."""
+    source = {"input": given} if isinstance(given, str) else {"stdin": given}
+    ran = subprocess.run([program, *words], capture_output=True, text=True, timeout=SECONDS, **source, **more)
+    return ran.returncode, ran.stdout, ran.stderr
+
+
+def wrong(what, found, status, first, *about):
+    """A command ended with this status and said this first, and the rest of what it said names these."""
+    code, printed, said = found
+    lines = said.splitlines()
+    want(f"{what} ({said!r})", (code, printed, lines[:1]), (status, "", [first] if first else lines[:1]))
+    want(f"what {what} said of {about} ({said!r})", [it for it in about if it not in said], [])
+
+
+def one_row(check):
+    """get --key prints the row of that key alone, with --value its value alone, and ends with status 1 where there is none."""
+    node = check.node("a").start()
+    for at, (key, kind, word) in enumerate((("web/addr", "addr", "10.0.0.1:80"), ("web/addr2", "addr", "x"), ("web/w", "weight", "7"), ("up", "flag", "true")), 1):
+        want("set", node.command("set", key, kind, word), (0, f"version {at}\n", ""))
+    for words, wanted in (
+        (["--owner", "a", "--key", "web/addr"], (0, "a web/addr 1 addr 10.0.0.1:80\n", "")),
+        (["--owner", "a", "--key", "web/addr", "--value"], (0, "10.0.0.1:80\n", "")),
+        (["--value", "--key", "web/w", "--owner", "a"], (0, "7\n", "")),
+        (["--owner", "a", "--key", "up", "--value"], (0, "true\n", "")),
+        (["--owner", "a", "--key", "web/w", "--format", "text"], (0, "a web/w 3 weight 7\n", "")),
+        (["--owner", "a", "--key", "web/w", "--format", "json"], (0, '{"key":"web/w","kind":"weight","owner":"a","value":7,"version":3}\n', "")),
+        (["--owner", "a", "--key", "web/add"], (1, "", "")),
+        (["--owner", "a", "--key", "web/add", "--value"], (1, "", "")),
+        (["--owner", "b", "--key", "web/addr"], (1, "", "")),
+        (["--owner", "a", "--key", "zz", "--format", "json"], (1, "", "")),
+    ):
+        want(f"get {words}", node.command("get", *words), wanted)
+    want("del", node.command("del", "web/addr"), (0, "version 5\n", ""))
+    want("a key that was removed", node.command("get", "--owner", "a", "--key", "web/addr"), (1, "", ""))
+    for words in (["--key", "up"], ["--value"], ["--owner", "a", "--value"], ["--owner", "a", "--key", "up", "--prefix", "u"],
+                  ["--owner", "a", "--key", "up", "--value", "--format", "json"]):
+        want(f"the status of get {words}", node.command("get", *words)[:2], (2, ""))
+    wrong("get of no key", node.command("get", "--owner", "a", "--key", "K"), 3, "fault 3", "key 'K': ")
+    wrong("get of no name", node.command("get", "--owner", "A", "--key", "K"), 3, "fault 2", "--owner 'A': ")
+    node.kill()
+    wrong("get of a row at nobody", node.command("get", "--owner", "a", "--key", "up"), 3, "fault 16")
+
+
+def lines_of_input(check):
+    """set - writes what lines of standard input say, each as it comes, and stops at the first that is none."""
+    node = check.node("a").start()
+    words = ["set", "--control", str(node.control), "-"]
+    printed = "".join(f"version {at}\n" for at in range(1, 6))
+    want("lines", ended(check.program, words, "k/a weight 5\nk/b addr 10.0.0.1:80\n\n-x flag true\nk/a removed\nk/c weight 9"), (0, printed, ""))
+    wanted = ["a -x 3 flag true", "a k/b 2 addr 10.0.0.1:80", "a k/c 5 weight 9"]
+    want("the rows", node.get(), wanted)
+    want("no lines", ended(check.program, words, ""), (0, "", ""))
+    want("empty lines", ended(check.program, words, "\n\n"), (0, "", ""))
+    version = 5
+    for line, fault in (("K weight 5", 3), ("k", 4), ("k weight", 4), ("k weight 05", 4), ("k  weight 5", 4), ("k weight 5 ", 4), ("k removed ", 4),
+                        (" k weight 5", 3), ("k wait 5", 4), ("k addr a b", 4), ("\xe9 weight 5", 3), ("none removed", 9)):
+        version += 1
+        status, printed, said = ended(check.program, words, f"k/a weight 1\n\n{line}\nk/a weight 2\n")
+        lines = said.splitlines()
+        want(f"a line {line!r}", (status, printed, lines[0], len(lines), lines[2][:8]), (3, f"version {version}\n", f"fault {fault}", 3, "line 3: "))
+    want("the rows", node.get("--prefix", "k/a"), [f"a k/a {version} weight 1"])
+    for more in (["k"], ["k", "weight"], ["-", "weight"]):
+        want(f"the status of set {more}", node.command("set", *more)[:2], (2, ""))
+    want("a key of one sign", node.command("set", "--", "-", "weight", "5"), (0, f"version {version + 1}\n", ""))
+    count = 1000 if check.is_long else 100
+    given = "".join(f"n/{at:04} weight {at}\n" for at in range(count))
+    want("many lines", ended(check.program, words, given), (0, "".join(f"version {version + 2 + at}\n" for at in range(count)), ""))
+    want("how many rows", len(node.get("--prefix", "n/")), count)
+    lines_as_they_come(node, words)
+    node.kill()
+    wrong("lines at nobody", ended(check.program, words, "k weight 5\n"), 3, "fault 16", "line 1: control socket ")
+    folder = os.open(check.room, os.O_RDONLY)
+    wrong("lines that can't be read", ended(check.program, words, folder), 3, "fault 16", "line 1: ")
+    os.close(folder)
+
+
+def lines_as_they_come(node, words):
+    """A line is written, and its version printed, before the next one comes."""
+    how = {"stdin": subprocess.PIPE, "stdout": subprocess.PIPE, "text": True, "bufsize": 1}
+    with subprocess.Popen([node.program, *words], **how) as ran:
+        for at in range(3):
+            ran.stdin.write(f"slow weight {at}\n")
+            version = ran.stdout.readline().split()[1]
+            want("a line that came alone", node.get("--prefix", "slow"), [f"a slow {version} weight {at}"])
+        ran.stdin.close()
+        want("the end of lines", ran.wait(SECONDS), 0)
+
+
+def environment(check):
+    """ATTRDIR_CONTROL stands for --control where that is not given."""
+    node = check.node("a").start()
+    env = {**os.environ, "ATTRDIR_CONTROL": str(node.control)}
+    ask = lambda *words, **more: ended(check.program, words, env={**env, **more})
+    want("set", ask("set", "k", "weight", "5"), (0, "version 1\n", ""))
+    want("get", ask("get"), (0, "a k 1 weight 5\n", ""))
+    want("watch", ask("watch", "--count", "1"), (0, "set a k 1 weight 5\n", ""))
+    want("del", ask("del", "k"), (0, "version 2\n", ""))
+    nowhere = str(node.control) + ".none"
+    wrong("an option that wins", ask("get", "--control", nowhere), 3, "fault 16", nowhere)
+    want("an option that wins", ask("get", "--control", str(node.control), ATTRDIR_CONTROL=nowhere), (0, "", ""))
+    wrong("an environment that leads nowhere", ask("get", ATTRDIR_CONTROL=nowhere), 3, "fault 16", nowhere)
+    wrong("an empty one", ask("get", ATTRDIR_CONTROL=""), 2, None, "--control")
+    words = [it for it in node.words()[1:] if it not in ("--control", str(node.control))]
+    wrong("a node, which makes its socket", ended(check.program, words, env=env), 2, None, "--control")
+
+
+def marks(check):
+    """A watch asks every 200 ms where nothing else is said, prints a mark behind each asking, and ends soon where its output is closed."""
+    node = check.node("a").start()
+    node.put("k", 1)
+    want("marks", node.command("watch", "--mark", "--count", "3", "--every", "0"), (0, "set a k 1 weight 1\nasked\nasked\nasked\n", ""))
+    want("marks of a watch that goes on", node.command("watch", "--retry", "--mark", "--count", "2", "--every", "0"), (0, "set a k 1 weight 1\nasked\nasked\n", ""))
+    began = time.monotonic()
+    want("six askings", node.command("watch", "--mark", "--count", "6"), (0, "set a k 1 weight 1\n" + "asked\n" * 6, ""))
+    if not 1 <= time.monotonic() - began <= 5:
+        raise Difference(f"six askings took {time.monotonic() - began:.2f} s")
+    want("a file as output", node.command("watch", "--count", "2", "--every", "50")[0], 0)
+    for words in ([], ["--retry"], ["--mark"]):
+        closed_output(node, words)
+
+
+def closed_output(node, words):
+    """A watch that prints nothing more ends where nobody reads it any more, and does not wait for the next change."""
+    reads, writes = os.pipe()
+    how = {"stdin": subprocess.DEVNULL, "stdout": writes, "stderr": subprocess.PIPE, "text": True}
+    told = [node.program, "watch", "--control", str(node.control), "--every", "60000", *words]
+    with subprocess.Popen(told, preexec_fn=lambda: signal.signal(signal.SIGPIPE, signal.SIG_DFL), **how) as ran:
+        os.close(writes)
+        want("its first line", os.read(reads, 4096).splitlines()[0], b"set a k 1 weight 1")
+        time.sleep(0.2)
+        want("that it waits", ran.poll(), None)
+        os.close(reads)
+        try:
+            ran.wait(5)
+        except subprocess.TimeoutExpired:
+            ran.kill()
+            raise Difference(f"watch {words} goes on where its output is closed") from None
+        want("how it ended", ran.returncode != 0, True)
+
+
+def tell(node, owner, after, *entries):
+    """Brings a node these writes of an owner, as its peer."""
+    with connect(node.sock) as stream:
+        stream.sendall(hello("teller") + delta(owner, after, [(key, version, weight(value)) for key, version, value in entries]) + BYE)
+        while read_frame(stream):
+            pass
+
+
+def outlasting(check):
+    """A watch that goes on keeps what it printed over a restart of its node, and takes it back only where the node knows better."""
+    node = check.node("a").start()
+    node.put("own", 1)
+    tell(node, "p", 0, ("x", 1, 10), ("y", 2, 20), ("z", 3, 30))
+    watch = Watching(node, "--retry", "--every", "20")
+    try:
+        first = ["set a own 1 weight 1", "set p x 1 weight 10", "set p y 2 weight 20", "set p z 3 weight 30"]
+        watch.awaits(first)
+        node.kill()
+        node.start()
+        node.put("own", 2)
+        watch.awaits(["set a own 2 weight 2"])
+        want("that p is not known", node.get("--owner", "p"), [])
+        # the node holds p less far than was printed: an older row is not printed, and none is gone
+        tell(node, "p", 0, ("x", 1, 10))
+        node.put("own", 3)
+        watch.awaits(["set a own 3 weight 3"])
+        # y was removed meanwhile, and a later row of p shows that the node knows
+        tell(node, "p", 1, ("z", 3, 30), ("v", 5, 50))
+        watch.awaits(["set p v 5 weight 50", "gone p y"])
+        want("del", node.command("del", "own"), (0, "version 4\n", ""))
+        watch.awaits(["gone a own"])
+        node.kill()
+        time.sleep(0.2)
+        node.start()
+        tell(node, "p", 0, ("x", 6, 60))
+        watch.awaits(["gone p v", "set p x 6 weight 60", "gone p z"])
+        want("that it runs", watch.ran.poll(), None)
+    finally:
+        watch.stop()
+    said = watch.ran.stderr.read().splitlines()
+    want("what it said", set(said) - {f"attrdir: control socket {node.control} {it}" for it in ("does not answer", "answers")}, set())
+    want("without --retry", node.command("watch", "--count", "1"), (0, "set p x 6 weight 60\n", ""))
+
+
+def waiting(check):
+    """A watch that goes on waits for a node that is not there yet, and ends after as many askings as were answered; what no node answers ends it."""
+    node = check.node("a")
+    watch = Watching(node, "--retry", "--mark", "--count", "1", "--every", "20")
+    try:
+        time.sleep(0.3)
+        want("that it waits", watch.ran.poll(), None)
+        node.start()
+        want("its end", watch.ended(), (0, ["asked"], [f"attrdir: control socket {node.control} {it}" for it in ("does not answer", "answers")]))
+    finally:
+        watch.stop()
+    wrong("what is no control socket", run(check.program, "watch", "--retry", "--control", str(node.sock)), 3, "fault 13")
+    wrong("no prefix", node.command("watch", "--retry", "--prefix", "P"), 3, "fault 3")
+    made = MadeUp(check.folder() / "made.ctl", [rows(("b", "k", 2, 1), ("b", "l", 3, 1)), rows(("b", "k", 1, 9))])
+    found = run(check.program, "watch", "--retry", "--every", "0", "--count", "2", "--control", str(made.path))
+    want("a row of an earlier version", found, (0, "set b k 2 weight 1\nset b l 3 weight 1\ngone b l\n", ""))
+
+
+def digest(want_one, start, end, pairs):
+    """The body of a digest of a range."""
+    told = b"".join(text(name) + number(upto) for name, upto in pairs)
+    return bytes([want_one]) + text(start) + text(end) + number(len(pairs), 2) + told
+
+
+def owners(check):
+    """owners prints how far each owner is held, over as many digests as it takes, writes nothing, and ends its session in order."""
+    node = check.node("a", "--budget", "256").start()
+    ask = lambda *words: run(check.program, "owners", "--sock", str(node.sock), *words)
+    want("a node that holds nothing", ask("--cluster", "c"), (0, "a 0\n", ""))
+    want("set", [node.put("k", 5), node.put("l", 6)], [1, 2])
+    names = [f"{'n' * 28}{at:04}" for at in range(40)]
+    for at, name in enumerate(names, 1):
+        tell(node, name, 0, ("k", at, 1))
+    rows_before = node.get()
+    wanted = "".join(f"{name} {upto}\n" for name, upto in sorted([("a", 2), *zip(names, range(1, 41))]))
+    want("owners", ask("--cluster", "c"), (0, wanted, ""))
+    want("owners under another name", ask("--cluster", "c", "--name", "me"), (0, wanted, ""))
+    want("the rows afterwards", node.get(), rows_before)
+    for words, status, first, about in (
+        (["--cluster", "d"], 3, "fault 23", "--cluster"), (["--cluster", "c", "--name", "a"], 3, "fault 24", "--name"), ([], 2, None, "--cluster"),
+        (["--cluster", "C"], 3, "fault 2", "--cluster 'C': "), (["--cluster", "c", "--name", "A"], 3, "fault 2", "--name 'A': "),
+    ):
+        wrong(f"owners {words}", ask(*words), status, first, about)
+    wrong("owners at a control socket", run(check.program, "owners", "--sock", str(node.control), "--cluster", "c"), 3, "fault 13", str(node.control))
+    node.kill()
+    wrong("owners at nobody", ask("--cluster", "c"), 3, "fault 16", str(node.sock))
+
+
+def whole_sessions(check):
+    """A node that owners asks counts no fault, and of each session an event, as of any delta that brings nothing."""
+    node = check.node("a", "--rounds", "10", "--pause", "300").start()
+    want("set", node.put("k", 5), 1)
+    for _ in range(3):
+        want("owners", run(check.program, "owners", "--sock", str(node.sock), "--cluster", "c"), (0, "a 1\n", ""))
+    want("what it did", node.ended()[1], "rounds 10 faults 0 events 4\n")
+
+
+class MadeUpPeer:
+    """A socket for peers that answers the first message of a session by these frames, says no more, and keeps all that comes."""
+
+    def __init__(self, path, answers):
+        self.path, self.answers, self.messages = path, answers, []
+        self.door = socket.socket(socket.AF_UNIX, socket.SOCK_STREAM)
+        self.door.bind(str(path))
+        self.door.listen(8)
+        self.thread = threading.Thread(target=self.serve, daemon=True)
+        self.thread.start()
+
+    def serve(self):
+        stream, _ = self.door.accept()
+        self.door.close()
+        with stream:
+            self.messages.append(read_frame(stream))
+            stream.sendall(b"".join(self.answers))
+            stream.shutdown(socket.SHUT_WR)
+            while (message := read_frame(stream)) is not None:
+                self.messages.append(message)
+
+
+def made_up_digests(check):
+    """What owners says in a session, and that it ends at what is no orderly one."""
+    greeting, none = hello("a"), frame(3, number(0, 2))
+    whole = frame(2, digest(0, "", "", [("a", 1)]))
+    first, rest = frame(2, digest(0, "", "m", [("b", 7)])), frame(2, digest(0, "m", "", [("n", 2)]))
+    asks = (2, digest(1, "", "-", []))
+    for answers, kinds, found in (
+        ([greeting, none, whole], [1, 2, 3, 4], "a 1\n"), ([greeting, none, first, none, rest], [1, 2, 3, 2, 3, 4], "b 7\nn 2\n"), ([greeting], None, 28),
+        ([whole], None, 22), ([greeting, greeting], None, 25), ([greeting, rest], None, 14), ([greeting, first, first], None, 14), ([greeting, first], None, 28),
+        ([greeting, frame(2, digest(1, "", "", []))], None, 14), ([greeting, BYE], None, 28), ([b"\xa8"], None, 10), ([greeting, frame(0x13, number(1))], None, 13),
+    ):
+        made = MadeUpPeer(check.folder() / "made.sock", answers)
+        status, printed, said = run(check.program, "owners", "--sock", str(made.path), "--cluster", "c")
+        made.thread.join(SECONDS)
+        what = f"owners at {[it.hex() for it in answers]} ({said!r})"
+        if kinds is None:
+            want(what, (status, printed, said.splitlines()[0]), (3, "", f"fault {found}"))
+        else:
+            want(what, (status, printed, said), (0, found, ""))
+            want(f"what {what} sent", [it[0] for it in made.messages], kinds)
+            want(f"the deltas of {what}", {it[1] for it in made.messages if it[0] == 3}, {number(0, 2)})
+        # (nothing is asked before the node's Hello has come)
+        begins = [(1, text("c") + text("attrdir-owners")), *([asks] if answers[0] == greeting else [])]
+        want(f"its first messages at {what}", made.messages[:2], begins)
+
+
+PARTS = (one_row, lines_of_input, environment, marks, outlasting, waiting, owners, whole_sessions, made_up_digests)
