@@ -114,7 +114,7 @@ pub(crate) fn run_threads<
         move |scope| -> Result<Finished<S>, Fault>
             requires { IsSend S.row × IsSync S.row × IsSend H.row × IsSync H.row × IsSend Q.row × IsSync Q.row × IsSync O.row × (vec_len workers ≡ count) }
             ensures crew { IfOk result (λ finished. vec_len finished.crew.workers ≡ count) }
-            ensures fault { IfErr result (IsEndFault node.now.pace.on_log_fault) }
+            ensures fault { IfErr result (IsEndFault node.entry.now.pace.on_log_fault) }
         {
             let Ok(pool) = scope.spawn_with(AsMany(count), move || tend_sock(node, workers)) else {
                 return Err(Fault::NoMemory);
