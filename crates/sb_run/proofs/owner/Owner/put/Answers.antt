@@ -12,7 +12,7 @@ returns-in-Ok-clause-stored g c =
       puts = rw c.settle.ensures.log at c.in_ok-committed.ensures.puts;
       version = is.version;
       passes = (
-        c.in_ok-settle.ensures.owed,
+        c.keep.ensures.owed ∙ c.in_ok-settle.ensures.owed,
         taken_from g.S.Site.opening c.args.seat.now c.settle.new.seat kept c.in-Ok.receipt c.take_own.new.seat c.settle.ensures.later (is.entered, is.shown),
       );
     }
