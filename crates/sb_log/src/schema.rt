@@ -1,5 +1,5 @@
 //! Which of a log's two tables a database has.
-ghost use Rattle.std.specs.Prelude.{◌≡◌, IsTrue, IfSome, codes, None, Some};
+ghost use Rattle.std.specs.Prelude.{◌≡◌, IsTrue, IfSome, codes, None, Some, slice_get};
 ghost use Rattle.sb_log.specs.Form as form;
 
 use sqlite_schema::code::{Op, Terms};
@@ -93,19 +93,45 @@ fn are_writes_columns(columns: &[Column]) -> bool
         && is_column(txt, b"txt", Kind::Text, false)
 }
 
+#[tactic(auto, using(crate::proofs::Nodes::one_there, crate::proofs::Nodes::one_needs))]
 fn is_one(terms: &Terms) -> bool
     ensures is { IsTrue result → terms.now ≡ form.is_one_alone }
     ensures whole { terms.now ≡ form.is_one_alone → IsTrue result }
 {
-    let [
-        Op::Column(1, 0),
-        Op::Literal(Value::Int(1)),
-        Op::Binary(BinaryOp::Compare(CompareOp::Eq, Collation::Binary), 0, 1),
-    ] = terms.nodes.as_slice()
-    else {
+    let [root] = terms.roots.as_slice() else {
         return false;
     };
-    matches!(terms.roots.as_slice(), [2])
+    is_one_at(terms.nodes.as_slice(), *root)
+}
+
+/// Whether the node at a place tests that `id` is 1.
+fn is_one_at(nodes: &[Op], root: usize) -> bool
+    ensures { result ≡ form.is_one_at nodes.now root }
+{
+    match nodes.get(root) {
+        Some(Op::Binary(BinaryOp::Compare(CompareOp::Eq, Collation::Binary), left, right)) => {
+            is_id(nodes, *left) && is_number_one(nodes, *right)
+        }
+        _ => false,
+    }
+}
+
+fn is_id(nodes: &[Op], at: usize) -> bool
+    ensures { result ≡ form.is_id (slice_get nodes.now at) }
+{
+    match nodes.get(at) {
+        Some(Op::Column(slot, place)) => *slot == 1 && *place == 0,
+        _ => false,
+    }
+}
+
+fn is_number_one(nodes: &[Op], at: usize) -> bool
+    ensures { result ≡ form.is_number_one (slice_get nodes.now at) }
+{
+    match nodes.get(at) {
+        Some(Op::Literal(Value::Int(number))) => *number == 1,
+        _ => false,
+    }
 }
 
 fn is_meta(table: &Table) -> bool

@@ -44,7 +44,10 @@ fn open<S: Alter + Drop>(
     alloc: Global,
     conn: Connection<S>,
 ) -> Result<SqlLog<S>, Fault> {
-    SqlLog::open(alloc, conn, name(rt, OWNER), name(rt, b"c"), 9)
+    match SqlLog::open(alloc, conn, name(rt, OWNER), name(rt, b"c"), 9) {
+        Ok(log) => Ok(log),
+        Err((fault, _)) => Err(fault),
+    }
 }
 
 /// Where the write behind so many acknowledged ones failed. Where the store did, the log takes no other, be the disk as it may.

@@ -1,5 +1,5 @@
 //! A log in memory: what it keeps, and what it refuses.
-use crate::writes::{Answer, OWNER, held, is_entry, key, name, put, remove, set, settled};
+use crate::writes::{Answer, OWNER, held, is_entry, key, many, name, put, remove, set, settled};
 use crate::{got, same};
 use sb_log::{PlainLog, WriteLog};
 use sb_table::Table;
@@ -88,20 +88,6 @@ fn a_key_too_many<L: WriteLog>(rt: &impl Abort, log: &mut L) -> [Answer; 5] {
         set(rt, log, b"new", 1),
         set(rt, log, b"k7", 1),
     ]
-}
-
-// How many of 10,000 writes over ten keys are answered in their turn.
-fn many<L: WriteLog>(rt: &impl Abort, log: &mut L) -> u64 {
-    let mut in_turn: u64 = 0;
-    for round in 0..1000u64 {
-        for key in 0..10u8 {
-            let version = round * 10 + key as u64 + 1;
-            if got(rt, set(rt, log, &[b'k', b'0' + key], round)) == version {
-                in_turn = in_turn.saturating_add(1);
-            }
-        }
-    }
-    in_turn
 }
 
 const SPENT: Answer = Err(Fault::VersionsSpent);

@@ -22,7 +22,7 @@ pub fn key(rt: &impl Abort, text: &[u8]) -> Key {
     got(rt, Key::read(text))
 }
 
-fn shown(slot: &Slot) -> Shown {
+pub fn shown(slot: &Slot) -> Shown {
     match slot {
         Slot::Set(value) => (true, value.as_weight(), value.as_flag()),
         Slot::Removed => (false, None, None),
@@ -74,4 +74,18 @@ pub fn settled<const N: usize>(rt: &impl Abort, answers: [Answer; N]) -> [Answer
 pub fn held<L: WriteLog>(rt: &impl Abort, alloc: Global, log: &mut L) -> (usize, u64) {
     let table = got(rt, log.load(alloc));
     (table.len(), table.upto())
+}
+
+/// How many of 10,000 writes over ten keys are answered in their turn.
+pub fn many<L: WriteLog>(rt: &impl Abort, log: &mut L) -> u64 {
+    let mut in_turn: u64 = 0;
+    for round in 0..1000u64 {
+        for key in 0..10u8 {
+            let version = round * 10 + key as u64 + 1;
+            if got(rt, set(rt, log, &[b'k', b'0' + key], round)) == version {
+                in_turn = in_turn.saturating_add(1);
+            }
+        }
+    }
+    in_turn
 }
