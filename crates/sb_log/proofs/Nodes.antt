@@ -1,16 +1,16 @@
 -- The term that nodes stand for, and the nodes that a term needs.
 use Rattle.std.proofs.Common.{◌≡◌, ℕ, zero, suc, pos, length, List, [], ◌∷◌, map, Option, Some, None, Bool, true, false, ◌&&◌, ◌≤◌, negsuc, slice_get, slice_index_or, refl, sym, ap, ◌∙◌, arith, eqb-true}
 use Rattle.std.proofs.lemmas.Bool.{and_parts}
-use Rattle.sqlite_value.specs.declared.keys.Collation.TheVariants.{Binary as Bytes}
+use Rattle.sqlite_value.specs.declared.keys.Collation.TheVariants.{Binary as Bytes, NoCase, RTrim}
 use Rattle.sqlite_value.specs.declared.value.Value.TheVariants.{Null, Int, Real, Text, Blob}
 use Rattle.sqlite_sql.specs.Term.{Term, lit, col, op1, op2, case}
 use Rattle.sqlite_sql.specs.declared.ops.BinaryOp.{BinaryOp}
-use Rattle.sqlite_sql.specs.declared.ops.BinaryOp.TheVariants.{Compare}
-use Rattle.sqlite_sql.specs.declared.ops.CompareOp.TheVariants.{Eq}
+use Rattle.sqlite_sql.specs.declared.ops.BinaryOp.TheVariants.{Arith, Compare, And, Or, Is, Coalesce, Like, Bits, Instr}
+use Rattle.sqlite_sql.specs.declared.ops.CompareOp.TheVariants.{Eq, Ne, Lt, Le, Gt, Ge}
 use Rattle.sqlite_schema.specs.declared.code.Op.{Op}
 use Rattle.sqlite_schema.specs.declared.code.Op.TheVariants.{Literal, Column, Unary, Binary, Case}
-use Rattle.sqlite_schema.specs.Code.{op_term, term_to, term_in}
-use Rattle.sb_log.specs.Form.{is_one, is_id, is_number_one, is_one_by, is_one_at}
+use Rattle.sqlite_schema.specs.Code.{op_term, term_to, term_in, terms_in}
+use Rattle.sb_log.specs.Form.{is_one, is_one_alone, is_id, is_number_one, is_equals, is_one_by, is_one_at, are_one}
 
 pub found : (ops : List Op) (at : ℕ) (op : Op) → slice_get ops at ≡ Some op → slice_index_or ops at (Literal Null) ≡ op
 found [] at op is = absurd (cc)
@@ -120,14 +120,37 @@ one_is (Some (Literal (Real x))) e = absurd (cc)
 one_is (Some (Literal (Text x))) e = absurd (cc)
 one_is (Some (Literal (Blob x))) e = absurd (cc)
 
+equals_is : (op : BinaryOp) → is_equals op ≡ true → op ≡ Compare Eq Bytes
+equals_is (Compare Eq Bytes) e = refl
+equals_is (Compare Eq NoCase) e = absurd (cc)
+equals_is (Compare Eq RTrim) e = absurd (cc)
+equals_is (Compare Ne c) e = absurd (cc)
+equals_is (Compare Lt c) e = absurd (cc)
+equals_is (Compare Le c) e = absurd (cc)
+equals_is (Compare Gt c) e = absurd (cc)
+equals_is (Compare Ge c) e = absurd (cc)
+equals_is (Arith a) e = absurd (cc)
+equals_is And e = absurd (cc)
+equals_is Or e = absurd (cc)
+equals_is (Is c) e = absurd (cc)
+equals_is Coalesce e = absurd (cc)
+equals_is Like e = absurd (cc)
+equals_is (Bits b) e = absurd (cc)
+equals_is Instr e = absurd (cc)
+
 parts : (ops : List Op) (root : ℕ) → is_one_at ops root ≡ true → Parts ops root
 parts ops root e = go (slice_get ops root) refl e
   where
     go : (o : Option Op) → slice_get ops root ≡ o → is_one_by (slice_get ops) o ≡ true → Parts ops root
-    go (Some (Binary (Compare Eq Bytes) a b)) is e =
-        let both = and_parts _ _ e in
-        record { left = a; right = b; is = is; first = id_is _ both.0; second = one_is _ both.1 }
-    go _ is e = absurd (cc)
+    go None is e = absurd (cc)
+    go (Some (Literal v)) is e = absurd (cc)
+    go (Some (Column s p)) is e = absurd (cc)
+    go (Some (Unary op a)) is e = absurd (cc)
+    go (Some (Case t a b)) is e = absurd (cc)
+    go (Some (Binary op a b)) is e =
+        let first = and_parts _ _ e in
+        let both = and_parts _ _ first.1 in
+        record { left = a; right = b; is = is ∙ ap (λ (o : BinaryOp). Some (Binary o a b)) (equals_is op first.0); first = id_is _ both.0; second = one_is _ both.1 }
 
 deep : (ops : List Op) (p q : ℕ) (x y : Op) → slice_get ops p ≡ Some x → slice_get ops q ≡ Some y → (x ≡ y → ⊥) → 2 ≤ length ops
 deep [] p q x y a b apart = absurd (cc)
@@ -148,3 +171,13 @@ one_there ops root e = go (length ops) (deep ops root p.left _ _ p.is p.first (�
     go (suc (suc depth)) low =
         ap (op_term (term_to ops (suc depth))) (found ops root _ p.is)
         ∙ (λ i. op2 (Compare Eq Bytes) (op_term (term_to ops depth) (found ops p.left _ p.first i)) (op_term (term_to ops depth) (found ops p.right _ p.second i)))
+
+pub ones_there : (ops : List Op) (roots : List ℕ) → are_one ops roots ≡ true → terms_in ops roots ≡ is_one_alone
+ones_there ops [] e = absurd (cc)
+ones_there ops (root ∷ []) e = ap (λ (t : Term). t ∷ []) (one_there ops root e)
+ones_there ops (root ∷ other ∷ more) e = absurd (cc)
+
+pub ones_needed : (ops : List Op) (roots : List ℕ) → terms_in ops roots ≡ is_one_alone → are_one ops roots ≡ true
+ones_needed ops [] e = absurd (cc)
+ones_needed ops (root ∷ []) e = one_needs ops root (cc)
+ones_needed ops (root ∷ other ∷ more) e = absurd (cc)

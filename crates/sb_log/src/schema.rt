@@ -93,15 +93,21 @@ fn are_writes_columns(columns: &[Column]) -> bool
         && is_column(txt, b"txt", Kind::Text, false)
 }
 
-#[tactic(auto, using(crate::proofs::Nodes::one_there, crate::proofs::Nodes::one_needs))]
+#[tactic(auto, using(crate::proofs::Nodes::ones_there, crate::proofs::Nodes::ones_needed))]
 fn is_one(terms: &Terms) -> bool
     ensures is { IsTrue result → terms.now ≡ form.is_one_alone }
     ensures whole { terms.now ≡ form.is_one_alone → IsTrue result }
 {
-    let [root] = terms.roots.as_slice() else {
-        return false;
-    };
-    is_one_at(terms.nodes.as_slice(), *root)
+    are_one(terms.nodes.as_slice(), terms.roots.as_slice())
+}
+
+fn are_one(nodes: &[Op], roots: &[usize]) -> bool
+    ensures { result ≡ form.are_one nodes.now roots.now }
+{
+    match roots {
+        [root] => is_one_at(nodes, *root),
+        _ => false,
+    }
 }
 
 /// Whether the node at a place tests that `id` is 1.
@@ -109,11 +115,17 @@ fn is_one_at(nodes: &[Op], root: usize) -> bool
     ensures { result ≡ form.is_one_at nodes.now root }
 {
     match nodes.get(root) {
-        Some(Op::Binary(BinaryOp::Compare(CompareOp::Eq, Collation::Binary), left, right)) => {
-            is_id(nodes, *left) && is_number_one(nodes, *right)
+        Some(Op::Binary(op, left, right)) => {
+            is_equals(*op) && (is_id(nodes, *left) && is_number_one(nodes, *right))
         }
         _ => false,
     }
+}
+
+fn is_equals(op: BinaryOp) -> bool
+    ensures { result ≡ form.is_equals op }
+{
+    matches!(op, BinaryOp::Compare(CompareOp::Eq, Collation::Binary))
 }
 
 fn is_id(nodes: &[Op], at: usize) -> bool

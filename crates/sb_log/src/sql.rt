@@ -151,6 +151,7 @@ impl<S: Alter + Drop> WriteLog for SqlLog<S> {
         ensures sure { IsSure (log_in S.Store self) → result ≡ Ok tt }
         ensures always { result ≡ Ok tt }
     {
+        drop(self);
         Ok(())
     }
 }
