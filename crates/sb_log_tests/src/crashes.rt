@@ -1,7 +1,7 @@
 //! What a crash leaves of a log in files, on disks of which a call fails, and each one after it or none.
 use crate::disks::{Calls, ENDLESS, Visit, new_disks, on_disks};
 use crate::faulty::After;
-use crate::writes::{OWNER, key, name, set};
+use crate::writes::{OWNER, key, name, remove, set};
 use crate::{got, same, same_at};
 use sb_log::{SqlLog, WriteLog};
 use sb_table::Table;
@@ -18,8 +18,8 @@ type Content = (usize, u64, Option<u64>);
 const CONTENTS: [Content; 4] = [
     (0, 0, None),
     (1, 1, Some(5)),
-    (2, 2, Some(5)),
-    (2, 3, Some(7)),
+    (1, 2, None),
+    (1, 3, Some(7)),
 ];
 
 /// How many writes were acknowledged, and how many were begun.
@@ -66,12 +66,12 @@ fn failed_after<L: WriteLog>(
     }
 }
 
-/// Writes until a write fails.
+/// Writes until a write fails; the second removes what the first set.
 fn put_three<L: WriteLog>(rt: &impl Abort, log: &mut L) -> Progress {
     if let Err(fault) = set(rt, log, b"x", 5) {
         return failed_after(rt, log, 0, fault);
     }
-    if let Err(fault) = set(rt, log, b"y", 6) {
+    if let Err(fault) = remove(rt, log, b"x") {
         return failed_after(rt, log, 1, fault);
     }
     if let Err(fault) = set(rt, log, b"x", 7) {
