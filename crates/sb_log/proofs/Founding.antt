@@ -85,7 +85,7 @@ both P Q (Err fault) p q = tt
 -- ---- a log that is whole is not refused
 
 pub nothing_there : (rows shown : List Row) → rows ≡ [] → IsPermutation (map meta_cells rows) shown → length shown ≡ 0
-nothing_there rows shown none same = sym (length_permutation (map meta_cells rows) shown same) ∙ ap (λ (l : List Row). length (map meta_cells l)) none
+nothing_there rows shown none same = length_permutation (map meta_cells rows) shown same ∙ ap (λ (l : List Row). length (map meta_cells l)) none
 
 pub never_some : (len n : ℕ) → len ≡ n → n ≡ 0 → (len == 0) ≡ false → ⊥
 never_some len n same none some = true≢false (sym (ap (λ (k : ℕ). k == 0) (same ∙ none)) ∙ some)

@@ -106,4 +106,11 @@ returns-in-len1-clause-whole g c clean t opens =
     (still_rows c.args.owner.now c.args.cluster.now old.now mid.now t completes opens read.now ready.1)
 
 pub returns-clause-whole : goal.returns-clause-whole
-returns-clause-whole g c = ?
+returns-clause-whole g c clean t opens =
+    let old = state g.S.Store c.args.conn.now in
+    let mid = state g.S.Store c.make_tables.new.conn in
+    let clean1 : HasCleanDisk mid = was_clean _ _ clean c.read_meta.ensures.clean in
+    let prepared = c.in_ok-make_tables.ensures.prepared clean1 in
+    let completes = c.in_ok-make_tables.ensures.completes clean1 in
+    absurd (never_more c.args.owner.now c.args.cluster.now old.now mid.now t completes opens c.in_ok-found.found.items (c.in_ok-found.ensures.rows clean prepared)
+      (rw c.as_slice.ensures.value at c.in_default.len_at_least))
