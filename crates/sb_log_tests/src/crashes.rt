@@ -1,5 +1,5 @@
 //! What a crash leaves of a log in files, on disks of which a call fails, and each one after it or none.
-use crate::disks::{Calls, ENDLESS, Visit, new_disks, on_disks};
+use crate::disks::{Calls, ENDLESS, Visit, new_disks, on_disks, whole_copy};
 use crate::faulty::After;
 use crate::writes::{OWNER, key, name, remove, set};
 use crate::{got, same, same_at};
@@ -7,7 +7,7 @@ use sb_log::{SqlLog, WriteLog};
 use sb_table::Table;
 use sb_types::{Fault, Key, Slot};
 use sqlite::{Alter, Connection, Files};
-use sqlite_disk::{Crash, Disk, Memory};
+use sqlite_disk::{Crash, Memory};
 use std::alloc::Global;
 use std::process::Abort;
 
@@ -134,14 +134,6 @@ impl Visit for Reopening {
     }
 }
 
-/// The disk of a process that ended: all that was written is there.
-fn left_whole(rt: &impl Abort, alloc: Global, disk: &Memory) -> Memory {
-    let mut whole = Memory::new(alloc);
-    got(rt, whole.write_at(0, disk.bytes()));
-    got(rt, whole.sync());
-    whole
-}
-
 /// Whether what a log holds is what was acknowledged, or what was begun.
 fn is_kept(content: Content, progress: Progress) -> bool {
     CONTENTS.get(progress.acknowledged) == Some(&content)
@@ -163,11 +155,7 @@ fn recovers(rt: &impl Abort, alloc: Global, disks: &mut Files<Memory>, progress:
 
 /// The same of the process that ended, whose disks lose nothing.
 fn recovers_whole(rt: &impl Abort, alloc: Global, disks: &Files<Memory>, progress: Progress) {
-    let mut whole = Files {
-        log: left_whole(rt, alloc, &disks.log),
-        db: left_whole(rt, alloc, &disks.db),
-    };
-    recovers(rt, alloc, &mut whole, progress);
+    recovers(rt, alloc, &mut whole_copy(rt, alloc, disks), progress);
 }
 
 /// Lets calls of the disks fail, and then what was not synced stay, and be lost.
@@ -203,6 +191,14 @@ fn no_call_is_left_out(rt: HostRuntime) {
     };
     let progress = stop(&rt, rt.alloc(), calls);
     same(&rt, &progress, &ALL);
+}
+
+#[test]
+fn no_call_is_counted_twice(rt: HostRuntime) {
+    let log = stop(&rt, rt.alloc(), Calls { log: 49, ..ENDLESS });
+    let db = stop(&rt, rt.alloc(), Calls { db: 13, ..ENDLESS });
+    same(&rt, &log.acknowledged, &2);
+    same(&rt, &db.acknowledged, &2);
 }
 
 #[test]

@@ -1,4 +1,5 @@
-//! What a log in files holds when it is opened again: the rows of a log in memory that took the same writes.
+//! What a log in a database holds behind many writes, and one in files when it is opened again: the rows of a log in memory that took
+//! the same.
 use crate::disks::{ENDLESS, Visit, new_disks, on_disks};
 use crate::writes::{OWNER, many, name, put, remove, set, settled, shown};
 use crate::{got, same};
@@ -33,7 +34,31 @@ fn shared(one: &Table, other: &Table) -> usize {
     count
 }
 
-/// Takes 10,000 writes over ten keys.
+/// How many entries a log holds, and shares with a log in memory that took so many rounds of the same writes.
+fn compared<L: WriteLog>(
+    rt: &impl Abort,
+    alloc: Global,
+    log: &mut L,
+    rounds: u64,
+) -> (usize, usize) {
+    let mut plain = PlainLog::new(alloc, name(rt, OWNER), name(rt, CLUSTER), 10_000);
+    same(rt, &many(rt, &mut plain, rounds), &rounds.saturating_mul(10));
+    let wanted = got(rt, plain.load(alloc));
+    let found = got(rt, log.load(alloc));
+    (found.len(), shared(&wanted, &found))
+}
+
+// Each row is read, so ten entries are ten rows.
+#[test]
+fn a_log_in_a_database_keeps_ten_of_many(rt: HostRuntime) {
+    let alloc = rt.alloc();
+    let conn = got(&rt, Connection::open_in_memory(alloc));
+    let mut log = open(&rt, alloc, conn);
+    same(&rt, &many(&rt, &mut log, 1000), &10_000);
+    same(&rt, &compared(&rt, alloc, &mut log, 1000), &(10, 10));
+}
+
+/// Takes ten rounds of writes over ten keys.
 #[derive(Drop)]
 struct Many;
 
@@ -41,11 +66,11 @@ impl Visit for Many {
     type Told = u64;
 
     fn visit<S: Alter + Drop>(self, rt: &impl Abort, alloc: Global, conn: Connection<S>) -> u64 {
-        many(rt, &mut open(rt, alloc, conn))
+        many(rt, &mut open(rt, alloc, conn), 10)
     }
 }
 
-/// How many rows of writes there are, and how many entries the log holds, and shares with a log in memory of the same writes.
+/// Opens a log behind those: how many rows of writes there are, and how many entries it holds and shares.
 #[derive(Drop)]
 struct Comparing;
 
@@ -58,20 +83,17 @@ fn rows_in<S: Alter>(rt: &impl Abort, conn: &mut Connection<S>) -> i64 {
 }
 
 impl Visit for Comparing {
-    type Told = (i64, usize, usize);
+    type Told = (i64, (usize, usize));
 
     fn visit<S: Alter + Drop>(
         self,
         rt: &impl Abort,
         alloc: Global,
         mut conn: Connection<S>,
-    ) -> (i64, usize, usize) {
+    ) -> (i64, (usize, usize)) {
         let rows = rows_in(rt, &mut conn);
-        let mut plain = PlainLog::new(alloc, name(rt, OWNER), name(rt, CLUSTER), 10_000);
-        same(rt, &many(rt, &mut plain), &10_000);
-        let wanted = got(rt, plain.load(alloc));
-        let found = got(rt, open(rt, alloc, conn).load(alloc));
-        (rows, found.len(), shared(&wanted, &found))
+        let mut log = open(rt, alloc, conn);
+        (rows, compared(rt, alloc, &mut log, 10))
     }
 }
 
@@ -80,9 +102,9 @@ fn a_log_in_files_keeps_ten_of_many(rt: HostRuntime) {
     let alloc = rt.alloc();
     let mut disks = new_disks(alloc);
     let in_turn = got(&rt, on_disks(&rt, alloc, &mut disks, ENDLESS, Many));
-    same(&rt, &in_turn, &10_000);
+    same(&rt, &in_turn, &100);
     let told = got(&rt, on_disks(&rt, alloc, &mut disks, ENDLESS, Comparing));
-    same(&rt, &told, &(10, 10, 10));
+    same(&rt, &told, &(10, (10, 10)));
 }
 
 /// Sets x, removes it, and sets y.

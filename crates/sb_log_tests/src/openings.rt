@@ -1,5 +1,5 @@
 //! What an opening that fails or is refused leaves of a log: all of its rows.
-use crate::disks::{Calls, ENDLESS, Visit, new_disks, on_disks};
+use crate::disks::{Calls, ENDLESS, Visit, new_disks, on_disks, whole_copy};
 use crate::faulty::After;
 use crate::writes::{OWNER, key, name, remove, set, settled};
 use crate::{got, same, same_at};
@@ -19,6 +19,9 @@ type Rows = (usize, Row, Row);
 
 /// What stands behind the writes of `Writing`.
 const ROWS: Rows = (2, Some((3, None)), Some((2, Some(6))));
+
+/// More calls than an opening makes.
+const MOST: u64 = 200;
 
 /// Another's name.
 const ANOTHER: &[u8] = b"b";
@@ -144,13 +147,25 @@ const OF_ANOTHER_FORM: Case = Case {
     fault: 19,
 };
 
-/// Opens a log that has rows, while a call may fail, and then again: each row is there. The fault of the first.
-fn open_twice(rt: &impl Abort, alloc: Global, calls: Calls, case: Case) -> u8 {
+/// The files of a log that has rows, spoiled.
+fn written(rt: &impl Abort, alloc: Global, case: Case) -> Files<Memory> {
     let mut disks = new_disks(alloc);
     got(rt, on_disks(rt, alloc, &mut disks, ENDLESS, Writing));
     if let Some((spoil, _)) = case.spoiled {
         change(rt, alloc, &mut disks, spoil);
     }
+    disks
+}
+
+/// Opens a copy of such files while a call may fail, and then again: each row is there. The fault of the first.
+fn open_twice(
+    rt: &impl Abort,
+    alloc: Global,
+    files: &Files<Memory>,
+    calls: Calls,
+    case: Case,
+) -> u8 {
+    let mut disks = whole_copy(rt, alloc, files);
     let opening = Opening { owner: case.owner };
     let told = on_disks(rt, alloc, &mut disks, calls, opening).unwrap_or(18);
     disks.log.crash();
@@ -159,25 +174,26 @@ fn open_twice(rt: &impl Abort, alloc: Global, calls: Calls, case: Case) -> u8 {
         change(rt, alloc, &mut disks, mend);
     }
     let rows = got(rt, on_disks(rt, alloc, &mut disks, ENDLESS, Reading));
-    same_at(rt, &(calls.log, calls.db, case.fault), &rows, &ROWS);
+    same_at(rt, &(calls.log, case.fault), &rows, &ROWS);
     told
 }
 
 /// Lets each call of the log's file fail in its turn, until none is left to fail: how many there are.
 fn miss_each(rt: &impl Abort, alloc: Global, case: Case, after: After) -> u64 {
-    for log in 0..40 {
+    let files = written(rt, alloc, case);
+    for log in 0..MOST {
         let calls = Calls {
             log,
             after,
             ..ENDLESS
         };
-        let told = open_twice(rt, alloc, calls, case);
+        let told = open_twice(rt, alloc, &files, calls, case);
         if told == case.fault {
             return log;
         }
         same_at(rt, &log, &told, &18);
     }
-    40
+    MOST
 }
 
 #[test]
@@ -202,6 +218,10 @@ fn an_opening_as_anothers_loses_nothing(rt: HostRuntime) {
 fn an_opening_that_tells_damage_loses_nothing(rt: HostRuntime) {
     let calls = miss_each(&rt, rt.alloc(), DAMAGED, After::Answering);
     same(&rt, &calls, &1);
+}
+
+#[test]
+fn an_opening_of_another_form_loses_nothing(rt: HostRuntime) {
     let calls = miss_each(&rt, rt.alloc(), OF_ANOTHER_FORM, After::Answering);
     same(&rt, &calls, &1);
 }

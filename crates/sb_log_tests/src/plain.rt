@@ -152,7 +152,7 @@ fn count_after<L: WriteLog>(rt: &impl Abort, alloc: Global, log: &mut L, version
 fn a_plain_log_keeps_ten_of_many(rt: HostRuntime) {
     let alloc = rt.alloc();
     let mut log = plain_log(&rt, alloc, 10_000);
-    same(&rt, &many(&rt, &mut log), &10_000);
+    same(&rt, &many(&rt, &mut log, 1000), &10_000);
     same(&rt, &held(&rt, alloc, &mut log), &(10, 10_000));
     same(&rt, &count_after(&rt, alloc, &mut log, 9990), &10);
 }

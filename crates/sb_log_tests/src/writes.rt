@@ -76,12 +76,13 @@ pub fn held<L: WriteLog>(rt: &impl Abort, alloc: Global, log: &mut L) -> (usize,
     (table.len(), table.upto())
 }
 
-/// How many of 10,000 writes over ten keys are answered in their turn.
-pub fn many<L: WriteLog>(rt: &impl Abort, log: &mut L) -> u64 {
+/// How many writes are answered in their turn: ten in each round, one of each of ten keys.
+pub fn many<L: WriteLog>(rt: &impl Abort, log: &mut L, rounds: u64) -> u64 {
     let mut in_turn: u64 = 0;
-    for round in 0..1000u64 {
+    let mut version: u64 = 0;
+    for round in 0..rounds {
         for key in 0..10u8 {
-            let version = round * 10 + key as u64 + 1;
+            version = version.saturating_add(1);
             if got(rt, set(rt, log, &[b'k', b'0' + key], round)) == version {
                 in_turn = in_turn.saturating_add(1);
             }
