@@ -193,12 +193,20 @@ fn no_call_is_left_out(rt: HostRuntime) {
     same(&rt, &progress, &ALL);
 }
 
+// With one call less of the log file the third write fails, and with one less of the database file the log is not opened.
 #[test]
-fn no_call_is_counted_twice(rt: HostRuntime) {
-    let log = stop(&rt, rt.alloc(), Calls { log: 49, ..ENDLESS });
-    let db = stop(&rt, rt.alloc(), Calls { db: 13, ..ENDLESS });
+fn no_call_is_one_too_many(rt: HostRuntime) {
+    let log = stop(
+        &rt,
+        rt.alloc(),
+        Calls {
+            log: 49,
+            ..ENDLESS
+        },
+    );
     same(&rt, &log.acknowledged, &2);
-    same(&rt, &db.acknowledged, &2);
+    let db = stop(&rt, rt.alloc(), Calls { db: 13, ..ENDLESS });
+    same(&rt, &db, &NOTHING);
 }
 
 #[test]

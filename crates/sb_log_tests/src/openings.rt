@@ -95,14 +95,24 @@ fn row_of(table: &Table, key: &Key) -> Row {
     }
 }
 
-/// Opens a log as its owner's: its rows.
+/// Mends a log, and opens it as its owner's: its rows.
 #[derive(Drop)]
-struct Reading;
+struct Reading {
+    mend: Option<&'static str>,
+}
 
 impl Visit for Reading {
     type Told = Rows;
 
-    fn visit<S: Alter + Drop>(self, rt: &impl Abort, alloc: Global, conn: Connection<S>) -> Rows {
+    fn visit<S: Alter + Drop>(
+        self,
+        rt: &impl Abort,
+        alloc: Global,
+        mut conn: Connection<S>,
+    ) -> Rows {
+        if let Some(sql) = self.mend {
+            got(rt, conn.execute(sql, &[]));
+        }
         let mut log = got(rt, opened(rt, alloc, conn, OWNER));
         let table = got(rt, log.load(alloc));
         let x = row_of(&table, &key(rt, b"x"));
@@ -110,40 +120,41 @@ impl Visit for Reading {
     }
 }
 
-fn change(rt: &impl Abort, alloc: Global, disks: &mut Files<Memory>, sql: &'static str) {
-    got(rt, on_disks(rt, alloc, disks, ENDLESS, Changing { sql }));
-}
-
-/// How a log is opened that has rows, and what is changed before and after.
+/// By whom a log is opened that has rows, by which statements it is spoiled before and mended after, and the fault of the opening.
 #[derive(Clone, Copy)]
 struct Case {
     owner: &'static [u8],
-    spoiled: Option<(&'static str, &'static str)>,
+    spoil: Option<&'static str>,
+    mend: Option<&'static str>,
     fault: u8,
 }
 
 const OWN: Case = Case {
     owner: OWNER,
-    spoiled: None,
+    spoil: None,
+    mend: None,
     fault: 0,
 };
 
 const ANOTHERS: Case = Case {
     owner: ANOTHER,
-    spoiled: None,
+    spoil: None,
+    mend: None,
     fault: 20,
 };
 
 /// Versions that were forgotten are damage.
 const DAMAGED: Case = Case {
     owner: OWNER,
-    spoiled: Some(("UPDATE meta SET last = 7", "UPDATE meta SET last = 0")),
+    spoil: Some("UPDATE meta SET last = 7"),
+    mend: Some("UPDATE meta SET last = 0"),
     fault: 19,
 };
 
 const OF_ANOTHER_FORM: Case = Case {
     owner: OWNER,
-    spoiled: Some(("UPDATE meta SET form = 2", "UPDATE meta SET form = 1")),
+    spoil: Some("UPDATE meta SET form = 2"),
+    mend: Some("UPDATE meta SET form = 1"),
     fault: 19,
 };
 
@@ -151,8 +162,8 @@ const OF_ANOTHER_FORM: Case = Case {
 fn written(rt: &impl Abort, alloc: Global, case: Case) -> Files<Memory> {
     let mut disks = new_disks(alloc);
     got(rt, on_disks(rt, alloc, &mut disks, ENDLESS, Writing));
-    if let Some((spoil, _)) = case.spoiled {
-        change(rt, alloc, &mut disks, spoil);
+    if let Some(sql) = case.spoil {
+        got(rt, on_disks(rt, alloc, &mut disks, ENDLESS, Changing { sql }));
     }
     disks
 }
@@ -170,10 +181,8 @@ fn open_twice(
     let told = on_disks(rt, alloc, &mut disks, calls, opening).unwrap_or(18);
     disks.log.crash();
     disks.db.crash();
-    if let Some((_, mend)) = case.spoiled {
-        change(rt, alloc, &mut disks, mend);
-    }
-    let rows = got(rt, on_disks(rt, alloc, &mut disks, ENDLESS, Reading));
+    let mend = case.mend;
+    let rows = got(rt, on_disks(rt, alloc, &mut disks, ENDLESS, Reading { mend }));
     same_at(rt, &(calls.log, case.fault), &rows, &ROWS);
     told
 }
@@ -196,32 +205,34 @@ fn miss_each(rt: &impl Abort, alloc: Global, case: Case, after: After) -> u64 {
     MOST
 }
 
+// The log's file has 16 frames, and 17 behind a change of the row of meta. An opening reads each four times, and makes 33 other calls:
+// of the lengths, the header, the page behind the last frame, the gate, the five pages, twice, and syncs.
 #[test]
 fn an_opening_that_fails_loses_nothing(rt: HostRuntime) {
     let calls = miss_each(&rt, rt.alloc(), OWN, After::Answering);
-    same(&rt, &calls, &1);
+    same(&rt, &calls, &97);
 }
 
 #[test]
 fn an_opening_on_a_disk_that_stops_loses_nothing(rt: HostRuntime) {
     let calls = miss_each(&rt, rt.alloc(), OWN, After::Failing);
-    same(&rt, &calls, &1);
+    same(&rt, &calls, &97);
 }
 
 #[test]
 fn an_opening_as_anothers_loses_nothing(rt: HostRuntime) {
     let calls = miss_each(&rt, rt.alloc(), ANOTHERS, After::Answering);
-    same(&rt, &calls, &1);
+    same(&rt, &calls, &97);
 }
 
 #[test]
 fn an_opening_that_tells_damage_loses_nothing(rt: HostRuntime) {
     let calls = miss_each(&rt, rt.alloc(), DAMAGED, After::Answering);
-    same(&rt, &calls, &1);
+    same(&rt, &calls, &101);
 }
 
 #[test]
 fn an_opening_of_another_form_loses_nothing(rt: HostRuntime) {
     let calls = miss_each(&rt, rt.alloc(), OF_ANOTHER_FORM, After::Answering);
-    same(&rt, &calls, &1);
+    same(&rt, &calls, &101);
 }
