@@ -15,12 +15,7 @@ use std::process::Abort;
 type Content = (usize, u64, Option<u64>);
 
 /// What a log holds after so many of the writes of `put_three`.
-const CONTENTS: [Content; 4] = [
-    (0, 0, None),
-    (1, 1, Some(5)),
-    (1, 2, None),
-    (1, 3, Some(7)),
-];
+const CONTENTS: [Content; 4] = [(0, 0, None), (1, 1, Some(5)), (1, 2, None), (1, 3, Some(7))];
 
 /// How many writes were acknowledged, and how many were begun.
 #[derive(Clone, Copy, PartialEq, Eq, Debug)]
@@ -196,14 +191,7 @@ fn no_call_is_left_out(rt: HostRuntime) {
 // With one call less of the log file the third write fails, and with one less of the database file the log is not opened.
 #[test]
 fn no_call_is_one_too_many(rt: HostRuntime) {
-    let log = stop(
-        &rt,
-        rt.alloc(),
-        Calls {
-            log: 49,
-            ..ENDLESS
-        },
-    );
+    let log = stop(&rt, rt.alloc(), Calls { log: 49, ..ENDLESS });
     same(&rt, &log.acknowledged, &2);
     let db = stop(&rt, rt.alloc(), Calls { db: 13, ..ENDLESS });
     same(&rt, &db, &NOTHING);

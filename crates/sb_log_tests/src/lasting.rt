@@ -42,7 +42,11 @@ fn compared<L: WriteLog>(
     rounds: u64,
 ) -> (usize, usize) {
     let mut plain = PlainLog::new(alloc, name(rt, OWNER), name(rt, CLUSTER), 10_000);
-    same(rt, &many(rt, &mut plain, rounds), &rounds.saturating_mul(10));
+    same(
+        rt,
+        &many(rt, &mut plain, rounds),
+        &rounds.saturating_mul(10),
+    );
     let wanted = got(rt, plain.load(alloc));
     let found = got(rt, log.load(alloc));
     (found.len(), shared(&wanted, &found))

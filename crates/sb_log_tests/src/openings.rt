@@ -163,7 +163,10 @@ fn written(rt: &impl Abort, alloc: Global, case: Case) -> Files<Memory> {
     let mut disks = new_disks(alloc);
     got(rt, on_disks(rt, alloc, &mut disks, ENDLESS, Writing));
     if let Some(sql) = case.spoil {
-        got(rt, on_disks(rt, alloc, &mut disks, ENDLESS, Changing { sql }));
+        got(
+            rt,
+            on_disks(rt, alloc, &mut disks, ENDLESS, Changing { sql }),
+        );
     }
     disks
 }
@@ -182,7 +185,10 @@ fn open_twice(
     disks.log.crash();
     disks.db.crash();
     let mend = case.mend;
-    let rows = got(rt, on_disks(rt, alloc, &mut disks, ENDLESS, Reading { mend }));
+    let rows = got(
+        rt,
+        on_disks(rt, alloc, &mut disks, ENDLESS, Reading { mend }),
+    );
     same_at(rt, &(calls.log, case.fault), &rows, &ROWS);
     told
 }
