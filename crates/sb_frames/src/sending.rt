@@ -38,9 +38,6 @@ pub fn frame_of(alloc: Global, message: &Message) -> Result<Vec<u8>, Fault>
     Ok(frame)
 }
 
-/// How often in a row a write that was interrupted is made again.
-const INTERRUPTED_MOST: u32 = 1_000;
-
 /// Writes all of the bytes, and tells what the last write of the call answered. `WriteFailed` with how many were
 /// written, always fewer than all. A write that takes no byte has failed, and so has one that was interrupted
 /// 1,001 times in a row; after fewer it is made again.
@@ -50,15 +47,12 @@ pub fn write_counted<W: Write>(writer: &mut W, bytes: &[u8]) -> (Result<(), Faul
     ensures memory { result.0 ≢ Err Fault.NoMemory }
 {
     let mut last = LastWrite::new();
-    let (mut count, mut left) = (0, INTERRUPTED_MOST);
+    let mut count = 0;
     while count < bytes.len() {
         match last.write(writer, &bytes[count..]) {
             Ok(0) => return (Err(Fault::WriteFailed(count as u64)), last),
-            Ok(written) => {
-                count += written;
-                left = INTERRUPTED_MOST;
-            }
-            Err(_) if left > 0 && last.was_interrupted() => left -= 1,
+            Ok(written) => count += written,
+            Err(_) if !last.has_failed() => {}
             Err(_) => return (Err(Fault::WriteFailed(count as u64)), last),
         }
     }
