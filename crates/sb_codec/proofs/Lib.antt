@@ -6,5 +6,4 @@ pub mod Bodies
 pub mod Values
 pub mod Sizes
 pub mod Laws
-pub mod Least
 pub mod Standings

@@ -44,7 +44,7 @@ impl ListItem for Entry {
     ghost use Rattle.std.proofs.Common.{lit<};
     ghost use Rattle.sb_codec.specs.Spelling.{entry};
     ghost use Rattle.sb_codec.specs.Reading.{entry_field};
-    ghost use Rattle.sb_codec.proofs.Least.{entry_reached};
+    ghost use Rattle.sb_codec.specs.Least.{entry_reached};
 
     ghost spelling = { entry };
 
@@ -73,7 +73,7 @@ impl ListItem for Block {
     ghost use Rattle.std.proofs.Common.{lit<};
     ghost use Rattle.sb_codec.specs.Spelling.{block};
     ghost use Rattle.sb_codec.specs.Reading.{block_field};
-    ghost use Rattle.sb_codec.proofs.Least.{block_reached};
+    ghost use Rattle.sb_codec.specs.Least.{block_reached};
 
     ghost spelling = { block };
 
@@ -102,7 +102,7 @@ impl ListItem for Pair {
     ghost use Rattle.std.proofs.Common.{lit<};
     ghost use Rattle.sb_codec.specs.Spelling.{pair};
     ghost use Rattle.sb_codec.specs.Reading.{pair_field};
-    ghost use Rattle.sb_codec.proofs.Least.{pair_reached};
+    ghost use Rattle.sb_codec.specs.Least.{pair_reached};
 
     ghost spelling = { pair };
 
@@ -131,7 +131,7 @@ impl ListItem for Row {
     ghost use Rattle.std.proofs.Common.{lit<};
     ghost use Rattle.sb_codec.specs.Spelling.{row};
     ghost use Rattle.sb_codec.specs.Reading.{row_field};
-    ghost use Rattle.sb_codec.proofs.Least.{row_reached};
+    ghost use Rattle.sb_codec.specs.Least.{row_reached};
 
     ghost spelling = { row };
 

@@ -3,6 +3,7 @@
 
 mod frames;
 mod front;
+mod last_read;
 mod last_write;
 mod laws;
 mod receiving;
@@ -10,6 +11,7 @@ mod sending;
 mod steps;
 
 pub use frames::{Frames, READ_LENGTH};
+pub use last_read::LastRead;
 pub use last_write::LastWrite;
 pub use laws::{
     a_read_has_this_length, faults_are_of_the_bytes, frames_are_read, frames_have_a_length,
@@ -18,4 +20,4 @@ pub use laws::{
 };
 pub use receiving::{receive, receive_within};
 pub use sending::{frame_of, send, send_from, send_telling, write_counted};
-pub use steps::{Steps, read_within};
+pub use steps::{Steps, read_telling, read_within};

@@ -1,8 +1,7 @@
--- The shortest items of counted lists.
-use Rattle.std.proofs.Common.{◌≡◌, List, [], ◌∷◌, length, Some, refl}
+-- The shortest items of counted lists: each is read back out of as few bytes.
+use Rattle.std.specs.Prelude.{◌≡◌, refl, false, List, [], ◌∷◌, length, Some}
 use Rattle.sb_types.specs.declared.entry.Slot.TheVariants.{Removed}
 use Rattle.sb_types.specs.Value.{Flag}
-use Rattle.std.specs.Prelude.{false}
 use Rattle.sb_types.specs.Records.{Entry, Block}
 use Rattle.sb_digest.specs.Digests.{Pair}
 use Rattle.sb_codec.specs.Records.{Row, row_of}
@@ -10,7 +9,7 @@ use Rattle.sb_codec.specs.Fields.{byte_field, bytes_field, number_field, text_fi
 use Rattle.sb_codec.specs.Spelling.{number, slot, content, entry, block, pair, row}
 use Rattle.sb_codec.specs.Reading.{name_field, key_field, weight_field, flag_field, slot_field, value_field, entry_field, block_field, pair_field, row_field}
 
-abbrev first_removal : Entry
+abbrev pub first_removal : Entry
 first_removal = record { key = 97 ∷ []; version = 1; slot = Removed }
 
 pub entry_reached : (item : Entry) × (entry_field (entry item) ≡ Some (item, [])) × (length (entry item) ≡ 11)
