@@ -3,7 +3,7 @@ use Rattle.std.specs.Prelude.{◌≡◌, refl, false, List, [], ◌∷◌, lengt
 use Rattle.sb_types.specs.declared.entry.Slot.TheVariants.{Removed}
 use Rattle.sb_types.specs.Value.{Flag}
 use Rattle.sb_types.specs.Records.{Entry, Block}
-use Rattle.sb_digest.specs.Digests.{Pair}
+use Rattle.sb_digest.specs.Digests.{Pair, plain_pair}
 use Rattle.sb_codec.specs.Records.{Row, row_of}
 use Rattle.sb_codec.specs.Fields.{byte_field, bytes_field, number_field, text_field, list_field, times_field}
 use Rattle.sb_codec.specs.Spelling.{number, slot, content, entry, block, pair, row}
@@ -22,7 +22,7 @@ block_reached = (record { owner = 97 ∷ []; floor = 0; after = 0; upto = 1; ent
 
 pub pair_reached : (item : Pair) × (pair_field (pair item) ≡ Some (item, [])) × (length (pair item) ≡ 10)
 unfolding pair number pair_field name_field number_field text_field byte_field bytes_field
-pair_reached = (record { owner = 97 ∷ []; held = 0 }, refl, refl)
+pair_reached = (plain_pair (97 ∷ []) 0, refl, refl)
 
 pub row_reached : (item : Row) × (row_field (row item) ≡ Some (item, [])) × (length (row item) ≡ 14)
 unfolding row content number row_field name_field key_field value_field flag_field number_field text_field byte_field bytes_field

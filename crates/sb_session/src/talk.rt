@@ -1,7 +1,7 @@
 //! A whole session over a reader and a writer.
 
 ghost use Rattle.std.specs.Prelude.{◌≡◌, ◌≢◌, ◌+◌, ℕ, true, false, [], ◌∷◌, Some, None, IfOk, IfErr};
-ghost use Rattle.sb_frames.specs.Sending.{OnlyWhereFailed};
+ghost use Rattle.sb_frames.specs.Sending.{has_failed, OnlyWhereFailed};
 ghost use Rattle.sb_frames.specs.Receiving.{OnlyWhereReadFailed};
 ghost use Rattle.sb_session.specs.Telling.{Says};
 ghost use Rattle.sb_session.specs.Taking.{messages_of, bye_of};
@@ -11,7 +11,7 @@ use crate::handler::Handler;
 use crate::replies::Replies;
 use crate::session::Session;
 use sb_codec::{Bye, Message};
-use sb_frames::{Frames, LastRead, LastWrite, Steps, receive_within, send_from};
+use sb_frames::{Frames, LastRead, LastWrite, Steps, receive_within, send_on};
 use sb_types::{Fault, REASON_ROUNDS_DONE};
 use std::alloc::Global;
 use std::io::{Read, Write};
@@ -35,13 +35,13 @@ fn say<W: Write>(
     last: &mut LastWrite,
     message: Message,
 ) -> Result<(), Fault>
+    requires goes_on { has_failed last.old ≡ false }
     ensures says { Says (W.contents writer.old) (W.contents writer.new) (message ∷ []) result }
     ensures failed { OnlyWhereFailed result last.new }
+    ensures goes_on { IfOk result (λ _. has_failed last.new ≡ false) }
     ensures unread { IfErr result (λ fault. fault ≢ Fault.ReadFailed) }
 {
-    let (sent, told) = send_from(buffer, writer, &message);
-    *last = told;
-    sent
+    send_on(buffer, writer, &message, last)
 }
 
 /// Sends what comes of a message that was taken, and gives the reason of a Bye.
@@ -51,9 +51,11 @@ fn reply<W: Write>(
     last: &mut LastWrite,
     replies: Replies,
 ) -> Result<Option<u8>, Fault>
+    requires goes_on { has_failed last.old ≡ false }
     ensures says { Says (W.contents writer.old) (W.contents writer.new) (messages_of replies) result }
     ensures bye { IfOk result (λ bye. bye ≡ bye_of replies) }
     ensures failed { OnlyWhereFailed result last.new }
+    ensures goes_on { IfOk result (λ _. has_failed last.new ≡ false) }
     ensures unread { IfErr result (λ fault. fault ≢ Fault.ReadFailed) }
 {
     match replies {
@@ -80,8 +82,10 @@ fn hear<W: Write, H: Handler>(
     handler: &mut H,
     message: Message,
 ) -> Result<Option<u8>, Fault>
+    requires goes_on { has_failed last.old ≡ false }
     ensures hears { Hearing H.step message session.old handler.old session.new handler.new (W.contents writer.old) (W.contents writer.new) result }
     ensures failed { OnlyWhereFailed result last.new }
+    ensures goes_on { IfOk result (λ _. has_failed last.new ≡ false) }
     ensures unread { IfErr result (λ fault. fault ≢ Fault.ReadFailed) }
     ensures grows { H.grows handler.old handler.new }
 {
@@ -98,8 +102,10 @@ fn speak<W: Write, H: Handler>(
     handler: &mut H,
     rounds: Option<u64>,
 ) -> Result<bool, Fault>
+    requires goes_on { has_failed last.old ≡ false }
     ensures speaks { Speaking H.step rounds session.old handler.old session.new handler.new (W.contents writer.old) (W.contents writer.new) result }
     ensures failed { OnlyWhereFailed result last.new }
+    ensures goes_on { IfOk result (λ _. has_failed last.new ≡ false) }
     ensures unread { IfErr result (λ fault. fault ≢ Fault.ReadFailed) }
     ensures grows { H.grows handler.old handler.new }
 {
@@ -152,6 +158,7 @@ fn talk<R: Read, W: Write, H: Handler, L: Ledger>(
     last: &mut LastWrite,
     read: &mut LastRead,
 ) -> Result<Ended, Fault>
+    requires goes_on { has_failed last.old ≡ false }
     ensures talks { (left : ℕ) × Talks H.step (party_of true all first handler.old) handler.new (R.remaining reader.old) (R.remaining reader.new)
         (W.contents writer.old) (W.contents writer.new) max_reads left result × (steps.new + left ≡ steps.old + max_reads) }
     ensures failed { OnlyWhereFailed result last.new }

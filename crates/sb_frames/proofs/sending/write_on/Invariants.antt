@@ -1,7 +1,7 @@
 use Rattle.std.proofs.Common.{◌≡◌, ◌+◌, ◌-◌, ◌*◌, ◌≤◌, false, length, take}
 use Rattle.sb_frames.specs.Sending.{has_failed, times_of}
 use Rattle.std.specs.Io.KnownBytes.{Appends}
-use Rattle.sb_frames.proofs.sending.write_counted.Given as goal
+use Rattle.sb_frames.proofs.sending.write_on.Given as goal
 
 abbrev pub invariant-loop-count : goal.invariant-loop-count
 invariant-loop-count g l = record {

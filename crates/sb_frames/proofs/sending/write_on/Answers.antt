@@ -4,7 +4,7 @@ use Rattle.std.proofs.lemmas.List.{take_rest}
 use Rattle.std.proofs.KnownBytes.{Appends-trans, Appends-kept}
 use Rattle.sb_frames.specs.Sending.{has_failed}
 use Rattle.sb_frames.proofs.Outcomes.{some_took}
-use Rattle.sb_frames.proofs.sending.write_counted.Goals as goal
+use Rattle.sb_frames.proofs.sending.write_on.Goals as goal
 
 pub loop-count-preserved-in-Ok : goal.loop-count-preserved-in-Ok
 loop-count-preserved-in-Ok g c =
