@@ -71,6 +71,7 @@ impl LastWrite {
     }
 
     /// One write of some bytes, where the last one did not fail. No other function of this crate writes to a writer.
+    #[tactic(auto, using(crate::proofs::Outcomes::few_times))]
     pub(crate) fn write<W: Write>(&mut self, writer: &mut W, bytes: &[u8]) -> io::Result<usize>
         requires some { 0 < length bytes.now }
         requires goes_on { has_failed self.old ≡ false }
