@@ -1,5 +1,6 @@
-use Rattle.std.proofs.Common.{Some, None, Ok, sym}
+use Rattle.std.proofs.Common.{Option, Some, None, Ok, sym}
 use Rattle.std.proofs.lemmas.Result.{err_from_is_err_and}
+use Rattle.sb_codec.specs.declared.message.Message.{Message}
 use Rattle.sb_frames.specs.Streams.{TakesNext}
 use Rattle.sb_frames.specs.Receiving.{held_of, Fills}
 use Rattle.sb_frames.proofs.OutOfReaders.{reading_goes, reading_cut, taken_unread, ended_unread}
@@ -22,10 +23,10 @@ returns-in_err-end-clause-gives g c =
 
 pub returns-in_err-message-clause-failed : goal.returns-in_err-message-clause-failed
 returns-in_err-message-clause-failed g c =
-    let p = err_from_is_err_and c.from_residual-in_err-message.result c.from_residual-in_err-message.ensures.1 in
-    rw (p.1, p.2) (taken_unread _ c.loop-message.frames c.next.new.self _ _ c.in_err-message.ensures)
+    let p = err_from_is_err_and c.from_residual.result c.from_residual.ensures.1 in
+    rw (p.1, p.2) (taken_unread (Option Message) c.loop-message.frames c.next.new.self _ _ c.in_err-message.ensures)
 
 pub returns-in_err-end-clause-failed : goal.returns-in_err-end-clause-failed
 returns-in_err-end-clause-failed g c =
     let p = err_from_is_err_and c.from_residual-in_err-end.result c.from_residual-in_err-end.ensures.1 in
-    rw (p.1, p.2) (ended_unread _ c.fill.new.self _ _ (sym c.in_err-end.ensures))
+    rw (p.1, p.2) (ended_unread (Option Message) c.fill.new.self _ _ (sym c.in_err-end.ensures))

@@ -1,6 +1,6 @@
 use Rattle.std.proofs.Common.{◌≡◌, Bool, true, false, [], ◌∷◌, Err, refl, ap, ◌∙◌, arith}
 use Rattle.std.proofs.lemmas.Result.{err_from_is_err_and}
-use Rattle.sb_session.proofs.Saying.{received_wrote}
+use Rattle.sb_session.proofs.Saying.{received_wrote, unread}
 use Rattle.sb_session.specs.Talks.{party_of}
 use Rattle.sb_session.proofs.Talking.{
   Talking,
@@ -250,3 +250,23 @@ returns-clause-talks g c =
           c.in_ok-message.ensures.gives),
       omega (arith, i.counted, c.receive_within.ensures.counted),
     )
+
+pub returns-in_err-say-clause-read : goal.returns-in_err-say-clause-read
+returns-in_err-say-clause-read g c =
+    let p = err_from_is_err_and c.from_residual.result c.from_residual.ensures.1 in
+    unread c.from_residual.result _ _ (p.1 ∙ ap Err p.2) c.in_err-say.ensures.unread
+
+pub returns-in_err-speak-clause-read : goal.returns-in_err-speak-clause-read
+returns-in_err-speak-clause-read g c =
+    let p = err_from_is_err_and c.from_residual-in_err-speak.result c.from_residual-in_err-speak.ensures.1 in
+    unread c.from_residual-in_err-speak.result _ _ (p.1 ∙ ap Err p.2) c.in_err-speak.ensures.unread
+
+pub returns-in_err-reason-clause-read : goal.returns-in_err-reason-clause-read
+returns-in_err-reason-clause-read g c =
+    let p = err_from_is_err_and c.from_residual-in_err-reason.result c.from_residual-in_err-reason.ensures.1 in
+    unread c.from_residual-in_err-reason.result _ _ (p.1 ∙ ap Err p.2) c.in_err-reason.ensures.unread
+
+pub returns-in_err-speak-2-clause-read : goal.returns-in_err-speak-2-clause-read
+returns-in_err-speak-2-clause-read g c =
+    let p = err_from_is_err_and c.from_residual-in_err-speak-2.result c.from_residual-in_err-speak-2.ensures.1 in
+    unread c.from_residual-in_err-speak-2.result _ _ (p.1 ∙ ap Err p.2) c.in_err-speak-2.ensures.unread
