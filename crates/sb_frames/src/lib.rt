@@ -19,7 +19,5 @@ pub use laws::{
     streams_have_one_reading, verdicts_stand,
 };
 pub use receiving::{receive, receive_within};
-pub use sending::{
-    frame_of, send, send_from, send_on, send_telling, write_counted, write_on,
-};
+pub use sending::{frame_of, send, send_from, send_on, send_telling, write_counted, write_on};
 pub use steps::{Steps, read_telling, read_within};

@@ -41,11 +41,7 @@ pub fn frame_of(alloc: Global, message: &Message) -> Result<Vec<u8>, Fault>
 /// Writes all of the bytes, behind a write that did not fail, and tells what the last one answered. `WriteFailed` with how
 /// many were written, always fewer than all. A write that takes no byte has failed, and so has one that was interrupted
 /// 1,001 times in a row; after fewer it is made again.
-pub fn write_on<W: Write>(
-    writer: &mut W,
-    bytes: &[u8],
-    last: &mut LastWrite,
-) -> Result<(), Fault>
+pub fn write_on<W: Write>(writer: &mut W, bytes: &[u8], last: &mut LastWrite) -> Result<(), Fault>
     requires goes_on { has_failed last.old ≡ false }
     ensures sends { Sends (W.contents writer.old) (W.contents writer.new) bytes.now result }
     ensures failed { OnlyWhereFailed result last.new }

@@ -124,13 +124,7 @@ fn frame_received(
 }
 
 /// A frame, which is no Bye, comes with so many reads and not with one less.
-fn needs_reads(
-    rt: &impl Abort,
-    alloc: Global,
-    frame: &[u8],
-    pieces: (usize, u32),
-    reads: u64,
-) {
+fn needs_reads(rt: &impl Abort, alloc: Global, frame: &[u8], pieces: (usize, u32), reads: u64) {
     let found = frame_received(rt, alloc, frame, pieces, reads);
     same_at(rt, &pieces, &found, &(0, Ok(Some(false))));
     let found = frame_received(rt, alloc, frame, pieces, reads.saturating_sub(1));

@@ -271,7 +271,12 @@ fn bytes_come_in_any_pieces(rt: HostRuntime) {
 }
 
 /// The course ends as it is to, though so many reads are interrupted before each that gives bytes.
-fn ends_though_interrupted(rt: &impl Abort, alloc: Global, course: &Course<'_>, interruptions: u32) {
+fn ends_though_interrupted(
+    rt: &impl Abort,
+    alloc: Global,
+    course: &Course<'_>,
+    interruptions: u32,
+) {
     let input = joined(rt, alloc, &course.heard);
     let mut terms = hearing(course, &input);
     terms.interruptions = interruptions;
@@ -295,7 +300,14 @@ fn unread(rt: &impl Abort, alloc: Global, course: &Course<'_>, room: usize) -> u
     let mut reader = reader_of(&terms);
     let session = Session::new(name(rt, b"c1"), *node.holdings.me());
     let mut writer = Room::new(room);
-    let (_, _) = talk_on::<Brand>(&mut node, &mut reader, &mut writer, session, terms, Blank::new(1));
+    let (_, _) = talk_on::<Brand>(
+        &mut node,
+        &mut reader,
+        &mut writer,
+        session,
+        terms,
+        Blank::new(1),
+    );
     reader.bytes.len()
 }
 
