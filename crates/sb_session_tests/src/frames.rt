@@ -480,7 +480,7 @@ impl Write for Broken {
 }
 
 /// What a writer gives a message one of whose writes fails, and how many writes are made.
-fn broken(alloc: Global, message: &Message, fails_at: u32) -> (Result<(), Fault>, u32) {
+fn sent_broken(alloc: Global, message: &Message, fails_at: u32) -> (Result<(), Fault>, u32) {
     let mut writer = Broken {
         fails_at,
         writes: 0,
@@ -496,9 +496,9 @@ fn a_failed_write_is_the_last(rt: HostRuntime) {
     let message = message(&rt, alloc);
     let first = (Err(Fault::WriteFailed(0)), 1);
     let second = (Err(Fault::WriteFailed(20)), 2);
-    same(&rt, &broken(alloc, &message, 1), &first);
-    same(&rt, &broken(alloc, &message, 2), &second);
-    same(&rt, &broken(alloc, &message, 3), &(Ok(()), 2));
+    same(&rt, &sent_broken(alloc, &message, 1), &first);
+    same(&rt, &sent_broken(alloc, &message, 2), &second);
+    same(&rt, &sent_broken(alloc, &message, 3), &(Ok(()), 2));
 }
 
 /// The example that stands at `Frames`.

@@ -135,8 +135,8 @@ fn needs_reads(rt: &impl Abort, alloc: Global, frame: &[u8], pieces: (usize, u32
 fn the_greatest_frame_comes(rt: HostRuntime) {
     let alloc = rt.alloc();
     let frame = greatest_frame(&rt, alloc);
-    needs_reads(&rt, alloc, &frame, (1, 0), 65_536);
-    needs_reads(&rt, alloc, &frame, (1, 1), 131_072);
+    needs_reads(&rt, alloc, &frame, (16, 0), 4_096);
+    needs_reads(&rt, alloc, &frame, (61, 3), 4_300);
     needs_reads(&rt, alloc, &frame, (4_000, 0), 17);
     needs_reads(&rt, alloc, &frame, (4_096, 0), 16);
     needs_reads(&rt, alloc, &frame, (4_096, 3_000), 48_016);
