@@ -1,5 +1,5 @@
 -- The shortest items of counted lists: each is read back out of as few bytes.
-use Rattle.std.specs.Prelude.{◌≡◌, refl, false, List, [], ◌∷◌, length, Some}
+use Rattle.std.specs.Prelude.{◌≡◌, refl, false, [], ◌∷◌, length, Some}
 use Rattle.sb_types.specs.declared.entry.Slot.TheVariants.{Removed}
 use Rattle.sb_types.specs.Value.{Flag}
 use Rattle.sb_types.specs.Records.{Entry, Block}
@@ -7,7 +7,7 @@ use Rattle.sb_digest.specs.Digests.{Pair, plain_pair}
 use Rattle.sb_codec.specs.Records.{Row, row_of}
 use Rattle.sb_codec.specs.Fields.{byte_field, bytes_field, number_field, text_field, list_field, times_field}
 use Rattle.sb_codec.specs.Spelling.{number, slot, content, entry, block, pair, row}
-use Rattle.sb_codec.specs.Reading.{name_field, key_field, weight_field, flag_field, slot_field, value_field, entry_field, block_field, pair_field, row_field}
+use Rattle.sb_codec.specs.Reading.{name_field, key_field, flag_field, slot_field, value_field, entry_field, block_field, pair_field, row_field}
 
 abbrev pub first_removal : Entry
 first_removal = record { key = 97 ∷ []; version = 1; slot = Removed }

@@ -1,10 +1,9 @@
 -- How a write ended.
-use Rattle.std.proofs.Common.{◌≡◌, ℕ, ◌+◌, ◌≤◌, true, false, ◌==◌, if◌then◌else◌, sym, ap, ◌∙◌, Result, Ok, Err, inl, inr, refl, arith}
+use Rattle.std.proofs.Common.{◌≡◌, ℕ, ◌≤◌, false, ◌==◌, if◌then◌else◌, arith}
 use Rattle.std.proofs.lemmas.Bool.{ne_eqb, ltb-false}
-use Rattle.std.specs.declared.io.Error.{Error}
 use Rattle.sb_frames.specs.declared.last_write.Outcome.{Outcome}
 use Rattle.sb_frames.specs.declared.last_write.Outcome.TheVariants.{Took, Interrupted, Failed}
-use Rattle.sb_frames.specs.Sending.{has_failed, times_of, Tells}
+use Rattle.sb_frames.specs.Sending.{has_failed, times_of}
 
 -- one that took bytes did not fail
 pub some_took : (count : ℕ) (outcome : Outcome) → outcome ≡ (if count == 0 then Failed else Took) → (count ≡ 0 → ⊥) → outcome ≡ Took
@@ -15,11 +14,3 @@ pub few_times : (outcome : Outcome) → has_failed outcome ≡ false → times_o
 few_times Took e = omega arith
 few_times (Interrupted times) e = ltb-false 1000 times e
 few_times Failed e = absurd cc
-
--- one that was interrupted, and did not fail, is counted
-pub one_more : (old : Outcome) (error : Error) (new : Outcome) → Tells old (Err error) new → has_failed new ≡ false → times_of new ≡ 1 + times_of old
-one_more old error new tells goes_on =
-    elim tells [
-      | inl failed ↦ let same : true ≡ false = sym (ap has_failed failed.0) ∙ goes_on in absurd cc
-      | inr interrupted ↦ ap times_of interrupted.0
-    ]

@@ -1,7 +1,7 @@
-use Rattle.std.proofs.Common.{arith, length-drop, ap, ◌∙◌}
+use Rattle.std.proofs.Common.{arith, length-drop, ap}
 use Rattle.std.proofs.Math.Seq.{take-add}
 use Rattle.std.proofs.lemmas.List.{take_rest}
-use Rattle.std.proofs.KnownBytes.{Appends-trans, Appends-kept}
+use Rattle.std.proofs.KnownBytes.{Appends-trans}
 use Rattle.sb_frames.specs.Sending.{has_failed}
 use Rattle.sb_frames.proofs.Outcomes.{some_took}
 use Rattle.sb_frames.proofs.sending.write_on.Goals as goal
