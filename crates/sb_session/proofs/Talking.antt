@@ -24,7 +24,7 @@ use Rattle.sb_session.specs.Handlers.{Act}
 use Rattle.sb_session.specs.Sessions.{Session, hello_of}
 use Rattle.sb_session.specs.Taking.{TakesUnless, TakesUp, AnswersDigest, Asks, messages_of, bye_of}
 use Rattle.sb_session.specs.Telling.{CutShort, Says}
-use Rattle.sb_session.specs.Talks.{Party, party_of, ends_round, rounds_after, are_done, Speaks, SpeaksOn, Move, hears, speaks, Moves, Refuses, Run, heard_in, Cuts, in_hello, in_last, Ends, at_end, at_bye, at_rounds, at_reading, at_message, at_speaking, at_writing, Talks, Hearing, Speaking}
+use Rattle.sb_session.specs.Talks.{Party, party_of, ends_round, rounds_after, are_done, Speaks, SpeaksOn, Move, hears, speaks, Moves, Refuses, Run, heard_in, in_hello, in_last, Ends, at_end, at_bye, at_rounds, at_reading, at_message, at_speaking, at_writing, Talks, Hearing, Speaking}
 use Rattle.sb_session.proofs.Saying.{kept_after, put_behind}
 
 -- the message that a move takes out of what was read
