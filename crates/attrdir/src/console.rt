@@ -1,9 +1,11 @@
 //! What a node that runs says on standard error.
+use crate::metrics::Metrics;
 use jiff::Timestamp;
-use sb_run::Observer;
+use sb_run::{Observer, Status};
 use sb_session::Ended;
-use sb_types::Fault;
-use std::fmt;
+use sb_types::{Fault, KEYS_MOST, OWNERS_MOST};
+use std::sync::atomic::{AtomicBool, Ordering};
+use std::{fmt, fs, io};
 
 /// How much a line matters.
 #[derive(Clone, Copy)]
@@ -49,6 +51,41 @@ pub(crate) struct Console<'r, 'a> {
     pub(crate) control: &'a str,
     /// Whether each line begins with the time.
     pub(crate) has_time: bool,
+    /// The file that tells how the node is; none where the path is empty.
+    pub(crate) metrics: &'a str,
+    /// Whether it was said that keys, and owners, run out.
+    pub(crate) is_full: Fullness,
+}
+
+/// What was said to run out.
+#[derive(Drop)]
+pub(crate) struct Fullness {
+    keys: AtomicBool,
+    owners: AtomicBool,
+}
+
+impl Fullness {
+    /// Nothing was said yet.
+    pub(crate) fn new() -> Fullness {
+        Fullness {
+            keys: AtomicBool::new(false),
+            owners: AtomicBool::new(false),
+        }
+    }
+}
+
+/// Whether so many of at most so many are nine tenths or more.
+fn is_nearly(count: usize, most: usize) -> bool {
+    count.saturating_mul(10) >= most.saturating_mul(9)
+}
+
+/// Writes how the node is to a file, as a whole: another one is written beside it and takes its place.
+fn write_metrics(rt: &HostRuntime, path: &str, status: &Status<'_>) -> io::Result<()> {
+    let metrics = Metrics { status };
+    let beside = format!(in rt.alloc(); "{path}.new")?;
+    let text = format!(in rt.alloc(); "{metrics}")?;
+    fs::write(rt, beside.as_str(), text.as_str())?;
+    fs::rename(rt, beside.as_str(), path)
 }
 
 impl Console<'_, '_> {
@@ -65,6 +102,17 @@ impl Console<'_, '_> {
         Head {
             time: self.time(),
             level,
+        }
+    }
+
+    /// Says once that something runs out, where it does.
+    fn warn(&self, was_said: &AtomicBool, what: &str, count: usize, most: usize) {
+        if is_nearly(count, most) && !was_said.swap(true, Ordering::SeqCst) {
+            let (rt, head) = (self.rt, self.head(Level::Warning));
+            let _ = eprintln!(rt;
+                "{head} node {}: {count} of {most} {what} are used",
+                self.name
+            );
         }
     }
 
@@ -117,6 +165,23 @@ impl Observer for Console<'_, '_> {
             self.log,
             fault.number()
         );
+    }
+
+    fn wants_status(&self) -> bool {
+        true
+    }
+
+    fn status(&self, status: &Status<'_>) {
+        let owners = status.snapshot.sheets().count();
+        self.warn(&self.is_full.keys, "keys", status.keys, KEYS_MOST);
+        self.warn(&self.is_full.owners, "owners", owners, OWNERS_MOST);
+        if !self.metrics.is_empty() && write_metrics(self.rt, self.metrics, status).is_err() {
+            let (rt, head) = (self.rt, self.head(Level::Warning));
+            let _ = eprintln!(rt;
+                "{head} metrics {}: they could not be written",
+                self.metrics
+            );
+        }
     }
 
     fn socket_removed(&self, path: &str) {

@@ -11,6 +11,7 @@ mod failure;
 mod help;
 mod keeping;
 mod log_file;
+mod metrics;
 mod one_row;
 mod owners;
 mod pausing;

@@ -1,5 +1,5 @@
 //! A node that runs.
-use crate::console::Console;
+use crate::console::{Console, Fullness};
 use crate::failure::{Failure, Place, Setting};
 use crate::log_file::open_log;
 use crate::words::name_of;
@@ -31,6 +31,8 @@ pub(crate) struct Given<'a> {
     pub(crate) pace: Pace,
     /// Whether each line on standard error begins with the time.
     pub(crate) has_time: bool,
+    /// The file that tells how the node is; none where the path is empty.
+    pub(crate) metrics: &'a str,
 }
 
 /// Prints what the node did. `WriteFailed` where standard output does not take it.
@@ -136,6 +138,8 @@ fn run<
         sock: given.sock,
         control: given.control,
         has_time: given.has_time,
+        metrics: given.metrics,
+        is_full: Fullness::new(),
     };
     let ran = run_node(
         runtime,
