@@ -1,13 +1,13 @@
 //! What a crash leaves of a log in files, on disks of which a call fails, and each one after it or none.
-use crate::disks::{Calls, ENDLESS, Visit, new_disks, on_disks};
+use crate::disks::{Calls, ENDLESS, Visit, new_disks, on_disks, whole_copy};
 use crate::faulty::After;
-use crate::writes::{OWNER, key, name, set};
+use crate::writes::{OWNER, key, name, remove, set};
 use crate::{got, same, same_at};
 use sb_log::{SqlLog, WriteLog};
 use sb_table::Table;
 use sb_types::{Fault, Key, Slot};
 use sqlite::{Alter, Connection, Files};
-use sqlite_disk::{Crash, Disk, Memory};
+use sqlite_disk::{Crash, Memory};
 use std::alloc::Global;
 use std::process::Abort;
 
@@ -15,12 +15,7 @@ use std::process::Abort;
 type Content = (usize, u64, Option<u64>);
 
 /// What a log holds after so many of the writes of `put_three`.
-const CONTENTS: [Content; 4] = [
-    (0, 0, None),
-    (1, 1, Some(5)),
-    (2, 2, Some(5)),
-    (2, 3, Some(7)),
-];
+const CONTENTS: [Content; 4] = [(0, 0, None), (1, 1, Some(5)), (1, 2, None), (1, 3, Some(7))];
 
 /// How many writes were acknowledged, and how many were begun.
 #[derive(Clone, Copy, PartialEq, Eq, Debug)]
@@ -44,7 +39,10 @@ fn open<S: Alter + Drop>(
     alloc: Global,
     conn: Connection<S>,
 ) -> Result<SqlLog<S>, Fault> {
-    SqlLog::open(alloc, conn, name(rt, OWNER), name(rt, b"c"), 9)
+    match SqlLog::open(alloc, conn, name(rt, OWNER), name(rt, b"c"), 9) {
+        Ok(log) => Ok(log),
+        Err((fault, _)) => Err(fault),
+    }
 }
 
 /// Where the write behind so many acknowledged ones failed. Where the store did, the log takes no other, be the disk as it may.
@@ -63,12 +61,12 @@ fn failed_after<L: WriteLog>(
     }
 }
 
-/// Writes until a write fails.
+/// Writes until a write fails; the second removes what the first set.
 fn put_three<L: WriteLog>(rt: &impl Abort, log: &mut L) -> Progress {
     if let Err(fault) = set(rt, log, b"x", 5) {
         return failed_after(rt, log, 0, fault);
     }
-    if let Err(fault) = set(rt, log, b"y", 6) {
+    if let Err(fault) = remove(rt, log, b"x") {
         return failed_after(rt, log, 1, fault);
     }
     if let Err(fault) = set(rt, log, b"x", 7) {
@@ -131,14 +129,6 @@ impl Visit for Reopening {
     }
 }
 
-/// The disk of a process that ended: all that was written is there.
-fn left_whole(rt: &impl Abort, alloc: Global, disk: &Memory) -> Memory {
-    let mut whole = Memory::new(alloc);
-    got(rt, whole.write_at(0, disk.bytes()));
-    got(rt, whole.sync());
-    whole
-}
-
 /// Whether what a log holds is what was acknowledged, or what was begun.
 fn is_kept(content: Content, progress: Progress) -> bool {
     CONTENTS.get(progress.acknowledged) == Some(&content)
@@ -160,11 +150,7 @@ fn recovers(rt: &impl Abort, alloc: Global, disks: &mut Files<Memory>, progress:
 
 /// The same of the process that ended, whose disks lose nothing.
 fn recovers_whole(rt: &impl Abort, alloc: Global, disks: &Files<Memory>, progress: Progress) {
-    let mut whole = Files {
-        log: left_whole(rt, alloc, &disks.log),
-        db: left_whole(rt, alloc, &disks.db),
-    };
-    recovers(rt, alloc, &mut whole, progress);
+    recovers(rt, alloc, &mut whole_copy(rt, alloc, disks), progress);
 }
 
 /// Lets calls of the disks fail, and then what was not synced stay, and be lost.
@@ -200,6 +186,15 @@ fn no_call_is_left_out(rt: HostRuntime) {
     };
     let progress = stop(&rt, rt.alloc(), calls);
     same(&rt, &progress, &ALL);
+}
+
+// With one call less of the log file the third write fails, and with one less of the database file the log is not opened.
+#[test]
+fn no_call_is_one_too_many(rt: HostRuntime) {
+    let log = stop(&rt, rt.alloc(), Calls { log: 49, ..ENDLESS });
+    same(&rt, &log.acknowledged, &2);
+    let db = stop(&rt, rt.alloc(), Calls { db: 13, ..ENDLESS });
+    same(&rt, &db, &NOTHING);
 }
 
 #[test]

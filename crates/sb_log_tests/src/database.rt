@@ -23,7 +23,10 @@ fn opened<S: Alter + Drop>(
     owner: &[u8],
     max_version: u64,
 ) -> Result<SqlLog<S>, Fault> {
-    SqlLog::open(alloc, conn, name(rt, owner), name(rt, b"sim"), max_version)
+    match SqlLog::open(alloc, conn, name(rt, owner), name(rt, b"sim"), max_version) {
+        Ok(log) => Ok(log),
+        Err((fault, _)) => Err(fault),
+    }
 }
 
 fn open<S: Alter + Drop>(

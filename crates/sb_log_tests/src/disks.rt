@@ -1,5 +1,6 @@
 //! Two disks in memory, and a database over them of which a call fails.
 use crate::faulty::{After, Faulty};
+use crate::got;
 use crate::lent::Lent;
 use sb_types::Fault;
 use sqlite::{Alter, Connection, Files, Options};
@@ -26,6 +27,22 @@ pub fn new_disks(alloc: Global) -> Files<Memory> {
     Files {
         log: Memory::new(alloc),
         db: Memory::new(alloc),
+    }
+}
+
+/// The disk of a process that ended: all that was written is there.
+fn left_whole(rt: &impl Abort, alloc: Global, disk: &Memory) -> Memory {
+    let mut whole = Memory::new(alloc);
+    got(rt, whole.write_at(0, disk.bytes()));
+    got(rt, whole.sync());
+    whole
+}
+
+/// Files with the same bytes, all of which are synced.
+pub fn whole_copy(rt: &impl Abort, alloc: Global, files: &Files<Memory>) -> Files<Memory> {
+    Files {
+        log: left_whole(rt, alloc, &files.log),
+        db: left_whole(rt, alloc, &files.db),
     }
 }
 
@@ -70,7 +87,12 @@ fn on_files<D: Disk + Drop, V: Visit + Drop>(
     if !files.db.may_be_used() {
         return Err(Fault::StoreFailed);
     }
-    match Connection::open_files(alloc, files, Options::new(7)).ok() {
+    // Each page of these databases has room, and a large cache takes long to make.
+    let options = Options {
+        cache_pages: 20,
+        ..Options::new(7)
+    };
+    match Connection::open_files(alloc, files, options).ok() {
         Some(conn) => Ok(visitor.visit(rt, alloc, conn)),
         None => Err(Fault::StoreFailed),
     }

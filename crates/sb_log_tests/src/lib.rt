@@ -11,7 +11,11 @@ mod disks;
 #[cfg(test)]
 mod faulty;
 #[cfg(test)]
+mod lasting;
+#[cfg(test)]
 mod lent;
+#[cfg(test)]
+mod openings;
 #[cfg(test)]
 mod plain;
 #[cfg(test)]
