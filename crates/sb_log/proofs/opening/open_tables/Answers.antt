@@ -113,4 +113,4 @@ returns-clause-whole g c clean t opens =
     let prepared = c.in_ok-make_tables.ensures.prepared clean1 in
     let completes = c.in_ok-make_tables.ensures.completes clean1 in
     absurd (never_more c.args.owner.now c.args.cluster.now old.now mid.now t completes opens c.in_ok-found.found.items (c.in_ok-found.ensures.rows clean prepared)
-      (rw c.as_slice.ensures.value at c.in_default.len_at_least))
+    (rw c.as_slice.ensures.value at c.in_default.len_at_least))
