@@ -7,10 +7,9 @@ import socket
 import threading
 import time
 
-from nodes import SECONDS, Difference, ask, connect, exchange, number, put, version_of, want, weight
-
-# How many milliseconds no part waits out.
-LONG = "60000"
+from check_metrics import awaits
+from check_serving import Peer
+from nodes import SECONDS, Difference, ask, connect, exchange, hello, number, put, version_of, want, weight
 
 
 def seconds_until(node, owner, version):
@@ -58,6 +57,23 @@ def news(check):
     seconds = seconds_until(other, "a", node.put("k", 1))
     if seconds < 1:
         raise Difference(f"with --fanout 0 a write took {seconds:.2f} s")
+
+
+def faulty_peers(check):
+    """A peer whose last round had a fault is dialed in its turn alone, whatever news there is."""
+    folder, dialed = check.folder(), []
+    Peer(folder / "wrong.sock", 0, dialed, hello("x", "d"))
+    other = check.node("b", folder=folder).start()
+    node = check.node("a", "--pause", "2000", folder=folder, peers=[folder / "wrong.sock", other.sock]).start()
+    end = time.monotonic() + SECONDS
+    while len(node.lines()) < 3 and time.monotonic() < end:
+        time.sleep(0.01)
+    before, began = len(dialed), time.monotonic()
+    for at in range(20):
+        seconds_until(other, "a", node.put("k", at))
+    turns = 1 + (time.monotonic() - began) // 2
+    if len(dialed) - before > turns:
+        raise Difference(f"a peer of another cluster was dialed {len(dialed) - before} times in {time.monotonic() - began:.2f} s of news")
 
 
 class Swallower:
@@ -134,10 +150,13 @@ def fill(node):
 
 def full_disks(check):
     """A log that has no room closes: the node says so once, and goes on without writes, or ends with --on-log-fault exit."""
-    node = check.node("a")
+    folder = check.folder()
+    node = check.node("a", "--metrics", str(folder / "a.prom"), folder=folder)
     node.how["preexec_fn"] = without_room
     node.start()
+    awaits(folder / "a.prom", "a", {("attrdir_log_open",): 1})
     want("the write that had no room", fill(node), (3, "fault 18"))
+    awaits(folder / "a.prom", "a", {("attrdir_log_open",): 0})
     want("the next write", node.command("set", "k", "weight", "6")[2].splitlines()[0], "fault 15")
     rows = len(node.get())
     want("what it says", [it.split(":")[:3] for it in node.lines()[1:]], [["attrdir", f" error log {node.log}", " fault 18"]])
@@ -175,4 +194,4 @@ def times(check):
     want("how its lines begin", [bool(re.match(moment, it)) for it in said], [True, True])
 
 
-PARTS = (news, silent_peers, silent_callers, full_disks, left_sockets, times)
+PARTS = (news, faulty_peers, silent_peers, silent_callers, full_disks, left_sockets, times)

@@ -158,6 +158,7 @@ fn node_of<'a>(rt: &HostRuntime, given: &ArgMatches<'a>) -> Result<Next<'a>, Fai
         peers,
         pace: pace_of(given),
         has_time: given.get_flag("log-time"),
+        metrics: given.get_str("metrics"),
     }))
 }
 

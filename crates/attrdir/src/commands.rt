@@ -327,6 +327,13 @@ const ON_LOG_FAULT: Part = Part {
     help: "What it does when its log cannot be written: go on without writes, or end",
 };
 
+const METRICS: Part = Part {
+    name: "metrics",
+    form: Form::Value,
+    value: "FILE",
+    help: "The file in which it tells how it is, as Prometheus reads it [default: none]",
+};
+
 const LOG_TIME: Part = Part {
     name: "log-time",
     form: Form::Flag,
@@ -359,6 +366,7 @@ const SERVE_TASK: Task = Task {
         MAX_READS,
         ON_LOG_FAULT,
         LOG_TIME,
+        METRICS,
     ],
 };
 

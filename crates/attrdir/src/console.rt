@@ -1,9 +1,12 @@
 //! What a node that runs says on standard error.
+use crate::metrics::Metrics;
+use crate::metrics_file::MetricsFile;
 use jiff::Timestamp;
-use sb_run::Observer;
+use sb_run::{Observer, Status};
 use sb_session::Ended;
-use sb_types::Fault;
+use sb_types::{Fault, KEYS_MOST, OWNERS_MOST};
 use std::fmt;
+use std::sync::atomic::{AtomicBool, Ordering};
 
 /// How much a line matters.
 #[derive(Clone, Copy)]
@@ -49,6 +52,32 @@ pub(crate) struct Console<'r, 'a> {
     pub(crate) control: &'a str,
     /// Whether each line begins with the time.
     pub(crate) has_time: bool,
+    /// The file that tells how the node is.
+    pub(crate) metrics: Option<MetricsFile<'a>>,
+    /// What was said to run out.
+    pub(crate) shortage: Shortage,
+}
+
+/// Of what it was said that it runs out.
+#[derive(Drop)]
+pub(crate) struct Shortage {
+    keys: AtomicBool,
+    owners: AtomicBool,
+}
+
+impl Shortage {
+    /// Nothing was said yet.
+    pub(crate) fn new() -> Shortage {
+        Shortage {
+            keys: AtomicBool::new(false),
+            owners: AtomicBool::new(false),
+        }
+    }
+}
+
+/// Whether so many of at most so many are nine tenths or more.
+fn is_nearly(count: usize, most: usize) -> bool {
+    count.saturating_mul(10) >= most.saturating_mul(9)
 }
 
 impl Console<'_, '_> {
@@ -65,6 +94,39 @@ impl Console<'_, '_> {
         Head {
             time: self.time(),
             level,
+        }
+    }
+
+    /// Says once that something runs out, where it does.
+    fn warn(&self, was_said: &AtomicBool, what: &str, count: usize, most: usize) {
+        if is_nearly(count, most) && !was_said.swap(true, Ordering::SeqCst) {
+            let (rt, head) = (self.rt, self.head(Level::Warning));
+            let _ = eprintln!(rt;
+                "{head} node {}: {count} of {most} {what} are used",
+                self.name
+            );
+        }
+    }
+
+    /// Writes the file of metrics, and says where it can't be written, and where it can again.
+    fn write_metrics(&self, file: &MetricsFile<'_>, metrics: &Metrics<'_, '_>) {
+        let rt = self.rt;
+        let written = file.write(rt, metrics);
+        if !file.note(&written) {
+            return;
+        }
+        let (info, warning) = (self.head(Level::Info), self.head(Level::Warning));
+        let path = file.path();
+        let _ = match written {
+            Ok(()) => eprintln!(rt; "{info} metrics {path}: written again"),
+            Err(error) => eprintln!(rt; "{warning} metrics {path}: cannot be written: {error}"),
+        };
+    }
+
+    /// Removes the file of metrics, which tells of a node that runs.
+    pub(crate) fn remove_metrics(&self) {
+        if let Some(file) = &self.metrics {
+            file.remove(self.rt);
         }
     }
 
@@ -117,6 +179,27 @@ impl Observer for Console<'_, '_> {
             self.log,
             fault.number()
         );
+    }
+
+    fn wants_status(&self) -> bool {
+        true
+    }
+
+    fn status(&self, status: &Status<'_>) {
+        let metrics = Metrics {
+            name: self.name,
+            status,
+        };
+        self.warn(&self.shortage.keys, "keys", status.keys, KEYS_MOST);
+        self.warn(
+            &self.shortage.owners,
+            "owners",
+            metrics.owners(),
+            OWNERS_MOST,
+        );
+        if let Some(file) = &self.metrics {
+            self.write_metrics(file, &metrics);
+        }
     }
 
     fn socket_removed(&self, path: &str) {

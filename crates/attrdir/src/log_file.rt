@@ -56,7 +56,7 @@ pub(crate) fn open_log<'a>(
     let conn = connect(rt, path)?;
     match SqlLog::open(rt.alloc(), conn, owner, cluster, max_version) {
         Ok(log) => Ok(log),
-        Err(fault) => Err(failure(path, fault)),
+        Err((fault, _)) => Err(failure(path, fault)),
     }
 }
 

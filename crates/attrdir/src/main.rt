@@ -11,6 +11,8 @@ mod failure;
 mod help;
 mod keeping;
 mod log_file;
+mod metrics;
+mod metrics_file;
 mod one_row;
 mod owners;
 mod pausing;

@@ -6,7 +6,7 @@ use crate::asking::limit;
 use crate::failure::{Failure, Place};
 use sb_codec::{Bye, Message};
 use sb_digest::{Digest, Pair};
-use sb_frames::{Frames, Steps, receive_within, send};
+use sb_frames::{Frames, LastRead, Steps, receive_within, send};
 use sb_holdings::Report;
 use sb_session::{Handler, Replies, Session};
 use sb_types::{Delta, Fault, KIND_DIGEST, Name, OWNERS_MOST, REASON_ROUNDS_DONE};
@@ -113,7 +113,7 @@ fn hear<R: Read, L: Ledger>(
     left: &mut u64,
     steps: &mut Steps<L>,
 ) -> Result<Replies, Fault> {
-    let Some(message) = receive_within(reader, frames, left, steps)? else {
+    let Some(message) = receive_within(reader, frames, left, steps, &mut LastRead::new())? else {
         return Err(Fault::Truncated);
     };
     match session.take(message, heard)? {

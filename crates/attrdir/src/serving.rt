@@ -1,7 +1,8 @@
 //! A node that runs.
-use crate::console::Console;
+use crate::console::{Console, Shortage};
 use crate::failure::{Failure, Place, Setting};
 use crate::log_file::open_log;
+use crate::metrics_file::{MetricsFile, may_replace, writes_over};
 use crate::words::name_of;
 use sb_log::WriteLog;
 use sb_run::{Pace, Paths, Ran, run_node};
@@ -31,6 +32,8 @@ pub(crate) struct Given<'a> {
     pub(crate) pace: Pace,
     /// Whether each line on standard error begins with the time.
     pub(crate) has_time: bool,
+    /// The path of the file that tells how the node is.
+    pub(crate) metrics: Option<&'a str>,
 }
 
 /// Prints what the node did. `WriteFailed` where standard output does not take it.
@@ -96,6 +99,21 @@ fn unreachable_peer<'a>(given: &Given<'a>) -> Option<&'a str> {
         .find(|path| path.is_empty() || path.len() > SOCKET_PATH_MOST)
 }
 
+/// The path for metrics, where it is empty or these would take the place of something else.
+fn taken_for_metrics<'a>(rt: &HostRuntime, given: &Given<'a>) -> Option<&'a str> {
+    let path = given.metrics?;
+    for other in [given.log, given.sock, given.control] {
+        if writes_over(path, other) {
+            return Some(path);
+        }
+    }
+    if !path.is_empty() && may_replace(rt, path) {
+        None
+    } else {
+        Some(path)
+    }
+}
+
 /// Where a node that does not run met its fault.
 fn place_of<'a>(rt: &HostRuntime, fault: &Fault, given: &Given<'a>) -> Place<'a> {
     match fault {
@@ -129,6 +147,10 @@ fn run<
         control: given.control,
         peers: given.peers.as_slice(),
     };
+    let metrics = match given.metrics {
+        Some(path) => Some(MetricsFile::new(path)),
+        None => None,
+    };
     let console = Console {
         rt,
         name: given.name,
@@ -136,6 +158,8 @@ fn run<
         sock: given.sock,
         control: given.control,
         has_time: given.has_time,
+        metrics,
+        shortage: Shortage::new(),
     };
     let ran = run_node(
         runtime,
@@ -146,6 +170,7 @@ fn run<
         given.pace,
         &console,
     );
+    console.remove_metrics();
     match ran {
         Ok(ran) => {
             console.ended();
@@ -156,7 +181,8 @@ fn run<
 }
 
 /// Runs a node. `BadName` of its name, then `BadSetting`, of too few seats too, then `ReadFailed` where the path of a peer is none
-/// of a socket, before the log is opened; then the faults of `open_log` and of `run_node`, and `WriteFailed` of what is printed at the end.
+/// of a socket, and `WriteFailed` where metrics would take the place of something else, before the log is opened; then the faults of
+/// `open_log` and of `run_node`, and `WriteFailed` of what is printed at the end.
 pub(crate) fn serve<
     'a,
     R: Threads
@@ -177,6 +203,9 @@ pub(crate) fn serve<
     }
     if let Some(path) = unreachable_peer(given) {
         return Err(Failure::at(Place::Peer(path), Fault::ReadFailed));
+    }
+    if let Some(path) = taken_for_metrics(rt, given) {
+        return Err(Failure::at(Place::Metrics(path), Fault::WriteFailed(0)));
     }
     let (cluster, max_version) = (settings.cluster(), settings.max_version());
     let log = open_log(rt, given.log, name, cluster, max_version)?;

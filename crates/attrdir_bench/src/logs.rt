@@ -64,7 +64,10 @@ fn visit_file<V: Visit + Drop>(
 }
 
 fn log_in<S: Alter + Drop>(rt: &HostRuntime, conn: Connection<S>) -> Result<SqlLog<S>, Fault> {
-    SqlLog::open(rt.alloc(), conn, owner()?, cluster()?, VERSION_MOST)
+    match SqlLog::open(rt.alloc(), conn, owner()?, cluster()?, VERSION_MOST) {
+        Ok(log) => Ok(log),
+        Err((fault, _)) => Err(fault),
+    }
 }
 
 /// Writes into a log, by the write: the time that passed, for each waits until the disk has it.

@@ -1,5 +1,5 @@
 -- That what was written stands, over one write after another.
-use Rattle.std.proofs.Common.{◌≡◌, ℕ, List, [], ◌++◌, length, take, refl, sym, ap, ◌∙◌, append_assoc, append-nil}
+use Rattle.std.proofs.Common.{◌≡◌, ℕ, List, [], ◌++◌, length, take, sym, ap, ◌∙◌, append_assoc, append-nil}
 use lib.Seq.{take-append_seam}
 use Rattle.sb_codec.specs.Standing.{Stands}
 

@@ -7,3 +7,4 @@ pub mod Reading
 pub mod Refusal
 pub mod Messages
 pub mod Standing
+pub mod Least

@@ -1,5 +1,5 @@
 -- Which payload spells which message, and what a payload is read as.
-use Rattle.std.specs.Prelude.{◌≡◌, ℕ, ◌≤◌, Bool, true, ◌||◌, if◌then◌else◌, List, [], ◌∷◌, length, Result, ok_or}
+use Rattle.std.specs.Prelude.{◌≡◌, ℕ, ◌≤◌, Bool, true, ◌||◌, ◌==◌, if◌then◌else◌, List, [], ◌∷◌, length, Result, ok_or}
 use Rattle.sb_types.specs.declared.fault.Fault.{Fault}
 use Rattle.sb_types.specs.declared.fault.Fault.TheVariants.{UnknownKind, Malformed}
 use Rattle.sb_types.specs.declared.limits.TheConstants.{PAYLOAD_MOST}
@@ -51,6 +51,15 @@ pub record IsSole (payload : List ℕ) (message : Message) : Type 0 where
 
 abbrev pub is_kind : ℕ → Bool
 is_kind kind = is_between KIND_HELLO KIND_BYE kind || is_between KIND_ASK KIND_REFUSED kind
+
+-- a message of such a kind has lists or addresses, which lie in memory of their own
+abbrev pub is_kept_in_memory : ℕ → Bool
+is_kept_in_memory kind = kind == KIND_DIGEST || kind == KIND_DELTA || kind == KIND_ROWS || kind == KIND_PUT
+
+-- the payload begins with such a kind
+abbrev pub TakesMemory : List ℕ → Type 0
+TakesMemory [] = ⊥
+TakesMemory (kind ∷ body) = is_kept_in_memory kind ≡ true
 
 -- why a payload that spells no message is refused
 abbrev pub fault_of : List ℕ → Fault

@@ -15,6 +15,11 @@ abbrev pub Reads : {X Y : Type 0} → (X → Y) → Option (Y × List ℕ) → R
 Reads view read (Ok x) rest = read ≡ Some (view x, rest)
 Reads view read (Err refusal) rest = Fails refusal read
 
+-- the same of a part that takes no memory: it is refused only where there is nothing to read
+abbrev pub ReadsWithoutMemory : {X Y : Type 0} → (X → Y) → Option (Y × List ℕ) → Result X Refusal → List ℕ → Type 0
+ReadsWithoutMemory view read (Ok x) rest = read ≡ Some (view x, rest)
+ReadsWithoutMemory view read (Err refusal) rest = (refusal ≡ Malformed) × (read ≡ None)
+
 -- a value that a test refused is malformed
 abbrev pub refusal_of : Fault → Refusal
 refusal_of NoMemory = Memory

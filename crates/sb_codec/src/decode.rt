@@ -1,10 +1,10 @@
 //! A message out of its payload.
 
-ghost use Rattle.std.specs.Prelude.{◌≡◌, ℕ, IfOk, Ok, Err};
+ghost use Rattle.std.specs.Prelude.{◌≡◌, ℕ, IfOk, IfErr, Ok, Err};
 ghost use Rattle.sb_types.specs.Faults.{Gives};
 ghost use Rattle.sb_codec.specs.declared.message.Message.{Message};
 ghost use Rattle.sb_codec.specs.Fields.{whole};
-ghost use Rattle.sb_codec.specs.Messages.{Spells, IsSole, is_kind, fault_of, message_field, reading};
+ghost use Rattle.sb_codec.specs.Messages.{Spells, IsSole, TakesMemory, is_kind, fault_of, message_field, reading};
 ghost use Rattle.sb_codec.specs.Refusal.{ReadsWhole};
 
 use crate::fields::Fields;
@@ -46,7 +46,8 @@ fn fault(payload: &[u8]) -> Fault
 }
 
 fn read_whole(alloc: Global, payload: &[u8]) -> Result<Message, Refusal>
-    ensures { ReadsWhole (whole message_field payload.now) result }
+    ensures read { ReadsWhole (whole message_field payload.now) result }
+    ensures memory { IfErr result (λ refusal. refusal ≡ Refusal.Memory → TakesMemory payload.now) }
 {
     let mut fields = Fields::new(payload);
     let message = fields.message(alloc)?;
@@ -60,6 +61,7 @@ fn read_whole(alloc: Global, payload: &[u8]) -> Result<Message, Refusal>
 fn read(alloc: Global, payload: &[u8]) -> Result<Message, Fault>
     ensures exact { Gives result (reading payload.now) }
     ensures unknown { (kind : ℕ) → fault_of payload.now ≡ Fault.UnknownKind kind → result ≡ Err (Fault.UnknownKind kind) }
+    ensures memory { result ≡ Err Fault.NoMemory → TakesMemory payload.now }
 {
     let reason = fault(payload);
     if let Fault::UnknownKind(_) = reason {
@@ -74,7 +76,8 @@ fn read(alloc: Global, payload: &[u8]) -> Result<Message, Fault>
 
 /// The message that the payload spells, all of its bytes. `UnknownKind` of the first byte, or of 0 where
 /// there is none, where it begins no kind, which takes no memory; `Malformed` of the kind where no message
-/// is spelled so; `NoMemory`, for which alone a payload that spells a message is refused.
+/// is spelled so; `NoMemory`, of a digest, a delta, a page of rows or a put, for which alone a payload that spells
+/// a message is refused.
 pub fn decode_payload(alloc: Global, payload: &[u8]) -> Result<Message, Fault>
     // What is read is spelled so, and nothing else is.
     ensures found { IfOk result (λ message. Spells payload.now message) }
@@ -85,6 +88,8 @@ pub fn decode_payload(alloc: Global, payload: &[u8]) -> Result<Message, Fault>
     ensures exact { Gives result (reading payload.now) }
     // A kind that is not known is told without memory.
     ensures unknown { (kind : ℕ) → fault_of payload.now ≡ Fault.UnknownKind kind → result ≡ Err (Fault.UnknownKind kind) }
+    // Memory is asked for only to keep lists and addresses.
+    ensures memory { result ≡ Err Fault.NoMemory → TakesMemory payload.now }
 {
     read(alloc, payload)
 }

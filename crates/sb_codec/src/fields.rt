@@ -3,13 +3,13 @@
 ghost use Rattle.std.specs.Prelude.{◌≡◌, ◌==◌, ◌*◌, ◌≤◌, [], length, IfOk, IfErr};
 ghost use Rattle.std.specs.Vec.{vec_capacity};
 ghost use Rattle.std.specs.Int.{w16, w64};
-ghost use Rattle.sb_codec.specs.Refusal.{Reads};
+ghost use Rattle.sb_codec.specs.Refusal.{Reads, ReadsWithoutMemory};
 ghost use Rattle.sb_codec.specs.Fields.{byte_field, bytes_field, number_field, text_field, list_field, times_field};
 ghost use Rattle.sb_types.specs.Text.{is_name, is_key};
 ghost use Rattle.sb_codec.specs.Reading.{name_field, key_field, addr_field, weight_field, flag_field, slot_field, entry_field, block_field, delta_field};
 ghost use Rattle.sb_codec.specs.Reading.{hello_field, bye_field, write_field, done_field, refused_field, optional_field, pair_field};
 ghost use Rattle.sb_codec.specs.Reading.{digest_field, prefix_field, place_field, ask_field, value_field, row_field, page_field};
-ghost use Rattle.sb_codec.specs.Messages.{message_field};
+ghost use Rattle.sb_codec.specs.Messages.{message_field, TakesMemory};
 
 use crate::list_item::ListItem;
 use crate::message::{Ask, Bye, Done, Hello, Message, Refused, Row, Rows};
@@ -65,7 +65,7 @@ impl<'a> Fields<'a> {
 
     #[tactic(auto, unfolding(crate::specs::Fields::byte_field))]
     fn byte(&mut self) -> Result<u8, Refusal>
-        ensures { Reads (λ x. x) (byte_field self.old) result self.new }
+        ensures { ReadsWithoutMemory (λ x. x) (byte_field self.old) result self.new }
     {
         match self.rest {
             [] => Err(Refusal::Malformed),
@@ -78,7 +78,7 @@ impl<'a> Fields<'a> {
 
     #[tactic(auto, unfolding(crate::specs::Fields::bytes_field))]
     fn bytes(&mut self, count: usize) -> Result<&'a [u8], Refusal>
-        ensures read { Reads (λ x. x.now) (bytes_field count self.old) result self.new }
+        ensures read { ReadsWithoutMemory (λ x. x.now) (bytes_field count self.old) result self.new }
         ensures length { IfOk result (λ x. length x.now ≡ count) }
     {
         if self.rest.len() < count {
@@ -91,7 +91,7 @@ impl<'a> Fields<'a> {
 
     #[tactic(auto, unfolding(crate::specs::Fields::number_field))]
     fn u16(&mut self) -> Result<u16, Refusal>
-        ensures { Reads (λ x. x) (number_field w16 self.old) result self.new }
+        ensures { ReadsWithoutMemory (λ x. x) (number_field w16 self.old) result self.new }
     {
         let front = self.bytes(2)?;
         Ok(u16::from_be_bytes([front[0], front[1]]))
@@ -99,7 +99,7 @@ impl<'a> Fields<'a> {
 
     #[tactic(auto, unfolding(crate::specs::Fields::number_field))]
     fn u64(&mut self) -> Result<u64, Refusal>
-        ensures { Reads (λ x. x) (number_field w64 self.old) result self.new }
+        ensures { ReadsWithoutMemory (λ x. x) (number_field w64 self.old) result self.new }
     {
         let front = self.bytes(8)?;
         Ok(u64::from_be_bytes([
@@ -109,7 +109,7 @@ impl<'a> Fields<'a> {
 
     #[tactic(auto, unfolding(crate::specs::Fields::text_field))]
     fn text(&mut self) -> Result<&'a [u8], Refusal>
-        ensures { Reads (λ x. x.now) (text_field self.old) result self.new }
+        ensures { ReadsWithoutMemory (λ x. x.now) (text_field self.old) result self.new }
     {
         let len = self.byte()?;
         self.bytes(usize::from(len))
@@ -117,28 +117,28 @@ impl<'a> Fields<'a> {
 
     #[tactic(auto, unfolding(crate::specs::Reading::name_field))]
     fn name(&mut self) -> Result<Name, Refusal>
-        ensures { Reads (λ x. x) (name_field self.old) result self.new }
+        ensures { ReadsWithoutMemory (λ x. x) (name_field self.old) result self.new }
     {
         Ok(Name::read(self.text()?)?)
     }
 
     #[tactic(auto, unfolding(crate::specs::Reading::key_field))]
     fn key(&mut self) -> Result<Key, Refusal>
-        ensures { Reads (λ x. x) (key_field self.old) result self.new }
+        ensures { ReadsWithoutMemory (λ x. x) (key_field self.old) result self.new }
     {
         Ok(Key::read(self.text()?)?)
     }
 
     #[tactic(auto, unfolding(crate::specs::Reading::prefix_field))]
     fn prefix(&mut self) -> Result<Prefix, Refusal>
-        ensures { Reads (λ x. x) (prefix_field self.old) result self.new }
+        ensures { ReadsWithoutMemory (λ x. x) (prefix_field self.old) result self.new }
     {
         Ok(Prefix::read(self.text()?)?)
     }
 
     #[tactic(auto, unfolding(crate::specs::Reading::optional_field))]
     fn optional_name(&mut self) -> Result<Option<Name>, Refusal>
-        ensures { Reads (λ x. x) (optional_field is_name self.old) result self.new }
+        ensures { ReadsWithoutMemory (λ x. x) (optional_field is_name self.old) result self.new }
     {
         match self.text()? {
             [] => Ok(None),
@@ -148,7 +148,7 @@ impl<'a> Fields<'a> {
 
     #[tactic(auto, unfolding(crate::specs::Reading::optional_field))]
     fn optional_key(&mut self) -> Result<Option<Key>, Refusal>
-        ensures { Reads (λ x. x) (optional_field is_key self.old) result self.new }
+        ensures { ReadsWithoutMemory (λ x. x) (optional_field is_key self.old) result self.new }
     {
         match self.text()? {
             [] => Ok(None),
@@ -158,7 +158,7 @@ impl<'a> Fields<'a> {
 
     #[tactic(auto, unfolding(crate::specs::Reading::place_field))]
     fn place(&mut self) -> Result<Option<(Name, Key)>, Refusal>
-        ensures { Reads (λ x. x) (place_field self.old) result self.new }
+        ensures { ReadsWithoutMemory (λ x. x) (place_field self.old) result self.new }
     {
         let owner = self.optional_name()?;
         let key = self.optional_key()?;
@@ -178,14 +178,14 @@ impl<'a> Fields<'a> {
 
     #[tactic(auto, unfolding(crate::specs::Reading::weight_field))]
     fn weight(&mut self) -> Result<Value, Refusal>
-        ensures { Reads (λ x. x) (weight_field self.old) result self.new }
+        ensures { ReadsWithoutMemory (λ x. x) (weight_field self.old) result self.new }
     {
         Ok(Value::weight(self.u64()?)?)
     }
 
     #[tactic(auto, unfolding(crate::specs::Reading::flag_field))]
     fn flag(&mut self) -> Result<bool, Refusal>
-        ensures { Reads (λ x. x) (flag_field self.old) result self.new }
+        ensures { ReadsWithoutMemory (λ x. x) (flag_field self.old) result self.new }
     {
         match self.byte()? {
             0 => Ok(false),
@@ -252,7 +252,7 @@ impl<'a> Fields<'a> {
 
     #[tactic(auto, unfolding(crate::specs::Reading::hello_field))]
     fn hello(&mut self) -> Result<Hello, Refusal>
-        ensures { Reads (λ x. x) (hello_field self.old) result self.new }
+        ensures { ReadsWithoutMemory (λ x. x) (hello_field self.old) result self.new }
     {
         let cluster = self.name()?;
         let node = self.name()?;
@@ -261,7 +261,7 @@ impl<'a> Fields<'a> {
 
     #[tactic(auto, unfolding(crate::specs::Reading::pair_field))]
     pub(crate) fn pair(&mut self) -> Result<Pair, Refusal>
-        ensures { Reads (λ x. x) (pair_field self.old) result self.new }
+        ensures { ReadsWithoutMemory (λ x. x) (pair_field self.old) result self.new }
     {
         let owner = self.name()?;
         let upto = self.u64()?;
@@ -281,14 +281,14 @@ impl<'a> Fields<'a> {
 
     #[tactic(auto, unfolding(crate::specs::Reading::bye_field))]
     fn bye(&mut self) -> Result<Bye, Refusal>
-        ensures { Reads (λ x. x) (bye_field self.old) result self.new }
+        ensures { ReadsWithoutMemory (λ x. x) (bye_field self.old) result self.new }
     {
         Ok(Bye::new(self.byte()?)?)
     }
 
     #[tactic(auto, unfolding(crate::specs::Reading::ask_field))]
     fn ask(&mut self) -> Result<Ask, Refusal>
-        ensures { Reads (λ x. x) (ask_field self.old) result self.new }
+        ensures { ReadsWithoutMemory (λ x. x) (ask_field self.old) result self.new }
     {
         let owner = self.optional_name()?;
         let prefix = self.prefix()?;
@@ -331,21 +331,22 @@ impl<'a> Fields<'a> {
 
     #[tactic(auto, unfolding(crate::specs::Reading::done_field))]
     fn done(&mut self) -> Result<Done, Refusal>
-        ensures { Reads (λ x. x) (done_field self.old) result self.new }
+        ensures { ReadsWithoutMemory (λ x. x) (done_field self.old) result self.new }
     {
         Ok(Done::new(self.u64()?)?)
     }
 
     #[tactic(auto, unfolding(crate::specs::Reading::refused_field))]
     fn refused(&mut self) -> Result<Refused, Refusal>
-        ensures { Reads (λ x. x) (refused_field self.old) result self.new }
+        ensures { ReadsWithoutMemory (λ x. x) (refused_field self.old) result self.new }
     {
         Ok(Refused::new(self.byte()?)?)
     }
 
-    #[tactic(auto, unfolding(crate::specs::Messages::message_field))]
+    #[tactic(auto, unfolding(crate::specs::Messages::message_field, crate::specs::Fields::byte_field))]
     pub(crate) fn message(&mut self, alloc: Global) -> Result<Message, Refusal>
-        ensures { Reads (λ x. x) (message_field self.old) result self.new }
+        ensures read { Reads (λ x. x) (message_field self.old) result self.new }
+        ensures memory { IfErr result (λ refusal. refusal ≡ Refusal.Memory → TakesMemory self.old) }
     {
         match self.byte()? {
             KIND_HELLO => Ok(Message::Hello(self.hello()?)),

@@ -10,7 +10,7 @@ use std::alloc::{AllocError, Global};
 
 /// What a counted list holds.
 pub(crate) trait ListItem: Drop {
-    ghost use Rattle.std.specs.Prelude.{◌≡◌, ℕ, ◌<◌, List, ◌++◌, OnOk};
+    ghost use Rattle.std.specs.Prelude.{◌≡◌, ℕ, ◌<◌, List, [], ◌++◌, length, Some, OnOk};
     ghost use Rattle.sb_codec.specs.Refusal.{Reads};
     ghost use Rattle.sb_codec.specs.Fields.{Field};
     ghost use Rattle.sb_codec.specs.Standing.{Stands};
@@ -34,6 +34,9 @@ pub(crate) trait ListItem: Drop {
         ensures stands { Stands out.old.items out.new.items };
 
     ghost least: { 0 < LEAST };
+
+    /// One takes no more.
+    ghost reached: { (item : Self) × (field (spelling item) ≡ Some (item, [])) × (length (spelling item) ≡ LEAST) };
 }
 
 impl ListItem for Entry {
@@ -41,6 +44,7 @@ impl ListItem for Entry {
     ghost use Rattle.std.proofs.Common.{lit<};
     ghost use Rattle.sb_codec.specs.Spelling.{entry};
     ghost use Rattle.sb_codec.specs.Reading.{entry_field};
+    ghost use Rattle.sb_codec.specs.Least.{entry_reached};
 
     ghost spelling = { entry };
 
@@ -52,6 +56,8 @@ impl ListItem for Entry {
     const LEAST: usize = 11;
 
     ghost least = { lit< tt };
+
+    ghost reached = { entry_reached };
 
     fn read(alloc: Global, fields: &mut Fields<'_>) -> Result<Entry, Refusal> {
         fields.entry(alloc)
@@ -67,6 +73,7 @@ impl ListItem for Block {
     ghost use Rattle.std.proofs.Common.{lit<};
     ghost use Rattle.sb_codec.specs.Spelling.{block};
     ghost use Rattle.sb_codec.specs.Reading.{block_field};
+    ghost use Rattle.sb_codec.specs.Least.{block_reached};
 
     ghost spelling = { block };
 
@@ -78,6 +85,8 @@ impl ListItem for Block {
     const LEAST: usize = 23;
 
     ghost least = { lit< tt };
+
+    ghost reached = { block_reached };
 
     fn read(alloc: Global, fields: &mut Fields<'_>) -> Result<Block, Refusal> {
         fields.block(alloc)
@@ -93,6 +102,7 @@ impl ListItem for Pair {
     ghost use Rattle.std.proofs.Common.{lit<};
     ghost use Rattle.sb_codec.specs.Spelling.{pair};
     ghost use Rattle.sb_codec.specs.Reading.{pair_field};
+    ghost use Rattle.sb_codec.specs.Least.{pair_reached};
 
     ghost spelling = { pair };
 
@@ -104,6 +114,8 @@ impl ListItem for Pair {
     const LEAST: usize = 10;
 
     ghost least = { lit< tt };
+
+    ghost reached = { pair_reached };
 
     fn read(_: Global, fields: &mut Fields<'_>) -> Result<Pair, Refusal> {
         fields.pair()
@@ -119,6 +131,7 @@ impl ListItem for Row {
     ghost use Rattle.std.proofs.Common.{lit<};
     ghost use Rattle.sb_codec.specs.Spelling.{row};
     ghost use Rattle.sb_codec.specs.Reading.{row_field};
+    ghost use Rattle.sb_codec.specs.Least.{row_reached};
 
     ghost spelling = { row };
 
@@ -130,6 +143,8 @@ impl ListItem for Row {
     const LEAST: usize = 14;
 
     ghost least = { lit< tt };
+
+    ghost reached = { row_reached };
 
     fn read(alloc: Global, fields: &mut Fields<'_>) -> Result<Row, Refusal> {
         fields.row(alloc)

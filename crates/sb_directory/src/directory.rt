@@ -5,6 +5,7 @@ ghost use Rattle.sb_types.specs.Faults.{Gives};
 ghost use Rattle.sb_holdings.specs.Held.{shown_of};
 ghost use Rattle.sb_holdings.specs.Treats.{Treats};
 ghost use Rattle.sb_session.specs.Handlers.{tells, gives, IsRefusal};
+ghost use Rattle.sb_node.specs.Cores.{own_keys};
 ghost use Rattle.sb_views.specs.Stories.{node_after};
 ghost use Rattle.sb_views.specs.declared.event.Event.{Event};
 ghost use Rattle.sb_views.specs.declared.event.Event.TheVariants as events;
@@ -192,6 +193,15 @@ impl<S: Configured, R: Wait + Drop> Directory<S, R> {
         ensures seat { seat.new ≡ spec.with_known seat.old seat.new.known }
     {
         self.under.lock(rt).conflict(rt, seat)
+    }
+
+    /// How many keys the node's own table has, removed ones counted.
+    pub fn keys<Q: Wait>(&self, rt: &Q, seat: &mut ReaderSeat<S>) -> usize
+        ensures answer { result ≡ own_keys (node_after S.opening seat.new.known) }
+        ensures knew { spec.Begins seat.new.known seat.old }
+        ensures seat { seat.new ≡ spec.with_known seat.old seat.new.known }
+    {
+        self.under.lock(rt).keys(rt, seat)
     }
 
     /// Adds a watch with room for 1 to 1,024 notes, and gives its id. `BadSetting`, `WatchesFull` and `NoMemory` as of

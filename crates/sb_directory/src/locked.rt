@@ -7,6 +7,7 @@ ghost use Rattle.sb_digest.specs.Builders.{IsLongestFront};
 ghost use Rattle.sb_digest.specs.Pairs.{pairs_from};
 ghost use Rattle.sb_budget.specs.Available.{available_for};
 ghost use Rattle.sb_node.specs.Answers.{IsDelta, IsAnswer};
+ghost use Rattle.sb_node.specs.Cores.{own_keys};
 ghost use Rattle.sb_session.specs.Handlers.{IsRefusal};
 ghost use Rattle.sb_watch.specs.declared.note.Note.{Note};
 ghost use Rattle.sb_watch.specs.declared.note.Polled.TheVariants as answers;
@@ -165,6 +166,13 @@ impl<S: Site, R: Wait + Drop> Locked<S, R> {
         ensures { result ≡ self.now.core.node.conflict }
     {
         self.core.conflict()
+    }
+
+    /// How many keys the node's own table has, removed ones counted.
+    pub fn keys(&self) -> usize
+        ensures { result ≡ own_keys self.now.core.node }
+    {
+        self.core.keys()
     }
 
     /// Adds a watch with room for 1 to 1,024 notes, and gives its id. `BadSetting`, `WatchesFull` and `NoMemory` as of

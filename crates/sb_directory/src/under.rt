@@ -5,6 +5,7 @@ ghost use Rattle.sb_types.specs.Faults.{Gives};
 ghost use Rattle.sb_holdings.specs.Held.{shown_of};
 ghost use Rattle.sb_holdings.specs.Treats.{Treats};
 ghost use Rattle.sb_session.specs.Handlers.{tells, gives, IsRefusal};
+ghost use Rattle.sb_node.specs.Cores.{own_keys};
 ghost use Rattle.sb_views.specs.Stories.{node_after};
 ghost use Rattle.sb_views.specs.declared.event.Event.TheVariants as events;
 ghost use Rattle.sb_watch.specs.declared.note.Polled.TheVariants as answers;
@@ -193,6 +194,16 @@ impl<S: Configured, R: Wait + Drop> Under<S, R> {
     {
         seat.know(rt, self.locked.front());
         self.locked.conflict()
+    }
+
+    /// How many keys the node's own table has, for a seat.
+    pub(crate) fn keys<Q: Wait>(&self, rt: &Q, seat: &mut ReaderSeat<S>) -> usize
+        ensures answer { result ≡ own_keys (node_after S.opening self.now.story) }
+        ensures knew { spec.Begins self.now.story seat.old }
+        ensures known { seat.new ≡ spec.with_known seat.old self.now.story }
+    {
+        seat.know(rt, self.locked.front());
+        self.locked.keys()
     }
 
     /// Adds a watch.

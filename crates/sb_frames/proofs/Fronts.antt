@@ -15,11 +15,11 @@ use Rattle.sb_types.specs.declared.limits.TheConstants.{PAYLOAD_MOST}
 use Rattle.sb_codec.specs.declared.message.Message.{Message}
 use Rattle.sb_codec.specs.Spelling.{number}
 use Rattle.sb_codec.specs.Fields.{Field, byte_field, number_field, bytes_field, whole as whole_field}
-use Rattle.sb_codec.specs.Messages.{spelling, is_message, Spells, is_kind, fault_of, message_field, reading}
+use Rattle.sb_codec.specs.Messages.{spelling, is_message, Spells, TakesMemory, is_kind, fault_of, message_field, reading}
 use Rattle.sb_codec.proofs.Taken.{AreBytes, IsWide, byte_takes, bytes_takes, number_takes}
 use Rattle.sb_codec.proofs.Again.{bytes_again, number_again}
 use Rattle.sb_codec.proofs.Laws.{is_spelled, is_found, is_read}
-use Rattle.sb_frames.specs.Frames.{framed, frame, is_payload_length, IsFramed, HasKind, HasPayload, Leads, Extends, Front, short, whole, bad, once, front_by, front_of_payload, front_after_length, front_after_version, front_after_mark, front_of}
+use Rattle.sb_frames.specs.Frames.{framed, frame, is_payload_length, IsFramed, HasPayload, Leads, Extends, Front, short, whole, bad, once, front_by, front_of_payload, front_after_length, front_after_version, front_after_mark, front_of}
 use Rattle.sb_frames.specs.Receiving.{is_frame_fault}
 
 wide32 : IsWide w32 (2 ^ 32)
@@ -219,26 +219,13 @@ memory_or_not : (fault : Fault) → (fault ≡ NoMemory) ⊎ (fault ≢ NoMemory
 memory_or_not NoMemory = inl refl
 memory_or_not fault = inr (λ e. absurd cc)
 
--- what is refused for memory is of a known kind
-
 abbrev pub refusal : Fault → Result Message Fault
 refusal fault = Err fault
 
-other_fault : (fault : Fault) (kind : ℕ) → fault ≡ NoMemory → refusal fault ≡ refusal (UnknownKind kind) → ⊥
-other_fault fault kind same e = cc
-
-by_kind : (kind : ℕ) (body : List ℕ) (fault : Fault) (test : Bool) → is_kind kind ≡ test → ((k : ℕ) → fault_of (kind ∷ body) ≡ UnknownKind k → refusal fault ≡ refusal (UnknownKind k)) → fault ≡ NoMemory → is_kind kind ≡ true
-by_kind kind body fault true e unknown same = e
-by_kind kind body fault false e unknown same = absurd (other_fault fault kind same (unknown kind (rw e refl)))
-
-has_kind : (payload : List ℕ) (fault : Fault) → ((kind : ℕ) → fault_of payload ≡ UnknownKind kind → refusal fault ≡ refusal (UnknownKind kind)) → fault ≡ NoMemory → HasKind payload
-has_kind [] fault unknown same = absurd (other_fault fault 0 same (unknown 0 refl))
-has_kind (kind ∷ body) fault unknown same = by_kind kind body fault (is_kind kind) refl unknown same
-
-pub refused : (bytes payload rest : List ℕ) (fault : Fault) → IsFramed bytes payload rest → (fault ≢ NoMemory → reading payload ≡ Err fault) → ((kind : ℕ) → fault_of payload ≡ UnknownKind kind → refusal fault ≡ refusal (UnknownKind kind)) → (front_of bytes ≡ bad fault) ⊎ ((fault ≡ NoMemory) × HasPayload bytes)
-refused bytes payload rest fault is read unknown =
+pub refused : (bytes payload rest : List ℕ) (fault : Fault) → IsFramed bytes payload rest → (fault ≢ NoMemory → reading payload ≡ Err fault) → (refusal fault ≡ refusal NoMemory → TakesMemory payload) → (front_of bytes ≡ bad fault) ⊎ ((fault ≡ NoMemory) × HasPayload bytes)
+refused bytes payload rest fault is read memory =
     elim (memory_or_not fault) [
-      | inl same ↦ inr (same, (payload, rest, is, has_kind payload fault unknown same))
+      | inl same ↦ inr (same, (payload, rest, is, memory (ap refusal same)))
       | inr other ↦ inl (ap front_of is.laid ∙ front_framed payload rest is.limits ∙ ap (λ r. front_by r rest) (read other))
     ]
 

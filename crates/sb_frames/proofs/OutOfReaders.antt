@@ -6,12 +6,13 @@ use Rattle.std.specs.Result.{result_unwrap_or}
 use Rattle.std.proofs.KnownBytes.{Consumes-nil, Consumes-trans, Consumes-kept, Keeps-refl}
 use Rattle.std.specs.Io.KnownBytes.{Keeps, Consumes}
 use Rattle.sb_types.specs.declared.fault.Fault.{Fault}
-use Rattle.sb_types.specs.declared.fault.Fault.TheVariants.{Closed, Truncated}
+use Rattle.sb_types.specs.declared.fault.Fault.TheVariants.{Closed, ReadFailed, Truncated}
 use Rattle.sb_codec.specs.declared.message.Message.{Message}
 use Rattle.sb_frames.specs.declared.frames.TheConstants.{READ_LENGTH}
 use Rattle.sb_frames.specs.Frames.{frame, short, front_of}
 use Rattle.sb_frames.specs.Streams.{Stream, open_with, shut, Takes, TakesNext, Hands}
-use Rattle.sb_frames.specs.Receiving.{is_shut, held_of, end_of_held, end_of, GivesBytes, Misses, Fills, Stops, is_bad, no_memory, read_failed, cut_short, turns_spent, ReceivesOpen, Receives}
+use Rattle.sb_frames.specs.Receiving.{is_frame_fault, OnlyWhereReadFailed, is_shut, held_of, end_of_held, end_of, GivesBytes, Misses, Fills, Stops, is_bad, no_memory, read_failed, cut_short, turns_spent, ReceivesOpen, Receives}
+use Rattle.sb_frames.proofs.Fronts.{of_a_frame}
 use Rattle.sb_frames.proofs.Splitting.{within_frame}
 
 -- what stands before each look at what is held
@@ -142,6 +143,25 @@ reading_cut held now mid new from via to before left less fault r none fills end
     let same : held ++ on.bytes ≡ held ++ r.bytes = ap (λ (x : List ℕ). held ++ (r.bytes ++ x)) (nil_from_length fills.bytes fills.filled) ∙ ap (λ (x : List ℕ). held ++ x) (append-nil
     r.bytes) in
     record { bytes = on.bytes; consumed = on.consumed; needed = on.needed; fewer = on.fewer; given = cut_short some.0 (ap front_of same ∙ next.0) on.stands some.1 (fills.end refl) }
+
+-- ---- no read failed
+
+frame_unread : (X : Type 0) (fault : Fault) (last : Bool) → is_frame_fault fault ≡ true → OnlyWhereReadFailed {X = X} (Err fault) last
+frame_unread X ReadFailed last is = absurd cc
+frame_unread X _ last is = tt
+
+-- what is held and can't be handed out tells of no read
+pub taken_unread : (X : Type 0) (old new : Stream) (fault : Fault) (last : Bool) → TakesNext old (Err fault) new → OnlyWhereReadFailed {X = X} (Err fault) last
+taken_unread X (open_with held) new fault last takes =
+    elim takes [
+      | inl front ↦ frame_unread X fault last (of_a_frame held fault front.0)
+      | inr memory ↦ rw memory.0 tt
+    ]
+taken_unread X shut new fault last takes = let is : fault ≡ Closed = cc (takes.0) in rw is tt
+
+-- nor does an end
+pub ended_unread : (X : Type 0) (stream : Stream) (fault : Fault) (last : Bool) → end_of stream ≡ Err fault → OnlyWhereReadFailed {X = X} (Err fault) last
+ended_unread X stream fault last e = rw (some_left (held_of stream) fault e).0 tt
 
 pub receives_shut : (old : Stream) (from : Option (List ℕ)) (before : ℕ) → is_shut old ≡ true → Receives old old from from before before (Err Closed)
 receives_shut (open_with held) from before e = absurd cc

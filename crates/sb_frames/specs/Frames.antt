@@ -1,5 +1,5 @@
 -- How a message lies on a stream, and what stands at the front of bytes.
-use Rattle.std.specs.Prelude.{◌≡◌, ℕ, Bool, true, ◌==◌, if◌then◌else◌, List, [], ◌∷◌, ◌++◌, length, Option, Some, None, Result, Ok, Err}
+use Rattle.std.specs.Prelude.{◌≡◌, ℕ, Bool, true, ◌==◌, if◌then◌else◌, List, ◌∷◌, ◌++◌, length, Option, Some, None, Result, Ok, Err}
 use Rattle.std.specs.Int.{w32}
 use Rattle.sb_types.specs.declared.fault.Fault.{Fault}
 use Rattle.sb_types.specs.declared.fault.Fault.TheVariants.{BadMark, BadVersion, BadLength}
@@ -9,7 +9,7 @@ use Rattle.sb_types.specs.Text.{is_between}
 use Rattle.sb_codec.specs.declared.message.Message.{Message}
 use Rattle.sb_codec.specs.Spelling.{number}
 use Rattle.sb_codec.specs.Fields.{byte_field, number_field, bytes_field}
-use Rattle.sb_codec.specs.Messages.{spelling, is_message, is_kind, reading}
+use Rattle.sb_codec.specs.Messages.{spelling, is_message, TakesMemory, reading}
 
 -- the mark, the version and the payload's length, and the payload
 unfoldable pub framed : List ℕ → List ℕ
@@ -27,14 +27,9 @@ pub record IsFramed (bytes payload rest : List ℕ) : Type 0 where
   pub limits : is_payload_length (length payload) ≡ true
   pub laid : bytes ≡ framed payload ++ rest
 
--- the payload begins with a kind of message
-abbrev pub HasKind : List ℕ → Type 0
-HasKind [] = ⊥
-HasKind (kind ∷ body) = is_kind kind ≡ true
-
--- a whole payload of a kind of message stands in front
+-- a whole payload of a kind of message that takes memory stands in front
 abbrev pub HasPayload : List ℕ → Type 0
-HasPayload bytes = (payload : List ℕ) × (rest : List ℕ) × IsFramed bytes payload rest × HasKind payload
+HasPayload bytes = (payload : List ℕ) × (rest : List ℕ) × IsFramed bytes payload rest × TakesMemory payload
 
 -- the frame of a message stands in front, and then a rest
 pub record Leads (bytes : List ℕ) (message : Message) (rest : List ℕ) : Type 0 where

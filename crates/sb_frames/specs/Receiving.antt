@@ -1,5 +1,8 @@
 -- What comes of a call that reads a message.
 use Rattle.std.specs.Prelude.{◌≡◌, ◌≢◌, ℕ, ◌<◌, ◌≤◌, Bool, true, false, List, [], ◌∷◌, ◌++◌, ◌⊎◌, length, take, Option, Some, None, Result, Ok, Err}
+use Rattle.std.specs.declared.io.Error.{Error}
+use Rattle.std.specs.declared.io.ErrorKind.TheVariants as kinds
+use Rattle.std.specs.IoError.{error_kind}
 use Rattle.std.specs.Io.KnownBytes.{Keeps, Consumes, IsAtEnd}
 use Rattle.sb_types.specs.declared.fault.Fault.{Fault}
 use Rattle.sb_types.specs.declared.fault.Fault.TheVariants.{NoMemory, Closed, BadMark, BadVersion, BadLength, UnknownKind, Malformed, ReadFailed, Truncated, TurnsSpent}
@@ -24,6 +27,19 @@ end_of_held (byte ∷ bytes) = Err Truncated
 
 abbrev pub end_of : Stream → Result (Unit {0}) Fault
 end_of stream = end_of_held (held_of stream)
+
+-- whether the read failed: one that was interrupted did not, nor did one that gave bytes or the end
+abbrev pub TellsRead : Result ℕ Error → Bool → Type 0
+TellsRead (Ok count) has_failed = has_failed ≡ false
+TellsRead (Err error) has_failed =
+    ((has_failed ≡ true) × (error_kind error ≢ kinds.Interrupted))
+    ⊎ ((has_failed ≡ false) × (error_kind error ≡ kinds.Interrupted))
+
+-- only where the last read failed is a read said to have failed
+abbrev pub OnlyWhereReadFailed : {X : Type 0} → Result X Fault → Bool → Type 0
+OnlyWhereReadFailed (Err ReadFailed) has_failed = has_failed ≡ true
+OnlyWhereReadFailed (Err _) has_failed = Unit {0}
+OnlyWhereReadFailed (Ok _) has_failed = Unit {0}
 
 -- bytes came out of a reader, none only at its end; or none came, since a read failed or no read is left
 abbrev pub GivesBytes : Option (List ℕ) → Option (List ℕ) → List ℕ → ℕ → ℕ → Result ℕ Fault → Type 0

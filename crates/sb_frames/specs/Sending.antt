@@ -1,11 +1,12 @@
 -- What a call that sends puts out.
-use Rattle.std.specs.Prelude.{◌≡◌, ◌⊎◌, ℕ, ◌<◌, Bool, true, false, ◌==◌, if◌then◌else◌, List, length, take, Option, Result, Ok, Err}
+use Rattle.std.specs.Prelude.{◌≡◌, ◌≢◌, ◌⊎◌, ℕ, ◌+◌, ◌<◌, Bool, true, false, ◌==◌, nat_lt, if◌then◌else◌, List, length, take, Option, Result, Ok, Err}
 use Rattle.std.specs.declared.io.Error.{Error}
 use Rattle.std.specs.declared.io.ErrorKind.TheVariants as kinds
 use Rattle.std.specs.IoError.{error_kind}
 use Rattle.std.specs.Io.KnownBytes.{Keeps, Appends}
 use Rattle.sb_types.specs.declared.fault.Fault.{Fault}
 use Rattle.sb_types.specs.declared.fault.Fault.TheVariants.{NoMemory, WriteFailed}
+use Rattle.sb_frames.specs.declared.last_write.TheConstants.{INTERRUPTED_MOST}
 use Rattle.sb_frames.specs.declared.last_write.Outcome.{Outcome}
 use Rattle.sb_frames.specs.declared.last_write.Outcome.TheVariants.{Took, Interrupted, Failed}
 
@@ -16,14 +17,24 @@ Sends old new bytes (Err NoMemory) = Keeps old new
 Sends old new bytes (Err (WriteFailed count)) = (count < length bytes) × Appends old new (take count bytes)
 Sends old new bytes (Err _) = ⊥
 
--- how the write ended: one that took no byte has failed, and only one that was interrupted is said to be so
-abbrev pub Tells : Result ℕ Error → Outcome → Type 0
-Tells (Ok count) outcome = outcome ≡ (if count == 0 then Failed else Took)
-Tells (Err error) outcome = (outcome ≡ Failed) ⊎ ((outcome ≡ Interrupted) × (error_kind error ≡ kinds.Interrupted))
+-- how many writes in a row were interrupted, up to this one
+abbrev pub times_of : Outcome → ℕ
+times_of Took = 0
+times_of (Interrupted times) = times
+times_of Failed = 0
 
+-- how the write ended, behind the one before: one that took no byte has failed, and one that was interrupted is told so
+-- and counted, and no other is
+abbrev pub Tells : Outcome → Result ℕ Error → Outcome → Type 0
+Tells old (Ok count) new = new ≡ (if count == 0 then Failed else Took)
+Tells old (Err error) new =
+    ((new ≡ Failed) × (error_kind error ≢ kinds.Interrupted))
+    ⊎ ((new ≡ Interrupted (1 + times_of old)) × (error_kind error ≡ kinds.Interrupted))
+
+-- it failed, or too many in a row were interrupted
 abbrev pub has_failed : Outcome → Bool
 has_failed Took = false
-has_failed Interrupted = true
+has_failed (Interrupted times) = nat_lt INTERRUPTED_MOST times
 has_failed Failed = true
 
 -- only where the last write failed is a write said to have failed

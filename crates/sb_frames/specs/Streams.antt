@@ -29,7 +29,7 @@ pub record Hands (held : List ℕ) (message : Message) (new : Stream) : Type 0 w
 abbrev pub Takes : List ℕ → Result (Option Message) Fault → Stream → Type 0
 Takes held (Ok (Some message)) new = Hands held message new
 Takes held (Ok None) new = (front_of held ≡ short) × (new ≡ open_with held)
--- want of memory changes nothing, and a whole payload of a kind of message was there to be read
+-- want of memory changes nothing, and a whole payload that takes memory was there to be read
 Takes held (Err fault) new = ((front_of held ≡ bad fault) × (new ≡ shut)) ⊎ ((fault ≡ NoMemory) × HasPayload held × (new ≡ open_with held))
 
 abbrev pub TakesNext : Stream → Result (Option Message) Fault → Stream → Type 0

@@ -3,10 +3,11 @@
 ghost use Rattle.std.specs.Prelude.{◌≡◌, ◌+◌, ◌≤◌, false, [], drop, length};
 ghost use Rattle.sb_frames.specs.Frames.{short, front_of};
 ghost use Rattle.sb_frames.specs.Streams.{open_with, Feeds, TakesNext};
-ghost use Rattle.sb_frames.specs.Receiving.{is_shut, held_of, end_of, Fills};
+ghost use Rattle.sb_frames.specs.Receiving.{is_shut, held_of, end_of, Fills, OnlyWhereReadFailed};
 
 use crate::front::message_in;
-use crate::steps::{Steps, read_within};
+use crate::last_read::LastRead;
+use crate::steps::{Steps, read_telling};
 use sb_codec::Message;
 use sb_types::Fault;
 use std::alloc::Global;
@@ -146,15 +147,17 @@ impl Frames {
         reader: &mut R,
         left: &mut u64,
         steps: &mut Steps<L>,
+        last: &mut LastRead,
     ) -> Result<usize, Fault>
         requires open { is_shut self.old ≡ false }
         requires short { front_of (held_of self.old) ≡ short }
         ensures filled { Fills (held_of self.old) (R.remaining reader.old) (R.remaining reader.new) left.old left.new result self.new }
         ensures counted { steps.new + left.new ≡ steps.old + left.old }
+        ensures failed { OnlyWhereReadFailed result last.new }
     {
         let start = self.bytes.len();
         self.bytes.resize(start + READ_LENGTH, 0)?;
-        let answer = read_within(reader, &mut self.bytes[start..], left, steps);
+        let answer = read_telling(reader, &mut self.bytes[start..], left, steps, last);
         let count = answer.unwrap_or(0);
         self.bytes.truncate(start + count);
         answer

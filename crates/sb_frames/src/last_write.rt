@@ -1,23 +1,36 @@
 //! What the last write to a writer answered.
 
-ghost use Rattle.std.specs.Prelude.{◌≡◌, ◌≢◌, ◌<◌, true, length};
+ghost use Rattle.std.specs.Prelude.{◌≡◌, ◌<◌, false, length};
 ghost use Rattle.std.specs.Io.{WritesAtMost};
 ghost use Rattle.std.specs.Io.KnownBytes.{WriteAppends};
 ghost use Rattle.sb_frames.specs.declared.last_write.Outcome.TheVariants as outcomes;
-ghost use Rattle.sb_frames.specs.Sending.{has_failed, Tells};
+ghost use Rattle.sb_frames.specs.Sending.{has_failed, times_of, Tells};
 
 use std::io::{self, ErrorKind, Write};
 use std::marker::Model;
+
+/// How often in a row a write that was interrupted is made again.
+const INTERRUPTED_MOST: u32 = 1_000;
 
 /// How a write ended.
 #[derive(Debug, Clone, Copy, PartialEq, Eq, Drop)]
 enum Outcome {
     /// It took some bytes; or nothing was written yet.
     Took,
-    /// It was interrupted, and may be made again.
-    Interrupted,
+    /// It was interrupted, as so many in a row with it.
+    Interrupted(u32),
     /// It failed, or took no byte.
     Failed,
+}
+
+/// How many writes in a row were interrupted.
+fn times_of(outcome: Outcome) -> u32
+    ensures { result ≡ times_of outcome }
+{
+    match outcome {
+        Outcome::Interrupted(times) => times,
+        Outcome::Took | Outcome::Failed => 0,
+    }
 }
 
 /// What the last write of a call answered. Each call that writes makes its own, and only a write to a writer changes it: so it
@@ -45,37 +58,36 @@ impl LastWrite {
         }
     }
 
-    /// Whether it failed, was interrupted or took no byte; not where nothing was written yet.
+    /// Whether it failed, took no byte, or was interrupted as more than 1,000 in a row were; not where nothing was
+    /// written yet.
     pub fn has_failed(&self) -> bool
         ensures { result ≡ has_failed self.now }
     {
         match self.outcome {
             Outcome::Took => false,
-            Outcome::Interrupted | Outcome::Failed => true,
+            Outcome::Interrupted(times) => times > INTERRUPTED_MOST,
+            Outcome::Failed => true,
         }
     }
 
-    /// Whether it was interrupted.
-    pub(crate) fn was_interrupted(&self) -> bool
-        ensures { result ≡ true → self.now ≡ outcomes.Interrupted }
-    {
-        self.outcome == Outcome::Interrupted
-    }
-
     /// One write of some bytes, where the last one did not fail. No other function of this crate writes to a writer.
+    #[tactic(auto, using(crate::proofs::Outcomes::few_times))]
     pub(crate) fn write<W: Write>(&mut self, writer: &mut W, bytes: &[u8]) -> io::Result<usize>
         requires some { 0 < length bytes.now }
-        requires goes_on { self.old ≢ outcomes.Failed }
+        requires goes_on { has_failed self.old ≡ false }
         ensures bound { WritesAtMost result bytes.now }
         ensures bytes { WriteAppends (W.contents writer.old) (W.contents writer.new) result bytes.now }
-        ensures told { Tells result self.new }
+        ensures told { Tells self.old result self.new }
     {
+        let times = times_of(self.outcome);
         let answer = writer.write(bytes);
         self.outcome = match &answer {
             Ok(0) => Outcome::Failed,
             Ok(_) => Outcome::Took,
-            Err(error) if error.kind() == ErrorKind::Interrupted => Outcome::Interrupted,
-            Err(_) => Outcome::Failed,
+            Err(error) => match error.kind() {
+                ErrorKind::Interrupted => Outcome::Interrupted(times + 1),
+                _ => Outcome::Failed,
+            },
         };
         answer
     }

@@ -3,6 +3,7 @@
 
 mod frames;
 mod front;
+mod last_read;
 mod last_write;
 mod laws;
 mod receiving;
@@ -10,6 +11,7 @@ mod sending;
 mod steps;
 
 pub use frames::{Frames, READ_LENGTH};
+pub use last_read::LastRead;
 pub use last_write::LastWrite;
 pub use laws::{
     a_read_has_this_length, faults_are_of_the_bytes, frames_are_read, frames_have_a_length,
@@ -17,5 +19,5 @@ pub use laws::{
     streams_have_one_reading, verdicts_stand,
 };
 pub use receiving::{receive, receive_within};
-pub use sending::{frame_of, send, send_from, send_telling, write_counted};
-pub use steps::{Steps, read_within};
+pub use sending::{frame_of, send, send_from, send_on, send_telling, write_counted, write_on};
+pub use steps::{Steps, read_telling, read_within};

@@ -1,10 +1,11 @@
 //! A message out of a reader.
 
 ghost use Rattle.std.specs.Prelude.{◌≡◌, ◌+◌, ◌*◌, ◌<◌, ℕ, false, length, IfOk, IfSome};
-ghost use Rattle.sb_frames.specs.Receiving.{is_shut, held_of, Receives, ReceivesOpen};
+ghost use Rattle.sb_frames.specs.Receiving.{is_shut, held_of, OnlyWhereReadFailed, Receives, ReceivesOpen};
 ghost use Rattle.sb_frames.specs.declared.frames.TheConstants.{READ_LENGTH};
 
 use crate::frames::Frames;
+use crate::last_read::LastRead;
 use crate::steps::Steps;
 use sb_codec::Message;
 use sb_types::Fault;
@@ -17,17 +18,19 @@ fn receive_open<R: Read, L: Ledger>(
     frames: &mut Frames,
     left: &mut u64,
     steps: &mut Steps<L>,
+    last: &mut LastRead,
 ) -> Result<Option<Message>, Fault>
     requires { is_shut frames.old ≡ false }
     ensures gives { ReceivesOpen (held_of frames.old) frames.new (R.remaining reader.old) (R.remaining reader.new) left.old left.new result }
     ensures counted { steps.new + left.new ≡ steps.old + left.old }
     ensures goes { IfOk result (λ found. IfSome found (λ _. length (held_of frames.new) + READ_LENGTH * left.new < length (held_of frames.old) + READ_LENGTH * left.old)) }
+    ensures failed { OnlyWhereReadFailed result last.new }
 {
     loop {
         if let Some(message) = frames.next()? {
             return Ok(Some(message));
         }
-        if frames.fill(reader, left, steps)? == 0 {
+        if frames.fill(reader, left, steps, last)? == 0 {
             frames.end()?;
             return Ok(None);
         }
@@ -40,23 +43,28 @@ fn receive_open<R: Read, L: Ledger>(
 /// `Closed` after a faulty frame; `BadMark`, `BadVersion`, `BadLength`, `UnknownKind` or `Malformed` of
 /// the frame that comes next, and the frames are closed from then on; `ReadFailed`; `Truncated` at an end
 /// inside a frame; `TurnsSpent` where one more read is needed than were left; `NoMemory`. After the last
-/// four every byte that was read is held, and the call may be made again.
+/// four every byte that was read is held, and the call may be made again. `last` tells what the last read of the
+/// call answered.
 pub fn receive_within<R: Read, L: Ledger>(
     reader: &mut R,
     frames: &mut Frames,
     left: &mut u64,
     steps: &mut Steps<L>,
+    last: &mut LastRead,
 ) -> Result<Option<Message>, Fault>
     ensures gives { Receives frames.old frames.new (R.remaining reader.old) (R.remaining reader.new) left.old left.new result }
     ensures counted { steps.new + left.new ≡ steps.old + left.old }
 
     // What is held and what may still be read grows less with each message.
     ensures goes { IfOk result (λ found. IfSome found (λ _. length (held_of frames.new) + READ_LENGTH * left.new < length (held_of frames.old) + READ_LENGTH * left.old)) }
+    // A read that was interrupted, or that was made before the call, is no reason to stop.
+    ensures failed { OnlyWhereReadFailed result last.new }
 {
+    *last = LastRead::new();
     if frames.is_shut() {
         return Err(Fault::Closed);
     }
-    receive_open(reader, frames, left, steps)
+    receive_open(reader, frames, left, steps, last)
 }
 
 /// The next message of a stream, with at most `max_reads` reads; nothing at an end between frames. Its
@@ -70,5 +78,5 @@ pub fn receive<R: Read, L: Ledger>(
     ensures { (left : ℕ) × Receives frames.old frames.new (R.remaining reader.old) (R.remaining reader.new) max_reads left result × (steps.new + left ≡ steps.old + max_reads) }
 {
     let mut left = max_reads;
-    receive_within(reader, frames, &mut left, steps)
+    receive_within(reader, frames, &mut left, steps, &mut LastRead::new())
 }

@@ -1,9 +1,9 @@
 //! A message onto a writer.
 
-ghost use Rattle.std.specs.Prelude.{◌≡◌, ◌≢◌, true, Err, IfOk, IfErr, OnOk};
+ghost use Rattle.std.specs.Prelude.{◌≡◌, ◌≢◌, true, false, Err, IfOk, IfErr, OnOk};
 ghost use Rattle.sb_codec.specs.Messages.{is_message};
 ghost use Rattle.sb_frames.specs.Frames.{frame};
-ghost use Rattle.sb_frames.specs.Sending.{Sends, OnlyWhereFailed};
+ghost use Rattle.sb_frames.specs.Sending.{Sends, has_failed, OnlyWhereFailed};
 
 use crate::last_write::LastWrite;
 use sb_codec::{Message, append_payload, length};
@@ -38,35 +38,59 @@ pub fn frame_of(alloc: Global, message: &Message) -> Result<Vec<u8>, Fault>
     Ok(frame)
 }
 
-/// How often in a row a write that was interrupted is made again.
-const INTERRUPTED_MOST: u32 = 1_000;
-
-/// Writes all of the bytes, and tells what the last write of the call answered. `WriteFailed` with how many were
-/// written, always fewer than all. A write that takes no byte has failed, and so has one that was interrupted
+/// Writes all of the bytes, behind a write that did not fail, and tells what the last one answered. `WriteFailed` with how
+/// many were written, always fewer than all. A write that takes no byte has failed, and so has one that was interrupted
 /// 1,001 times in a row; after fewer it is made again.
+pub fn write_on<W: Write>(writer: &mut W, bytes: &[u8], last: &mut LastWrite) -> Result<(), Fault>
+    requires goes_on { has_failed last.old ≡ false }
+    ensures sends { Sends (W.contents writer.old) (W.contents writer.new) bytes.now result }
+    ensures failed { OnlyWhereFailed result last.new }
+    ensures goes_on { IfOk result (λ _. has_failed last.new ≡ false) }
+    ensures memory { result ≢ Err Fault.NoMemory }
+{
+    let mut count = 0;
+    while count < bytes.len() {
+        match last.write(writer, &bytes[count..]) {
+            Ok(0) => return Err(Fault::WriteFailed(count as u64)),
+            Ok(written) => count += written,
+            Err(_) if !last.has_failed() => {}
+            Err(_) => return Err(Fault::WriteFailed(count as u64)),
+        }
+    }
+    Ok(())
+}
+
+/// Writes all of the bytes as `write_on` does, and tells what the last write of the call answered.
 pub fn write_counted<W: Write>(writer: &mut W, bytes: &[u8]) -> (Result<(), Fault>, LastWrite)
     ensures sends { Sends (W.contents writer.old) (W.contents writer.new) bytes.now result.0 }
     ensures failed { OnlyWhereFailed result.0 result.1 }
     ensures memory { result.0 ≢ Err Fault.NoMemory }
 {
     let mut last = LastWrite::new();
-    let (mut count, mut left) = (0, INTERRUPTED_MOST);
-    while count < bytes.len() {
-        match last.write(writer, &bytes[count..]) {
-            Ok(0) => return (Err(Fault::WriteFailed(count as u64)), last),
-            Ok(written) => {
-                count += written;
-                left = INTERRUPTED_MOST;
-            }
-            Err(_) if left > 0 && last.was_interrupted() => left -= 1,
-            Err(_) => return (Err(Fault::WriteFailed(count as u64)), last),
-        }
-    }
-    (Ok(()), last)
+    let answer = write_on(writer, bytes, &mut last);
+    (answer, last)
 }
 
-/// Writes the message's frame out of a buffer that is kept from one message to the next, and tells what the last
-/// write of the call answered. It takes memory only where the buffer has no room for the frame. The faults of `send`.
+/// Writes the message's frame out of a buffer that is kept from one message to the next, behind a write that did not fail,
+/// and tells what the last one answered. It takes memory only where the buffer has no room for the frame. The faults of
+/// `send`.
+pub fn send_on<W: Write>(
+    buffer: &mut Vec<u8>,
+    writer: &mut W,
+    message: &Message,
+    last: &mut LastWrite,
+) -> Result<(), Fault>
+    requires goes_on { has_failed last.old ≡ false }
+    ensures sends { Sends (W.contents writer.old) (W.contents writer.new) (frame message.now) result }
+    // A write that did not fail, or that was made before the call, is no reason to stop.
+    ensures failed { OnlyWhereFailed result last.new }
+    ensures goes_on { IfOk result (λ _. has_failed last.new ≡ false) }
+{
+    write_frame(buffer, message)?;
+    write_on(writer, buffer, last)
+}
+
+/// Writes the message's frame as `send_on` does, and tells what the last write of the call answered.
 pub fn send_from<W: Write>(
     buffer: &mut Vec<u8>,
     writer: &mut W,
@@ -76,10 +100,9 @@ pub fn send_from<W: Write>(
     // A write that did not fail, or that was made before the call, is no reason to stop.
     ensures failed { OnlyWhereFailed result.0 result.1 }
 {
-    match write_frame(buffer, message) {
-        Ok(()) => write_counted(writer, buffer),
-        Err(fault) => (Err(fault), LastWrite::new()),
-    }
+    let mut last = LastWrite::new();
+    let sent = send_on(buffer, writer, message, &mut last);
+    (sent, last)
 }
 
 /// Writes the message's frame, and tells what the last write of the call answered. The faults of `send`.

@@ -1,12 +1,13 @@
-//! A count of reads that takes no time and no memory, and the only way to a reader.
+//! A count of reads that takes no time and no memory.
 
-ghost use Rattle.std.specs.Prelude.{◌≡◌, ◌+◌, ◌<◌};
+ghost use Rattle.std.specs.Prelude.{◌≡◌, ◌+◌, ◌<◌, false, IfOk};
 ghost use Rattle.std.specs.Io.{ReadsAtMost};
 ghost use Rattle.std.specs.Io.KnownBytes.{ReadConsumes};
-ghost use Rattle.sb_frames.specs.Receiving.{GivesBytes};
+ghost use Rattle.sb_frames.specs.Receiving.{GivesBytes, OnlyWhereReadFailed};
 
+use crate::last_read::LastRead;
 use sb_types::Fault;
-use std::io::{self, ErrorKind, Read};
+use std::io::{self, Read};
 use std::marker::Model;
 use std::sync::ledger::{Blank, Book, Ledger, Share};
 
@@ -39,8 +40,8 @@ impl<L: Ledger> Steps<L> {
         Steps { book, share }
     }
 
-    /// One read. No other function of this crate reads from a reader.
-    fn read<R: Read>(&mut self, reader: &mut R, bytes: &mut [u8]) -> io::Result<usize>
+    /// One read. `LastRead` alone calls it.
+    pub(crate) fn read<R: Read>(&mut self, reader: &mut R, bytes: &mut [u8]) -> io::Result<usize>
         ensures counted { self.new ≡ self.old + 1 }
         ensures within { ReadsAtMost result bytes.new }
         ensures bytes { ReadConsumes (R.remaining reader.old) (R.remaining reader.new) result bytes.new }
@@ -50,8 +51,34 @@ impl<L: Ledger> Steps<L> {
     }
 }
 
-/// Reads some bytes, none at the end, with as many reads as are left. A read that was interrupted is made again.
-/// `TurnsSpent` where one more read is needed than were left; `ReadFailed`. `left` is what is left after the call.
+/// Reads some bytes, none at the end, with as many reads as are left, and tells what the last one answered. A read that
+/// was interrupted is made again, and none behind one that failed. `TurnsSpent` where one more read is needed than were
+/// left; `ReadFailed`. `left` is what is left after the call.
+pub fn read_telling<R: Read, L: Ledger>(
+    reader: &mut R,
+    bytes: &mut [u8],
+    left: &mut u64,
+    steps: &mut Steps<L>,
+    last: &mut LastRead,
+) -> Result<usize, Fault>
+    ensures gives { GivesBytes (R.remaining reader.old) (R.remaining reader.new) bytes.new left.old left.new result }
+    ensures counted { steps.new + left.new ≡ steps.old + left.old }
+    // A read that was interrupted, or that was made before the call, is no reason to stop.
+    ensures failed { OnlyWhereReadFailed result last.new }
+{
+    *last = LastRead::new();
+    while *left > 0 {
+        *left -= 1;
+        match last.read(reader, bytes, steps) {
+            Ok(count) => return Ok(count),
+            Err(_) if last.has_failed() => return Err(Fault::ReadFailed),
+            Err(_) => {}
+        }
+    }
+    Err(Fault::TurnsSpent)
+}
+
+/// Reads some bytes as `read_telling` does.
 pub fn read_within<R: Read, L: Ledger>(
     reader: &mut R,
     bytes: &mut [u8],
@@ -61,13 +88,5 @@ pub fn read_within<R: Read, L: Ledger>(
     ensures gives { GivesBytes (R.remaining reader.old) (R.remaining reader.new) bytes.new left.old left.new result }
     ensures counted { steps.new + left.new ≡ steps.old + left.old }
 {
-    while *left > 0 {
-        *left -= 1;
-        match steps.read(reader, bytes) {
-            Ok(count) => return Ok(count),
-            Err(error) if error.kind() == ErrorKind::Interrupted => {}
-            Err(_) => return Err(Fault::ReadFailed),
-        }
-    }
-    Err(Fault::TurnsSpent)
+    read_telling(reader, bytes, left, steps, &mut LastRead::new())
 }

@@ -1,6 +1,6 @@
 -- What was found where a log is opened.
-use Rattle.std.specs.Prelude.{IfOk, OnOk, slice_index_or, ◌==◌, true}
-use Rattle.std.proofs.Common.{◌≡◌, inl, inr, ℕ, ◌≤◌, ◌<◌, List, [], ◌∷◌, length, map, Result, Ok, Err, refl, sym, ap, subst, ◌∙◌, arith, eqb-true, IsPermutation}
+use Rattle.std.specs.Prelude.{IfOk, OnOk, slice_index_or, ◌==◌, true, false}
+use Rattle.std.proofs.Common.{◌≡◌, ◌⊎◌, inl, inr, true≢false, ℕ, ◌≤◌, ◌<◌, List, [], ◌∷◌, length, map, Result, Ok, Err, refl, sym, ap, subst, ◌∙◌, arith, eqb-true, IsPermutation}
 use Rattle.std.proofs.lemmas.List.Sorted.{IsPermutation-sym, length_permutation}
 use Rattle.sqlite_value.specs.Order.{Row}
 use Rattle.sqlite.specs.Effect.{Database}
@@ -8,7 +8,13 @@ use Rattle.sqlite.proofs.Callers.{one_permutation}
 use Rattle.sb_types.specs.declared.fault.Fault.{Fault}
 use Rattle.sb_types.specs.Records.{Table}
 use Rattle.sb_table.specs.Plain.{plain_table}
-use Rattle.sb_log.specs.Opening.{meta_cells, meta_row, meta_found, Completes, Opens}
+use Rattle.sb_log.specs.Opening.{meta_cells, meta_row, meta_found, writes_found, IsNamed, IsMetaOf, Completes, Opens, Grows, Founds}
+use Rattle.sb_log.specs.Form.{log_schema, schema_with}
+use Rattle.sb_log.specs.declared.schema.Made.{Made}
+use Rattle.sb_log.specs.declared.schema.Made.TheVariants.{Neither, Meta, Both}
+use Rattle.sqlite_trees.specs.Tree.{Trees}
+use Rattle.sqlite_schema.specs.declared.schema.Schema.{Schema}
+use Rattle.sqlite_catalog.specs.Listing.{IsSound}
 use Rattle.sb_log.specs.Rows.{AreRowsOf}
 
 pub was_clean : (a b : ℕ) → b ≡ 0 → a ≤ b → a ≡ 0
@@ -75,3 +81,67 @@ then_meta (Err fault) p f = tt
 pub both : (P Q : Type 0) (result : Result Table Fault) → OnOk result P → OnOk result Q → OnOk result (P × Q)
 both P Q (Ok t) p q = (p, q)
 both P Q (Err fault) p q = tt
+
+-- ---- a log that is whole is not refused
+
+pub nothing_there : (rows shown : List Row) → rows ≡ [] → IsPermutation (map meta_cells rows) shown → length shown ≡ 0
+nothing_there rows shown none same = length_permutation (map meta_cells rows) shown same ∙ ap (λ (l : List Row). length (map meta_cells l)) none
+
+pub never_some : (len n : ℕ) → len ≡ n → n ≡ 0 → (len == 0) ≡ false → ⊥
+never_some len n same none some = true≢false (sym (ap (λ (k : ℕ). k == 0) (same ∙ none)) ∙ some)
+
+same_made : (a b : Made) → schema_with a ≡ schema_with b → a ≡ b
+same_made Neither Neither e = refl
+same_made Neither Meta e = absurd (let n : ◌≡◌ {A = ℕ} 0 1 = ap (λ (s : Schema). length s.tables) e in omega (arith, n))
+same_made Neither Both e = absurd (let n : ◌≡◌ {A = ℕ} 0 2 = ap (λ (s : Schema). length s.tables) e in omega (arith, n))
+same_made Meta Neither e = absurd (let n : ◌≡◌ {A = ℕ} 1 0 = ap (λ (s : Schema). length s.tables) e in omega (arith, n))
+same_made Meta Meta e = refl
+same_made Meta Both e = absurd (let n : ◌≡◌ {A = ℕ} 1 2 = ap (λ (s : Schema). length s.tables) e in omega (arith, n))
+same_made Both Neither e = absurd (let n : ◌≡◌ {A = ℕ} 2 0 = ap (λ (s : Schema). length s.tables) e in omega (arith, n))
+same_made Both Meta e = absurd (let n : ◌≡◌ {A = ℕ} 2 1 = ap (λ (s : Schema). length s.tables) e in omega (arith, n))
+same_made Both Both e = refl
+
+module _ (owner cluster : List ℕ) (old mid : Database) (t : Table) (all : Completes old mid) (opens : Opens owner cluster old t) where
+  one_made : opens.made ≡ all.made
+  one_made = same_made opens.made all.made (sym opens.schema ∙ all.schema)
+
+  -- what was made beside it left the rows as they were
+  pub still_rows : (read : Database) → read ≡ mid → AreRowsOf t (read.trees 1)
+  still_rows read kept =
+      subst (AreRowsOf t) (ap (λ (m : Made). writes_found m old.trees) one_made ∙ sym all.rows ∙ sym (ap (λ (d : Database). d.trees 1) kept)) opens.rows
+
+  pub still_empty : mid.trees 0 ≡ [] → t ≡ plain_table []
+  still_empty none = opens.empty (ap (λ (m : Made). meta_found m old.trees) one_made ∙ sym all.meta ∙ none)
+
+  still_meta : IsMetaOf owner cluster (mid.trees 0)
+  still_meta = subst (IsMetaOf owner cluster) (ap (λ (m : Made). meta_found m old.trees) one_made ∙ sym all.meta) opens.meta
+
+  pub still_named : (row : Row) → map meta_cells (mid.trees 0) ≡ row ∷ [] → row ≡ meta_row owner cluster
+  still_named row one = elim still_meta [
+    | inl none ↦ absurd (let e = sym (ap (map meta_cells) none) ∙ one in cc)
+    | inr named ↦ (let e = sym one ∙ named in cc)
+  ]
+
+  pub never_more : (shown : List Row) → IsPermutation (map meta_cells (mid.trees 0)) shown → 2 ≤ length shown → ⊥
+  never_more shown same more =
+      let len = length_permutation (map meta_cells (mid.trees 0)) shown same in
+      elim still_meta [
+        | inl none ↦ (let e : length (map meta_cells (mid.trees 0)) ≡ 0 = ap (λ (l : List Row). length (map meta_cells l)) none in omega (arith, e, len, more))
+        | inr named ↦ (let e : length (map meta_cells (mid.trees 0)) ≡ 1 = ap length named in omega (arith, e, len, more))
+      ]
+
+pub or_grows : {A : Type 0} (owner cluster : List ℕ) (found : Database) (db : Trees) → A ⊎ Grows found db → A ⊎ Founds owner cluster found db
+or_grows owner cluster found db (inl was) = inl was
+or_grows owner cluster found db (inr grows) = inr (inl grows)
+
+pub names_too : (owner cluster : List ℕ) (old mid read : Database) (db : Trees) → Completes old mid → read ≡ mid → mid.trees 0 ≡ []
+    → IsSound log_schema db × (db 1 ≡ read.trees 1) × IsNamed owner cluster (db 0) → Founds owner cluster old db
+names_too owner cluster old mid read db all kept none names =
+    inr (record {
+      made = all.made;
+      schema = all.schema;
+      none = sym all.meta ∙ none;
+      sound = names.0;
+      meta = names.2;
+      rows = names.1 ∙ ap (λ (d : Database). d.trees 1) kept ∙ all.rows;
+    })

@@ -7,6 +7,8 @@ use Rattle.sqlite_trees.proofs.Doubt.{clean_of, no_doubt}
 use Rattle.sqlite.specs.Held.{Held, state}
 use Rattle.sqlite.specs.State.{HasCleanDisk}
 use Rattle.sqlite.specs.Effect.{Database}
+use Rattle.sqlite_catalog.specs.Listing.{IsSound}
+use Rattle.sqlite_schema.specs.declared.schema.Schema.{Schema}
 use Rattle.sb_types.specs.declared.entry.Slot.{Slot}
 use Rattle.sb_types.specs.declared.fault.Fault.{Fault}
 use Rattle.sb_types.specs.declared.fault.Fault.TheVariants.{NoMemory, TableFull, VersionsSpent, NothingThere, Closed, StoreFailed, LogDamaged}
@@ -14,6 +16,7 @@ use Rattle.sb_types.specs.Records.{Entry, Table}
 use Rattle.sb_table.specs.Plain.{IsPlainTable, with_entry, is_full_for}
 use Rattle.sb_log.specs.Records.{Committed, Log}
 use Rattle.sb_log.specs.Puts.{is_idle, Puts, Loads, refusal, next_entry, next_content, IsReason}
+use Rattle.sb_log.specs.Form.{log_schema}
 use Rattle.sb_log.specs.Rows.{AreRowsOf, Enters, content_of}
 use Rattle.sb_log.specs.Opening.{IsNamed}
 use Rattle.sb_log.specs.Standing.{IsReady, IsKept, MayLeave}
@@ -66,7 +69,8 @@ module _ {S : Type 0} (g : Ghosts S) (settled : (s : S) (db : Trees) → IsTrue 
       → (left : Table) → MayLeave g owner cluster conn left → left ≡ table
   left_is conn table ready are named left may =
       let same : may.0 ≡ (state g conn).now.trees = settled conn.store may.0 ready.is_open may.1 ∙ sym (ap (λ (d : Database). d.trees) ready.settled) in
-      may.2 (subst (λ (trees : Trees). IsNamed owner cluster (trees 0)) (sym same) named) ∙ ap (λ (trees : Trees). content_of (trees 1)) same ∙ content_is _ table are
+      may.2 table (subst (λ (trees : Trees). IsSound log_schema trees) (sym same) (subst (λ (s : Schema). IsSound s (state g conn).now.trees) ready.schema ready.sound))
+      (subst (λ (trees : Trees). IsNamed owner cluster (trees 0)) (sym same) named) (subst (λ (trees : Trees). AreRowsOf table (trees 1)) (sym same) are)
 
   pub settles : (conn : Held S) (table : Table) (is_open : Bool) → IsKept g owner cluster conn table is_open → (g.view conn.store).is_clean ≡ true → is_open ≡ true
       → (left : Table) → MayLeave g owner cluster conn left → left ≡ content_of ((g.view conn.store).trees 1)
@@ -177,13 +181,13 @@ module _ {S : Type 0} (g : Ghosts S) (settled : (s : S) (db : Trees) → IsTrue 
               )
 
           pub survives : (HasCleanDisk (state g conn') → IsReady (state g conn) → (db : Trees) → g.recovers conn'.store db
-              → g.recovers conn.store db ⊎ (Enters e ((state g conn).now.trees 1) (db 1) × (db 0 ≡ (state g conn).now.trees 0)))
+              → g.recovers conn.store db ⊎ (Enters e ((state g conn).now.trees 1) (db 1) × (db 0 ≡ (state g conn).now.trees 0) × IsSound log_schema db))
               → (g.view conn'.store).is_clean ≡ true → (left : Table) → MayLeave g owner cluster conn' left → (left ≡ before.content) ⊎ (left ≡ next_content before key slot)
           survives crash clean left may =
               let stands = kept up (no_doubt _ (was_clean clean)) in
               elim (crash (no_doubt _ clean) stands.0 may.0 may.1) [
                 | inl was ↦ inl (settles conn table is_open kept (was_clean clean) up left (may.0, was, may.2))
-                | inr put ↦ inr (may.2 (subst (IsNamed owner cluster) (sym put.1) stands.2) ∙ content_is _ (with_entry table e) (put.0 table plain stands.1) ∙ entered_is (was_clean clean))
+                | inr put ↦ inr (may.2 (with_entry table e) put.2 (subst (IsNamed owner cluster) (sym put.1) stands.2) (put.0 table plain stands.1) ∙ entered_is (was_clean clean))
               ]
 
     -- ---- reading it again

@@ -1,5 +1,5 @@
 -- What the statement that says whose log it is does.
-use Rattle.std.proofs.Common.{◌≡◌, ℕ, pos, List, [], ◌∷◌, map, drop, Option, None, Ok, refl, ap, subst, ◌∙◌, arith}
+use Rattle.std.proofs.Common.{◌≡◌, inl, inr, ℕ, pos, List, [], ◌∷◌, map, drop, Option, None, Ok, refl, sym, ap, subst, subst₂, ◌∙◌, arith}
 use Rattle.sqlite_value.specs.declared.value.Value.TheVariants.{Null, Int, Text}
 use Rattle.sqlite_value.specs.Order.{Row}
 use Rattle.sqlite_trees.specs.Tree.{Trees}
@@ -15,8 +15,9 @@ use Rattle.sqlite.specs.Does.{Tally, Does}
 use Rattle.sqlite.specs.Effect.{Database}
 use Rattle.sqlite.specs.Rows.{Written}
 use Rattle.sqlite.specs.Listing.{understood}
-use Rattle.sqlite.specs.State.{State, Writes, Executes, mode_of}
-use Rattle.sqlite.proofs.Callers.{statement_of, runs_as, one_step}
+use Rattle.sqlite.specs.State.{State, Writes, Executes, MayCommit, CommitsBy, mode_of}
+use Rattle.sqlite_catalog.specs.Listing.{IsSound}
+use Rattle.sqlite.proofs.Callers.{IsPlain, command_of, statement_of, runs_as, one_step}
 use Rattle.sb_log.specs.Form.{log_schema, meta_table, meta_row_text}
 use Rattle.sb_log.specs.Opening.{meta_cells, meta_row}
 use Rattle.sb_log.specs.Standing.{IsReady}
@@ -72,10 +73,31 @@ module _ (owner cluster : List ℕ) where
     pub name_ready : IsReady new
     name_ready =
         let done = commits old new insert text_run params count ran ready.autocommit in
-        record { is_open = done.2; autocommit = done.0; settled = done.1; schema = did.0 }
+        record { is_open = done.2; autocommit = done.0; settled = done.1; schema = did.0; sound = ran.sound }
 
     pub name_rows : new.now.trees 1 ≡ old.now.trees 1
     name_rows = did.1
 
     pub name_meta : old.now.trees 0 ≡ [] → map meta_cells (new.now.trees 0) ≡ meta_row owner cluster ∷ []
     name_meta empty = ap (map meta_cells) (did.2 empty)
+
+  -- what a crash leaves of it
+  module _ (old : State) (ready : IsReady old) where
+    abbrev pub NamedIn : Trees → Type 0
+    NamedIn db = IsSound log_schema db × (db 1 ≡ old.now.trees 1) × (old.now.trees 0 ≡ [] → map meta_cells (db 0) ≡ meta_row owner cluster ∷ [])
+
+    abbrev text_left : List ℕ
+    text_left = statement_of meta_row_text (understood log_schema meta_row_text)
+
+    may_name : (db : Trees) → MayCommit old None insert text_left params db → NamedIn db
+    may_name db (inl ends) = absurd (elim ends.0 [ inl commits ↦ cc | inr releases ↦ let is = releases.2 in cc ])
+    may_name db (inr writes) =
+        let did = named old.step_limit (mode_of old) text_left old.now writes.1 writes.2 ready.schema writes.3 in
+        subst NamedIn (sym writes.5) (subst (λ (s : Schema). IsSound s writes.2.trees) did.0 writes.4, did.1, λ empty. ap (map meta_cells) (did.2 empty))
+
+    pub names_in : (db : Trees) → CommitsBy meta_row_text params old db → NamedIn db
+    unfolding CommitsBy
+    names_in db h =
+        let known = sym h.1.is ∙ ap (λ (s : Schema). understood s meta_row_text) ready.schema in
+        let bare = subst IsPlain (sym known) meta_row_plain in
+        may_name db (subst₂ (λ (k : Command) (t : List ℕ). MayCommit old None k t params db) (ap command_of known ∙ meta_row_is) (ap (statement_of meta_row_text) known) (rw (bare.0, bare.1) at h.2))

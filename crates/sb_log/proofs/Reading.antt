@@ -9,7 +9,7 @@ use Rattle.sqlite_value.specs.Order.{Row}
 use Rattle.sqlite_sql.specs.Query.{IsAnswer, Output, output}
 use Rattle.sqlite_sql.specs.Program.{overlay}
 use Rattle.sqlite.specs.State.{State, Shown, IsUnchanged, CommitsShowing}
-use Rattle.sqlite.specs.Effect.{Database}
+use Rattle.sqlite.specs.Effect.{Database, IsDatabase}
 use Rattle.sqlite.specs.Listing.{understood, reads_listing}
 use Rattle.sqlite_schema.specs.declared.schema.Schema.{Schema}
 use Rattle.sqlite_schema.specs.declared.command.Command.TheVariants.{Select}
@@ -73,6 +73,7 @@ still_ready old new ready same =
         autocommit = shown.mode ∙ ready.autocommit;
         settled = shown.now_is ∙ ready.settled ∙ sym shown.committed_is;
         schema = ap (λ (d : Database). d.schema) shown.now_is ∙ ready.schema;
+        sound = subst IsDatabase (sym shown.now_is) ready.sound;
       },
       shown.now_is,
     )
@@ -117,4 +118,9 @@ module _ (known : Schema) (is : (command_of (understood known meta_rows_text) �
 pub meta_ready : (old new : State) (rows : List Row) → IsPrepared old → Shown meta_rows_text [] old new rows → IsReady new × (new.now ≡ old.now)
 meta_ready old new rows ready h =
     let same = meta_unchanged log_schema meta_rows_is meta_rows_plain old new rows ready.schema h in
-    still_ready old new (record { is_open = same.0.was_open; autocommit = ready.autocommit; settled = ready.settled same.0.was_open; schema = ready.schema }) same
+    still_ready old new (record { is_open = same.0.was_open; autocommit = ready.autocommit; settled = ready.settled same.0.was_open; schema = ready.schema; sound = ready.sound same.0.was_open }) same
+
+-- a read of it commits nothing
+pub meta_commits : (known : Schema) (plain : IsCallPlain (understood known meta_rows_text)) {A : Type 0} (old : State) (db : Trees) → old.now.schema ≡ known → A ⊎ CommitsShowing meta_rows_text [] old db → A
+meta_commits known plain old db has (inl left) = left
+meta_commits known plain old db has (inr commits) = absurd (never_commits meta_rows_text [] old db (subst (λ (s : Schema). IsCallPlain (understood s meta_rows_text)) (sym has) plain) commits)

@@ -25,6 +25,7 @@ use Rattle.sqlite.specs.Effect.{Database}
 use Rattle.sqlite.specs.Rows.{Written, Updates, shown}
 use Rattle.sqlite.specs.declared.run.Mode.{Mode}
 use Rattle.sqlite.specs.Listing.{understood}
+use Rattle.sqlite_catalog.specs.Listing.{IsSound}
 use Rattle.sqlite.specs.State.{State, Writes, Executes, CommitsBy, MayCommit, mode_of}
 use Rattle.sqlite.proofs.Callers.{IsPlain, command_of, statement_of, runs_as, one_step}
 use Rattle.sb_types.specs.declared.entry.Slot.{Slot}
@@ -178,16 +179,17 @@ module _ (e : Entry) (kept : is_kept e ≡ true) (old : State) (ready : IsReady 
         autocommit = shown.mode ∙ ready.autocommit;
         settled = subst (λ (b : Bool). new.committed ≡ cond b old.committed new.now → new.now ≡ new.committed) (sym ready.autocommit) (λ (is : new.committed ≡ new.now). sym is) shown.committed_is;
         schema = (does old.step_limit (mode_of old) w.tally new.now w.changed).0;
+        sound = w.sound;
       }
 
   abbrev WritesOnce : Trees → Type 0
-  WritesOnce db = Enters e (old.now.trees 1) (db 1) × (db 0 ≡ old.now.trees 0)
+  WritesOnce db = Enters e (old.now.trees 1) (db 1) × (db 0 ≡ old.now.trees 0) × IsSound log_schema db
 
   may_commit : (db : Trees) → MayCommit old None upsert text_run (cells_of e) db → WritesOnce db
   may_commit db (inl ends) = absurd (elim ends.0 [ inl commits ↦ cc | inr releases ↦ let is = releases.2 in cc ])
-  may_commit db (inr writes) = let done = does old.step_limit (mode_of old) writes.1 writes.2 writes.3 in subst WritesOnce (sym writes.5) (done.1, done.2)
+  may_commit db (inr writes) = let done = does old.step_limit (mode_of old) writes.1 writes.2 writes.3 in subst WritesOnce (sym writes.5) (done.1, done.2, subst (λ (s : Schema). IsSound s writes.2.trees) done.0 writes.4)
 
-  pub write_commits : (db : Trees) → CommitsBy upsert_text (cells_of e) old db → Enters e (old.now.trees 1) (db 1) × (db 0 ≡ old.now.trees 0)
+  pub write_commits : (db : Trees) → CommitsBy upsert_text (cells_of e) old db → WritesOnce db
   unfolding CommitsBy
   write_commits db h =
       let known = sym h.1.is ∙ ap (λ (s : Schema). understood s upsert_text) ready.schema in

@@ -1,5 +1,5 @@
 -- The two tables of a log, in its form 1.
-use Rattle.std.specs.Prelude.{◌≡◌, ℕ, pos, Bool, true, false, List, [], ◌∷◌, codes, Option, None, Some}
+use Rattle.std.specs.Prelude.{◌≡◌, ℕ, pos, ◌==◌, ◌&&◌, slice_get, Bool, true, false, List, [], ◌∷◌, codes, Option, None, Some}
 use Rattle.sqlite_value.specs.declared.keys.Collation.TheVariants.{Binary}
 use Rattle.sqlite_value.specs.declared.value.Value.TheVariants.{Null, Int}
 use Rattle.sqlite_value.specs.Keys.{plain}
@@ -12,7 +12,10 @@ use Rattle.sqlite_schema.specs.declared.schema.Schema.{Schema}
 use Rattle.sqlite_schema.specs.declared.schema.Stamps.{Stamps}
 use Rattle.sb_log.specs.declared.schema.Made.{Made}
 use Rattle.sb_log.specs.declared.schema.Made.TheVariants.{Neither, Meta, Both}
+use Rattle.sqlite_schema.specs.declared.code.Op.{Op}
+use Rattle.sqlite_schema.specs.declared.code.Op.TheVariants.{Literal, Column as Place, Binary as Operation}
 use Rattle.sqlite_sql.specs.Term.{Term, lit, col, op2}
+use Rattle.sqlite_sql.specs.declared.ops.BinaryOp.{BinaryOp}
 use Rattle.sqlite_sql.specs.declared.ops.BinaryOp.TheVariants.{Compare}
 use Rattle.sqlite_sql.specs.declared.ops.CompareOp.TheVariants.{Eq}
 
@@ -51,6 +54,31 @@ is_one = op2 (Compare Eq Binary) (col 1 0) (lit (Int (pos 1)))
 
 abbrev pub is_one_alone : List Term
 is_one_alone = is_one ∷ []
+
+-- the node of that test, with those of its two sides, however they lie
+abbrev pub is_id : Option Op → Bool
+is_id (Some (Place slot at)) = (slot == 1) && (at == 0)
+is_id _ = false
+
+abbrev pub is_number_one : Option Op → Bool
+is_number_one (Some (Literal (Int (pos n)))) = n == 1
+is_number_one _ = false
+
+abbrev pub is_equals : BinaryOp → Bool
+is_equals (Compare Eq Binary) = true
+is_equals _ = false
+
+abbrev pub is_one_by : (ℕ → Option Op) → Option Op → Bool
+is_one_by at (Some (Operation op left right)) = is_equals op && (is_id (at left) && is_number_one (at right))
+is_one_by at _ = false
+
+abbrev pub is_one_at : List Op → ℕ → Bool
+is_one_at ops root = is_one_by (slice_get ops) (slice_get ops root)
+
+abbrev pub are_one : List Op → List ℕ → Bool
+are_one ops [] = false
+are_one ops (root ∷ []) = is_one_at ops root
+are_one ops (root ∷ other ∷ more) = false
 
 -- it refers to nothing, and no column is filled in
 pub record IsPlain (t : Table) : Type 0 where

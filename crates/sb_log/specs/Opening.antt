@@ -4,6 +4,7 @@ use Rattle.sqlite_value.specs.declared.value.Value.TheVariants.{Int, Text}
 use Rattle.sqlite_value.specs.Order.{Row, column}
 use Rattle.sqlite_trees.specs.Tree.{Trees}
 use Rattle.sqlite.specs.Effect.{Database}
+use Rattle.sqlite_catalog.specs.Listing.{IsSound}
 use Rattle.sb_types.specs.declared.fault.Fault.{Fault}
 use Rattle.sb_types.specs.declared.fault.Fault.TheVariants.{NoMemory, StoreFailed, LogDamaged, WrongOwner}
 use Rattle.sb_types.specs.declared.limits.TheConstants.{VERSION_MOST}
@@ -12,7 +13,7 @@ use Rattle.sb_log.specs.Records.{Log}
 use Rattle.sb_table.specs.Plain.{plain_table}
 use Rattle.sb_log.specs.declared.schema.Made.{Made}
 use Rattle.sb_log.specs.declared.schema.Made.TheVariants.{Neither, Meta, Both}
-use Rattle.sb_log.specs.Form.{schema_with}
+use Rattle.sb_log.specs.Form.{schema_with, log_schema}
 use Rattle.sb_log.specs.Rows.{AreRowsOf}
 
 -- form, owner, cluster, last and floor of a row of meta
@@ -59,6 +60,32 @@ pub record Completes (found now : Database) : Type 0 where
   pub meta : now.trees 0 ≡ meta_found made found.trees
   pub rows : now.trees 1 ≡ writes_found made found.trees
   pub whole : made ≡ Meta → meta_found made found.trees ≡ []
+
+-- what was found is there, and of the tables that were missing none, the first or both, empty
+pub record Grows (found : Database) (db : Trees) : Type 0 where
+  pub made : Made
+  pub schema : found.schema ≡ schema_with made
+  pub now : Made
+  pub sound : IsSound (schema_with now) db
+  pub meta : meta_found now db ≡ meta_found made found.trees
+  pub rows : writes_found now db ≡ writes_found made found.trees
+
+-- what was found is there, and both tables, and the row that says whose the log is, where there was none
+pub record Names (owner cluster : List ℕ) (found : Database) (db : Trees) : Type 0 where
+  pub made : Made
+  pub schema : found.schema ≡ schema_with made
+  pub none : meta_found made found.trees ≡ []
+  pub sound : IsSound log_schema db
+  pub meta : IsNamed owner cluster (db 0)
+  pub rows : db 1 ≡ writes_found made found.trees
+
+-- what an opening may commit
+abbrev pub Founds : List ℕ → List ℕ → Database → Trees → Type 0
+Founds owner cluster found db = Grows found db ⊎ Names owner cluster found db
+
+-- memory was wanting, or the store failed
+abbrev pub IsWant : Fault → Type 0
+IsWant fault = (fault ≡ NoMemory) ⊎ (fault ≡ StoreFailed)
 
 abbrev pub IsOpeningFault : Fault → Type 0
 IsOpeningFault fault = (fault ≡ NoMemory) ⊎ ((fault ≡ StoreFailed) ⊎ ((fault ≡ LogDamaged) ⊎ (fault ≡ WrongOwner)))

@@ -1,13 +1,17 @@
 //! Opening a log's tables, and making those that are missing.
-ghost use Rattle.std.specs.Prelude.{◌≡◌, ◌≢◌, ◌≤◌, ◌⊎◌, Err, [], ◌∷◌, map, IfErr, IfOk, IsTrue, OnOk, false, true};
-ghost use Rattle.sqlite_value.specs.declared.value.Value.TheVariants.{Text};
+ghost use Rattle.std.specs.Prelude.{◌≡◌, ◌≢◌, ◌≤◌, ◌⊎◌, Ok, Err, pos, [], ◌∷◌, map, IfErr, IfOk, IsTrue, OnOk, false, true};
+ghost use Rattle.sqlite_value.specs.declared.value.Value.TheVariants.{Int, Text};
 ghost use Rattle.sqlite_value.specs.Order.{column};
+ghost use Rattle.sqlite_trees.specs.Tree.{Trees};
 ghost use Rattle.sqlite_trees.specs.View.{doubt};
 ghost use Rattle.sqlite.specs.Held.{state};
+ghost use Rattle.sqlite.specs.Effect.{IsDatabase};
 ghost use Rattle.sqlite.specs.State.{HasCleanDisk};
+ghost use Rattle.sqlite_catalog.specs.Listing.{IsSound};
+ghost use Rattle.sb_types.specs.Records as records;
 ghost use Rattle.sb_table.specs.Plain.{plain_table};
-ghost use Rattle.sb_log.specs.Form.{no_schema, meta_schema, log_schema};
-ghost use Rattle.sb_log.specs.Opening.{meta_row, IsNamed, Completes, Opens, IsOpeningFault};
+ghost use Rattle.sb_log.specs.Form.{no_schema, meta_schema, log_schema, schema_with};
+ghost use Rattle.sb_log.specs.Opening.{meta_row, meta_found, IsNamed, Completes, Opens, Grows, Founds, IsWant, IsOpeningFault};
 ghost use Rattle.sb_log.specs.Rows.{AreRowsOf};
 ghost use Rattle.sb_log.specs.Standing.{IsPrepared, IsReady};
 
@@ -37,6 +41,11 @@ pub(crate) fn open_tables<S: Alter>(
     // What is refused is refused again: at most the tables that were missing are made.
     ensures refused { HasCleanDisk (state S.Store conn.new) → IfErr result (λ fault. fault ≢ Fault.StoreFailed
         → ((state S.Store conn.new).now ≡ (state S.Store conn.old).now) ⊎ Completes (state S.Store conn.old).now (state S.Store conn.new).now) }
+    // However it ends, a crash loses nothing of what was found.
+    ensures crash { HasCleanDisk (state S.Store conn.new) → (db : Trees) → (state S.Store conn.new).may_leave db
+        → (state S.Store conn.old).may_leave db ⊎ Founds owner.now cluster.now (state S.Store conn.old).now db }
+    // A log that is whole and the owner's is not refused.
+    ensures whole { HasCleanDisk (state S.Store conn.new) → (t : records.Table) → Opens owner.now cluster.now (state S.Store conn.old).now t → IfErr result IsWant }
     ensures clean { doubt (state S.Store conn.old).is_clean ≤ doubt (state S.Store conn.new).is_clean }
     ensures fault { IfErr result IsOpeningFault }
 {
@@ -66,6 +75,11 @@ fn open_new<S: Alter>(
         → OnOk result (IsNamed owner.now cluster.now ((state S.Store conn.new).now.trees 0)) }
     ensures refused { HasCleanDisk (state S.Store conn.new) → IsReady (state S.Store conn.old)
         → IfErr result (λ fault. fault ≢ Fault.StoreFailed → (state S.Store conn.new).now ≡ (state S.Store conn.old).now) }
+    ensures crash { HasCleanDisk (state S.Store conn.new) → IsReady (state S.Store conn.old) → (state S.Store conn.old).now.trees 0 ≡ []
+        → (db : Trees) → (state S.Store conn.new).may_leave db
+        → (state S.Store conn.old).may_leave db ⊎ (IsSound log_schema db × (db 1 ≡ (state S.Store conn.old).now.trees 1) × IsNamed owner.now cluster.now (db 0)) }
+    ensures whole { HasCleanDisk (state S.Store conn.new) → IsReady (state S.Store conn.old)
+        → (t : records.Table) → AreRowsOf t ((state S.Store conn.old).now.trees 1) → t ≡ plain_table [] → IfErr result IsWant }
     ensures clean { doubt (state S.Store conn.old).is_clean ≤ doubt (state S.Store conn.new).is_clean }
     ensures fault { IfErr result IsOpeningFault }
 {
@@ -96,6 +110,10 @@ fn open_old<S: Alter>(
     ensures meta { OnOk result (row.now ≡ meta_row owner.now cluster.now) }
     ensures refused { HasCleanDisk (state S.Store conn.new) → IsReady (state S.Store conn.old)
         → IfErr result (λ fault. fault ≢ Fault.StoreFailed → (state S.Store conn.new).now ≡ (state S.Store conn.old).now) }
+    ensures crash { HasCleanDisk (state S.Store conn.new) → IsReady (state S.Store conn.old) → (db : Trees) → (state S.Store conn.new).may_leave db
+        → (state S.Store conn.old).may_leave db }
+    ensures whole { HasCleanDisk (state S.Store conn.new) → IsReady (state S.Store conn.old) → row.now ≡ meta_row owner.now cluster.now
+        → (t : records.Table) → AreRowsOf t ((state S.Store conn.old).now.trees 1) → IfErr result IsWant }
     ensures clean { doubt (state S.Store conn.old).is_clean ≤ doubt (state S.Store conn.new).is_clean }
     ensures fault { IfErr result IsOpeningFault }
 {
@@ -114,6 +132,10 @@ fn make_tables<S: Alter>(conn: &mut Connection<S>) -> Result<(), Fault>
     ensures prepared { HasCleanDisk (state S.Store conn.new) → OnOk result (IsPrepared (state S.Store conn.new)) }
     ensures refused { HasCleanDisk (state S.Store conn.new)
         → IfErr result (λ fault. fault ≢ Fault.StoreFailed → (state S.Store conn.new).now ≡ (state S.Store conn.old).now) }
+    ensures crash { HasCleanDisk (state S.Store conn.new) → (db : Trees) → (state S.Store conn.new).may_leave db
+        → (state S.Store conn.old).may_leave db ⊎ Grows (state S.Store conn.old).now db }
+    ensures whole { HasCleanDisk (state S.Store conn.new) → (made : Made) → (state S.Store conn.old).now.schema ≡ schema_with made
+        → (made ≡ Made.Meta → meta_found made (state S.Store conn.old).now.trees ≡ []) → IfErr result (λ fault. fault ≡ Fault.StoreFailed) }
     ensures clean { doubt (state S.Store conn.old).is_clean ≤ doubt (state S.Store conn.new).is_clean }
     ensures fault { IfErr result (λ fault. (fault ≡ Fault.StoreFailed) ⊎ (fault ≡ Fault.LogDamaged)) }
 {
@@ -144,6 +166,12 @@ fn make_second<S: Alter>(conn: &mut Connection<S>) -> Result<(), Fault>
         → OnOk result (((state S.Store conn.new).in_transaction ≡ false) × ((state S.Store conn.new).now ≡ (state S.Store conn.new).committed)) }
     ensures refused { HasCleanDisk (state S.Store conn.new) → (state S.Store conn.old).now.schema ≡ meta_schema
         → IfErr result (λ fault. fault ≢ Fault.StoreFailed → (state S.Store conn.new).now ≡ (state S.Store conn.old).now) }
+    ensures sound { HasCleanDisk (state S.Store conn.new) → (state S.Store conn.old).now.schema ≡ meta_schema
+        → OnOk result (IsDatabase (state S.Store conn.new).now) }
+    ensures crash { HasCleanDisk (state S.Store conn.new) → (state S.Store conn.old).now.schema ≡ meta_schema → (db : Trees) → (state S.Store conn.new).may_leave db
+        → (state S.Store conn.old).may_leave db ⊎ (IsSound log_schema db × (db 0 ≡ (state S.Store conn.old).now.trees 0) × (db 1 ≡ [])) }
+    ensures whole { HasCleanDisk (state S.Store conn.new) → (state S.Store conn.old).now.schema ≡ meta_schema → (state S.Store conn.old).now.trees 0 ≡ []
+        → IfErr result (λ fault. fault ≡ Fault.StoreFailed) }
     ensures clean { doubt (state S.Store conn.old).is_clean ≤ doubt (state S.Store conn.new).is_clean }
     ensures fault { IfErr result (λ fault. (fault ≡ Fault.StoreFailed) ⊎ (fault ≡ Fault.LogDamaged)) }
 {
@@ -164,6 +192,10 @@ fn make_both<S: Alter>(conn: &mut Connection<S>) -> Result<(), Fault>
     ensures settled { HasCleanDisk (state S.Store conn.new) → (state S.Store conn.old).now.schema ≡ no_schema
         → (state S.Store conn.old).in_transaction ≡ false
         → OnOk result (((state S.Store conn.new).in_transaction ≡ false) × ((state S.Store conn.new).now ≡ (state S.Store conn.new).committed)) }
+    ensures sound { HasCleanDisk (state S.Store conn.new) → (state S.Store conn.old).now.schema ≡ no_schema
+        → OnOk result (IsDatabase (state S.Store conn.new).now) }
+    ensures crash { HasCleanDisk (state S.Store conn.new) → (state S.Store conn.old).now.schema ≡ no_schema → (db : Trees) → (state S.Store conn.new).may_leave db
+        → (state S.Store conn.old).may_leave db ⊎ ((IsSound meta_schema db × (db 0 ≡ [])) ⊎ (IsSound log_schema db × (db 0 ≡ []) × (db 1 ≡ []))) }
     ensures clean { doubt (state S.Store conn.old).is_clean ≤ doubt (state S.Store conn.new).is_clean }
     ensures fault { IfErr result (λ fault. fault ≡ Fault.StoreFailed) }
 {
@@ -176,6 +208,9 @@ fn make_both<S: Alter>(conn: &mut Connection<S>) -> Result<(), Fault>
 #[tactic(auto, using(crate::proofs::Cells::of_five))]
 fn test_meta(row: &Row, owner: &Name, cluster: &Name) -> Result<bool, Fault>
     ensures row { IfOk result (λ forgot. forgot ≡ false → row.now ≡ meta_row owner.now cluster.now) }
+    ensures whole { row.now ≡ meta_row owner.now cluster.now → result ≡ Ok false }
+    ensures others { IfErr result (λ fault. fault ≡ Fault.WrongOwner
+        → (column row.now 0 ≡ Int (pos 1)) × ((column row.now 1 ≢ Text owner.now) ⊎ (column row.now 2 ≢ Text cluster.now))) }
     ensures fault { IfErr result (λ fault. (fault ≡ Fault.LogDamaged) ⊎ (fault ≡ Fault.WrongOwner)) }
 {
     if row.column_count() != 5 {
@@ -198,7 +233,8 @@ fn test_meta(row: &Row, owner: &Name, cluster: &Name) -> Result<bool, Fault>
 
 /// Whether a column has a name.
 fn is_text(row: &Row, at: usize, name: &Name) -> bool
-    ensures { IsTrue result → column row.now at ≡ Text name.now }
+    ensures is { IsTrue result → column row.now at ≡ Text name.now }
+    ensures whole { column row.now at ≡ Text name.now → IsTrue result }
 {
     match row.get_ref(at) {
         Ok(ValueRef::Text(text)) => text == name.bytes(),

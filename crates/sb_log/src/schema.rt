@@ -1,5 +1,5 @@
 //! Which of a log's two tables a database has.
-ghost use Rattle.std.specs.Prelude.{◌≡◌, IsTrue, IfSome, codes, None, Some};
+ghost use Rattle.std.specs.Prelude.{◌≡◌, IsTrue, IfSome, codes, None, Some, slice_get};
 ghost use Rattle.sb_log.specs.Form as form;
 
 use sqlite_schema::code::{Op, Terms};
@@ -18,7 +18,8 @@ pub(crate) enum Made {
 
 /// Which tables there are, where there is nothing else.
 pub(crate) fn tables_in(schema: &Schema) -> Option<Made>
-    ensures { IfSome result (λ made. schema.now ≡ form.schema_with made) }
+    ensures is { IfSome result (λ made. schema.now ≡ form.schema_with made) }
+    ensures whole { (made : Made) → schema.now ≡ form.schema_with made → result ≡ Some made }
 {
     if !schema.views.is_empty() {
         return None;
@@ -35,7 +36,8 @@ pub(crate) fn tables_in(schema: &Schema) -> Option<Made>
 }
 
 fn is_column(column: &Column, name: &[u8], kind: Kind, not_null: bool) -> bool
-    ensures { IsTrue result → column.now ≡ form.column_of name.now kind not_null }
+    ensures is { IsTrue result → column.now ≡ form.column_of name.now kind not_null }
+    ensures whole { column.now ≡ form.column_of name.now kind not_null → IsTrue result }
 {
     column.name.as_slice() == name
         && column.kind == kind
@@ -46,13 +48,15 @@ fn is_column(column: &Column, name: &[u8], kind: Kind, not_null: bool) -> bool
 }
 
 fn has_no_stamps(stamps: &Stamps) -> bool
-    ensures { IsTrue result → stamps.now ≡ form.no_stamps }
+    ensures is { IsTrue result → stamps.now ≡ form.no_stamps }
+    ensures whole { stamps.now ≡ form.no_stamps → IsTrue result }
 {
     stamps.places.is_empty() && stamps.terms.roots.is_empty() && stamps.formats.is_empty()
 }
 
 fn is_plain(table: &Table) -> bool
-    ensures { IsTrue result → form.IsPlain table.now }
+    ensures is { IsTrue result → form.IsPlain table.now }
+    ensures whole { form.IsPlain table.now → IsTrue result }
 {
     table.references.is_empty()
         && table.computed.is_empty()
@@ -61,7 +65,8 @@ fn is_plain(table: &Table) -> bool
 }
 
 fn are_meta_columns(columns: &[Column]) -> bool
-    ensures { IsTrue result → columns.now ≡ form.meta_columns }
+    ensures is { IsTrue result → columns.now ≡ form.meta_columns }
+    ensures whole { columns.now ≡ form.meta_columns → IsTrue result }
 {
     let [id, form, owner, cluster, last, floor] = columns else {
         return false;
@@ -75,7 +80,8 @@ fn are_meta_columns(columns: &[Column]) -> bool
 }
 
 fn are_writes_columns(columns: &[Column]) -> bool
-    ensures { IsTrue result → columns.now ≡ form.writes_columns }
+    ensures is { IsTrue result → columns.now ≡ form.writes_columns }
+    ensures whole { columns.now ≡ form.writes_columns → IsTrue result }
 {
     let [k, version, tag, num, txt] = columns else {
         return false;
@@ -87,22 +93,62 @@ fn are_writes_columns(columns: &[Column]) -> bool
         && is_column(txt, b"txt", Kind::Text, false)
 }
 
+#[tactic(auto, using(crate::proofs::Nodes::ones_there, crate::proofs::Nodes::ones_needed))]
 fn is_one(terms: &Terms) -> bool
-    ensures { IsTrue result → terms.now ≡ form.is_one_alone }
+    ensures is { IsTrue result → terms.now ≡ form.is_one_alone }
+    ensures whole { terms.now ≡ form.is_one_alone → IsTrue result }
 {
-    let [
-        Op::Column(1, 0),
-        Op::Literal(Value::Int(1)),
-        Op::Binary(BinaryOp::Compare(CompareOp::Eq, Collation::Binary), 0, 1),
-    ] = terms.nodes.as_slice()
-    else {
-        return false;
-    };
-    matches!(terms.roots.as_slice(), [2])
+    are_one(terms.nodes.as_slice(), terms.roots.as_slice())
+}
+
+fn are_one(nodes: &[Op], roots: &[usize]) -> bool
+    ensures { result ≡ form.are_one nodes.now roots.now }
+{
+    match roots {
+        [root] => is_one_at(nodes, *root),
+        _ => false,
+    }
+}
+
+/// Whether the node at a place tests that `id` is 1.
+fn is_one_at(nodes: &[Op], root: usize) -> bool
+    ensures { result ≡ form.is_one_at nodes.now root }
+{
+    match nodes.get(root) {
+        Some(Op::Binary(op, left, right)) => {
+            is_equals(*op) && (is_id(nodes, *left) && is_number_one(nodes, *right))
+        }
+        _ => false,
+    }
+}
+
+fn is_equals(op: BinaryOp) -> bool
+    ensures { result ≡ form.is_equals op }
+{
+    matches!(op, BinaryOp::Compare(CompareOp::Eq, Collation::Binary))
+}
+
+fn is_id(nodes: &[Op], at: usize) -> bool
+    ensures { result ≡ form.is_id (slice_get nodes.now at) }
+{
+    match nodes.get(at) {
+        Some(Op::Column(slot, place)) => *slot == 1 && *place == 0,
+        _ => false,
+    }
+}
+
+fn is_number_one(nodes: &[Op], at: usize) -> bool
+    ensures { result ≡ form.is_number_one (slice_get nodes.now at) }
+{
+    match nodes.get(at) {
+        Some(Op::Literal(Value::Int(number))) => *number == 1,
+        _ => false,
+    }
 }
 
 fn is_meta(table: &Table) -> bool
-    ensures { IsTrue result → table.now ≡ form.meta_table }
+    ensures is { IsTrue result → table.now ≡ form.meta_table }
+    ensures whole { table.now ≡ form.meta_table → IsTrue result }
 {
     if !has_columns_of_meta(table) {
         return false;
@@ -123,7 +169,8 @@ fn is_meta(table: &Table) -> bool
 }
 
 fn has_columns_of_meta(table: &Table) -> bool
-    ensures { IsTrue result → form.HasColumns (codes "meta") 0 form.meta_columns (Some 0) table.now }
+    ensures is { IsTrue result → form.HasColumns (codes "meta") 0 form.meta_columns (Some 0) table.now }
+    ensures whole { form.HasColumns (codes "meta") 0 form.meta_columns (Some 0) table.now → IsTrue result }
 {
     if table.name.as_slice() != b"meta".as_slice() {
         return false;
@@ -138,7 +185,8 @@ fn has_columns_of_meta(table: &Table) -> bool
 }
 
 fn is_writes(table: &Table) -> bool
-    ensures { IsTrue result → table.now ≡ form.writes_table }
+    ensures is { IsTrue result → table.now ≡ form.writes_table }
+    ensures whole { table.now ≡ form.writes_table → IsTrue result }
 {
     if !has_columns_of_writes(table) {
         return false;
@@ -153,7 +201,8 @@ fn is_writes(table: &Table) -> bool
 }
 
 fn has_columns_of_writes(table: &Table) -> bool
-    ensures { IsTrue result → form.HasColumns (codes "writes") 1 form.writes_columns None table.now }
+    ensures is { IsTrue result → form.HasColumns (codes "writes") 1 form.writes_columns None table.now }
+    ensures whole { form.HasColumns (codes "writes") 1 form.writes_columns None table.now → IsTrue result }
 {
     if table.name.as_slice() != b"writes".as_slice() {
         return false;
@@ -168,7 +217,8 @@ fn has_columns_of_writes(table: &Table) -> bool
 }
 
 fn has_keys_of_writes(table: &Table) -> bool
-    ensures { IsTrue result → form.HasKeys table.now }
+    ensures is { IsTrue result → form.HasKeys table.now }
+    ensures whole { form.HasKeys table.now → IsTrue result }
 {
     let [1] = table.primary.as_slice() else {
         return false;
@@ -190,7 +240,8 @@ fn has_keys_of_writes(table: &Table) -> bool
 
 #[tactic(auto, using(crate::proofs::Cells::index_is))]
 fn is_index(index: &Index, name: &[u8], tree: u32, place: usize) -> bool
-    ensures { IsTrue result → index.now ≡ form.writes_index name.now tree place }
+    ensures is { IsTrue result → index.now ≡ form.writes_index name.now tree place }
+    ensures whole { index.now ≡ form.writes_index name.now tree place → IsTrue result }
 {
     if index.name.as_slice() != name {
         return false;
@@ -211,8 +262,10 @@ fn is_index(index: &Index, name: &[u8], tree: u32, place: usize) -> bool
 }
 
 fn are_indexes(by_key: &Index, by_version: &Index) -> bool
-    ensures { IsTrue result
+    ensures is { IsTrue result
         → (by_key.now ≡ form.writes_index (codes "sqlite_autoindex_writes_1") 2 1) × (by_version.now ≡ form.writes_index (codes "sqlite_autoindex_writes_2") 3 2) }
+    ensures whole { (by_key.now ≡ form.writes_index (codes "sqlite_autoindex_writes_1") 2 1) × (by_version.now ≡ form.writes_index (codes "sqlite_autoindex_writes_2") 3 2)
+        → IsTrue result }
 {
     is_index(by_key, b"sqlite_autoindex_writes_1", 2, 1)
         && is_index(by_version, b"sqlite_autoindex_writes_2", 3, 2)

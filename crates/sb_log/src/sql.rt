@@ -1,10 +1,12 @@
 //! A log that is kept in a database.
-ghost use Rattle.std.specs.Prelude.{◌≡◌, ◌≤◌, IfOk, IfErr};
+ghost use Rattle.std.specs.Prelude.{◌≡◌, ◌≢◌, ◌≤◌, ◌⊎◌, Ok, IfOk, IfErr};
+ghost use Rattle.sqlite_trees.specs.Tree.{Trees};
 ghost use Rattle.sqlite_trees.specs.View.{doubt};
 ghost use Rattle.sqlite.specs.Held.{state};
 ghost use Rattle.sqlite.specs.State.{HasCleanDisk};
-ghost use Rattle.sb_log.specs.Opening.{IsNamed, Opens, IsOpeningFault, IsOpenedAs};
-ghost use Rattle.sb_log.specs.Puts.{IsSettled};
+ghost use Rattle.sb_types.specs.Records as records;
+ghost use Rattle.sb_log.specs.Opening.{IsNamed, Opens, Completes, Founds, IsWant, IsOpeningFault, IsOpenedAs};
+ghost use Rattle.sb_log.specs.Puts.{IsSettled, IsSure};
 ghost use Rattle.sb_log.specs.Sql.{log_in};
 ghost use Rattle.sb_log.specs.Standing.{MayLeave};
 
@@ -55,24 +57,33 @@ impl<S: Alter + Drop> SqlLog<S> {
     /// writes, where its form is unknown, or where there are other tables than a log's; `WrongOwner` where the log is
     /// another owner's or of another cluster; `LogDamaged` where a row breaks a limit or two have one key or version,
     /// where there are more than 4,096, or where versions were forgotten. `NoMemory` and `StoreFailed` wherever they
-    /// come, the latter also inside a transaction. The connection is dropped on a refusal, and the database is as it was,
-    /// but that tables which were missing may have been made.
+    /// come, the latter also inside a transaction. A refusal hands the connection back, and the database is as it was,
+    /// but that tables which were missing may have been made. However it ends, nothing of what was there is lost.
     pub fn open(
         alloc: Global,
         conn: Connection<S>,
         owner: Name,
         cluster: Name,
         max_version: u64,
-    ) -> Result<SqlLog<S>, Fault>
+    ) -> Result<SqlLog<S>, (Fault, Connection<S>)>
         ensures log { IfOk result (λ l. IsOpenedAs owner cluster max_version (log_in S.Store l)) }
         ensures clean { IfOk result (λ l. doubt (state S.Store conn).is_clean ≤ doubt (state S.Store l.conn).is_clean) }
         ensures found { IfOk result (λ l. HasCleanDisk (state S.Store l.conn) → Opens owner cluster (state S.Store conn).now (log_in S.Store l).content) }
         ensures meta { IfOk result (λ l. HasCleanDisk (state S.Store l.conn) → IsNamed owner cluster ((state S.Store l.conn).now.trees 0)) }
         ensures settled { IfOk result (λ l. IsSettled (log_in S.Store l) (MayLeave S.Store owner cluster l.conn)) }
-        ensures fault { IfErr result IsOpeningFault }
+        ensures whole { (t : records.Table) → Opens owner cluster (state S.Store conn).now t
+            → IfErr result (λ refused. HasCleanDisk (state S.Store refused.1) → IsWant refused.0) }
+        ensures refused { IfErr result (λ refused. HasCleanDisk (state S.Store refused.1) → refused.0 ≢ Fault.StoreFailed
+            → ((state S.Store refused.1).now ≡ (state S.Store conn).now) ⊎ Completes (state S.Store conn).now (state S.Store refused.1).now) }
+        ensures crash { IfErr result (λ refused. HasCleanDisk (state S.Store refused.1) → (db : Trees) → (state S.Store refused.1).may_leave db
+            → (state S.Store conn).may_leave db ⊎ Founds owner cluster (state S.Store conn).now db) }
+        ensures fault { IfErr result (λ refused. IsOpeningFault refused.0) }
     {
         let mut conn = conn;
-        let table = open_tables(&mut conn, alloc, &owner, &cluster)?;
+        let table = match open_tables(&mut conn, alloc, &owner, &cluster) {
+            Ok(table) => table,
+            Err(fault) => return Err((fault, conn)),
+        };
         let max_version = max_version.min(VERSION_MOST);
         Ok(SqlLog {
             owner,
@@ -135,7 +146,12 @@ impl<S: Alter + Drop> WriteLog for SqlLog<S> {
         }
     }
 
-    fn close(self) -> Result<(), Fault> {
+    fn close(self) -> Result<(), Fault>
+        ensures fault { IfErr result (λ fault. fault ≡ Fault.StoreFailed) }
+        ensures sure { IsSure (log_in S.Store self) → result ≡ Ok tt }
+        ensures always { result ≡ Ok tt }
+    {
+        drop(self);
         Ok(())
     }
 }

@@ -3,7 +3,9 @@ ghost use Rattle.std.specs.Prelude.{◌≡◌, ◌≢◌, Err, ◌<◌, ◌≤�
 ghost use Rattle.sqlite_trees.specs.Tree.{Trees};
 ghost use Rattle.sqlite_trees.specs.View.{doubt};
 ghost use Rattle.sqlite.specs.Held.{state};
+ghost use Rattle.sqlite.specs.Effect.{IsDatabase};
 ghost use Rattle.sqlite.specs.State.{HasCleanDisk, IsUnchanged};
+ghost use Rattle.sqlite_catalog.specs.Listing.{IsSound};
 ghost use Rattle.sb_types.specs.Records as records;
 ghost use Rattle.sb_table.specs.Plain.{IsPlainTable};
 ghost use Rattle.sb_log.specs.Form.{no_schema, meta_schema, log_schema};
@@ -24,6 +26,10 @@ pub(crate) fn make_meta<S: Alter>(conn: &mut Connection<S>) -> Result<(), Fault>
         → OnOk result ((state S.Store conn.new).now.schema ≡ meta_schema) }
     ensures rows { HasCleanDisk (state S.Store conn.new) → (state S.Store conn.old).now.schema ≡ no_schema
         → OnOk result ((state S.Store conn.new).now.trees 0 ≡ []) }
+    ensures sound { HasCleanDisk (state S.Store conn.new) → (state S.Store conn.old).now.schema ≡ no_schema
+        → OnOk result (IsDatabase (state S.Store conn.new).now) }
+    ensures crash { HasCleanDisk (state S.Store conn.new) → (state S.Store conn.old).now.schema ≡ no_schema → (db : Trees) → (state S.Store conn.new).may_leave db
+        → (state S.Store conn.old).may_leave db ⊎ (IsSound meta_schema db × (db 0 ≡ [])) }
     ensures settled { HasCleanDisk (state S.Store conn.new) → (state S.Store conn.old).now.schema ≡ no_schema
         → (state S.Store conn.old).in_transaction ≡ false
         → OnOk result (((state S.Store conn.new).in_transaction ≡ false) × ((state S.Store conn.new).now ≡ (state S.Store conn.new).committed)) }
@@ -47,6 +53,10 @@ pub(crate) fn make_writes<S: Alter>(conn: &mut Connection<S>) -> Result<(), Faul
         → OnOk result ((state S.Store conn.new).now.trees 1 ≡ []) }
     ensures meta { HasCleanDisk (state S.Store conn.new) → (state S.Store conn.old).now.schema ≡ meta_schema
         → OnOk result ((state S.Store conn.new).now.trees 0 ≡ (state S.Store conn.old).now.trees 0) }
+    ensures sound { HasCleanDisk (state S.Store conn.new) → (state S.Store conn.old).now.schema ≡ meta_schema
+        → OnOk result (IsDatabase (state S.Store conn.new).now) }
+    ensures crash { HasCleanDisk (state S.Store conn.new) → (state S.Store conn.old).now.schema ≡ meta_schema → (db : Trees) → (state S.Store conn.new).may_leave db
+        → (state S.Store conn.old).may_leave db ⊎ (IsSound log_schema db × (db 0 ≡ (state S.Store conn.old).now.trees 0) × (db 1 ≡ [])) }
     ensures settled { HasCleanDisk (state S.Store conn.new) → (state S.Store conn.old).now.schema ≡ meta_schema
         → (state S.Store conn.old).in_transaction ≡ false
         → OnOk result (((state S.Store conn.new).in_transaction ≡ false) × ((state S.Store conn.new).now ≡ (state S.Store conn.new).committed)) }
@@ -73,6 +83,10 @@ pub(crate) fn read_meta<S: Alter>(conn: &mut Connection<S>) -> Result<Vec<Row>, 
         → IfOk result (λ rows. IsPermutation (map meta_cells ((state S.Store conn.old).now.trees 0)) rows.items) }
     ensures same { HasCleanDisk (state S.Store conn.new) → (state S.Store conn.old).now.schema ≡ meta_schema
         → OnOk result (((state S.Store conn.new).now ≡ (state S.Store conn.old).now) × ((state S.Store conn.new).in_transaction ≡ (state S.Store conn.old).in_transaction)) }
+    ensures crash { HasCleanDisk (state S.Store conn.new) → IsPrepared (state S.Store conn.old) → (db : Trees) → (state S.Store conn.new).may_leave db
+        → (state S.Store conn.old).may_leave db }
+    ensures crash_alone { HasCleanDisk (state S.Store conn.new) → (state S.Store conn.old).now.schema ≡ meta_schema → (db : Trees) → (state S.Store conn.new).may_leave db
+        → (state S.Store conn.old).may_leave db }
     ensures clean { doubt (state S.Store conn.old).is_clean ≤ doubt (state S.Store conn.new).is_clean }
     ensures fault { IfErr result (λ fault. fault ≡ Fault.StoreFailed) }
 {
@@ -93,6 +107,9 @@ pub(crate) fn write_meta<S: Alter>(
         → OnOk result ((state S.Store conn.new).now.trees 1 ≡ (state S.Store conn.old).now.trees 1) }
     ensures meta { HasCleanDisk (state S.Store conn.new) → IsReady (state S.Store conn.old) → (state S.Store conn.old).now.trees 0 ≡ []
         → OnOk result (IsNamed owner.now cluster.now ((state S.Store conn.new).now.trees 0)) }
+    ensures crash { HasCleanDisk (state S.Store conn.new) → IsReady (state S.Store conn.old) → (db : Trees) → (state S.Store conn.new).may_leave db
+        → (state S.Store conn.old).may_leave db
+        ⊎ (IsSound log_schema db × (db 1 ≡ (state S.Store conn.old).now.trees 1) × ((state S.Store conn.old).now.trees 0 ≡ [] → IsNamed owner.now cluster.now (db 0))) }
     ensures clean { doubt (state S.Store conn.old).is_clean ≤ doubt (state S.Store conn.new).is_clean }
     ensures fault { IfErr result (λ fault. fault ≡ Fault.StoreFailed) }
 {
@@ -143,7 +160,7 @@ pub(crate) fn write_entry<S: Alter>(conn: &mut Connection<S>, entry: &Entry) -> 
         → OnOk result ((state S.Store conn.new).now.trees 0 ≡ (state S.Store conn.old).now.trees 0) }
     ensures crash { HasCleanDisk (state S.Store conn.new) → IsReady (state S.Store conn.old) → (db : Trees) → (state S.Store conn.new).may_leave db
         → (state S.Store conn.old).may_leave db
-        ⊎ (Enters entry.now ((state S.Store conn.old).now.trees 1) (db 1) × (db 0 ≡ (state S.Store conn.old).now.trees 0)) }
+        ⊎ (Enters entry.now ((state S.Store conn.old).now.trees 1) (db 1) × (db 0 ≡ (state S.Store conn.old).now.trees 0) × IsSound log_schema db) }
     ensures clean { doubt (state S.Store conn.old).is_clean ≤ doubt (state S.Store conn.new).is_clean }
     ensures fault { IfErr result (λ fault. fault ≡ Fault.StoreFailed) }
 {

@@ -1,13 +1,14 @@
 //! What a crash leaves of a log in files, on disks of which a call fails, and each one after it or none.
-use crate::disks::{Calls, ENDLESS, Visit, new_disks, on_disks};
+use crate::disks::{Calls, ENDLESS, new_disks, whole_copy};
 use crate::faulty::After;
-use crate::writes::{OWNER, key, name, set};
+use crate::visits::{LogVisit, OWN, log_on_disks};
+use crate::writes::{key, remove, set};
 use crate::{got, same, same_at};
-use sb_log::{SqlLog, WriteLog};
+use sb_log::WriteLog;
 use sb_table::Table;
 use sb_types::{Fault, Key, Slot};
-use sqlite::{Alter, Connection, Files};
-use sqlite_disk::{Crash, Disk, Memory};
+use sqlite::Files;
+use sqlite_disk::{Crash, Memory};
 use std::alloc::Global;
 use std::process::Abort;
 
@@ -15,12 +16,7 @@ use std::process::Abort;
 type Content = (usize, u64, Option<u64>);
 
 /// What a log holds after so many of the writes of `put_three`.
-const CONTENTS: [Content; 4] = [
-    (0, 0, None),
-    (1, 1, Some(5)),
-    (2, 2, Some(5)),
-    (2, 3, Some(7)),
-];
+const CONTENTS: [Content; 4] = [(0, 0, None), (1, 1, Some(5)), (1, 2, None), (1, 3, Some(7))];
 
 /// How many writes were acknowledged, and how many were begun.
 #[derive(Clone, Copy, PartialEq, Eq, Debug)]
@@ -39,14 +35,6 @@ const ALL: Progress = Progress {
     begun: 3,
 };
 
-fn open<S: Alter + Drop>(
-    rt: &impl Abort,
-    alloc: Global,
-    conn: Connection<S>,
-) -> Result<SqlLog<S>, Fault> {
-    SqlLog::open(alloc, conn, name(rt, OWNER), name(rt, b"c"), 9)
-}
-
 /// Where the write behind so many acknowledged ones failed. Where the store did, the log takes no other, be the disk as it may.
 fn failed_after<L: WriteLog>(
     rt: &impl Abort,
@@ -63,12 +51,12 @@ fn failed_after<L: WriteLog>(
     }
 }
 
-/// Writes until a write fails.
+/// Writes until a write fails; the second removes what the first set.
 fn put_three<L: WriteLog>(rt: &impl Abort, log: &mut L) -> Progress {
     if let Err(fault) = set(rt, log, b"x", 5) {
         return failed_after(rt, log, 0, fault);
     }
-    if let Err(fault) = set(rt, log, b"y", 6) {
+    if let Err(fault) = remove(rt, log, b"x") {
         return failed_after(rt, log, 1, fault);
     }
     if let Err(fault) = set(rt, log, b"x", 7) {
@@ -77,23 +65,15 @@ fn put_three<L: WriteLog>(rt: &impl Abort, log: &mut L) -> Progress {
     ALL
 }
 
+/// Writes to a log whose disks fail.
 #[derive(Drop)]
 struct Writing;
 
-impl Visit for Writing {
-    type Told = Progress;
+impl LogVisit for Writing {
+    type Outcome = Progress;
 
-    /// Opens a log over disks that fail, and writes.
-    fn visit<S: Alter + Drop>(
-        self,
-        rt: &impl Abort,
-        alloc: Global,
-        conn: Connection<S>,
-    ) -> Progress {
-        match open(rt, alloc, conn) {
-            Ok(mut log) => put_three(rt, &mut log),
-            Err(_) => NOTHING,
-        }
+    fn visit<L: WriteLog + Drop>(self, rt: &impl Abort, _: Global, mut log: L) -> Progress {
+        put_three(rt, &mut log)
     }
 }
 
@@ -110,33 +90,21 @@ fn held<L: WriteLog>(rt: &impl Abort, alloc: Global, log: &mut L) -> Content {
 }
 
 /// What a log holds, and the version of its next write.
-fn found<L: WriteLog>(rt: &impl Abort, alloc: Global, log: &mut L) -> (Content, u64) {
-    (held(rt, alloc, log), got(rt, set(rt, log, b"z", 1)))
-}
-
 #[derive(Drop)]
 struct Reopening;
 
-impl Visit for Reopening {
-    type Told = (Content, u64);
+impl LogVisit for Reopening {
+    type Outcome = (Content, u64);
 
-    /// Opens a log again.
-    fn visit<S: Alter + Drop>(
+    fn visit<L: WriteLog + Drop>(
         self,
         rt: &impl Abort,
         alloc: Global,
-        conn: Connection<S>,
+        mut log: L,
     ) -> (Content, u64) {
-        found(rt, alloc, &mut got(rt, open(rt, alloc, conn)))
+        let content = held(rt, alloc, &mut log);
+        (content, got(rt, set(rt, &mut log, b"z", 1)))
     }
-}
-
-/// The disk of a process that ended: all that was written is there.
-fn left_whole(rt: &impl Abort, alloc: Global, disk: &Memory) -> Memory {
-    let mut whole = Memory::new(alloc);
-    got(rt, whole.write_at(0, disk.bytes()));
-    got(rt, whole.sync());
-    whole
 }
 
 /// Whether what a log holds is what was acknowledged, or what was begun.
@@ -147,12 +115,12 @@ fn is_kept(content: Content, progress: Progress) -> bool {
 
 /// A log that is opened again holds what was acknowledged, or what was begun, and the next write has the next version.
 fn recovers(rt: &impl Abort, alloc: Global, disks: &mut Files<Memory>, progress: Progress) {
-    let told = got(rt, on_disks(rt, alloc, disks, ENDLESS, Reopening));
-    let (content, next) = told;
+    let found = got(rt, log_on_disks(rt, alloc, disks, ENDLESS, OWN, Reopening));
+    let (content, next) = found;
     let is_next = next == content.1.saturating_add(1);
     same_at(
         rt,
-        &(told, progress),
+        &(found, progress),
         &(is_kept(content, progress), is_next),
         &(true, true),
     );
@@ -160,17 +128,13 @@ fn recovers(rt: &impl Abort, alloc: Global, disks: &mut Files<Memory>, progress:
 
 /// The same of the process that ended, whose disks lose nothing.
 fn recovers_whole(rt: &impl Abort, alloc: Global, disks: &Files<Memory>, progress: Progress) {
-    let mut whole = Files {
-        log: left_whole(rt, alloc, &disks.log),
-        db: left_whole(rt, alloc, &disks.db),
-    };
-    recovers(rt, alloc, &mut whole, progress);
+    recovers(rt, alloc, &mut whole_copy(rt, alloc, disks), progress);
 }
 
 /// Lets calls of the disks fail, and then what was not synced stay, and be lost.
 fn stop(rt: &impl Abort, alloc: Global, calls: Calls) -> Progress {
     let mut disks = new_disks(alloc);
-    let progress = on_disks(rt, alloc, &mut disks, calls, Writing).unwrap_or(NOTHING);
+    let progress = log_on_disks(rt, alloc, &mut disks, calls, OWN, Writing).unwrap_or(NOTHING);
     recovers_whole(rt, alloc, &disks, progress);
     disks.log.crash();
     disks.db.crash();
@@ -200,6 +164,15 @@ fn no_call_is_left_out(rt: HostRuntime) {
     };
     let progress = stop(&rt, rt.alloc(), calls);
     same(&rt, &progress, &ALL);
+}
+
+// With one call less of the log file the third write fails, and with one less of the database file the log is not opened.
+#[test]
+fn no_call_is_one_too_many(rt: HostRuntime) {
+    let log = stop(&rt, rt.alloc(), Calls { log: 49, ..ENDLESS });
+    same(&rt, &log.acknowledged, &2);
+    let db = stop(&rt, rt.alloc(), Calls { db: 13, ..ENDLESS });
+    same(&rt, &db, &NOTHING);
 }
 
 #[test]

@@ -1,5 +1,6 @@
-//! Two disks in memory, and a database over them of which a call fails.
+//! Databases: in memory alone, and over two disks in memory of which a call fails.
 use crate::faulty::{After, Faulty};
+use crate::got;
 use crate::lent::Lent;
 use sb_types::Fault;
 use sqlite::{Alter, Connection, Files, Options};
@@ -29,27 +30,51 @@ pub fn new_disks(alloc: Global) -> Files<Memory> {
     }
 }
 
+/// The disk of a process that ended: all that was written is there.
+fn left_whole(rt: &impl Abort, alloc: Global, disk: &Memory) -> Memory {
+    let mut whole = Memory::new(alloc);
+    got(rt, whole.write_at(0, disk.bytes()));
+    got(rt, whole.sync());
+    whole
+}
+
+/// Files with the same bytes, all of which are synced.
+pub fn whole_copy(rt: &impl Abort, alloc: Global, files: &Files<Memory>) -> Files<Memory> {
+    Files {
+        log: left_whole(rt, alloc, &files.log),
+        db: left_whole(rt, alloc, &files.db),
+    }
+}
+
 /// What is done with a database, whatever store it is over.
-pub trait Visit {
-    type Told;
+pub trait DatabaseVisit {
+    type Outcome;
 
     fn visit<S: Alter + Drop>(
         self,
         rt: &impl Abort,
         alloc: Global,
         conn: Connection<S>,
-    ) -> Self::Told;
+    ) -> Self::Outcome;
 }
 
-/// What comes of a visit to a database over both files. `StoreFailed` where it can't be opened. It is the one place that names the disks: each function
-/// that does is dear to prove.
-pub fn on_disks<V: Visit + Drop>(
+/// What comes of a visit to a new database in memory. It is the one place that names its store: each function that names one is dear to prove.
+pub fn in_memory<V: DatabaseVisit + Drop>(
+    rt: &impl Abort,
+    alloc: Global,
+    visitor: V,
+) -> V::Outcome {
+    visitor.visit(rt, alloc, got(rt, Connection::open_in_memory(alloc)))
+}
+
+/// What comes of a visit to a database over both files. `StoreFailed` where it can't be opened. It is the one place that names the disks.
+pub fn on_disks<V: DatabaseVisit + Drop>(
     rt: &impl Abort,
     alloc: Global,
     disks: &mut Files<Memory>,
     calls: Calls,
     visitor: V,
-) -> Result<V::Told, Fault> {
+) -> Result<V::Outcome, Fault> {
     let files = Files {
         log: Faulty::new(Lent::new(&mut disks.log), calls.log, calls.after),
         db: Faulty::new(Lent::new(&mut disks.db), calls.db, calls.after),
@@ -58,19 +83,24 @@ pub fn on_disks<V: Visit + Drop>(
 }
 
 /// The same over files of any disk.
-fn on_files<D: Disk + Drop, V: Visit + Drop>(
+fn on_files<D: Disk + Drop, V: DatabaseVisit + Drop>(
     rt: &impl Abort,
     alloc: Global,
     files: Files<D>,
     visitor: V,
-) -> Result<V::Told, Fault> {
+) -> Result<V::Outcome, Fault> {
     if !files.log.may_be_used() {
         return Err(Fault::StoreFailed);
     }
     if !files.db.may_be_used() {
         return Err(Fault::StoreFailed);
     }
-    match Connection::open_files(alloc, files, Options::new(7)).ok() {
+    // Each page of these databases has room, and a large cache takes long to make.
+    let options = Options {
+        cache_pages: 20,
+        ..Options::new(7)
+    };
+    match Connection::open_files(alloc, files, options).ok() {
         Some(conn) => Ok(visitor.visit(rt, alloc, conn)),
         None => Err(Fault::StoreFailed),
     }

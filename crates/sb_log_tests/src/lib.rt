@@ -11,9 +11,15 @@ mod disks;
 #[cfg(test)]
 mod faulty;
 #[cfg(test)]
+mod lasting;
+#[cfg(test)]
 mod lent;
 #[cfg(test)]
+mod openings;
+#[cfg(test)]
 mod plain;
+#[cfg(test)]
+mod visits;
 #[cfg(test)]
 mod writes;
 

@@ -1,13 +1,13 @@
 //! A log in memory: what it keeps, and what it refuses.
-use crate::writes::{Answer, OWNER, held, is_entry, key, name, put, remove, set, settled};
+use crate::writes::{
+    Answer, CLUSTER, OWNER, held, is_entry, key, many, name, put, remove, set, settled,
+};
 use crate::{got, same};
 use sb_log::{PlainLog, WriteLog};
 use sb_table::Table;
 use sb_types::{Fault, KEYS_MOST, Key, Slot, Value};
 use std::alloc::Global;
 use std::process::Abort;
-
-const CLUSTER: &[u8] = b"sim";
 
 fn plain_log(rt: &impl Abort, alloc: Global, max_version: u64) -> PlainLog {
     PlainLog::new(alloc, name(rt, OWNER), name(rt, CLUSTER), max_version)
@@ -90,20 +90,6 @@ fn a_key_too_many<L: WriteLog>(rt: &impl Abort, log: &mut L) -> [Answer; 5] {
     ]
 }
 
-// How many of 10,000 writes over ten keys are answered in their turn.
-fn many<L: WriteLog>(rt: &impl Abort, log: &mut L) -> u64 {
-    let mut in_turn: u64 = 0;
-    for round in 0..1000u64 {
-        for key in 0..10u8 {
-            let version = round * 10 + key as u64 + 1;
-            if got(rt, set(rt, log, &[b'k', b'0' + key], round)) == version {
-                in_turn = in_turn.saturating_add(1);
-            }
-        }
-    }
-    in_turn
-}
-
 const SPENT: Answer = Err(Fault::VersionsSpent);
 
 const FULL: Answer = Err(Fault::TableFull);
@@ -166,7 +152,7 @@ fn count_after<L: WriteLog>(rt: &impl Abort, alloc: Global, log: &mut L, version
 fn a_plain_log_keeps_ten_of_many(rt: HostRuntime) {
     let alloc = rt.alloc();
     let mut log = plain_log(&rt, alloc, 10_000);
-    same(&rt, &many(&rt, &mut log), &10_000);
+    same(&rt, &many(&rt, &mut log, 1000), &10_000);
     same(&rt, &held(&rt, alloc, &mut log), &(10, 10_000));
     same(&rt, &count_after(&rt, alloc, &mut log, 9990), &10);
 }

@@ -8,6 +8,9 @@ use std::process::Abort;
 /// Whose logs these are.
 pub const OWNER: &[u8] = b"a";
 
+/// The owner's cluster.
+pub const CLUSTER: &[u8] = b"sim";
+
 /// The version of a write, or why it was refused.
 pub type Answer = Result<u64, Fault>;
 
@@ -22,7 +25,7 @@ pub fn key(rt: &impl Abort, text: &[u8]) -> Key {
     got(rt, Key::read(text))
 }
 
-fn shown(slot: &Slot) -> Shown {
+pub fn shown(slot: &Slot) -> Shown {
     match slot {
         Slot::Set(value) => (true, value.as_weight(), value.as_flag()),
         Slot::Removed => (false, None, None),
@@ -74,4 +77,19 @@ pub fn settled<const N: usize>(rt: &impl Abort, answers: [Answer; N]) -> [Answer
 pub fn held<L: WriteLog>(rt: &impl Abort, alloc: Global, log: &mut L) -> (usize, u64) {
     let table = got(rt, log.load(alloc));
     (table.len(), table.upto())
+}
+
+/// How many writes are answered in their turn: ten in each round, one of each of ten keys.
+pub fn many<L: WriteLog>(rt: &impl Abort, log: &mut L, rounds: u64) -> u64 {
+    let mut in_turn: u64 = 0;
+    let mut version: u64 = 0;
+    for round in 0..rounds {
+        for key in 0..10u8 {
+            version = version.saturating_add(1);
+            if got(rt, set(rt, log, &[b'k', b'0' + key], round)) == version {
+                in_turn = in_turn.saturating_add(1);
+            }
+        }
+    }
+    in_turn
 }

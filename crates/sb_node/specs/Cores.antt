@@ -1,9 +1,10 @@
 -- A node with its settings, and what it answers to its own writes.
-use Rattle.std.specs.Prelude.{ℕ, nat_eq, if◌then◌else◌, Option, Some, None, Result, Err}
+use Rattle.std.specs.Prelude.{ℕ, nat_eq, length, if◌then◌else◌, Option, Some, None, Result, Err}
 use Rattle.std.specs.Cmp.Lexicographic.{pointwise}
 use Rattle.sb_types.specs.declared.fault.Fault.{Fault}
 use Rattle.sb_types.specs.declared.fault.Fault.TheVariants.{WrongOwner, OwnerConflict}
 use Rattle.sb_types.specs.Records.{Settings}
+use Rattle.sb_holdings.specs.Held.{shown_of}
 use Rattle.sb_holdings.specs.Nodes.{Node}
 use Rattle.sb_holdings.specs.Plain.{own_answer}
 use Rattle.sb_log.specs.Records.{Committed}
@@ -15,6 +16,10 @@ pub record Core : Type 0 where
 -- the node with the settings that it has
 abbrev pub with_node : Core → Node → Core
 with_node core node = record { settings = core.settings; node = node }
+
+-- how many keys its own table has, removed ones counted
+abbrev pub own_keys : Node → ℕ
+own_keys node = length (shown_of node.held node.held.me).entries
 
 -- this answer, unless a version under the own name came that the node did not write: then the fault with that version
 abbrev pub unless_conflict : Option ℕ → Result (Unit {0}) Fault → Result (Unit {0}) Fault

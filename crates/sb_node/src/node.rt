@@ -14,7 +14,7 @@ ghost use Rattle.sb_digest.specs.Builders.{IsLongestFront};
 ghost use Rattle.sb_digest.specs.Pairs.{pairs_from};
 ghost use Rattle.sb_budget.specs.Available.{available_for};
 ghost use Rattle.sb_node.specs.Answers.{IsDelta, IsAnswer};
-ghost use Rattle.sb_node.specs.Cores.{with_node, committed_answer};
+ghost use Rattle.sb_node.specs.Cores.{with_node, committed_answer, own_keys};
 ghost use Rattle.sb_holdings.specs.Treats.{Treats, took_each};
 
 use sb_breadth::Breadth;
@@ -118,6 +118,17 @@ impl NodeCore {
         match self.holdings.table(owner)?.get(key)? {
             (version, Slot::Set(value)) => Some((value, version)),
             (_, Slot::Removed) => None,
+        }
+    }
+
+    /// How many keys the node's own table has, removed ones counted. It takes no memory.
+    pub fn keys(&self) -> usize
+        ensures count { result ≡ own_keys self.now.node }
+        ensures holdings { IsHoldings self.now.node.held }
+    {
+        match self.holdings.table(self.holdings.me()) {
+            Some(table) => table.len(),
+            None => 0,
         }
     }
 

@@ -1,5 +1,6 @@
 //! The connections that come to a socket of the node.
 
+use crate::counts::Counts;
 use crate::ending::Ending;
 use crate::pool::Source;
 use crate::sockets::{Door, limit};
@@ -20,6 +21,8 @@ pub(crate) struct Acceptor<'a, R> {
     ending: &'a Ending,
     idle: u64,
     accepted: AtomicU64,
+    /// What counts the connections too, where they are those of peers.
+    counts: Option<&'a Counts>,
 }
 
 /// A connection that was accepted, as a reader and a writer, with a limit on how long it may be idle.
@@ -31,12 +34,14 @@ fn both_ways(accepted: io::Result<UnixStream>, idle: u64) -> io::Result<(UnixStr
 }
 
 impl<'a, R> Acceptor<'a, R> {
-    /// What accepts at a socket. A connection that is idle for so many milliseconds fails; 0 for no limit.
+    /// What accepts at a socket. A connection that is idle for so many milliseconds fails; 0 for no limit. Those of peers are
+    /// counted here too.
     pub(crate) fn new(
         rt: &'a R,
         door: &'a Door<'a>,
         ending: &'a Ending,
         idle: u64,
+        counts: Option<&'a Counts>,
     ) -> Acceptor<'a, R> {
         Acceptor {
             rt,
@@ -44,6 +49,7 @@ impl<'a, R> Acceptor<'a, R> {
             ending,
             idle,
             accepted: AtomicU64::new(0),
+            counts,
         }
     }
 }
@@ -61,6 +67,9 @@ impl<R: Clock> Source for Acceptor<'_, R> {
         match both_ways(accepted, self.idle) {
             Ok((input, output)) => {
                 let before = self.accepted.fetch_add(1, Ordering::SeqCst);
+                if let Some(counts) = self.counts {
+                    counts.add_session();
+                }
                 Some(Ok((before.wrapping_add(1), input, output)))
             }
             Err(_) => {

@@ -91,6 +91,7 @@ fn tell_of<L: WriteLog, S: Paced, H: Wait + Drop, Q, O: Observer>(
     if !owner.take_failure() {
         return false;
     }
+    node.counts.fail_log();
     observer.log_failed();
     match node.pace.on_log_fault {
         OnLogFault::Exit => true,
@@ -110,7 +111,7 @@ pub(crate) fn attend<
     ensures { result.has_left ≡ true → node.now.pace.on_log_fault ≡ OnLogFault.Exit }
 {
     let door = &node.doors.control;
-    let acceptor = Acceptor::new(node.rt, door, node.ending, node.pace.idle);
+    let acceptor = Acceptor::new(node.rt, door, node.ending, node.pace.idle, None);
     let mut owner = owner;
     let mut sitting = seat;
     let mut faults: u64 = 0;

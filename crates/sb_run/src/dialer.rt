@@ -5,12 +5,16 @@ use crate::observer::Observer;
 use crate::peers::Peers;
 use crate::rounds::{Paced, Rounds};
 use crate::shared::Shared;
+use crate::status::Status;
 use crossbeam_utils::sync::Parker;
 use sb_directory::ReaderSeat;
 use std::net::Net;
 use std::sync::Wait;
 use std::thread;
 use std::time::{Clock, Duration, Instant};
+
+/// How often an observer is told how the node is at least, in milliseconds.
+const TELLING: u64 = 1_000;
 
 /// How long news is gathered behind the beginning of a burst until the next, in milliseconds.
 const GATHERING: u64 = 10;
@@ -22,8 +26,12 @@ pub(crate) struct Dialer<'a, O> {
     observer: &'a O,
     /// Where it waits until there is news.
     parker: Parker,
-    /// How many rounds had a fault so far.
+    /// How many rounds were made so far.
+    rounds: u64,
+    /// How many of them had a fault.
     faults: u64,
+    /// When the observer is to be told again how the node is; at once, where none is given.
+    tells_at: Option<Instant>,
     /// Whether it was said that another node writes under this node's name.
     has_conflict: bool,
     /// How many exchanges tell of all owners that the node holds, where that was counted.
@@ -76,7 +84,9 @@ impl<'a, O: Observer> Dialer<'a, O> {
             peers,
             observer,
             parker,
+            rounds: 0,
             faults: 0,
+            tells_at: None,
             has_conflict: false,
             exchanges: None,
             due: None,
@@ -121,8 +131,47 @@ impl<'a, O: Observer> Dialer<'a, O> {
         }
         let has_waited = node.pace.dial_idle != 0
             && patience.is_some_and(|moment| has_come(node.rt, moment));
-        self.peers.note(index, &ended, has_waited, self.observer);
+        if self
+            .peers
+            .note(index, self.rounds, &ended, has_waited, self.observer)
+        {
+            self.tells_at = None;
+        }
         seat
+    }
+
+    /// Tells the observer how the node is, where it wants to know and is to be told by now.
+    fn tell_status<S: Paced, H: Wait + Drop, Q: Wait + Clock>(
+        &mut self,
+        node: &Shared<S, H, Q>,
+        seat: ReaderSeat<S>,
+    ) -> ReaderSeat<S> {
+        let is_early = self
+            .tells_at
+            .is_some_and(|moment| !has_come(node.rt, moment));
+        if is_early || !self.observer.wants_status() {
+            return seat;
+        }
+        self.tells_at = after(node.rt, TELLING);
+        let mut seat = seat;
+        let keys = node.directory.keys(node.rt, &mut seat);
+        let conflict = node.directory.conflict(node.rt, &mut seat);
+        match seat.enter() {
+            Ok(entered) => {
+                self.observer.status(&Status {
+                    rounds: self.rounds,
+                    faults: self.faults,
+                    sessions: node.counts.sessions(),
+                    keys,
+                    is_log_open: node.counts.is_log_open(),
+                    conflict,
+                    snapshot: entered.snapshot(),
+                    peers: self.peers.all(),
+                });
+                entered.leave()
+            }
+            Err(seat) => seat,
+        }
     }
 
     /// Shows what could not be shown for want of memory, and says, once, that another node writes under this node's name.
@@ -152,10 +201,12 @@ impl<'a, O: Observer> Dialer<'a, O> {
             Cause::Turn => self.peers.next_in_turn(),
             Cause::News => self.peers.next_in_burst(),
         };
+        self.rounds = self.rounds.saturating_add(1);
         let mut sitting = seat;
         if let Some(index) = next {
             sitting = self.round(node, sitting, index);
         }
+        sitting = self.tell_status(node, sitting);
         if cause == Cause::Turn {
             self.look_after(node, &mut sitting);
             self.due = after(node.rt, node.pace.pause);

@@ -1,5 +1,6 @@
 //! Who is told of what a running node meets.
 
+use crate::status::Status;
 use sb_session::Ended;
 use sb_types::Fault;
 
@@ -18,6 +19,15 @@ pub trait Observer {
 
     /// A fault of its store closed the node's own log behind a write, which stands or does not. It is told once.
     fn log_failed(&self) {}
+
+    /// Whether it wants to know how the node is.
+    fn wants_status(&self) -> bool {
+        false
+    }
+
+    /// How the node is, where it wants to know: behind a round that ended otherwise than that peer's before, and behind each that
+    /// ends a second or more after it was told last.
+    fn status(&self, _status: &Status<'_>) {}
 
     /// At this path lay the socket of a node that no longer runs, and it was removed. It is told before `listening`.
     fn socket_removed(&self, _path: &str) {}

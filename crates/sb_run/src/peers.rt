@@ -10,8 +10,8 @@ use std::alloc::Global;
 const TURNS_OUT: u64 = 7;
 
 /// How the last round with a peer ended.
-#[derive(Clone, Copy, PartialEq, Eq, Drop)]
-enum LastRound {
+#[derive(Clone, Copy, Debug, PartialEq, Eq, Drop)]
+pub enum LastRound {
     /// There was none.
     Never,
     /// All its exchanges were made.
@@ -44,11 +44,30 @@ impl LastRound {
 
 /// A peer that is dialed.
 #[derive(Drop)]
-struct Peer<'a> {
+pub struct Peer<'a> {
     path: &'a str,
     last: LastRound,
+    /// The number of its last round, from 1; 0 where there was none.
+    round: u64,
     /// How many more of its turns it is passed over.
     turns_out: u64,
+}
+
+impl<'a> Peer<'a> {
+    /// The path of its socket.
+    pub fn path(&self) -> &'a str {
+        self.path
+    }
+
+    /// How the last round with it ended.
+    pub fn last(&self) -> LastRound {
+        self.last
+    }
+
+    /// The number of its last round, from 1; 0 where there was none.
+    pub fn round(&self) -> u64 {
+        self.round
+    }
 }
 
 /// The peers that are dialed, in turn.
@@ -71,6 +90,7 @@ impl<'a> Peers<'a> {
             all.push(Peer {
                 path: *path,
                 last: LastRound::Never,
+                round: 0,
                 turns_out: 0,
             })?;
         }
@@ -137,28 +157,35 @@ impl<'a> Peers<'a> {
         }
     }
 
-    /// Takes down how a round with a peer ended, and whether it kept the node waiting, and tells the observer where that is
-    /// otherwise than the round before. A write that failed behind a refused Hello is the same refusal: the peer hung up.
+    /// All of them, in the order of their paths.
+    pub(crate) fn all(&self) -> &[Peer<'a>] {
+        &self.all
+    }
+
+    /// Takes down how the round of this number with a peer ended, and whether it kept the node waiting, and tells the observer
+    /// where that is otherwise than the round before, and says whether it is. A write that failed behind a refused Hello is the
+    /// same refusal: the peer hung up.
     pub(crate) fn note<O: Observer>(
         &mut self,
         index: usize,
+        round: u64,
         ended: &Result<Ended, Fault>,
         has_waited: bool,
         observer: &O,
-    ) {
+    ) -> bool {
         let Some(peer) = self.all.get_mut(index) else {
-            return;
+            return false;
         };
+        peer.round = round;
         if has_waited && ended.is_err() {
             peer.turns_out = TURNS_OUT;
         }
         let now = LastRound::of(ended);
-        if now == LastRound::Failed(17) && peer.last.was_refused() {
-            return;
+        if now == peer.last || now == LastRound::Failed(17) && peer.last.was_refused() {
+            return false;
         }
-        if now != peer.last {
-            peer.last = now;
-            observer.dialed(peer.path, ended);
-        }
+        peer.last = now;
+        observer.dialed(peer.path, ended);
+        true
     }
 }

@@ -2,6 +2,7 @@
 ghost use Rattle.std.specs.Prelude.{◌≡◌};
 
 use crate::bell::Bell;
+use crate::counts::Counts;
 use crate::ending::Ending;
 use crate::node::Pace;
 use crate::rounds::Paced;
@@ -23,6 +24,7 @@ pub(crate) struct Shared<'a, S: Paced, H: Wait + Drop, Q> {
     pub(crate) doors: &'a Doors<'a>,
     pub(crate) ending: &'a Ending,
     pub(crate) bell: &'a Bell,
+    pub(crate) counts: &'a Counts,
     pub(crate) workers: u64,
     pub(crate) pace: Pace,
     ghost paced: { pace.rounds ≡ S.rounds },

@@ -3,6 +3,7 @@ ghost use Rattle.std.specs.Prelude.{◌≡◌, ◌⊎◌, ◌+◌, ◌≤◌, ve
 ghost use Rattle.sb_run.specs.Running.{IsEndFault};
 
 use crate::bell::Bell;
+use crate::counts::Counts;
 use crate::dialer::Dialer;
 use crate::ending::Ending;
 use crate::node::{Pace, Paths, Ran};
@@ -77,7 +78,7 @@ pub(crate) fn run_site<
     let dialer = Dialer::new(Peers::new(alloc, paths.peers)?, observer, parker);
     let doors = Doors::bind(rt, paths.sock, paths.control, observer)?;
     observer.listening();
-    let ending = Ending::new();
+    let (ending, counts) = (Ending::new(), Counts::new());
     let node = Shared {
         rt,
         alloc,
@@ -86,6 +87,7 @@ pub(crate) fn run_site<
         doors: &doors,
         ending: &ending,
         bell: &bell,
+        counts: &counts,
         workers: settings.workers(),
         pace,
     };

@@ -49,7 +49,13 @@ fn tend_sock<
     ensures { vec_len result.seats ≡ vec_len seats }
 {
     let door = &node.doors.sock;
-    let source = Acceptor::new(node.rt, door, node.ending, node.pace.idle);
+    let source = Acceptor::new(
+        node.rt,
+        door,
+        node.ending,
+        node.pace.idle,
+        Some(node.counts),
+    );
     let pooled = serve_pool(
         node.rt,
         node.alloc,

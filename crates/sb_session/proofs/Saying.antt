@@ -1,18 +1,18 @@
 -- Messages that are sent one after the other.
-use Rattle.std.proofs.Common.{◌≡◌, ℕ, true, List, [], ◌∷◌, ◌++◌, take, Option, Result, Ok, Err, refl, sym, ap, subst, ◌∙◌, inl, inr, append_assoc, arith}
+use Rattle.std.proofs.Common.{◌≡◌, ◌≢◌, ℕ, Bool, true, IfErr, List, [], ◌∷◌, ◌++◌, take, Option, Result, Ok, Err, refl, sym, ap, subst, ◌∙◌, inl, inr, append_assoc, arith}
 use Rattle.std.specs.List.{flat_map}
 use Rattle.std.specs.Io.KnownBytes.{Keeps, Appends}
 use Rattle.std.proofs.KnownBytes.{Appends-trans, Appends-kept, Appends-nil}
 use Rattle.std.proofs.lemmas.Grind.{flat_map-append}
 use Rattle.std.proofs.lemmas.List.{append-nil}
 use Rattle.sb_types.specs.declared.fault.Fault.{Fault}
-use Rattle.sb_types.specs.declared.fault.Fault.TheVariants.{NoMemory, Closed, WriteFailed}
+use Rattle.sb_types.specs.declared.fault.Fault.TheVariants.{NoMemory, Closed, ReadFailed, WriteFailed}
 use Rattle.sb_codec.specs.declared.message.Message.{Message}
 use Rattle.sb_frames.specs.Frames.{frame}
 use Rattle.sb_frames.specs.Streams.{Stream, open_with, shut}
 use Rattle.sb_frames.specs.declared.last_write.Outcome.{Outcome}
 use Rattle.sb_frames.specs.Sending.{Sends, OnlyWhereFailed}
-use Rattle.sb_frames.specs.Receiving.{is_frame_fault, Receives, Stops, is_bad, no_memory, read_failed, cut_short, turns_spent}
+use Rattle.sb_frames.specs.Receiving.{is_frame_fault, OnlyWhereReadFailed, Receives, Stops, is_bad, no_memory, read_failed, cut_short, turns_spent}
 use Rattle.sb_frames.proofs.Fronts.{of_a_frame}
 use Rattle.sb_frames.proofs.Splitting.{length-frame}
 use Rattle.sb_session.specs.Telling.{CutShort, Says}
@@ -105,3 +105,19 @@ fault_wrote X shut new from to before left fault last r =
 pub received_wrote : {X : Type 0} (answer : Result X Fault) (frames new : Stream) (from to : Option (List ℕ)) (before left : ℕ) (fault : Fault) (last : Outcome)
     → answer ≡ Err fault → Receives frames new from to before left (Err fault) → OnlyWhereFailed answer last
 received_wrote {X} answer frames new from to before left fault last is r = rw is (fault_wrote X frames new from to before left fault last r)
+
+-- ---- no read failed
+
+-- what is sent tells of no read
+pub sent_unread : {X : Type 0} (a b : Option (List ℕ)) (bytes : List ℕ) (r : Result X Fault) → Sends a b bytes r → IfErr r (λ fault. fault ≢ ReadFailed)
+sent_unread a b bytes (Ok x) sends = tt
+sent_unread a b bytes (Err NoMemory) sends = λ e. absurd cc
+sent_unread a b bytes (Err (WriteFailed count)) sends = λ e. absurd cc
+sent_unread a b bytes (Err _) sends = absurd sends
+
+other_unread : (X : Type 0) (fault : Fault) (last : Bool) → fault ≢ ReadFailed → OnlyWhereReadFailed {X = X} (Err fault) last
+other_unread X ReadFailed last other = absurd (other refl)
+other_unread X _ last other = tt
+
+pub unread : {X : Type 0} (answer : Result X Fault) (fault : Fault) (last : Bool) → answer ≡ Err fault → fault ≢ ReadFailed → OnlyWhereReadFailed answer last
+unread {X} answer fault last is other = rw is (other_unread X fault last other)

@@ -24,8 +24,8 @@ use Rattle.sb_session.specs.Handlers.{Act}
 use Rattle.sb_session.specs.Sessions.{Session, hello_of}
 use Rattle.sb_session.specs.Taking.{TakesUnless, TakesUp, AnswersDigest, Asks, messages_of, bye_of}
 use Rattle.sb_session.specs.Telling.{CutShort, Says}
-use Rattle.sb_session.specs.Talks.{Party, party_of, ends_round, rounds_after, are_done, Speaks, SpeaksOn, Move, hears, speaks, Moves, Refuses, Run, heard_in, Ends, at_end, at_bye, at_rounds, at_reading, at_message, at_speaking, at_writing, Talks, Hearing, Speaking}
-use Rattle.sb_session.proofs.Saying.{kept_after, cut_behind, put_behind}
+use Rattle.sb_session.specs.Talks.{Party, party_of, ends_round, rounds_after, are_done, Speaks, SpeaksOn, Move, hears, speaks, Moves, Refuses, Run, heard_in, in_hello, in_last, Ends, at_end, at_bye, at_rounds, at_reading, at_message, at_speaking, at_writing, Talks, Hearing, Speaking}
+use Rattle.sb_session.proofs.Saying.{kept_after, put_behind}
 
 -- the message that a move takes out of what was read
 abbrev pub pending_of : Move → List Message
@@ -133,7 +133,7 @@ settled : (hm : List Message) (bytes held : List ℕ) → bytes ≡ flat_map fra
 settled hm bytes held e = e ∙ ap (λ (x : List Message). flat_map frame x ++ held) (append-nil hm)
 
 pub talk_ends : {H : Type 0} (step : H → Act → H → Type 0) (a now : Party H) (h : H) (frames : Stream) (from to old new : Option (List ℕ)) (before left : ℕ) (result : Result Ended Fault)
-    → (t : Talking step a now [] frames from to old new before left) → Ends step t.moves now h t.held (hello_of a.session ∷ t.said) to old new before left result
+    → (t : Talking step a now [] frames from to old new before left) → Ends step a t.moves t.said now h t.held to old new before left result
     → Talks step a h from to old new before left result
 talk_ends step a now h frames from to old new before left result t ends = record {
   bytes = t.bytes;
@@ -160,7 +160,7 @@ talk_cut step a now next move more frames from to old mid new before left fault 
   consumed = t.consumed;
   heard = t.heard ∙ ap (λ (x : List Message). flat_map frame x ++ t.held) (sym (heard_on t.moves move));
   run = run_on step a t.moves t.said now move more next t.run moved;
-  ends = at_writing fault refl (cut_behind old mid new (hello_of a.session ∷ t.said) more fault t.put_out cut) refl;
+  ends = at_writing fault refl (in_last t.moves move t.said more now mid refl refl t.run moved t.put_out cut) refl;
 }
 
 pub hello_cut : {H : Type 0} (step : H → Act → H → Type 0) (a : Party H) (from old new : Option (List ℕ)) (before : ℕ) (fault : Fault)
@@ -174,7 +174,7 @@ hello_cut step a from old new before fault cut = record {
   consumed = Consumes-nil from;
   heard = refl;
   run = (refl, refl);
-  ends = at_writing fault refl cut refl;
+  ends = at_writing fault refl (in_hello refl cut) refl;
 }
 
 pub talk_refused : {H : Type 0} (step : H → Act → H

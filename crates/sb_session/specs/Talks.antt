@@ -93,23 +93,32 @@ heard_in [] = []
 heard_in (hears message ∷ moves) = message ∷ heard_in moves
 heard_in (speaks ∷ moves) = heard_in moves
 
+-- where a talk is cut short: in its Hello, before any move; or in what its last move says, with the Hello and all that was
+-- said before put out
+pub data Cuts {H : Type 0} (step : H → Act → H → Type 0) (a : Party H) (moves : List Move) (said : List Message) (b : Party H)
+    (old new : Option (List ℕ)) (fault : Fault) : Type 0 where
+  in_hello : moves ≡ [] → CutShort old new (hello_of a.session ∷ []) fault → Cuts step a moves said b old new fault
+  in_last : (front : List Move) (move : Move) (before more : List Message) (now : Party H) (mid : Option (List ℕ)) → moves ≡ front ++ (move ∷ []) → said ≡ before ++ more
+      → Run step a front before now → Moves step now move more b → Appends old mid (flat_map frame (hello_of a.session ∷ before)) → CutShort mid new more fault
+      → Cuts step a moves said b old new fault
+
 -- how a talk ends, with the Hello and all that its moves say put out, but for what is cut short
-pub data Ends {H : Type 0} (step : H → Act → H → Type 0) (moves : List Move) (b : Party H) (h : H) (held : List ℕ) (all : List Message)
+pub data Ends {H : Type 0} (step : H → Act → H → Type 0) (a : Party H) (moves : List Move) (said : List Message) (b : Party H) (h : H) (held : List ℕ)
     (to old new : Option (List ℕ)) (before left : ℕ) (result : Result Ended Fault) : Type 0 where
   at_end : result ≡ Ok endings.End → b.speaks ≡ false → are_done b.rounds ≡ false → held ≡ [] → IsAtEnd to → h ≡ b.handler
-      → Appends old new (flat_map frame all) → Ends step moves b h held all to old new before left result
+      → Appends old new (flat_map frame (hello_of a.session ∷ said)) → Ends step a moves said b h held to old new before left result
   at_bye : (reason : ℕ) (front : List Move) → result ≡ Ok (endings.Bye reason) → moves ≡ front ++ (hears (kinds.Bye reason) ∷ []) → h ≡ b.handler
-      → Appends old new (flat_map frame all) → Ends step moves b h held all to old new before left result
+      → Appends old new (flat_map frame (hello_of a.session ∷ said)) → Ends step a moves said b h held to old new before left result
   at_rounds : result ≡ Ok endings.RoundsDone → b.speaks ≡ false → are_done b.rounds ≡ true → h ≡ b.handler
-      → Appends old new (flat_map frame all) → Ends step moves b h held all to old new before left result
+      → Appends old new (flat_map frame (hello_of a.session ∷ said)) → Ends step a moves said b h held to old new before left result
   at_reading : (fault : Fault) (rest : Stream) → result ≡ Err fault → b.speaks ≡ false → are_done b.rounds ≡ false → Stops fault held rest to before left → h ≡ b.handler
-      → Appends old new (flat_map frame all) → Ends step moves b h held all to old new before left result
+      → Appends old new (flat_map frame (hello_of a.session ∷ said)) → Ends step a moves said b h held to old new before left result
   at_message : (fault : Fault) (message : Message) (rest : List ℕ) → result ≡ Err fault → front_of held ≡ whole message rest → Refuses step b (hears message) fault h
-      → Appends old new (flat_map frame all) → Ends step moves b h held all to old new before left result
+      → Appends old new (flat_map frame (hello_of a.session ∷ said)) → Ends step a moves said b h held to old new before left result
   at_speaking : (fault : Fault) → result ≡ Err fault → Refuses step b speaks fault h
-      → Appends old new (flat_map frame all) → Ends step moves b h held all to old new before left result
-  at_writing : (fault : Fault) → result ≡ Err fault → CutShort old new all fault → h ≡ b.handler
-      → Ends step moves b h held all to old new before left result
+      → Appends old new (flat_map frame (hello_of a.session ∷ said)) → Ends step a moves said b h held to old new before left result
+  at_writing : (fault : Fault) → result ≡ Err fault → Cuts step a moves said b old new fault → h ≡ b.handler
+      → Ends step a moves said b h held to old new before left result
 
 -- the bytes that were read are the frames of the messages that were heard, and then what is held; the moves are a run of
 -- the handler's steps; and what was put out is the Hello and what the moves say
@@ -122,7 +131,7 @@ pub record Talks {H : Type 0} (step : H → Act → H → Type 0) (a : Party H) 
   pub consumed : Consumes from to bytes
   pub heard : bytes ≡ flat_map frame (heard_in moves) ++ held
   pub run : Run step a moves said last
-  pub ends : Ends step moves last h held (hello_of a.session ∷ said) to old new before left result
+  pub ends : Ends step a moves said last h held to old new before left result
 
 -- a message is taken and answered, or refused with nothing put out
 abbrev pub Hearing : {H : Type 0} → (H → Act → H → Type 0) → Message → Session → H → Session → H → Option (List ℕ) → Option (List ℕ) → Result (Option ℕ) Fault → Type 0

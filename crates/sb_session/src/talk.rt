@@ -1,7 +1,8 @@
 //! A whole session over a reader and a writer.
 
-ghost use Rattle.std.specs.Prelude.{◌≡◌, ◌+◌, ℕ, true, false, [], ◌∷◌, Some, None, IfOk};
-ghost use Rattle.sb_frames.specs.Sending.{OnlyWhereFailed};
+ghost use Rattle.std.specs.Prelude.{◌≡◌, ◌≢◌, ◌+◌, ℕ, true, false, [], ◌∷◌, Some, None, IfOk, IfErr};
+ghost use Rattle.sb_frames.specs.Sending.{has_failed, OnlyWhereFailed};
+ghost use Rattle.sb_frames.specs.Receiving.{OnlyWhereReadFailed};
 ghost use Rattle.sb_session.specs.Telling.{Says};
 ghost use Rattle.sb_session.specs.Taking.{messages_of, bye_of};
 ghost use Rattle.sb_session.specs.Talks.{party_of, ends_round, rounds_after, Hearing, Speaking, Talks};
@@ -10,7 +11,7 @@ use crate::handler::Handler;
 use crate::replies::Replies;
 use crate::session::Session;
 use sb_codec::{Bye, Message};
-use sb_frames::{Frames, LastWrite, Steps, receive_within, send_from};
+use sb_frames::{Frames, LastRead, LastWrite, Steps, receive_within, send_on};
 use sb_types::{Fault, REASON_ROUNDS_DONE};
 use std::alloc::Global;
 use std::io::{Read, Write};
@@ -34,12 +35,13 @@ fn say<W: Write>(
     last: &mut LastWrite,
     message: Message,
 ) -> Result<(), Fault>
+    requires goes_on { has_failed last.old ≡ false }
     ensures says { Says (W.contents writer.old) (W.contents writer.new) (message ∷ []) result }
     ensures failed { OnlyWhereFailed result last.new }
+    ensures goes_on { IfOk result (λ _. has_failed last.new ≡ false) }
+    ensures unread { IfErr result (λ fault. fault ≢ Fault.ReadFailed) }
 {
-    let (sent, told) = send_from(buffer, writer, &message);
-    *last = told;
-    sent
+    send_on(buffer, writer, &message, last)
 }
 
 /// Sends what comes of a message that was taken, and gives the reason of a Bye.
@@ -49,9 +51,12 @@ fn reply<W: Write>(
     last: &mut LastWrite,
     replies: Replies,
 ) -> Result<Option<u8>, Fault>
+    requires goes_on { has_failed last.old ≡ false }
     ensures says { Says (W.contents writer.old) (W.contents writer.new) (messages_of replies) result }
     ensures bye { IfOk result (λ bye. bye ≡ bye_of replies) }
     ensures failed { OnlyWhereFailed result last.new }
+    ensures goes_on { IfOk result (λ _. has_failed last.new ≡ false) }
+    ensures unread { IfErr result (λ fault. fault ≢ Fault.ReadFailed) }
 {
     match replies {
         Replies::Greeted | Replies::Applied(_) => Ok(None),
@@ -77,8 +82,11 @@ fn hear<W: Write, H: Handler>(
     handler: &mut H,
     message: Message,
 ) -> Result<Option<u8>, Fault>
+    requires goes_on { has_failed last.old ≡ false }
     ensures hears { Hearing H.step message session.old handler.old session.new handler.new (W.contents writer.old) (W.contents writer.new) result }
     ensures failed { OnlyWhereFailed result last.new }
+    ensures goes_on { IfOk result (λ _. has_failed last.new ≡ false) }
+    ensures unread { IfErr result (λ fault. fault ≢ Fault.ReadFailed) }
     ensures grows { H.grows handler.old handler.new }
 {
     let replies = session.take(message, handler)?;
@@ -94,8 +102,11 @@ fn speak<W: Write, H: Handler>(
     handler: &mut H,
     rounds: Option<u64>,
 ) -> Result<bool, Fault>
+    requires goes_on { has_failed last.old ≡ false }
     ensures speaks { Speaking H.step rounds session.old handler.old session.new handler.new (W.contents writer.old) (W.contents writer.new) result }
     ensures failed { OnlyWhereFailed result last.new }
+    ensures goes_on { IfOk result (λ _. has_failed last.new ≡ false) }
+    ensures unread { IfErr result (λ fault. fault ≢ Fault.ReadFailed) }
     ensures grows { H.grows handler.old handler.new }
 {
     let Some(rounds) = rounds else {
@@ -145,10 +156,14 @@ fn talk<R: Read, W: Write, H: Handler, L: Ledger>(
     max_reads: u64,
     steps: &mut Steps<L>,
     last: &mut LastWrite,
+    read: &mut LastRead,
 ) -> Result<Ended, Fault>
+    requires goes_on { has_failed last.old ≡ false }
     ensures talks { (left : ℕ) × Talks H.step (party_of true all first handler.old) handler.new (R.remaining reader.old) (R.remaining reader.new)
         (W.contents writer.old) (W.contents writer.new) max_reads left result × (steps.new + left ≡ steps.old + max_reads) }
     ensures failed { OnlyWhereFailed result last.new }
+    // A read that was interrupted is no reason to stop.
+    ensures read { OnlyWhereReadFailed result read.new }
     ensures grows { H.grows handler.old handler.new }
 {
     let (mut session, mut rounds, mut left) = (first, all, max_reads);
@@ -158,7 +173,7 @@ fn talk<R: Read, W: Write, H: Handler, L: Ledger>(
     if speak(&mut buffer, writer, last, &mut session, handler, rounds)? {
         return Ok(Ended::RoundsDone);
     }
-    while let Some(message) = receive_within(reader, &mut frames, &mut left, steps)? {
+    while let Some(message) = receive_within(reader, &mut frames, &mut left, steps, read)? {
         let ends = ends_round(&message);
         if let Some(reason) = hear(&mut buffer, writer, last, &mut session, handler, message)? {
             return Ok(Ended::Bye(reason));
@@ -196,9 +211,9 @@ pub fn serve<R: Read, W: Write, H: Handler, L: Ledger>(
     ensures failed { OnlyWhereFailed result.0 result.1 }
     ensures grows { H.grows handler.old handler.new }
 {
-    let mut last = LastWrite::new();
+    let (mut last, mut read) = (LastWrite::new(), LastRead::new());
     let ended = talk(
-        alloc, reader, writer, session, handler, None, max_reads, steps, &mut last,
+        alloc, reader, writer, session, handler, None, max_reads, steps, &mut last, &mut read,
     );
     (ended, last)
 }
@@ -221,7 +236,7 @@ pub fn dial<R: Read, W: Write, H: Handler, L: Ledger>(
     ensures failed { OnlyWhereFailed result.0 result.1 }
     ensures grows { H.grows handler.old handler.new }
 {
-    let mut last = LastWrite::new();
+    let (mut last, mut read) = (LastWrite::new(), LastRead::new());
     let ended = talk(
         alloc,
         reader,
@@ -232,6 +247,7 @@ pub fn dial<R: Read, W: Write, H: Handler, L: Ledger>(
         max_reads,
         steps,
         &mut last,
+        &mut read,
     );
     (ended, last)
 }

@@ -433,6 +433,74 @@ fn interrupted_writes_go_on(rt: HostRuntime) {
     goes_on(&rt, alloc, &message, 1_001, Err(Fault::WriteFailed(0)));
 }
 
+/// The greatest frame goes out through a writer that takes so many bytes a write, before each of which so many are
+/// interrupted.
+fn goes_out_interrupted(
+    rt: &impl Abort,
+    alloc: Global,
+    frame: &[u8],
+    (most, interruptions): (usize, u32),
+) {
+    let message = read_in_pieces(rt, alloc, frame, 4_099);
+    let mut narrow = Narrow::new(alloc, most, 65_536);
+    narrow.interruptions = interruptions;
+    let answer = sent(alloc, &mut narrow, &message);
+    let found = (answer, narrow.has_written(frame));
+    same_at(rt, &(most, interruptions), &found, &(Ok(()), true));
+}
+
+#[test]
+fn the_greatest_frame_is_interrupted(rt: HostRuntime) {
+    let alloc = rt.alloc();
+    let frame = greatest_frame(&rt, alloc);
+    goes_out_interrupted(&rt, alloc, &frame, (1, 1));
+    goes_out_interrupted(&rt, alloc, &frame, (61, 3));
+    goes_out_interrupted(&rt, alloc, &frame, (4_096, 1_000));
+}
+
+/// Takes 20 bytes a write, but for one, which fails; and counts the writes.
+#[derive(Drop)]
+struct Broken {
+    fails_at: u32,
+    writes: u32,
+}
+
+impl Write for Broken {
+    fn write(&mut self, buf: &[u8]) -> io::Result<usize> {
+        self.writes = self.writes.saturating_add(1);
+        if self.writes == self.fails_at {
+            return Err(ErrorKind::BrokenPipe.into());
+        }
+        Ok(buf.len().min(20))
+    }
+
+    fn flush(&mut self) -> io::Result<()> {
+        Ok(())
+    }
+}
+
+/// What a writer gives a message one of whose writes fails, and how many writes are made.
+fn sent_broken(alloc: Global, message: &Message, fails_at: u32) -> (Result<(), Fault>, u32) {
+    let mut writer = Broken {
+        fails_at,
+        writes: 0,
+    };
+    let answer = sent(alloc, &mut writer, message);
+    (answer, writer.writes)
+}
+
+/// No write is made behind one that failed, whether it is the first of the frame's two or the second.
+#[test]
+fn a_failed_write_is_the_last(rt: HostRuntime) {
+    let alloc = rt.alloc();
+    let message = message(&rt, alloc);
+    let first = (Err(Fault::WriteFailed(0)), 1);
+    let second = (Err(Fault::WriteFailed(20)), 2);
+    same(&rt, &sent_broken(alloc, &message, 1), &first);
+    same(&rt, &sent_broken(alloc, &message, 2), &second);
+    same(&rt, &sent_broken(alloc, &message, 3), &(Ok(()), 2));
+}
+
 /// The example that stands at `Frames`.
 #[test]
 fn the_example_of_frames(rt: HostRuntime) {

@@ -138,11 +138,61 @@ fn answer_of(rt: &impl Abort, alloc: Global, frames: &mut Frames, stream: &[u8])
     }
 }
 
-/// What comes of a stream that begins with these bytes.
+/// What comes of a stream that begins with these bytes. Where more have to come, an end there is inside a frame.
 fn first_of(rt: &impl Abort, alloc: Global, stream: &[u8]) -> Answer {
     let mut frames = Frames::new(alloc);
     feed(rt, &mut frames, stream);
-    answer_of(rt, alloc, &mut frames, stream)
+    let answer = answer_of(rt, alloc, &mut frames, stream);
+    if answer == Answer::Waiting {
+        same(rt, &frames.end(), &Err(Fault::Truncated));
+    }
+    answer
+}
+
+/// Each part of a frame is waited on.
+fn parts_are_waited_on(rt: &impl Abort, alloc: Global, frame: &[u8]) {
+    for length in 1..frame.len() {
+        let part = frame.get(..length).unwrap_or(&[]);
+        same_at(rt, &length, &first_of(rt, alloc, part), &Answer::Waiting);
+    }
+}
+
+#[test]
+fn each_frame_is_cut_short(rt: HostRuntime) {
+    for frame in FRAMES {
+        parts_are_waited_on(&rt, rt.alloc(), frame);
+    }
+}
+
+/// Behind a frame stands one more byte: its message comes, then this, and this is then said of an end.
+fn stands_before(
+    rt: &impl Abort,
+    alloc: Global,
+    frame: &[u8],
+    byte: u8,
+    (then, end): (Answer, Result<(), Fault>),
+) {
+    let mut stream = Vec::new(alloc);
+    add(rt, &mut stream, frame);
+    add(rt, &mut stream, &[byte]);
+    let mut frames = Frames::new(alloc);
+    feed(rt, &mut frames, &stream);
+    let first = answer_of(rt, alloc, &mut frames, &stream);
+    let rest = stream.get(frame.len()..).unwrap_or(&[]);
+    let found = (first, answer_of(rt, alloc, &mut frames, rest));
+    same_at(rt, &frame, &found, &(Answer::Message(frame.len()), then));
+    same_at(rt, &frame, &frames.end(), &end);
+}
+
+/// Each frame is one byte longer: the byte is the mark of the next one, or none.
+#[test]
+fn each_frame_is_lengthened(rt: HostRuntime) {
+    for frame in FRAMES {
+        let waiting = (Answer::Waiting, Err(Fault::Truncated));
+        stands_before(&rt, rt.alloc(), frame, 0xa7, waiting);
+        let faulty = (Answer::Faulty(Fault::BadMark), Ok(()));
+        stands_before(&rt, rt.alloc(), frame, 0, faulty);
+    }
 }
 
 /// The frame with another byte at a place.

@@ -1,7 +1,8 @@
 //! Messages out of readers.
 ghost use Rattle.std.specs.Prelude.{◌≡◌, ◌<◌};
 
-use crate::wire::Pieces;
+use crate::frames::FRAME;
+use crate::wire::{Pieces, greatest_frame};
 use crate::{got, same, same_at};
 use sb_codec::Message;
 use sb_frames::{Frames, Steps, receive};
@@ -78,30 +79,67 @@ fn whole(bytes: &[u8]) -> Pieces<'_> {
         bytes,
         piece: 4_096,
         breaks: false,
-        is_interrupted: false,
-        interrupts: false,
+        interruptions: 0,
+        interrupted: 0,
     }
 }
 
-/// Both Byes come, and the end then, of a reader that gives so many bytes a read.
-fn comes_in_pieces(rt: &impl Abort, alloc: Global, piece: usize, interrupts: bool, max_reads: u64) {
-    let mut reader = whole(BYES);
+/// A reader that gives so many bytes a read, before each of which so many reads are interrupted.
+fn in_pieces(bytes: &[u8], (piece, interruptions): (usize, u32)) -> Pieces<'_> {
+    let mut reader = whole(bytes);
     reader.piece = piece;
-    reader.interrupts = interrupts;
-    let found = received(rt, alloc, reader, b"", max_reads);
-    same_at(rt, &piece, &found, &(2, Ok(None)));
+    reader.interruptions = interruptions;
+    reader
+}
+
+/// Both Byes come, and the end then, of such a reader.
+fn comes_in_pieces(rt: &impl Abort, alloc: Global, pieces: (usize, u32), max_reads: u64) {
+    let found = received(rt, alloc, in_pieces(BYES, pieces), b"", max_reads);
+    same_at(rt, &pieces, &found, &(2, Ok(None)));
 }
 
 #[test]
 fn messages_out_of_a_reader(rt: HostRuntime) {
     let alloc = rt.alloc();
-    comes_in_pieces(&rt, alloc, 1, false, 8);
-    comes_in_pieces(&rt, alloc, 1, true, 16);
-    comes_in_pieces(&rt, alloc, 5, false, 2);
-    comes_in_pieces(&rt, alloc, 16, false, 1);
+    comes_in_pieces(&rt, alloc, (1, 0), 8);
+    comes_in_pieces(&rt, alloc, (1, 1), 16);
+    comes_in_pieces(&rt, alloc, (5, 0), 2);
+    comes_in_pieces(&rt, alloc, (16, 0), 1);
+    // However often a read is interrupted, it is made again while reads are left.
+    comes_in_pieces(&rt, alloc, (16, 5_000), 5_001);
     // What is held comes without a read.
     let found = received(&rt, alloc, whole(b""), BYES, 0);
     same(&rt, &found, &(2, Err(Fault::TurnsSpent)));
+}
+
+/// What is received of a frame with so many reads.
+fn frame_received(
+    rt: &impl Abort,
+    alloc: Global,
+    frame: &[u8],
+    pieces: (usize, u32),
+    max_reads: u64,
+) -> Received {
+    received(rt, alloc, in_pieces(frame, pieces), b"", max_reads)
+}
+
+/// A frame, which is no Bye, comes with so many reads and not with one less.
+fn needs_reads(rt: &impl Abort, alloc: Global, frame: &[u8], pieces: (usize, u32), reads: u64) {
+    let found = frame_received(rt, alloc, frame, pieces, reads);
+    same_at(rt, &pieces, &found, &(0, Ok(Some(false))));
+    let found = frame_received(rt, alloc, frame, pieces, reads.saturating_sub(1));
+    same_at(rt, &pieces, &found, &(0, Err(Fault::TurnsSpent)));
+}
+
+#[test]
+fn the_greatest_frame_comes(rt: HostRuntime) {
+    let alloc = rt.alloc();
+    let frame = greatest_frame(&rt, alloc);
+    needs_reads(&rt, alloc, &frame, (16, 0), 4_096);
+    needs_reads(&rt, alloc, &frame, (61, 3), 4_300);
+    needs_reads(&rt, alloc, &frame, (4_000, 0), 17);
+    needs_reads(&rt, alloc, &frame, (4_096, 0), 16);
+    needs_reads(&rt, alloc, &frame, (4_096, 3_000), 48_016);
 }
 
 /// So many Byes come of the front of the two, and then this fault.
@@ -135,4 +173,8 @@ fn readers_that_give_out(rt: HostRuntime) {
     is_faulty(&rt, alloc, b"\xa6", Fault::BadMark);
     let unknown = b"\xa7\x01\x00\x00\x00\x01\x55";
     is_faulty(&rt, alloc, unknown, Fault::UnknownKind(0x55));
+    // A delta that does not come whole, and one that may not be read.
+    is_faulty(&rt, alloc, &FRAME[..17], Fault::Truncated);
+    let found = received(&rt, alloc, whole(FRAME), b"", 0);
+    same(&rt, &found, &(0, Err(Fault::TurnsSpent)));
 }

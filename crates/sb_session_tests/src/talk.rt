@@ -16,13 +16,15 @@ use std::marker::Brand;
 use std::process::Abort;
 use std::sync::ledger::{Blank, Ledger};
 
-/// Takes one byte in each write, and fails once it has no room. Every other write is interrupted.
+/// Takes one byte in each write, and fails once, at its room: what is written behind that is taken again. Every other write
+/// is interrupted.
 #[derive(Drop)]
 struct Room {
     bytes: [u8; 128],
     written: usize,
     room: usize,
     interrupts: bool,
+    has_failed: bool,
 }
 
 impl Room {
@@ -32,6 +34,7 @@ impl Room {
             written: 0,
             room,
             interrupts: false,
+            has_failed: false,
         }
     }
 
@@ -60,7 +63,9 @@ impl Write for Room {
         if self.interrupts {
             return Err(ErrorKind::Interrupted.into());
         }
-        if self.written >= self.room || self.written >= 128 {
+        let is_full = self.written >= self.room && !self.has_failed;
+        if is_full || self.written >= 128 {
+            self.has_failed = true;
             return Err(ErrorKind::BrokenPipe.into());
         }
         self.bytes[self.written] = *byte;
@@ -74,12 +79,14 @@ impl Write for Room {
 }
 
 /// What a talk has to go on: the peer's bytes, how many come in a read, whether the reader fails after them,
-/// how many bytes may be written, how many reads may be made, and the rounds of one that dials.
+/// how many reads are interrupted before each, how many bytes may be written, how many reads may be made, and the
+/// rounds of one that dials.
 #[derive(Clone, Copy)]
 struct Terms<'a> {
     bytes: &'a [u8],
     piece: usize,
     breaks: bool,
+    interruptions: u32,
     room: usize,
     reads: u64,
     rounds: Option<u64>,
@@ -91,6 +98,7 @@ fn serving(bytes: &[u8]) -> Terms<'_> {
         bytes,
         piece: 7,
         breaks: false,
+        interruptions: 1,
         room: 128,
         reads: 1_000,
         rounds: None,
@@ -105,8 +113,20 @@ fn dialing(bytes: &[u8], rounds: u64) -> Terms<'_> {
     }
 }
 
+/// The reader of a talk.
+fn reader_of<'a>(terms: &Terms<'a>) -> Pieces<'a> {
+    Pieces {
+        bytes: terms.bytes,
+        piece: terms.piece,
+        breaks: terms.breaks,
+        interruptions: terms.interruptions,
+        interrupted: 0,
+    }
+}
+
 fn talk_on<L: Ledger>(
     node: &mut Node,
+    reader: &mut Pieces<'_>,
     writer: &mut Room,
     session: Session,
     terms: Terms<'_>,
@@ -118,17 +138,10 @@ fn talk_on<L: Ledger>(
 {
     let alloc = node.alloc;
     let mut steps = Steps::<L>::new(blank);
-    let mut reader = Pieces {
-        bytes: terms.bytes,
-        piece: terms.piece,
-        breaks: terms.breaks,
-        is_interrupted: false,
-        interrupts: true,
-    };
     match terms.rounds {
         None => serve(
             alloc,
-            &mut reader,
+            reader,
             writer,
             session,
             node,
@@ -137,7 +150,7 @@ fn talk_on<L: Ledger>(
         ),
         Some(rounds) => dial(
             alloc,
-            &mut reader,
+            reader,
             writer,
             session,
             node,
@@ -156,7 +169,8 @@ fn talk_telling(
     terms: Terms<'_>,
 ) -> (Result<Ended, Fault>, bool) {
     let session = Session::new(name(rt, b"c1"), *node.holdings.me());
-    let (ended, last) = talk_on::<Brand>(node, writer, session, terms, Blank::new(1));
+    let mut reader = reader_of(&terms);
+    let (ended, last) = talk_on::<Brand>(node, &mut reader, writer, session, terms, Blank::new(1));
     (ended, last.has_failed())
 }
 
@@ -254,6 +268,58 @@ fn ends_in_any_pieces(rt: &impl Abort, alloc: Global, course: &Course<'_>) {
 fn bytes_come_in_any_pieces(rt: HostRuntime) {
     ends_in_any_pieces(&rt, rt.alloc(), &SERVED);
     ends_in_any_pieces(&rt, rt.alloc(), &DIALED);
+}
+
+/// The course ends as it is to, though so many reads are interrupted before each that gives bytes.
+fn ends_though_interrupted(
+    rt: &impl Abort,
+    alloc: Global,
+    course: &Course<'_>,
+    interruptions: u32,
+) {
+    let input = joined(rt, alloc, &course.heard);
+    let mut terms = hearing(course, &input);
+    terms.interruptions = interruptions;
+    terms.reads = 1_000_000;
+    let found = follow(rt, alloc, course, terms, 1_000);
+    let wanted = (Ok(course.ended), false, true, course.late);
+    same_at(rt, &interruptions, &found, &wanted);
+}
+
+#[test]
+fn interrupted_reads_end_no_session(rt: HostRuntime) {
+    ends_though_interrupted(&rt, rt.alloc(), &SERVED, 5_000);
+    ends_though_interrupted(&rt, rt.alloc(), &DIALED, 5_000);
+}
+
+/// How many of the bytes of a course are not read, where a write fails behind so many that are out.
+fn unread(rt: &impl Abort, alloc: Global, course: &Course<'_>, room: usize) -> usize {
+    let input = joined(rt, alloc, &course.heard);
+    let mut node = Node::new(rt, alloc, course.name, course.has_written);
+    let terms = hearing(course, &input);
+    let mut reader = reader_of(&terms);
+    let session = Session::new(name(rt, b"c1"), *node.holdings.me());
+    let mut writer = Room::new(room);
+    let (_, _) = talk_on::<Brand>(
+        &mut node,
+        &mut reader,
+        &mut writer,
+        session,
+        terms,
+        Blank::new(1),
+    );
+    reader.bytes.len()
+}
+
+/// A Hello that fails is behind no read; the delta for the digest, whose last byte is the 34th, behind five of seven bytes.
+#[test]
+fn nothing_is_read_behind_a_failed_write(rt: HostRuntime) {
+    let alloc = rt.alloc();
+    same(&rt, &unread(&rt, alloc, &SERVED, 0), &42);
+    same(&rt, &unread(&rt, alloc, &SERVED, 11), &42);
+    same(&rt, &unread(&rt, alloc, &SERVED, 12), &7);
+    same(&rt, &unread(&rt, alloc, &SERVED, 44), &7);
+    same(&rt, &unread(&rt, alloc, &DIALED, 12), &67);
 }
 
 /// How many bytes of its piece stand before the byte at a place, of pieces that stand one after the other.

@@ -28,22 +28,23 @@ pub(crate) const DELTA_NONE: &[u8] = b"\xa7\x01\x00\x00\x00\x03\x03\x00\x00";
 /// Bye, since the rounds are done.
 pub(crate) const BYE: &[u8] = b"\xa7\x01\x00\x00\x00\x02\x04\x01";
 
-/// Gives so many bytes a read, and fails at the end or not. Every other read is interrupted where any is.
+/// Gives so many bytes a read, and fails at the end or not. Before each of these reads so many are interrupted.
 #[derive(Drop)]
 pub(crate) struct Pieces<'a> {
     pub(crate) bytes: &'a [u8],
     pub(crate) piece: usize,
     pub(crate) breaks: bool,
-    pub(crate) is_interrupted: bool,
-    pub(crate) interrupts: bool,
+    pub(crate) interruptions: u32,
+    pub(crate) interrupted: u32,
 }
 
 impl Read for Pieces<'_> {
     fn read(&mut self, buf: &mut [u8]) -> io::Result<usize> {
-        self.is_interrupted = self.interrupts && !self.is_interrupted;
-        if self.is_interrupted {
+        if self.interrupted < self.interruptions {
+            self.interrupted += 1;
             return Err(ErrorKind::Interrupted.into());
         }
+        self.interrupted = 0;
         if self.bytes.is_empty() && self.breaks {
             return Err(ErrorKind::ConnectionReset.into());
         }

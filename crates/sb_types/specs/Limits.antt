@@ -1,5 +1,5 @@
 -- Which parts make an entry, a block, a delta or settings.
-use Rattle.std.specs.Prelude.{ℕ, ◌-◌, ◌^◌, Bool, true, ◌&&◌, ◌==◌, nat_le, List, [], ◌∷◌, length}
+use Rattle.std.specs.Prelude.{ℕ, ◌-◌, ◌^◌, Bool, true, false, ◌&&◌, ◌==◌, nat_le, List, [], ◌∷◌, length}
 use Rattle.std.specs.List.{list_all}
 use Rattle.std.specs.Ordering.{nat_cmp, is_lt}
 use Rattle.std.specs.Cmp.Lexicographic.{slice_cmp}
@@ -7,7 +7,7 @@ use Rattle.sb_types.specs.declared.entry.Slot.{Slot}
 use Rattle.sb_types.specs.declared.entry.Slot.TheVariants.{Set, Removed}
 use Rattle.sb_types.specs.declared.limits.TheConstants.{ENTRIES_MOST, PAYLOAD_MOST, BUDGET_LEAST, BUDGET_MOST, VERSION_MOST, SEATS_MOST, WORKERS_MOST}
 use Rattle.sb_types.specs.Text.{is_between, is_name, is_key}
-use Rattle.sb_types.specs.Value.{is_value}
+use Rattle.sb_types.specs.Value.{is_value, holds_text}
 use Rattle.sb_types.specs.Records.{Entry, Block, Settings}
 use Rattle.sb_types.specs.Runs.{are_ascending, are_distinct, last_version}
 use Rattle.sb_types.specs.Lengths.{delta_length}
@@ -15,6 +15,10 @@ use Rattle.sb_types.specs.Lengths.{delta_length}
 abbrev pub is_slot : Slot → Bool
 is_slot (Set value) = is_value value
 is_slot Removed = true
+
+abbrev pub slot_holds_text : Slot → Bool
+slot_holds_text (Set value) = holds_text value
+slot_holds_text Removed = false
 
 abbrev pub is_entry : Entry → Bool
 is_entry e = is_key e.key && is_between 1 (2 ^ 64 - 1) e.version && is_slot e.slot

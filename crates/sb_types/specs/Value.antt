@@ -13,6 +13,12 @@ is_value (Addr text) = is_addr text
 is_value (Weight weight) = nat_lt weight (2 ^ 63)
 is_value (Flag flag) = true
 
+-- text lies in memory of its own
+abbrev pub holds_text : Value → Bool
+holds_text (Addr text) = true
+holds_text (Weight weight) = false
+holds_text (Flag flag) = false
+
 abbrev pub flag_word : Bool → List ℕ
 flag_word true = codes "true"
 flag_word false = codes "false"

@@ -1,8 +1,8 @@
 //! Writes, and entries, which are writes with their versions.
 
-ghost use Rattle.std.specs.Prelude.{◌≡◌, ◌≤◌, true, Ok};
+ghost use Rattle.std.specs.Prelude.{◌≡◌, ◌≤◌, true, Ok, IfErr};
 ghost use Rattle.sb_types.specs.Lengths.{slot_length, entry_length};
-ghost use Rattle.sb_types.specs.Limits.{is_slot, is_entry};
+ghost use Rattle.sb_types.specs.Limits.{is_slot, is_entry, slot_holds_text};
 ghost use Rattle.sb_types.specs.Faults.{Gives};
 
 use crate::fault::Fault;
@@ -48,9 +48,10 @@ impl Model for Entry {
 }
 
 impl Slot {
-    /// An equal slot. `NoMemory`.
+    /// An equal slot. `NoMemory`, of an address alone.
     pub fn copy(&self, alloc: Global) -> Result<Slot, Fault>
-        ensures { Gives result (Ok self.now) }
+        ensures copied { Gives result (Ok self.now) }
+        ensures memory { IfErr result (λ _. slot_holds_text self.now ≡ true) }
     {
         match self {
             Slot::Set(value) => Ok(Slot::Set(value.copy(alloc)?)),
@@ -107,9 +108,10 @@ impl Entry {
         &self.slot
     }
 
-    /// An equal entry. `NoMemory`.
+    /// An equal entry. `NoMemory`, of an address alone.
     pub fn copy(&self, alloc: Global) -> Result<Entry, Fault>
-        ensures { Gives result (Ok self.now) }
+        ensures copied { Gives result (Ok self.now) }
+        ensures memory { IfErr result (λ _. slot_holds_text self.now.slot ≡ true) }
     {
         Ok(Entry {
             key: self.key,

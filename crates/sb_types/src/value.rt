@@ -171,9 +171,11 @@ impl Value {
         }
     }
 
-    /// An equal value. `NoMemory`.
+    /// An equal value. `NoMemory`, of an address alone.
     pub fn copy(&self, alloc: Global) -> Result<Value, Fault>
-        ensures { Gives result (Ok self.now) }
+        ensures copied { Gives result (Ok self.now) }
+        // Memory is asked for only to copy an address.
+        ensures memory { IfErr result (λ _. values.holds_text self.now ≡ true) }
     {
         Ok(Value {
             content: match &self.content {

@@ -11,6 +11,7 @@ ghost use Rattle.std.specs.declared.ops.Bound.TheVariants.{Included};
 ghost use Rattle.sb_views.specs.Pages as pages;
 ghost use Rattle.sb_views.specs.Rows as spec;
 
+use crate::owner_sheets::OwnerSheets;
 use crate::rows::{OwnerRows, Rows};
 use crate::sheet::{Sheet, lose};
 use sb_types::{Entry, Key, Name, Prefix, Value};
@@ -142,6 +143,13 @@ impl Page {
                 Rows::new(None, self.sheets.range(all), prefix)
             }
         }
+    }
+
+    /// All owners, with what is shown of them.
+    pub(crate) fn sheets(&self) -> OwnerSheets<'_>
+        ensures { result ≡ entries self.now }
+    {
+        OwnerSheets::new(self.sheets.iter())
     }
 
     /// Those of them that stand behind the place.

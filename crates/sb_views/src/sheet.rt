@@ -1,8 +1,8 @@
 //! What is shown of one owner.
-ghost use Rattle.std.specs.Prelude.{◌≡◌, ◌≤◌, ℕ, true, nat_eq, List, filter, Some, OnOk, OnErr};
+ghost use Rattle.std.specs.Prelude.{◌≡◌, ◌≤◌, ℕ, true, nat_eq, List, filter, Some, OnOk, OnErr, length};
 ghost use Rattle.std.specs.List.{starts_with};
 ghost use Rattle.std.specs.Option.{option_map};
-ghost use Rattle.std.specs.FinMap.{get, insert, remove};
+ghost use Rattle.std.specs.FinMap.{get, insert, remove, entries};
 ghost use Rattle.std.specs.Ordering.{nat_cmp, is_lt, is_le};
 ghost use Rattle.std.specs.BTreeMap.Range.{is_from_start};
 ghost use Rattle.sb_views.specs.Rows as spec;
@@ -20,7 +20,7 @@ use std::ops::Bound;
 
 /// Up to which version an owner is held, and what is live of it by key.
 #[derive(Drop)]
-pub(crate) struct Sheet {
+pub struct Sheet {
     upto: u64,
     rows: BTreeMap<Key, Live>,
 }
@@ -126,10 +126,17 @@ impl Sheet {
     }
 
     /// The version up to which the owner is held.
-    pub(crate) fn upto(&self) -> u64
+    pub fn upto(&self) -> u64
         ensures { result ≡ self.now.upto }
     {
         self.upto
+    }
+
+    /// How many live rows the owner has. None is counted out one by one.
+    pub fn len(&self) -> usize
+        ensures { result ≡ length (entries self.now.rows) }
+    {
+        self.rows.len()
     }
 
     /// The value under a key, with the version of its write.

@@ -1,9 +1,11 @@
 //! What a reader reads.
 ghost use Rattle.std.specs.Prelude.{◌≡◌};
+ghost use Rattle.std.specs.FinMap.{entries};
 ghost use Rattle.std.specs.Option.{option_map};
 ghost use Rattle.sb_views.specs.Pages as pages;
 ghost use Rattle.sb_views.specs.Rows as spec;
 
+use crate::owner_sheets::OwnerSheets;
 use crate::page::Page;
 use crate::rows::Rows;
 use sb_types::{Key, Name, Prefix, Value};
@@ -47,6 +49,13 @@ impl<'a> Snapshot<'a> {
         ensures { option_map (λ p. (p.0.now, p.1)) result ≡ pages.row_of self.now owner.now key.now }
     {
         self.page.get(owner, key)
+    }
+
+    /// All owners with what is shown of them, in ascending order of their names.
+    pub fn sheets(&self) -> OwnerSheets<'a>
+        ensures { result ≡ entries self.now }
+    {
+        self.page.sheets()
     }
 
     /// The live rows of the wanted owner, or of all, under the keys that begin with the prefix: owner by owner in

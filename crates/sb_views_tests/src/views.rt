@@ -8,7 +8,9 @@ use crate::reading::{Look, entered, read};
 use crate::{got, holds, same, there};
 use sb_holdings::{BlockEnd, Holdings, Report};
 use sb_types::{Block, Delta, Entry, Key, Name, Value, ValueRef};
-use sb_views::{Batch, Front, Opened, Reader, Row, Rows, Site, Snapshot, Story, ViewWriter, views};
+use sb_views::{
+    Batch, Front, Opened, Reader, Row, Rows, Sheet, Site, Snapshot, Story, ViewWriter, views,
+};
 use std::alloc::Global;
 use std::marker::Brand;
 use std::process::Abort;
@@ -183,9 +185,35 @@ fn rows_come_in_order(rt: &impl Abort, snapshot: &Snapshot<'_>) {
     rows_are(rt, snapshot, b"c", b"", &[]);
 }
 
+// An owner, up to which version it is held, and how many rows it has.
+type ToldSheet = (&'static [u8], u64, usize);
+
+const SHEET_OF_A: ToldSheet = (b"a", 4, 2);
+
+const SHEET_OF_B: ToldSheet = (b"b", 1, 1);
+
+fn is_sheet(found: Option<(&Name, &Sheet)>, told: ToldSheet) -> bool {
+    let (name, upto, count) = told;
+    match found {
+        Some((owner, sheet)) => {
+            owner.bytes() == name && sheet.upto() == upto && sheet.len() == count
+        }
+        None => false,
+    }
+}
+
+/// The sheet of each owner of whom something is held comes once, in order.
+fn sheets_come_in_order(rt: &impl Abort, snapshot: &Snapshot<'_>) {
+    let mut sheets = snapshot.sheets();
+    holds(rt, "the sheet of a", is_sheet(sheets.next(), SHEET_OF_A));
+    holds(rt, "the sheet of b", is_sheet(sheets.next(), SHEET_OF_B));
+    holds(rt, "no other sheet", sheets.next().is_none());
+}
+
 pub(crate) fn live_is_shown(rt: &impl Abort, snapshot: &Snapshot<'_>) {
     keys_are_shown(rt, snapshot);
     rows_come_in_order(rt, snapshot);
+    sheets_come_in_order(rt, snapshot);
 }
 
 #[test]

@@ -26,7 +26,7 @@ stands c =
 next : (c : In_ok-push) (front rest : List Offered) → CanCut (front ++ c.in-Some.cursor.next ∷ rest) → IsFrontOf c.args.budget front (c.in-Some.cursor.next ∷ rest) c.loop-cursor.making
     → AfterNext c.args.budget front c.in-Some.cursor.next rest c.in_ok-push.field-0 c.push.new.self
 next c front rest can is =
-    let entry : c.in_ok-entry.entry ≡ c.split_first-later.result.0.now = sym (subst (λ (r : Result Entry Fault). IfOk r (λ z. c.split_first-later.result.0.now ≡ z)) c.in_ok-entry.ensures refl) in
+    let entry : c.in_ok-entry.entry ≡ c.split_first-later.result.0.now = sym (subst (λ (r : Result Entry Fault). IfOk r (λ z. c.split_first-later.result.0.now ≡ z)) c.in_ok-entry.ensures.copied refl) in
     c.in_ok-push.ensures.next c.args.budget front rest c.in-Some.cursor.next
     (sym c.owner-owner.ensures.owner, sym c.after-after.ensures.after, sym (entry ∙ c.split_first-later.ensures.entry)) can is
 

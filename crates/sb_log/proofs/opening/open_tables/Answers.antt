@@ -1,10 +1,10 @@
-use Rattle.std.proofs.Common.{[], ◌∷◌, map, sym, ap, ◌∙◌}
+use Rattle.std.proofs.Common.{[], ◌∷◌, map, inl, inr, sym, ap, ◌∙◌}
 use Rattle.sqlite_value.specs.Order.{Row}
 use Rattle.sqlite.specs.Effect.{Database}
 use Rattle.sqlite.specs.Held.{state}
 use Rattle.sqlite.specs.State.{HasCleanDisk}
 use Rattle.sb_log.specs.Opening.{meta_cells}
-use Rattle.sb_log.proofs.Founding.{was_clean, no_item, one_item, none_mapped, one_mapped, opens_new, opens_old, then_meta, both}
+use Rattle.sb_log.proofs.Founding.{was_clean, no_item, one_item, none_mapped, one_mapped, opens_new, opens_old, then_meta, both, or_grows, names_too, still_rows, still_empty, still_named, never_more}
 use Rattle.sb_log.proofs.opening.open_tables.Goals as goal
 
 pub returns-in-empty-clause-opens : goal.returns-in-empty-clause-opens
@@ -57,3 +57,60 @@ returns-in-len1-clause-meta g c clean =
     let has = one_mapped (mid.now.trees 0) c.in_ok-found.found.items c.row-item.result (c.in_ok-found.ensures.rows clean2 prepared) one in
     then_meta c.open_old.result (both _ _ c.open_old.result (c.open_old.ensures.same clean ready.0) c.open_old.ensures.meta)
     (λ p. ap (λ (d : Database). map meta_cells (d.trees 0)) (p.0 ∙ ready.1) ∙ has ∙ ap (λ (r : Row). r ∷ []) p.1)
+
+pub returns-in-empty-clause-crash : goal.returns-in-empty-clause-crash
+returns-in-empty-clause-crash g c clean db left =
+    let old = state g.S.Store c.args.conn.now in
+    let mid = state g.S.Store c.make_tables.new.conn in
+    let read = state g.S.Store c.read_meta.new.conn in
+    let clean2 : HasCleanDisk read = was_clean _ _ clean c.open_new.ensures.clean in
+    let clean1 : HasCleanDisk mid = was_clean _ _ clean2 c.read_meta.ensures.clean in
+    let prepared = c.in_ok-make_tables.ensures.prepared clean1 in
+    let completes = c.in_ok-make_tables.ensures.completes clean1 in
+    let ready = c.in_ok-found.ensures.ready clean2 prepared in
+    let none = no_item c.in_ok-found.found.items (rw c.as_slice.ensures.value at c.in-empty.len_below) in
+    let empty = none_mapped (mid.now.trees 0) c.in_ok-found.found.items (c.in_ok-found.ensures.rows clean2 prepared) none in
+    elim (c.open_new.ensures.crash clean ready.0 (ap (λ (d : Database). d.trees 0) ready.1 ∙ empty) db left) [
+      | inl was ↦ or_grows c.args.owner.now c.args.cluster.now old.now db (c.make_tables.ensures.crash clean1 db (c.read_meta.ensures.crash clean2 prepared db was))
+      | inr names ↦ inr (names_too c.args.owner.now c.args.cluster.now old.now mid.now read.now db completes ready.1 empty names)
+    ]
+
+pub returns-in-empty-clause-whole : goal.returns-in-empty-clause-whole
+returns-in-empty-clause-whole g c clean t opens =
+    let old = state g.S.Store c.args.conn.now in
+    let mid = state g.S.Store c.make_tables.new.conn in
+    let read = state g.S.Store c.read_meta.new.conn in
+    let clean2 : HasCleanDisk read = was_clean _ _ clean c.open_new.ensures.clean in
+    let clean1 : HasCleanDisk mid = was_clean _ _ clean2 c.read_meta.ensures.clean in
+    let prepared = c.in_ok-make_tables.ensures.prepared clean1 in
+    let completes = c.in_ok-make_tables.ensures.completes clean1 in
+    let ready = c.in_ok-found.ensures.ready clean2 prepared in
+    let none = no_item c.in_ok-found.found.items (rw c.as_slice.ensures.value at c.in-empty.len_below) in
+    let empty = none_mapped (mid.now.trees 0) c.in_ok-found.found.items (c.in_ok-found.ensures.rows clean2 prepared) none in
+    c.open_new.ensures.whole clean ready.0 t (still_rows c.args.owner.now c.args.cluster.now old.now mid.now t completes opens read.now ready.1)
+    (still_empty c.args.owner.now c.args.cluster.now old.now mid.now t completes opens empty)
+
+pub returns-in-len1-clause-whole : goal.returns-in-len1-clause-whole
+returns-in-len1-clause-whole g c clean t opens =
+    let old = state g.S.Store c.args.conn.now in
+    let mid = state g.S.Store c.make_tables.new.conn in
+    let read = state g.S.Store c.read_meta.new.conn in
+    let clean2 : HasCleanDisk read = was_clean _ _ clean c.open_old.ensures.clean in
+    let clean1 : HasCleanDisk mid = was_clean _ _ clean2 c.read_meta.ensures.clean in
+    let prepared = c.in_ok-make_tables.ensures.prepared clean1 in
+    let completes = c.in_ok-make_tables.ensures.completes clean1 in
+    let ready = c.in_ok-found.ensures.ready clean2 prepared in
+    let one = sym c.as_slice.ensures.value ∙ one_item c.as_slice.result.now c.row-item.result c.in-len1.len_at_least c.in-len1.len_below c.row-item.is in
+    let has = one_mapped (mid.now.trees 0) c.in_ok-found.found.items c.row-item.result (c.in_ok-found.ensures.rows clean2 prepared) one in
+    c.open_old.ensures.whole clean ready.0 (still_named c.args.owner.now c.args.cluster.now old.now mid.now t completes opens c.row-item.result has) t
+    (still_rows c.args.owner.now c.args.cluster.now old.now mid.now t completes opens read.now ready.1)
+
+pub returns-clause-whole : goal.returns-clause-whole
+returns-clause-whole g c clean t opens =
+    let old = state g.S.Store c.args.conn.now in
+    let mid = state g.S.Store c.make_tables.new.conn in
+    let clean1 : HasCleanDisk mid = was_clean _ _ clean c.read_meta.ensures.clean in
+    let prepared = c.in_ok-make_tables.ensures.prepared clean1 in
+    let completes = c.in_ok-make_tables.ensures.completes clean1 in
+    absurd (never_more c.args.owner.now c.args.cluster.now old.now mid.now t completes opens c.in_ok-found.found.items (c.in_ok-found.ensures.rows clean prepared)
+    (rw c.as_slice.ensures.value at c.in_default.len_at_least))

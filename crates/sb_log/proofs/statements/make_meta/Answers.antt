@@ -2,7 +2,8 @@ use Rattle.std.proofs.Common.{refl}
 use Rattle.sqlite.specs.Held.{state}
 use Rattle.sb_log.specs.Form.{meta_text, no_schema, meta_schema, meta_table}
 use Rattle.sb_log.proofs.Texts.{make_meta_is, make_meta_plain, schema_is}
-use Rattle.sb_log.proofs.Making.{creates, commits}
+use Rattle.sb_log.proofs.Making.{creates, creates_in, commits}
+use Rattle.sb_log.proofs.Writing.{or_commits}
 use Rattle.sb_log.proofs.statements.make_meta.Goals as goal
 
 pub returns-in-Ok-clause-schema : goal.returns-in-Ok-clause-schema
@@ -20,3 +21,17 @@ returns-in-Ok-clause-settled g c clean has auto =
     let w = (creates meta_text no_schema meta_schema meta_table make_meta_is make_meta_plain schema_is.0 refl old new c.in-Ok.field-0 has (c.in-Ok.ensures.runs clean)).0 in
     let did = commits old new _ _ _ _ w auto in
     (did.0, did.1)
+
+pub returns-in-Ok-clause-sound : goal.returns-in-Ok-clause-sound
+returns-in-Ok-clause-sound g c clean has =
+    (creates meta_text no_schema meta_schema meta_table make_meta_is make_meta_plain schema_is.0 refl (state g.S.Store c.args.conn.now) (state g.S.Store c.execute.new.self) c.in-Ok.field-0 has (c.in-Ok.ensures.runs clean)).0.sound
+
+pub returns-in-Ok-clause-crash : goal.returns-in-Ok-clause-crash
+returns-in-Ok-clause-crash g c clean has db left =
+    or_commits (λ commits. let made = creates_in meta_text no_schema meta_schema meta_table make_meta_is make_meta_plain schema_is.0 refl (state g.S.Store c.args.conn.now) db has commits in (made.0, made.1))
+    (c.in-Ok.ensures.survives.crash clean db left)
+
+pub returns-in-Err-clause-crash : goal.returns-in-Err-clause-crash
+returns-in-Err-clause-crash g c clean has db left =
+    or_commits (λ commits. let made = creates_in meta_text no_schema meta_schema meta_table make_meta_is make_meta_plain schema_is.0 refl (state g.S.Store c.args.conn.now) db has commits in (made.0, made.1))
+    (c.in-Err.ensures.survives.crash clean db left)

@@ -1,6 +1,6 @@
 use Rattle.std.proofs.Common.{◌≡◌, Bool, true, false, [], ◌∷◌, Err, refl, ap, ◌∙◌, arith}
 use Rattle.std.proofs.lemmas.Result.{err_from_is_err_and}
-use Rattle.sb_session.proofs.Saying.{received_wrote}
+use Rattle.sb_session.proofs.Saying.{received_wrote, unread}
 use Rattle.sb_session.specs.Talks.{party_of}
 use Rattle.sb_session.proofs.Talking.{
   Talking,
@@ -116,6 +116,7 @@ loop-buffer-init g c =
           (begun g (goal.at.loop-buffer-init g c).In_ok-say) spoke;
       goes = goes_on step a c.args.all c.args.first c.args.handler.now c.speak.new.session c.speak.new.handler c.new-frames.result (rem c.args.reader.now)
           (rem c.args.reader.now) (put c.args.writer.now) (put c.say.new.writer) (put c.speak.new.writer) c.args.max_reads c.args.max_reads spoke;
+      unfailed = c.in_ok-speak.ensures.goes_on;
       grows = c.in_ok-speak.ensures.grows;
       counted = refl;
     }
@@ -220,6 +221,7 @@ loop-buffer-preserved-else-branch-2 g c =
       grows = g.met.H.Handler.grows_on c.args.handler.now c.hear.new.handler c.speak-then-ends.new.handler
           (g.met.H.Handler.grows_on c.args.handler.now c.loop-buffer.handler c.hear.new.handler c.loop-buffer.invariant.grows c.in_ok-reason.ensures.grows)
           c.in_ok-speak-2.ensures.grows;
+      unfailed = c.in_ok-speak-2.ensures.goes_on;
       counted = omega (arith, c.loop-buffer.invariant.counted, c.receive_within.ensures.counted);
     }
 
@@ -230,6 +232,7 @@ loop-buffer-preserved g c =
       talking = turned g (goal.at.loop-buffer-preserved g c).After-rounds_after-rounds false c.if-ends.false;
       goes = still_goes c.ends_round-ends.result c.loop-buffer.rounds c.rounds_after-rounds.result c.rounds_after-rounds.ensures c.if-ends.false i.goes;
       grows = g.met.H.Handler.grows_on c.args.handler.now c.loop-buffer.handler c.hear.new.handler i.grows c.in_ok-reason.ensures.grows;
+      unfailed = c.in_ok-reason.ensures.goes_on;
       counted = omega (arith, i.counted, c.receive_within.ensures.counted);
     }
 
@@ -247,3 +250,23 @@ returns-clause-talks g c =
           c.in_ok-message.ensures.gives),
       omega (arith, i.counted, c.receive_within.ensures.counted),
     )
+
+pub returns-in_err-say-clause-read : goal.returns-in_err-say-clause-read
+returns-in_err-say-clause-read g c =
+    let p = err_from_is_err_and c.from_residual.result c.from_residual.ensures.1 in
+    unread c.from_residual.result _ _ (p.1 ∙ ap Err p.2) c.in_err-say.ensures.unread
+
+pub returns-in_err-speak-clause-read : goal.returns-in_err-speak-clause-read
+returns-in_err-speak-clause-read g c =
+    let p = err_from_is_err_and c.from_residual-in_err-speak.result c.from_residual-in_err-speak.ensures.1 in
+    unread c.from_residual-in_err-speak.result _ _ (p.1 ∙ ap Err p.2) c.in_err-speak.ensures.unread
+
+pub returns-in_err-reason-clause-read : goal.returns-in_err-reason-clause-read
+returns-in_err-reason-clause-read g c =
+    let p = err_from_is_err_and c.from_residual-in_err-reason.result c.from_residual-in_err-reason.ensures.1 in
+    unread c.from_residual-in_err-reason.result _ _ (p.1 ∙ ap Err p.2) c.in_err-reason.ensures.unread
+
+pub returns-in_err-speak-2-clause-read : goal.returns-in_err-speak-2-clause-read
+returns-in_err-speak-2-clause-read g c =
+    let p = err_from_is_err_and c.from_residual-in_err-speak-2.result c.from_residual-in_err-speak-2.ensures.1 in
+    unread c.from_residual-in_err-speak-2.result _ _ (p.1 ∙ ap Err p.2) c.in_err-speak-2.ensures.unread

@@ -13,4 +13,4 @@ pub returns-in-Ok-insert-clause-ok : goal.returns-in-Ok-insert-clause-ok
 returns-in-Ok-insert-clause-ok c =
     with_inserted c.args.rows.now.entries c.insert.new.self.entries c.args.key c.new.result c.requires.ordered c.insert.ensures.ordered c.in-Ok-insert.ensures.updates.0
     ∙ ap (insert (rows_of c.args.rows.now.entries) c.args.key)
-    (c.new.ensures ∙ ap (λ (v : Value). (v, c.args.version)) (copied c.args.value.now c.in-Ok.copy c.in-Ok.ensures))
+    (c.new.ensures ∙ ap (λ (v : Value). (v, c.args.version)) (copied c.args.value.now c.in-Ok.copy c.in-Ok.ensures.copied))

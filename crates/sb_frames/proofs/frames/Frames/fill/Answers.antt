@@ -11,7 +11,7 @@ returns-clause-filled g c =
     let old = f.bytes.items in
     let o = open_view f.is_closed (drop f.taken old) c.args.self.now c.self.view_is c.requires.open in
     let all = c.deref_mut.result.now in
-    let got = c.read_within-answer.new.bytes in
+    let got = c.read_telling-answer.new.bytes in
     let start = c.len-start.result in
     let is : start ≡ length old = omega arith in
     let most : length all ≡ start + READ_LENGTH = omega (arith, c.deref_mut.ensures.len, c.in_ok-resize.ensures.len) in
@@ -32,12 +32,12 @@ returns-clause-filled g c =
       length-drop start all,
       c.in_ok-resize.ensures.len,
     ) in
-    let counted : c.unwrap_or-count.result ≡ count_in c.read_within-answer.result = c.unwrap_or-count.ensures ∙ same_count c.read_within-answer.result in
+    let counted : c.unwrap_or-count.result ≡ count_in c.read_telling-answer.result = c.unwrap_or-count.ensures ∙ same_count c.read_telling-answer.result in
     let front : take start all ≡ old = ap (take start) (c.deref_mut.ensures.value ∙ c.in_ok-resize.ensures.items) ∙ resized_front old _ start (start + READ_LENGTH) is (omega arith) in
     let whole : c.truncate.new.self.items ≡ take (start + c.unwrap_or-count.result) after =
     c.truncate.ensures.items ∙ ap (take (start + c.unwrap_or-count.result)) (with_items_is c.resize.new.self after whole_len) in
-    let items : c.truncate.new.self.items ≡ old ++ take (count_in c.read_within-answer.result) got =
+    let items : c.truncate.new.self.items ≡ old ++ take (count_in c.read_telling-answer.result) got =
     whole ∙ ap (λ n. take (start + n) after) counted
-    ∙ read_in old all got post start (count_in c.read_within-answer.result) is front (within_got _ _ got _ _ c.read_within-answer.result c.read_within-answer.ensures.gives) in
-    rw (o.1, o.0) (fills_by old f.taken (g.R.Read.remaining c.args.reader.now) (g.R.Read.remaining c.read_within-answer.new.reader) c.args.left.now c.read_within-answer.new.left
-    c.read_within-answer.result got c.truncate.new.self.items (omega (arith, c.self.invariant)) size c.read_within-answer.ensures.gives items)
+    ∙ read_in old all got post start (count_in c.read_telling-answer.result) is front (within_got _ _ got _ _ c.read_telling-answer.result c.read_telling-answer.ensures.gives) in
+    rw (o.1, o.0) (fills_by old f.taken (g.R.Read.remaining c.args.reader.now) (g.R.Read.remaining c.read_telling-answer.new.reader) c.args.left.now c.read_telling-answer.new.left
+    c.read_telling-answer.result got c.truncate.new.self.items (omega (arith, c.self.invariant)) size c.read_telling-answer.ensures.gives items)

@@ -1,0 +1,29 @@
+-- The shortest items of counted lists: each is read back out of as few bytes.
+use Rattle.std.specs.Prelude.{◌≡◌, refl, false, [], ◌∷◌, length, Some}
+use Rattle.sb_types.specs.declared.entry.Slot.TheVariants.{Removed}
+use Rattle.sb_types.specs.Value.{Flag}
+use Rattle.sb_types.specs.Records.{Entry, Block}
+use Rattle.sb_digest.specs.Digests.{Pair, plain_pair}
+use Rattle.sb_codec.specs.Records.{Row, row_of}
+use Rattle.sb_codec.specs.Fields.{byte_field, bytes_field, number_field, text_field, list_field, times_field}
+use Rattle.sb_codec.specs.Spelling.{number, slot, content, entry, block, pair, row}
+use Rattle.sb_codec.specs.Reading.{name_field, key_field, flag_field, slot_field, value_field, entry_field, block_field, pair_field, row_field}
+
+abbrev pub first_removal : Entry
+first_removal = record { key = 97 ∷ []; version = 1; slot = Removed }
+
+pub entry_reached : (item : Entry) × (entry_field (entry item) ≡ Some (item, [])) × (length (entry item) ≡ 11)
+unfolding entry slot number entry_field key_field slot_field number_field text_field byte_field bytes_field
+entry_reached = (first_removal, refl, refl)
+
+pub block_reached : (item : Block) × (block_field (block item) ≡ Some (item, [])) × (length (block item) ≡ 23)
+unfolding block entry slot number block_field name_field list_field times_field entry_field key_field slot_field number_field text_field byte_field bytes_field
+block_reached = (record { owner = 97 ∷ []; floor = 0; after = 0; upto = 1; entries = first_removal ∷ [] }, refl, refl)
+
+pub pair_reached : (item : Pair) × (pair_field (pair item) ≡ Some (item, [])) × (length (pair item) ≡ 10)
+unfolding pair number pair_field name_field number_field text_field byte_field bytes_field
+pair_reached = (plain_pair (97 ∷ []) 0, refl, refl)
+
+pub row_reached : (item : Row) × (row_field (row item) ≡ Some (item, [])) × (length (row item) ≡ 14)
+unfolding row content number row_field name_field key_field value_field flag_field number_field text_field byte_field bytes_field
+row_reached = (row_of (97 ∷ []) (97 ∷ []) 1 (Flag false), refl, refl)

@@ -1,0 +1,25 @@
+//! How a running node is.
+
+use crate::peers::Peer;
+use sb_views::Snapshot;
+
+/// How a running node is, as the thread that dials finds it.
+#[derive(Drop)]
+pub struct Status<'a> {
+    /// How many rounds it made.
+    pub rounds: u64,
+    /// How many of them had a fault.
+    pub faults: u64,
+    /// How many connections of peers it took.
+    pub sessions: u64,
+    /// How many keys its own table has, removed ones counted.
+    pub keys: usize,
+    /// Whether its log takes writes.
+    pub is_log_open: bool,
+    /// The version under its name that another node wrote; none where no such was seen.
+    pub conflict: Option<u64>,
+    /// What its readers are shown, owner by owner.
+    pub snapshot: Snapshot<'a>,
+    /// Whom it dials.
+    pub peers: &'a [Peer<'a>],
+}
