@@ -31,6 +31,12 @@ def chain(check, *options):
     nodes = [check.node(it, *options, folder=folder, peers=[sock[peer] for peer in peers[it]]) for it in "abc"]
     for node in nodes:
         node.start()
+    end = time.monotonic() + SECONDS
+    for node in nodes:
+        while not all(any(it.endswith(f"peer {peer}: answers") for it in node.lines()) for peer in node.peers):
+            if time.monotonic() > end:
+                raise Difference(f"the peers of {node.name} do not answer: {node.lines()}")
+            time.sleep(0.01)
     return nodes
 
 
