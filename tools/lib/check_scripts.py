@@ -6,6 +6,7 @@ import socket
 import subprocess
 import threading
 import time
+from types import SimpleNamespace
 
 from check_asking import MadeUp, rows
 from check_watch import Watching
@@ -161,6 +162,26 @@ def tell(node, owner, after, *entries):
             pass
 
 
+def away_and_back(control):
+    """What a watch that goes on says of a node that did not answer, and then did."""
+    return [f"attrdir: warning control socket {control}: does not answer", f"attrdir: info control socket {control}: answers"]
+
+
+def pages_apart(check):
+    """The node was started again, and heard of an owner between two pages: none of the owner's rows is gone that the first page could not have."""
+    node = SimpleNamespace(program=check.program, control=check.folder() / "made.ctl")
+    MadeUp(node.control, [rows(("a", "b1", 5, 1), ("a", "z", 6, 1))])
+    watch = Watching(node, "--retry", "--every", "20", "--count", "3")
+    try:
+        watch.awaits(["set a b1 5 weight 1", "set a z 6 weight 1"])
+        node.control.unlink()
+        whole = rows(("a", "b1", 5, 1), ("a", "c1", 1, 1), ("a", "z", 100, 1))
+        MadeUp(node.control, [rows(("a", "c1", 1, 1), more=1), rows(("a", "z", 100, 1)), whole])
+        want("its end", watch.ended()[:2], (0, ["set a c1 1 weight 1", "set a z 100 weight 1"]))
+    finally:
+        watch.stop()
+
+
 def outlasting(check):
     """A watch that goes on keeps what it printed over a restart of its node, and takes it back only where the node knows better."""
     node = check.node("a").start()
@@ -188,12 +209,12 @@ def outlasting(check):
         time.sleep(0.2)
         node.start()
         tell(node, "p", 0, ("x", 6, 60))
-        watch.awaits(["gone p v", "set p x 6 weight 60", "gone p z"])
+        watch.awaits(["set p x 6 weight 60", "gone p v", "gone p z"])
         want("that it runs", watch.ran.poll(), None)
     finally:
         watch.stop()
     said = watch.ran.stderr.read().splitlines()
-    want("what it said", set(said) - {f"attrdir: control socket {node.control} {it}" for it in ("does not answer", "answers")}, set())
+    want("what it said", set(said) - set(away_and_back(node.control)), set())
     want("without --retry", node.command("watch", "--count", "1"), (0, "set p x 6 weight 60\n", ""))
 
 
@@ -205,7 +226,7 @@ def waiting(check):
         time.sleep(0.3)
         want("that it waits", watch.ran.poll(), None)
         node.start()
-        want("its end", watch.ended(), (0, ["asked"], [f"attrdir: control socket {node.control} {it}" for it in ("does not answer", "answers")]))
+        want("its end", watch.ended(), (0, ["asked"], away_and_back(node.control)))
     finally:
         watch.stop()
     wrong("what is no control socket", run(check.program, "watch", "--retry", "--control", str(node.sock)), 3, "fault 13")
@@ -302,4 +323,4 @@ def made_up_digests(check):
         want(f"its first messages at {what}", made.messages[:2], begins)
 
 
-PARTS = (one_row, lines_of_input, environment, marks, outlasting, waiting, owners, whole_sessions, made_up_digests)
+PARTS = (one_row, lines_of_input, environment, marks, outlasting, pages_apart, waiting, owners, whole_sessions, made_up_digests)

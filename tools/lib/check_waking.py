@@ -7,10 +7,8 @@ import socket
 import threading
 import time
 
-from nodes import SECONDS, Difference, ask, connect, exchange, number, put, version_of, want, weight
-
-# How many milliseconds no part waits out.
-LONG = "60000"
+from check_serving import Peer
+from nodes import SECONDS, Difference, ask, connect, exchange, hello, number, put, version_of, want, weight
 
 
 def seconds_until(node, owner, version):
@@ -58,6 +56,23 @@ def news(check):
     seconds = seconds_until(other, "a", node.put("k", 1))
     if seconds < 1:
         raise Difference(f"with --fanout 0 a write took {seconds:.2f} s")
+
+
+def faulty_peers(check):
+    """A peer whose last round had a fault is dialed in its turn alone, whatever news there is."""
+    folder, dialed = check.folder(), []
+    Peer(folder / "wrong.sock", 0, dialed, hello("x", "d"))
+    other = check.node("b", folder=folder).start()
+    node = check.node("a", "--pause", "2000", folder=folder, peers=[folder / "wrong.sock", other.sock]).start()
+    end = time.monotonic() + SECONDS
+    while len(node.lines()) < 3 and time.monotonic() < end:
+        time.sleep(0.01)
+    before, began = len(dialed), time.monotonic()
+    for at in range(20):
+        seconds_until(other, "a", node.put("k", at))
+    turns = 1 + (time.monotonic() - began) // 2
+    if len(dialed) - before > turns:
+        raise Difference(f"a peer of another cluster was dialed {len(dialed) - before} times in {time.monotonic() - began:.2f} s of news")
 
 
 class Swallower:
@@ -175,4 +190,4 @@ def times(check):
     want("how its lines begin", [bool(re.match(moment, it)) for it in said], [True, True])
 
 
-PARTS = (news, silent_peers, silent_callers, full_disks, left_sockets, times)
+PARTS = (news, faulty_peers, silent_peers, silent_callers, full_disks, left_sockets, times)

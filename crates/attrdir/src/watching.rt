@@ -163,8 +163,9 @@ impl Kept {
             self.shown.clear();
         }
         self.mark = mark;
-        enter_all(&mut self.shown, found)?;
+        // The pages of a listing are not of one moment: only what was shown before its first page is known on each.
         let rows = kept_rows(rt.alloc(), &self.rows, found, &self.shown)?;
+        enter_all(&mut self.shown, found)?;
         print_difference(rt, &self.rows, &rows, marks)?;
         self.rows = rows;
         self.count = self.count.saturating_add(1);
@@ -175,12 +176,11 @@ impl Kept {
     fn tell(&mut self, rt: &HostRuntime, control: &str, is_away: bool) {
         if is_away != self.is_away {
             self.is_away = is_away;
-            let how = if is_away {
-                "does not answer"
+            let _ = if is_away {
+                eprintln!(rt; "attrdir: warning control socket {control}: does not answer")
             } else {
-                "answers"
+                eprintln!(rt; "attrdir: info control socket {control}: answers")
             };
-            let _ = eprintln!(rt; "attrdir: control socket {control} {how}");
         }
     }
 
@@ -210,7 +210,7 @@ impl Kept {
 }
 
 /// Does what `watch` does, and goes on where the node does not answer: what was printed stands. That a row is gone is printed only once
-/// the node, since it was started, has shown a row of that owner of the same version or a later one; and a row of an earlier version
+/// the node, since it was started, has shown at an asking before a row of that owner of the same version or a later one; and a row of an earlier version
 /// than was printed is not printed. It ends after as many askings that were answered as it is to make.
 pub(crate) fn watch_on<'a>(
     rt: &HostRuntime,

@@ -67,7 +67,7 @@ fn run_a<
 }
 
 /// The same, with this observer.
-fn run_observed<
+pub(crate) fn run_observed<
     R: Threads
         + Wait
         + Clock

@@ -1,40 +1,21 @@
 //! When a node that runs dials, how long it waits for others, and what it does with a socket that was left behind.
 
-use crate::making::{name, new_log, node_of, settings};
+use crate::making::{name, node_of, settings};
 use crate::peers::{next_of, node_with, put_is_done, reach, talk};
-use crate::running::{is_there, pace};
+use crate::running::{is_there, pace, run_observed};
 use crate::{got, holds, same};
 use sb_node::NodeCore;
-use sb_run::{Nobody, Observer, Pace, Paths, Ran, run_node};
+use sb_run::{Nobody, Observer, Paths};
 use sb_session::Ended;
 use sb_table::Table;
 use sb_types::Fault;
 use std::alloc::Global;
-use std::net::{Net, TcpListener, TcpStream};
+use std::net::Net;
 use std::os::unix::net::UnixListener;
 use std::process::Abort;
-use std::rt::Files;
-use std::sync::Wait;
 use std::sync::atomic::{AtomicU64, Ordering};
-use std::thread::Threads;
 use std::time::{Clock, Duration, Instant};
 use std::{fs, thread};
-
-/// Runs the node a with a new log.
-fn run_a<
-    R: Threads
-        + Wait
-        + Clock
-        + Files
-        + Net<Listener = TcpListener, Stream = TcpStream>
-        + Abort
-        + Send
-        + Sync,
-    O: Observer + Sync,
->(rt: &R, alloc: Global, paths: &Paths, pace: Pace, observer: &O) -> Result<Ran, Fault> {
-    let log = new_log(rt, alloc, b"a");
-    run_node(rt, alloc, settings(rt, 3), log, paths, pace, observer)
-}
 
 /// A node of the name b that wrote nothing.
 fn silent_b(rt: &impl Abort, alloc: Global) -> NodeCore {
@@ -87,7 +68,7 @@ fn news_is_passed_on_at_once(rt: HostRuntime) {
     pace.pause = 5_000;
     let (ran, heard) = thread::join(
         &rt,
-        || run_a(&rt, alloc, &paths, pace, &Nobody),
+        || run_observed(&rt, alloc, &paths, pace, &Nobody),
         || hear_as_b(&rt, alloc, &listener, &paths),
     );
     got(&rt, fs::remove_file(&rt, "wake.b"));
@@ -110,7 +91,7 @@ fn a_peer_that_keeps_it_waiting_is_passed_over_in_seven_turns(rt: HostRuntime) {
     pace.dial_idle = 300;
     let (ran, ()) = thread::join(
         &rt,
-        || run_a(&rt, alloc, &paths, pace, &Nobody),
+        || run_observed(&rt, alloc, &paths, pace, &Nobody),
         || {
             let mut of_b = silent_b(&rt, alloc);
             for _ in 0..8 {
@@ -140,7 +121,7 @@ fn a_request_has_to_be_whole_in_time(rt: HostRuntime) {
     pace.request = 300;
     let (ran, done) = thread::join(
         &rt,
-        || run_a(&rt, alloc, &paths, pace, &Nobody),
+        || run_observed(&rt, alloc, &paths, pace, &Nobody),
         || {
             let dialed = next_of(&rt, &listener);
             drop(dialed);
@@ -187,7 +168,7 @@ fn a_socket_that_was_left_is_removed_and_one_in_use_is_not(rt: HostRuntime) {
         removed: AtomicU64::new(0),
     };
     let listener = got(&rt, UnixListener::bind(&rt, "left.sock"));
-    let refused = run_a(&rt, alloc, &paths, pace(1, 0), &counter);
+    let refused = run_observed(&rt, alloc, &paths, pace(1, 0), &counter);
     let met = (
         refused,
         is_there(&rt, "left.sock"),
@@ -195,7 +176,7 @@ fn a_socket_that_was_left_is_removed_and_one_in_use_is_not(rt: HostRuntime) {
     );
     same(&rt, &met, &(Err(Fault::ReadFailed), true, false));
     drop(listener);
-    let ran = got(&rt, run_a(&rt, alloc, &paths, pace(1, 0), &counter));
+    let ran = got(&rt, run_observed(&rt, alloc, &paths, pace(1, 0), &counter));
     same(
         &rt,
         &(ran.rounds, counter.removed.load(Ordering::SeqCst)),
