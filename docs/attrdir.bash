@@ -27,7 +27,7 @@ _attrdir() {
 
   case $value_of in
     '') ;;
-    --log | --sock | --control)
+    --log | --sock | --control | --metrics)
       compopt -o filenames 2>/dev/null
       mapfile -t COMPREPLY < <(compgen -f -- "$word")
       return
@@ -51,7 +51,7 @@ _attrdir() {
   case $command in
     '') options='serve set del get watch owners log sim --help --version' ;;
     serve)
-      options='--name --cluster --log --sock --control --budget --order --max-version --seats --workers --rounds --pause --fanout --idle --dial-idle --request --max-reads --on-log-fault --log-time --help'
+      options='--name --cluster --log --sock --control --budget --order --max-version --seats --workers --rounds --pause --fanout --idle --dial-idle --request --max-reads --on-log-fault --log-time --metrics --help'
       ;;
     set | del) options='--control --help' ;;
     get) options='--control --owner --prefix --key --value --format --help' ;;

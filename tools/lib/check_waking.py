@@ -7,6 +7,7 @@ import socket
 import threading
 import time
 
+from check_metrics import awaits
 from check_serving import Peer
 from nodes import SECONDS, Difference, ask, connect, exchange, hello, number, put, version_of, want, weight
 
@@ -149,10 +150,13 @@ def fill(node):
 
 def full_disks(check):
     """A log that has no room closes: the node says so once, and goes on without writes, or ends with --on-log-fault exit."""
-    node = check.node("a")
+    folder = check.folder()
+    node = check.node("a", "--metrics", str(folder / "a.prom"), folder=folder)
     node.how["preexec_fn"] = without_room
     node.start()
+    awaits(folder / "a.prom", "a", {("attrdir_log_open",): 1})
     want("the write that had no room", fill(node), (3, "fault 18"))
+    awaits(folder / "a.prom", "a", {("attrdir_log_open",): 0})
     want("the next write", node.command("set", "k", "weight", "6")[2].splitlines()[0], "fault 15")
     rows = len(node.get())
     want("what it says", [it.split(":")[:3] for it in node.lines()[1:]], [["attrdir", f" error log {node.log}", " fault 18"]])

@@ -158,7 +158,7 @@ fn node_of<'a>(rt: &HostRuntime, given: &ArgMatches<'a>) -> Result<Next<'a>, Fai
         peers,
         pace: pace_of(given),
         has_time: given.get_flag("log-time"),
-        metrics: value(given, "metrics"),
+        metrics: given.get_str("metrics"),
     }))
 }
 

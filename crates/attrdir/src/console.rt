@@ -1,11 +1,12 @@
 //! What a node that runs says on standard error.
 use crate::metrics::Metrics;
+use crate::metrics_file::MetricsFile;
 use jiff::Timestamp;
 use sb_run::{Observer, Status};
 use sb_session::Ended;
 use sb_types::{Fault, KEYS_MOST, OWNERS_MOST};
+use std::fmt;
 use std::sync::atomic::{AtomicBool, Ordering};
-use std::{fmt, fs, io};
 
 /// How much a line matters.
 #[derive(Clone, Copy)]
@@ -51,23 +52,23 @@ pub(crate) struct Console<'r, 'a> {
     pub(crate) control: &'a str,
     /// Whether each line begins with the time.
     pub(crate) has_time: bool,
-    /// The file that tells how the node is; none where the path is empty.
-    pub(crate) metrics: &'a str,
-    /// Whether it was said that keys, and owners, run out.
-    pub(crate) is_full: Fullness,
+    /// The file that tells how the node is.
+    pub(crate) metrics: Option<MetricsFile<'a>>,
+    /// What was said to run out.
+    pub(crate) shortage: Shortage,
 }
 
-/// What was said to run out.
+/// Of what it was said that it runs out.
 #[derive(Drop)]
-pub(crate) struct Fullness {
+pub(crate) struct Shortage {
     keys: AtomicBool,
     owners: AtomicBool,
 }
 
-impl Fullness {
+impl Shortage {
     /// Nothing was said yet.
-    pub(crate) fn new() -> Fullness {
-        Fullness {
+    pub(crate) fn new() -> Shortage {
+        Shortage {
             keys: AtomicBool::new(false),
             owners: AtomicBool::new(false),
         }
@@ -77,15 +78,6 @@ impl Fullness {
 /// Whether so many of at most so many are nine tenths or more.
 fn is_nearly(count: usize, most: usize) -> bool {
     count.saturating_mul(10) >= most.saturating_mul(9)
-}
-
-/// Writes how the node is to a file, as a whole: another one is written beside it and takes its place.
-fn write_metrics(rt: &HostRuntime, path: &str, status: &Status<'_>) -> io::Result<()> {
-    let metrics = Metrics { status };
-    let beside = format!(in rt.alloc(); "{path}.new")?;
-    let text = format!(in rt.alloc(); "{metrics}")?;
-    fs::write(rt, beside.as_str(), text.as_str())?;
-    fs::rename(rt, beside.as_str(), path)
 }
 
 impl Console<'_, '_> {
@@ -113,6 +105,28 @@ impl Console<'_, '_> {
                 "{head} node {}: {count} of {most} {what} are used",
                 self.name
             );
+        }
+    }
+
+    /// Writes the file of metrics, and says where it can't be written, and where it can again.
+    fn write_metrics(&self, file: &MetricsFile<'_>, metrics: &Metrics<'_, '_>) {
+        let rt = self.rt;
+        let written = file.write(rt, metrics);
+        if !file.note(&written) {
+            return;
+        }
+        let (info, warning) = (self.head(Level::Info), self.head(Level::Warning));
+        let path = file.path();
+        let _ = match written {
+            Ok(()) => eprintln!(rt; "{info} metrics {path}: written again"),
+            Err(error) => eprintln!(rt; "{warning} metrics {path}: cannot be written: {error}"),
+        };
+    }
+
+    /// Removes the file of metrics, which tells of a node that runs.
+    pub(crate) fn remove_metrics(&self) {
+        if let Some(file) = &self.metrics {
+            file.remove(self.rt);
         }
     }
 
@@ -172,15 +186,14 @@ impl Observer for Console<'_, '_> {
     }
 
     fn status(&self, status: &Status<'_>) {
-        let owners = status.snapshot.sheets().count();
-        self.warn(&self.is_full.keys, "keys", status.keys, KEYS_MOST);
-        self.warn(&self.is_full.owners, "owners", owners, OWNERS_MOST);
-        if !self.metrics.is_empty() && write_metrics(self.rt, self.metrics, status).is_err() {
-            let (rt, head) = (self.rt, self.head(Level::Warning));
-            let _ = eprintln!(rt;
-                "{head} metrics {}: they could not be written",
-                self.metrics
-            );
+        let metrics = Metrics {
+            name: self.name,
+            status,
+        };
+        self.warn(&self.shortage.keys, "keys", status.keys, KEYS_MOST);
+        self.warn(&self.shortage.owners, "owners", metrics.owners(), OWNERS_MOST);
+        if let Some(file) = &self.metrics {
+            self.write_metrics(file, &metrics);
         }
     }
 

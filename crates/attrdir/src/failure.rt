@@ -74,6 +74,8 @@ pub(crate) enum Place<'a> {
     Peer(&'a str),
     /// At one of the two sockets that a node makes.
     Sockets(&'a str, &'a str),
+    /// At the path for metrics, where something else is.
+    Metrics(&'a str),
 }
 
 /// A fault that ended a command.
@@ -188,6 +190,7 @@ fn write_text<W: fmt::Write>(
             | Place::NoFolder(_)
             | Place::Sockets(..),
         ) => f.write_str("a socket could not be made"),
+        (Fault::WriteFailed(_), Place::Metrics(_)) => f.write_str("metrics could not be written"),
         (Fault::StoreFailed, Place::NoLog(_)) => f.write_str(
             "there is no such log, or you may not read it",
         ),
@@ -277,6 +280,8 @@ fn about_exchange(fault: &Fault, place: Place<'_>) -> &'static str {
         Fault::WriteFailed(_) => match place {
             Place::Control(_) =>
                 "the node ended the connection: see whether it runs, and try again",
+            Place::Metrics(_) =>
+                "this is the path of the node's log or of a socket, or what is there is no file of metrics: give another path",
             _ =>
                 "see where standard output goes; what was printed before stands, and so does a write that was asked for",
         },
@@ -381,6 +386,7 @@ impl fmt::Display for Place<'_> {
             | Place::NoFolder(path) => write!(f, "socket {path}: "),
             Place::Peer(path) => write!(f, "peer {path}: "),
             Place::Sockets(sock, control) => write!(f, "sockets {sock} and {control}: "),
+            Place::Metrics(path) => write!(f, "metrics {path}: "),
         }
     }
 }

@@ -109,16 +109,18 @@ turns. A request that has not come whole within --request is dropped.
 
 Each line on standard error is `attrdir: LEVEL WHAT: ..`, where LEVEL is info, warning or error: the node listens; a peer answers, does
 not, or ended its session by a fault, after its first round and then whenever a round ends otherwise than the one before; a socket was left
-and is removed; the log cannot be written, or another node writes under this name. With --rounds the node ends after the last one and
+and is removed; the log cannot be written, or another node writes under this name; nine tenths of the keys, or of the owners, that a node
+may have are used; the file of --metrics cannot be written. That file tells of the node while it runs: it is written anew behind rounds, at
+most once a second and where a peer changed, and removed when the node ends by itself. With --rounds the node ends after the last one and
 prints `rounds R faults F events E` on standard output: R rounds were made, F of them and of the connections that came had a fault, and E
 events were seen, its own writes and each delta of a peer, also one that brought nothing. Without --rounds it runs until it is killed; each
 write that was answered by a version is in the log.
 
 A fault ends the node, with `fault N`, its text and what to do about it on standard error: 1 no memory, 2 the name, 5 a setting, 16 a
 socket cannot be made, as where a node listens or a file is at its path, or the path of a peer has none or more than 107 bytes, 17 the
-last line cannot be written, 18 the log is not there, cannot be read or written, or is open elsewhere, or a write failed and
---on-log-fault is exit, 19 the file is no log of this release, or a damaged one, 20 it belongs to another owner or cluster. A fault of a
-connection ends that connection alone, and is counted.
+last line cannot be written, or what is at the path of --metrics is no file of metrics, 18 the log is not there, cannot be read or
+written, or is open elsewhere, or a write failed and --on-log-fault is exit, 19 the file is no log of this release, or a damaged one, 20
+it belongs to another owner or cluster. A fault of a connection ends that connection alone, and is counted.
 
 The exit status is 0 after the last round, 2 after a command line that is wrong, and 3 after a fault.
 
@@ -132,7 +134,11 @@ Examples:
   a web/addr 1 addr 10.0.0.1:80
 
   $ touch one.log; attrdir serve --name one --cluster c --log one.log --sock one.sock --control one.ctl --rounds 1 --pause 0
-  rounds 1 faults 0 events 0";
+  rounds 1 faults 0 events 0
+
+  $ attrdir serve --name a --cluster c --log a.log --sock a.sock --control a.ctl --metrics a.prom &
+  $ sleep 2; grep ^attrdir_log_open a.prom
+  attrdir_log_open{node=\"a\"} 1";
 
 pub(crate) const SET: &str =
     "KIND and VALUE are addr TEXT, weight NUMBER or flag true|false. Where KEY or VALUE begins with -, put -- before KEY. The node answers

@@ -12,6 +12,7 @@ mod help;
 mod keeping;
 mod log_file;
 mod metrics;
+mod metrics_file;
 mod one_row;
 mod owners;
 mod pausing;

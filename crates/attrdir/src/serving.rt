@@ -1,7 +1,8 @@
 //! A node that runs.
-use crate::console::{Console, Fullness};
+use crate::console::{Console, Shortage};
 use crate::failure::{Failure, Place, Setting};
 use crate::log_file::open_log;
+use crate::metrics_file::{MetricsFile, may_replace, writes_over};
 use crate::words::name_of;
 use sb_log::WriteLog;
 use sb_run::{Pace, Paths, Ran, run_node};
@@ -31,8 +32,8 @@ pub(crate) struct Given<'a> {
     pub(crate) pace: Pace,
     /// Whether each line on standard error begins with the time.
     pub(crate) has_time: bool,
-    /// The file that tells how the node is; none where the path is empty.
-    pub(crate) metrics: &'a str,
+    /// The path of the file that tells how the node is.
+    pub(crate) metrics: Option<&'a str>,
 }
 
 /// Prints what the node did. `WriteFailed` where standard output does not take it.
@@ -98,6 +99,17 @@ fn unreachable_peer<'a>(given: &Given<'a>) -> Option<&'a str> {
         .find(|path| path.is_empty() || path.len() > SOCKET_PATH_MOST)
 }
 
+/// The path for metrics, where these would take the place of something else.
+fn taken_for_metrics<'a>(rt: &HostRuntime, given: &Given<'a>) -> Option<&'a str> {
+    let path = given.metrics?;
+    for other in [given.log, given.sock, given.control] {
+        if writes_over(path, other) {
+            return Some(path);
+        }
+    }
+    if may_replace(rt, path) { None } else { Some(path) }
+}
+
 /// Where a node that does not run met its fault.
 fn place_of<'a>(rt: &HostRuntime, fault: &Fault, given: &Given<'a>) -> Place<'a> {
     match fault {
@@ -138,8 +150,8 @@ fn run<
         sock: given.sock,
         control: given.control,
         has_time: given.has_time,
-        metrics: given.metrics,
-        is_full: Fullness::new(),
+        metrics: given.metrics.map(MetricsFile::new),
+        shortage: Shortage::new(),
     };
     let ran = run_node(
         runtime,
@@ -150,6 +162,7 @@ fn run<
         given.pace,
         &console,
     );
+    console.remove_metrics();
     match ran {
         Ok(ran) => {
             console.ended();
@@ -160,7 +173,8 @@ fn run<
 }
 
 /// Runs a node. `BadName` of its name, then `BadSetting`, of too few seats too, then `ReadFailed` where the path of a peer is none
-/// of a socket, before the log is opened; then the faults of `open_log` and of `run_node`, and `WriteFailed` of what is printed at the end.
+/// of a socket, and `WriteFailed` where metrics would take the place of something else, before the log is opened; then the faults of
+/// `open_log` and of `run_node`, and `WriteFailed` of what is printed at the end.
 pub(crate) fn serve<
     'a,
     R: Threads
@@ -181,6 +195,9 @@ pub(crate) fn serve<
     }
     if let Some(path) = unreachable_peer(given) {
         return Err(Failure::at(Place::Peer(path), Fault::ReadFailed));
+    }
+    if let Some(path) = taken_for_metrics(rt, given) {
+        return Err(Failure::at(Place::Metrics(path), Fault::WriteFailed(0)));
     }
     let (cluster, max_version) = (settings.cluster(), settings.max_version());
     let log = open_log(rt, given.log, name, cluster, max_version)?;

@@ -39,6 +39,8 @@ pub(crate) enum Call {
     Poll(usize),
     Refresh,
     Conflict,
+    /// The keys of its own table are counted.
+    Keys,
     /// The reader enters, and leaves.
     Read,
     /// A digest of all owners is made, and the delta for a peer that holds nothing.
@@ -57,6 +59,7 @@ pub(crate) enum Answer {
     NotShown,
     Polled(Polled),
     Conflict(Option<u64>),
+    Keys(usize),
     /// How many events the reader has seen, and how far a and b are held.
     Read(u64, u64, u64),
     /// How far the digest tells that a and b are held, and how many blocks the delta has.
@@ -133,6 +136,7 @@ impl<S: Site, H: Wait + Drop> Desk<S, H> {
             Call::Poll(place) => self.poll(rt, place),
             Call::Refresh => shown(self.locked.refresh(), Answer::Shown),
             Call::Conflict => Answer::Conflict(self.locked.conflict()),
+            Call::Keys => Answer::Keys(self.locked.keys()),
             Call::Read => self.read(rt),
             Call::Tell => self.tell(rt),
         }

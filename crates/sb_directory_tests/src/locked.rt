@@ -93,6 +93,19 @@ fn at_most_64_watches_stand(rt: HostRuntime) {
 }
 
 #[test]
+fn own_keys_are_counted(rt: HostRuntime) {
+    let cases = [
+        (Call::Keys, Answer::Keys(0)),
+        (Call::Write(b"x"), Answer::Shown),
+        (Call::Write(b"y"), Answer::Shown),
+        (Call::Write(b"x"), Answer::Shown),
+        (Call::Delta(b"b", 0, b"xyz"), taken(3)),
+        (Call::Keys, Answer::Keys(2)),
+    ];
+    answers(&rt, rt.alloc(), &cases);
+}
+
+#[test]
 fn own_writes_come_once(rt: HostRuntime) {
     let cases = [
         (Call::TakeOfAnother, refused(Fault::WrongOwner)),

@@ -140,14 +140,15 @@ pub(crate) fn all_shown(rt: &impl Abort, shown: bool) {
     }
 }
 
-/// The version of a write from one of two seats, and how the directory closes with the other alone, and with both.
+/// The version of a write from one of two seats, how many keys it finds then, and how the directory closes with the other alone,
+/// and with both.
 fn write_and_close<S: Configured, R: Wait + Abort>(
     rt: &R,
     alloc: Global,
     opened: Opened,
     blank: Blank,
     core: NodeCore,
-) -> (u64, Closed)
+) -> (u64, usize, Closed)
     requires story { opened.seen.book ≡ S.story }
     requires opening { S.opening ≡ core.node }
     requires settings { S.settings ≡ core.settings }
@@ -159,7 +160,8 @@ fn write_and_close<S: Configured, R: Wait + Abort>(
     let (directory, mut seats) = got(rt, made);
     let mut kept = there(rt, seats.pop());
     let version = write(rt, alloc, &directory, &mut kept);
-    (version, close_twice(rt, directory, seats, kept))
+    let keys = directory.keys(rt, &mut kept);
+    (version, keys, close_twice(rt, directory, seats, kept))
 }
 
 #[test]
@@ -167,5 +169,5 @@ fn a_directory_is_closed_with_all_seats(rt: HostRuntime) {
     let alloc = rt.alloc();
     let core = new_node(&rt, alloc);
     let closed = write_and_close::<Brand, _>(&rt, alloc, Opened::new(), Blank::new(2), core);
-    same(&rt, &closed, &(1, (5, 1, 1, 1)));
+    same(&rt, &closed, &(1, 1, (5, 1, 1, 1)));
 }

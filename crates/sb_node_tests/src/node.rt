@@ -205,6 +205,29 @@ fn own_writes_come_once(rt: HostRuntime) {
     same(&rt, &[again, other], &wanted);
 }
 
+/// How many keys a node has that is new, wrote under two keys, wrote again, and removed one; and took a block of another.
+fn keys_in_turn(rt: &impl Abort, alloc: Global) -> [usize; 5] {
+    let mut log = log_of(rt, alloc, name(rt, b"a"));
+    let mut core = least(rt, alloc, b"a");
+    let at_first = core.keys();
+    weigh(rt, &mut core, &mut log, b"x", 5);
+    weigh(rt, &mut core, &mut log, b"y", 6);
+    let of_two = core.keys();
+    weigh(rt, &mut core, &mut log, b"x", 7);
+    let written_again = core.keys();
+    write(rt, &mut core, &mut log, b"y", &Slot::Removed);
+    let removed = core.keys();
+    let of_b = block(rt, alloc, name(rt, b"b"), 0, b"uvw");
+    let taken = take_one(rt, &mut core, alloc, of_b, BlockEnd::Taken(3));
+    holds(rt, "the block of another is taken", taken);
+    [at_first, of_two, written_again, removed, core.keys()]
+}
+
+#[test]
+fn keys_count_own_ones_also_removed(rt: HostRuntime) {
+    same(&rt, &keys_in_turn(&rt, rt.alloc()), &[0, 2, 2, 2, 2]);
+}
+
 /// Of a node that writes x, takes a block, and writes y: whether the block ends so, the conflict, and the answer to the
 /// second write.
 fn write_around(

@@ -26,7 +26,7 @@ const HELLO: usize = 12;
 const HELLO_OF_C2: &[u8] = b"\xa7\x01\x00\x00\x00\x06\x01\x02c2\x01b";
 
 /// The Hello of the node b of the cluster c1, and a delta in which a has written the weight 5 under w.
-const WRITTEN_AS_A: &[u8] =
+pub(crate) const WRITTEN_AS_A: &[u8] =
     b"\xa7\x01\x00\x00\x00\x06\x01\x02c1\x01b\xa7\x01\x00\x00\x00\x22\x03\x00\x01\x01a\
 \x00\x00\x00\x00\x00\x00\x00\x00\x00\x01\x01w\x00\x00\x00\x00\x00\x00\x00\x01\x02\x00\x00\x00\x00\x00\x00\x00\x05";
 
@@ -361,7 +361,7 @@ fn new_keeper<R>(rt: &R, alloc: Global) -> Keeper<'_, R> {
 }
 
 /// Says this and no more where it is dialed next, and hears until the node hangs up.
-fn answer_by(rt: &impl Abort, listener: &UnixListener, says: &[u8]) {
+pub(crate) fn answer_by(rt: &impl Abort, listener: &UnixListener, says: &[u8]) {
     let dialed = next_of(rt, listener);
     let (mut writer, mut reader) = (&dialed, &dialed);
     got(rt, writer.write_all(says));

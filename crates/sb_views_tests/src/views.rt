@@ -8,7 +8,9 @@ use crate::reading::{Look, entered, read};
 use crate::{got, holds, same, there};
 use sb_holdings::{BlockEnd, Holdings, Report};
 use sb_types::{Block, Delta, Entry, Key, Name, Value, ValueRef};
-use sb_views::{Batch, Front, Opened, Reader, Row, Rows, Site, Snapshot, Story, ViewWriter, views};
+use sb_views::{
+    Batch, Front, Opened, OwnerSheets, Reader, Row, Rows, Site, Snapshot, Story, ViewWriter, views,
+};
 use std::alloc::Global;
 use std::marker::Brand;
 use std::process::Abort;
@@ -183,9 +185,32 @@ fn rows_come_in_order(rt: &impl Abort, snapshot: &Snapshot<'_>) {
     rows_are(rt, snapshot, b"c", b"", &[]);
 }
 
+/// Whether just these owners come, each with how far it is held and how many rows it has.
+fn are_sheets(mut sheets: OwnerSheets<'_>, wanted: &[(&[u8], u64, usize)]) -> bool {
+    for (name, upto, count) in wanted {
+        match sheets.next() {
+            Some((owner, sheet)) if owner.bytes() == *name => {
+                if sheet.upto() != *upto || sheet.len() != *count {
+                    return false;
+                }
+            }
+            _ => return false,
+        }
+    }
+    sheets.next().is_none()
+}
+
+/// The sheet of each owner of whom something is held.
+fn sheets_come_in_order(rt: &impl Abort, snapshot: &Snapshot<'_>) {
+    let wanted: [(&[u8], u64, usize); 2] = [(b"a", 4, 2), (b"b", 1, 1)];
+    let come = are_sheets(snapshot.sheets(), wanted.as_slice());
+    holds(rt, "the sheets of its owners come in order", come);
+}
+
 pub(crate) fn live_is_shown(rt: &impl Abort, snapshot: &Snapshot<'_>) {
     keys_are_shown(rt, snapshot);
     rows_come_in_order(rt, snapshot);
+    sheets_come_in_order(rt, snapshot);
 }
 
 #[test]

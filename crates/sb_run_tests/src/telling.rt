@@ -1,0 +1,176 @@
+//! What a node that runs tells of how it is.
+
+use crate::making::name;
+use crate::peers::{next_of, node_with, put_is_done, reach, talk};
+use crate::running::{WRITTEN_AS_A, answer_by, pace, run_observed};
+use crate::{got, holds, same};
+use sb_run::{LastRound, Observer, Paths, Status};
+use sb_session::Ended;
+use sb_types::Fault;
+use std::alloc::Global;
+use std::net::Net;
+use std::os::unix::net::UnixListener;
+use std::process::Abort;
+use std::sync::{Mutex, Wait};
+use std::{fs, thread};
+
+/// What was told behind a round: how many rounds were made, and how many had a fault; how many peers connected; how many own keys there
+/// are; whether the log takes writes; and whether another writes under the name.
+#[derive(Clone, Copy, Debug, PartialEq, Eq)]
+struct Counted {
+    rounds: u64,
+    faults: u64,
+    sessions: u64,
+    keys: usize,
+    is_log_open: bool,
+    conflict: Option<u64>,
+}
+
+/// A node with this open log of one key.
+const WROTE_ONE: Counted = Counted {
+    rounds: 2,
+    faults: 1,
+    sessions: 1,
+    keys: 1,
+    is_log_open: true,
+    conflict: None,
+};
+
+/// How the last round with each of two peers ended, and of which number it was.
+type Ends = [(LastRound, u64); 2];
+
+/// How many owners are shown, and how far a, b and c are.
+type Shown = (usize, [u64; 3]);
+
+/// Keeps what was told behind the round of a number: once, and then nothing else.
+#[derive(Drop)]
+struct Listener<'a, R> {
+    rt: &'a R,
+    behind: u64,
+    told: Mutex<Option<(Counted, Ends, Shown)>>,
+}
+
+fn end_of(status: &Status<'_>, index: usize) -> (LastRound, u64) {
+    match status.peers.get(index) {
+        Some(peer) => (peer.last(), peer.round()),
+        None => (LastRound::Never, 99),
+    }
+}
+
+fn counted(status: &Status<'_>) -> Counted {
+    Counted {
+        rounds: status.rounds,
+        faults: status.faults,
+        sessions: status.sessions,
+        keys: status.keys,
+        is_log_open: status.is_log_open,
+        conflict: status.conflict,
+    }
+}
+
+fn shown(rt: &impl Abort, status: &Status<'_>) -> Shown {
+    let snapshot = &status.snapshot;
+    let upto = [
+        snapshot.upto(&name(rt, b"a")),
+        snapshot.upto(&name(rt, b"b")),
+        snapshot.upto(&name(rt, b"c")),
+    ];
+    (snapshot.sheets().count(), upto)
+}
+
+impl<R: Wait + Abort> Observer for Listener<'_, R> {
+    fn listening(&self) {}
+
+    fn dialed(&self, _peer: &str, _ended: &Result<Ended, Fault>) {}
+
+    fn conflict(&self, _version: u64) {}
+
+    fn wants_status(&self) -> bool {
+        true
+    }
+
+    fn status(&self, status: &Status<'_>) {
+        if status.rounds == self.behind {
+            let ends = [end_of(status, 0), end_of(status, 1)];
+            let told = (counted(status), ends, shown(self.rt, status));
+            *self.told.lock(self.rt) = Some(told);
+        }
+    }
+}
+
+fn new_listener<R>(rt: &R, behind: u64) -> Listener<'_, R> {
+    Listener {
+        rt,
+        behind,
+        told: Mutex::new(None),
+    }
+}
+
+/// Plays the owner, who writes, c, which dials, and b, which is dialed, each with a write of its own. Whether all of it succeeded.
+fn write_and_play<R: Net + Abort>(
+    rt: &R,
+    alloc: Global,
+    listener: &UnixListener,
+    paths: &Paths,
+) -> bool {
+    let dialed = next_of(rt, listener);
+    let done = put_is_done(rt, paths.control);
+    let mut of_c = node_with(rt, alloc, b"c", b"k");
+    let by_c = talk(rt, alloc, &mut of_c, &reach(rt, paths.sock), Some(2));
+    let mut of_b = node_with(rt, alloc, b"b", b"w");
+    let by_b = talk(rt, alloc, &mut of_b, &dialed, None);
+    done && by_c == Ended::RoundsDone && by_b == Ended::Bye(1)
+}
+
+#[test]
+fn a_node_tells_how_it_is(rt: HostRuntime) {
+    let paths = Paths {
+        sock: "tell.sock",
+        control: "tell.control",
+        peers: &["tell.nobody", "tell.b"],
+    };
+    let alloc = rt.alloc();
+    let observer = new_listener(&rt, 2);
+    let listener = got(&rt, UnixListener::bind(&rt, "tell.b"));
+    let (ran, played) = thread::join(
+        &rt,
+        || run_observed(&rt, alloc, &paths, pace(2, 0), &observer),
+        || write_and_play(&rt, alloc, &listener, &paths),
+    );
+    got(&rt, fs::remove_file(&rt, "tell.b"));
+    holds(&rt, "b, c and the owner were served", played);
+    same(&rt, &got(&rt, ran).rounds, &2);
+    let ends = [(LastRound::Failed(16), 1), (LastRound::Done, 2)];
+    let told = *observer.told.lock(&rt);
+    same(&rt, &told, &Some((WROTE_ONE, ends, (3, [1, 1, 1]))));
+}
+
+#[test]
+fn a_node_tells_of_another_under_its_name(rt: HostRuntime) {
+    let paths = Paths {
+        sock: "same.sock",
+        control: "same.control",
+        peers: &["same.b", "same.nobody"],
+    };
+    let alloc = rt.alloc();
+    let observer = new_listener(&rt, 1);
+    let listener = got(&rt, UnixListener::bind(&rt, "same.b"));
+    let (ran, ()) = thread::join(
+        &rt,
+        || run_observed(&rt, alloc, &paths, pace(1, 0), &observer),
+        || answer_by(&rt, &listener, WRITTEN_AS_A),
+    );
+    got(&rt, fs::remove_file(&rt, "same.b"));
+    same(&rt, &got(&rt, ran).faults, &0);
+    let wanted = Counted {
+        rounds: 1,
+        faults: 0,
+        sessions: 0,
+        keys: 0,
+        is_log_open: true,
+        conflict: Some(1),
+    };
+    let ends = [(LastRound::Early, 1), (LastRound::Never, 0)];
+    let told = *observer.told.lock(&rt);
+    same(&rt, &told, &Some((wanted, ends, (0, [0, 0, 0]))));
+}

@@ -1,0 +1,228 @@
+"""The parts of tools/check-node that look at the file in which a node tells how it is, and at the lines that say that keys or owners run out. Where
+Prometheus is there, its promtool reads each file that is looked at last."""
+import re
+import shutil
+import sqlite3
+import subprocess
+import time
+
+from nodes import BYE, SECONDS, Difference, connect, delta, frame, hello, number, read_frame, run, text, want, weight
+
+# each metric, in the order of the file, with its type and the labels of its values beside that of the node
+METRICS = {
+    "attrdir_rounds_total": ("counter", ()),
+    "attrdir_round_faults_total": ("counter", ()),
+    "attrdir_sessions_total": ("counter", ()),
+    "attrdir_log_open": ("gauge", ()),
+    "attrdir_name_conflict": ("gauge", ()),
+    "attrdir_keys": ("gauge", ()),
+    "attrdir_keys_limit": ("gauge", ()),
+    "attrdir_owners": ("gauge", ()),
+    "attrdir_owners_limit": ("gauge", ()),
+    "attrdir_held_version": ("gauge", ("owner",)),
+    "attrdir_rows": ("gauge", ("owner",)),
+    "attrdir_peer_up": ("gauge", ("peer",)),
+    "attrdir_peer_fault": ("gauge", ("peer",)),
+    "attrdir_peer_rounds_since": ("gauge", ("peer",)),
+}
+SAMPLE = re.compile(r"(\w+)\{(.*)\} (\d+)")
+LABEL = re.compile(r'(\w+)="((?:[^"\\]|\\.)*)"(?:,|$)')
+
+
+def sample_of(line):
+    """The name, the labels and the value of a line."""
+    found = SAMPLE.fullmatch(line)
+    labels = LABEL.findall(found[2]) if found else []
+    if not found or "".join(f'{name}="{value}",' for name, value in labels) != found[2] + ",":
+        raise Difference(f"{line!r} is no value of a metric")
+    return found[1], labels, int(found[3])
+
+
+def metrics_in(path, node):
+    """What the file says of a node: by name and label the value. Each metric stands once, with its help and its type above its values."""
+    content = path.read_text()
+    want("the end of the file", content[-1:], "\n")
+    names, values = [], {}
+    for line in content.splitlines():
+        if line.startswith("# HELP "):
+            names.append(line.split()[2])
+            if not line.split(" ", 3)[3].endswith("."):
+                raise Difference(f"{line!r} says nothing")
+        elif line.startswith("# TYPE "):
+            want("a type", line, f"# TYPE {names[-1]} {METRICS[names[-1]][0]}")
+        else:
+            name, labels, value = sample_of(line)
+            want("a name", name, names[-1])
+            want(f"the labels of {name}", [it for it, _ in labels], ["node", *METRICS[name][1]])
+            want(f"the node of {name}", labels[0][1], node)
+            place = (name, *(it for _, it in labels[1:]))
+            want(f"whether {place} stands twice", place in values, False)
+            values[place] = value
+    want("the metrics", names, list(METRICS))
+    return values
+
+
+def awaits(path, node, wanted, fits=lambda found: True):
+    """Reads the file again and again until it has these values, by name and label, and what it says fits."""
+    found, end = {}, time.monotonic() + SECONDS
+    while time.monotonic() < end:
+        if path.exists():
+            found = metrics_in(path, node)
+            if {it: found.get(it) for it in wanted} == wanted and fits(found):
+                return found
+        time.sleep(0.01)
+    raise Difference(f"{path.name} has {({it: found.get(it) for it in wanted})} in place of {wanted}")
+
+
+def awaits_line(node, line):
+    """Waits until a node has said a line; it says it once."""
+    end = time.monotonic() + SECONDS
+    while line not in node.lines() and time.monotonic() < end:
+        time.sleep(0.01)
+    time.sleep(0.3)
+    want(f"how many times {line!r} is said", node.lines().count(line), 1)
+
+
+def promtool_takes(check, path):
+    """Prometheus finds nothing wrong with the file."""
+    if shutil.which("promtool") is None:
+        check.lacking.add("promtool is here, so no file of metrics was read by it")
+        return
+    with open(path) as content:
+        ran = subprocess.run(["promtool", "check", "metrics"], stdin=content, capture_output=True, text=True)
+    want(f"what promtool says of {path.name}", (ran.returncode, ran.stdout, ran.stderr), (0, "", ""))
+
+
+def rows_of(owners):
+    """A Delta with one weight of each of these owners, from the first version on."""
+    told = b"".join(text(it) + number(0) + number(1, 2) + text("k") + number(1) + weight(5) for it in owners)
+    return frame(3, number(len(owners), 2) + told)
+
+
+def give(node, content):
+    """A session as the peer zz that brings this."""
+    with connect(node.sock) as stream:
+        stream.sendall(hello("zz") + content + BYE)
+        while read_frame(stream):
+            pass
+
+
+# ---- the parts
+
+
+def metrics(check):
+    """The file has what the node has, and says of each peer how the last round with it ended."""
+    folder = check.folder()
+    path, odd = folder / "a.prom", folder / 'o"d\\d.sock'
+    other = check.node("b", folder=folder).start()
+    want("writes", [other.put("k", 5), other.put("l", 6)], [1, 2])
+    peers = [other.sock, odd, other.sock]
+    node = check.node("a", "--pause", "100", "--metrics", str(path), folder=folder, peers=peers).start()
+    want("writes", [node.put("k", 5), node.put("l", 6), node.put("m", 7)], [1, 2, 3])
+    want("del", node.command("del", "l"), (0, "version 4\n", ""))
+    named = str(odd).replace("\\", "\\\\").replace('"', '\\"')
+    wanted = {(name,): value for name, value in (
+        ("attrdir_log_open", 1), ("attrdir_name_conflict", 0), ("attrdir_keys", 3), ("attrdir_keys_limit", 4096), ("attrdir_owners", 2),
+        ("attrdir_owners_limit", 1024), ("attrdir_sessions_total", 0),
+    )}
+    wanted.update({("attrdir_held_version", "a"): 4, ("attrdir_held_version", "b"): 2, ("attrdir_rows", "a"): 2, ("attrdir_rows", "b"): 2})
+    up, fault = ({(f"attrdir_peer_{it}", str(other.sock)): value for it, value in pair} for pair in ((("up", 1), ("fault", 0)), (("up", 0), ("fault", 16))))
+    nobody = {("attrdir_peer_up", named): 0, ("attrdir_peer_fault", named): 16}
+    found = awaits(path, "a", {**wanted, **up, **nobody})
+    want("the owners", sorted(it[1] for it in found if it[0] == "attrdir_held_version"), ["a", "b"])
+    want("the peers", sorted(it[1] for it in found if it[0] == "attrdir_peer_up"), sorted([str(other.sock), named]))
+    rounds, faults = (found[it,] for it in ("attrdir_rounds_total", "attrdir_round_faults_total"))
+    later = awaits(path, "a", {}, lambda it: it["attrdir_rounds_total",] >= rounds + 6)
+    more = [later["attrdir_rounds_total",] - rounds, later["attrdir_round_faults_total",] - faults]
+    # (of three turns one is nobody's)
+    if not more[0] - 3 <= 3 * more[1] <= more[0] + 3:
+        raise Difference(f"{more[1]} of {more[0]} rounds had a fault")
+    since = [later["attrdir_peer_rounds_since", it] for it in (str(other.sock), named)]
+    want("how many rounds ago a peer was dialed", (min(since), max(since) <= 3), (0, True))
+    other.kill()
+    awaits(path, "a", fault)
+    other.start()
+    awaits(path, "a", up)
+    promtool_takes(check, path)
+
+
+def metrics_of_state(check):
+    """The file says how many peers called and that another node writes under the name; it is written at most once a second, and is gone at the end."""
+    folder = check.folder()
+    path = folder / "a.prom"
+    node = check.node("a", "--pause", "10", "--rounds", "500", "--metrics", str(path), folder=folder).start()
+    none = {("attrdir_owners",): 1, ("attrdir_keys",): 0, ("attrdir_round_faults_total",): 0, ("attrdir_sessions_total",): 0}
+    found = awaits(path, "a", none)
+    want("the owners and the peers", [it for it in found if len(it) > 1], [])
+    give(node, delta("b", 0, [("k", 1, weight(5))]))
+    give(node, delta("a", 0, [("k", 1, weight(6))]))
+    awaits(path, "a", {("attrdir_owners",): 2, ("attrdir_name_conflict",): 1, ("attrdir_sessions_total",): 2, ("attrdir_held_version", "b"): 1})
+    promtool_takes(check, path)
+    files, end = [], time.monotonic() + 2.5
+    while time.monotonic() < end:
+        found = path.stat()
+        if (found.st_ino, found.st_mtime_ns) not in files[-1:]:
+            files.append((found.st_ino, found.st_mtime_ns))
+        time.sleep(0.01)
+    if not 2 <= len(files) <= 4:
+        raise Difference(f"the file was written {len(files)} times in 2.5 s")
+    # (another file takes its place, so that whoever reads it has a whole one)
+    want("a file that was written again", [one for one, other in zip(files, files[1:]) if one[0] == other[0]], [])
+    want("the end", node.ended()[:2], (0, "rounds 500 faults 0 events 2\n"))
+    want("the files at the end", sorted(it.name for it in folder.iterdir() if not it.name.endswith("-wal")), ["a.log"])
+
+
+def metrics_elsewhere(check):
+    """Where the file can't be written the node says so once, and goes on; a killed node leaves it, and its next start writes it. Nothing else is
+    written over."""
+    folder = check.folder()
+    path = folder / "none" / "a.prom"
+    node = check.node("a", "--pause", "10", "--metrics", str(path), folder=folder).start()
+    awaits_line(node, f"attrdir: warning metrics {path}: cannot be written: No such file or directory (os error 2)")
+    want("a write", node.put("k", 5), 1)
+    path.parent.mkdir()
+    awaits_line(node, f"attrdir: info metrics {path}: written again")
+    node.kill()
+    want("the keys that a killed node left", metrics_in(path, "a")["attrdir_keys",], 1)
+    node.start()
+    want("a write", node.put("l", 5), 2)
+    awaits(path, "a", {("attrdir_keys",): 2})
+    want("what is beside it", [it.name for it in path.parent.iterdir()], ["a.prom"])
+    node.kill()
+    other = folder / "other"
+    other.write_text("no metrics\n")
+    for taken in (node.log, node.sock, node.control, folder / "a.log-wal", folder, other):
+        node.options = ("--metrics", str(taken))
+        status, printed, said = run(*map(str, node.words()))
+        want(f"metrics at {taken.name}", (status, printed, said.splitlines()[:2]), (3, "", ["fault 17", "metrics could not be written"]))
+        want("the path that is named", f"metrics {taken}: " in said, True)
+    want("what is there still", other.read_text(), "no metrics\n")
+    want("its log", run(check.program, "log", "--log", str(node.log), "--name", "a", "--cluster", "c")[1].splitlines()[-1], "last 2")
+
+
+def shortages(check):
+    """At nine tenths of the keys, and of the owners, that a node may have it says so, once, with or without a file."""
+    folder = check.folder()
+    path = folder / "a.prom"
+    node = check.node("a", "--pause", "10", "--metrics", str(path), folder=folder)
+    want("a new log", run(check.program, "log", "--log", str(node.log), "--name", "a", "--cluster", "c")[1], "last 0\n")
+    with sqlite3.connect(node.log) as log:
+        log.executemany("INSERT INTO writes VALUES (?, ?, 2, 5, NULL)", [(f"k{at:04}", at) for at in range(1, 3687)])
+    log.close()
+    node.start()
+    give(node, rows_of([f"o{at:04}" for at in range(920)]))
+    awaits(path, "a", {("attrdir_keys",): 3686, ("attrdir_owners",): 921, ("attrdir_rows", "a"): 3686})
+    want("what it says", len(node.lines()), 1)
+    want("a write", node.put("l", 5), 3687)
+    awaits_line(node, "attrdir: warning node a: 3687 of 4096 keys are used")
+    give(node, rows_of(["o0920"]))
+    awaits_line(node, "attrdir: warning node a: 922 of 1024 owners are used")
+    want("how many lines it says", len(node.lines()), 3)
+    promtool_takes(check, path)
+    node.kill()
+    node.options = ("--pause", "10")
+    node.start()
+    awaits_line(node, "attrdir: warning node a: 3687 of 4096 keys are used")
+
+
+PARTS = (metrics, metrics_of_state, metrics_elsewhere, shortages)
