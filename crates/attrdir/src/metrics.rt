@@ -18,64 +18,89 @@ struct Metric {
     help: &'static str,
 }
 
-const fn counter(name: &'static str, help: &'static str) -> Metric {
-    Metric {
-        name,
-        kind: "counter",
-        help,
-    }
-}
+const ROUNDS: Metric = Metric {
+    name: "attrdir_rounds_total",
+    kind: "counter",
+    help: "Rounds that the node made.",
+};
 
-const fn gauge(name: &'static str, help: &'static str) -> Metric {
-    Metric {
-        name,
-        kind: "gauge",
-        help,
-    }
-}
+const FAULTS: Metric = Metric {
+    name: "attrdir_round_faults_total",
+    kind: "counter",
+    help: "Rounds that had a fault.",
+};
 
-const ROUNDS: Metric = counter("attrdir_rounds_total", "Rounds that the node made.");
+const SESSIONS: Metric = Metric {
+    name: "attrdir_sessions_total",
+    kind: "counter",
+    help: "Connections of peers that it took.",
+};
 
-const FAULTS: Metric = counter("attrdir_round_faults_total", "Rounds that had a fault.");
+const LOG_OPEN: Metric = Metric {
+    name: "attrdir_log_open",
+    kind: "gauge",
+    help: "1 where its log takes writes, else 0.",
+};
 
-const SESSIONS: Metric = counter("attrdir_sessions_total", "Connections of peers that it took.");
+const NAME_CONFLICT: Metric = Metric {
+    name: "attrdir_name_conflict",
+    kind: "gauge",
+    help: "1 where another node writes under its name, else 0.",
+};
 
-const KEYS: Metric = gauge("attrdir_keys", "Keys of its own, removed ones counted.");
+const KEYS: Metric = Metric {
+    name: "attrdir_keys",
+    kind: "gauge",
+    help: "Keys of its own, removed ones counted.",
+};
 
-const KEYS_LIMIT: Metric = gauge("attrdir_keys_limit", "The most keys of an owner.");
+const KEYS_LIMIT: Metric = Metric {
+    name: "attrdir_keys_limit",
+    kind: "gauge",
+    help: "The most keys of an owner.",
+};
 
-const OWNERS: Metric = gauge("attrdir_owners", "Owners that it holds, itself counted.");
+const OWNERS: Metric = Metric {
+    name: "attrdir_owners",
+    kind: "gauge",
+    help: "Owners that it holds, itself counted.",
+};
 
-const OWNERS_LIMIT: Metric = gauge("attrdir_owners_limit", "The most owners that a node holds.");
+const OWNERS_LIMIT: Metric = Metric {
+    name: "attrdir_owners_limit",
+    kind: "gauge",
+    help: "The most owners that a node holds.",
+};
 
-const LOG_OPEN: Metric = gauge("attrdir_log_open", "1 where its log takes writes, else 0.");
+const HELD_VERSION: Metric = Metric {
+    name: "attrdir_held_version",
+    kind: "gauge",
+    help: "The version up to which it holds an owner.",
+};
 
-const NAME_CONFLICT: Metric = gauge(
-    "attrdir_name_conflict",
-    "1 where another node writes under its name, else 0.",
-);
+const ROWS: Metric = Metric {
+    name: "attrdir_rows",
+    kind: "gauge",
+    help: "Rows of an owner, without removed ones.",
+};
 
-const HELD_VERSION: Metric = gauge(
-    "attrdir_held_version",
-    "The version up to which it holds an owner.",
-);
+const PEER_UP: Metric = Metric {
+    name: "attrdir_peer_up",
+    kind: "gauge",
+    help: "1 where the last round with a peer was made to its end, else 0.",
+};
 
-const ROWS: Metric = gauge("attrdir_rows", "Rows of an owner, without removed ones.");
+const PEER_FAULT: Metric = Metric {
+    name: "attrdir_peer_fault",
+    kind: "gauge",
+    help: "The number of the fault of the last round with a peer, 0 for none.",
+};
 
-const PEER_UP: Metric = gauge(
-    "attrdir_peer_up",
-    "1 where the last round with a peer was made to its end, else 0.",
-);
-
-const PEER_FAULT: Metric = gauge(
-    "attrdir_peer_fault",
-    "The number of the fault of the last round with a peer, 0 for none.",
-);
-
-const PEER_ROUNDS_SINCE: Metric = gauge(
-    "attrdir_peer_rounds_since",
-    "Rounds that were made since the last one with a peer.",
-);
+const PEER_ROUNDS_SINCE: Metric = Metric {
+    name: "attrdir_peer_rounds_since",
+    kind: "gauge",
+    help: "Rounds that were made since the last one with a peer.",
+};
 
 /// A text as a label has it: the backslash, the double quote and the end of a line are spelled by two signs.
 #[derive(Clone, Copy)]
@@ -106,22 +131,6 @@ fn write_head<W: fmt::Write>(f: &mut fmt::Formatter<W>, metric: &Metric) -> fmt:
     writeln!(f, "# TYPE {} {}", metric.name, metric.kind)
 }
 
-/// 1 where the last round with a peer was made to its end, else 0.
-fn is_up(peer: &Peer<'_>, _rounds: u64) -> u64 {
-    match peer.last() {
-        LastRound::Done => 1,
-        _ => 0,
-    }
-}
-
-/// The fault of the last round with a peer; 0 where it had none.
-fn fault_of(peer: &Peer<'_>, _rounds: u64) -> u64 {
-    match peer.last() {
-        LastRound::Failed(number) => number as u64,
-        _ => 0,
-    }
-}
-
 /// Whether one of these peers has this path.
 fn is_among(peers: &[Peer<'_>], path: &str) -> bool {
     for peer in peers {
@@ -132,9 +141,32 @@ fn is_among(peers: &[Peer<'_>], path: &str) -> bool {
     false
 }
 
-/// How many rounds were made since the last one with a peer.
-fn rounds_since(peer: &Peer<'_>, rounds: u64) -> u64 {
-    rounds.saturating_sub(peer.round())
+/// What is told of a peer.
+#[derive(Clone, Copy)]
+enum OfPeer {
+    Up,
+    Fault,
+    RoundsSince,
+}
+
+impl OfPeer {
+    fn metric(self) -> Metric {
+        match self {
+            OfPeer::Up => PEER_UP,
+            OfPeer::Fault => PEER_FAULT,
+            OfPeer::RoundsSince => PEER_ROUNDS_SINCE,
+        }
+    }
+
+    /// Its value, where so many rounds were made.
+    fn value(self, peer: &Peer<'_>, rounds: u64) -> u64 {
+        match (self, peer.last()) {
+            (OfPeer::Up, LastRound::Done) => 1,
+            (OfPeer::Fault, LastRound::Failed(number)) => number as u64,
+            (OfPeer::RoundsSince, _) => rounds.saturating_sub(peer.round()),
+            _ => 0,
+        }
+    }
 }
 
 impl Metrics<'_, '_> {
@@ -204,18 +236,13 @@ impl Metrics<'_, '_> {
     }
 
     /// A metric of each peer. One that is dialed twice has the values of its first place: no two lines may have the same labels.
-    fn write_peers<W: fmt::Write>(
-        &self,
-        f: &mut fmt::Formatter<W>,
-        metric: &Metric,
-        value: fn(&Peer<'_>, u64) -> u64,
-    ) -> fmt::Result {
-        write_head(f, metric)?;
-        let peers = self.status.peers;
+    fn write_peers<W: fmt::Write>(&self, f: &mut fmt::Formatter<W>, what: OfPeer) -> fmt::Result {
+        let (metric, node, peers) = (what.metric(), self.name, self.status.peers);
+        write_head(f, &metric)?;
         for (at, peer) in peers.iter().enumerate() {
             if !is_among(peers.get(..at).unwrap_or(&[]), peer.path()) {
-                let (name, node, path) = (metric.name, self.name, Label(peer.path()));
-                let value = value(peer, self.status.rounds);
+                let (name, path) = (metric.name, Label(peer.path()));
+                let value = what.value(peer, self.status.rounds);
                 writeln!(f, "{name}{{node=\"{node}\",peer=\"{path}\"}} {value}")?;
             }
         }
@@ -228,8 +255,8 @@ impl fmt::Display for Metrics<'_, '_> {
         self.write_course(f)?;
         self.write_room(f)?;
         self.write_owners(f)?;
-        self.write_peers(f, &PEER_UP, is_up)?;
-        self.write_peers(f, &PEER_FAULT, fault_of)?;
-        self.write_peers(f, &PEER_ROUNDS_SINCE, rounds_since)
+        self.write_peers(f, OfPeer::Up)?;
+        self.write_peers(f, OfPeer::Fault)?;
+        self.write_peers(f, OfPeer::RoundsSince)
     }
 }

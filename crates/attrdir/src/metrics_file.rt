@@ -36,7 +36,7 @@ impl<'a> MetricsFile<'a> {
 
     /// Writes it as a whole: another file is written beside it and takes its place. Where that fails what was there stays.
     pub(crate) fn write(&self, rt: &HostRuntime, metrics: &Metrics<'_, '_>) -> io::Result<()> {
-        let beside = format!(in rt.alloc(); "{}{BESIDE}", self.path)?;
+        let beside = format!(in rt.alloc(); "{}{}", self.path, BESIDE)?;
         let text = format!(in rt.alloc(); "{metrics}")?;
         fs::write(rt, beside.as_str(), text.as_str())?;
         fs::rename(rt, beside.as_str(), self.path)?;
@@ -80,5 +80,7 @@ pub(crate) fn may_replace(rt: &HostRuntime, path: &str) -> bool {
 
 /// Whether writing metrics to a path would write over another one of a node's files.
 pub(crate) fn writes_over(path: &str, other: &str) -> bool {
-    path == other || other.strip_suffix(BESIDE) == Some(path) || path.strip_suffix("-wal") == Some(other)
+    path == other
+        || other.strip_suffix(BESIDE) == Some(path)
+        || path.strip_suffix("-wal") == Some(other)
 }

@@ -143,6 +143,10 @@ fn run<
         control: given.control,
         peers: given.peers.as_slice(),
     };
+    let metrics = match given.metrics {
+        Some(path) => Some(MetricsFile::new(path)),
+        None => None,
+    };
     let console = Console {
         rt,
         name: given.name,
@@ -150,7 +154,7 @@ fn run<
         sock: given.sock,
         control: given.control,
         has_time: given.has_time,
-        metrics: given.metrics.map(MetricsFile::new),
+        metrics,
         shortage: Shortage::new(),
     };
     let ran = run_node(
