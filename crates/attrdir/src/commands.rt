@@ -331,7 +331,7 @@ const METRICS: Part = Part {
     name: "metrics",
     form: Form::Value,
     value: "FILE",
-    help: "The file in which it tells how it is, in the text format of Prometheus",
+    help: "The file in which it tells how it is, as Prometheus reads it [default: none]",
 };
 
 const LOG_TIME: Part = Part {
