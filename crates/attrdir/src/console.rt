@@ -191,7 +191,12 @@ impl Observer for Console<'_, '_> {
             status,
         };
         self.warn(&self.shortage.keys, "keys", status.keys, KEYS_MOST);
-        self.warn(&self.shortage.owners, "owners", metrics.owners(), OWNERS_MOST);
+        self.warn(
+            &self.shortage.owners,
+            "owners",
+            metrics.owners(),
+            OWNERS_MOST,
+        );
         if let Some(file) = &self.metrics {
             self.write_metrics(file, &metrics);
         }

@@ -107,7 +107,11 @@ fn taken_for_metrics<'a>(rt: &HostRuntime, given: &Given<'a>) -> Option<&'a str>
             return Some(path);
         }
     }
-    if may_replace(rt, path) { None } else { Some(path) }
+    if may_replace(rt, path) {
+        None
+    } else {
+        Some(path)
+    }
 }
 
 /// Where a node that does not run met its fault.
