@@ -26,7 +26,7 @@ struct Counted {
     conflict: Option<u64>,
 }
 
-/// A node with this open log of one key.
+/// Of a node that wrote one key, was dialed by one peer, and dialed two, of which one was not there.
 const WROTE_ONE: Counted = Counted {
     rounds: 2,
     faults: 1,
@@ -42,7 +42,7 @@ type Ends = [(LastRound, u64); 2];
 /// How many owners are shown, and how far a, b and c are.
 type Shown = (usize, [u64; 3]);
 
-/// Keeps what was told behind the round of a number: once, and then nothing else.
+/// Keeps what was told last behind the round of this number.
 #[derive(Drop)]
 struct Listener<'a, R> {
     rt: &'a R,
@@ -92,8 +92,8 @@ impl<R: Wait + Abort> Observer for Listener<'_, R> {
     fn status(&self, status: &Status<'_>) {
         if status.rounds == self.behind {
             let ends = [end_of(status, 0), end_of(status, 1)];
-            let told = (counted(status), ends, shown(self.rt, status));
-            *self.told.lock(self.rt) = Some(told);
+            let mut told = self.told.lock(self.rt);
+            *told = Some((counted(status), ends, shown(self.rt, status)));
         }
     }
 }

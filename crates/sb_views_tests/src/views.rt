@@ -9,7 +9,7 @@ use crate::{got, holds, same, there};
 use sb_holdings::{BlockEnd, Holdings, Report};
 use sb_types::{Block, Delta, Entry, Key, Name, Value, ValueRef};
 use sb_views::{
-    Batch, Front, Opened, OwnerSheets, Reader, Row, Rows, Site, Snapshot, Story, ViewWriter, views,
+    Batch, Front, Opened, Reader, Row, Rows, Sheet, Site, Snapshot, Story, ViewWriter, views,
 };
 use std::alloc::Global;
 use std::marker::Brand;
@@ -185,26 +185,29 @@ fn rows_come_in_order(rt: &impl Abort, snapshot: &Snapshot<'_>) {
     rows_are(rt, snapshot, b"c", b"", &[]);
 }
 
-/// Whether just these owners come, each with how far it is held and how many rows it has.
-fn are_sheets(mut sheets: OwnerSheets<'_>, wanted: &[(&[u8], u64, usize)]) -> bool {
-    for (name, upto, count) in wanted {
-        match sheets.next() {
-            Some((owner, sheet)) if owner.bytes() == *name => {
-                if sheet.upto() != *upto || sheet.len() != *count {
-                    return false;
-                }
-            }
-            _ => return false,
+// An owner, up to which version it is held, and how many rows it has.
+type ToldSheet = (&'static [u8], u64, usize);
+
+const SHEET_OF_A: ToldSheet = (b"a", 4, 2);
+
+const SHEET_OF_B: ToldSheet = (b"b", 1, 1);
+
+fn is_sheet(found: Option<(&Name, &Sheet)>, told: ToldSheet) -> bool {
+    let (name, upto, count) = told;
+    match found {
+        Some((owner, sheet)) => {
+            owner.bytes() == name && sheet.upto() == upto && sheet.len() == count
         }
+        None => false,
     }
-    sheets.next().is_none()
 }
 
-/// The sheet of each owner of whom something is held.
+/// The sheet of each owner of whom something is held comes once, in order.
 fn sheets_come_in_order(rt: &impl Abort, snapshot: &Snapshot<'_>) {
-    let wanted: [(&[u8], u64, usize); 2] = [(b"a", 4, 2), (b"b", 1, 1)];
-    let come = are_sheets(snapshot.sheets(), wanted.as_slice());
-    holds(rt, "the sheets of its owners come in order", come);
+    let mut sheets = snapshot.sheets();
+    holds(rt, "the sheet of a", is_sheet(sheets.next(), SHEET_OF_A));
+    holds(rt, "the sheet of b", is_sheet(sheets.next(), SHEET_OF_B));
+    holds(rt, "no other sheet", sheets.next().is_none());
 }
 
 pub(crate) fn live_is_shown(rt: &impl Abort, snapshot: &Snapshot<'_>) {
