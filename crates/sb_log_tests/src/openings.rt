@@ -21,9 +21,6 @@ type Rows = (usize, Row, Row);
 /// What stands behind the writes of `Writing`.
 const ROWS: Rows = (2, Some((3, None)), Some((2, Some(6))));
 
-/// More calls than an opening makes.
-const MOST: u64 = 200;
-
 /// Another's name.
 const ANOTHER: &[u8] = b"b";
 
@@ -159,52 +156,87 @@ fn open_twice(
     number
 }
 
-/// Lets each call of the log's file fail in its turn, until none is left to fail: how many there are.
-fn miss_each(rt: &impl Abort, alloc: Global, case: Case, after: After) -> u64 {
+/// Lets one call of the log's file fail, each from the one to the other in its turn: no opening succeeds, or says another fault.
+fn miss_each(rt: &impl Abort, alloc: Global, case: Case, after: After, from: u64, to: u64) {
     let files = written(rt, alloc, case);
-    for log in 0..MOST {
+    for log in from..to {
         let calls = Calls {
             log,
             after,
             ..ENDLESS
         };
         let number = open_twice(rt, alloc, &files, calls, case);
-        if number == case.fault {
-            return log;
-        }
         same_at(rt, &log, &number, &18);
     }
-    MOST
+}
+
+/// Lets the call behind so many of the log's file fail: the opening has ended as it does on disks that don't fail.
+fn ends_within(rt: &impl Abort, alloc: Global, case: Case, log: u64) {
+    let files = written(rt, alloc, case);
+    let number = open_twice(rt, alloc, &files, Calls { log, ..ENDLESS }, case);
+    same_at(rt, &log, &number, &case.fault);
 }
 
 // The log's file has 16 frames, and 17 behind a change of the row of meta. An opening reads each four times, and makes 33 other calls:
-// of the lengths, the header, the page behind the last frame, the gate, the five pages, twice, and syncs.
+// of the lengths, the header, the page behind the last frame, the gate, the five pages, twice, and syncs. Each of them is let fail below.
 #[test]
-fn an_opening_that_fails_loses_nothing(rt: HostRuntime) {
-    let calls = miss_each(&rt, rt.alloc(), WHOLE, After::Answering);
-    same(&rt, &calls, &97);
+fn an_opening_makes_97_calls(rt: HostRuntime) {
+    ends_within(&rt, rt.alloc(), WHOLE, 97);
+    ends_within(&rt, rt.alloc(), ANOTHERS, 97);
 }
 
 #[test]
-fn an_opening_on_a_disk_that_stops_loses_nothing(rt: HostRuntime) {
-    let calls = miss_each(&rt, rt.alloc(), WHOLE, After::Failing);
-    same(&rt, &calls, &97);
+fn an_opening_behind_a_change_makes_101_calls(rt: HostRuntime) {
+    ends_within(&rt, rt.alloc(), DAMAGED, 101);
+    ends_within(&rt, rt.alloc(), OF_ANOTHER_FORM, 101);
 }
 
 #[test]
-fn an_opening_as_anothers_loses_nothing(rt: HostRuntime) {
-    let calls = miss_each(&rt, rt.alloc(), ANOTHERS, After::Answering);
-    same(&rt, &calls, &97);
+fn an_opening_that_fails_at_calls_1_to_50_loses_nothing(rt: HostRuntime) {
+    miss_each(&rt, rt.alloc(), WHOLE, After::Answering, 0, 50);
 }
 
 #[test]
-fn an_opening_that_tells_damage_loses_nothing(rt: HostRuntime) {
-    let calls = miss_each(&rt, rt.alloc(), DAMAGED, After::Answering);
-    same(&rt, &calls, &101);
+fn an_opening_that_fails_at_calls_51_to_97_loses_nothing(rt: HostRuntime) {
+    miss_each(&rt, rt.alloc(), WHOLE, After::Answering, 50, 97);
 }
 
 #[test]
-fn an_opening_of_another_form_loses_nothing(rt: HostRuntime) {
-    let calls = miss_each(&rt, rt.alloc(), OF_ANOTHER_FORM, After::Answering);
-    same(&rt, &calls, &101);
+fn an_opening_on_a_disk_that_stops_at_calls_1_to_50_loses_nothing(rt: HostRuntime) {
+    miss_each(&rt, rt.alloc(), WHOLE, After::Failing, 0, 50);
+}
+
+#[test]
+fn an_opening_on_a_disk_that_stops_at_calls_51_to_97_loses_nothing(rt: HostRuntime) {
+    miss_each(&rt, rt.alloc(), WHOLE, After::Failing, 50, 97);
+}
+
+#[test]
+fn an_opening_as_anothers_that_fails_at_calls_1_to_50_loses_nothing(rt: HostRuntime) {
+    miss_each(&rt, rt.alloc(), ANOTHERS, After::Answering, 0, 50);
+}
+
+#[test]
+fn an_opening_as_anothers_that_fails_at_calls_51_to_97_loses_nothing(rt: HostRuntime) {
+    miss_each(&rt, rt.alloc(), ANOTHERS, After::Answering, 50, 97);
+}
+
+#[test]
+fn an_opening_of_damage_that_fails_at_calls_1_to_50_loses_nothing(rt: HostRuntime) {
+    miss_each(&rt, rt.alloc(), DAMAGED, After::Answering, 0, 50);
+}
+
+#[test]
+fn an_opening_of_damage_that_fails_at_calls_51_to_101_loses_nothing(rt: HostRuntime) {
+    miss_each(&rt, rt.alloc(), DAMAGED, After::Answering, 50, 101);
+}
+
+#[test]
+fn an_opening_of_another_form_that_fails_at_calls_1_to_50_loses_nothing(rt: HostRuntime) {
+    miss_each(&rt, rt.alloc(), OF_ANOTHER_FORM, After::Answering, 0, 50);
+}
+
+#[test]
+fn an_opening_of_another_form_that_fails_at_calls_51_to_101_loses_nothing(rt: HostRuntime) {
+    miss_each(&rt, rt.alloc(), OF_ANOTHER_FORM, After::Answering, 50, 101);
 }
