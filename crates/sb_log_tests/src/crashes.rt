@@ -1,12 +1,13 @@
 //! What a crash leaves of a log in files, on disks of which a call fails, and each one after it or none.
-use crate::disks::{Calls, ENDLESS, Visit, new_disks, on_disks, whole_copy};
+use crate::disks::{Calls, ENDLESS, new_disks, whole_copy};
 use crate::faulty::After;
-use crate::writes::{OWNER, key, name, remove, set};
+use crate::visits::{LogVisit, OWN, log_on_disks};
+use crate::writes::{key, remove, set};
 use crate::{got, same, same_at};
-use sb_log::{SqlLog, WriteLog};
+use sb_log::WriteLog;
 use sb_table::Table;
 use sb_types::{Fault, Key, Slot};
-use sqlite::{Alter, Connection, Files};
+use sqlite::Files;
 use sqlite_disk::{Crash, Memory};
 use std::alloc::Global;
 use std::process::Abort;
@@ -33,17 +34,6 @@ const ALL: Progress = Progress {
     acknowledged: 3,
     begun: 3,
 };
-
-fn open<S: Alter + Drop>(
-    rt: &impl Abort,
-    alloc: Global,
-    conn: Connection<S>,
-) -> Result<SqlLog<S>, Fault> {
-    match SqlLog::open(alloc, conn, name(rt, OWNER), name(rt, b"c"), 9) {
-        Ok(log) => Ok(log),
-        Err((fault, _)) => Err(fault),
-    }
-}
 
 /// Where the write behind so many acknowledged ones failed. Where the store did, the log takes no other, be the disk as it may.
 fn failed_after<L: WriteLog>(
@@ -75,23 +65,15 @@ fn put_three<L: WriteLog>(rt: &impl Abort, log: &mut L) -> Progress {
     ALL
 }
 
+/// Writes to a log whose disks fail.
 #[derive(Drop)]
 struct Writing;
 
-impl Visit for Writing {
-    type Told = Progress;
+impl LogVisit for Writing {
+    type Outcome = Progress;
 
-    /// Opens a log over disks that fail, and writes.
-    fn visit<S: Alter + Drop>(
-        self,
-        rt: &impl Abort,
-        alloc: Global,
-        conn: Connection<S>,
-    ) -> Progress {
-        match open(rt, alloc, conn) {
-            Ok(mut log) => put_three(rt, &mut log),
-            Err(_) => NOTHING,
-        }
+    fn visit<L: WriteLog + Drop>(self, rt: &impl Abort, _: Global, mut log: L) -> Progress {
+        put_three(rt, &mut log)
     }
 }
 
@@ -108,24 +90,20 @@ fn held<L: WriteLog>(rt: &impl Abort, alloc: Global, log: &mut L) -> Content {
 }
 
 /// What a log holds, and the version of its next write.
-fn found<L: WriteLog>(rt: &impl Abort, alloc: Global, log: &mut L) -> (Content, u64) {
-    (held(rt, alloc, log), got(rt, set(rt, log, b"z", 1)))
-}
-
 #[derive(Drop)]
 struct Reopening;
 
-impl Visit for Reopening {
-    type Told = (Content, u64);
+impl LogVisit for Reopening {
+    type Outcome = (Content, u64);
 
-    /// Opens a log again.
-    fn visit<S: Alter + Drop>(
+    fn visit<L: WriteLog + Drop>(
         self,
         rt: &impl Abort,
         alloc: Global,
-        conn: Connection<S>,
+        mut log: L,
     ) -> (Content, u64) {
-        found(rt, alloc, &mut got(rt, open(rt, alloc, conn)))
+        let content = held(rt, alloc, &mut log);
+        (content, got(rt, set(rt, &mut log, b"z", 1)))
     }
 }
 
@@ -137,12 +115,12 @@ fn is_kept(content: Content, progress: Progress) -> bool {
 
 /// A log that is opened again holds what was acknowledged, or what was begun, and the next write has the next version.
 fn recovers(rt: &impl Abort, alloc: Global, disks: &mut Files<Memory>, progress: Progress) {
-    let told = got(rt, on_disks(rt, alloc, disks, ENDLESS, Reopening));
-    let (content, next) = told;
+    let found = got(rt, log_on_disks(rt, alloc, disks, ENDLESS, OWN, Reopening));
+    let (content, next) = found;
     let is_next = next == content.1.saturating_add(1);
     same_at(
         rt,
-        &(told, progress),
+        &(found, progress),
         &(is_kept(content, progress), is_next),
         &(true, true),
     );
@@ -156,7 +134,7 @@ fn recovers_whole(rt: &impl Abort, alloc: Global, disks: &Files<Memory>, progres
 /// Lets calls of the disks fail, and then what was not synced stay, and be lost.
 fn stop(rt: &impl Abort, alloc: Global, calls: Calls) -> Progress {
     let mut disks = new_disks(alloc);
-    let progress = on_disks(rt, alloc, &mut disks, calls, Writing).unwrap_or(NOTHING);
+    let progress = log_on_disks(rt, alloc, &mut disks, calls, OWN, Writing).unwrap_or(NOTHING);
     recovers_whole(rt, alloc, &disks, progress);
     disks.log.crash();
     disks.db.crash();

@@ -1,10 +1,10 @@
 //! A log in a database: what it keeps, also when it is opened again, and the damage that it tells.
-use crate::disks::{ENDLESS, Visit, new_disks, on_disks};
-use crate::writes::{Answer, OWNER, held, name, remove, set, settled};
+use crate::disks::{ENDLESS, new_disks};
+use crate::visits::{LogVisit, Looking, OWN, Opening, log_in_memory, log_on_disks, number_of};
+use crate::writes::{Answer, held, remove, set, settled};
 use crate::{got, same, same_at};
-use sb_log::{SqlLog, WriteLog};
+use sb_log::WriteLog;
 use sb_types::Fault;
-use sqlite::{Alter, Connection, Error};
 use std::alloc::Global;
 use std::process::Abort;
 
@@ -14,43 +14,7 @@ const META: &str =
 const WRITES: &str =
     "CREATE TABLE writes (k TEXT PRIMARY KEY NOT NULL, version INTEGER NOT NULL UNIQUE, tag INTEGER NOT NULL, num INTEGER, txt TEXT) STRICT";
 
-const OWN: &str = "INSERT INTO meta VALUES (1, 1, 'a', 'sim', 0, 0)";
-
-fn opened<S: Alter + Drop>(
-    rt: &impl Abort,
-    alloc: Global,
-    conn: Connection<S>,
-    owner: &[u8],
-    max_version: u64,
-) -> Result<SqlLog<S>, Fault> {
-    match SqlLog::open(alloc, conn, name(rt, owner), name(rt, b"sim"), max_version) {
-        Ok(log) => Ok(log),
-        Err((fault, _)) => Err(fault),
-    }
-}
-
-fn open<S: Alter + Drop>(
-    rt: &impl Abort,
-    alloc: Global,
-    conn: Connection<S>,
-    max_version: u64,
-) -> SqlLog<S> {
-    got(rt, opened(rt, alloc, conn, OWNER, max_version))
-}
-
-// The number of the fault of opening, 0 where it opens.
-fn fault_of_opening<S: Alter + Drop>(
-    rt: &impl Abort,
-    alloc: Global,
-    conn: Connection<S>,
-    owner: &[u8],
-) -> u8 {
-    match opened(rt, alloc, conn, owner, 9) {
-        Ok(_) => 0,
-        Err(Fault::NoMemory) => panic!(rt; "error: NoMemory"),
-        Err(fault) => fault.number(),
-    }
-}
+const OWNERS: &str = "INSERT INTO meta VALUES (1, 1, 'a', 'sim', 0, 0)";
 
 const SPENT: Answer = Err(Fault::VersionsSpent);
 
@@ -69,18 +33,12 @@ fn six_writes<L: WriteLog>(rt: &impl Abort, log: &mut L) -> [Answer; 6] {
 }
 
 // What it holds at first, what each write is answered, and what it holds then.
-fn keeps<L: WriteLog>(rt: &impl Abort, alloc: Global, log: &mut L) {
+fn keeps_writes<L: WriteLog>(rt: &impl Abort, alloc: Global, log: &mut L) {
     same(rt, &held(rt, alloc, log), &(0, 0));
     let answers = settled(rt, six_writes(rt, log));
     let wanted = [Ok(1), Ok(2), NOTHING, Ok(3), Ok(4), SPENT];
     same(rt, &answers, &wanted);
     same(rt, &held(rt, alloc, log), &(2, 4));
-}
-
-fn keeps_writes<S: Alter + Drop>(rt: &impl Abort, alloc: Global, conn: Connection<S>) {
-    let mut log = open(rt, alloc, conn, 4);
-    keeps(rt, alloc, &mut log);
-    same(rt, &log.close(), &Ok(()));
 }
 
 // Opened again: what it holds, and what the next write is answered, with a lesser greatest version.
@@ -92,40 +50,41 @@ fn kept<L: WriteLog>(rt: &impl Abort, alloc: Global, log: &mut L) {
 #[derive(Drop)]
 struct Keeping;
 
-impl Visit for Keeping {
-    type Told = ();
+impl LogVisit for Keeping {
+    type Outcome = ();
 
-    fn visit<S: Alter + Drop>(self, rt: &impl Abort, alloc: Global, conn: Connection<S>) {
-        keeps_writes(rt, alloc, conn);
+    fn visit<L: WriteLog + Drop>(self, rt: &impl Abort, alloc: Global, mut log: L) {
+        keeps_writes(rt, alloc, &mut log);
+        same(rt, &log.close(), &Ok(()));
     }
 }
 
 #[derive(Drop)]
 struct Reopening;
 
-impl Visit for Reopening {
-    type Told = ();
+impl LogVisit for Reopening {
+    type Outcome = ();
 
-    fn visit<S: Alter + Drop>(self, rt: &impl Abort, alloc: Global, conn: Connection<S>) {
-        kept(rt, alloc, &mut open(rt, alloc, conn, 2));
+    fn visit<L: WriteLog + Drop>(self, rt: &impl Abort, alloc: Global, mut log: L) {
+        kept(rt, alloc, &mut log);
     }
 }
 
-#[derive(Drop)]
-struct Another;
+const OF_FOUR: Opening<'static> = Opening {
+    max_version: 4,
+    ..OWN
+};
 
-impl Visit for Another {
-    type Told = u8;
+const OF_TWO: Opening<'static> = Opening {
+    max_version: 2,
+    ..OWN
+};
 
-    fn visit<S: Alter + Drop>(self, rt: &impl Abort, alloc: Global, conn: Connection<S>) -> u8 {
-        fault_of_opening(rt, alloc, conn, b"b")
-    }
-}
+const ANOTHERS: Opening<'static> = Opening { owner: b"b", ..OWN };
 
 #[test]
 fn a_log_in_memory_keeps_writes(rt: HostRuntime) {
-    let alloc = rt.alloc();
-    keeps_writes(&rt, alloc, got(&rt, Connection::open_in_memory(alloc)));
+    got(&rt, log_in_memory(&rt, rt.alloc(), OF_FOUR, Keeping));
 }
 
 // Opened again it holds the same, and under another name it is another's.
@@ -133,10 +92,12 @@ fn a_log_in_memory_keeps_writes(rt: HostRuntime) {
 fn a_log_in_files_keeps_writes(rt: HostRuntime) {
     let alloc = rt.alloc();
     let mut disks = new_disks(alloc);
-    got(&rt, on_disks(&rt, alloc, &mut disks, ENDLESS, Keeping));
-    got(&rt, on_disks(&rt, alloc, &mut disks, ENDLESS, Reopening));
-    let another = got(&rt, on_disks(&rt, alloc, &mut disks, ENDLESS, Another));
-    same(&rt, &another, &20);
+    let written = log_on_disks(&rt, alloc, &mut disks, ENDLESS, OF_FOUR, Keeping);
+    same(&rt, &number_of(&rt, written), &0);
+    let opened = log_on_disks(&rt, alloc, &mut disks, ENDLESS, OF_TWO, Reopening);
+    same(&rt, &number_of(&rt, opened), &0);
+    let refused = log_on_disks(&rt, alloc, &mut disks, ENDLESS, ANOTHERS, Looking);
+    same(&rt, &number_of(&rt, refused), &20);
 }
 
 // The third write of a log of two versions.
@@ -148,36 +109,27 @@ fn three_writes<L: WriteLog>(rt: &impl Abort, log: &mut L) -> [Answer; 3] {
     ]
 }
 
+#[derive(Drop)]
+struct Spending;
+
+impl LogVisit for Spending {
+    type Outcome = ();
+
+    fn visit<L: WriteLog + Drop>(self, rt: &impl Abort, _: Global, mut log: L) {
+        let answers = settled(rt, three_writes(rt, &mut log));
+        same(rt, &answers, &[Ok(1), Ok(2), SPENT]);
+    }
+}
+
 #[test]
 fn versions_are_spent(rt: HostRuntime) {
-    let alloc = rt.alloc();
-    let conn = got(&rt, Connection::open_in_memory(alloc));
-    let answers = three_writes(&rt, &mut open(&rt, alloc, conn, 2));
-    same(&rt, &settled(&rt, answers), &[Ok(1), Ok(2), SPENT]);
+    got(&rt, log_in_memory(&rt, rt.alloc(), OF_TWO, Spending));
 }
 
-// It has no clause, so that the proof of a test does not carry the state of each call.
-fn run<S: Alter>(conn: &mut Connection<S>, sql: &str) -> Result<usize, Error> {
-    conn.execute(sql, &[])
-}
-
-// The fault of opening after these statements, 0 where it opens.
-fn fault_after<S: Alter + Drop>(
-    rt: &impl Abort,
-    alloc: Global,
-    mut conn: Connection<S>,
-    statements: &[&str],
-) -> u8 {
-    for sql in statements {
-        got(rt, run(&mut conn, sql));
-    }
-    fault_of_opening(rt, alloc, conn, OWNER)
-}
-
-// Opening after these statements has this fault.
+// Opening after these statements has this fault, 0 where it opens.
 fn tells(rt: &impl Abort, alloc: Global, statements: &[&str], fault: u8) {
-    let conn = got(rt, Connection::open_in_memory(alloc));
-    let found = fault_after(rt, alloc, conn, statements);
+    let opening = Opening { statements, ..OWN };
+    let found = number_of(rt, log_in_memory(rt, alloc, opening, Looking));
     same_at(rt, &statements, &found, &fault);
 }
 
@@ -188,7 +140,7 @@ fn tells_with_tables(rt: &impl Abort, alloc: Global, sql: &str, fault: u8) {
 
 // The same where the log is the owner's.
 fn tells_of_own(rt: &impl Abort, alloc: Global, sql: &str, fault: u8) {
-    tells(rt, alloc, &[META, WRITES, OWN, sql], fault);
+    tells(rt, alloc, &[META, WRITES, OWNERS, sql], fault);
 }
 
 // Tables that are missing, strange or in use.
@@ -199,7 +151,7 @@ fn tells_of_tables(rt: &impl Abort, alloc: Global) {
     tells(rt, alloc, &[META, WRITES], 0);
     tells(rt, alloc, &[other], 19);
     tells(rt, alloc, &["BEGIN"], 18);
-    tells(rt, alloc, &[META, OWN], 19);
+    tells(rt, alloc, &[META, OWNERS], 19);
     tells(rt, alloc, &[META, WRITES, unowned], 19);
 }
 

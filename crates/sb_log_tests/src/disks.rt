@@ -1,4 +1,4 @@
-//! Two disks in memory, and a database over them of which a call fails.
+//! Databases: in memory alone, and over two disks in memory of which a call fails.
 use crate::faulty::{After, Faulty};
 use crate::got;
 use crate::lent::Lent;
@@ -47,26 +47,34 @@ pub fn whole_copy(rt: &impl Abort, alloc: Global, files: &Files<Memory>) -> File
 }
 
 /// What is done with a database, whatever store it is over.
-pub trait Visit {
-    type Told;
+pub trait DatabaseVisit {
+    type Outcome;
 
     fn visit<S: Alter + Drop>(
         self,
         rt: &impl Abort,
         alloc: Global,
         conn: Connection<S>,
-    ) -> Self::Told;
+    ) -> Self::Outcome;
 }
 
-/// What comes of a visit to a database over both files. `StoreFailed` where it can't be opened. It is the one place that names the disks: each function
-/// that does is dear to prove.
-pub fn on_disks<V: Visit + Drop>(
+/// What comes of a visit to a new database in memory. It is the one place that names its store: each function that names one is dear to prove.
+pub fn in_memory<V: DatabaseVisit + Drop>(
+    rt: &impl Abort,
+    alloc: Global,
+    visitor: V,
+) -> V::Outcome {
+    visitor.visit(rt, alloc, got(rt, Connection::open_in_memory(alloc)))
+}
+
+/// What comes of a visit to a database over both files. `StoreFailed` where it can't be opened. It is the one place that names the disks.
+pub fn on_disks<V: DatabaseVisit + Drop>(
     rt: &impl Abort,
     alloc: Global,
     disks: &mut Files<Memory>,
     calls: Calls,
     visitor: V,
-) -> Result<V::Told, Fault> {
+) -> Result<V::Outcome, Fault> {
     let files = Files {
         log: Faulty::new(Lent::new(&mut disks.log), calls.log, calls.after),
         db: Faulty::new(Lent::new(&mut disks.db), calls.db, calls.after),
@@ -75,12 +83,12 @@ pub fn on_disks<V: Visit + Drop>(
 }
 
 /// The same over files of any disk.
-fn on_files<D: Disk + Drop, V: Visit + Drop>(
+fn on_files<D: Disk + Drop, V: DatabaseVisit + Drop>(
     rt: &impl Abort,
     alloc: Global,
     files: Files<D>,
     visitor: V,
-) -> Result<V::Told, Fault> {
+) -> Result<V::Outcome, Fault> {
     if !files.log.may_be_used() {
         return Err(Fault::StoreFailed);
     }

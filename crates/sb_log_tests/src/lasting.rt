@@ -1,25 +1,20 @@
 //! What a log in a database holds behind many writes, and one in files when it is opened again: the rows of a log in memory that took
 //! the same.
-use crate::disks::{ENDLESS, Visit, new_disks, on_disks};
-use crate::writes::{OWNER, many, name, put, remove, set, settled, shown};
+use crate::disks::{ENDLESS, new_disks};
+use crate::visits::{LogVisit, OWN, Opening, log_in_memory, log_on_disks, rows_on_disks};
+use crate::writes::{CLUSTER, OWNER, many, name, put, remove, set, settled, shown};
 use crate::{got, same};
 use sb_lines::log_run;
-use sb_log::{PlainLog, SqlLog, WriteLog};
+use sb_log::{PlainLog, WriteLog};
 use sb_table::Table;
 use sb_types::{Fault, Slot, Value};
-use sqlite::{Alter, Connection};
-use sqlite_value::value::ValueRef;
 use std::alloc::Global;
 use std::process::Abort;
 
-const CLUSTER: &[u8] = b"sim";
-
-fn open<S: Alter + Drop>(rt: &impl Abort, alloc: Global, conn: Connection<S>) -> SqlLog<S> {
-    match SqlLog::open(alloc, conn, name(rt, OWNER), name(rt, CLUSTER), 10_000) {
-        Ok(log) => log,
-        Err((fault, _)) => panic!(rt; "error: {fault:?}"),
-    }
-}
+const LONG: Opening<'static> = Opening {
+    max_version: 10_000,
+    ..OWN
+};
 
 /// How many entries of a table another has under the same key, with the same version and value.
 fn shared(one: &Table, other: &Table) -> usize {
@@ -52,74 +47,89 @@ fn compared<L: WriteLog>(
     (found.len(), shared(&wanted, &found))
 }
 
+/// Takes so many rounds of writes over ten keys: how many are answered in their turn.
+#[derive(Drop)]
+struct Many {
+    rounds: u64,
+}
+
+impl LogVisit for Many {
+    type Outcome = u64;
+
+    fn visit<L: WriteLog + Drop>(self, rt: &impl Abort, _: Global, mut log: L) -> u64 {
+        many(rt, &mut log, self.rounds)
+    }
+}
+
+/// Compares a log with one in memory that took as many rounds.
+#[derive(Drop)]
+struct Comparing {
+    rounds: u64,
+}
+
+impl LogVisit for Comparing {
+    type Outcome = (usize, usize);
+
+    fn visit<L: WriteLog + Drop>(
+        self,
+        rt: &impl Abort,
+        alloc: Global,
+        mut log: L,
+    ) -> (usize, usize) {
+        compared(rt, alloc, &mut log, self.rounds)
+    }
+}
+
+/// The one behind the other.
+#[derive(Drop)]
+struct TakingAndComparing {
+    rounds: u64,
+}
+
+impl LogVisit for TakingAndComparing {
+    type Outcome = (u64, (usize, usize));
+
+    fn visit<L: WriteLog + Drop>(
+        self,
+        rt: &impl Abort,
+        alloc: Global,
+        mut log: L,
+    ) -> (u64, (usize, usize)) {
+        let in_turn = many(rt, &mut log, self.rounds);
+        (in_turn, compared(rt, alloc, &mut log, self.rounds))
+    }
+}
+
 // Each row is read, so ten entries are ten rows.
 #[test]
 fn a_log_in_a_database_keeps_ten_of_many(rt: HostRuntime) {
     let alloc = rt.alloc();
-    let conn = got(&rt, Connection::open_in_memory(alloc));
-    let mut log = open(&rt, alloc, conn);
-    same(&rt, &many(&rt, &mut log, 1000), &10_000);
-    same(&rt, &compared(&rt, alloc, &mut log, 1000), &(10, 10));
-}
-
-/// Takes ten rounds of writes over ten keys.
-#[derive(Drop)]
-struct Many;
-
-impl Visit for Many {
-    type Told = u64;
-
-    fn visit<S: Alter + Drop>(self, rt: &impl Abort, alloc: Global, conn: Connection<S>) -> u64 {
-        many(rt, &mut open(rt, alloc, conn), 10)
-    }
-}
-
-/// Opens a log behind those: how many rows of writes there are, and how many entries it holds and shares.
-#[derive(Drop)]
-struct Comparing;
-
-fn rows_in<S: Alter>(rt: &impl Abort, conn: &mut Connection<S>) -> i64 {
-    let row = got(rt, conn.query_row("SELECT count(*) FROM writes", &[]));
-    match row.get_ref(0) {
-        Ok(ValueRef::Int(count)) => count,
-        _ => -1,
-    }
-}
-
-impl Visit for Comparing {
-    type Told = (i64, (usize, usize));
-
-    fn visit<S: Alter + Drop>(
-        self,
-        rt: &impl Abort,
-        alloc: Global,
-        mut conn: Connection<S>,
-    ) -> (i64, (usize, usize)) {
-        let rows = rows_in(rt, &mut conn);
-        let mut log = open(rt, alloc, conn);
-        (rows, compared(rt, alloc, &mut log, 10))
-    }
+    let visitor = TakingAndComparing { rounds: 1000 };
+    let outcome = got(&rt, log_in_memory(&rt, alloc, LONG, visitor));
+    same(&rt, &outcome, &(10_000, (10, 10)));
 }
 
 #[test]
 fn a_log_in_files_keeps_ten_of_many(rt: HostRuntime) {
     let alloc = rt.alloc();
     let mut disks = new_disks(alloc);
-    let in_turn = got(&rt, on_disks(&rt, alloc, &mut disks, ENDLESS, Many));
-    same(&rt, &in_turn, &100);
-    let told = got(&rt, on_disks(&rt, alloc, &mut disks, ENDLESS, Comparing));
-    same(&rt, &told, &(10, (10, 10)));
+    let visitor = Many { rounds: 10 };
+    let in_turn = log_on_disks(&rt, alloc, &mut disks, ENDLESS, LONG, visitor);
+    same(&rt, &got(&rt, in_turn), &100);
+    same(&rt, &rows_on_disks(&rt, alloc, &mut disks), &10);
+    let visitor = Comparing { rounds: 10 };
+    let outcome = log_on_disks(&rt, alloc, &mut disks, ENDLESS, LONG, visitor);
+    same(&rt, &got(&rt, outcome), &(10, 10));
 }
 
 /// Sets x, removes it, and sets y.
 #[derive(Drop)]
 struct Three;
 
-impl Visit for Three {
-    type Told = ();
+impl LogVisit for Three {
+    type Outcome = ();
 
-    fn visit<S: Alter + Drop>(self, rt: &impl Abort, alloc: Global, conn: Connection<S>) {
-        let mut log = open(rt, alloc, conn);
+    fn visit<L: WriteLog + Drop>(self, rt: &impl Abort, _: Global, mut log: L) {
         let answers = [
             set(rt, &mut log, b"x", 5),
             remove(rt, &mut log, b"x"),
@@ -133,17 +143,17 @@ impl Visit for Three {
 #[derive(Drop)]
 struct Printing;
 
-impl Visit for Printing {
-    type Told = (Result<(), Fault>, Vec<u8>);
+impl LogVisit for Printing {
+    type Outcome = (Result<(), Fault>, Vec<u8>);
 
-    fn visit<S: Alter + Drop>(
+    fn visit<L: WriteLog + Drop>(
         self,
-        rt: &impl Abort,
+        _: &impl Abort,
         alloc: Global,
-        conn: Connection<S>,
+        mut log: L,
     ) -> (Result<(), Fault>, Vec<u8>) {
         let mut lines = Vec::new(alloc);
-        let (printed, _) = log_run(alloc, &mut open(rt, alloc, conn), &mut lines);
+        let (printed, _) = log_run(alloc, &mut log, &mut lines);
         (printed, lines)
     }
 }
@@ -152,8 +162,12 @@ impl Visit for Printing {
 fn a_log_in_files_is_printed(rt: HostRuntime) {
     let alloc = rt.alloc();
     let mut disks = new_disks(alloc);
-    got(&rt, on_disks(&rt, alloc, &mut disks, ENDLESS, Three));
-    let (printed, lines) = got(&rt, on_disks(&rt, alloc, &mut disks, ENDLESS, Printing));
+    got(
+        &rt,
+        log_on_disks(&rt, alloc, &mut disks, ENDLESS, OWN, Three),
+    );
+    let outcome = log_on_disks(&rt, alloc, &mut disks, ENDLESS, OWN, Printing);
+    let (printed, lines) = got(&rt, outcome);
     same(&rt, &printed, &Ok(()));
     let wanted = b"a x 2 removed -\na y 3 flag true\nlast 3\n";
     same(&rt, &lines.as_slice(), &wanted.as_slice());

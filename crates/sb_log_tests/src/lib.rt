@@ -19,6 +19,8 @@ mod openings;
 #[cfg(test)]
 mod plain;
 #[cfg(test)]
+mod visits;
+#[cfg(test)]
 mod writes;
 
 #[cfg(test)]

@@ -1,12 +1,13 @@
 //! What an opening that fails or is refused leaves of a log: all of its rows.
-use crate::disks::{Calls, ENDLESS, Visit, new_disks, on_disks, whole_copy};
+use crate::disks::{Calls, ENDLESS, new_disks, whole_copy};
 use crate::faulty::After;
-use crate::writes::{OWNER, key, name, remove, set, settled};
+use crate::visits::{LogVisit, Looking, OWN, Opening, log_on_disks, number_of, run_on_disks};
+use crate::writes::{OWNER, key, remove, set, settled};
 use crate::{got, same, same_at};
-use sb_log::{SqlLog, WriteLog};
+use sb_log::WriteLog;
 use sb_table::Table;
 use sb_types::{Fault, Key, Slot};
-use sqlite::{Alter, Connection, Files};
+use sqlite::Files;
 use sqlite_disk::{Crash, Memory};
 use std::alloc::Global;
 use std::process::Abort;
@@ -20,70 +21,23 @@ type Rows = (usize, Row, Row);
 /// What stands behind the writes of `Writing`.
 const ROWS: Rows = (2, Some((3, None)), Some((2, Some(6))));
 
-/// More calls than an opening makes.
-const MOST: u64 = 200;
-
 /// Another's name.
 const ANOTHER: &[u8] = b"b";
-
-fn opened<S: Alter + Drop>(
-    rt: &impl Abort,
-    alloc: Global,
-    conn: Connection<S>,
-    owner: &[u8],
-) -> Result<SqlLog<S>, Fault> {
-    match SqlLog::open(alloc, conn, name(rt, owner), name(rt, b"c"), 9) {
-        Ok(log) => Ok(log),
-        Err((fault, _)) => Err(fault),
-    }
-}
 
 /// Sets two keys, and removes the first.
 #[derive(Drop)]
 struct Writing;
 
-impl Visit for Writing {
-    type Told = ();
+impl LogVisit for Writing {
+    type Outcome = ();
 
-    fn visit<S: Alter + Drop>(self, rt: &impl Abort, alloc: Global, conn: Connection<S>) {
-        let mut log = got(rt, opened(rt, alloc, conn, OWNER));
+    fn visit<L: WriteLog + Drop>(self, rt: &impl Abort, _: Global, mut log: L) {
         let answers = [
             set(rt, &mut log, b"x", 5),
             set(rt, &mut log, b"y", 6),
             remove(rt, &mut log, b"x"),
         ];
         same(rt, &settled(rt, answers), &[Ok(1), Ok(2), Ok(3)]);
-    }
-}
-
-/// Opens a log as its owner's or another's: the number of the fault, 0 where it opens.
-#[derive(Drop)]
-struct Opening {
-    owner: &'static [u8],
-}
-
-impl Visit for Opening {
-    type Told = u8;
-
-    fn visit<S: Alter + Drop>(self, rt: &impl Abort, alloc: Global, conn: Connection<S>) -> u8 {
-        match opened(rt, alloc, conn, self.owner) {
-            Ok(_) => 0,
-            Err(fault) => fault.number(),
-        }
-    }
-}
-
-/// Runs a statement.
-#[derive(Drop)]
-struct Changing {
-    sql: &'static str,
-}
-
-impl Visit for Changing {
-    type Told = ();
-
-    fn visit<S: Alter + Drop>(self, rt: &impl Abort, _: Global, mut conn: Connection<S>) {
-        got(rt, conn.execute(self.sql, &[]));
     }
 }
 
@@ -95,25 +49,14 @@ fn row_of(table: &Table, key: &Key) -> Row {
     }
 }
 
-/// Mends a log, and opens it as its owner's: its rows.
+/// Reads the rows of a log.
 #[derive(Drop)]
-struct Reading {
-    mend: Option<&'static str>,
-}
+struct Reading;
 
-impl Visit for Reading {
-    type Told = Rows;
+impl LogVisit for Reading {
+    type Outcome = Rows;
 
-    fn visit<S: Alter + Drop>(
-        self,
-        rt: &impl Abort,
-        alloc: Global,
-        mut conn: Connection<S>,
-    ) -> Rows {
-        if let Some(sql) = self.mend {
-            got(rt, conn.execute(sql, &[]));
-        }
-        let mut log = got(rt, opened(rt, alloc, conn, OWNER));
+    fn visit<L: WriteLog + Drop>(self, rt: &impl Abort, alloc: Global, mut log: L) -> Rows {
         let table = got(rt, log.load(alloc));
         let x = row_of(&table, &key(rt, b"x"));
         (table.len(), x, row_of(&table, &key(rt, b"y")))
@@ -124,54 +67,81 @@ impl Visit for Reading {
 #[derive(Clone, Copy)]
 struct Case {
     owner: &'static [u8],
-    spoil: Option<&'static str>,
-    mend: Option<&'static str>,
+    spoil: &'static [&'static str],
+    mend: &'static [&'static str],
     fault: u8,
 }
 
-const OWN: Case = Case {
+const WHOLE: Case = Case {
     owner: OWNER,
-    spoil: None,
-    mend: None,
+    spoil: &[],
+    mend: &[],
     fault: 0,
 };
 
 const ANOTHERS: Case = Case {
     owner: ANOTHER,
-    spoil: None,
-    mend: None,
+    spoil: &[],
+    mend: &[],
     fault: 20,
 };
 
 /// Versions that were forgotten are damage.
 const DAMAGED: Case = Case {
     owner: OWNER,
-    spoil: Some("UPDATE meta SET last = 7"),
-    mend: Some("UPDATE meta SET last = 0"),
+    spoil: &["UPDATE meta SET last = 7"],
+    mend: &["UPDATE meta SET last = 0"],
     fault: 19,
 };
 
 const OF_ANOTHER_FORM: Case = Case {
     owner: OWNER,
-    spoil: Some("UPDATE meta SET form = 2"),
-    mend: Some("UPDATE meta SET form = 1"),
+    spoil: &["UPDATE meta SET form = 2"],
+    mend: &["UPDATE meta SET form = 1"],
     fault: 19,
 };
 
 /// The files of a log that has rows, spoiled.
 fn written(rt: &impl Abort, alloc: Global, case: Case) -> Files<Memory> {
     let mut disks = new_disks(alloc);
-    got(rt, on_disks(rt, alloc, &mut disks, ENDLESS, Writing));
-    if let Some(sql) = case.spoil {
-        got(
-            rt,
-            on_disks(rt, alloc, &mut disks, ENDLESS, Changing { sql }),
-        );
+    got(
+        rt,
+        log_on_disks(rt, alloc, &mut disks, ENDLESS, OWN, Writing),
+    );
+    for sql in case.spoil {
+        run_on_disks(rt, alloc, &mut disks, sql);
     }
     disks
 }
 
-/// Opens a copy of such files while a call may fail, and then again: each row is there. The fault of the first.
+/// Opens it while a call may fail, and lets what was not synced be lost. The number of the fault.
+fn open_once(
+    rt: &impl Abort,
+    alloc: Global,
+    disks: &mut Files<Memory>,
+    calls: Calls,
+    owner: &[u8],
+) -> u8 {
+    let opening = Opening { owner, ..OWN };
+    let opened = log_on_disks(rt, alloc, disks, calls, opening, Looking);
+    disks.log.crash();
+    disks.db.crash();
+    number_of(rt, opened)
+}
+
+/// The rows of a log that is mended and opened as its owner's.
+fn rows_of(rt: &impl Abort, alloc: Global, disks: &mut Files<Memory>, mend: &[&str]) -> Rows {
+    let opening = Opening {
+        statements: mend,
+        ..OWN
+    };
+    got(
+        rt,
+        log_on_disks(rt, alloc, disks, ENDLESS, opening, Reading),
+    )
+}
+
+/// Opens a copy of such files while a call may fail, and then again: each row is there. The number of the first fault.
 fn open_twice(
     rt: &impl Abort,
     alloc: Global,
@@ -180,65 +150,93 @@ fn open_twice(
     case: Case,
 ) -> u8 {
     let mut disks = whole_copy(rt, alloc, files);
-    let opening = Opening { owner: case.owner };
-    let told = on_disks(rt, alloc, &mut disks, calls, opening).unwrap_or(18);
-    disks.log.crash();
-    disks.db.crash();
-    let mend = case.mend;
-    let rows = got(
-        rt,
-        on_disks(rt, alloc, &mut disks, ENDLESS, Reading { mend }),
-    );
+    let number = open_once(rt, alloc, &mut disks, calls, case.owner);
+    let rows = rows_of(rt, alloc, &mut disks, case.mend);
     same_at(rt, &(calls.log, case.fault), &rows, &ROWS);
-    told
+    number
 }
 
-/// Lets each call of the log's file fail in its turn, until none is left to fail: how many there are.
-fn miss_each(rt: &impl Abort, alloc: Global, case: Case, after: After) -> u64 {
+/// Lets one call of the log's file fail, each from the one to the other in its turn: no opening succeeds, or says another fault.
+fn miss_each(rt: &impl Abort, alloc: Global, case: Case, after: After, from: u64, to: u64) {
     let files = written(rt, alloc, case);
-    for log in 0..MOST {
+    for log in from..to {
         let calls = Calls {
             log,
             after,
             ..ENDLESS
         };
-        let told = open_twice(rt, alloc, &files, calls, case);
-        if told == case.fault {
-            return log;
-        }
-        same_at(rt, &log, &told, &18);
+        let number = open_twice(rt, alloc, &files, calls, case);
+        same_at(rt, &log, &number, &18);
     }
-    MOST
+}
+
+/// Lets the call behind so many of the log's file fail: the opening has ended as it does on disks that don't fail.
+fn ends_within(rt: &impl Abort, alloc: Global, case: Case, log: u64) {
+    let files = written(rt, alloc, case);
+    let number = open_twice(rt, alloc, &files, Calls { log, ..ENDLESS }, case);
+    same_at(rt, &log, &number, &case.fault);
 }
 
 // The log's file has 16 frames, and 17 behind a change of the row of meta. An opening reads each four times, and makes 33 other calls:
-// of the lengths, the header, the page behind the last frame, the gate, the five pages, twice, and syncs.
+// of the lengths, the header, the page behind the last frame, the gate, the five pages, twice, and syncs. Each of them is let fail below.
 #[test]
-fn an_opening_that_fails_loses_nothing(rt: HostRuntime) {
-    let calls = miss_each(&rt, rt.alloc(), OWN, After::Answering);
-    same(&rt, &calls, &97);
+fn an_opening_makes_97_calls(rt: HostRuntime) {
+    ends_within(&rt, rt.alloc(), WHOLE, 97);
+    ends_within(&rt, rt.alloc(), ANOTHERS, 97);
 }
 
 #[test]
-fn an_opening_on_a_disk_that_stops_loses_nothing(rt: HostRuntime) {
-    let calls = miss_each(&rt, rt.alloc(), OWN, After::Failing);
-    same(&rt, &calls, &97);
+fn an_opening_behind_a_change_makes_101_calls(rt: HostRuntime) {
+    ends_within(&rt, rt.alloc(), DAMAGED, 101);
+    ends_within(&rt, rt.alloc(), OF_ANOTHER_FORM, 101);
 }
 
 #[test]
-fn an_opening_as_anothers_loses_nothing(rt: HostRuntime) {
-    let calls = miss_each(&rt, rt.alloc(), ANOTHERS, After::Answering);
-    same(&rt, &calls, &97);
+fn an_opening_that_fails_at_calls_1_to_50_loses_nothing(rt: HostRuntime) {
+    miss_each(&rt, rt.alloc(), WHOLE, After::Answering, 0, 50);
 }
 
 #[test]
-fn an_opening_that_tells_damage_loses_nothing(rt: HostRuntime) {
-    let calls = miss_each(&rt, rt.alloc(), DAMAGED, After::Answering);
-    same(&rt, &calls, &101);
+fn an_opening_that_fails_at_calls_51_to_97_loses_nothing(rt: HostRuntime) {
+    miss_each(&rt, rt.alloc(), WHOLE, After::Answering, 50, 97);
 }
 
 #[test]
-fn an_opening_of_another_form_loses_nothing(rt: HostRuntime) {
-    let calls = miss_each(&rt, rt.alloc(), OF_ANOTHER_FORM, After::Answering);
-    same(&rt, &calls, &101);
+fn an_opening_on_a_disk_that_stops_at_calls_1_to_50_loses_nothing(rt: HostRuntime) {
+    miss_each(&rt, rt.alloc(), WHOLE, After::Failing, 0, 50);
+}
+
+#[test]
+fn an_opening_on_a_disk_that_stops_at_calls_51_to_97_loses_nothing(rt: HostRuntime) {
+    miss_each(&rt, rt.alloc(), WHOLE, After::Failing, 50, 97);
+}
+
+#[test]
+fn an_opening_as_anothers_that_fails_at_calls_1_to_50_loses_nothing(rt: HostRuntime) {
+    miss_each(&rt, rt.alloc(), ANOTHERS, After::Answering, 0, 50);
+}
+
+#[test]
+fn an_opening_as_anothers_that_fails_at_calls_51_to_97_loses_nothing(rt: HostRuntime) {
+    miss_each(&rt, rt.alloc(), ANOTHERS, After::Answering, 50, 97);
+}
+
+#[test]
+fn an_opening_of_damage_that_fails_at_calls_1_to_50_loses_nothing(rt: HostRuntime) {
+    miss_each(&rt, rt.alloc(), DAMAGED, After::Answering, 0, 50);
+}
+
+#[test]
+fn an_opening_of_damage_that_fails_at_calls_51_to_101_loses_nothing(rt: HostRuntime) {
+    miss_each(&rt, rt.alloc(), DAMAGED, After::Answering, 50, 101);
+}
+
+#[test]
+fn an_opening_of_another_form_that_fails_at_calls_1_to_50_loses_nothing(rt: HostRuntime) {
+    miss_each(&rt, rt.alloc(), OF_ANOTHER_FORM, After::Answering, 0, 50);
+}
+
+#[test]
+fn an_opening_of_another_form_that_fails_at_calls_51_to_101_loses_nothing(rt: HostRuntime) {
+    miss_each(&rt, rt.alloc(), OF_ANOTHER_FORM, After::Answering, 50, 101);
 }

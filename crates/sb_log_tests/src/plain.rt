@@ -1,13 +1,13 @@
 //! A log in memory: what it keeps, and what it refuses.
-use crate::writes::{Answer, OWNER, held, is_entry, key, many, name, put, remove, set, settled};
+use crate::writes::{
+    Answer, CLUSTER, OWNER, held, is_entry, key, many, name, put, remove, set, settled,
+};
 use crate::{got, same};
 use sb_log::{PlainLog, WriteLog};
 use sb_table::Table;
 use sb_types::{Fault, KEYS_MOST, Key, Slot, Value};
 use std::alloc::Global;
 use std::process::Abort;
-
-const CLUSTER: &[u8] = b"sim";
 
 fn plain_log(rt: &impl Abort, alloc: Global, max_version: u64) -> PlainLog {
     PlainLog::new(alloc, name(rt, OWNER), name(rt, CLUSTER), max_version)

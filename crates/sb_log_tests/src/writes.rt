@@ -8,6 +8,9 @@ use std::process::Abort;
 /// Whose logs these are.
 pub const OWNER: &[u8] = b"a";
 
+/// The owner's cluster.
+pub const CLUSTER: &[u8] = b"sim";
+
 /// The version of a write, or why it was refused.
 pub type Answer = Result<u64, Fault>;
 

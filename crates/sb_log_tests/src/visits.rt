@@ -1,0 +1,168 @@
+//! A log that is opened in a database, in memory alone or over two disks, and what is done with it there.
+use crate::disks::{Calls, DatabaseVisit, ENDLESS, in_memory, on_disks};
+use crate::got;
+use crate::writes::{CLUSTER, OWNER, name};
+use sb_log::{SqlLog, WriteLog};
+use sb_types::Fault;
+use sqlite::{Alter, Connection, Error, Files};
+use sqlite_disk::Memory;
+use sqlite_value::value::ValueRef;
+use std::alloc::Global;
+use std::process::Abort;
+
+/// As whose log a database is opened, up to which version, and which statements are run in it before.
+#[derive(Clone, Copy)]
+pub struct Opening<'a> {
+    pub owner: &'a [u8],
+    pub max_version: u64,
+    pub statements: &'a [&'a str],
+}
+
+pub const OWN: Opening<'static> = Opening {
+    owner: OWNER,
+    max_version: 9,
+    statements: &[],
+};
+
+/// What is done with an open log, wherever it keeps its writes.
+pub trait LogVisit {
+    type Outcome;
+
+    fn visit<L: WriteLog + Drop>(self, rt: &impl Abort, alloc: Global, log: L) -> Self::Outcome;
+}
+
+/// A visit to a log that does nothing: it opens.
+#[derive(Drop)]
+pub struct Looking;
+
+impl LogVisit for Looking {
+    type Outcome = ();
+
+    fn visit<L: WriteLog + Drop>(self, _: &impl Abort, _: Global, _log: L) {}
+}
+
+// It has no clause, so that the proof of a test does not carry the state of each call.
+fn run<S: Alter>(conn: &mut Connection<S>, sql: &str) -> Result<usize, Error> {
+    conn.execute(sql, &[])
+}
+
+fn run_each<S: Alter>(rt: &impl Abort, conn: &mut Connection<S>, statements: &[&str]) {
+    for sql in statements {
+        got(rt, run(conn, sql));
+    }
+}
+
+/// Opens a database as a log: the one place that has a log in a database, and that drops what a refused opening hands back.
+fn open<S: Alter + Drop, V: LogVisit + Drop>(
+    rt: &impl Abort,
+    alloc: Global,
+    conn: Connection<S>,
+    opening: Opening<'_>,
+    visitor: V,
+) -> Result<V::Outcome, Fault> {
+    let owner = name(rt, opening.owner);
+    match SqlLog::open(alloc, conn, owner, name(rt, CLUSTER), opening.max_version) {
+        Ok(log) => Ok(visitor.visit(rt, alloc, log)),
+        Err((fault, _)) => Err(fault),
+    }
+}
+
+/// Runs statements, opens a log, and visits it.
+#[derive(Drop)]
+struct Visiting<'a, V> {
+    opening: Opening<'a>,
+    visitor: V,
+}
+
+impl<V: LogVisit + Drop> DatabaseVisit for Visiting<'_, V> {
+    type Outcome = Result<V::Outcome, Fault>;
+
+    fn visit<S: Alter + Drop>(
+        self,
+        rt: &impl Abort,
+        alloc: Global,
+        mut conn: Connection<S>,
+    ) -> Result<V::Outcome, Fault> {
+        let Visiting { opening, visitor } = self;
+        run_each(rt, &mut conn, opening.statements);
+        open(rt, alloc, conn, opening, visitor)
+    }
+}
+
+/// What comes of a visit to a log in memory, or the fault of its opening.
+pub fn log_in_memory<V: LogVisit + Drop>(
+    rt: &impl Abort,
+    alloc: Global,
+    opening: Opening<'_>,
+    visitor: V,
+) -> Result<V::Outcome, Fault> {
+    in_memory(rt, alloc, Visiting { opening, visitor })
+}
+
+/// What comes of a visit to a log on disks of which a call may fail, or the fault of its opening.
+pub fn log_on_disks<V: LogVisit + Drop>(
+    rt: &impl Abort,
+    alloc: Global,
+    disks: &mut Files<Memory>,
+    calls: Calls,
+    opening: Opening<'_>,
+    visitor: V,
+) -> Result<V::Outcome, Fault> {
+    match on_disks(rt, alloc, disks, calls, Visiting { opening, visitor }) {
+        Ok(outcome) => outcome,
+        Err(fault) => Err(fault),
+    }
+}
+
+/// The number of the fault of an opening, 0 where it opens; where memory ran out, the end of the test.
+pub fn number_of(rt: &impl Abort, opened: Result<(), Fault>) -> u8 {
+    match opened {
+        Ok(()) => 0,
+        Err(Fault::NoMemory) => panic!(rt; "error: NoMemory"),
+        Err(fault) => fault.number(),
+    }
+}
+
+/// Runs a statement.
+#[derive(Drop)]
+struct Running<'a> {
+    sql: &'a str,
+}
+
+impl DatabaseVisit for Running<'_> {
+    type Outcome = ();
+
+    fn visit<S: Alter + Drop>(self, rt: &impl Abort, _: Global, mut conn: Connection<S>) {
+        got(rt, run(&mut conn, self.sql));
+    }
+}
+
+/// Runs a statement in a database over disks.
+pub fn run_on_disks(rt: &impl Abort, alloc: Global, disks: &mut Files<Memory>, sql: &str) {
+    got(rt, on_disks(rt, alloc, disks, ENDLESS, Running { sql }));
+}
+
+fn count_of<S: Alter>(rt: &impl Abort, conn: &mut Connection<S>) -> i64 {
+    let row = got(rt, conn.query_row("SELECT count(*) FROM writes", &[]));
+    match row.get_ref(0) {
+        Ok(ValueRef::Int(count)) => count,
+        _ => -1,
+    }
+}
+
+/// Counts the rows of writes.
+#[derive(Drop)]
+struct Counting;
+
+impl DatabaseVisit for Counting {
+    type Outcome = i64;
+
+    fn visit<S: Alter + Drop>(self, rt: &impl Abort, _: Global, mut conn: Connection<S>) -> i64 {
+        count_of(rt, &mut conn)
+    }
+}
+
+/// How many rows of writes a database over disks has.
+pub fn rows_on_disks(rt: &impl Abort, alloc: Global, disks: &mut Files<Memory>) -> i64 {
+    got(rt, on_disks(rt, alloc, disks, ENDLESS, Counting))
+}
