@@ -281,7 +281,7 @@ fn about_exchange(fault: &Fault, place: Place<'_>) -> &'static str {
             Place::Control(_) =>
                 "the node ended the connection: see whether it runs, and try again",
             Place::Metrics(_) =>
-                "this is the path of the node's log or of a socket, or what is there is no file of metrics: give another path",
+                "give another path: this one is empty, or that of the node's log or of a socket, or what is there is no file of metrics",
             _ =>
                 "see where standard output goes; what was printed before stands, and so does a write that was asked for",
         },

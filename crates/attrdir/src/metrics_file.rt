@@ -34,14 +34,19 @@ impl<'a> MetricsFile<'a> {
         self.path
     }
 
-    /// Writes it as a whole: another file is written beside it and takes its place. Where that fails what was there stays.
+    /// Writes it as a whole: another file is written beside it and takes its place. Where that fails what was there stays, and
+    /// nothing is left beside it.
     pub(crate) fn write(&self, rt: &HostRuntime, metrics: &Metrics<'_, '_>) -> io::Result<()> {
         let beside = format!(in rt.alloc(); "{}{}", self.path, BESIDE)?;
         let text = format!(in rt.alloc(); "{metrics}")?;
-        fs::write(rt, beside.as_str(), text.as_str())?;
-        fs::rename(rt, beside.as_str(), self.path)?;
-        self.is_own.store(true, Ordering::SeqCst);
-        Ok(())
+        let replaced = replace(rt, self.path, beside.as_str(), text.as_str());
+        match replaced {
+            Ok(()) => self.is_own.store(true, Ordering::SeqCst),
+            Err(_) => {
+                let _ = fs::remove_file(rt, beside.as_str());
+            }
+        }
+        replaced
     }
 
     /// Takes down whether it could be written, and says whether that is otherwise than the last time.
@@ -56,6 +61,12 @@ impl<'a> MetricsFile<'a> {
             let _ = fs::remove_file(rt, self.path);
         }
     }
+}
+
+/// Writes a text to a file beside the one at a path, and puts it in its place.
+fn replace(rt: &HostRuntime, path: &str, beside: &str, text: &str) -> io::Result<()> {
+    fs::write(rt, beside, text)?;
+    fs::rename(rt, beside, path)
 }
 
 /// Whether the file at a path is empty or begins as metrics do.

@@ -99,7 +99,7 @@ fn unreachable_peer<'a>(given: &Given<'a>) -> Option<&'a str> {
         .find(|path| path.is_empty() || path.len() > SOCKET_PATH_MOST)
 }
 
-/// The path for metrics, where these would take the place of something else.
+/// The path for metrics, where it is empty or these would take the place of something else.
 fn taken_for_metrics<'a>(rt: &HostRuntime, given: &Given<'a>) -> Option<&'a str> {
     let path = given.metrics?;
     for other in [given.log, given.sock, given.control] {
@@ -107,7 +107,7 @@ fn taken_for_metrics<'a>(rt: &HostRuntime, given: &Given<'a>) -> Option<&'a str>
             return Some(path);
         }
     }
-    if may_replace(rt, path) {
+    if !path.is_empty() && may_replace(rt, path) {
         None
     } else {
         Some(path)
