@@ -57,7 +57,7 @@ fn end_of(status: &Status<'_>, index: usize) -> (LastRound, u64) {
     }
 }
 
-fn counted(status: &Status<'_>) -> Counted {
+fn counts_of(status: &Status<'_>) -> Counted {
     Counted {
         rounds: status.rounds,
         faults: status.faults,
@@ -93,7 +93,7 @@ impl<R: Wait + Abort> Observer for Listener<'_, R> {
         if status.rounds == self.behind {
             let ends = [end_of(status, 0), end_of(status, 1)];
             let mut told = self.told.lock(self.rt);
-            *told = Some((counted(status), ends, shown(self.rt, status)));
+            *told = Some((counts_of(status), ends, shown(self.rt, status)));
         }
     }
 }
