@@ -68,7 +68,7 @@ fn counts_of(status: &Status<'_>) -> Counted {
     }
 }
 
-fn shown(rt: &impl Abort, status: &Status<'_>) -> Shown {
+fn shown_to(rt: &impl Abort, status: &Status<'_>) -> Shown {
     let snapshot = &status.snapshot;
     let upto = [
         snapshot.upto(&name(rt, b"a")),
@@ -93,7 +93,7 @@ impl<R: Wait + Abort> Observer for Listener<'_, R> {
         if status.rounds == self.behind {
             let ends = [end_of(status, 0), end_of(status, 1)];
             let mut told = self.told.lock(self.rt);
-            *told = Some((counts_of(status), ends, shown(self.rt, status)));
+            *told = Some((counts_of(status), ends, shown_to(self.rt, status)));
         }
     }
 }
