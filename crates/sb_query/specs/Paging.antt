@@ -1,5 +1,7 @@
 -- Questions for all rows that are asked for, page after page.
-use Rattle.std.specs.Prelude.{◌≡◌, ℕ, Bool, true, false, ◌&&◌, ◌⊎◌, List, [], ◌∷◌, ◌++◌, length, Option, Some, None, Unit}
+use Rattle.std.specs.Prelude.{◌≡◌, ℕ, Bool, true, false, ◌&&◌, ◌⊎◌, List, [], ◌∷◌, ◌++◌, length, Option, Some, None}
+use Rattle.std.specs.Ordering.{nat_cmp, is_lt, ordering_then}
+use Rattle.std.specs.Cmp.Lexicographic.{slice_cmp}
 use Rattle.sb_types.specs.declared.fault.Fault.{Fault}
 use Rattle.sb_types.specs.declared.fault.Fault.TheVariants.{Malformed, TurnsSpent}
 use Rattle.sb_types.specs.declared.format.TheConstants.{KIND_ROWS}
@@ -15,6 +17,11 @@ use Rattle.sb_query.specs.declared.paging.PagingFault.TheVariants.{Failed, Wrong
 pub data Act : Type 0 where
   asks : Ask → Rows → Act
   takes : Rows → Act
+
+-- a row stands behind a place, by its owner and then by its key
+abbrev pub lies_behind : Option (List ℕ × List ℕ) → Row → Bool
+lies_behind None row = true
+lies_behind (Some place) row = is_lt (ordering_then (slice_cmp nat_cmp place.0 row.owner) (slice_cmp nat_cmp place.1 row.key))
 
 abbrev pub lie_behind : Option (List ℕ × List ℕ) → List Row → Bool
 lie_behind None rows = true

@@ -20,7 +20,7 @@ pub fn pages_follow()
 /// Where each page is the answer to its question from one view, all pages have just the rows that are asked for: each once.
 pub fn listings_are_whole<P: Pager>()
     ensures { (view : Page) → ((old new : P) (question : ask.Ask) (page : records.Rows) → P.step old (asks question page) new
-            → (budget : ℕ) × IsLongestPage budget (asked_rows question view) page)
+        → (budget : ℕ) × IsLongestPage budget (asked_rows question view) page)
         → (old new : P) (question : ask.Ask) (pages : List records.Rows) (last : records.Rows) → Lists P.step old question pages last new
         → flat_map (λ p. p.rows) pages ++ last.rows ≡ asked_rows question view }
 {}

@@ -38,18 +38,28 @@ pub enum PagingFault<E> {
     Wrong(Fault),
 }
 
-/// Whether each row of a page lies behind the place that was asked for, and it has a row where it says that more follow.
-pub fn goes_on(page: &Rows, after: Option<(Name, Key)>) -> bool
-    ensures { result ≡ paging.goes_on after page.now }
+/// Whether a row lies behind a place.
+fn is_behind(row: &Row, after: Option<(Name, Key)>) -> bool
+    ensures { result ≡ paging.lies_behind after row.now }
 {
-    match (page.rows().first(), after) {
-        (None, _) => !page.more(),
-        (Some(_), None) => true,
-        (Some(row), Some((owner, key))) => owner
+    match after {
+        None => true,
+        Some((owner, key)) => owner
             .bytes()
             .cmp(row.owner().bytes())
             .then(key.bytes().cmp(row.key().bytes()))
             .is_lt(),
+    }
+}
+
+/// Whether each row of a page lies behind the place that was asked for, and it has a row where it says that more follow.
+#[tactic(auto, using(crate::proofs::Listing::first_behind, crate::proofs::Listing::none_behind))]
+pub fn goes_on(page: &Rows, after: Option<(Name, Key)>) -> bool
+    ensures { result ≡ paging.goes_on after page.now }
+{
+    match page.rows().split_first() {
+        None => !page.more(),
+        Some((row, _)) => is_behind(row, after),
     }
 }
 
