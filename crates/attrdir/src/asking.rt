@@ -187,6 +187,7 @@ pub(crate) fn print_page(rt: &HostRuntime, page: &Rows, form: Form) -> Result<()
 }
 
 /// Asks a node for pages, and prints them.
+#[derive(Drop)]
 struct Printer<'r, 'a> {
     rt: &'r HostRuntime,
     control: &'a str,

@@ -24,7 +24,16 @@ pub(crate) struct Watched {
     pub(crate) marks: bool,
 }
 
+/// Adds the rows of a page. `NoMemory`.
+fn add_rows(rt: &HostRuntime, rows: &mut Vec<Row>, page: &Rows) -> Result<(), Fault> {
+    for row in page.rows() {
+        rows.push(copy_of(rt.alloc(), row)?)?;
+    }
+    Ok(())
+}
+
 /// Asks a node for pages, and keeps their rows.
+#[derive(Drop)]
 struct Collector<'r, 'a> {
     rt: &'r HostRuntime,
     control: &'a str,
@@ -41,9 +50,7 @@ impl<'a> Pager for Collector<'_, 'a> {
     }
 
     fn take(&mut self, page: &Rows) -> Result<(), Failure<'a>> {
-        for row in page.rows() {
-            self.rows.push(copy_of(self.rt.alloc(), row)?)?;
-        }
+        add_rows(self.rt, &mut self.rows, page)?;
         Ok(())
     }
 }
