@@ -2,7 +2,7 @@
 use crate::course::{Course, Run, run_locked, run_new, run_new_seated, run_seated};
 use crate::desk::{Answer, Call, Case, noted};
 use crate::making::{full_table, node_of, written_log};
-use crate::{got, same};
+use crate::got;
 use sb_holdings::BlockEnd;
 use sb_log::WriteLog;
 use sb_types::Fault;
@@ -173,10 +173,4 @@ fn a_peer_has_later_writes(rt: HostRuntime) {
         alloc,
     };
     run_seated(&rt, core, run);
-}
-
-#[test]
-fn numbers_of_these_faults(rt: HostRuntime) {
-    same(&rt, &Fault::NoWatch.number(), &26);
-    same(&rt, &Fault::OutOfTurn(2).number(), &31);
 }
