@@ -1,10 +1,10 @@
 -- What a watch answers, where one stands and where none does.
-use Rattle.std.proofs.Common.{◌≡◌, ℕ, Bool, true, false, cond, ◌||◌, List, [], ◌∷◌, find, Option, Some, None, is_some, Result, Ok, Err, IfErr, OnErr, refl, sym, ap, subst, ◌∙◌, arith}
+use Rattle.std.proofs.Common.{◌≡◌, ◌≢◌, ℕ, Bool, true, false, cond, ◌||◌, List, [], ◌∷◌, find, Option, Some, None, is_some, Result, Ok, Err, IfErr, OnErr, refl, sym, subst, ◌∙◌}
 use Rattle.std.proofs.lemmas.Bool.{false≢true}
 use Rattle.std.specs.List.{list_any}
 use Rattle.sb_types.specs.declared.fault.Fault.{Fault}
-use Rattle.sb_types.specs.declared.fault.Fault.TheVariants.{NoWatch}
-use Rattle.sb_types.specs.Faults.{Gives, number_of}
+use Rattle.sb_types.specs.declared.fault.Fault.TheVariants.{NoMemory, NoWatch}
+use Rattle.sb_types.specs.Faults.{Gives}
 use Rattle.sb_watch.specs.declared.note.Polled.{Polled}
 use Rattle.sb_watch.specs.Records.{Watch, Hub}
 use Rattle.sb_watch.specs.Hubs.{is_id, has_watch, watch_at, answer_if_found, answer_at}
@@ -44,8 +44,8 @@ gives-itself (Ok polled) = refl
 gives-itself (Err fault) = λ other. refl
 
 -- where a watch stands the answer is never that none does
-pub stands : (hub : Hub) (id : ℕ) (answer : Result Polled Fault) (P : Fault → Type 0) → has_watch hub id ≡ true → Gives answer (answer_at hub id) → IfErr answer (λ fault. fault ≡ NoWatch → P fault)
-stands hub id (Ok polled) P some gives = tt
-stands hub id (Err fault) P some gives = λ none.
-    let given : answer_at hub id ≡ Err fault = gives (λ wants. absurd (omega (arith, ap number_of (sym none ∙ wants)))) in
-    absurd (subst (λ (r : Result Polled Fault). IfErr r (λ other. ⊥)) given (answer-some hub id some))
+pub stands : (hub : Hub) (id : ℕ) (answer : Result Polled Fault) (P : Type 0) → has_watch hub id ≡ true → Gives answer (answer_at hub id) → answer ≡ Err NoWatch → P
+stands hub id answer P some gives none =
+    let given : NoWatch ≢ NoMemory → answer_at hub id ≡ Err NoWatch = subst (λ (r : Result Polled Fault). Gives r (answer_at hub id)) none gives in
+    let is : answer_at hub id ≡ Err NoWatch = given (λ same. absurd cc) in
+    absurd (subst (λ (r : Result Polled Fault). IfErr r (λ other. ⊥)) is (answer-some hub id some))

@@ -242,7 +242,7 @@ impl<S: Configured, R: Wait + Drop> Directory<S, R> {
         id: WatchId,
     ) -> Result<Polled, Fault>
         ensures answer { (hub : Hub) × Gives result (answer_at hub id) × IfErr (answer_at hub id) (λ fault. result ≡ Err fault) }
-        ensures seat { IfErr result (λ fault. fault ≡ Fault.NoWatch → seat.new ≡ spec.with_known seat.old seat.new.known) }
+        ensures seat { result ≡ Err Fault.NoWatch → seat.new ≡ spec.with_known seat.old seat.new.known }
         ensures held { (note : Note) → result ≡ Ok (answers.Note note) → note.version ≤ (shown_of (node_after S.opening seat.new.told).held note.owner).held }
         ensures told { OnOk result (seat.new.told ≡ seat.new.known) }
         ensures knew { spec.Begins seat.new.known seat.old }

@@ -26,15 +26,15 @@ returns-clause-held g c note given =
     subst (λ (n : Node). note.version ≤ (shown_of n.held note.owner).held) (c.front-story.ensures.node ∙ ap (node_after opening) (sym told)) kept
 
 pub returns-clause-none : goal.returns-clause-none
-returns-clause-none g c =
+returns-clause-none g c none =
     let has : Locked → Bool = λ l. has_watch l.hub c.args.id in
     let stood : has c.self-2.inside.locked ≡ true =
     ap has (c.self-2.view_is ∙ c.refresh.ensures.left) ∙ ap has (sym c.self.view_is) ∙ sym c.has_watch.ensures ∙ c.if-not-has_watch.false in
-    stands c.self-2.inside.locked.hub c.args.id c.poll.result _ stood c.poll.ensures.answer
+    stands c.self-2.inside.locked.hub c.args.id c.poll.result _ stood c.poll.ensures.answer none
 
 pub returns-clause-seat : goal.returns-clause-seat
-returns-clause-seat g c =
+returns-clause-seat g c none =
     let has : Locked → Bool = λ l. has_watch l.hub c.args.id in
     let stood : has c.self-2.inside.locked ≡ true =
     ap has (c.self-2.view_is ∙ c.refresh.ensures.left) ∙ ap has (sym c.self.view_is) ∙ sym c.has_watch.ensures ∙ c.if-not-has_watch.false in
-    stands c.self-2.inside.locked.hub c.args.id c.poll.result _ stood c.poll.ensures.answer
+    stands c.self-2.inside.locked.hub c.args.id c.poll.result _ stood c.poll.ensures.answer none
