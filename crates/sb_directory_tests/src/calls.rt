@@ -1,8 +1,8 @@
 //! A node, behind its lock and from a seat of its directory: what its calls answer, and what readers are shown of it.
 use crate::course::{Course, Run, run_locked, run_new, run_new_seated, run_seated};
 use crate::desk::{Answer, Call, Case, noted};
-use crate::making::{full_table, node_of, written_log};
 use crate::got;
+use crate::making::{full_table, node_of, written_log};
 use sb_holdings::BlockEnd;
 use sb_log::WriteLog;
 use sb_types::Fault;
