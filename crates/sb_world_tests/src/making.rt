@@ -85,6 +85,10 @@ fn refusal(rt: &impl Abort, alloc: Global, is_a_open: bool, is_b_open: bool) -> 
 #[test]
 fn a_log_that_cannot_be_read_is_told_as_what_it_is(rt: HostRuntime) {
     let alloc = rt.alloc();
-    same(&rt, &refusal(&rt, alloc, true, false), &Some(Fault::LogDamaged));
+    same(
+        &rt,
+        &refusal(&rt, alloc, true, false),
+        &Some(Fault::LogDamaged),
+    );
     same(&rt, &refusal(&rt, alloc, false, true), &Some(Fault::Closed));
 }
