@@ -67,7 +67,7 @@ returns-in_err-opened-clause-why g c =
     let turn = YieldsList-turn source done _ c.loop-log.yielded_by _ c.next.new.self log c.in-Some-log.is c.next.ensures.steps in
     let so_far : done ≡ take (length done) logs = sym (map_same done) ∙ YieldsList-so_far source done _ c.loop-log.yielded_by in
     let before : (l : records.Log) → Stands (map seen (take (length done) logs)) l → l.is_open ≡ true =
-        subst (λ ls. (l : records.Log) → Stands (map seen ls) l → l.is_open ≡ true) so_far c.loop-log.invariant.stood in
+    subst (λ ls. (l : records.Log) → Stands (map seen ls) l → l.is_open ≡ true) so_far c.loop-log.invariant.stood in
     let given : c.refusal.result ≡ refusal c.args.settings (map seen logs) = c.refusal.ensures ∙ ap (λ ls. refusal c.args.settings (map seen ls)) c.deref.ensures.value in
     let none : refusal c.args.settings (map seen logs) ≡ None = sym given ∙ none_given c.refusal.result c.in_default.not-Some in
     let p = err_from_is_err_and c.from_residual-in_err-opened.result c.from_residual-in_err-opened.ensures.1 in
@@ -84,7 +84,7 @@ returns-in_err-push-clause-why g c =
     let turn = YieldsList-turn source done _ c.loop-log.yielded_by _ c.next.new.self log c.in-Some-log.is c.next.ensures.steps in
     let so_far : done ≡ take (length done) logs = sym (map_same done) ∙ YieldsList-so_far source done _ c.loop-log.yielded_by in
     let before : (l : records.Log) → Stands (map seen (take (length done) logs)) l → l.is_open ≡ true =
-        subst (λ ls. (l : records.Log) → Stands (map seen ls) l → l.is_open ≡ true) so_far c.loop-log.invariant.stood in
+    subst (λ ls. (l : records.Log) → Stands (map seen ls) l → l.is_open ≡ true) so_far c.loop-log.invariant.stood in
     let given : c.refusal.result ≡ refusal c.args.settings (map seen logs) = c.refusal.ensures ∙ ap (λ ls. refusal c.args.settings (map seen ls)) c.deref.ensures.value in
     let none : refusal c.args.settings (map seen logs) ≡ None = sym given ∙ none_given c.refusal.result c.in_default.not-Some in
     let p = err_from_is_err_and c.from_residual-in_err-push.result c.from_residual-in_err-push.ensures.1 in
