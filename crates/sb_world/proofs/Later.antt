@@ -14,7 +14,7 @@ use Rattle.sb_holdings.proofs.Steps.{later}
 use Rattle.sb_world.specs.declared.event.Event.{Event}
 use Rattle.sb_world.specs.declared.event.Answer.{Answer}
 use Rattle.sb_world.specs.Places.{Place, place_at}
-use Rattle.sb_world.specs.Turns.{Effect, rests, logs, goes, hears, opens}
+use Rattle.sb_world.specs.Turns.{Effect, rests, logs, goes, listens, opens}
 use Rattle.sb_world.specs.Events.{place_for}
 use Rattle.sb_world.specs.Hearing.{events_in}
 use Rattle.sb_world.specs.States.{Past, State, past_after, remembered, Moves, Run}
@@ -34,7 +34,7 @@ by_effect : (me : List ℕ) (writes : List Write) (a : Past) (effect : Effect) �
 by_effect me writes a rests = inr (refl, [], refl, sym (append-nil a.since))
 by_effect me writes a (logs w) = inr (refl, [], refl, sym (append-nil a.since))
 by_effect me writes a (goes events) = inr (refl, events, refl, refl)
-by_effect me writes a (hears bytes heard) = inr (refl, events_in heard, refl, refl)
+by_effect me writes a (listens bytes heard) = inr (refl, events_in heard, refl, refl)
 by_effect me writes a opens = inl (omega arith)
 
 chained : (a b c : Past) → Follows a b → Follows b c → Follows a c

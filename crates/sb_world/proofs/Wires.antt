@@ -23,7 +23,7 @@ use Rattle.sb_world.specs.Events.{answers_to, Acts, ActsWhere, Does}
 use Rattle.sb_world.specs.Hearing.{Listener, Heard, Hears, Tells}
 use Rattle.sb_world.specs.Lines.{laid_out}
 use Rattle.sb_world.specs.Places.{Place, frame_at}
-use Rattle.sb_world.specs.Turns.{Turn, rests, hears, still, sent_turn, with_core}
+use Rattle.sb_world.specs.Turns.{Turn, rests, listens, still, sent_turn, with_core}
 use Rattle.sb_world.specs.Wires.{Wire, new_wire, messages_in, begun_by, lined_by, heard_on, wired, wires_by, IsHistory, IsTrueWire, IsPastWire, AreDistinct, AreTrueWires}
 use Rattle.sb_world.proofs.Acting.{frame_stands}
 use Rattle.sb_world.proofs.Keeping.{joined}

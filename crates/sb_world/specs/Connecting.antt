@@ -16,7 +16,7 @@ use Rattle.sb_world.specs.declared.event.Answer.TheVariants as answers
 use Rattle.sb_world.specs.Connections.{Connection, with_connection, without_connection}
 use Rattle.sb_world.specs.Hearing.{Listener, listener_of, Heard, Hears, Tells}
 use Rattle.sb_world.specs.Places.{Place}
-use Rattle.sb_world.specs.Turns.{Turn, hears, still, sent_turn, with_core}
+use Rattle.sb_world.specs.Turns.{Turn, listens, still, sent_turn, with_core}
 
 -- nothing changes
 abbrev pub Stays : Place → List Connection → Result Answer Fault → Turn → List Connection → Type 0
@@ -96,7 +96,7 @@ connections_after (Some fault) conns number c = without_connection conns number
 abbrev pub piece_turn : Place → List ℕ → List Heard → List Item → Option Fault → Core → List (List ℕ) → Turn
 piece_turn p piece heard items fault core frames = record {
   answer = Ok (answers.Delivered items fault);
-  effect = hears piece heard;
+  effect = listens piece heard;
   place = with_core p core;
   frames = frames;
 }

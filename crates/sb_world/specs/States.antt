@@ -9,7 +9,7 @@ use Rattle.sb_holdings.specs.Nodes.{Node, NodeEvent, opened_node}
 use Rattle.sb_world.specs.declared.event.Event.{Event}
 use Rattle.sb_world.specs.declared.event.Answer.{Answer}
 use Rattle.sb_world.specs.Places.{Place, Seen, place_at}
-use Rattle.sb_world.specs.Turns.{Effect, rests, logs, goes, hears, opens}
+use Rattle.sb_world.specs.Turns.{Effect, rests, logs, goes, listens, opens}
 use Rattle.sb_world.specs.Events.{place_for}
 use Rattle.sb_world.specs.Hearing.{events_in}
 use Rattle.sb_world.specs.Wires.{Wire, new_wire, wires_by}
@@ -36,14 +36,14 @@ abbrev pub writes_after : List Write → Effect → List Write
 writes_after writes rests = writes
 writes_after writes (logs w) = writes ++ w ∷ []
 writes_after writes (goes events) = writes
-writes_after writes (hears bytes heard) = writes
+writes_after writes (listens bytes heard) = writes
 writes_after writes opens = writes
 
 abbrev pub past_after : List ℕ → List Write → Past → Effect → Past
 past_after me writes past rests = past
 past_after me writes past (logs w) = past
 past_after me writes past (goes events) = record { opening = past.opening; since = past.since ++ events; openings = past.openings }
-past_after me writes past (hears bytes heard) = record { opening = past.opening; since = past.since ++ events_in heard; openings = past.openings }
+past_after me writes past (listens bytes heard) = record { opening = past.opening; since = past.since ++ events_in heard; openings = past.openings }
 past_after me writes past opens = record { opening = opened_node me (content_table 0 writes); since = []; openings = past.openings + 1 }
 
 -- the history goes on by an effect at a node, where there is one

@@ -29,7 +29,7 @@ pub data Effect : Type 0 where
   rests : Effect
   logs : Write → Effect
   goes : List NodeEvent → Effect
-  hears : List ℕ → List Heard → Effect
+  listens : List ℕ → List Heard → Effect
   opens : Effect
 
 -- what comes of an event at its node

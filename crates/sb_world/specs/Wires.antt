@@ -14,7 +14,7 @@ use Rattle.sb_world.specs.Connections.{Connection}
 use Rattle.sb_world.specs.Hearing.{Heard}
 use Rattle.sb_world.specs.Lines.{laid_out}
 use Rattle.sb_world.specs.Places.{frame_at}
-use Rattle.sb_world.specs.Turns.{Effect, hears}
+use Rattle.sb_world.specs.Turns.{Effect, listens}
 
 -- of the connection that last had a number: the frames that were lined up, the bytes that came, and the messages that its session took
 pub record Wire : Type 0 where
@@ -42,7 +42,7 @@ lined_by answer found w = w
 
 -- bytes come, and messages are taken
 abbrev pub heard_on : Effect → Wire → Wire
-heard_on (hears bytes heard) w = record { lined = w.lined; came = w.came ++ bytes; taken = w.taken ++ messages_in heard }
+heard_on (listens bytes heard) w = record { lined = w.lined; came = w.came ++ bytes; taken = w.taken ++ messages_in heard }
 heard_on effect w = w
 
 -- with another history of one number

@@ -70,7 +70,7 @@ returns-in_err-opened-clause-why g c =
     subst (λ ls. (l : records.Log) → Stands (map seen ls) l → l.is_open ≡ true) so_far c.loop-log.invariant.stood in
     let given : c.refusal.result ≡ refusal c.args.settings (map seen logs) = c.refusal.ensures ∙ ap (λ ls. refusal c.args.settings (map seen ls)) c.deref.ensures.value in
     let none : refusal c.args.settings (map seen logs) ≡ None = sym given ∙ none_given c.refusal.result c.in_default.not-Some in
-    let p = err_from_is_err_and c.from_residual-in_err-opened.result c.from_residual-in_err-opened.ensures.1 in
+    let p = err_from_is_err_and c.from_residual.result c.from_residual.ensures.1 in
     let why : IsOpeningFault (seen log) p.0 = subst (IsOpeningFault (seen log)) (sym p.2) c.in_err-opened.ensures.why in
     rw p.1 (subst (λ (o : Option Fault). IsMakingFault o (map seen logs) p.0) (sym none) (first_fault seen logs (length done) log p.0 turn.0 turn.1 before why))
 
