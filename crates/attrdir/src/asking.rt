@@ -5,11 +5,11 @@ use crate::failure::{Failure, Place};
 use sb_codec::{Ask, Message, Rows};
 use sb_frames::Steps;
 use sb_listing::print_json_rows;
-use sb_query::print_rows;
+use sb_query::{Pager, PagingFault, ask_all, goes_on, print_rows};
 use sb_run::ask_control;
 use sb_types::{
     Fault, KIND_ASK, KIND_BYE, KIND_DELTA, KIND_DIGEST, KIND_DONE, KIND_HELLO, KIND_PUT,
-    KIND_REFUSED, KIND_ROWS, Key, Name, Slot, Write,
+    KIND_REFUSED, KIND_ROWS, Key, Slot, Write,
 };
 use std::alloc::Global;
 use std::io;
@@ -116,31 +116,6 @@ pub(crate) fn put<'a>(
     version_of(control, &answer)
 }
 
-/// Whether a page goes on: each of its rows lies behind the place that was asked for, and where more follow it has one.
-fn goes_on(page: &Rows, after: Option<(Name, Key)>) -> bool {
-    match (page.rows().first(), after) {
-        (None, _) => !page.more(),
-        (Some(_), None) => true,
-        (Some(row), Some((owner, key))) => owner
-            .bytes()
-            .cmp(row.owner().bytes())
-            .then(key.bytes().cmp(row.key().bytes()))
-            .is_lt(),
-    }
-}
-
-/// The page, where it goes on. `Malformed(KIND_ROWS)` where it does not.
-fn going_on<'a>(
-    control: &'a str,
-    page: Rows,
-    after: Option<(Name, Key)>,
-) -> Result<Rows, Failure<'a>> {
-    if goes_on(&page, after) {
-        return Ok(page);
-    }
-    Err(Failure::at(Place::Control(control), Fault::Malformed(KIND_ROWS)))
-}
-
 /// The page that a node answered.
 fn rows_in<'a>(control: &'a str, answer: Message) -> Result<Rows, Failure<'a>> {
     match answer {
@@ -153,19 +128,43 @@ fn rows_in<'a>(control: &'a str, answer: Message) -> Result<Rows, Failure<'a>> {
 pub(crate) fn page_of<'a>(
     rt: &HostRuntime,
     control: &'a str,
-    ask: Ask,
+    ask: &Ask,
 ) -> Result<Rows, Failure<'a>> {
-    let answer = answer_of(rt, control, &Message::Ask(ask))?;
-    going_on(control, rows_in(control, answer)?, ask.after)
+    let answer = answer_of(rt, control, &Message::Ask(*ask))?;
+    rows_in(control, answer)
 }
 
-/// The place of the last row of a page, where more follow.
-pub(crate) fn place_behind(page: &Rows) -> Option<(Name, Key)> {
-    if !page.more() {
-        return None;
+/// The first page of a node's rows. `Malformed(KIND_ROWS)` too, where it has none though more are to follow.
+pub(crate) fn first_page_of<'a>(
+    rt: &HostRuntime,
+    control: &'a str,
+    ask: &Ask,
+) -> Result<Rows, Failure<'a>> {
+    let page = page_of(rt, control, ask)?;
+    if goes_on(&page, ask.after) {
+        return Ok(page);
     }
-    let row = page.rows().last()?;
-    Some((*row.owner(), *row.key()))
+    Err(Failure::at(Place::Control(control), Fault::Malformed(KIND_ROWS)))
+}
+
+/// Why not all pages of the node behind a control socket came.
+fn paging_failure<'a>(control: &'a str, fault: PagingFault<Failure<'a>>) -> Failure<'a> {
+    match fault {
+        PagingFault::Failed(failure) => failure,
+        PagingFault::Wrong(fault) => Failure::at(Place::Control(control), fault),
+    }
+}
+
+/// Has a pager ask the node behind a control socket for all rows that are asked for.
+pub(crate) fn take_all<'a, P: Pager<Failure = Failure<'a>>>(
+    control: &'a str,
+    pager: &mut P,
+    asked: Ask,
+) -> Result<(), Failure<'a>> {
+    match ask_all(pager, asked) {
+        Ok(()) => Ok(()),
+        Err(fault) => Err(paging_failure(control, fault)),
+    }
 }
 
 /// The form in which rows are printed.
@@ -187,16 +186,27 @@ pub(crate) fn print_page(rt: &HostRuntime, page: &Rows, form: Form) -> Result<()
     printed
 }
 
-/// Prints one page, and answers the place of its last row, where more follow.
-fn print_next<'a>(
-    rt: &HostRuntime,
+/// Asks a node for pages, and prints them.
+#[derive(Drop)]
+struct Printer<'r, 'a> {
+    rt: &'r HostRuntime,
     control: &'a str,
-    ask: Ask,
     form: Form,
-) -> Result<Option<(Name, Key)>, Failure<'a>> {
-    let page = page_of(rt, control, ask)?;
-    print_page(rt, &page, form)?;
-    Ok(place_behind(&page))
+}
+
+impl<'a> Pager for Printer<'_, 'a> {
+    ghost step = { λ _ _ _. Unit {0} };
+
+    type Failure = Failure<'a>;
+
+    fn ask(&mut self, ask: &Ask) -> Result<Rows, Failure<'a>> {
+        page_of(self.rt, self.control, ask)
+    }
+
+    fn take(&mut self, page: &Rows) -> Result<(), Failure<'a>> {
+        print_page(self.rt, page, self.form)?;
+        Ok(())
+    }
 }
 
 /// Prints the rows that a node has, page after page: those that are asked for, from their first on.
@@ -206,12 +216,5 @@ pub(crate) fn print_all<'a>(
     asked: Ask,
     form: Form,
 ) -> Result<(), Failure<'a>> {
-    let mut ask = asked;
-    for _ in 0..u64::MAX {
-        ask.after = print_next(rt, control, ask, form)?;
-        if ask.after.is_none() {
-            return Ok(());
-        }
-    }
-    Err(Failure::at(Place::Control(control), Fault::TurnsSpent))
+    take_all(control, &mut Printer { rt, control, form }, asked)
 }

@@ -3,7 +3,7 @@ ghost use Rattle.std.specs.Prelude.{◌≡◌};
 ghost use Rattle.std.specs.Option.{option_copied};
 ghost use Rattle.attrdir.specs.Rows as spec;
 
-use crate::asking::{Form, page_of, print_page};
+use crate::asking::{Form, first_page_of, print_page};
 use crate::failure::Failure;
 use sb_codec::{Ask, Row, Rows};
 use sb_types::{Fault, Key, Name, Prefix, Value, ValueRef};
@@ -66,7 +66,7 @@ pub(crate) fn print_one<'a>(
         prefix: Prefix::read(wanted.key.bytes())?,
         after: None,
     };
-    let page = page_of(rt, control, ask)?;
+    let page = first_page_of(rt, control, &ask)?;
     let Some(row) = first_at(page.rows(), &wanted.owner, &wanted.key) else {
         return Ok(false);
     };

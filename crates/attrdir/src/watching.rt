@@ -1,11 +1,12 @@
 //! What changes at a node that runs, which is asked again and again.
-use crate::asking::{page_of, place_behind};
+use crate::asking::{page_of, take_all};
 use crate::failure::{Failure, Place};
 use crate::keeping::{copy_of, enter_all, kept_rows};
 use crate::pausing::Pauses;
 use sb_codec::{Ask, Row, Rows};
 use sb_digest::Pair;
 use sb_listing::{changes, print_changes};
+use sb_query::Pager;
 use sb_types::{Fault, Key, Name};
 use std::alloc::Global;
 use std::fs::metadata;
@@ -31,29 +32,35 @@ fn add_rows(rt: &HostRuntime, rows: &mut Vec<Row>, page: &Rows) -> Result<(), Fa
     Ok(())
 }
 
-/// Adds the rows of one page, and answers the place of its last row, where more follow.
-fn add_next<'a>(
-    rt: &HostRuntime,
+/// Asks a node for pages, and keeps their rows.
+#[derive(Drop)]
+struct Collector<'r, 'a> {
+    rt: &'r HostRuntime,
     control: &'a str,
-    ask: Ask,
-    rows: &mut Vec<Row>,
-) -> Result<Option<(Name, Key)>, Failure<'a>> {
-    let page = page_of(rt, control, ask)?;
-    add_rows(rt, rows, &page)?;
-    Ok(place_behind(&page))
+    rows: Vec<Row>,
+}
+
+impl<'a> Pager for Collector<'_, 'a> {
+    ghost step = { λ _ _ _. Unit {0} };
+
+    type Failure = Failure<'a>;
+
+    fn ask(&mut self, ask: &Ask) -> Result<Rows, Failure<'a>> {
+        page_of(self.rt, self.control, ask)
+    }
+
+    fn take(&mut self, page: &Rows) -> Result<(), Failure<'a>> {
+        add_rows(self.rt, &mut self.rows, page)?;
+        Ok(())
+    }
 }
 
 /// All rows that are asked for, page after page.
 fn listing<'a>(rt: &HostRuntime, control: &'a str, asked: &Ask) -> Result<Vec<Row>, Failure<'a>> {
-    let mut rows = Vec::new(rt.alloc());
-    let mut ask = *asked;
-    for _ in 0..u64::MAX {
-        ask.after = add_next(rt, control, ask, &mut rows)?;
-        if ask.after.is_none() {
-            return Ok(rows);
-        }
-    }
-    Err(Failure::at(Place::Control(control), Fault::TurnsSpent))
+    let rows = Vec::new(rt.alloc());
+    let mut collector = Collector { rt, control, rows };
+    take_all(control, &mut collector, *asked)?;
+    Ok(collector.rows)
 }
 
 /// Prints what changed from one listing to the next, in one piece, and behind it that it has asked, where it says so. `NoMemory`;

@@ -1,9 +1,9 @@
 -- What a watch answers, where one stands and where none does.
-use Rattle.std.proofs.Common.{◌≡◌, ℕ, Bool, true, false, cond, ◌||◌, List, [], ◌∷◌, find, Option, Some, None, is_some, Result, Ok, Err, IfErr, OnErr, refl, sym, ◌∙◌}
+use Rattle.std.proofs.Common.{◌≡◌, ◌≢◌, ℕ, Bool, true, false, cond, ◌||◌, List, [], ◌∷◌, find, Option, Some, None, is_some, Result, Ok, Err, IfErr, OnErr, refl, sym, subst, ◌∙◌}
 use Rattle.std.proofs.lemmas.Bool.{false≢true}
 use Rattle.std.specs.List.{list_any}
 use Rattle.sb_types.specs.declared.fault.Fault.{Fault}
-use Rattle.sb_types.specs.declared.fault.Fault.TheVariants.{NoWatch}
+use Rattle.sb_types.specs.declared.fault.Fault.TheVariants.{NoMemory, NoWatch}
 use Rattle.sb_types.specs.Faults.{Gives}
 use Rattle.sb_watch.specs.declared.note.Polled.{Polled}
 use Rattle.sb_watch.specs.Records.{Watch, Hub}
@@ -42,3 +42,10 @@ not-refused (Err fault) P none = absurd none
 pub gives-itself : (answer : Result Polled Fault) → Gives answer answer
 gives-itself (Ok polled) = refl
 gives-itself (Err fault) = λ other. refl
+
+-- where a watch stands the answer is never that none does
+pub stands : (hub : Hub) (id : ℕ) (answer : Result Polled Fault) (P : Type 0) → has_watch hub id ≡ true → Gives answer (answer_at hub id) → answer ≡ Err NoWatch → P
+stands hub id answer P some gives none =
+    let given : NoWatch ≢ NoMemory → answer_at hub id ≡ Err NoWatch = subst (λ (r : Result Polled Fault). Gives r (answer_at hub id)) none gives in
+    let is : answer_at hub id ≡ Err NoWatch = given (λ same. absurd cc) in
+    absurd (subst (λ (r : Result Polled Fault). IfErr r (λ other. ⊥)) is (answer-some hub id some))

@@ -233,8 +233,8 @@ impl<S: Configured, R: Wait + Drop> Directory<S, R> {
 
     /// Shows readers all that happened, and gives what the watch answers once the seat saw it: how many notes it lost,
     /// where it lost any since it last said so; then its notes, the oldest first; then that none is left. `NoWatch` where
-    /// no watch with the id stands; `NoMemory` where there is none to show what happened, or the seat may not see it, and
-    /// then the note is still to come.
+    /// no watch with the id stands, before anything is shown: then the seat only knows what had happened. `NoMemory` where
+    /// there is none to show what happened, or the seat may not see it, and then the note is still to come.
     pub fn poll<Q: Wait>(
         &self,
         rt: &Q,
@@ -242,6 +242,7 @@ impl<S: Configured, R: Wait + Drop> Directory<S, R> {
         id: WatchId,
     ) -> Result<Polled, Fault>
         ensures answer { (hub : Hub) × Gives result (answer_at hub id) × IfErr (answer_at hub id) (λ fault. result ≡ Err fault) }
+        ensures seat { result ≡ Err Fault.NoWatch → seat.new ≡ spec.with_known seat.old seat.new.known }
         ensures held { (note : Note) → result ≡ Ok (answers.Note note) → note.version ≤ (shown_of (node_after S.opening seat.new.told).held note.owner).held }
         ensures told { OnOk result (seat.new.told ≡ seat.new.known) }
         ensures knew { spec.Begins seat.new.known seat.old }
@@ -252,8 +253,8 @@ impl<S: Configured, R: Wait + Drop> Directory<S, R> {
         self.under.lock(rt).poll(rt, seat, id)
     }
 
-    /// Ends a directory, and gives its node with the number of events. `BadSetting` where these are not all of its seats:
-    /// then directory and seats come back.
+    /// Ends a directory, and gives its node, whose settings are as they were, with the number of events. `BadSetting` where
+    /// these are not all of its seats: then directory and seats come back.
     pub fn close<Q: Wait>(
         self,
         rt: &Q,
@@ -262,6 +263,7 @@ impl<S: Configured, R: Wait + Drop> Directory<S, R> {
         requires { S.seats ≡ S.parts }
         ensures closed { IfOk result (λ closing. (l : List Event) × (closing.core.node ≡ node_after S.opening l) × (closing.events ≡ length l)
             × (closing.events ≡ spec.events_of_all seats.items) × spec.AllBegin l seats.items) }
+        ensures settings { IfOk result (λ closing. closing.core.settings ≡ S.settings) }
         ensures refused { IfErr result (λ back. (back.0 ≡ Fault.BadSetting) × (back.2.items ≡ seats.items)) }
         ensures all { MatchResult result (λ _. length seats.items ≡ S.seats) (λ _. length seats.items ≢ S.seats) }
     {

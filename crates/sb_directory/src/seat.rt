@@ -64,9 +64,9 @@ impl<S: Site> ReaderSeat<S> {
         }
     }
 
-    /// Takes what is published, which stays as it is until the seat leaves. It waits for nobody and takes no memory.
-    /// Where it is refused, as when the directory is gone, the seat comes back unchanged.
-    /// A reader can't be kept behind the directory's lock: to take a lock a call needs a `Wait`, and this one has none.
+    /// Takes what is published, which stays as it is until the seat leaves. It takes no memory, and no lock: for that a call
+    /// needs a `Wait`, and this one has none. So it waits for nobody. Where it is refused, as when the directory is gone, the
+    /// seat comes back unchanged.
     pub fn enter(self) -> Result<EnteredSeat<S>, ReaderSeat<S>>
         ensures { MatchResult result (λ entered. IsPrefix self.told entered.told × (entered.known ≡ self.known) × (entered.events ≡ self.events))
             (λ seat. seat ≡ self) }

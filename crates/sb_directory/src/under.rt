@@ -256,6 +256,8 @@ impl<S: Configured, R: Wait + Drop> Under<S, R> {
         ensures ok { OnOk result (self.new ≡ locks.with_shown (locks.with_hub self.old (with_answer self.old.hub id)) self.old.story) }
         ensures err { OnErr result (self.new ≡ locks.with_shown self.old self.new.shown) }
         ensures shown { OnErr result (spec.ShowsWhereSaid false self.old self.new) }
+        ensures none { result ≡ Err Fault.NoWatch → self.new ≡ self.old }
+        ensures seat { result ≡ Err Fault.NoWatch → seat.new ≡ spec.with_known seat.old seat.new.known }
         ensures knew { spec.Begins self.old.story seat.old }
         ensures known { seat.new.known ≡ self.old.story }
         ensures grows { IsPrefix seat.old.told seat.new.told }
@@ -279,6 +281,7 @@ impl<S: Configured, R: Wait + Drop> Under<S, R> {
     pub(crate) fn close<Q: Wait>(self, rt: &Q, seats: Vec<ReaderSeat<S>>) -> Closing
         requires all { length seats.items ≡ S.parts }
         ensures node { result.core.node ≡ node_after S.opening self.story }
+        ensures settings { result.core.settings ≡ S.settings }
         ensures events { result.events ≡ length self.story }
         ensures made { result.events ≡ spec.events_of_all seats.items }
         ensures begin { spec.AllBegin self.story seats.items }

@@ -3,8 +3,10 @@
 
 mod answering;
 mod laws;
+mod paging;
 mod printing;
 
 pub use answering::answer;
-pub use laws::pages_follow;
+pub use laws::{listings_are_whole, pages_follow};
+pub use paging::{Pager, PagingFault, ask_all, goes_on};
 pub use printing::print_rows;

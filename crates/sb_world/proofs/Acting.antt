@@ -41,7 +41,7 @@ use Rattle.sb_world.specs.declared.event.Event.{Event}
 use Rattle.sb_world.specs.declared.event.Event.TheVariants.{Commit, Take, CrashInCommit, Restart, Connect, Close, Line, Piece, Ask, Offer, Read, Upto}
 use Rattle.sb_world.specs.declared.event.Answer.{Answer}
 use Rattle.sb_world.specs.Places.{Place, frame_at}
-use Rattle.sb_world.specs.Turns.{Effect, rests, logs, goes, opens, Turn, still, with_core, write_of, IsLogged, commit_turn, crash_turn, waiting_after, Crashes, TakesFirst, take_turn, RestartEnds, reopened_turn, refused_turn, sent_turn}
+use Rattle.sb_world.specs.Turns.{Effect, rests, logs, goes, listens, opens, Turn, still, with_core, write_of, IsLogged, commit_turn, crash_turn, waiting_after, Crashes, TakesFirst, take_turn, RestartEnds, reopened_turn, refused_turn, sent_turn}
 use Rattle.sb_world.specs.Connections.{Connection, connection_at, with_connection, without_connection, of_others}
 use Rattle.sb_world.specs.Hearing.{Tells, calls_in, events_in}
 use Rattle.sb_world.specs.Connecting.{Stays, begun, new_connection, Connects, Closes, lined, LinesUp, in_session, Asked, AsksOn, fed, listener, heard_by, connections_after, piece_turn, Delivers, Pieces}
@@ -506,7 +506,7 @@ module _ (writes : List ℕ → List Write) (past : Past) (settings : Settings) 
       all_heard = listened laws writes settings sent told_sent left_over p.me (listener p.core c count) d.heard d.mid begins d.hears
 
       abbrev effect : Effect
-      effect = goes (events_in d.heard)
+      effect = listens piece d.heard
 
       core_is : d.last.core ≡ with_node p.core (replay_node p.core.node (events_in d.heard))
       core_is = tells_core (length sent) d.heard d.mid d.last d.fault d.items d.frames d.tells ∙ all_heard.replay
@@ -529,7 +529,7 @@ module _ (writes : List ℕ → List Write) (past : Past) (settings : Settings) 
       left_conns (Some fault) is x stands = without_one d.frames number x stands
 
       delivers_kept : AllKept turn new
-      delivers_kept = turned_all turn (piece_turn p d.heard d.items d.fault d.last.core d.frames) new d.turn_is (record {
+      delivers_kept = turned_all turn (piece_turn p piece d.heard d.items d.fault d.last.core d.frames) new d.turn_is (record {
         kept = record {
           place = λ clean. went_on;
           frames = λ bytes stands. all_heard.frames bytes (tells_frames (length sent) d.heard d.mid d.last d.fault d.items d.frames d.tells bytes stands);

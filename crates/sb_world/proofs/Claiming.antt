@@ -46,6 +46,7 @@ use Rattle.sb_world.specs.Turns.{Effect, Turn}
 use Rattle.sb_world.specs.Steps.{StepAt, seen_after}
 use Rattle.sb_world.specs.States.{State, Moves, remembered}
 use Rattle.sb_world.specs.Truth.{IsTruePlace, IsTrueState}
+use Rattle.sb_world.specs.Wires.{messages_in}
 use Rattle.sb_world.specs.Claims.{GivenIsWritten, IsExact, IsShown, ReadIsExact, AreTakenUp, AllTakenUp, HaveCome, TakesPiece, JoinedIsTaken, IsWithinBudget}
 use Rattle.sb_world.proofs.Names.{found_me, placed_there}
 use Rattle.sb_world.proofs.Going.{grown, written_on}
@@ -113,9 +114,9 @@ module _ (old : State) (me owner key : List ℕ) (value : Value) (version : ℕ)
       (given_is (Some (value, version)) (shown_at key held.entries) p (read_shown old me owner key given effect (Some p) seen step))
 
 -- what was written is written afterwards
-later_written : (old : State) (found : Option Place) (effect : Effect) (seen : Seen) (owner : List ℕ) (e : Entry) → Written (old.writes owner) e → Written ((remembered old found effect seen).writes owner) e
-later_written old None effect seen owner e written = written
-later_written old (Some p) effect seen owner e written = written_on old.writes _ (grown old.writes p.me effect) owner e written
+later_written : (old : State) (found : Option Place) (event : Event) (answer : Result Answer Fault) (effect : Effect) (seen : Seen) (owner : List ℕ) (e : Entry) → Written (old.writes owner) e → Written ((remembered old found event answer effect seen).writes owner) e
+later_written old None event answer effect seen owner e written = written
+later_written old (Some p) event answer effect seen owner e written = written_on old.writes _ (grown old.writes p.me effect) owner e written
 
 pub given_written : (old : State) (event : Event) (answer : Result Answer Fault) (new : State) → Moves old event answer new → IsTrueState old → IsTrueState new → GivenIsWritten old event answer new
 given_written old event answer new moves t u me owner key value version is_event is_answer =
@@ -123,7 +124,7 @@ given_written old event answer new moves t u me owner key value version is_event
     let given_step = subst (λ (a : Result Answer Fault). StepAt (place_at old.now.places me) old.now (Read me owner key) a moves.0 new.now) is_answer step in
     let written = read_given old me owner key value version moves.0 t (place_at old.now.places me) refl new.now given_step in
     subst (λ (s : State). Written (s.writes owner) (record { key = key; version = version; slot = Set value })) (sym moves.2)
-    (later_written old (place_for old.now event) moves.0 new.now owner (record { key = key; version = version; slot = Set value }) written)
+    (later_written old (place_for old.now event) event answer moves.0 new.now owner (record { key = key; version = version; slot = Set value }) written)
 
 -- ---- how exact it is
 
@@ -197,9 +198,6 @@ all_taken a (h ∷ hs) b hears =
     message_taken a.session a.core h.message h.replies mid.session mid.core (limits_of a.stream mid.stream h.message next.0) next.1 (calls_in hs) b.core.node (all_taken mid hs b hears.2)
 
 -- ---- whether all is taken that has come
-
-abbrev messages_in : List Heard → List Message
-messages_in heard = map (λ (h : Heard). h.message) heard
 
 abbrev nothing_whole : Result (Option Message) Fault
 nothing_whole = Ok None

@@ -1,5 +1,5 @@
 -- What is done with a connection that was found.
-use Rattle.std.proofs.Common.{◌≡◌, ℕ, zero, suc, ◌+◌, ◌≤◌, true, List, [], ◌∷◌, ◌++◌, length, inl, inr, Option, Some, None, Result, Ok, Err, slice_get, refl, sym, ap, subst, ◌∙◌, arith}
+use Rattle.std.proofs.Common.{◌≡◌, ℕ, zero, suc, ◌+◌, ◌≤◌, true, List, [], ◌∷◌, ◌++◌, length, take, inl, inr, Option, Some, None, Result, Ok, Err, slice_get, refl, sym, ap, subst, ◌∙◌, arith}
 use Rattle.std.specs.Prelude.{unwrap_or, slice_set, remove}
 use Rattle.std.proofs.lemmas.Bool.{and_parts}
 use Rattle.std.proofs.lemmas.List.{append-nil}
@@ -25,8 +25,8 @@ use Rattle.sb_world.specs.Connections.{Connection, connection_at, with_connectio
 use Rattle.sb_world.specs.Connecting.{begun, new_connection, Connects, LinesUp, in_session, AsksOn, listener, heard_by, connections_after, Pieces}
 use Rattle.sb_world.specs.Places.{Place, frame_at}
 use Rattle.sb_world.specs.declared.event.Item.{Item}
-use Rattle.sb_world.specs.Hearing.{Listener, Heard, Hears, Tells, events_in}
-use Rattle.sb_world.specs.Turns.{Turn, rests, goes, with_core}
+use Rattle.sb_world.specs.Hearing.{Listener, Heard, Hears, Tells}
+use Rattle.sb_world.specs.Turns.{Turn, rests, listens, with_core}
 
 -- the least budget that settings have
 pub least_budget : (s : Settings) → are_settings s ≡ true → 256 ≤ s.budget
@@ -85,9 +85,9 @@ module _ (p : Place) (number : ℕ) (conns : List Connection) (sent : List (List
   pub delivered : (c : Connection) → connection_at conns number ≡ Some c → (count : ℕ) (heard : List Heard) (mid last : Listener) (fault : Option Fault) (items told : List Item) (frames : List (List ℕ)) (core : Core) (new : List Connection) →
       Hears (listener p.core c count) heard mid → Tells (length sent) heard mid last fault told frames → items ≡ told → core ≡ last.core → new ≡ connections_after fault conns number (heard_by c count last) →
       Pieces (connection_at conns number) p number count conns sent
-      (record { answer = Ok (answers.Delivered items fault); effect = goes (events_in heard); place = with_core p core; frames = frames }) new
+      (record { answer = Ok (answers.Delivered items fault); effect = listens (take count c.left) heard; place = with_core p core; frames = frames }) new
   delivered c found count heard mid last fault items told frames core new hears tells is same left =
-      subst (λ o. Pieces o p number count conns sent (record { answer = Ok (answers.Delivered items fault); effect = goes (events_in heard); place = with_core p core; frames = frames }) new) (sym found)
+      subst (λ o. Pieces o p number count conns sent (record { answer = Ok (answers.Delivered items fault); effect = listens (take count c.left) heard; place = with_core p core; frames = frames }) new) (sym found)
       (record {
         heard = heard;
         mid = mid;
@@ -97,7 +97,7 @@ module _ (p : Place) (number : ℕ) (conns : List Connection) (sent : List (List
         frames = frames;
         hears = hears;
         tells = tells;
-        turn_is = λ k. record { answer = Ok (answers.Delivered (is k) fault); effect = goes (events_in heard); place = with_core p (same k); frames = frames };
+        turn_is = λ k. record { answer = Ok (answers.Delivered (is k) fault); effect = listens (take count c.left) heard; place = with_core p (same k); frames = frames };
         left = left;
       })
 

@@ -63,6 +63,7 @@ module _ (world : Seen) (made : IsMade world) (clean : IsClean world.places) whe
         places = λ name. some_map _ _ (place_at world.places name) (λ p is new. fresh name p is new (subst (λ (o : Option Place). IfSome o (λ r. r.log.content ≡ content_table 0 (writes r.me))) is (contents name))) (made.places name);
         connections = made.connections;
         sent = made.sent;
+        wires = λ number. refl;
       };
       events = [];
       answers = [];

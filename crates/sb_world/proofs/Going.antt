@@ -12,7 +12,7 @@ use Rattle.sb_types.proofs.Texts.{same_text}
 use Rattle.sb_codec.specs.declared.message.Message.{Message}
 use Rattle.sb_codec.specs.declared.message.Message.TheVariants as messages
 use Rattle.sb_node.specs.Talks.{TrueMessage}
-use Rattle.sb_world.specs.Turns.{Effect, rests, logs, goes, opens}
+use Rattle.sb_world.specs.Turns.{Effect, rests, logs, goes, listens, opens}
 use Rattle.sb_world.specs.States.{put_at, writes_after}
 use Rattle.sb_world.specs.Truth.{IsOpening, IsTrueFrame}
 
@@ -21,12 +21,14 @@ abbrev pub more_by : Effect → List Write
 more_by rests = []
 more_by (logs w) = w ∷ []
 more_by (goes events) = []
+more_by (listens bytes heard) = []
 more_by opens = []
 
 pub after_is : (writes : List Write) (effect : Effect) → writes_after writes effect ≡ writes ++ more_by effect
 after_is writes rests = sym (append-nil writes)
 after_is writes (logs w) = refl
 after_is writes (goes events) = sym (append-nil writes)
+after_is writes (listens bytes heard) = sym (append-nil writes)
 after_is writes opens = sym (append-nil writes)
 
 -- the writes of one name go on, and no others

@@ -14,8 +14,9 @@ use Rattle.sb_holdings.proofs.Steps.{later}
 use Rattle.sb_world.specs.declared.event.Event.{Event}
 use Rattle.sb_world.specs.declared.event.Answer.{Answer}
 use Rattle.sb_world.specs.Places.{Place, place_at}
-use Rattle.sb_world.specs.Turns.{Effect, rests, logs, goes, opens}
+use Rattle.sb_world.specs.Turns.{Effect, rests, logs, goes, listens, opens}
 use Rattle.sb_world.specs.Events.{place_for}
+use Rattle.sb_world.specs.Hearing.{events_in}
 use Rattle.sb_world.specs.States.{Past, State, past_after, remembered, Moves, Run}
 use Rattle.sb_world.specs.Truth.{IsTruePlace, IsTrueState}
 use Rattle.sb_world.specs.Claims.{EachState, FallsNowhere, NothingFalls, NothingFallsIn}
@@ -33,6 +34,7 @@ by_effect : (me : List ℕ) (writes : List Write) (a : Past) (effect : Effect) �
 by_effect me writes a rests = inr (refl, [], refl, sym (append-nil a.since))
 by_effect me writes a (logs w) = inr (refl, [], refl, sym (append-nil a.since))
 by_effect me writes a (goes events) = inr (refl, events, refl, refl)
+by_effect me writes a (listens bytes heard) = inr (refl, events_in heard, refl, refl)
 by_effect me writes a opens = inl (omega arith)
 
 chained : (a b c : Past) → Follows a b → Follows b c → Follows a c
@@ -52,7 +54,7 @@ moved_past old event answer new moves name =
         (by_effect me (old.writes me) (old.past me) moves.0)
     go me false is = stays (old.past name)
 
-    at : (found : Option Place) → Follows (old.past name) ((remembered old found moves.0 new.now).past name)
+    at : (found : Option Place) → Follows (old.past name) ((remembered old found event answer moves.0 new.now).past name)
     at None = stays (old.past name)
     at (Some p) = go p.me (pointwise nat_eq name p.me) refl
 

@@ -5,6 +5,7 @@ pub mod Lines
 pub mod Listening
 pub mod Heard
 pub mod Acting
+pub mod Wires
 pub mod Stepping
 pub mod Running
 pub mod Staying

@@ -13,7 +13,7 @@ use Rattle.sb_world.specs.Lines.{laid_out, IsLine, IsTrueConnection}
 use Rattle.sb_world.specs.Truth.{IsTrueFrame}
 use Rattle.sb_world.proofs.Keeping.{joined}
 
-laid_more : (frames : List (List ℕ)) (f : List ℕ) → laid_out (frames ++ f ∷ []) ≡ laid_out frames ++ f
+pub laid_more : (frames : List (List ℕ)) (f : List ℕ) → laid_out (frames ++ f ∷ []) ≡ laid_out frames ++ f
 laid_more [] f = append-nil f
 laid_more (x ∷ xs) f = ap (λ ys. x ++ ys) (laid_more xs f) ∙ sym (append_assoc x (laid_out xs) f)
 

@@ -1,10 +1,14 @@
 -- Nodes that are made of logs, one after the other.
-use Rattle.std.proofs.Common.{◌≡◌, ℕ, zero, suc, ◌<◌, List, [], ◌∷◌, ◌++◌, get_or, length, map, Option, Some, None, inl, inr, ⊎_elim, refl, sym, ap, subst, arith}
+use Rattle.std.proofs.Common.{◌≡◌, ℕ, zero, suc, ◌<◌, true, List, [], ◌∷◌, ◌++◌, get_or, take, length, map, Option, Some, None, Ok, Err, inl, inr, ⊎_elim, refl, sym, ap, subst, arith}
+use Rattle.std.proofs.lemmas.Bool.{cases_Bool}
 use Rattle.sb_types.specs.declared.fault.Fault.{Fault}
 use Rattle.sb_types.specs.Runs.{Stands}
+use Rattle.sb_types.specs.declared.fault.Fault.TheVariants.{Closed}
+use Rattle.sb_types.specs.Records.{Table}
 use Rattle.sb_log.specs.Records.{Log}
+use Rattle.sb_log.specs.Puts.{Loads}
 use Rattle.sb_world.specs.Places.{Place}
-use Rattle.sb_world.specs.Making.{IsNodeOf, HaveNodes, AreSureLogs}
+use Rattle.sb_world.specs.Making.{IsNodeOf, HaveNodes, AreSureLogs, IsOpeningFault, IsFirstFault}
 
 pub map_more : {X Y : Type 0} (f : X → Y) (xs : List X) (x : X) → map f (xs ++ x ∷ []) ≡ map f xs ++ f x ∷ []
 map_more f [] x = refl
@@ -31,11 +35,10 @@ before_or_last P (y ∷ ys) x each here e stands =
 -- each of the logs has its node, and so has the next
 pub nodes_more : {X : Type 0} (f : X → Log) (xs : List X) (x : X) (places : List Place) (p : Place) →
     HaveNodes (map f xs) places → IsNodeOf (f x) p → HaveNodes (map f (xs ++ x ∷ [])) (places ++ p ∷ [])
-nodes_more f xs x places p have is =
-    subst (λ logs. HaveNodes logs (places ++ p ∷ [])) (sym (map_more f xs x))
-    (before_or_last (λ log. (q : Place) × Stands (places ++ p ∷ []) q × IsNodeOf log q) (map f xs) (f x)
-    (λ log stands. let q = have log stands in (q.0, stands_before places p q.0 q.1, q.2))
-    (p, stands_last places p, is))
+nodes_more f [] x [] p have is = (is, tt)
+nodes_more f [] x (q ∷ places) p have is = absurd have
+nodes_more f (y ∷ ys) x [] p have is = absurd have
+nodes_more f (y ∷ ys) x (q ∷ places) p have is = (have.0, nodes_more f ys x places p have.1 is)
 
 -- of sure logs those before the next are sure, and so is the next
 pub sure_before : {X : Type 0} (f : X → Log) (xs : List X) (x : X) → AreSureLogs (map f (xs ++ x ∷ [])) → AreSureLogs (map f xs)
@@ -44,17 +47,19 @@ sure_before f xs x all = λ log stands. all log (subst (λ logs. Stands logs log
 pub last_of_them : {X : Type 0} (f : X → Log) (xs : List X) (x : X) → Stands (map f (xs ++ x ∷ [])) (f x)
 last_of_them f xs x = subst (λ logs. Stands logs (f x)) (sym (map_more f xs x)) (stands_last (map f xs) (f x))
 
--- what is found at a place of a list stands in it
-pub stands_at : {X : Type 0} (xs : List X) (n : ℕ) (x : X) → n < length xs → x ≡ get_or xs n x → Stands xs x
-stands_at [] n x few is = absurd (omega (arith, few))
-stands_at (y ∷ ys) zero x few is = inl (sym is)
-stands_at (y ∷ ys) (suc n) x few is = inr (stands_at ys n x (omega (arith, few)) is)
-
-pub stands_mapped : {X Y : Type 0} (f : X → Y) (xs : List X) (x : X) → Stands xs x → Stands (map f xs) (f x)
-stands_mapped f [] x stands = absurd stands
-stands_mapped f (y ∷ ys) x stands = ⊎_elim (λ same. inl (ap f same)) (λ rest. inr (stands_mapped f ys x rest)) stands
-
 -- where no fault is given there is none
 pub none_given : (o : Option Fault) → ((fault : Fault) → o ≡ Some fault → ⊥) → o ≡ None
 none_given None none = refl
 none_given (Some fault) none = absurd (none fault refl)
+
+-- a log that was read stood
+pub read_stood : (log : Log) (table : Table) (new : Log) → Loads log (Ok table) new → log.is_open ≡ true
+read_stood log table new loads = ⊎_elim (λ e. e) (λ e. absurd (let shut : Ok table ≡ Err Closed = loads.closed.1 e in cc)) (cases_Bool log.is_open)
+
+-- where those before it stood, the fault of a log is that of the first with one
+pub first_fault : {X : Type 0} (f : X → Log) (xs : List X) (n : ℕ) (x : X) (fault : Fault) → n < length xs → x ≡ get_or xs n x →
+    ((log : Log) → Stands (map f (take n xs)) log → log.is_open ≡ true) → IsOpeningFault (f x) fault → IsFirstFault (map f xs) fault
+first_fault f [] n x fault few is before here = absurd (omega (arith, few))
+first_fault f (y ∷ ys) zero x fault few is before here = inl (subst (λ z. IsOpeningFault (f z) fault) is here)
+first_fault f (y ∷ ys) (suc n) x fault few is before here =
+    inr (before (f y) (inl refl), first_fault f ys n x fault (omega (arith, few)) is (λ log stands. before log (inr stands)) here)

@@ -45,7 +45,7 @@ reached_more old event answer new r moves = record {
 pub reach_step : (world new : Seen) (event : Event) (answer : Result Answer Fault) (effect : Effect) → Step world event answer effect new → (old : State) → FitsWorld old world →
     (state : State) × Moves old event answer state × FitsWorld state new
 reach_step world new event answer effect step old fits =
-    let state = remembered old (place_for old.now event) effect new in
+    let state = remembered old (place_for old.now event) event answer effect new in
     let moves : Moves old event answer state = (effect, subst (λ (w : Seen). Step w event answer effect new) (sym fits.now) step, refl) in
     (state, moves, record { reached = reached_more old event answer state fits.reached moves; now = refl })
 

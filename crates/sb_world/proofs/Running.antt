@@ -18,6 +18,8 @@ use Rattle.sb_world.specs.Lines.{IsTrueConnection}
 use Rattle.sb_world.specs.Places.{Place, Seen, place_at, IsClean, AreSure}
 use Rattle.sb_world.specs.States.{Past, State, Moves, Run, last_of, IsFresh, IsStart, IsReached, FitsWorld}
 use Rattle.sb_world.specs.Truth.{IsTrueFrame, IsTruePlace, IsTrueState}
+use Rattle.sb_world.specs.Wires.{AreTrueWires}
+use Rattle.sb_world.proofs.Wires.{none_wired}
 use Rattle.sb_world.specs.Claims.{EachState, EachStep}
 use Rattle.sb_node.proofs.Told.{Laws}
 use Rattle.sb_world.proofs.Stepping.{some_map, clean_moved, sure_moved, true_moved}
@@ -100,6 +102,7 @@ start_true s start = record {
   places = λ name. some_map _ _ (place_at s.now.places name) (λ p is fresh. fresh_true s p fresh) (start.places name);
   frames = subst (λ (sent : List (List ℕ)). (bytes : List ℕ) → Stands sent bytes → IsTrueFrame s.writes s.now.settings.budget bytes) (sym start.sent) (λ bytes stands. absurd stands);
   connections = subst (λ (cs : List Connection). (c : Connection) → Stands cs c → IsTrueConnection s.now.sent c) (sym start.connections) (λ c stands. absurd stands);
+  wires = subst (λ (cs : List Connection). AreTrueWires s.now.sent cs s.wires) (sym start.connections) (none_wired s.now.sent s.wires start.wires);
 }
 
 -- whatever is reached is true

@@ -14,9 +14,9 @@ use Rattle.sb_world.specs.declared.event.Item.{Item}
 use Rattle.sb_world.specs.declared.event.Answer.{Answer}
 use Rattle.sb_world.specs.declared.event.Answer.TheVariants as answers
 use Rattle.sb_world.specs.Connections.{Connection, with_connection, without_connection}
-use Rattle.sb_world.specs.Hearing.{Listener, listener_of, Heard, Hears, Tells, events_in}
+use Rattle.sb_world.specs.Hearing.{Listener, listener_of, Heard, Hears, Tells}
 use Rattle.sb_world.specs.Places.{Place}
-use Rattle.sb_world.specs.Turns.{Turn, goes, still, sent_turn, with_core}
+use Rattle.sb_world.specs.Turns.{Turn, listens, still, sent_turn, with_core}
 
 -- nothing changes
 abbrev pub Stays : Place → List Connection → Result Answer Fault → Turn → List Connection → Type 0
@@ -93,10 +93,10 @@ abbrev pub connections_after : Option Fault → List Connection → ℕ → Conn
 connections_after None conns number c = with_connection conns number c
 connections_after (Some fault) conns number c = without_connection conns number
 
-abbrev pub piece_turn : Place → List Heard → List Item → Option Fault → Core → List (List ℕ) → Turn
-piece_turn p heard items fault core frames = record {
+abbrev pub piece_turn : Place → List ℕ → List Heard → List Item → Option Fault → Core → List (List ℕ) → Turn
+piece_turn p piece heard items fault core frames = record {
   answer = Ok (answers.Delivered items fault);
-  effect = goes (events_in heard);
+  effect = listens piece heard;
   place = with_core p core;
   frames = frames;
 }
@@ -111,7 +111,7 @@ pub record Delivers (p : Place) (c : Connection) (number count : ℕ) (conns : L
   pub frames : List (List ℕ)
   pub hears : Hears (listener p.core c count) heard mid
   pub tells : Tells (length sent) heard mid last fault items frames
-  pub turn_is : turn ≡ piece_turn p heard items fault last.core frames
+  pub turn_is : turn ≡ piece_turn p (take count c.left) heard items fault last.core frames
   pub left : new ≡ connections_after fault conns number (heard_by c count last)
 
 abbrev pub Pieces : Option Connection → Place → ℕ → ℕ → List Connection → List (List ℕ) → Turn → List Connection → Type 0

@@ -5,8 +5,9 @@ pub mod Hearing
 pub mod Connecting
 pub mod Events
 pub mod Steps
-pub mod States
 pub mod Lines
+pub mod Wires
+pub mod States
 pub mod Truth
 pub mod Claims
 pub mod Making

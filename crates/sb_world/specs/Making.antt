@@ -33,14 +33,19 @@ refusal settings logs =
     else (if has_twins logs then Some SameName
     else (if are_of settings.cluster logs then None else Some WrongCluster))
 
--- why no node opened with what a log has: memory was wanting, or the log gives this fault when it is read
+-- why no node opened with what a log has: the log gives this fault when it is read, or it stood and memory was wanting
 abbrev pub IsOpeningFault : Log → Fault → Type 0
-IsOpeningFault log fault = (fault ≡ NoMemory) ⊎ ((new : Log) × Loads log (Err fault) new)
+IsOpeningFault log fault = ((new : Log) × Loads log (Err fault) new) ⊎ ((log.is_open ≡ true) × (fault ≡ NoMemory))
 
--- the fault of logs of which no world is made; else memory was wanting, or one of the logs gives this fault when it is read
+-- the fault of the first log with which no node opened: those before it stood
+abbrev pub IsFirstFault : List Log → Fault → Type 0
+IsFirstFault [] fault = ⊥
+IsFirstFault (log ∷ logs) fault = IsOpeningFault log fault ⊎ ((log.is_open ≡ true) × IsFirstFault logs fault)
+
+-- the fault of logs of which no world is made; else that of the first log with which no node opened
 abbrev pub IsMakingFault : Option Fault → List Log → Fault → Type 0
 IsMakingFault (Some refused) logs fault = fault ≡ refused
-IsMakingFault None logs fault = (fault ≡ NoMemory) ⊎ ((log : Log) × Stands logs log × IsOpeningFault log fault)
+IsMakingFault None logs fault = IsFirstFault logs fault
 
 -- nothing can make the store of one of these logs break its promise
 abbrev pub AreSureLogs : List Log → Type 0
@@ -61,9 +66,12 @@ pub record IsNodeOf (given : Log) (p : Place) : Type 0 where
   pub stays : Stays given p.log
   pub content : p.log.is_clean ≡ true → p.log.content ≡ given.content
 
--- each log has its node
+-- each log has its node, in their order, and there are no others
 abbrev pub HaveNodes : List Log → List Place → Type 0
-HaveNodes logs places = (log : Log) → Stands logs log → (p : Place) × Stands places p × IsNodeOf log p
+HaveNodes [] [] = Unit {0}
+HaveNodes [] (p ∷ places) = ⊥
+HaveNodes (log ∷ logs) [] = ⊥
+HaveNodes (log ∷ logs) (p ∷ places) = IsNodeOf log p × HaveNodes logs places
 
 -- each node has just opened, nothing is connected, and nothing was sent
 pub record IsMade (world : Seen) : Type 0 where

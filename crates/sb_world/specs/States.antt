@@ -9,8 +9,10 @@ use Rattle.sb_holdings.specs.Nodes.{Node, NodeEvent, opened_node}
 use Rattle.sb_world.specs.declared.event.Event.{Event}
 use Rattle.sb_world.specs.declared.event.Answer.{Answer}
 use Rattle.sb_world.specs.Places.{Place, Seen, place_at}
-use Rattle.sb_world.specs.Turns.{Effect, rests, logs, goes, opens}
+use Rattle.sb_world.specs.Turns.{Effect, rests, logs, goes, listens, opens}
 use Rattle.sb_world.specs.Events.{place_for}
+use Rattle.sb_world.specs.Hearing.{events_in}
+use Rattle.sb_world.specs.Wires.{Wire, new_wire, wires_by}
 use Rattle.sb_world.specs.Steps.{Step}
 
 -- of a node: what it held when it last opened, what happened to it since, and how often it opened anew
@@ -19,11 +21,12 @@ pub record Past : Type 0 where
   pub since : List NodeEvent
   pub openings : ℕ
 
--- what a world is, all that each owner wrote, and each node's past
+-- what a world is, all that each owner wrote, each node's past, and what came and went on the connection of each number
 pub record State : Type 0 where
   pub now : Seen
   pub writes : List ℕ → List Write
   pub past : List ℕ → Past
+  pub wires : ℕ → Wire
 
 -- with another value of one name
 abbrev pub put_at : {X : Type 0} → (List ℕ → X) → List ℕ → X → List ℕ → X
@@ -33,12 +36,14 @@ abbrev pub writes_after : List Write → Effect → List Write
 writes_after writes rests = writes
 writes_after writes (logs w) = writes ++ w ∷ []
 writes_after writes (goes events) = writes
+writes_after writes (listens bytes heard) = writes
 writes_after writes opens = writes
 
 abbrev pub past_after : List ℕ → List Write → Past → Effect → Past
 past_after me writes past rests = past
 past_after me writes past (logs w) = past
 past_after me writes past (goes events) = record { opening = past.opening; since = past.since ++ events; openings = past.openings }
+past_after me writes past (listens bytes heard) = record { opening = past.opening; since = past.since ++ events_in heard; openings = past.openings }
 past_after me writes past opens = record { opening = opened_node me (content_table 0 writes); since = []; openings = past.openings + 1 }
 
 -- the history goes on by an effect at a node, where there is one
@@ -50,12 +55,17 @@ abbrev pub past_then : State → Option Place → Effect → List ℕ → Past
 past_then old None effect = old.past
 past_then old (Some p) effect = put_at old.past p.me (past_after p.me (old.writes p.me) (old.past p.me) effect)
 
-abbrev pub remembered : State → Option Place → Effect → Seen → State
-remembered old found effect now = record { now = now; writes = writes_then old found effect; past = past_then old found effect }
+abbrev pub wires_then : State → Option Place → Event → Result Answer Fault → Effect → ℕ → Wire
+wires_then old None event answer effect = old.wires
+wires_then old (Some p) event answer effect = wires_by event answer effect old.now.sent old.wires
+
+abbrev pub remembered : State → Option Place → Event → Result Answer Fault → Effect → Seen → State
+remembered old found event answer effect now =
+    record { now = now; writes = writes_then old found effect; past = past_then old found effect; wires = wires_then old found event answer effect }
 
 -- one step of the machine
 abbrev pub Moves : State → Event → Result Answer Fault → State → Type 0
-Moves old event answer new = (effect : Effect) × Step old.now event answer effect new.now × (new ≡ remembered old (place_for old.now event) effect new.now)
+Moves old event answer new = (effect : Effect) × Step old.now event answer effect new.now × (new ≡ remembered old (place_for old.now event) event answer effect new.now)
 
 -- each event in turn, with its answer and the state after it
 abbrev pub Run : State → List Event → List (Result Answer Fault) → List State → Type 0
@@ -81,11 +91,12 @@ pub record IsFresh (s : State) (p : Place) : Type 0 where
   pub up : p.is_up ≡ true
   pub past : s.past p.me ≡ record { opening = p.core.node; since = []; openings = 0 }
 
--- each node has just opened, nothing is connected, and nothing was sent
+-- each node has just opened, nothing is connected, and nothing was sent, lined up or taken
 pub record IsStart (s : State) : Type 0 where
   pub places : (name : List ℕ) → IfSome (place_at s.now.places name) (IsFresh s)
   pub connections : s.now.connections ≡ []
   pub sent : s.now.sent ≡ []
+  pub wires : (number : ℕ) → s.wires number ≡ new_wire
 
 -- a run leads from a start to the state
 pub record IsReached (s : State) : Type 0 where
@@ -112,4 +123,5 @@ start_of writes world = record {
   now = world;
   writes = writes;
   past = λ name. record { opening = opened_node name (content_table 0 (writes name)); since = []; openings = 0 };
+  wires = λ number. new_wire;
 }

@@ -15,6 +15,7 @@ use Rattle.sb_world.specs.Connections.{Connection}
 use Rattle.sb_world.specs.Lines.{IsTrueConnection}
 use Rattle.sb_world.specs.Places.{Place, place_at}
 use Rattle.sb_world.specs.States.{Past, State}
+use Rattle.sb_world.specs.Wires.{AreTrueWires}
 
 -- the frame of a message within the budget, and where that is a delta each of its blocks is honest
 pub record IsTrueFrame (writes : List ℕ → List Write) (budget : ℕ) (bytes : List ℕ) : Type 0 where
@@ -51,3 +52,5 @@ pub record IsTrueState (s : State) : Type 0 where
   pub places : (name : List ℕ) → IfSome (place_at s.now.places name) (λ p. IsTruePlace s.writes (s.past p.me) s.now.settings p)
   pub frames : (bytes : List ℕ) → Stands s.now.sent bytes → IsTrueFrame s.writes s.now.settings.budget bytes
   pub connections : (c : Connection) → Stands s.now.connections c → IsTrueConnection s.now.sent c
+  -- the messages taken are those of the bytes that came, and these are of frames that were sent
+  pub wires : AreTrueWires s.now.sent s.now.connections s.wires

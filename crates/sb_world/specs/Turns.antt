@@ -21,13 +21,15 @@ use Rattle.sb_node.specs.Answers.{IsDelta, IsAnswer}
 use Rattle.sb_node.specs.Cores.{Core, with_node, committed_answer}
 use Rattle.sb_world.specs.declared.event.Answer.{Answer}
 use Rattle.sb_world.specs.declared.event.Answer.TheVariants as answers
+use Rattle.sb_world.specs.Hearing.{Heard}
 use Rattle.sb_world.specs.Places.{Place}
 
--- what an event adds to the history: nothing, a write of the node's owner, events of the node, or that the node opened anew
+-- what an event adds to the history: nothing, a write of the node's owner, events of the node, bytes that came and what was heard of them, or that the node opened anew
 pub data Effect : Type 0 where
   rests : Effect
   logs : Write → Effect
   goes : List NodeEvent → Effect
+  listens : List ℕ → List Heard → Effect
   opens : Effect
 
 -- what comes of an event at its node

@@ -1,6 +1,6 @@
 //! A world made of logs.
 
-ghost use Rattle.std.specs.Prelude.{◌≡◌, Err, map, IfOk, IfErr, IfSome};
+ghost use Rattle.std.specs.Prelude.{◌≡◌, true, Err, map, IfOk, IfErr, IfSome, OnOk};
 ghost use Rattle.sb_types.specs.Runs.{Stands};
 ghost use Rattle.sb_log.specs.Records as records;
 ghost use Rattle.sb_log.specs.Puts.{IsSure};
@@ -79,6 +79,7 @@ fn opened<L: WriteLog + Drop>(
     ensures name { IfOk result (λ p. p.me ≡ (L.seen log).owner) }
     ensures log { IfOk result (IsNodeOf (L.seen log)) }
     ensures sure { IsSure (L.seen log) → IfOk result (λ p. IsSure p.log) }
+    ensures stood { OnOk result ((L.seen log).is_open ≡ true) }
     ensures why { IfErr result (IsOpeningFault (L.seen log)) }
 {
     let me = *log.owner();
@@ -97,7 +98,7 @@ fn opened<L: WriteLog + Drop>(
 }
 
 /// The nodes of these logs, in their order, each opened with what its log has. `BadSetting`, `SameName` or
-/// `WrongCluster`, in this order; else the faults of `load`, and `NoMemory`.
+/// `WrongCluster`, in this order; else, log by log, the faults of `load`, and behind them `NoMemory`.
 pub(crate) fn places_of<L: WriteLog + Drop>(
     alloc: Global,
     settings: Settings,
@@ -113,7 +114,7 @@ pub(crate) fn places_of<L: WriteLog + Drop>(
     if let Some(fault) = refusal(&settings, &logs) {
         return Err(fault);
     }
-    let mut places = Vec::with_capacity(alloc, logs.len())?;
+    let mut places = Vec::new(alloc);
     for log in logs {
         places.push(opened(alloc, settings, log)?)?;
     }

@@ -143,7 +143,8 @@ fn act<L: WriteLog>(
 impl<L: WriteLog + Drop> World<L> {
     /// A world of a node for each log, named as its owner and opened with what the log has, which stays. `BadSetting` where there are
     /// no logs, or more than 1,024; `SameName` where two have one owner; `WrongCluster` where one is of another cluster
-    /// than the settings'; then the faults of `load`, and `NoMemory`.
+    /// than the settings'; then, log by log in their order, the faults of `load`, and behind them `NoMemory`: so a closed log
+    /// is told as `Closed`, unless one before it has a fault.
     pub fn new(alloc: Global, settings: Settings, logs: Vec<L>) -> Result<World<L>, Fault>
         ensures refused { IfSome (refusal settings (map L.seen logs.items)) (λ fault. result ≡ Err fault) }
         ensures why { IfErr result (λ fault. IsMakingFault (refusal settings (map L.seen logs.items)) (map L.seen logs.items) fault) }

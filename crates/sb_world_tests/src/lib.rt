@@ -3,6 +3,10 @@
 #![tactic(auto)]
 
 #[cfg(test)]
+mod making;
+#[cfg(test)]
+mod real;
+#[cfg(test)]
 mod scripts;
 #[cfg(test)]
 mod story;

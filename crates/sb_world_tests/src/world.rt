@@ -6,12 +6,16 @@ use sb_world::{Answer, Event, World, run_in_memory};
 use std::alloc::Global;
 use std::process::Abort;
 
+fn weight(rt: &impl Abort, number: u64) -> Slot {
+    Slot::Set(got(rt, Value::weight(number)))
+}
+
 /// An empty log of the owner.
 fn log(rt: &impl Abort, alloc: Global, owner: &[u8]) -> PlainLog {
     PlainLog::new(alloc, name(rt, owner), name(rt, b"sim"), 2)
 }
 
-fn settings(rt: &impl Abort) -> Settings {
+pub(crate) fn settings(rt: &impl Abort) -> Settings {
     let settings = Settings::check(RawSettings {
         cluster: b"sim",
         budget: 256,
@@ -31,61 +35,80 @@ fn world(rt: &impl Abort, alloc: Global) -> World<PlainLog> {
     got(rt, World::new(alloc, settings(rt), logs))
 }
 
-/// A crash behind a write, and a restart.
-fn crash_and_restart(rt: &impl Abort) -> [Event; 4] {
+/// A crash behind a write, a restart, a write that is entered, and one for which no version is left.
+pub(crate) fn seven_events(rt: &impl Abort) -> [Event; 7] {
     let (a, b) = (name(rt, b"a"), name(rt, b"b"));
-    let slot = Slot::Set(got(rt, Value::weight(1)));
     [
-        Event::CrashInCommit(a, key(rt, b"x"), slot, true),
+        Event::CrashInCommit(a, key(rt, b"x"), weight(rt, 1), true),
         Event::Upto(b, a),
         Event::Restart(a),
+        Event::Commit(a, key(rt, b"y"), weight(rt, 2)),
+        Event::Take(a),
+        Event::Commit(a, key(rt, b"z"), weight(rt, 3)),
         Event::Upto(a, a),
     ]
 }
 
 /// What is told of an answer.
 #[derive(Clone, Copy, Debug, PartialEq, Eq)]
-enum Told {
+pub(crate) enum Told {
     Crashed,
     Restarted(u64),
+    Committed(u64),
+    Took(u64),
     Number(u64),
     Failed(Fault),
     Other,
 }
 
+/// What the seven events are answered.
+pub(crate) const SEVEN_ANSWERS: [Told; 7] = [
+    Told::Crashed,
+    Told::Number(0),
+    Told::Restarted(1),
+    Told::Committed(2),
+    Told::Took(2),
+    Told::Failed(Fault::VersionsSpent),
+    Told::Number(2),
+];
+
 fn told_by(answer: &Result<Answer, Fault>) -> Told {
     match answer {
         Ok(Answer::Crashed) => Told::Crashed,
         Ok(Answer::Restarted(version)) => Told::Restarted(*version),
+        Ok(Answer::Committed(version)) => Told::Committed(*version),
+        Ok(Answer::Took(version)) => Told::Took(*version),
         Ok(Answer::Number(version)) => Told::Number(*version),
         Err(fault) => Told::Failed(*fault),
         _ => Told::Other,
     }
 }
 
-/// What four answers tell; where there are more or fewer, nothing of that.
-fn told_by_four(answers: &[Result<Answer, Fault>]) -> [Told; 4] {
+/// What seven answers tell; where there are more or fewer, nothing of that.
+pub(crate) fn told_by_seven(answers: &[Result<Answer, Fault>]) -> [Told; 7] {
     match answers {
-        [a, b, c, d] => [told_by(a), told_by(b), told_by(c), told_by(d)],
-        _ => [Told::Other; 4],
+        [a, b, c, d, e, f, g] => [
+            told_by(a),
+            told_by(b),
+            told_by(c),
+            told_by(d),
+            told_by(e),
+            told_by(f),
+            told_by(g),
+        ],
+        _ => [Told::Other; 7],
     }
 }
 
-/// What a whole run answers to four events.
-fn told_of_run(rt: &impl Abort, alloc: Global, events: &[Event]) -> [Told; 4] {
+/// What a whole run answers to seven events.
+fn told_of_run(rt: &impl Abort, alloc: Global, events: &[Event]) -> [Told; 7] {
     let mut world = world(rt, alloc);
     let answers = got(rt, run_in_memory(&mut world, events));
-    told_by_four(&answers)
+    told_by_seven(&answers)
 }
 
 #[test]
 fn a_run_answers_each_event(rt: HostRuntime) {
-    let found = told_of_run(&rt, rt.alloc(), &crash_and_restart(&rt));
-    let wanted = [
-        Told::Crashed,
-        Told::Number(0),
-        Told::Restarted(1),
-        Told::Number(1),
-    ];
-    same(&rt, &found, &wanted);
+    let found = told_of_run(&rt, rt.alloc(), &seven_events(&rt));
+    same(&rt, &found, &SEVEN_ANSWERS);
 }

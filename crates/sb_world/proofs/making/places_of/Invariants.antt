@@ -1,4 +1,4 @@
-use Rattle.std.proofs.Common.{◌≡◌, map}
+use Rattle.std.proofs.Common.{◌≡◌, true, map}
 use Rattle.sb_types.specs.Runs.{Stands}
 use Rattle.sb_log.specs.Records as records
 use Rattle.sb_world.specs.Places as world
@@ -12,5 +12,6 @@ invariant-loop-log g l = record {
   new : (p : world.Place) → Stands l.places.items p → IsNew l.fn.settings p;
   logs : HaveNodes (map g.L.WriteLog.seen l.yielded) l.places.items;
   sure : AreSureLogs (map g.L.WriteLog.seen l.yielded) → (p : world.Place) → Stands l.places.items p → IsSure p.log;
+  stood : (log : records.Log) → Stands (map g.L.WriteLog.seen l.yielded) log → log.is_open ≡ true;
   settings : l.settings ≡ l.fn.settings;
 }

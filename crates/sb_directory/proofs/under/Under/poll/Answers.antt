@@ -1,11 +1,11 @@
-use Rattle.std.proofs.Common.{◌≡◌, ◌≤◌, Err, IfErr, sym, ap, subst, ◌∙◌}
+use Rattle.std.proofs.Common.{◌≡◌, ◌≤◌, Bool, true, Err, IfErr, sym, ap, subst, ◌∙◌}
 use Rattle.sb_types.specs.declared.fault.Fault.TheVariants.{NoWatch}
 use Rattle.sb_holdings.specs.Held.{shown_of}
 use Rattle.sb_holdings.specs.Nodes.{Node}
-use Rattle.sb_watch.specs.Hubs.{answer_at}
+use Rattle.sb_watch.specs.Hubs.{has_watch, answer_at}
 use Rattle.sb_views.specs.Stories.{node_after}
 use Rattle.sb_directory.specs.Locks.{Locked}
-use Rattle.sb_directory.proofs.Polling.{answer-none, answer-some, no-fault}
+use Rattle.sb_directory.proofs.Polling.{answer-none, answer-some, no-fault, stands}
 use Rattle.sb_directory.proofs.under.Under.poll.Goals as goal
 
 pub returns-then-not-has_watch-clause-answer : goal.returns-then-not-has_watch-clause-answer
@@ -24,3 +24,17 @@ returns-clause-held g c note given =
     let kept : note.version ≤ (shown_of locked.core.node.held note.owner).held = c.poll.ensures.held note given in
     let told : c.refresh.new.seat.told ≡ locked.story = c.refresh.ensures.told c.if-not-refresh.false ∙ sym (ap (λ (l : Locked). l.story) c.self-2.view_is) in
     subst (λ (n : Node). note.version ≤ (shown_of n.held note.owner).held) (c.front-story.ensures.node ∙ ap (node_after opening) (sym told)) kept
+
+pub returns-clause-none : goal.returns-clause-none
+returns-clause-none g c none =
+    let has : Locked → Bool = λ l. has_watch l.hub c.args.id in
+    let stood : has c.self-2.inside.locked ≡ true =
+    ap has (c.self-2.view_is ∙ c.refresh.ensures.left) ∙ ap has (sym c.self.view_is) ∙ sym c.has_watch.ensures ∙ c.if-not-has_watch.false in
+    stands c.self-2.inside.locked.hub c.args.id c.poll.result _ stood c.poll.ensures.answer none
+
+pub returns-clause-seat : goal.returns-clause-seat
+returns-clause-seat g c none =
+    let has : Locked → Bool = λ l. has_watch l.hub c.args.id in
+    let stood : has c.self-2.inside.locked ≡ true =
+    ap has (c.self-2.view_is ∙ c.refresh.ensures.left) ∙ ap has (sym c.self.view_is) ∙ sym c.has_watch.ensures ∙ c.if-not-has_watch.false in
+    stands c.self-2.inside.locked.hub c.args.id c.poll.result _ stood c.poll.ensures.answer none

@@ -1,4 +1,4 @@
-use Rattle.std.proofs.Common.{◌≡◌, ◌<◌, List, ◌++◌, length, Option, Some, None, IfNone, Ok, slice_get, sym, ap, subst, ◌∙◌}
+use Rattle.std.proofs.Common.{◌≡◌, ◌<◌, List, ◌++◌, length, take, Option, Some, None, IfNone, Ok, slice_get, sym, ap, subst, ◌∙◌}
 use Rattle.std.specs.Prelude.{slice_set, remove}
 use Rattle.std.proofs.lemmas.Option.{slice_get-get_or}
 use Rattle.sb_types.specs.declared.fault.Fault.{Fault}
@@ -6,9 +6,9 @@ use Rattle.sb_world.specs.declared.event.Answer.TheVariants as answers
 use Rattle.sb_world.specs.declared.event.Item.{Item}
 use Rattle.sb_world.specs.Connections.{Connection, connection_at, with_connection, without_connection}
 use Rattle.sb_world.specs.Connecting.{heard_by, connections_after, Pieces}
-use Rattle.sb_world.specs.Hearing.{Tells, events_in}
+use Rattle.sb_world.specs.Hearing.{Tells}
 use Rattle.sb_world.specs.Places.{Place}
-use Rattle.sb_world.specs.Turns.{goes, with_core}
+use Rattle.sb_world.specs.Turns.{listens, with_core}
 use Rattle.sb_world.proofs.Connected.{remove_set, delivered}
 use Rattle.sb_world.proofs.place.Place.piece.Goals as goal
 
@@ -36,10 +36,10 @@ returns-in-Some-fault g c =
     let tells = subst (λ (f : Option Fault). Tells (length sent) heard said.1 last f told said.3) c.in-Some-fault.is said.8 in
     let is : items ≡ told = c.new.ensures ∙ said.6 ∙ ap (λ (is : List Item). is ++ told) c.new-items.ensures.items in
     let left : new ≡ connections_after (Some fault) conns number (heard_by x count last) = c.remove.ensures.items ∙ remove_set conns i c.piece-fault.new.self ∙ sym cut in (
-      goes (events_in heard),
+      listens (take count x.left) heard,
       said.3,
       subst
-          (λ (p : Place). Pieces (connection_at conns number) p number count conns sent (record { answer = Ok (answers.Delivered items (Some fault)); effect = goes (events_in heard); place = with_core v core; frames = said.3 }) new)
+          (λ (p : Place). Pieces (connection_at conns number) p number count conns sent (record { answer = Ok (answers.Delivered items (Some fault)); effect = listens (take count x.left) heard; place = with_core v core; frames = said.3 }) new)
           c.self.view_is
           (delivered v number conns sent x (found ∙ here) count heard said.1 last (Some fault) items told said.3 core new said.7 tells is said.9 left),
       said.5,
@@ -69,10 +69,10 @@ returns g c =
     let is : items ≡ told = c.new-2.ensures ∙ said.6 ∙ ap (λ (is : List Item). is ++ told) c.new-items.ensures.items in
     let on = subst (λ (f : Option Fault). IfNone f (c.piece-fault.new.self ≡ heard_by x count last)) c.in-None.is said.10 in
     let left : new ≡ connections_after None conns number (heard_by x count last) = sym (set c.piece-fault.new.self) ∙ ap (with_connection conns number) on in (
-      goes (events_in heard),
+      listens (take count x.left) heard,
       said.3,
       subst
-          (λ (p : Place). Pieces (connection_at conns number) p number count conns sent (record { answer = Ok (answers.Delivered items None); effect = goes (events_in heard); place = with_core v core; frames = said.3 }) new)
+          (λ (p : Place). Pieces (connection_at conns number) p number count conns sent (record { answer = Ok (answers.Delivered items None); effect = listens (take count x.left) heard; place = with_core v core; frames = said.3 }) new)
           c.self.view_is
           (delivered v number conns sent x (found ∙ here) count heard said.1 last None items told said.3 core new said.7 tells is said.9 left),
       said.5,

@@ -1,0 +1,87 @@
+-- Questions for all rows that are asked for, page after page.
+use Rattle.std.specs.Prelude.{◌≡◌, ℕ, Bool, true, false, ◌&&◌, ◌⊎◌, List, [], ◌∷◌, ◌++◌, length, Option, Some, None}
+use Rattle.std.specs.Ordering.{nat_cmp, is_lt, ordering_then}
+use Rattle.std.specs.Cmp.Lexicographic.{slice_cmp}
+use Rattle.sb_types.specs.declared.fault.Fault.{Fault}
+use Rattle.sb_types.specs.declared.fault.Fault.TheVariants.{Malformed, TurnsSpent}
+use Rattle.sb_types.specs.declared.format.TheConstants.{KIND_ROWS}
+use Rattle.sb_codec.specs.declared.message.ask.Ask.{Ask}
+use Rattle.sb_codec.specs.Records.{Row, Rows}
+use Rattle.sb_codec.specs.Limits.{are_rows_above}
+use Rattle.sb_query.specs.Pages.{asking_behind}
+use Rattle.sb_query.specs.declared.paging.TheConstants.{PAGES_MOST}
+use Rattle.sb_query.specs.declared.paging.PagingFault.{PagingFault}
+use Rattle.sb_query.specs.declared.paging.PagingFault.TheVariants.{Failed, Wrong}
+
+-- a call that did not fail: a question and its page, or a page that was taken
+pub data Act : Type 0 where
+  asks : Ask → Rows → Act
+  takes : Rows → Act
+
+-- a row stands behind a place, by its owner and then by its key
+abbrev pub lies_behind : Option (List ℕ × List ℕ) → Row → Bool
+lies_behind None row = true
+lies_behind (Some place) row = is_lt (ordering_then (slice_cmp nat_cmp place.0 row.owner) (slice_cmp nat_cmp place.1 row.key))
+
+abbrev pub lie_behind : Option (List ℕ × List ℕ) → List Row → Bool
+lie_behind None rows = true
+lie_behind (Some place) rows = are_rows_above place.0 place.1 rows
+
+-- more follow only behind a row
+abbrev pub ends_or_has_rows : Bool → List Row → Bool
+ends_or_has_rows true [] = false
+ends_or_has_rows true (row ∷ rows) = true
+ends_or_has_rows false rows = true
+
+-- a page lies behind the place that was asked for, and where it says that more follow it has a row
+abbrev pub goes_on : Option (List ℕ × List ℕ) → Rows → Bool
+goes_on after page = lie_behind after page.rows && ends_or_has_rows page.more page.rows
+
+-- the place of the last row, where more follow behind it
+abbrev pub IsPlaceBehind : Rows → Option (List ℕ × List ℕ) → Type 0
+IsPlaceBehind page None = page.more ≡ false
+IsPlaceBehind page (Some place) =
+    (front : List Row) × (last : Row) × (page.more ≡ true) × (page.rows ≡ front ++ last ∷ []) × (place ≡ (last.owner, last.key))
+
+-- a page was asked for, goes on, and was taken
+pub record Turns {S : Type 0} (step : S → Act → S → Type 0) (old : S) (ask : Ask) (page : Rows) (new : S) : Type 0 where
+  pub answered : S
+  pub asks : step old (asks ask page) answered
+  pub goes : goes_on ask.after page ≡ true
+  pub takes : step answered (takes page) new
+
+-- more rows follow behind the last one of the page, and are asked for next
+pub record AsksBehind (ask : Ask) (page : Rows) (next : Ask) : Type 0 where
+  pub front : List Row
+  pub last : Row
+  pub more : page.more ≡ true
+  pub rows : page.rows ≡ front ++ last ∷ []
+  pub next_is : next ≡ asking_behind last ask
+
+-- page after page was asked for and taken, and behind the last one more are to be asked for
+abbrev pub Leads : {S : Type 0} → (S → Act → S → Type 0) → S → Ask → List Rows → S → Ask → Type 0
+Leads step old ask [] new next = (new ≡ old) × (next ≡ ask)
+Leads {S} step old ask (page ∷ pages) new next =
+    (mid : S) × (behind : Ask) × Turns step old ask page mid × AsksBehind ask page behind × Leads step mid behind pages new next
+
+-- page after page was asked for and taken, each behind the one before, up to one that says that none follow
+pub record Lists {S : Type 0} (step : S → Act → S → Type 0) (old : S) (ask : Ask) (pages : List Rows) (last : Rows) (new : S) : Type 0 where
+  pub before : S
+  pub next : Ask
+  pub leads : Leads step old ask pages before next
+  pub turns : Turns step before next last new
+  pub none_follow : last.more ≡ false
+
+-- an answer did not go on, and was not taken
+abbrev pub IsWrong : {S : Type 0} → (S → Act → S → Type 0) → S → Ask → S → Fault → Type 0
+IsWrong step old ask new fault = (page : Rows) × step old (asks ask page) new × (goes_on ask.after page ≡ false) × (fault ≡ Malformed KIND_ROWS)
+
+abbrev pub TurnsAside : {S E : Type 0} → (S → Act → S → Type 0) → S → Ask → S → PagingFault E → Type 0
+TurnsAside step old ask new (Failed failure) = Unit {0}
+TurnsAside step old ask new (Wrong fault) = IsWrong step old ask new fault
+
+-- behind the pages that were taken came an answer that did not go on; or 2 ^ 64 - 1 pages were taken, and more follow
+abbrev pub GoesAstray : {S E : Type 0} → (S → Act → S → Type 0) → S → Ask → S → PagingFault E → Type 0
+GoesAstray step old ask new (Failed failure) = Unit {0}
+GoesAstray {S} step old ask new (Wrong fault) = (pages : List Rows) × (mid : S) × (next : Ask) × Leads step old ask pages mid next
+    × (IsWrong step mid next new fault ⊎ ((new ≡ mid) × (length pages ≡ PAGES_MOST) × (fault ≡ TurnsSpent)))

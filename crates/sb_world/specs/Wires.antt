@@ -1,0 +1,87 @@
+-- What came and went on a connection.
+use Rattle.std.specs.Prelude.{◌≡◌, ◌≢◌, ℕ, if◌then◌else◌, nat_eq, List, [], ◌∷◌, ◌++◌, map, Option, Some, None, Result, Ok, Err}
+use Rattle.std.specs.List.{flat_map}
+use Rattle.sb_types.specs.declared.fault.Fault.{Fault}
+use Rattle.sb_types.specs.Runs.{Stands}
+use Rattle.sb_codec.specs.declared.message.Message.{Message}
+use Rattle.sb_frames.specs.Frames.{frame}
+use Rattle.sb_frames.specs.Streams.{open_with}
+use Rattle.sb_world.specs.declared.event.Event.{Event}
+use Rattle.sb_world.specs.declared.event.Event.TheVariants.{Connect, Line, Piece}
+use Rattle.sb_world.specs.declared.event.Answer.{Answer}
+use Rattle.sb_world.specs.declared.event.Answer.TheVariants as answers
+use Rattle.sb_world.specs.Connections.{Connection}
+use Rattle.sb_world.specs.Hearing.{Heard}
+use Rattle.sb_world.specs.Lines.{laid_out}
+use Rattle.sb_world.specs.Places.{frame_at}
+use Rattle.sb_world.specs.Turns.{Effect, listens}
+
+-- of the connection that last had a number: the frames that were lined up, the bytes that came, and the messages that its session took
+pub record Wire : Type 0 where
+  pub lined : List (List ℕ)
+  pub came : List ℕ
+  pub taken : List Message
+
+abbrev pub new_wire : Wire
+new_wire = record { lined = []; came = []; taken = [] }
+
+abbrev pub messages_in : List Heard → List Message
+messages_in heard = map (λ (h : Heard). h.message) heard
+
+-- ---- what an event adds
+
+-- a connection that begins has no history
+abbrev pub begun_by : Result Answer Fault → Wire → Wire
+begun_by (Ok (answers.Sent frame)) w = new_wire
+begun_by answer w = w
+
+-- a frame is lined up
+abbrev pub lined_by : Result Answer Fault → Option (List ℕ) → Wire → Wire
+lined_by (Ok answers.Lined) (Some bytes) w = record { lined = w.lined ++ bytes ∷ []; came = w.came; taken = w.taken }
+lined_by answer found w = w
+
+-- bytes come, and messages are taken
+abbrev pub heard_on : Effect → Wire → Wire
+heard_on (listens bytes heard) w = record { lined = w.lined; came = w.came ++ bytes; taken = w.taken ++ messages_in heard }
+heard_on effect w = w
+
+-- with another history of one number
+abbrev pub wired : (ℕ → Wire) → ℕ → Wire → ℕ → Wire
+wired wires number w other = if nat_eq other number then w else wires other
+
+-- an event adds to the history of the connection that it names
+abbrev pub wires_by : Event → Result Answer Fault → Effect → List (List ℕ) → (ℕ → Wire) → ℕ → Wire
+wires_by (Connect me number) answer effect sent wires = wired wires number (begun_by answer (wires number))
+wires_by (Line number index) answer effect sent wires = wired wires number (lined_by answer (frame_at sent index) (wires number))
+wires_by (Piece number count) answer effect sent wires = wired wires number (heard_on effect (wires number))
+wires_by event answer effect sent wires = wires
+
+-- ---- what is true of it
+
+-- what came is the frames of the messages that were taken, and then a rest; with what is left to come it is the frames that were lined up, and each of them was sent
+pub record IsHistory (sent : List (List ℕ)) (w : Wire) (rest left : List ℕ) : Type 0 where
+  pub sent_all : (bytes : List ℕ) → Stands w.lined bytes → Stands sent bytes
+  pub taken : w.came ≡ flat_map frame w.taken ++ rest
+  pub lined : w.came ++ left ≡ laid_out w.lined
+
+-- of a connection that stands the rest is what its stream holds, and what is left is to come
+pub record IsTrueWire (sent : List (List ℕ)) (w : Wire) (c : Connection) : Type 0 where
+  pub rest : List ℕ
+  pub stands : c.stream ≡ open_with rest
+  pub history : IsHistory sent w rest c.left
+
+pub record IsPastWire (sent : List (List ℕ)) (w : Wire) : Type 0 where
+  pub rest : List ℕ
+  pub left : List ℕ
+  pub history : IsHistory sent w rest left
+
+-- no two connections have one number
+abbrev pub AreDistinct : List Connection → Type 0
+AreDistinct [] = Unit {0}
+AreDistinct (c ∷ cs) = ((d : Connection) → Stands cs d → d.number ≢ c.number) × AreDistinct cs
+
+pub record AreTrueWires (sent : List (List ℕ)) (conns : List Connection) (wires : ℕ → Wire) : Type 0 where
+  pub standing : (c : Connection) → Stands conns c → IsTrueWire sent (wires c.number) c
+  -- also of those that are gone
+  pub each : (number : ℕ) → IsPastWire sent (wires number)
+  pub distinct : AreDistinct conns
