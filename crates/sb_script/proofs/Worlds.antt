@@ -1,5 +1,5 @@
 -- A world of empty logs.
-use Rattle.std.proofs.Common.{◌≡◌, ℕ, Bool, true, false, cond, nat_eq, nat_lt, ◌||◌, List, [], ◌∷◌, length, map, Option, Some, None, IfSome, inl, inr, ⊎_elim, refl, sym, ap, subst, ◌∙◌}
+use Rattle.std.proofs.Common.{◌≡◌, ℕ, Bool, true, false, cond, nat_eq, nat_lt, ◌||◌, List, [], ◌∷◌, length, map, Option, Some, None, Result, Ok, Err, IfSome, IfOk, IfErr, inl, inr, ⊎_elim, refl, sym, ap, subst, ◌∙◌}
 use Rattle.std.specs.Cmp.Lexicographic.{pointwise}
 use Rattle.std.proofs.lemmas.Bool.{true≢false}
 use Rattle.sb_types.specs.declared.fault.Fault.{Fault}
@@ -89,3 +89,15 @@ world_is line settings names logs world given named are same owners have made = 
       (λ name. found_empty settings names world.places (subst (λ ls. HaveNodes ls world.places) are have) name
       (subst (λ (s : Settings). IfSome (place_at world.places name) (IsNew s)) same (made.places name)));
 }
+
+-- ---- whatever comes of it
+
+module _ (line : WorldLine) (settings : Settings) (names : List (List ℕ)) (logs : List Log) (given : settings ≡ settings_of line) (named : names ≡ names_in line) (are : logs ≡ map (empty_log settings) names) where
+  pub world_made : (result : Result Seen Fault) → IfOk result (λ w. w.settings ≡ settings) → IfOk result (λ w. map (λ (p : Place). p.me) w.places ≡ map (λ (log : Log). log.owner) logs) → IfOk result (λ w. HaveNodes logs w.places) →
+      IfOk result IsMade → IfOk result (IsWorldOf line)
+  world_made (Ok world) same owners have made = world_is line settings names logs world given named are same owners have made
+  world_made (Err fault) same owners have made = tt
+
+  pub world_not_made : (result : Result Seen Fault) → IfErr result (λ fault. IsMakingFault (refusal settings logs) logs fault) → IfErr result (λ fault. is_world_fault fault ≡ true)
+  world_not_made (Ok world) why = tt
+  world_not_made (Err fault) why = world_fault settings names logs fault are why

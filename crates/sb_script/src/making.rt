@@ -76,6 +76,14 @@ impl<'a> WorldLine<'a> {
     }
 }
 
+/// The name of a word. `BadName`.
+fn name_of(word: &[u8]) -> Result<Name, Fault>
+    ensures name { IfOk result (λ name. name ≡ word.now) }
+    ensures fault { IfErr result (λ fault. fault ≡ Fault.BadName) }
+{
+    Name::read(word)
+}
+
 /// The names of these words. `BadName`; `NoMemory`.
 fn names_of(alloc: Global, words: &[&[u8]]) -> Result<Vec<Name>, Fault>
     ensures names { IfOk result (λ names. names.items ≡ map (λ word. word.now) words.now) }
@@ -83,7 +91,7 @@ fn names_of(alloc: Global, words: &[&[u8]]) -> Result<Vec<Name>, Fault>
 {
     let mut names = Vec::new(alloc);
     for word in words {
-        names.push(Name::read(word)?)?;
+        names.push(name_of(word)?)?;
     }
     Ok(names)
 }
