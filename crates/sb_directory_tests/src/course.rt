@@ -113,7 +113,12 @@ fn go<N: Reached + Drop, R: Wait + Abort>(rt: &R, node: N, run: Run<'_>) {
     }
 }
 
-fn go_locked<S: Site, R: Wait + Abort>(rt: &R, opened: Opened, core: NodeCore, run: Run<'_>)
+fn go_locked<'a, S: Site, R: Wait + Abort>(
+    rt: &'a R,
+    opened: Opened,
+    core: NodeCore,
+    run: Run<'a>,
+)
     requires story { opened.seen.book ≡ S.story }
     requires opening { S.opening ≡ core.node }
 {
@@ -121,12 +126,12 @@ fn go_locked<S: Site, R: Wait + Abort>(rt: &R, opened: Opened, core: NodeCore, r
     go(rt, node, run);
 }
 
-fn go_seated<S: Configured, R: Wait + Abort>(
-    rt: &R,
+fn go_seated<'a, S: Configured, R: Wait + Abort>(
+    rt: &'a R,
     opened: Opened,
     blank: Blank,
     core: NodeCore,
-    run: Run<'_>,
+    run: Run<'a>,
 )
     requires story { opened.seen.book ≡ S.story }
     requires opening { S.opening ≡ core.node }

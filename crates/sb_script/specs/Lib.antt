@@ -5,6 +5,4 @@ pub mod Commands
 pub mod Written
 pub mod Giving
 pub mod Played
-pub mod Faults
-pub mod Making
 pub mod Told
