@@ -113,12 +113,7 @@ fn go<N: Reached + Drop, R: Wait + Abort>(rt: &R, node: N, run: Run<'_>) {
     }
 }
 
-fn go_locked<'a, S: Site, R: Wait + Abort>(
-    rt: &'a R,
-    opened: Opened,
-    core: NodeCore,
-    run: Run<'a>,
-)
+fn go_locked<'a, S: Site, R: Wait + Abort>(rt: &'a R, opened: Opened, core: NodeCore, run: Run<'a>)
     requires story { opened.seen.book ≡ S.story }
     requires opening { S.opening ≡ core.node }
 {
