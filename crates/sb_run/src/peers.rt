@@ -1,5 +1,5 @@
 //! The peers of a node, and whose turn it is to be dialed.
-ghost use Rattle.std.specs.Prelude.{◌≡◌, ◌≢◌, ◌⊎◌, ◌+◌, ◌<◌, ◌&&◌, true, false, None, is_err, slice_get, vec_len, if◌then◌else◌, IfSome, IfErr};
+ghost use Rattle.std.specs.Prelude.{◌≡◌, ◌≢◌, ◌⊎◌, ◌+◌, ◌<◌, ◌&&◌, true, false, nat_lt, None, Some, is_err, slice_get, vec_len, if◌then◌else◌, IfSome, IfErr};
 ghost use Rattle.sb_run.specs.Turns as spec;
 ghost use Rattle.sb_run.specs.declared.peers.LastRound.TheVariants as lasts;
 
@@ -145,13 +145,14 @@ impl<'a> Peers<'a> {
         ensures none { result ≡ None → vec_len self.old.all ≡ 0 }
         ensures turn { IfSome result (λ taken. taken.0 ≡ spec.turn_of (vec_len self.old.all) self.old.turn) }
         ensures next { IfSome result (λ taken. self.new.turn ≡ taken.0 + 1) }
+        ensures out { IfSome result (λ taken. IfSome (slice_get self.old.all.items taken.0) (λ peer. taken.1 ≡ nat_lt 0 peer.turns_out)) }
         ensures within { IfSome result (λ taken. taken.0 < vec_len self.new.all) }
         ensures burst { self.new.burst_turn ≡ self.old.burst_turn }
     {
         let turn = turn_of(self.all.len(), self.turn);
-        let peer = self.all.get_mut(turn)?;
         self.turn = turn.saturating_add(1);
-        let is_out = peer.turns_out != 0;
+        let peer = self.all.get_mut(turn)?;
+        let is_out = 0 < peer.turns_out;
         peer.turns_out = peer.turns_out.saturating_sub(1);
         Some((turn, is_out))
     }
@@ -159,6 +160,17 @@ impl<'a> Peers<'a> {
     /// Where the peer lies whose turn it is; behind the last comes the first. One that kept the node waiting is passed over in
     /// seven of its turns. Nobody where there are no peers.
     pub(crate) fn next_in_turn(&mut self) -> Option<usize>
+        ensures first { IfSome (slice_get self.old.all.items (spec.turn_of (vec_len self.old.all) self.old.turn))
+            (λ peer. peer.turns_out ≡ 0 → result ≡ Some (spec.turn_of (vec_len self.old.all) self.old.turn)) }
+        ensures within { IfSome result (λ index. index < vec_len self.new.all) }
+        ensures next { IfSome result (λ index. self.new.turn ≡ index + 1) }
+    {
+        let (turn, is_out) = self.take_turn()?;
+        if is_out { self.pass_over() } else { Some(turn) }
+    }
+
+    /// Where the next peer lies that is not passed over, behind one that is.
+    fn pass_over(&mut self) -> Option<usize>
         ensures within { IfSome result (λ index. index < vec_len self.new.all) }
         ensures next { IfSome result (λ index. self.new.turn ≡ index + 1) }
     {
@@ -178,18 +190,34 @@ impl<'a> Peers<'a> {
         ensures none { result ≡ None → vec_len self.old.all ≡ 0 }
         ensures turn { IfSome result (λ taken. taken.0 ≡ spec.turn_of (vec_len self.old.all) self.old.burst_turn) }
         ensures next { IfSome result (λ taken. self.new.burst_turn ≡ taken.0 + 1) }
-        ensures failed { IfSome result (λ taken. IfSome (slice_get self.new.all.items taken.0) (λ peer. taken.1 ≡ spec.has_failed peer.last)) }
+        ensures failed { IfSome result (λ taken. IfSome (slice_get self.old.all.items taken.0) (λ peer. taken.1 ≡ spec.has_failed peer.last)) }
         ensures within { IfSome result (λ taken. taken.0 < vec_len self.new.all) }
         ensures turns { (self.new.turn ≡ self.old.turn) × (self.new.all ≡ self.old.all) }
     {
         let turn = turn_of(self.all.len(), self.burst_turn);
-        let peer = self.all.get(turn)?;
         self.burst_turn = turn.saturating_add(1);
+        let peer = self.all.get(turn)?;
         Some((turn, peer.last.has_failed()))
     }
 
     /// Where the next peer lies whose last round had no fault; nobody where each had.
     pub(crate) fn next_in_burst(&mut self) -> Option<usize>
+        ensures first { IfSome (slice_get self.old.all.items (spec.turn_of (vec_len self.old.all) self.old.burst_turn))
+            (λ peer. spec.has_failed peer.last ≡ false → result ≡ Some (spec.turn_of (vec_len self.old.all) self.old.burst_turn)) }
+        ensures fit { IfSome result (λ index. IfSome (slice_get self.new.all.items index) (λ peer. spec.has_failed peer.last ≡ false)) }
+        ensures within { IfSome result (λ index. index < vec_len self.new.all) }
+        ensures next { IfSome result (λ index. self.new.burst_turn ≡ index + 1) }
+    {
+        let (turn, has_failed) = self.take_burst_turn()?;
+        if has_failed {
+            self.pass_over_in_burst()
+        } else {
+            Some(turn)
+        }
+    }
+
+    /// Where the next peer lies whose last round had no fault, behind one whose had.
+    fn pass_over_in_burst(&mut self) -> Option<usize>
         ensures fit { IfSome result (λ index. IfSome (slice_get self.new.all.items index) (λ peer. spec.has_failed peer.last ≡ false)) }
         ensures within { IfSome result (λ index. index < vec_len self.new.all) }
         ensures next { IfSome result (λ index. self.new.burst_turn ≡ index + 1) }

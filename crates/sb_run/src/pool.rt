@@ -176,8 +176,8 @@ fn tend_in_place<S: Configured, H: Wait + Drop, Q: Wait, X: Source, G: Gate>(
 
 /// Serves the connections of a source until it has no more, with a worker for each seat, each in a thread of its own. The
 /// caller is one of them, and runs those whose thread can't be made. A session is of the directory's node, under its name and
-/// of its cluster. One that the gate turns away ends with `TurnsSpent`; each makes at most `max_reads` reads. The seats come back in their order; where
-/// the gate lets no session apply a delta, none made an event or was told of one. It never refuses.
+/// of its cluster. One that the gate turns away ends with `TurnsSpent`; each makes at most `max_reads` reads. The seats come
+/// back in their order; where the gate lets no session apply a delta, none made an event or was told of one. It never refuses.
 pub fn serve_pool<
     S: Configured + Send + Sync,
     H: Wait + Drop + Send + Sync,
