@@ -58,14 +58,13 @@ fn a_node_opens_with_what_its_log_has(rt: HostRuntime) {
     };
     let alloc = rt.alloc();
     let listener = got(&rt, UnixListener::bind(&rt, "kept.b"));
-    let log = log_of_two(&rt, alloc);
     let (ran, heard) = thread::join(
         &rt,
         || run_node(
             &rt,
             alloc,
             settings(&rt, 3),
-            log,
+            log_of_two(&rt, alloc),
             &paths,
             pace(2, 0),
             &Nobody,
@@ -116,13 +115,19 @@ fn as_many_peers_are_served_at_once_as_there_are_workers(rt: HostRuntime) {
     };
     let alloc = rt.alloc();
     let listener = got(&rt, UnixListener::bind(&rt, "crowd.b"));
-    let log = new_log(&rt, alloc, b"a");
     let mut pace = pace(1, 10_000);
     pace.dial_idle = 0;
-    let settings = settings_with(&rt, 256, 5, 3);
     let (ran, left) = thread::join(
         &rt,
-        || run_node(&rt, alloc, settings, log, &paths, pace, &Nobody),
+        || run_node(
+            &rt,
+            alloc,
+            settings_with(&rt, 256, 5, 3),
+            new_log(&rt, alloc, b"a"),
+            &paths,
+            pace,
+            &Nobody,
+        ),
         || {
             let dialed = next_of(&rt, &listener);
             let left = crowd(&rt, paths.sock);
@@ -201,14 +206,13 @@ fn owners_behind_the_first_digest_are_asked_for(rt: HostRuntime) {
     };
     let alloc = rt.alloc();
     let listener = got(&rt, UnixListener::bind(&rt, "seven.b"));
-    let log = new_log(&rt, alloc, b"a");
     let (ran, last) = thread::join(
         &rt,
         || run_node(
             &rt,
             alloc,
             settings(&rt, 3),
-            log,
+            new_log(&rt, alloc, b"a"),
             &paths,
             pace(3, 0),
             &Nobody,
