@@ -42,7 +42,6 @@ pub(crate) fn digests_of_all<S: Paced, H: Wait + Drop, Q: Wait>(
 
 /// A session over a connection, of so many exchanges of digests and deltas, and how it ended. It makes at most the node's
 /// `max_reads` reads. What it enters is news.
-#[tactic(auto, using(crate::proofs::Hellos::talks_greet))]
 fn talk_within<S: Paced, H: Wait + Drop, Q: Wait, I: Read, O: Write, K: Ledger>(
     node: &Shared<S, H, Q>,
     input: &mut I,

@@ -52,7 +52,6 @@ struct Tally {
 }
 
 /// Serves one connection from a seat, with at most `max_reads` reads, and says whether it ended with a fault.
-#[tactic(auto, using(crate::proofs::Hellos::talks_greet))]
 fn meet_within<S: Configured, H: Wait + Drop, Q: Wait, I: Read, O: Write, G: Gate, K: Ledger>(
     rt: &Q,
     alloc: Global,
