@@ -29,6 +29,7 @@ first_or other (x ∷ xs) = x
 -- what is cut short of one message is its front
 front_of_one : (m : Message) (sent : List Message) (last : Message) (unsent : List Message) (count : ℕ) → m ∷ [] ≡ sent ++ (last ∷ unsent)
     → IsPrefix (flat_map frame sent ++ take count (frame last)) (frame m)
+unfolding first_or
 front_of_one m [] last unsent count all =
     subst (λ (x : Message). IsPrefix (take count (frame x)) (frame m)) (ap (first_or last) all) (drop count (frame m), take-append-drop count (frame m))
 front_of_one m (x ∷ xs) last unsent count all =
