@@ -37,16 +37,19 @@ module _ (settings : Settings) where
         is_sure = sure.0 i;
       }
 
+  found_step : (n : List ℕ) (p : Place) (places : List Place) (name : List ℕ) → IsNodeOf (empty n) p →
+      (IfSome (place_at places name) (IsNew settings) → IfSome (place_at places name) (λ q. q.log ≡ empty q.me)) → (b : Bool) →
+      IfSome (cond b (Some p) (place_at places name)) (IsNew settings) → IfSome (cond b (Some p) (place_at places name)) (λ q. q.log ≡ empty q.me)
+  found_step n p places name is rest true new = node_empty n p is new
+  found_step n p places name is rest false new = rest new
+
   found_empty : (names : List (List ℕ)) (places : List Place) → HaveNodes (map empty names) places → (name : List ℕ) →
       IfSome (place_at places name) (IsNew settings) → IfSome (place_at places name) (λ p. p.log ≡ empty p.me)
   found_empty [] [] have name new = tt
   found_empty [] (p ∷ places) have name new = absurd have
   found_empty (n ∷ names) [] have name new = absurd have
-  found_empty (n ∷ names) (p ∷ places) have name new = go (pointwise nat_eq p.me name) new
-    where
-      go : (b : Bool) → IfSome (cond b (Some p) (place_at places name)) (IsNew settings) → IfSome (cond b (Some p) (place_at places name)) (λ q. q.log ≡ empty q.me)
-      go true new = node_empty n p have.0 new
-      go false new = found_empty names places have.1 name new
+  found_empty (n ∷ names) (p ∷ places) have name new =
+      found_step n p places name have.0 (found_empty names places have.1 name) (pointwise nat_eq p.me name) new
 
   -- ---- the faults
 
