@@ -89,7 +89,7 @@ world_is line settings names logs world given named are same owners have made = 
   names = owners ∙ ap (map (λ (log : Log). log.owner)) are ∙ owners_are settings names ∙ named;
   made = made;
   empty = subst (λ (s : Settings). (name : List ℕ) → IfSome (place_at world.places name) (λ p. p.log ≡ empty_log s p.me)) (sym same)
-      (λ name. found_empty settings names world.places (subst (λ ls. HaveNodes ls world.places) are have) name
+      (λ name. found_empty settings names world.places (subst (λ (ls : List Log). HaveNodes ls world.places) are have) name
       (subst (λ (s : Settings). IfSome (place_at world.places name) (IsNew s)) same (made.places name)));
 }
 
