@@ -1,9 +1,9 @@
 -- A world of empty logs.
-use Rattle.std.proofs.Common.{◌≡◌, ℕ, Bool, true, false, cond, nat_eq, nat_lt, ◌||◌, List, [], ◌∷◌, length, map, Option, Some, None, Result, Ok, Err, IfSome, IfOk, IfErr, inl, inr, ⊎_elim, refl, sym, ap, subst, ◌∙◌}
+use Rattle.std.proofs.Common.{◌≡◌, ℕ, Bool, true, false, cond, nat_eq, nat_lt, ◌||◌, List, [], ◌∷◌, length, map, Some, None, Result, Ok, Err, IfSome, IfOk, IfErr, inl, inr, ⊎_elim, refl, sym, ap, subst, ◌∙◌}
 use Rattle.std.specs.Cmp.Lexicographic.{pointwise}
 use Rattle.std.proofs.lemmas.Bool.{true≢false}
 use Rattle.sb_types.specs.declared.fault.Fault.{Fault}
-use Rattle.sb_types.specs.declared.fault.Fault.TheVariants.{NoMemory, BadSetting, SameName, WrongCluster, Closed}
+use Rattle.sb_types.specs.declared.fault.Fault.TheVariants.{NoMemory, BadSetting, SameName, WrongCluster}
 use Rattle.sb_types.specs.declared.limits.TheConstants.{OWNERS_MOST}
 use Rattle.sb_types.specs.Records.{Settings}
 use Rattle.sb_types.proofs.Texts.{text_same}
