@@ -1,9 +1,9 @@
 -- A world of empty logs.
-use Rattle.std.proofs.Common.{◌≡◌, ℕ, Bool, true, false, cond, nat_eq, nat_lt, ◌||◌, List, [], ◌∷◌, length, map, Option, Some, None, Result, Ok, Err, IfSome, IfOk, IfErr, inl, inr, ⊎_elim, refl, sym, ap, subst, ◌∙◌}
+use Rattle.std.proofs.Common.{◌≡◌, ℕ, Bool, true, false, cond, nat_eq, nat_lt, ◌||◌, List, [], ◌∷◌, length, map, Some, None, Result, Ok, Err, IfSome, IfOk, IfErr, inl, inr, ⊎_elim, refl, sym, ap, subst, ◌∙◌}
 use Rattle.std.specs.Cmp.Lexicographic.{pointwise}
 use Rattle.std.proofs.lemmas.Bool.{true≢false}
 use Rattle.sb_types.specs.declared.fault.Fault.{Fault}
-use Rattle.sb_types.specs.declared.fault.Fault.TheVariants.{NoMemory, BadSetting, SameName, WrongCluster, Closed}
+use Rattle.sb_types.specs.declared.fault.Fault.TheVariants.{NoMemory, BadSetting, SameName, WrongCluster}
 use Rattle.sb_types.specs.declared.limits.TheConstants.{OWNERS_MOST}
 use Rattle.sb_types.specs.Records.{Settings}
 use Rattle.sb_types.proofs.Texts.{text_same}
@@ -37,16 +37,19 @@ module _ (settings : Settings) where
         is_sure = sure.0 i;
       }
 
+  found_step : (n : List ℕ) (p : Place) (places : List Place) (name : List ℕ) → IsNodeOf (empty n) p →
+      (IfSome (place_at places name) (IsNew settings) → IfSome (place_at places name) (λ q. q.log ≡ empty q.me)) → (b : Bool) →
+      IfSome (cond b (Some p) (place_at places name)) (IsNew settings) → IfSome (cond b (Some p) (place_at places name)) (λ q. q.log ≡ empty q.me)
+  found_step n p places name is rest true new = node_empty n p is new
+  found_step n p places name is rest false new = rest new
+
   found_empty : (names : List (List ℕ)) (places : List Place) → HaveNodes (map empty names) places → (name : List ℕ) →
       IfSome (place_at places name) (IsNew settings) → IfSome (place_at places name) (λ p. p.log ≡ empty p.me)
   found_empty [] [] have name new = tt
   found_empty [] (p ∷ places) have name new = absurd have
   found_empty (n ∷ names) [] have name new = absurd have
-  found_empty (n ∷ names) (p ∷ places) have name new = go (pointwise nat_eq p.me name) new
-    where
-      go : (b : Bool) → IfSome (cond b (Some p) (place_at places name)) (IsNew settings) → IfSome (cond b (Some p) (place_at places name)) (λ q. q.log ≡ empty q.me)
-      go true new = node_empty n p have.0 new
-      go false new = found_empty names places have.1 name new
+  found_empty (n ∷ names) (p ∷ places) have name new =
+      found_step n p places name have.0 (found_empty names places have.1 name) (pointwise nat_eq p.me name) new
 
   -- ---- the faults
 
@@ -86,7 +89,7 @@ world_is line settings names logs world given named are same owners have made = 
   names = owners ∙ ap (map (λ (log : Log). log.owner)) are ∙ owners_are settings names ∙ named;
   made = made;
   empty = subst (λ (s : Settings). (name : List ℕ) → IfSome (place_at world.places name) (λ p. p.log ≡ empty_log s p.me)) (sym same)
-      (λ name. found_empty settings names world.places (subst (λ ls. HaveNodes ls world.places) are have) name
+      (λ name. found_empty settings names world.places (subst (λ (ls : List Log). HaveNodes ls world.places) are have) name
       (subst (λ (s : Settings). IfSome (place_at world.places name) (IsNew s)) same (made.places name)));
 }
 

@@ -64,7 +64,7 @@ impl<'a> WorldLine<'a> {
     }
 
     /// `BadName`; `BadSetting`, for more than 1,024 nodes, too; `SameName`; `NoMemory`.
-    #[tactic(auto, using(crate::proofs::Faults::name_fault, crate::proofs::Worlds::world_fault, crate::proofs::Worlds::world_is))]
+    #[tactic(auto, using(crate::proofs::Faults::name_fault))]
     fn world(&self, alloc: Global) -> Result<World<PlainLog>, Fault>
         ensures world { IfOk result (IsWorldOf self.now) }
         ensures fault { IfErr result (λ fault. is_world_fault fault ≡ true) }
