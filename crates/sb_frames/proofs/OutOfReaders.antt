@@ -196,19 +196,19 @@ pub within_got : (from to : Option (List ℕ)) (got : List ℕ) (before left : �
 within_got from to got before left (Ok n) gives = gives.0
 within_got from to got before left (Err fault) gives = omega arith
 
-pub fills_by : (items : List ℕ) (taken : ℕ) (from to : Option (List ℕ)) (before left : ℕ) (result : Result ℕ Fault) (got new : List ℕ) → taken ≤ length items → length got ≡ READ_LENGTH
-    → GivesBytes from to got before left result → new ≡ items ++ take (count_in result) got → Fills (drop taken items) from to before left result (open_with (drop taken new))
-fills_by items taken from to before left (Ok n) got new within size gives is = record {
+pub fills_by : (front items : List ℕ) (from to : Option (List ℕ)) (before left : ℕ) (result : Result ℕ Fault) (got new : List ℕ) → length got ≡ READ_LENGTH
+    → GivesBytes from to got before left result → new ≡ items ++ take (count_in result) got → Fills (front ++ items) from to before left result (open_with (front ++ new))
+fills_by front items from to before left (Ok n) got new size gives is = record {
   bytes = take n got;
   consumed = gives.1;
   filled = length-take-le n got gives.0;
   most = omega (arith, gives.0, size);
   end = λ none. gives.2 none (omega (arith, size));
-  stands = ap (λ (x : List ℕ). open_with (drop taken x)) is ∙ ap open_with (drop-append-le taken items (take n got) within);
+  stands = ap (λ (x : List ℕ). open_with (front ++ x)) is ∙ ap open_with (sym (append_assoc front items (take n got)));
   read = gives.3;
 }
-fills_by items taken from to before left (Err fault) got new within size gives is =
-    (ap (λ (x : List ℕ). open_with (drop taken x)) (is ∙ append-nil items), gives.0, elim gives.1 [ inl read ↦ inr (inl read) | inr spent ↦ inr (inr spent) ])
+fills_by front items from to before left (Err fault) got new size gives is =
+    (ap (λ (x : List ℕ). open_with (front ++ x)) (is ∙ append-nil items), gives.0, elim gives.1 [ inl read ↦ inr (inl read) | inr spent ↦ inr (inr spent) ])
 
 pub open_view : (closed : Bool) (held : List ℕ) (now : Stream) → (if closed then shut else open_with held) ≡ now → is_shut now ≡ false → (closed ≡ false) × (held_of now ≡ held)
 open_view true held now view open_now = absurd cc (ap is_shut view ∙ open_now)
