@@ -1,10 +1,10 @@
 //! A message out of its payload.
 
-ghost use Rattle.std.specs.Prelude.{◌≡◌, ◌↔◌, ℕ, IsTrue, IfOk, IfErr, Ok, Err};
+ghost use Rattle.std.specs.Prelude.{◌≡◌, ◌↔◌, ℕ, true, IfOk, IfErr, Ok, Err};
 ghost use Rattle.sb_types.specs.Faults.{Gives};
 ghost use Rattle.sb_codec.specs.declared.message.Message.{Message};
 ghost use Rattle.sb_codec.specs.Fields.{whole};
-ghost use Rattle.sb_codec.specs.Messages.{Spells, IsSole, TakesMemory, is_kind, fault_of, message_field, reading};
+ghost use Rattle.sb_codec.specs.Messages.{Spells, IsSole, TakesMemory, is_kept_in_memory, is_kind, fault_of, message_field, reading};
 ghost use Rattle.sb_codec.specs.Refusal.{ReadsWhole};
 
 use crate::fields::Fields;
@@ -34,15 +34,21 @@ fn test_kind(kind: u8) -> bool
     )
 }
 
-/// Whether the payload begins with a kind whose messages take memory: that of a digest, a delta, a page of rows or a
-/// put. It takes none itself.
-pub fn takes_memory(payload: &[u8]) -> bool
-    ensures { IsTrue result ↔ TakesMemory payload.now }
+fn is_kept(kind: u8) -> bool
+    ensures { result ≡ is_kept_in_memory kind }
 {
-    let [kind, ..] = payload else {
-        return false;
-    };
-    matches!(*kind, KIND_DIGEST | KIND_DELTA | KIND_ROWS | KIND_PUT)
+    matches!(kind, KIND_DIGEST | KIND_DELTA | KIND_ROWS | KIND_PUT)
+}
+
+/// Whether the payload begins with a kind whose messages take memory: that of a digest, a delta, a page of rows or a
+/// put.
+pub fn takes_memory(payload: &[u8]) -> bool
+    ensures { (result ≡ true) ↔ TakesMemory payload.now }
+{
+    match payload {
+        [kind, ..] => is_kept(*kind),
+        [] => false,
+    }
 }
 
 fn fault(payload: &[u8]) -> Fault

@@ -128,11 +128,13 @@ impl Frames {
         if self.is_closed {
             return Err(Fault::Closed);
         }
-        let taken = take_first(&mut self.frame, &mut self.buffer);
-        if let Err(fault) = &taken {
-            self.is_closed = !matches!(fault, Fault::NoMemory);
+        match take_first(&mut self.frame, &mut self.buffer) {
+            Ok(message) => Ok(message),
+            Err(fault) => {
+                self.is_closed = !matches!(fault, Fault::NoMemory);
+                Err(fault)
+            }
         }
-        taken
     }
 
     /// How many bytes were fed and not handed out in messages; none after a faulty frame. It takes no memory.
@@ -181,7 +183,13 @@ impl Frames {
         self.buffer.reserve(READ_LENGTH)?;
         let start = self.buffer.len();
         self.buffer.advance_mut(READ_LENGTH);
-        let answer = read_telling(reader, &mut self.buffer.as_mut_slice()[start..], left, steps, last);
+        let answer = read_telling(
+            reader,
+            &mut self.buffer.as_mut_slice()[start..],
+            left,
+            steps,
+            last,
+        );
         let count = answer.unwrap_or(0);
         self.buffer.truncate(start + count);
         answer
