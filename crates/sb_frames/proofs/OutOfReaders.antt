@@ -1,6 +1,6 @@
 -- Messages out of a reader.
 use Rattle.std.proofs.Common.{◌≡◌, ◌≢◌, ℕ, ◌+◌, ◌*◌, ◌<◌, ◌≤◌, true, false, List, [], ◌∷◌, ◌++◌, length, take, drop, Option, Some, None, Result, Ok, Err, refl, sym, ap, subst, ◌∙◌, ◌⊎◌, inl, inr, Bool, if◌then◌else◌, append_assoc, arith, length-append}
-use Rattle.std.proofs.lemmas.List.{append-nil, nil_from_length, take-append-le, drop-append-le, length-take-le, take_all}
+use Rattle.std.proofs.lemmas.List.{append-nil, nil_from_length, take-append-le, length-take-le}
 use Rattle.std.proofs.Math.Seq.{take-append-add, take-append_seam}
 use Rattle.std.specs.Result.{result_unwrap_or}
 use Rattle.std.proofs.KnownBytes.{Consumes-nil, Consumes-trans, Consumes-kept, Keeps-refl}
@@ -218,7 +218,6 @@ pub same_count : (result : Result ℕ Fault) → result_unwrap_or result 0 ≡ c
 same_count (Ok n) = refl
 same_count (Err fault) = refl
 
--- what was there stands in front of what was added
-pub resized_front : (old zeros : List ℕ) (start n : ℕ) → start ≡ length old → start ≤ n → take start (take n old ++ zeros) ≡ old
-resized_front old zeros start n is most =
-    ap (λ (x : List ℕ). take start (x ++ zeros)) (take_all n old (omega arith)) ∙ ap (λ k. take k (old ++ zeros)) is ∙ take-append_seam old zeros
+-- what was written over all of a buffer is what it has then
+pub written : (old new : List ℕ) → length new ≡ length old → take (length old) (new ++ drop (length new) old) ≡ new
+written old new same = ap (λ n. take n (new ++ drop (length new) old)) (sym same) ∙ take-append_seam new (drop (length new) old)
