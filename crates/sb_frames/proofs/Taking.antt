@@ -1,8 +1,7 @@
 -- What comes of a look at the first frame, and of a call for the next message.
-use Rattle.std.proofs.Common.{◌≡◌, ◌≢◌, ℕ, ◌+◌, ◌==◌, true, false, List, [], ◌∷◌, ◌++◌, length, take, drop, Option, Some, None, Result, Ok, Err, refl, sym, ap, subst, ◌∙◌, ◌⊎◌, inl, inr, append_assoc, arith}
+use Rattle.std.proofs.Common.{◌≡◌, ◌≢◌, ℕ, ◌+◌, List, [], ◌∷◌, ◌++◌, length, take, drop, Option, Some, None, Result, Ok, Err, refl, sym, ap, subst, ◌∙◌, ◌⊎◌, inl, inr, append_assoc}
 use Rattle.std.specs.Int.{w32}
-use Rattle.std.proofs.lemmas.List.{append-nil, drop_at, nil_from_length}
-use Rattle.std.proofs.lemmas.Bool.{eqb-true}
+use Rattle.std.proofs.lemmas.List.{append-nil, drop_at}
 use Rattle.std.proofs.Math.Seq.{take-append_seam}
 use Rattle.sb_types.specs.declared.fault.Fault.{Fault}
 use Rattle.sb_types.specs.declared.fault.Fault.TheVariants.{NoMemory}
@@ -62,3 +61,11 @@ takes_fault held left fault refused other =
       | inl front ↦ inl (front, refl)
       | inr payload ↦ absurd (other payload.0)
     ]
+
+-- ---- a look at the first frame
+
+pub first_read : (frame behind left : List ℕ) (m : Message) → Leads frame m [] → left ≡ [] → TakesFirst (frame ++ behind) (Ok (Some m)) (left ++ behind)
+first_read frame behind left m leads none = rw none (leads_before frame behind m leads)
+
+pub first_refused : (frame behind left : List ℕ) (fault : Fault) → IsRefused frame fault → left ≡ frame → TakesFirst (frame ++ behind) (Err fault) (left ++ behind)
+first_refused frame behind left fault refused same = (refused_before frame behind fault refused, ap (λ (x : List ℕ). x ++ behind) same)
