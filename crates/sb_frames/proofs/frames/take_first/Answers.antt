@@ -1,8 +1,7 @@
-use Rattle.std.proofs.Common.{◌≡◌, ◌+◌, [], drop, length, rules, refl, sym, ◌∙◌, inr, arith}
+use Rattle.std.proofs.Common.{◌≡◌, ◌+◌, [], length, refl, sym, ◌∙◌, inr}
 use Rattle.std.proofs.lemmas.Result.{err_from_is_err_and}
 use Rattle.std.proofs.lemmas.List.{nil_from_length}
 use Rattle.std.proofs.lemmas.Bool.{eqb-true}
-use Rattle.sb_frames.specs.Frames.{IsFramed, IsLoneFrame}
 use Rattle.sb_frames.proofs.Fronts.{leads, within_bytes, refused}
 use Rattle.sb_frames.proofs.Taking.{first_refused, split_refused, is_lone}
 use Rattle.sb_frames.proofs.frames.take_first.Goals as goal
@@ -24,7 +23,7 @@ advance-requires c = within_bytes _ _ _ (rw (c.in-Some.is, c.as_slice.ensures) a
 
 pub returns-then-not-takes_memory-clause-takes : goal.returns-then-not-takes_memory-clause-takes
 returns-then-not-takes_memory-clause-takes c =
-    let none : c.args.frame.now ≡ [] = search (rules, nil_from_length, eqb-true) in
+    let none : c.args.frame.now ≡ [] = nil_from_length c.args.frame.now (eqb-true (length c.args.frame.now) 0 (sym c.is_empty.ensures ∙ c.if-not-is_empty.false)) in
     let framed = rw (c.in-Some.is, c.as_slice.ensures) at c.in_ok-payload.ensures.payload in
     rw (none, c.advance.ensures.items) (leads _ _ _ _ framed c.in_ok-message.ensures.found)
 
