@@ -53,9 +53,9 @@ module _ (owner cluster : List ℕ) (old mid : Database) (shown : List Row) (all
       }
   opens_new (Err fault) none rows empty = tt
 
-  pub opens_old : (result : Result Table Fault) (row : Row) → shown ≡ row ∷ [] → OnOk result (row ≡ meta_row owner cluster) → IfOk result (λ t. AreRowsOf t (read.trees 1)) → IfOk result (Opens owner cluster old)
+  pub opens_old : (result : Result Table Fault) (row : Row) → shown ≡ row ∷ [] → OnOk result (row ≡ meta_row 1 owner cluster) → IfOk result (λ t. AreRowsOf t (read.trees 1)) → IfOk result (Opens owner cluster old)
   opens_old (Ok t) row one is rows =
-      let has : map meta_cells (meta_found all.made old.trees) ≡ meta_row owner cluster ∷ [] =
+      let has : map meta_cells (meta_found all.made old.trees) ≡ meta_row 1 owner cluster ∷ [] =
       ap (map meta_cells) (sym all.meta) ∙ one_mapped (mid.trees 0) shown row same one ∙ ap (λ (r : Row). r ∷ []) is in
       record {
         made = all.made;
@@ -116,7 +116,7 @@ module _ (owner cluster : List ℕ) (old mid : Database) (t : Table) (all : Comp
   still_meta : IsMetaOf owner cluster (mid.trees 0)
   still_meta = subst (IsMetaOf owner cluster) (ap (λ (m : Made). meta_found m old.trees) one_made ∙ sym all.meta) opens.meta
 
-  pub still_named : (row : Row) → map meta_cells (mid.trees 0) ≡ row ∷ [] → row ≡ meta_row owner cluster
+  pub still_named : (row : Row) → map meta_cells (mid.trees 0) ≡ row ∷ [] → row ≡ meta_row 1 owner cluster
   still_named row one = elim still_meta [
     | inl none ↦ absurd (let e = sym (ap (map meta_cells) none) ∙ one in cc)
     | inr named ↦ (let e = sym one ∙ named in cc)

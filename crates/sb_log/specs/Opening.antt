@@ -2,7 +2,7 @@
 use Rattle.std.specs.Prelude.{◌≡◌, ◌⊎◌, ℕ, pos, min, true, List, [], ◌∷◌, map}
 use Rattle.sqlite_value.specs.declared.value.Value.TheVariants.{Int, Text}
 use Rattle.sqlite_value.specs.Order.{Row, column}
-use Rattle.sqlite_trees.specs.Tree.{Trees}
+use Rattle.sqlite_trees.specs.Tree.{Trees, rowid}
 use Rattle.sqlite.specs.Effect.{Database}
 use Rattle.sqlite_catalog.specs.Listing.{IsSound}
 use Rattle.sb_types.specs.declared.fault.Fault.{Fault}
@@ -16,17 +16,21 @@ use Rattle.sb_log.specs.declared.schema.Made.TheVariants.{Neither, Meta, Both}
 use Rattle.sb_log.specs.Form.{schema_with, log_schema}
 use Rattle.sb_log.specs.Rows.{AreRowsOf}
 
--- form, owner, cluster, last and floor of a row of meta
+-- the rowid, form, owner, cluster, last and floor of a row of meta
 abbrev pub meta_cells : Row → Row
-meta_cells row = column row 2 ∷ column row 3 ∷ column row 4 ∷ column row 5 ∷ column row 6 ∷ []
+meta_cells row = rowid row ∷ column row 2 ∷ column row 3 ∷ column row 4 ∷ column row 5 ∷ column row 6 ∷ []
 
--- of form 1, with no version that was forgotten
-abbrev pub meta_row : List ℕ → List ℕ → Row
-meta_row owner cluster = Int (pos 1) ∷ Text owner ∷ Text cluster ∷ Int (pos 0) ∷ Int (pos 0) ∷ []
+-- of this form, with no version that was forgotten
+abbrev pub meta_row : ℕ → List ℕ → List ℕ → Row
+meta_row form owner cluster = Int (pos 1) ∷ Int (pos form) ∷ Text owner ∷ Text cluster ∷ Int (pos 0) ∷ Int (pos 0) ∷ []
 
--- the one row says that it is this owner's log, of this cluster
+-- the one row says that it is this owner's log, of this cluster, in this form
+abbrev pub IsNamedIn : ℕ → List ℕ → List ℕ → List Row → Type 0
+IsNamedIn form owner cluster rows = map meta_cells rows ≡ meta_row form owner cluster ∷ []
+
+-- the same in form 1
 abbrev pub IsNamed : List ℕ → List ℕ → List Row → Type 0
-IsNamed owner cluster rows = map meta_cells rows ≡ meta_row owner cluster ∷ []
+IsNamed = IsNamedIn 1
 
 -- it says so, or there is no row yet
 abbrev pub IsMetaOf : List ℕ → List ℕ → List Row → Type 0

@@ -107,12 +107,12 @@ fn open_old<S: Alter>(
     ensures ready { HasCleanDisk (state S.Store conn.new) → IsReady (state S.Store conn.old) → OnOk result (IsReady (state S.Store conn.new)) }
     ensures same { HasCleanDisk (state S.Store conn.new) → IsReady (state S.Store conn.old)
         → OnOk result ((state S.Store conn.new).now ≡ (state S.Store conn.old).now) }
-    ensures meta { OnOk result (row.now ≡ meta_row owner.now cluster.now) }
+    ensures meta { OnOk result (row.now ≡ meta_row 1 owner.now cluster.now) }
     ensures refused { HasCleanDisk (state S.Store conn.new) → IsReady (state S.Store conn.old)
         → IfErr result (λ fault. fault ≢ Fault.StoreFailed → (state S.Store conn.new).now ≡ (state S.Store conn.old).now) }
     ensures crash { HasCleanDisk (state S.Store conn.new) → IsReady (state S.Store conn.old) → (db : Trees) → (state S.Store conn.new).may_leave db
         → (state S.Store conn.old).may_leave db }
-    ensures whole { HasCleanDisk (state S.Store conn.new) → IsReady (state S.Store conn.old) → row.now ≡ meta_row owner.now cluster.now
+    ensures whole { HasCleanDisk (state S.Store conn.new) → IsReady (state S.Store conn.old) → row.now ≡ meta_row 1 owner.now cluster.now
         → (t : records.Table) → AreRowsOf t ((state S.Store conn.old).now.trees 1) → IfErr result IsWant }
     ensures clean { doubt (state S.Store conn.old).is_clean ≤ doubt (state S.Store conn.new).is_clean }
     ensures fault { IfErr result IsOpeningFault }
@@ -203,29 +203,29 @@ fn make_both<S: Alter>(conn: &mut Connection<S>) -> Result<(), Fault>
     make_writes(conn)
 }
 
-/// Tests the row that says whose log it is. `LogDamaged` where its form is unknown; `WrongOwner` of another owner
+/// Tests the row that says whose log it is. `LogDamaged` where its number is not 1 or its form is unknown; `WrongOwner` of another owner
 /// or cluster. Whether versions were forgotten.
-#[tactic(auto, using(crate::proofs::Cells::of_five))]
+#[tactic(auto, using(crate::proofs::Cells::of_six))]
 fn test_meta(row: &Row, owner: &Name, cluster: &Name) -> Result<bool, Fault>
-    ensures row { IfOk result (λ forgot. forgot ≡ false → row.now ≡ meta_row owner.now cluster.now) }
-    ensures whole { row.now ≡ meta_row owner.now cluster.now → result ≡ Ok false }
+    ensures row { IfOk result (λ forgot. forgot ≡ false → row.now ≡ meta_row 1 owner.now cluster.now) }
+    ensures whole { row.now ≡ meta_row 1 owner.now cluster.now → result ≡ Ok false }
     ensures others { IfErr result (λ fault. fault ≡ Fault.WrongOwner
-        → (column row.now 0 ≡ Int (pos 1)) × ((column row.now 1 ≢ Text owner.now) ⊎ (column row.now 2 ≢ Text cluster.now))) }
+        → (column row.now 0 ≡ Int (pos 1)) × (column row.now 1 ≡ Int (pos 1)) × ((column row.now 2 ≢ Text owner.now) ⊎ (column row.now 3 ≢ Text cluster.now))) }
     ensures fault { IfErr result (λ fault. (fault ≡ Fault.LogDamaged) ⊎ (fault ≡ Fault.WrongOwner)) }
 {
-    if row.column_count() != 5 {
+    if row.column_count() != 6 {
         return Err(Fault::LogDamaged);
     }
-    let Ok(ValueRef::Int(1)) = row.get_ref(0) else {
+    let (Ok(ValueRef::Int(1)), Ok(ValueRef::Int(1))) = (row.get_ref(0), row.get_ref(1)) else {
         return Err(Fault::LogDamaged);
     };
-    if !is_text(row, 1, owner) {
+    if !is_text(row, 2, owner) {
         return Err(Fault::WrongOwner);
     }
-    if !is_text(row, 2, cluster) {
+    if !is_text(row, 3, cluster) {
         return Err(Fault::WrongOwner);
     }
-    let (Ok(ValueRef::Int(0)), Ok(ValueRef::Int(0))) = (row.get_ref(3), row.get_ref(4)) else {
+    let (Ok(ValueRef::Int(0)), Ok(ValueRef::Int(0))) = (row.get_ref(4), row.get_ref(5)) else {
         return Ok(true);
     };
     Ok(false)
