@@ -6,3 +6,5 @@ pub mod Live
 pub mod Texts
 pub mod Standing
 pub mod Padded
+pub mod Spelling
+pub mod Characters

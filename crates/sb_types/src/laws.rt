@@ -1,6 +1,7 @@
 //! What follows from the definitions alone. The functions do nothing: each clause is a law.
 
 ghost use Rattle.std.specs.Prelude.{◌≡◌, ℕ, ◌∷◌, ◌++◌, List, true};
+ghost use Rattle.sb_types.specs.Spelling.{printed_text, is_one_line};
 ghost use Rattle.sb_types.specs.Value as values;
 
 use crate::format::{
@@ -11,7 +12,8 @@ use crate::format::{
 };
 use crate::limits::{
     ADDR_MOST, BUDGET_LEAST, BUDGET_MOST, ENTRIES_MOST, FAULT_NUMBER_MOST, KEY_MOST, KEYS_MOST,
-    NAME_MOST, OWNERS_MOST, PAYLOAD_MOST, SEATS_MOST, VERSION_MOST, WEIGHT_MOST, WORKERS_MOST,
+    NAME_MOST, OWNERS_MOST, PAYLOAD_MOST, SEATS_MOST, TEXT_MOST, VERSION_MOST, WEIGHT_MOST,
+    WORKERS_MOST,
 };
 
 /// Each limit of the directory, as a number.
@@ -19,6 +21,7 @@ pub fn limits_are_these_numbers()
     ensures name_most { NAME_MOST ≡ 32 }
     ensures key_most { KEY_MOST ≡ 64 }
     ensures addr_most { ADDR_MOST ≡ 128 }
+    ensures text_most { TEXT_MOST ≡ 512 }
     ensures weight_most { WEIGHT_MOST ≡ 9223372036854775807 }
     ensures owners_most { OWNERS_MOST ≡ 1024 }
     ensures keys_most { KEYS_MOST ≡ 4096 }
@@ -26,7 +29,7 @@ pub fn limits_are_these_numbers()
     ensures version_most { VERSION_MOST ≡ 1099511627775 }
     ensures seats_most { SEATS_MOST ≡ 64 }
     ensures workers_most { WORKERS_MOST ≡ 62 }
-    ensures budget_least { BUDGET_LEAST ≡ 256 }
+    ensures budget_least { BUDGET_LEAST ≡ 1024 }
     ensures payload_most { PAYLOAD_MOST ≡ 65530 }
     ensures budget_most { BUDGET_MOST ≡ 65536 }
     ensures fault_number_most { FAULT_NUMBER_MOST ≡ 31 }
@@ -71,4 +74,11 @@ pub fn lengths_are_these_numbers()
 pub fn words_tell_values_apart()
     ensures apart { (a b : values.Value) → values.is_value a ≡ true → values.is_value b ≡ true → values.words_of a ≡ values.words_of b → a ≡ b }
     ensures cut { (a : values.Value) (kind word : List ℕ) → values.is_word kind ≡ true → values.line_of a ≡ kind ++ 32 ∷ word → values.words_of a ≡ (kind, word) }
+{}
+
+/// No two texts have the same spelling, and a spelling has no control byte. So a text is told by its spelling, and
+/// a line stays a line with it.
+pub fn spellings_tell_texts_apart()
+    ensures apart { (a b : List ℕ) → printed_text a ≡ printed_text b → a ≡ b }
+    ensures line { (text : List ℕ) → is_one_line (printed_text text) ≡ true }
 {}

@@ -7,12 +7,14 @@ mod block;
 mod delta;
 mod distinct;
 mod entry;
+mod escapes;
 mod fault;
 mod format;
 mod inline;
 mod laws;
 mod limits;
 mod settings;
+mod spelled;
 mod text;
 mod value;
 
@@ -28,11 +30,12 @@ pub use format::{
 };
 pub use laws::{
     lengths_are_these_numbers, limits_are_these_numbers, marks_are_these_numbers,
-    words_tell_values_apart,
+    spellings_tell_texts_apart, words_tell_values_apart,
 };
 pub use limits::{
     ADDR_MOST, BUDGET_LEAST, BUDGET_MOST, ENTRIES_MOST, FAULT_NUMBER_MOST, KEY_MOST, KEYS_MOST,
-    NAME_MOST, OWNERS_MOST, PAYLOAD_MOST, SEATS_MOST, VERSION_MOST, WEIGHT_MOST, WORKERS_MOST,
+    NAME_MOST, OWNERS_MOST, PAYLOAD_MOST, SEATS_MOST, TEXT_MOST, VERSION_MOST, WEIGHT_MOST,
+    WORKERS_MOST,
 };
 pub use settings::{Order, RawSettings, Settings};
 pub use text::{Key, Name, Prefix};
