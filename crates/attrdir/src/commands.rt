@@ -240,7 +240,7 @@ const BUDGET: Part = Part {
     name: "budget",
     form: Form::NumberOr("65536"),
     value: "B",
-    help: "The most bytes of a frame, 256 to 65536",
+    help: "The most bytes of a frame, 1024 to 65536",
 };
 
 const ORDER: Part = Part {
