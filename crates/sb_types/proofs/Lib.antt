@@ -8,3 +8,5 @@ pub mod Standing
 pub mod Padded
 pub mod Spelling
 pub mod Characters
+pub mod Utf8
+pub mod TextReading
