@@ -132,7 +132,7 @@ unfolding understood everything
 meta_alone_plain = (refl, refl)
 
 abbrev pub meta_terms : List Term
-meta_terms = lit (Int (pos 1)) ∷ lit Null ∷ lit (Int (pos 1)) ∷ col 0 0 ∷ col 0 1 ∷ lit (Int (pos 0)) ∷ lit (Int (pos 0)) ∷ []
+meta_terms = lit (Int (pos 1)) ∷ lit Null ∷ lit (Int (pos 2)) ∷ col 0 0 ∷ col 0 1 ∷ lit (Int (pos 0)) ∷ lit (Int (pos 0)) ∷ []
 
 pub meta_row_is : command_of (understood log_schema meta_row_text) ≡ Insert 0 (Values meta_terms 7)
 unfolding understood everything

@@ -1,4 +1,4 @@
--- The two tables of a log, in its form 1.
+-- The two tables of a log, which forms 1 and 2 have alike.
 use Rattle.std.specs.Prelude.{◌≡◌, ℕ, pos, ◌==◌, ◌&&◌, slice_get, Bool, true, false, List, [], ◌∷◌, codes, Option, None, Some}
 use Rattle.sqlite_value.specs.declared.keys.Collation.TheVariants.{Binary}
 use Rattle.sqlite_value.specs.declared.value.Value.TheVariants.{Null, Int}
@@ -32,7 +32,7 @@ abbrev pub meta_rows_text : List ℕ
 meta_rows_text = codes "SELECT id, form, owner, cluster, last, floor FROM meta"
 
 abbrev pub meta_row_text : List ℕ
-meta_row_text = codes "INSERT INTO meta (id, form, owner, cluster, last, floor) VALUES (1, 1, ?1, ?2, 0, 0)"
+meta_row_text = codes "INSERT INTO meta (id, form, owner, cluster, last, floor) VALUES (1, 2, ?1, ?2, 0, 0)"
 
 abbrev pub raise_text : List ℕ
 raise_text = codes "UPDATE meta SET form = 2"

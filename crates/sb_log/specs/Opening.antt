@@ -28,9 +28,13 @@ meta_row form owner cluster = Int (pos 1) ∷ Int (pos form) ∷ Text owner ∷ 
 abbrev pub IsNamedIn : ℕ → List ℕ → List ℕ → List Row → Type 0
 IsNamedIn form owner cluster rows = map meta_cells rows ≡ meta_row form owner cluster ∷ []
 
--- the same in form 1
+-- the forms that are read; the second is that of every log that was opened
+abbrev pub IsForm : ℕ → Type 0
+IsForm form = (form ≡ 1) ⊎ (form ≡ 2)
+
+-- the same in a form that is read
 abbrev pub IsNamed : List ℕ → List ℕ → List Row → Type 0
-IsNamed = IsNamedIn 1
+IsNamed owner cluster rows = (form : ℕ) × IsForm form × IsNamedIn form owner cluster rows
 
 -- it says so, or there is no row yet
 abbrev pub IsMetaOf : List ℕ → List ℕ → List Row → Type 0
@@ -80,12 +84,21 @@ pub record Names (owner cluster : List ℕ) (found : Database) (db : Trees) : Ty
   pub schema : found.schema ≡ schema_with made
   pub none : meta_found made found.trees ≡ []
   pub sound : IsSound log_schema db
-  pub meta : IsNamed owner cluster (db 0)
+  pub meta : IsNamedIn 2 owner cluster (db 0)
+  pub rows : db 1 ≡ writes_found made found.trees
+
+-- what was found is there, but that the owner's log, which was of form 1, is of form 2
+pub record Raises (owner cluster : List ℕ) (found : Database) (db : Trees) : Type 0 where
+  pub made : Made
+  pub schema : found.schema ≡ schema_with made
+  pub older : IsNamedIn 1 owner cluster (meta_found made found.trees)
+  pub sound : IsSound log_schema db
+  pub meta : IsNamedIn 2 owner cluster (db 0)
   pub rows : db 1 ≡ writes_found made found.trees
 
 -- what an opening may commit
 abbrev pub Founds : List ℕ → List ℕ → Database → Trees → Type 0
-Founds owner cluster found db = Grows found db ⊎ Names owner cluster found db
+Founds owner cluster found db = Grows found db ⊎ (Names owner cluster found db ⊎ Raises owner cluster found db)
 
 -- memory was wanting, or the store failed
 abbrev pub IsWant : Fault → Type 0

@@ -10,7 +10,7 @@ ghost use Rattle.sb_types.specs.Records as records;
 ghost use Rattle.sb_table.specs.Plain.{IsPlainTable};
 ghost use Rattle.sb_log.specs.Form.{no_schema, meta_schema, log_schema};
 ghost use Rattle.sb_log.specs.Rows.{cells_of, numbered_cells, is_kept, Enters, AreRowsOf};
-ghost use Rattle.sb_log.specs.Opening.{meta_cells, IsNamed, IsNamedIn};
+ghost use Rattle.sb_log.specs.Opening.{meta_cells, IsNamedIn};
 ghost use Rattle.sb_log.specs.Standing.{IsReady, IsPrepared};
 
 use crate::rows::{cells_of, table_of};
@@ -90,7 +90,10 @@ pub(crate) fn read_meta<S: Alter>(conn: &mut Connection<S>) -> Result<Vec<Row>, 
     ensures clean { doubt (state S.Store conn.old).is_clean ≤ doubt (state S.Store conn.new).is_clean }
     ensures fault { IfErr result (λ fault. fault ≡ Fault.StoreFailed) }
 {
-    match conn.query_all("SELECT id, form, owner, cluster, last, floor FROM meta", &[]) {
+    match conn.query_all(
+        "SELECT id, form, owner, cluster, last, floor FROM meta",
+        &[],
+    ) {
         Ok(rows) => Ok(rows),
         Err(_) => Err(Fault::StoreFailed),
     }
@@ -106,15 +109,15 @@ pub(crate) fn write_meta<S: Alter>(
     ensures rows { HasCleanDisk (state S.Store conn.new) → IsReady (state S.Store conn.old)
         → OnOk result ((state S.Store conn.new).now.trees 1 ≡ (state S.Store conn.old).now.trees 1) }
     ensures meta { HasCleanDisk (state S.Store conn.new) → IsReady (state S.Store conn.old) → (state S.Store conn.old).now.trees 0 ≡ []
-        → OnOk result (IsNamed owner.now cluster.now ((state S.Store conn.new).now.trees 0)) }
+        → OnOk result (IsNamedIn 2 owner.now cluster.now ((state S.Store conn.new).now.trees 0)) }
     ensures crash { HasCleanDisk (state S.Store conn.new) → IsReady (state S.Store conn.old) → (db : Trees) → (state S.Store conn.new).may_leave db
         → (state S.Store conn.old).may_leave db
-        ⊎ (IsSound log_schema db × (db 1 ≡ (state S.Store conn.old).now.trees 1) × ((state S.Store conn.old).now.trees 0 ≡ [] → IsNamed owner.now cluster.now (db 0))) }
+        ⊎ (IsSound log_schema db × (db 1 ≡ (state S.Store conn.old).now.trees 1) × ((state S.Store conn.old).now.trees 0 ≡ [] → IsNamedIn 2 owner.now cluster.now (db 0))) }
     ensures clean { doubt (state S.Store conn.old).is_clean ≤ doubt (state S.Store conn.new).is_clean }
     ensures fault { IfErr result (λ fault. fault ≡ Fault.StoreFailed) }
 {
     match conn.execute(
-        "INSERT INTO meta (id, form, owner, cluster, last, floor) VALUES (1, 1, ?1, ?2, 0, 0)",
+        "INSERT INTO meta (id, form, owner, cluster, last, floor) VALUES (1, 2, ?1, ?2, 0, 0)",
         &[
             ValueRef::Text(owner.bytes()),
             ValueRef::Text(cluster.bytes()),
