@@ -178,7 +178,7 @@ def u64(number):
 
 def frame(kind, body):
     payload = bytes([kind]) + body
-    return b"\xa7\x01" + len(payload).to_bytes(4, "big") + payload
+    return b"\xa7\x02" + len(payload).to_bytes(4, "big") + payload
 
 
 WEIGHT, ADDRESS, FLAG, REMOVED = b"\x02" + u64(5), b"\x01" + text(b"p:1"), b"\x03\x01", b"\x00"

@@ -8,6 +8,7 @@ thousand nodes, digests that take several frames.
 """
 import os
 import random
+import re
 import sys
 
 NAME_BYTES = "abcdefghijklmnopqrstuvwxyz0123456789-"
@@ -22,9 +23,11 @@ BAD_KEYS = ["K", "k:", "k" * 65, "k,k", "ké", "k\r", "\x00", "k\\", "~"]
 BAD_VALUES = [
     "addr " + "x" * 129, "addr \x7f", "addr x\r", "addr é", "addr a\x1fb", "addr a\tb",
     "weight 9223372036854775808", f"weight {GREATEST}", f"weight {GREATEST + 1}", "weight 00", "weight 01", "weight -1", "weight +1", "weight 1.0", "weight 0x1",
-    "weight x", "weight " + "9" * 40, "weight 5\r", "weight ٣", "flag True", "flag 1", "flag no", "flag true\r", "weights 5", "Addr x", "text x", "removed x", "removed removed",
+    "weight x", "weight " + "9" * 40, "weight 5\r", "weight ٣", "flag True", "flag 1", "flag no", "flag true\r", "weights 5", "Addr x", "Text x", "removed x", "removed removed",
+    "text ", "text a\\41", "text \\5C", "text \\0A", "text \\7F", "text \\80", "text \\5", "text \\", "text a\\ b", "text a\x1fb", "text \x7f", "text a\tb", "text x\r", "text " + "x" * 513, "text " + "é" * 257,
 ]
-GOOD_VALUES = ["addr " + "x" * 128, "addr !", "addr ~", "addr " + ADDR_BYTES, "weight 0", "weight 1", "weight 9223372036854775807", "weight 9223372036854775806", "flag true", "flag false"]
+GOOD_VALUES = ["addr " + "x" * 128, "addr !", "addr ~", "addr " + ADDR_BYTES, "weight 0", "weight 1", "weight 9223372036854775807", "weight 9223372036854775806", "flag true", "flag false", "text x", "text  x ", "text " + "x" * 512, "text " + "€" * 170 + "\\00\\5c", "text a\\5cb\\0a", "text kept", "text é removed"]
+TEXT_PARTS = [" ", "  ", "a", "Zz", "0", "\\5c", "\\0a", "\\00", "\\7f", "\\1f", "é", "€", "𝄞", "~", '"', "text ", " kept"]
 BAD_NUMBERS = ["-1", "+1", "x", "1x", "0x1", "1_0", "1.0", str(GREATEST + 1), "9" * 30, "٣", "1\r", "\x00"]
 
 
@@ -34,9 +37,20 @@ def text(rng, letters, most):
     return "".join(rng.choice(letters) for _ in range(length))
 
 
+def spelled(rng):
+    """Makes the spelling of a text, now and then of one of the longest."""
+    most, made, length = rng.choice([1, 3, 10, 40, 511, 512]), "", 0
+    while True:
+        part = rng.choice(TEXT_PARTS)
+        length += len(re.sub(r"\\..", "x", part).encode())
+        if length > most:
+            return made or "x"
+        made += part
+
+
 def value(rng):
     """Makes a value in its two words."""
-    made = [f"weight {rng.randint(0, 9)}", f"weight {rng.getrandbits(63)}", f"addr {text(rng, ADDR_BYTES, 128)}"]
+    made = [f"weight {rng.randint(0, 9)}", f"weight {rng.getrandbits(63)}", f"addr {text(rng, ADDR_BYTES, 128)}", f"text {spelled(rng)}"]
     return rng.choice([*made, rng.choice(GOOD_VALUES)])
 
 
@@ -133,6 +147,7 @@ class Life:
             f"give {node} {node} {bad}", f"offer {node} {node} {bad}", f"piece 1 {bad}", f"line 1 {bad}", f"show {bad}",
             f"connect {node} {far}", f"close {far}", f"ask {far}", f"line {far} 1", f"piece {far} 1",
             f"put {node} k removed", f"put {node} k addr a b", f"commit {node} k Removed", f"crash {node} k removed kept", f"crash {node} k weight 1", f"crash {node} k weight 1 Kept",
+            f"put {node} k text", f"put {node} k  text x", f"put  {node} k text x", f"crash {node} k text kept", f"crash {node} k text  kept", f"crash {node} k text x y lost", f"crash {node} k text x ",
             self.lines[0], "world 1024 breadth 100 a b", "world",
         ]
         return rng.choice(ways)

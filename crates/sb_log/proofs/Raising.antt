@@ -80,20 +80,20 @@ module _ (form : ℕ) (owner cluster : List ℕ) where
   one_named (r ∷ []) named = (r, refl, let same : meta_cells r ≡ meta_row form owner cluster = cc in same)
   one_named (r ∷ s ∷ more) named = absurd (let many = ap length named in omega (arith, many))
 
-  at : (r : Row) → meta_cells r ≡ meta_row form owner cluster → (place : ℕ) → column (meta_cells r) place ≡ column (meta_row form owner cluster) place
-  at r is place = ap (λ (row : Row). column row place) is
+  cell : (r : Row) → meta_cells r ≡ meta_row form owner cluster → (place : ℕ) → column (meta_cells r) place ≡ column (meta_row form owner cluster) place
+  cell r is place = ap (λ (row : Row). column row place) is
 
   -- with the columns that stay it says the same, in form 2
   renamed : (r : Row) → meta_cells r ≡ meta_row form owner cluster → cast_row meta_table (changed r) ≡ source 2 owner cluster
   renamed r is =
-      (λ i. cast_row meta_table (at r is 0 i ∷ Null ∷ Int (pos 2) ∷ at r is 2 i ∷ at r is 3 i ∷ at r is 4 i ∷ at r is 5 i ∷ []))
+      (λ i. cast_row meta_table (cell r is 0 i ∷ Null ∷ Int (pos 2) ∷ cell r is 2 i ∷ cell r is 3 i ∷ cell r is 4 i ∷ cell r is 5 i ∷ []))
       ∙ cast_source 2 owner cluster
 
   raises : (limit : Option ℕ) (mode : Mode) (text : List ℕ) (db : Database) (tally : Tally) (after : Database) → db.schema ≡ log_schema → IsNamedIn form owner cluster (db.trees 0)
       → Does limit mode [] db text None (Update 0 raise_program) (Ok (tally, after)) → (after.schema ≡ log_schema) × (after.trees 1 ≡ db.trees 1) × IsNamedIn 2 owner cluster (after.trees 0)
   raises limit mode text db tally after has named h =
       let one = one_named (db.trees 0) named in
-      let did = raised one.0 limit mode (pos 1) (at one.0 one.2 0) text db tally after has one.1 h in
+      let did = raised one.0 limit mode (pos 1) (cell one.0 one.2 0) text db tally after has one.1 h in
       (did.0, did.1, ap (map meta_cells) (did.2 ∙ ap (λ (r : Row). r ∷ []) (renamed one.0 one.2)))
 
   abbrev update : Command

@@ -10,8 +10,8 @@ use Rattle.sb_types.specs.Value.{Value, Text, is_value, words_of, IsSpelled}
 use Rattle.sb_types.proofs.Spelling.{texts_apart}
 
 by_test : {P : Type 0} (b : Bool) → (b ≡ true → P) → (b ≡ false → P) → P
-by_test true yes no_text = yes refl
-by_test false yes no_text = no_text refl
+by_test true on_true on_false = on_true refl
+by_test false on_true on_false = on_false refl
 
 same_ok : {x y : Value} → ◌≡◌ {A = Result Value Fault} (Ok x) (Ok y) → x ≡ y
 same_ok e = cc

@@ -1,7 +1,7 @@
 -- Which texts are UTF-8.
 use Rattle.std.proofs.Common.{◌≡◌, ℕ, ◌<◌, ◌≤◌, Bool, true, false, List, refl, sym, ap, arith, Bor, Result, Ok, Err}
-use Rattle.std.specs.Prelude.{MatchResult, nat_le}
-use Rattle.std.specs.Result.{result_unwrap_or, result_is_ok}
+use Rattle.std.specs.Prelude.{MatchResult, nat_le, is_ok}
+use Rattle.std.specs.Result.{result_unwrap_or}
 use Rattle.std.specs.Str.{IsUtf8, is_utf8}
 use Rattle.std.proofs.lemmas.Bool.{and_parts, leb-true}
 use Rattle.std.proofs.lemmas.List.Sums.{AllPass-from_list_all}
@@ -27,10 +27,10 @@ unwrapped Q (Ok s) text d utf8 h = h.0
 unwrapped Q (Err e) text d utf8 h = absurd (h.0 utf8)
 
 never : (text : List ℕ) (b : Bool) → is_utf8 text ≡ b → (IsUtf8 text → ⊥) → b ≡ false
-never text true is not = absurd (not (IsUtf8-from_is_utf8 text is))
-never text false is not = refl
+never text true is other = absurd (other (IsUtf8-from_is_utf8 text is))
+never text false is other = refl
 
 -- the test that it is made
-pub tested : {E : Type 0} (Q : E → Type 0) (r : Result (Bor (List ℕ)) E) (text : List ℕ) → MatchResult r (λ s. (s.now ≡ text) × IsUtf8 text) (λ e. (IsUtf8 text → ⊥) × Q e) → result_is_ok r ≡ is_utf8 text
+pub tested : {E : Type 0} (Q : E → Type 0) (r : Result (Bor (List ℕ)) E) (text : List ℕ) → MatchResult r (λ s. (s.now ≡ text) × IsUtf8 text) (λ e. (IsUtf8 text → ⊥) × Q e) → is_ok r ≡ is_utf8 text
 tested Q (Ok s) text h = sym (is_utf8-from_IsUtf8 text h.1)
 tested Q (Err e) text h = sym (never text (is_utf8 text) refl h.0)

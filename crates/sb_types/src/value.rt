@@ -285,6 +285,7 @@ fn utf8_text(text: &[u8]) -> &str
 }
 
 /// The text that a word spells. `BadValue` where it spells none; then `NoMemory`.
+#[tactic(auto, using(crate::proofs::TextReading::read_found, crate::proofs::TextReading::read_only, crate::proofs::TextReading::read_fault, crate::proofs::TextReading::read_memory))]
 fn read_text(alloc: Global, word: &[u8]) -> Result<Value, Fault>
     ensures found { IfOk result (λ value. (values.is_value value ≡ true) × (values.words_of value ≡ (codes "text", word.now))) }
     ensures only { (text : List ℕ) → is_text text ≡ true → printed_text text ≡ word.now → Gives result (Ok (values.Text text)) }
