@@ -306,7 +306,8 @@ fn about_fault(fault: &Fault, place: Place<'_>) -> &'static str {
             "end other programs, or give the machine or the process more memory or threads, and try again",
         Fault::BadName => "give 1 to 32 lower-case letters, digits and -",
         Fault::BadKey => "give at most 64 lower-case letters, digits and the signs . _ / -",
-        Fault::BadValue => "give a kind and a word, as: addr 10.0.0.1:80, weight 5, flag true",
+        Fault::BadValue =>
+            "give a kind and a word, as: addr 10.0.0.1:80, weight 5, flag true, text 'zone b'",
         Fault::BadSetting => about_setting(place),
         Fault::TableFull => "no key comes free again; a new name begins with none",
         Fault::OwnersFull => "start the node again without owners that are gone",

@@ -38,5 +38,6 @@ pub use limits::{
     WORKERS_MOST,
 };
 pub use settings::{Order, RawSettings, Settings};
+pub use spelled::Spelled;
 pub use text::{Key, Name, Prefix};
 pub use value::{Value, ValueRef};

@@ -5,9 +5,10 @@ ghost use Rattle.sb_types.specs.Spelling.{is_escaped, printed_char, printed_text
 
 use std::fmt;
 
-/// A text as it is spelled on a line.
+/// A text, printed as it is spelled on a line: each of the bytes 00 to 1f, 7f and the backslash as a backslash and two
+/// digits of 0-9 and a-f.
 #[derive(Drop)]
-pub(crate) struct Spelled<'a>(pub(crate) &'a str);
+pub struct Spelled<'a>(pub &'a str);
 
 #[derive(Drop)]
 struct SpelledChar(char);
