@@ -181,7 +181,7 @@ fn talk(
 /// The node b, which wrote the flag true under w.
 fn node_b(rt: &impl Abort, alloc: Global) -> NodeCore {
     let b = name(rt, b"b");
-    let mut core = node(rt, alloc, b, 256, Order::Breadth);
+    let mut core = node(rt, alloc, b, 1_024, Order::Breadth);
     let mut log = log_of(rt, alloc, b);
     let slot = Slot::Set(Value::flag(true));
     write(rt, &mut core, &mut log, b"w", &slot);
@@ -196,7 +196,7 @@ fn talk_of_b(rt: &impl Abort, alloc: Global, terms: Terms<'_>, said: &[u8]) -> T
 
 /// The same of a that asks b, and how far it then holds b.
 fn talk_of_a(rt: &impl Abort, alloc: Global) -> (Talked, u64) {
-    let mut core = node(rt, alloc, name(rt, b"a"), 256, Order::Breadth);
+    let mut core = node(rt, alloc, name(rt, b"a"), 1_024, Order::Breadth);
     let terms = peer_terms(SAID_BY_B, Some(1));
     let dialed = talk(rt, &mut core, alloc, terms, DIALED_BY_A);
     (dialed, core.upto(&name(rt, b"b")))
@@ -363,7 +363,7 @@ fn asked_in_turn(
 
 /// A node a that holds one write of each of as many other owners.
 fn node_of_writes(rt: &impl Abort, alloc: Global, owners: u64) -> NodeCore {
-    let mut core = node(rt, alloc, name(rt, b"a"), 256, Order::Breadth);
+    let mut core = node(rt, alloc, name(rt, b"a"), 1_024, Order::Breadth);
     applied(rt, &mut core, &writes_of(rt, alloc, owners));
     core
 }
@@ -372,10 +372,10 @@ fn node_of_writes(rt: &impl Abort, alloc: Global, owners: u64) -> NodeCore {
 fn each_owner_is_told_of_in_turn(rt: HostRuntime) {
     let mut session = Session::new(name(&rt, b"c1"), name(&rt, b"a"));
     let mut core = node_of_writes(&rt, rt.alloc(), 1_023);
-    // 17 owners in the first digest, 16 in each of the next 62, and 15 in the last; then all once more.
+    // 72 owners in the first digest, 71 in each of the next 13, and 29 in the last; then all once more.
     let found = [
         asked_in_turn(&rt, &mut core, &mut session),
         asked_in_turn(&rt, &mut core, &mut session),
     ];
-    same(&rt, &found, &[Some((64, 1_024)), Some((64, 1_024))]);
+    same(&rt, &found, &[Some((15, 1_024)), Some((15, 1_024))]);
 }
