@@ -16,7 +16,7 @@ Example of a node, which is then asked from a second terminal:
 Example of a script:
   $ printf 'world 1024 breadth 100 a b\\nput a w weight 5\\ngive a b 0\\nread b a w\\n' | attrdir sim
   version 1
-  a7010000002203000101610000000000000000000101770000000000000001020000000000000005
+  a7020000002203000101610000000000000000000101770000000000000001020000000000000005
   taken 1
   a w 1 weight 5";
 
@@ -54,14 +54,14 @@ fault that ended the run.
 Example:
   $ printf 'world 1024 breadth 100 a b\\nput a w weight 5\\ngive a b 0\\nread b a w\\n' | attrdir sim
   version 1
-  a7010000002203000101610000000000000000000101770000000000000001020000000000000005
+  a7020000002203000101610000000000000000000101770000000000000001020000000000000005
   taken 1
   a w 1 weight 5
 
 With --explain each frame that a line sent or shows is said in words behind what the line prints:
   $ printf 'world 1024 breadth 100 a b\\nput a w weight 5\\ngive a b 0\\nread b a w\\n' | attrdir sim --explain
   version 1
-  a7010000002203000101610000000000000000000101770000000000000001020000000000000005
+  a7020000002203000101610000000000000000000101770000000000000001020000000000000005
   taken 1
     frame 1: hello, cluster sim, node a
     frame 2: delta, blocks 1
