@@ -115,7 +115,7 @@ module _ (owner cluster : List ℕ) (old mid : Database) (t : Table) (all : Comp
   pub still_named : (row : Row) → map meta_cells (mid.trees 0) ≡ row ∷ [] → (form : ℕ) × IsForm form × (row ≡ meta_row form owner cluster)
   still_named row one = elim still_meta [
     | inl none ↦ absurd (let e = sym (ap (map meta_cells) none) ∙ one in cc)
-    | inr named ↦ (named.0, named.1, let e = sym one ∙ named.2 in cc)
+    | inr named ↦ (named.0, named.1, (let e = sym one ∙ named.2 in cc))
   ]
 
   pub never_more : (shown : List Row) → IsPermutation (map meta_cells (mid.trees 0)) shown → 2 ≤ length shown → ⊥

@@ -77,7 +77,7 @@ module _ (form : ℕ) (owner cluster : List ℕ) where
   -- the one row that is named so
   one_named : (rows : List Row) → IsNamedIn form owner cluster rows → (r : Row) × (rows ≡ r ∷ []) × (meta_cells r ≡ meta_row form owner cluster)
   one_named [] named = absurd (let few : ◌≡◌ {A = ℕ} 0 1 = ap length named in omega (arith, few))
-  one_named (r ∷ []) named = (r, refl, let same : meta_cells r ≡ meta_row form owner cluster = cc in same)
+  one_named (r ∷ []) named = (r, refl, (let same : meta_cells r ≡ meta_row form owner cluster = cc in same))
   one_named (r ∷ s ∷ more) named = absurd (let many = ap length named in omega (arith, many))
 
   cell : (r : Row) → meta_cells r ≡ meta_row form owner cluster → (place : ℕ) → column (meta_cells r) place ≡ column (meta_row form owner cluster) place

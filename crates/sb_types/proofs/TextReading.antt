@@ -13,6 +13,9 @@ by_test : {P : Type 0} (b : Bool) → (b ≡ true → P) → (b ≡ false → P)
 by_test true on_true on_false = on_true refl
 by_test false on_true on_false = on_false refl
 
+two_words : (v w : List ℕ) → v ≡ w → ◌≡◌ {A = List ℕ × List ℕ} (codes "text", v) (codes "text", w)
+two_words v w same = cc
+
 same_ok : {x y : Value} → ◌≡◌ {A = Result Value Fault} (Ok x) (Ok y) → x ≡ y
 same_ok e = cc
 
@@ -24,7 +27,7 @@ module _ (word text : List ℕ) (spelled : word ≡ printed_text text) (result :
   Found value = (is_value value ≡ true) × (words_of value ≡ (codes "text", word))
 
   found_in : (r : Result Value Fault) → is_text text ≡ true → Gives r (Ok (Text text)) → IfOk r Found
-  found_in (Ok x) is gives = subst Found (same_ok gives) (is, ap (λ (w : List ℕ). (codes "text", w)) (sym spelled))
+  found_in (Ok x) is gives = subst Found (same_ok gives) (is, two_words (printed_text text) word (sym spelled))
   found_in (Err fault) is gives = tt
 
   pub read_found : IfOk result Found
