@@ -36,7 +36,7 @@ fn let_go(bytes: &mut Vec<u8>, taken: usize) -> usize
 ///
 /// ```
 /// let mut frames = Frames::new(alloc);
-/// frames.feed(b"\xa7\x01\x00\x00\x00")?;
+/// frames.feed(b"\xa7\x02\x00\x00\x00")?;
 /// assert!(frames.next()?.is_none());
 /// frames.feed(b"\x02\x04\x01")?;
 /// let message = frames.next()?;
