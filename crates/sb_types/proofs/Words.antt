@@ -78,9 +78,10 @@ words_apart (Text s) (Text t) va vb same = ap Text (texts_apart s t (ap second_o
 printing : (text : List ℕ) → list_all is_addr_byte text ≡ true → is_one_line text ≡ true
 printing [] all = refl
 printing (b ∷ bs) all =
-    let here = (and_parts _ _ all).0 in
+    let both = and_parts (is_addr_byte b) (list_all is_addr_byte bs) all in
+    let here : is_addr_byte b ≡ true = both.0 in
     let first : not (is_control b) ≡ true = grind (arith, nat_tests) in
-    ap₂ (λ (x y : Bool). x && y) first (printing bs (and_parts _ _ all).1)
+    ap₂ (λ (x y : Bool). x && y) first (printing bs both.1)
 
 abbrev HasDigits : ℕ → List ℕ → Type 0
 HasDigits n ds = is_one_line ds ≡ true
