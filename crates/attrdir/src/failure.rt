@@ -114,11 +114,6 @@ impl<'a> Failure<'a> {
             _ => false,
         }
     }
-
-    /// The failure that a node answered by its number, 1 to 31.
-    pub(crate) fn told(control: &'a str, number: u8) -> Failure<'a> {
-        Failure::at(Place::Node(control), numbered(number))
-    }
 }
 
 impl From<AllocError> for Failure<'_> {
@@ -130,43 +125,6 @@ impl From<AllocError> for Failure<'_> {
 impl From<Fault> for Failure<'_> {
     fn from(fault: Fault) -> Self {
         Failure::at(Place::Line, fault)
-    }
-}
-
-/// The fault of a number, 1 to 31. What else a fault tells is 0: a number does not carry it.
-fn numbered(number: u8) -> Fault {
-    match number {
-        1 => Fault::NoMemory,
-        2 => Fault::BadName,
-        3 => Fault::BadKey,
-        4 => Fault::BadValue,
-        5 => Fault::BadSetting,
-        6 => Fault::TableFull,
-        7 => Fault::OwnersFull,
-        8 => Fault::VersionsSpent,
-        9 => Fault::NothingThere,
-        10 => Fault::BadMark,
-        11 => Fault::BadVersion,
-        12 => Fault::BadLength,
-        13 => Fault::UnknownKind(0),
-        14 => Fault::Malformed(0),
-        15 => Fault::Closed,
-        16 => Fault::ReadFailed,
-        17 => Fault::WriteFailed(0),
-        18 => Fault::StoreFailed,
-        19 => Fault::LogDamaged,
-        20 => Fault::WrongOwner,
-        21 => Fault::OwnerConflict(0),
-        22 => Fault::NoHello,
-        23 => Fault::WrongCluster,
-        24 => Fault::SameName,
-        25 => Fault::SecondHello,
-        26 => Fault::NoWatch,
-        27 => Fault::WatchesFull,
-        28 => Fault::Truncated,
-        29 => Fault::TurnsSpent,
-        30 => Fault::FloorTooHigh,
-        _ => Fault::OutOfTurn(0),
     }
 }
 
