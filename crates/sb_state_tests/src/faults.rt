@@ -126,3 +126,23 @@ fn each_fault_has_its_number_and_its_text(rt: HostRuntime) {
         assert_told(&rt, rt.alloc(), *fault, *number, text);
     }
 }
+
+fn is_fault_of(rt: &impl Abort, fault: Fault, number: u8) {
+    same(rt, &Fault::of_number(number), &Some(fault));
+}
+
+#[test]
+fn a_number_gives_its_fault_and_carries_no_more(rt: HostRuntime) {
+    is_fault_of(&rt, Fault::NoMemory, 1);
+    is_fault_of(&rt, Fault::UnknownKind(0), 13);
+    is_fault_of(&rt, Fault::WriteFailed(0), 17);
+    is_fault_of(&rt, Fault::OwnerConflict(0), 21);
+    is_fault_of(&rt, Fault::OutOfTurn(0), 31);
+    for (_, number, _) in FAULTS.iter() {
+        let told = Fault::of_number(*number).map_or(0, |fault| fault.number());
+        same(&rt, &told, number);
+    }
+    same(&rt, &Fault::of_number(0), &None);
+    same(&rt, &Fault::of_number(32), &None);
+    same(&rt, &Fault::of_number(255), &None);
+}
