@@ -159,22 +159,14 @@ fn rows_of(
     )
 }
 
-/// Opens what was left: each row is there, the next write has the next version, and the log has form 2.
-fn is_whole(
-    rt: &impl Abort,
-    alloc: Global,
-    disks: &mut Files<Memory>,
-    calls: Calls,
-    case: Case,
-) {
-    let found = rows_of(rt, alloc, disks, case.mend);
-    let form = form_on_disks(rt, alloc, disks);
-    let at = (calls.log, calls.db, case.fault);
-    same_at(rt, &at, &(found, form), &((ROWS, 4), 2));
+/// Lets what was not synced be lost.
+fn crash(disks: &mut Files<Memory>) {
+    disks.log.crash();
+    disks.db.crash();
 }
 
-/// Opens a copy of such files while a call may fail, and then again, where what was not synced stayed, and where it was lost. The number
-/// of the first fault.
+/// Opens a copy of such files while a call may fail, and after a crash again: each row is there, and the next write has the next version.
+/// The number of the first fault.
 fn open_twice(
     rt: &impl Abort,
     alloc: Global,
@@ -184,16 +176,9 @@ fn open_twice(
 ) -> u8 {
     let mut disks = whole_copy(rt, alloc, files);
     let number = open_once(rt, alloc, &mut disks, calls, case.owner);
-    is_whole(
-        rt,
-        alloc,
-        &mut whole_copy(rt, alloc, &disks),
-        calls,
-        case,
-    );
-    disks.log.crash();
-    disks.db.crash();
-    is_whole(rt, alloc, &mut disks, calls, case);
+    crash(&mut disks);
+    let found = rows_of(rt, alloc, &mut disks, case.mend);
+    same_at(rt, &(calls.log, case.fault), &found, &(ROWS, 4));
     number
 }
 
@@ -230,6 +215,12 @@ fn an_opening_makes_97_calls(rt: HostRuntime) {
 fn an_opening_behind_a_change_makes_101_calls(rt: HostRuntime) {
     ends_within(&rt, rt.alloc(), DAMAGED, 101);
     ends_within(&rt, rt.alloc(), OF_ANOTHER_FORM, 101);
+}
+
+// The statement that raises the form makes six of them.
+#[test]
+fn an_opening_that_raises_the_form_makes_107_calls(rt: HostRuntime) {
+    ends_within(&rt, rt.alloc(), OF_FORM_1, 107);
 }
 
 #[test]
@@ -280,6 +271,41 @@ fn an_opening_of_another_form_that_fails_at_calls_1_to_50_loses_nothing(rt: Host
 #[test]
 fn an_opening_of_another_form_that_fails_at_calls_51_to_101_loses_nothing(rt: HostRuntime) {
     miss_each(&rt, rt.alloc(), OF_ANOTHER_FORM, After::Answering, 50, 101);
+}
+
+/// Opens what an opening left that raises the form: each row is there, the next write has the next version, and the form is 2.
+fn is_raised(rt: &impl Abort, alloc: Global, disks: &mut Files<Memory>, log: u64) {
+    let found = rows_of(rt, alloc, disks, &[]);
+    let form = form_on_disks(rt, alloc, disks);
+    same_at(rt, &log, &(found, form), &((ROWS, 4), 2));
+}
+
+/// Lets one call fail of an opening that raises the form, each from call 101 on in its turn; then what was not synced stays, and is lost.
+fn miss_raise(rt: &impl Abort, alloc: Global, after: After) {
+    let files = written(rt, alloc, OF_FORM_1);
+    for log in 100..107 {
+        let calls = Calls {
+            log,
+            after,
+            ..ENDLESS
+        };
+        let mut disks = whole_copy(rt, alloc, &files);
+        let number = open_once(rt, alloc, &mut disks, calls, OWNER);
+        same_at(rt, &log, &number, &18);
+        is_raised(rt, alloc, &mut whole_copy(rt, alloc, &disks), log);
+        crash(&mut disks);
+        is_raised(rt, alloc, &mut disks, log);
+    }
+}
+
+#[test]
+fn an_opening_that_fails_to_raise_the_form_loses_nothing(rt: HostRuntime) {
+    miss_raise(&rt, rt.alloc(), After::Answering);
+}
+
+#[test]
+fn an_opening_on_a_disk_that_stops_at_the_raise_loses_nothing(rt: HostRuntime) {
+    miss_raise(&rt, rt.alloc(), After::Failing);
 }
 
 /// Opens such files, twice: the fault stays, and so does the form.
@@ -342,24 +368,4 @@ fn a_refused_log_keeps_its_form(rt: HostRuntime) {
         ],
         19,
     );
-}
-
-#[test]
-fn find_calls(rt: HostRuntime) {
-    let alloc = rt.alloc();
-    let files = written(&rt, alloc, OF_FORM_1);
-    for log in 90..200 {
-        let number = open_twice(&rt, alloc, &files, Calls { log, ..ENDLESS }, OF_FORM_1);
-        same_at(&rt, &log, &number, &18);
-    }
-}
-
-#[test]
-fn find_db_calls(rt: HostRuntime) {
-    let alloc = rt.alloc();
-    let files = written(&rt, alloc, OF_FORM_1);
-    for db in 0..100 {
-        let number = open_twice(&rt, alloc, &files, Calls { db, ..ENDLESS }, OF_FORM_1);
-        same_at(&rt, &db, &number, &18);
-    }
 }
