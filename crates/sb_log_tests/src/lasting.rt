@@ -174,6 +174,7 @@ fn a_log_in_files_is_printed(rt: HostRuntime) {
     let outcome = log_on_disks(&rt, alloc, &mut disks, ENDLESS, OWN, Printing);
     let (printed, lines) = got(&rt, outcome);
     same(&rt, &printed, &Ok(()));
-    let wanted = b"a t 4 text \xc3\xa9 \\5c b\\0a\na u 5 addr h:1\na x 2 removed -\na y 3 flag true\nlast 5\n";
+    let wanted =
+        b"a t 4 text \xc3\xa9 \\5c b\\0a\na u 5 addr h:1\na x 2 removed -\na y 3 flag true\nlast 5\n";
     same(&rt, &lines.as_slice(), &wanted.as_slice());
 }

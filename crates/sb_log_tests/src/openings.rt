@@ -338,18 +338,8 @@ fn a_refused_log_keeps_its_form(rt: HostRuntime) {
     };
     keeps_form(&rt, alloc, anothers, 1);
     keeps_form(&rt, alloc, OF_ANOTHER_FORM, 3);
-    stays_in_form_1(
-        &rt,
-        alloc,
-        &["UPDATE meta SET form = 1, last = 3"],
-        19,
-    );
-    stays_in_form_1(
-        &rt,
-        alloc,
-        &["UPDATE meta SET form = 1, floor = 1"],
-        19,
-    );
+    stays_in_form_1(&rt, alloc, &["UPDATE meta SET form = 1, last = 3"], 19);
+    stays_in_form_1(&rt, alloc, &["UPDATE meta SET form = 1, floor = 1"], 19);
     stays_in_form_1(
         &rt,
         alloc,
