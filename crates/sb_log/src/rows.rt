@@ -189,9 +189,14 @@ pub(crate) fn has_texts(table: &Table) -> bool
 fn sets_text(slot: &Slot) -> bool
     ensures { result ≡ sets_text slot.now }
 {
-    match slot {
-        Slot::Set(value) => matches!(value.view(), Lent::Text(_)),
-        Slot::Removed => false,
+    let Slot::Set(value) = slot else {
+        return false;
+    };
+    match value.view() {
+        Lent::Addr(_) => false,
+        Lent::Weight(_) => false,
+        Lent::Flag(_) => false,
+        Lent::Text(_) => true,
     }
 }
 
