@@ -8,7 +8,7 @@ use Rattle.sqlite.proofs.Callers.{one_permutation}
 use Rattle.sb_types.specs.declared.fault.Fault.{Fault}
 use Rattle.sb_types.specs.Records.{Table}
 use Rattle.sb_table.specs.Plain.{plain_table}
-use Rattle.sb_log.specs.Opening.{meta_cells, meta_row, meta_found, writes_found, IsForm, IsNamedIn, IsMetaOf, Completes, Opens, Grows, Founds}
+use Rattle.sb_log.specs.Opening.{meta_cells, meta_row, meta_found, writes_found, IsFormOf, IsNamedIn, IsMetaOf, Completes, Opens, Grows, Founds}
 use Rattle.sb_log.specs.Form.{log_schema, schema_with}
 use Rattle.sb_log.specs.declared.schema.Made.{Made}
 use Rattle.sb_log.specs.declared.schema.Made.TheVariants.{Neither, Meta, Both}
@@ -53,7 +53,8 @@ module _ (owner cluster : List ℕ) (old mid : Database) (shown : List Row) (all
       }
   opens_new (Err fault) none rows empty = tt
 
-  pub opens_old : (result : Result Table Fault) (row : Row) → shown ≡ row ∷ [] → OnOk result ((form : ℕ) × IsForm form × (row ≡ meta_row form owner cluster)) → IfOk result (λ t. AreRowsOf t (read.trees 1))
+  pub opens_old : (result : Result Table Fault) (row : Row) → shown ≡ row ∷ [] → IfOk result (λ t. (form : ℕ) × IsFormOf form t × (row ≡ meta_row form owner cluster))
+      → IfOk result (λ t. AreRowsOf t (read.trees 1))
       → IfOk result (Opens owner cluster old)
   opens_old (Ok t) row one is rows =
       let has : map meta_cells (meta_found all.made old.trees) ≡ row ∷ [] = ap (map meta_cells) (sym all.meta) ∙ one_mapped (mid.trees 0) shown row same one in
@@ -109,10 +110,10 @@ module _ (owner cluster : List ℕ) (old mid : Database) (t : Table) (all : Comp
   pub still_empty : mid.trees 0 ≡ [] → t ≡ plain_table []
   still_empty none = opens.empty (ap (λ (m : Made). meta_found m old.trees) one_made ∙ sym all.meta ∙ none)
 
-  still_meta : IsMetaOf owner cluster (mid.trees 0)
-  still_meta = subst (IsMetaOf owner cluster) (ap (λ (m : Made). meta_found m old.trees) one_made ∙ sym all.meta) opens.meta
+  still_meta : IsMetaOf owner cluster t (mid.trees 0)
+  still_meta = subst (IsMetaOf owner cluster t) (ap (λ (m : Made). meta_found m old.trees) one_made ∙ sym all.meta) opens.meta
 
-  pub still_named : (row : Row) → map meta_cells (mid.trees 0) ≡ row ∷ [] → (form : ℕ) × IsForm form × (row ≡ meta_row form owner cluster)
+  pub still_named : (row : Row) → map meta_cells (mid.trees 0) ≡ row ∷ [] → (form : ℕ) × IsFormOf form t × (row ≡ meta_row form owner cluster)
   still_named row one = elim still_meta [
     | inl none ↦ absurd (let e = sym (ap (map meta_cells) none) ∙ one in cc)
     | inr named ↦ (named.0, named.1, (let e = sym one ∙ named.2 in cc))

@@ -1,5 +1,5 @@
 -- What a log's tables may hold where it is opened.
-use Rattle.std.specs.Prelude.{◌≡◌, ◌⊎◌, ℕ, pos, min, true, List, [], ◌∷◌, map}
+use Rattle.std.specs.Prelude.{◌≡◌, ◌⊎◌, ℕ, pos, min, false, true, List, [], ◌∷◌, map}
 use Rattle.sqlite_value.specs.declared.value.Value.TheVariants.{Int, Text}
 use Rattle.sqlite_value.specs.Order.{Row, column}
 use Rattle.sqlite_trees.specs.Tree.{Trees, rowid}
@@ -14,7 +14,7 @@ use Rattle.sb_table.specs.Plain.{plain_table}
 use Rattle.sb_log.specs.declared.schema.Made.{Made}
 use Rattle.sb_log.specs.declared.schema.Made.TheVariants.{Neither, Meta, Both}
 use Rattle.sb_log.specs.Form.{schema_with, log_schema}
-use Rattle.sb_log.specs.Rows.{AreRowsOf}
+use Rattle.sb_log.specs.Rows.{has_texts, AreRowsOf}
 
 -- the rowid, form, owner, cluster, last and floor of a row of meta
 abbrev pub meta_cells : Row → Row
@@ -32,13 +32,17 @@ IsNamedIn form owner cluster rows = map meta_cells rows ≡ meta_row form owner 
 abbrev pub IsForm : ℕ → Type 0
 IsForm form = (form ≡ 1) ⊎ (form ≡ 2)
 
--- the same in a form that is read
-abbrev pub IsNamed : List ℕ → List ℕ → List Row → Type 0
-IsNamed owner cluster rows = (form : ℕ) × IsForm form × IsNamedIn form owner cluster rows
+-- one of them, which has such content: the first has no texts
+abbrev pub IsFormOf : ℕ → Table → Type 0
+IsFormOf form content = ((form ≡ 1) × (has_texts content ≡ false)) ⊎ (form ≡ 2)
+
+-- the same in a form that is read and has this content
+abbrev pub IsNamed : List ℕ → List ℕ → Table → List Row → Type 0
+IsNamed owner cluster content rows = (form : ℕ) × IsFormOf form content × IsNamedIn form owner cluster rows
 
 -- it says so, or there is no row yet
-abbrev pub IsMetaOf : List ℕ → List ℕ → List Row → Type 0
-IsMetaOf owner cluster rows = (rows ≡ []) ⊎ IsNamed owner cluster rows
+abbrev pub IsMetaOf : List ℕ → List ℕ → Table → List Row → Type 0
+IsMetaOf owner cluster content rows = (rows ≡ []) ⊎ IsNamed owner cluster content rows
 
 -- the rows of each table, and none of a table that is not there
 abbrev pub meta_found : Made → Trees → List Row
@@ -55,7 +59,7 @@ writes_found Both db = db 1
 pub record Opens (owner cluster : List ℕ) (found : Database) (content : Table) : Type 0 where
   pub made : Made
   pub schema : found.schema ≡ schema_with made
-  pub meta : IsMetaOf owner cluster (meta_found made found.trees)
+  pub meta : IsMetaOf owner cluster content (meta_found made found.trees)
   pub rows : AreRowsOf content (writes_found made found.trees)
   pub empty : meta_found made found.trees ≡ [] → content ≡ plain_table []
   -- where the table of writes is missing, nothing says yet whose the log is

@@ -1,6 +1,6 @@
 -- What the rows of a log's tables hold.
 use Rattle.std.specs.Prelude.{◌≡◌, ℕ, pos, Bool, true, false, ◌&&◌, ◌==◌, if◌then◌else◌, nat_le, nat_lt, List, [], ◌∷◌, map, IsPermutation}
-use Rattle.std.specs.List.{list_all, AllByRecursion}
+use Rattle.std.specs.List.{list_all, list_any, AllByRecursion}
 use Rattle.sqlite_value.specs.declared.value.Value as cell
 use Rattle.sqlite_value.specs.declared.value.Value.TheVariants.{Null, Int, Text}
 use Rattle.sqlite_value.specs.Order.{Row, column, bytes}
@@ -26,6 +26,16 @@ slot_cells (Set (Addr text)) = Int (pos 1) ∷ Null ∷ Text text ∷ []
 slot_cells (Set (Weight weight)) = Int (pos 2) ∷ Int (pos weight) ∷ Null ∷ []
 slot_cells (Set (Flag flag)) = Int (pos 3) ∷ Int (pos (flag_number flag)) ∷ Null ∷ []
 slot_cells (Set (values.Text text)) = Int (pos 4) ∷ Null ∷ Text text ∷ []
+
+abbrev pub sets_text : Slot → Bool
+sets_text Removed = false
+sets_text (Set (Addr text)) = false
+sets_text (Set (Weight weight)) = false
+sets_text (Set (Flag flag)) = false
+sets_text (Set (values.Text text)) = true
+
+abbrev pub has_texts : Table → Bool
+has_texts table = list_any (λ e. sets_text e.slot) table.entries
 
 -- the columns of the row that holds an entry
 abbrev pub cells_of : Entry → Row

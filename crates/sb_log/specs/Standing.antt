@@ -33,9 +33,9 @@ IsKept g owner cluster conn table is_open =
     → IsReady (state g conn) × AreRowsOf table ((state g conn).now.trees 1) × IsNamedIn 2 owner cluster ((state g conn).now.trees 0)
 
 -- who opens these tables as the owner's log finds the table that their rows are; where the tables are not a log's, don't say whose they are, or
--- have rows of no table, no opening accepts them, and there is no telling what is found
+-- have rows of no table or of a form that has no such rows, no opening accepts them, and there is no telling what is found
 abbrev pub Finds : List ℕ → List ℕ → Trees → Table → Type 0
-Finds owner cluster db table = (t : Table) → IsSound log_schema db → IsNamed owner cluster (db 0) → AreRowsOf t (db 1) → table ≡ t
+Finds owner cluster db table = (t : Table) → IsSound log_schema db → IsNamed owner cluster t (db 0) → AreRowsOf t (db 1) → table ≡ t
 
 -- who opens it after a crash at this moment may find the table
 abbrev pub MayLeave : {S : Type 0} → Ghosts S → List ℕ → List ℕ → Held S → Table → Type 0

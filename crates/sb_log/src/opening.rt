@@ -11,10 +11,11 @@ ghost use Rattle.sqlite_catalog.specs.Listing.{IsSound};
 ghost use Rattle.sb_types.specs.Records as records;
 ghost use Rattle.sb_table.specs.Plain.{plain_table};
 ghost use Rattle.sb_log.specs.Form.{no_schema, meta_schema, log_schema, schema_with};
-ghost use Rattle.sb_log.specs.Opening.{meta_cells, meta_row, meta_found, IsForm, IsNamedIn, Completes, Opens, Grows, Founds, IsWant, IsOpeningFault};
+ghost use Rattle.sb_log.specs.Opening.{meta_cells, meta_row, meta_found, IsForm, IsFormOf, IsNamedIn, Completes, Opens, Grows, Founds, IsWant, IsOpeningFault};
 ghost use Rattle.sb_log.specs.Rows.{AreRowsOf};
 ghost use Rattle.sb_log.specs.Standing.{IsPrepared, IsReady};
 
+use crate::rows::has_texts;
 use crate::schema::{Made, tables_in};
 use crate::statements::{make_meta, make_writes, raise_form, read_meta, read_table, write_meta};
 use sb_table::Table;
@@ -25,8 +26,8 @@ use std::alloc::Global;
 
 /// Opens a log's tables, and makes those that are missing: what their rows hold. In this order: `LogDamaged` where
 /// there is no meta row beside rows, a meta row without the table of writes, or an unknown form or schema;
-/// `WrongOwner`; `LogDamaged` where a row breaks a limit, or versions were forgotten. `StoreFailed` and `NoMemory`
-/// wherever they come.
+/// `WrongOwner`; `LogDamaged` where a row breaks a limit or has a text in form 1, or versions were forgotten.
+/// `StoreFailed` and `NoMemory` wherever they come.
 pub(crate) fn open_tables<S: Alter>(
     conn: &mut Connection<S>,
     alloc: Global,
@@ -108,7 +109,7 @@ fn open_old<S: Alter>(
         → OnOk result (IsReady (state S.Store conn.new)) }
     ensures same { HasCleanDisk (state S.Store conn.new) → IsReady (state S.Store conn.old) → map meta_cells ((state S.Store conn.old).now.trees 0) ≡ row.now ∷ []
         → OnOk result ((state S.Store conn.new).now.trees 1 ≡ (state S.Store conn.old).now.trees 1) }
-    ensures found { OnOk result ((form : ℕ) × IsForm form × (row.now ≡ meta_row form owner.now cluster.now)) }
+    ensures found { IfOk result (λ t. (form : ℕ) × IsFormOf form t × (row.now ≡ meta_row form owner.now cluster.now)) }
     ensures meta { HasCleanDisk (state S.Store conn.new) → IsReady (state S.Store conn.old) → map meta_cells ((state S.Store conn.old).now.trees 0) ≡ row.now ∷ []
         → OnOk result (IsNamedIn 2 owner.now cluster.now ((state S.Store conn.new).now.trees 0)) }
     ensures refused { HasCleanDisk (state S.Store conn.new) → IsReady (state S.Store conn.old)
@@ -116,23 +117,25 @@ fn open_old<S: Alter>(
     ensures crash { HasCleanDisk (state S.Store conn.new) → IsReady (state S.Store conn.old) → map meta_cells ((state S.Store conn.old).now.trees 0) ≡ row.now ∷ []
         → (db : Trees) → (state S.Store conn.new).may_leave db → (state S.Store conn.old).may_leave db
         ⊎ ((row.now ≡ meta_row 1 owner.now cluster.now) × IsSound log_schema db × (db 1 ≡ (state S.Store conn.old).now.trees 1) × IsNamedIn 2 owner.now cluster.now (db 0)) }
-    ensures whole { HasCleanDisk (state S.Store conn.new) → IsReady (state S.Store conn.old) → (form : ℕ) → IsForm form → row.now ≡ meta_row form owner.now cluster.now
-        → (t : records.Table) → AreRowsOf t ((state S.Store conn.old).now.trees 1) → IfErr result IsWant }
+    ensures whole { HasCleanDisk (state S.Store conn.new) → IsReady (state S.Store conn.old) → (form : ℕ) → row.now ≡ meta_row form owner.now cluster.now
+        → (t : records.Table) → IsFormOf form t → AreRowsOf t ((state S.Store conn.old).now.trees 1) → IfErr result IsWant }
     ensures clean { doubt (state S.Store conn.old).is_clean ≤ doubt (state S.Store conn.new).is_clean }
     ensures fault { IfErr result IsOpeningFault }
 {
     let meta = test_meta(row, owner, cluster)?;
-    let table = read_whole(conn, alloc, meta.has_forgotten)?;
+    let table = read_whole(conn, alloc, meta.form, meta.has_forgotten)?;
     match raise_from(conn, meta.form) {
         Ok(()) => Ok(table),
         Err(fault) => Err(fault),
     }
 }
 
-/// The table of the writes. `LogDamaged` also where versions were forgotten, after all that reading finds.
+/// The table of the writes of a log of this form. `LogDamaged` also where versions were forgotten, or form 1 has a text, after all that
+/// reading finds.
 fn read_whole<S: Alter>(
     conn: &mut Connection<S>,
     alloc: Global,
+    form: u64,
     has_forgotten: bool,
 ) -> Result<Table, Fault>
     ensures rows { HasCleanDisk (state S.Store conn.new) → IsReady (state S.Store conn.old)
@@ -140,12 +143,13 @@ fn read_whole<S: Alter>(
     ensures ready { HasCleanDisk (state S.Store conn.new) → IsReady (state S.Store conn.old)
         → OnOk result (IsReady (state S.Store conn.new) × ((state S.Store conn.new).now ≡ (state S.Store conn.old).now)) }
     ensures all { OnOk result (has_forgotten ≡ false) }
+    ensures form { IsForm form → IfOk result (IsFormOf form) }
     ensures refused { HasCleanDisk (state S.Store conn.new) → IsReady (state S.Store conn.old)
         → IfErr result (λ fault. fault ≢ Fault.StoreFailed → (state S.Store conn.new).now ≡ (state S.Store conn.old).now) }
     ensures crash { HasCleanDisk (state S.Store conn.new) → IsReady (state S.Store conn.old) → (db : Trees) → (state S.Store conn.new).may_leave db
         → (state S.Store conn.old).may_leave db }
     ensures whole { HasCleanDisk (state S.Store conn.new) → IsReady (state S.Store conn.old) → has_forgotten ≡ false
-        → (t : records.Table) → AreRowsOf t ((state S.Store conn.old).now.trees 1) → IfErr result IsWant }
+        → (t : records.Table) → IsFormOf form t → AreRowsOf t ((state S.Store conn.old).now.trees 1) → IfErr result IsWant }
     ensures clean { doubt (state S.Store conn.old).is_clean ≤ doubt (state S.Store conn.new).is_clean }
     ensures fault { IfErr result IsOpeningFault }
 {
@@ -153,7 +157,21 @@ fn read_whole<S: Alter>(
     if has_forgotten {
         return Err(Fault::LogDamaged);
     }
+    if !is_form_of(form, &table) {
+        return Err(Fault::LogDamaged);
+    }
     Ok(table)
+}
+
+/// Whether a log of this form, which is one that is read, has such entries: one of form 1 has no texts.
+fn is_form_of(form: u64, table: &Table) -> bool
+    ensures is { IsTrue result → IsForm form → IsFormOf form table.now }
+    ensures whole { IsFormOf form table.now → IsTrue result }
+{
+    if form != 1 {
+        return true;
+    }
+    !has_texts(table)
 }
 
 /// Raises the form of a log from this one to 2. `StoreFailed`, not of one that has it.

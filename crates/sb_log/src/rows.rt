@@ -11,7 +11,7 @@ ghost use Rattle.sb_types.specs.Limits.{is_slot, is_entry};
 ghost use Rattle.sb_types.specs.Records as records;
 ghost use Rattle.sb_types.specs.Runs.{has_key};
 ghost use Rattle.sb_table.specs.Plain.{IsPlainTable};
-ghost use Rattle.sb_log.specs.Rows.{slot_cells, cells_of, is_kept, AreNumbered};
+ghost use Rattle.sb_log.specs.Rows.{slot_cells, cells_of, is_kept, sets_text, has_texts, AreNumbered};
 
 use sb_table::Table;
 use sb_types::{Entry, Fault, Key, Slot, VERSION_MOST, Value, ValueRef as Lent};
@@ -172,6 +172,32 @@ pub(crate) fn table_of(alloc: Global, rows: &[Row]) -> Result<Table, Fault>
         }
     }
     Ok(table)
+}
+
+/// Whether one of the entries sets a text.
+pub(crate) fn has_texts(table: &Table) -> bool
+    ensures { result ≡ has_texts table.now }
+{
+    for entry in table.after(0) {
+        if sets_text(entry.slot()) {
+            return true;
+        }
+    }
+    false
+}
+
+fn sets_text(slot: &Slot) -> bool
+    ensures { result ≡ sets_text slot.now }
+{
+    let Slot::Set(value) = slot else {
+        return false;
+    };
+    match value.view() {
+        Lent::Addr(_) => false,
+        Lent::Weight(_) => false,
+        Lent::Flag(_) => false,
+        Lent::Text(_) => true,
+    }
 }
 
 /// Enters an entry of a new key and a later version. `LogDamaged` where it is none, or there is no room; `NoMemory`.

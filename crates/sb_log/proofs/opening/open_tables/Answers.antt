@@ -146,7 +146,7 @@ returns-in-len1-clause-whole g c clean t opens =
     let one = sym c.as_slice.ensures.value ∙ one_item c.as_slice.result.now c.row-item.result c.in-len1.len_at_least c.in-len1.len_below c.row-item.is in
     let has = one_mapped (mid.now.trees 0) c.in_ok-found.found.items c.row-item.result (c.in_ok-found.ensures.rows clean2 prepared) one in
     let named = still_named c.args.owner.now c.args.cluster.now old.now mid.now t completes opens c.row-item.result has in
-    c.open_old.ensures.whole clean ready.0 named.0 named.1 named.2 t
+    c.open_old.ensures.whole clean ready.0 named.0 named.2 t named.1
     (still_rows c.args.owner.now c.args.cluster.now old.now mid.now t completes opens read.now ready.1)
 
 pub returns-clause-whole : goal.returns-clause-whole
