@@ -168,7 +168,8 @@ const EMPTY_FRAME: &str = "a70200000003030000";
 const P: &str = "pppppppppppppppppppppppppppppppppppppppppppppppppppppppppppppppp\
 pppppppppppppppppppppppppppppppppppppppppppppppppppppppppppppppp";
 
-const T: &str = "pppppppppppppppppppppppppppppppppppppppppppppppppppppppppppppppppppppppppppppppppppppppppppppppppppppppppppppppppppppppppppppppp\
+const T: &str =
+    "pppppppppppppppppppppppppppppppppppppppppppppppppppppppppppppppppppppppppppppppppppppppppppppppppppppppppppppppppppppppppppppppp\
 pppppppppppppppppppppppppppppppppppppppppppppppppppppppppppppppppppppppppppppppppppppppppppppppppppppppppppppppppppppppppppppppp\
 pppppppppppppppppppppppppppppppppppppppppppppppppppppppppppppppppppppppppppppppppppppppppppppppppppppppppppppppppppppppppppppppp\
 pppppppppppppppppppppppppppppppppppppppppppppppppppppppppppppppppppppppppppppppppppppppppppppppppppppppppppppppppppppppppppppppp";
@@ -250,10 +251,7 @@ fn a_wrong_line_ends_the_run(rt: HostRuntime) {
 
 /// A world of one node, and this line, end with this status, and print just this.
 fn line_ends_with(rt: &impl Abort, alloc: Global, line: &str, status: u8, printed: &str) {
-    let script = got(
-        rt,
-        format!(in alloc; "world 1024 breadth 100 a\n{line}\n"),
-    );
+    let script = got(rt, format!(in alloc; "world 1024 breadth 100 a\n{line}\n"));
     ends_with(rt, alloc, &script, status, printed);
 }
 
