@@ -252,7 +252,7 @@ fn a_wrong_line_ends_the_run(rt: HostRuntime) {
 /// A world of one node, and this line, end with this status, and print just this.
 fn line_ends_with(rt: &impl Abort, alloc: Global, line: &str, status: u8, printed: &str) {
     let script = got(rt, format!(in alloc; "world 1024 breadth 100 a\n{line}\n"));
-    ends_with(rt, alloc, &script, status, printed);
+    ends_with(rt, alloc, script.as_str(), status, printed);
 }
 
 /// Behind the kind stands one space, and then all is the text, spaces too; in a crash, up to the last word.
