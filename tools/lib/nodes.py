@@ -227,7 +227,8 @@ class Node:
     def get(self, *words):
         status, printed, said = self.command("get", *words)
         want(f"get {words} at {self.name}", (status, said), (0, ""))
-        return printed.splitlines()
+        # (a text may have what Python takes for the end of a line, as U+2028)
+        return printed.split("\n")[:-1]
 
     def awaits(self, what, test):
         """Asks until the rows are as they should be."""

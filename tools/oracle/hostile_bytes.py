@@ -188,6 +188,7 @@ def frame(kind, body):
 
 
 WEIGHT, ADDRESS, FLAG, REMOVED = b"\x02" + u64(5), b"\x01" + text(b"p:1"), b"\x03\x01", b"\x00"
+TEXT = b"\x04" + u16(3) + b"h\xc3\xa9"
 
 FRAMES = [
     ("hello", frame(1, text(b"c1") + text(b"a"))),
@@ -198,7 +199,7 @@ FRAMES = [
             3,
             u16(2)
             + text(b"a") + u64(0) + u16(2) + text(b"w") + u64(1) + WEIGHT + text(b"x") + u64(2) + REMOVED
-            + text(b"b") + u64(1) + u16(2) + text(b"k") + u64(2) + ADDRESS + text(b"l") + u64(3) + FLAG,
+            + text(b"b") + u64(1) + u16(3) + text(b"k") + u64(2) + ADDRESS + text(b"l") + u64(3) + FLAG + text(b"m") + u64(4) + TEXT,
         ),
     ),
     ("bye", frame(4, b"\x01")),

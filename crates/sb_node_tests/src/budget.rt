@@ -375,9 +375,9 @@ fn nothing_is_cut_of_nothing(rt: HostRuntime) {
     same(&rt, &found, &(0, 3));
 }
 
-/// What a digest leaves, cut within 845 bytes, where there is memory.
+/// What a digest leaves, cut within the 2,385 bytes of its frame, where there is memory.
 fn cut_or_none(alloc: Global, holdings: &Holdings, digest: &Digest) -> Result<Delta, Fault> {
-    cut(alloc, available(alloc, holdings, digest)?, 845)
+    cut(alloc, available(alloc, holdings, digest)?, 2_385)
 }
 
 /// The same, made once more where memory was refused.
@@ -405,5 +405,5 @@ fn a_refused_cut_is_made_again(rt: HostRuntime) {
     let holdings = two_owners_again(&rt, alloc, a, b);
     let delta = cut_again(&rt, alloc, &holdings);
     let found = consists(&delta, &[(a, 0, 3, 3), (b, 0, 1, 1)]);
-    same(&rt, &found, &(845, true));
+    same(&rt, &found, &(2_385, true));
 }

@@ -16,13 +16,17 @@ use std::process::Abort;
 const ONE_ENTRY: &str =
     "03 0001 0161 0000000000000000 0001 0177 0000000000000001 02 0000000000000005";
 
+/// The same with the text of h and the two bytes of an e with an accent, under t.
+const ONE_TEXT: &str = "03 0001 0161 0000000000000000 0001 0174 0000000000000001 04 0003 68c3a9";
+
 const NO_BLOCK: &str = "03 0000";
 
-const EVERY_SLOT: &str = "03 0001 026e31 0000000000000000 0004 \
+const EVERY_SLOT: &str = "03 0001 026e31 0000000000000000 0005 \
     0161 0000000000000001 00 \
     0162 0000000000000002 01 03683a31 \
     0163 0000000000000003 03 00 \
-    0164 0000000000000104 03 01";
+    0164 0000000000000104 03 01 \
+    0165 0000000000000105 04 0003 68c3a9";
 
 const HELLO: &str = "01 02 63 31 01 61";
 
@@ -160,7 +164,7 @@ const WRONG: &[&str] = &[
     "11 00 0002 0161 0177 0000000000000001 03 00 0161 0176 0000000000000001 03 00",
     "11 00 0002 0161 0177 0000000000000001 03 00 0161 0177 0000000000000002 03 00",
     "11 00 0001 0161 0177 0000000000000001 02 0000000000000005 00",
-    // a flag of 2; an empty key; the tag 4; one more byte
+    // a flag of 2; an empty key; a text that is not there; one more byte
     "12 0177 03 02",
     "12 00 00",
     "12 0177 04",
@@ -267,19 +271,21 @@ fn push_entry(rt: &impl Abort, entries: &mut Vec<Entry>, key: &[u8], version: u6
     push(rt, entries, entry(rt, key, version, slot));
 }
 
-/// Four entries, of each slot that there is.
-fn four_entries(rt: &impl Abort, alloc: Global) -> Vec<Entry> {
+/// Five entries, of each slot that there is.
+fn five_entries(rt: &impl Abort, alloc: Global) -> Vec<Entry> {
     let mut entries = Vec::new(alloc);
     let address = got(rt, Value::addr(alloc, b"h:1"));
     push_entry(rt, &mut entries, b"a", 1, Slot::Removed);
     push_entry(rt, &mut entries, b"b", 2, Slot::Set(address));
     push_entry(rt, &mut entries, b"c", 3, Slot::Set(Value::flag(false)));
     push_entry(rt, &mut entries, b"d", 260, Slot::Set(Value::flag(true)));
+    let text = got(rt, Value::text(alloc, b"h\xc3\xa9"));
+    push_entry(rt, &mut entries, b"e", 261, Slot::Set(text));
     entries
 }
 
 fn every_slot(rt: &impl Abort, alloc: Global) -> Message {
-    let entries = four_entries(rt, alloc);
+    let entries = five_entries(rt, alloc);
     let block = got(rt, Block::new(name(rt, b"n1"), 0, entries));
     delta(rt, one(rt, alloc, block))
 }
@@ -473,8 +479,9 @@ const LENGTHS: &[(&str, u32)] = &[
     (DIGEST, 22),
     (DIGEST_OF_A_RANGE, 34),
     (ONE_ENTRY, 40),
+    (ONE_TEXT, 37),
     (NO_BLOCK, 9),
-    (EVERY_SLOT, 72),
+    (EVERY_SLOT, 88),
     (BYE, 8),
     (ASK, 11),
     (ASK_BEHIND, 16),
@@ -631,6 +638,21 @@ fn payloads_that_break_the_format(rt: HostRuntime) {
     }
 }
 
+/// A delta of one entry, with a text that is a byte too long.
+fn too_long_a_text(rt: &impl Abort, alloc: Global) -> Vec<u8> {
+    let front = "03 0001 0161 0000000000000000 0001 0174 0000000000000001 04 0201";
+    let mut out = bytes(rt, alloc, front);
+    got(rt, out.extend_from_slice(&[b'h'; 513]));
+    out
+}
+
+#[test]
+fn a_text_that_is_too_long(rt: HostRuntime) {
+    let payload = too_long_a_text(&rt, rt.alloc());
+    let found = refusal(&rt, decode_payload(rt.alloc(), &payload));
+    same(&rt, &found, &Some(Fault::Malformed(KIND_DELTA)));
+}
+
 /// The front of this length is refused as malformed.
 fn assert_part(rt: &impl Abort, alloc: Global, whole: &[u8], len: usize) {
     let front = whole.get(..len).unwrap_or(&[]);
@@ -727,6 +749,7 @@ fn refused_allocations(rt: HostRuntime) {
     let alloc = rt.alloc();
     holds(&rt, ONE_ENTRY, is_found(is_one_written(&rt, alloc), true));
     assert_read(&rt, alloc, ONE_ENTRY, 40);
+    assert_read(&rt, alloc, ONE_TEXT, 37);
     assert_read(&rt, alloc, HELLO, 12);
     assert_read(&rt, alloc, DIGEST_OF_A_RANGE, 34);
     assert_read(&rt, alloc, BYE, 8);

@@ -133,7 +133,7 @@ fn assert_note(rt: &impl Abort, alloc: Global, text: &[u8], wanted: Result<(bool
 }
 
 #[test]
-fn texts_within_their_limits(rt: HostRuntime) {
+fn texts_of_values_within_their_limits(rt: HostRuntime) {
     let alloc = rt.alloc();
     assert_note(&rt, alloc, b"x", Ok((true, 3)));
     assert_note(&rt, alloc, &[b'x'; 512], Ok((true, 514)));

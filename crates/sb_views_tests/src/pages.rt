@@ -314,6 +314,9 @@ pub(crate) fn pages_follow(rt: &impl Abort, alloc: Global, snapshot: &Snapshot<'
     same(rt, &turn(rt, alloc, snapshot, &mut ask), &(0, false, 0));
 }
 
+// A text, whose line is as it is spelled.
+const A_TEXT: making::Told = (b"a", b"t", 1, (b"text", b" two\\0awords "));
+
 // A weight, an address and a flag: lines of 19, 16 and 16 bytes.
 const THREE: [making::Told; 3] = [
     (b"a", b"net/a", 1, (b"weight", b"5")),
@@ -324,6 +327,11 @@ const THREE: [making::Told; 3] = [
 /// A page of these.
 fn page_of_three(rt: &impl Abort, alloc: Global) -> Rows {
     got(rt, Rows::new(true, rows_of(rt, alloc, &THREE)))
+}
+
+/// A page of a text alone.
+fn page_of_a_text(rt: &impl Abort, alloc: Global) -> Rows {
+    got(rt, Rows::new(false, rows_of(rt, alloc, &[A_TEXT])))
 }
 
 /// These are the lines of a page.
@@ -346,6 +354,12 @@ fn a_page_is_printed(rt: HostRuntime) {
         alloc,
         &page_of_three(&rt, alloc),
         b"a net/a 1 weight 5\nb y 2 addr h:80\nb z 3 flag true\n",
+    );
+    is_printed(
+        &rt,
+        alloc,
+        &page_of_a_text(&rt, alloc),
+        b"a t 1 text  two\\0awords \n",
     );
     no_rows_are_printed(&rt, alloc);
 }
