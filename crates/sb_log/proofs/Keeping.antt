@@ -65,8 +65,8 @@ module _ (old : Log) (up : old.is_open ≡ true) (key : List ℕ) (slot : Slot) 
           (subst (λ (o : Option Fault). IsReason o fault) (sym is) (inl same))
 
 module _ {S : Type 0} (g : Ghosts S) (settled : (s : S) (db : Trees) → IsTrue (g.view s).is_open → g.recovers s db → db ≡ (g.view s).committed) (owner cluster : List ℕ) where
-  in_two : (content : Table) {rows : List Row} → IsNamedIn 2 owner cluster rows → IsNamed owner cluster content rows
-  in_two content named = (2, inr refl, named)
+  in_two : (content : Table) (rows : List Row) → IsNamedIn 2 owner cluster rows → IsNamed owner cluster content rows
+  in_two content rows named = (2, inr refl, named)
 
   -- after a crash what a log that stands holds is found
   left_is : (conn : Held S) (table : Table) → IsReady (state g conn) → AreRowsOf table ((state g conn).now.trees 1) → IsNamedIn 2 owner cluster ((state g conn).now.trees 0)
@@ -74,7 +74,7 @@ module _ {S : Type 0} (g : Ghosts S) (settled : (s : S) (db : Trees) → IsTrue 
   left_is conn table ready are named left may =
       let same : may.0 ≡ (state g conn).now.trees = settled conn.store may.0 ready.is_open may.1 ∙ sym (ap (λ (d : Database). d.trees) ready.settled) in
       may.2 table (subst (λ (trees : Trees). IsSound log_schema trees) (sym same) (subst (λ (s : Schema). IsSound s (state g conn).now.trees) ready.schema ready.sound))
-      (in_two table (subst (λ (trees : Trees). IsNamedIn 2 owner cluster (trees 0)) (sym same) named)) (subst (λ (trees : Trees). AreRowsOf table (trees 1)) (sym same) are)
+      (in_two table (may.0 0) (subst (λ (trees : Trees). IsNamedIn 2 owner cluster (trees 0)) (sym same) named)) (subst (λ (trees : Trees). AreRowsOf table (trees 1)) (sym same) are)
 
   pub settles : (conn : Held S) (table : Table) (is_open : Bool) → IsKept g owner cluster conn table is_open → (g.view conn.store).is_clean ≡ true → is_open ≡ true
       → (left : Table) → MayLeave g owner cluster conn left → left ≡ content_of ((g.view conn.store).trees 1)
