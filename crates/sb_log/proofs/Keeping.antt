@@ -65,8 +65,8 @@ module _ (old : Log) (up : old.is_open ≡ true) (key : List ℕ) (slot : Slot) 
           (subst (λ (o : Option Fault). IsReason o fault) (sym is) (inl same))
 
 module _ {S : Type 0} (g : Ghosts S) (settled : (s : S) (db : Trees) → IsTrue (g.view s).is_open → g.recovers s db → db ≡ (g.view s).committed) (owner cluster : List ℕ) where
-  in_two : (content : Table) {rows : List Row} → IsNamedIn 2 owner cluster rows → IsNamed owner cluster content rows
-  in_two content named = (2, inr refl, named)
+  in_two : (content : Table) (rows : List Row) → IsNamedIn 2 owner cluster rows → IsNamed owner cluster content rows
+  in_two content rows named = (2, inr refl, named)
 
   -- after a crash what a log that stands holds is found
   left_is : (conn : Held S) (table : Table) → IsReady (state g conn) → AreRowsOf table ((state g conn).now.trees 1) → IsNamedIn 2 owner cluster ((state g conn).now.trees 0)
@@ -74,7 +74,7 @@ module _ {S : Type 0} (g : Ghosts S) (settled : (s : S) (db : Trees) → IsTrue 
   left_is conn table ready are named left may =
       let same : may.0 ≡ (state g conn).now.trees = settled conn.store may.0 ready.is_open may.1 ∙ sym (ap (λ (d : Database). d.trees) ready.settled) in
       may.2 table (subst (λ (trees : Trees). IsSound log_schema trees) (sym same) (subst (λ (s : Schema). IsSound s (state g conn).now.trees) ready.schema ready.sound))
-      (in_two table (subst (λ (trees : Trees). IsNamedIn 2 owner cluster (trees 0)) (sym same) named)) (subst (λ (trees : Trees). AreRowsOf table (trees 1)) (sym same) are)
+      (in_two table _ (subst (λ (trees : Trees). IsNamedIn 2 owner cluster (trees 0)) (sym same) named)) (subst (λ (trees : Trees). AreRowsOf table (trees 1)) (sym same) are)
 
   pub settles : (conn : Held S) (table : Table) (is_open : Bool) → IsKept g owner cluster conn table is_open → (g.view conn.store).is_clean ≡ true → is_open ≡ true
       → (left : Table) → MayLeave g owner cluster conn left → left ≡ content_of ((g.view conn.store).trees 1)
@@ -191,7 +191,7 @@ module _ {S : Type 0} (g : Ghosts S) (settled : (s : S) (db : Trees) → IsTrue 
               let stands = kept up (no_doubt _ (was_clean clean)) in
               elim (crash (no_doubt _ clean) stands.0 may.0 may.1) [
                 | inl was ↦ inl (settles conn table is_open kept (was_clean clean) up left (may.0, was, may.2))
-                | inr put ↦ inr (may.2 (with_entry table e) put.2 (in_two (with_entry table e) (subst (IsNamedIn 2 owner cluster) (sym put.1) stands.2)) (put.0 table plain stands.1) ∙ entered_is (was_clean clean))
+                | inr put ↦ inr (may.2 (with_entry table e) put.2 (in_two (with_entry table e) _ (subst (IsNamedIn 2 owner cluster) (sym put.1) stands.2)) (put.0 table plain stands.1) ∙ entered_is (was_clean clean))
               ]
 
     -- ---- reading it again
