@@ -191,7 +191,7 @@ module _ {S : Type 0} (g : Ghosts S) (settled : (s : S) (db : Trees) → IsTrue 
               let stands = kept up (no_doubt _ (was_clean clean)) in
               elim (crash (no_doubt _ clean) stands.0 may.0 may.1) [
                 | inl was ↦ inl (settles conn table is_open kept (was_clean clean) up left (may.0, was, may.2))
-                | inr put ↦ inr (may.2 (with_entry table e) put.2 (in_two (with_entry table e) (subst (IsNamedIn 2 owner cluster) (sym put.1) stands.2)) (put.0 table plain stands.1) ∙ entered_is (was_clean clean))
+                | inr put ↦ inr (may.2 (with_entry table e) put.2 (in_two (with_entry table e) _ (subst (IsNamedIn 2 owner cluster) (sym put.1) stands.2)) (put.0 table plain stands.1) ∙ entered_is (was_clean clean))
               ]
 
     -- ---- reading it again
