@@ -180,9 +180,9 @@ Example:
 
 pub(crate) const GET: &str =
     "Each row is a line of the owner, the key, the version, the kind and the value, in ascending owner and then key; removed keys have
-none. With --format json it is a JSON object of key, kind, owner, value and version, where the value of an addr is a text, that of a
-weight a number, and that of a flag true or false. What others wrote stands as far as the node has heard of it. The rows come page by
-page: each page is what the node has at one time, and a later page is never older.
+none. With --format json it is a JSON object of key, kind, owner, value and version, where the value of an addr or a text is a
+string, that of a weight a number, and that of a flag true or false. What others wrote stands as far as the node has heard of it. The rows
+come page by page: each page is what the node has at one time, and a later page is never older.
 
 With --owner and --key it prints the row of that key alone, and with --value too only its value; where there is no such row it prints
 nothing, and the exit status is 1.
