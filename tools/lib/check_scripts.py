@@ -244,7 +244,7 @@ def digest(want_one, start, end, pairs):
 
 def owners(check):
     """owners prints how far each owner is held, over as many digests as it takes, writes nothing, and ends its session in order."""
-    node = check.node("a", "--budget", "256").start()
+    node = check.node("a", "--budget", "1024").start()
     ask = lambda *words: run(check.program, "owners", "--sock", str(node.sock), *words)
     want("a node that holds nothing", ask("--cluster", "c"), (0, "a 0\n", ""))
     want("set", [node.put("k", 5), node.put("l", 6)], [1, 2])

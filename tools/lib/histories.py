@@ -25,7 +25,7 @@ def key_of(writer, index):
 
 def row_of(line):
     """The row that a line of `get` is; none where it is no such line."""
-    words = line.split(" ")
+    words = line.split(" ", 4)
     if len(words) != 5 or not words[2].isdecimal():
         return None
     return Row(words[0], words[1], int(words[2]), f"{words[3]} {words[4]}")

@@ -29,7 +29,7 @@ impl Setting {
     fn limits(self) -> &'static str {
         match self {
             Setting::Cluster => "give 1 to 32 lower-case letters, digits and -",
-            Setting::Budget => "give 256 to 65536",
+            Setting::Budget => "give 1024 to 65536",
             Setting::MaxVersion => "give 1 to 1099511627775",
             Setting::Workers => "give 1 to 62",
             Setting::Seats => "give at least the workers and 2 more, and at most 64",
@@ -298,7 +298,7 @@ fn about_setting(place: Place<'_>) -> &'static str {
     match place {
         Place::Setting(setting) => setting.limits(),
         _ => {
-            "--cluster is a name, --budget 256 to 65536, --max-version 1 to 1099511627775, --workers 1 to 62, and --seats from the \
+            "--cluster is a name, --budget 1024 to 65536, --max-version 1 to 1099511627775, --workers 1 to 62, and --seats from the \
 workers and 2 more up to 64"
         }
     }
@@ -311,7 +311,8 @@ fn about_fault(fault: &Fault, place: Place<'_>) -> &'static str {
             "end other programs, or give the machine or the process more memory or threads, and try again",
         Fault::BadName => "give 1 to 32 lower-case letters, digits and -",
         Fault::BadKey => "give at most 64 lower-case letters, digits and the signs . _ / -",
-        Fault::BadValue => "give a kind and a word, as: addr 10.0.0.1:80, weight 5, flag true",
+        Fault::BadValue =>
+            "give a kind and a word, as: addr 10.0.0.1:80, weight 5, flag true, text 'zone b'",
         Fault::BadSetting => about_setting(place),
         Fault::TableFull => "no key comes free again; a new name begins with none",
         Fault::OwnersFull => "start the node again without owners that are gone",

@@ -6,7 +6,7 @@ ghost use Rattle.attrdir.specs.Rows as spec;
 use crate::asking::{Form, first_page_of, print_page};
 use crate::failure::Failure;
 use sb_codec::{Ask, Row, Rows};
-use sb_types::{Fault, Key, Name, Prefix, Value, ValueRef};
+use sb_types::{Fault, Key, Name, Prefix, Spelled, Value, ValueRef};
 use std::alloc::Global;
 
 /// The row that is asked for, and how it is printed: its value alone where no form is given.
@@ -41,12 +41,13 @@ fn page_with(alloc: Global, row: &Row) -> Result<Rows, Fault> {
     Rows::new(false, vec![in alloc; copy]?)
 }
 
-/// Prints a value alone, in a line. `WriteFailed`.
+/// Prints a value alone, in a line, a text as it is spelled there. `WriteFailed`.
 fn print_value(rt: &HostRuntime, value: &Value) -> Result<(), Fault> {
     let printed = match value.view() {
         ValueRef::Addr(text) => println!(rt; "{}", str::from_utf8(text).unwrap_or("")),
         ValueRef::Weight(weight) => println!(rt; "{weight}"),
         ValueRef::Flag(flag) => println!(rt; "{flag}"),
+        ValueRef::Text(text) => println!(rt; "{}", Spelled(str::from_utf8(text).unwrap_or(""))),
     };
     match printed {
         Ok(()) => Ok(()),

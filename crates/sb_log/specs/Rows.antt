@@ -9,6 +9,7 @@ use Rattle.sqlite_trees.specs.View.{is_int}
 use Rattle.sb_types.specs.declared.entry.Slot.{Slot}
 use Rattle.sb_types.specs.declared.entry.Slot.TheVariants.{Set, Removed}
 use Rattle.sb_types.specs.declared.limits.TheConstants.{VERSION_MOST}
+use Rattle.sb_types.specs.Value as values
 use Rattle.sb_types.specs.Value.{Addr, Weight, Flag}
 use Rattle.sb_types.specs.Limits.{is_entry}
 use Rattle.sb_types.specs.Records.{Entry, Table}
@@ -24,6 +25,7 @@ slot_cells Removed = Int (pos 0) ∷ Null ∷ Null ∷ []
 slot_cells (Set (Addr text)) = Int (pos 1) ∷ Null ∷ Text text ∷ []
 slot_cells (Set (Weight weight)) = Int (pos 2) ∷ Int (pos weight) ∷ Null ∷ []
 slot_cells (Set (Flag flag)) = Int (pos 3) ∷ Int (pos (flag_number flag)) ∷ Null ∷ []
+slot_cells (Set (values.Text text)) = Int (pos 4) ∷ Null ∷ Text text ∷ []
 
 -- the columns of the row that holds an entry
 abbrev pub cells_of : Entry → Row
@@ -63,7 +65,7 @@ number_of _ = 0
 
 abbrev pub slot_by : ℕ → cell.Value → cell.Value → Slot
 slot_by tag number text =
-    if tag == 1 then Set (Addr (bytes text)) else (if tag == 2 then Set (Weight (number_of number)) else (if tag == 3 then Set (Flag (number_of number == 1)) else Removed))
+    if tag == 1 then Set (Addr (bytes text)) else (if tag == 2 then Set (Weight (number_of number)) else (if tag == 3 then Set (Flag (number_of number == 1)) else (if tag == 4 then Set (values.Text (bytes text)) else Removed)))
 
 abbrev pub entry_by : Row → Entry
 entry_by row = record { key = bytes (column row 0); version = number_of (column row 1); slot = slot_by (number_of (column row 2)) (column row 3) (column row 4) }

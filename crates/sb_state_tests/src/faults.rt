@@ -23,7 +23,7 @@ const FAULTS: &[(Fault, u8, &str)] = &[
     (
         Fault::BadValue,
         4,
-        "a value is addr with 1 to 128 printing bytes, weight with a number below 2^63, or flag with true or false",
+        "a value is addr with 1 to 128 printing bytes, weight with a number below 2^63, flag with true or false, or text with 1 to 512 bytes of UTF-8, whose control bytes and backslashes are a backslash and two digits, as \\0a",
     ),
     (Fault::BadSetting, 5, "a setting is outside its limits"),
     (
