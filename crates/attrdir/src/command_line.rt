@@ -15,6 +15,7 @@ use sb_codec::Ask;
 use sb_run::{OnLogFault, Pace};
 use sb_script::{Detail, Output, sim_run_uncounted};
 use sb_types::{Fault, Key, Name, Order, RawSettings, Slot, Value};
+use std::alloc::Global;
 use std::{env, io};
 
 /// How many reads a script may take.
