@@ -21,7 +21,7 @@ use Rattle.sb_codec.specs.Limits.{is_hello, is_reason, is_optional, is_place, is
 use Rattle.sb_codec.specs.Spelling.{number, text, content, value, optional, hello, pair, digest, place, ask, row, page, write}
 use Rattle.sb_codec.specs.Reading.{hello_of_parts, hello_field, bye_field, write_of_parts, write_field, done_field, refused_field, unless_empty, is_empty_or, optional_field, pair_of_parts, pair_field, digest_of_parts, digest_field, prefix_field, are_alike, place_of, place_field, ask_of, ask_field, value_cases, value_field, addr_field, weight_field, text_value_field, is_written, row_of_parts, row_field, are_page_parts, page_of, page_field}
 use Rattle.sb_codec.proofs.Taken.{Takes, wide64, fits_takes, made_takes, then_takes, where_takes, byte_takes, number_takes, text_takes, list_takes, tagged_takes, made_case}
-use Rattle.sb_codec.proofs.Again.{Again, made_again, then_again, where_again, byte_again, number_again, text_again, list_again, tagged_again}
+use Rattle.sb_codec.proofs.Again.{long_text_again, Again, made_again, then_again, where_again, byte_again, number_again, text_again, list_again, tagged_again}
 use Rattle.sb_codec.proofs.Parts.{name_takes, name_again, key_takes, key_again, addr_takes, weight_takes, text_value_takes, flag_takes, flag_again, weight_below, text_below, slot_takes, slot_again, between_parts, all_from, all_parts, count_below}
 
 pub hello_takes : Takes (λ h. is_hello h ≡ true) hello hello_field

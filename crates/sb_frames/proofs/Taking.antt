@@ -1,7 +1,7 @@
 -- What comes of a look at the first frame, and of a call for the next message.
-use Rattle.std.proofs.Common.{◌≡◌, ◌≢◌, ℕ, ◌+◌, List, [], ◌∷◌, ◌++◌, length, take, drop, Option, Some, None, Result, Ok, Err, refl, sym, ap, subst, ◌∙◌, ◌⊎◌, inl, inr, append_assoc}
+use Rattle.std.proofs.Common.{◌≡◌, ◌≢◌, ℕ, ◌+◌, List, [], ◌∷◌, ◌++◌, length, take, drop, Option, Some, None, Ok, Err, refl, sym, ap, subst, ◌∙◌, ◌⊎◌, inl, inr, append_assoc}
 use Rattle.std.specs.Int.{w32}
-use Rattle.std.proofs.lemmas.List.{append-nil, drop_at}
+use Rattle.std.proofs.lemmas.List.{append-nil, take-append-drop, drop_at}
 use Rattle.std.proofs.Math.Seq.{take-append_seam}
 use Rattle.sb_types.specs.declared.fault.Fault.{Fault}
 use Rattle.sb_types.specs.declared.fault.Fault.TheVariants.{NoMemory}
@@ -69,3 +69,8 @@ first_read frame behind left m leads none = rw none (leads_before frame behind m
 
 pub first_refused : (frame behind left : List ℕ) (fault : Fault) → IsRefused frame fault → left ≡ frame → TakesFirst (frame ++ behind) (Err fault) (left ++ behind)
 first_refused frame behind left fault refused same = (refused_before frame behind fault refused, ap (λ (x : List ℕ). x ++ behind) same)
+
+-- what was split off was refused, and waits
+pub split_refused : (bytes left : List ℕ) (count : ℕ) (fault : Fault) → IsRefused (take count bytes) fault → left ≡ take count bytes → TakesFirst bytes (Err fault) (left ++ drop count bytes)
+split_refused bytes left count fault refused same =
+    subst (λ held. TakesFirst held (Err fault) (left ++ drop count bytes)) (take-append-drop count bytes) (first_refused (take count bytes) (drop count bytes) left fault refused same)

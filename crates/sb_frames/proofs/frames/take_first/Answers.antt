@@ -1,9 +1,9 @@
-use Rattle.std.proofs.Common.{◌≡◌, ◌+◌, [], drop, length, refl, ◌∙◌, inr, arith}
+use Rattle.std.proofs.Common.{◌≡◌, ◌+◌, [], length, refl, sym, ◌∙◌, inr}
 use Rattle.std.proofs.lemmas.Result.{err_from_is_err_and}
 use Rattle.std.proofs.lemmas.List.{nil_from_length}
-use Rattle.sb_frames.specs.Frames.{IsFramed, IsLoneFrame}
+use Rattle.std.proofs.lemmas.Bool.{eqb-true}
 use Rattle.sb_frames.proofs.Fronts.{leads, within_bytes, refused}
-use Rattle.sb_frames.proofs.Taking.{first_refused, is_lone}
+use Rattle.sb_frames.proofs.Taking.{first_refused, split_refused, is_lone}
 use Rattle.sb_frames.proofs.frames.take_first.Goals as goal
 
 pub returns-in_err-take_frame-clause-takes : goal.returns-in_err-take_frame-clause-takes
@@ -14,7 +14,7 @@ returns-in_err-take_frame-clause-takes c =
 pub returns-in_err-message-clause-takes : goal.returns-in_err-message-clause-takes
 returns-in_err-message-clause-takes c =
     let p = err_from_is_err_and c.from_residual-in_err-message.result c.from_residual-in_err-message.ensures.1 in
-    let none : c.args.frame.now ≡ [] = nil_from_length c.args.frame.now (omega arith) in
+    let none : c.args.frame.now ≡ [] = nil_from_length c.args.frame.now (eqb-true (length c.args.frame.now) 0 (sym c.is_empty.ensures ∙ c.if-not-is_empty.false)) in
     let framed = rw (c.in-Some.is, c.as_slice.ensures) at c.in_ok-payload.ensures.payload in
     rw (p.1, p.2, none) (refused _ _ _ _ framed c.in_err-message.ensures.exact c.in_err-message.ensures.memory, refl)
 
@@ -23,7 +23,7 @@ advance-requires c = within_bytes _ _ _ (rw (c.in-Some.is, c.as_slice.ensures) a
 
 pub returns-then-not-takes_memory-clause-takes : goal.returns-then-not-takes_memory-clause-takes
 returns-then-not-takes_memory-clause-takes c =
-    let none : c.args.frame.now ≡ [] = nil_from_length c.args.frame.now (omega arith) in
+    let none : c.args.frame.now ≡ [] = nil_from_length c.args.frame.now (eqb-true (length c.args.frame.now) 0 (sym c.is_empty.ensures ∙ c.if-not-is_empty.false)) in
     let framed = rw (c.in-Some.is, c.as_slice.ensures) at c.in_ok-payload.ensures.payload in
     rw (none, c.advance.ensures.items) (leads _ _ _ _ framed c.in_ok-message.ensures.found)
 
@@ -36,4 +36,8 @@ returns-in_err-take_frame-2-clause-alone c =
     inr (rw (c.in_err-take_frame-2.ensures.kept, c.in_ok-frame.ensures.front) (is_lone _ _ _ framed (c.takes_memory.ensures.0 c.if-not-takes_memory.false)))
 
 pub returns-in_err-take_frame-2-clause-takes : goal.returns-in_err-take_frame-2-clause-takes
-returns-in_err-take_frame-2-clause-takes c = ?
+returns-in_err-take_frame-2-clause-takes c =
+    let p = err_from_is_err_and c.from_residual-in_err-take_frame-2.result c.from_residual-in_err-take_frame-2.ensures.1 in
+    let none : c.args.frame.now ≡ [] = nil_from_length c.args.frame.now (eqb-true (length c.args.frame.now) 0 (sym c.is_empty.ensures ∙ c.if-not-is_empty.false)) in
+    rw (p.1, p.2, none, c.in_ok-frame.ensures.rest.0) (split_refused c.args.buffer.now.items c.take_frame-2.new.frame (6 + length c.in-Some.payload.now) _
+    (rw c.in_ok-frame.ensures.front at c.in_err-take_frame-2.ensures.fault) (c.in_err-take_frame-2.ensures.kept ∙ c.in_ok-frame.ensures.front))
