@@ -3,7 +3,7 @@ ghost use Rattle.std.specs.Prelude.{◌≡◌};
 
 use crate::desk::{Answer, Call, Case, Desk, play};
 use crate::making::{log_of, new_node};
-use crate::reached::{Reached, locked_of, seated_of};
+use crate::reached::{Bare, Reached, Seated, locked_of, seated_of};
 use sb_directory::Configured;
 use sb_holdings::BlockEnd;
 use sb_log::PlainLog;
@@ -113,11 +113,23 @@ fn go<N: Reached + Drop, R: Wait + Abort>(rt: &R, node: N, run: Run<'_>) {
     }
 }
 
+fn go_bare<S: Site, H: Wait + Drop, R: Wait + Abort>(rt: &R, node: Bare<S, H>, run: Run<'_>) {
+    go(rt, node, run);
+}
+
 fn go_locked<S: Site, R: Wait + Abort>(rt: &R, opened: Opened, core: NodeCore, run: Run<'_>)
     requires story { opened.seen.book ≡ S.story }
     requires opening { S.opening ≡ core.node }
 {
     let node = locked_of::<S, R>(rt, opened, core, run.alloc);
+    go_bare(rt, node, run);
+}
+
+fn go_seat<S: Configured, H: Wait + Drop, R: Wait + Abort>(
+    rt: &R,
+    node: Seated<S, H>,
+    run: Run<'_>,
+) {
     go(rt, node, run);
 }
 
@@ -136,7 +148,7 @@ fn go_seated<S: Configured, R: Wait + Abort>(
     requires all { (1 ≡ S.seats) × (1 ≡ S.parts) }
 {
     let node = seated_of::<S, R>(rt, opened, blank, core, run.alloc);
-    go(rt, node, run);
+    go_seat(rt, node, run);
 }
 
 /// This node goes through this, behind its lock.
