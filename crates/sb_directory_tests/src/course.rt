@@ -3,13 +3,13 @@ ghost use Rattle.std.specs.Prelude.{◌≡◌};
 
 use crate::desk::{Answer, Call, Case, Desk, play};
 use crate::making::{log_of, new_node};
-use crate::reached::{Bare, Reached, Seated, locked_of, seated_of};
+use crate::reached::{Reach, locked_of, seated_of};
 use sb_directory::Configured;
 use sb_holdings::BlockEnd;
 use sb_log::PlainLog;
 use sb_node::NodeCore;
 use sb_types::Fault;
-use sb_views::{Opened, Site};
+use sb_views::Opened;
 use std::alloc::Global;
 use std::marker::Brand;
 use std::process::Abort;
@@ -35,7 +35,7 @@ pub(crate) enum Course<'a> {
 }
 
 /// A write of which some allocation may be refused, and what makes up for it.
-fn write_late<N: Reached + Drop, R: Wait + Abort>(rt: &R, desk: &mut Desk<N>) {
+fn write_late<S: Configured, H: Wait + Drop, R: Wait + Abort>(rt: &R, desk: &mut Desk<S, H>) {
     match desk.perform(rt, Call::Take) {
         // Everything is as it was, and the same write is taken then.
         Answer::Refused(Fault::NoMemory) => play(
@@ -50,7 +50,7 @@ fn write_late<N: Reached + Drop, R: Wait + Abort>(rt: &R, desk: &mut Desk<N>) {
 }
 
 /// A delta of which some allocation may be refused, and what makes up for it: how many events that makes.
-fn take_late<N: Reached + Drop, R: Wait + Abort>(rt: &R, desk: &mut Desk<N>) -> u64 {
+fn take_late<S: Configured, H: Wait + Drop, R: Wait + Abort>(rt: &R, desk: &mut Desk<S, H>) -> u64 {
     match desk.perform(rt, TAKE_OF_B) {
         // Everything is as it was.
         Answer::Refused(Fault::NoMemory) => {
@@ -76,7 +76,11 @@ fn take_late<N: Reached + Drop, R: Wait + Abort>(rt: &R, desk: &mut Desk<N>) -> 
 }
 
 /// The desk of a node that did nothing yet is watched, writes, and then answers these calls so.
-fn play_late<N: Reached + Drop, R: Wait + Abort>(rt: &R, desk: &mut Desk<N>, cases: &[Case]) {
+fn play_late<S: Configured, H: Wait + Drop, R: Wait + Abort>(
+    rt: &R,
+    desk: &mut Desk<S, H>,
+    cases: &[Case],
+) {
     let before = [
         (Call::Watch(b"", 4), Answer::Done),
         (Call::Commit(b"x"), Answer::Done),
@@ -87,7 +91,7 @@ fn play_late<N: Reached + Drop, R: Wait + Abort>(rt: &R, desk: &mut Desk<N>, cas
 }
 
 /// A desk takes a delta, and shows it at last.
-fn show_late<N: Reached + Drop, R: Wait + Abort>(rt: &R, desk: &mut Desk<N>) {
+fn show_late<S: Configured, H: Wait + Drop, R: Wait + Abort>(rt: &R, desk: &mut Desk<S, H>) {
     let events = take_late(rt, desk);
     let after = [
         (Call::Refresh, Answer::Shown),
@@ -104,7 +108,7 @@ pub(crate) struct Run<'a> {
     pub(crate) alloc: Global,
 }
 
-fn go<N: Reached + Drop, R: Wait + Abort>(rt: &R, node: N, run: Run<'_>) {
+fn go<S: Configured, H: Wait + Drop, R: Wait + Abort>(rt: &R, node: Reach<S, H>, run: Run<'_>) {
     let mut desk = Desk::new(node, run.log, run.alloc);
     match run.course {
         Course::Calls(cases) => play(rt, &mut desk, cases),
@@ -113,23 +117,11 @@ fn go<N: Reached + Drop, R: Wait + Abort>(rt: &R, node: N, run: Run<'_>) {
     }
 }
 
-fn go_bare<S: Site, H: Wait + Drop, R: Wait + Abort>(rt: &R, node: Bare<S, H>, run: Run<'_>) {
-    go(rt, node, run);
-}
-
-fn go_locked<S: Site, R: Wait + Abort>(rt: &R, opened: Opened, core: NodeCore, run: Run<'_>)
+fn go_locked<S: Configured, R: Wait + Abort>(rt: &R, opened: Opened, core: NodeCore, run: Run<'_>)
     requires story { opened.seen.book ≡ S.story }
     requires opening { S.opening ≡ core.node }
 {
     let node = locked_of::<S, R>(rt, opened, core, run.alloc);
-    go_bare(rt, node, run);
-}
-
-fn go_seat<S: Configured, H: Wait + Drop, R: Wait + Abort>(
-    rt: &R,
-    node: Seated<S, H>,
-    run: Run<'_>,
-) {
     go(rt, node, run);
 }
 
@@ -148,7 +140,7 @@ fn go_seated<S: Configured, R: Wait + Abort>(
     requires all { (1 ≡ S.seats) × (1 ≡ S.parts) }
 {
     let node = seated_of::<S, R>(rt, opened, blank, core, run.alloc);
-    go_seat(rt, node, run);
+    go(rt, node, run);
 }
 
 /// This node goes through this, behind its lock.

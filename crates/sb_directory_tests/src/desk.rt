@@ -1,9 +1,10 @@
 //! A node with its log and watches beside it; and calls of it as data, with what they answer.
 
 use crate::making::{commit, delta_of, first_of, key, name, node_of, prefix};
-use crate::reached::Reached;
+use crate::reached::Reach;
 use crate::{got, same_at, there};
 use sb_digest::Digest;
+use sb_directory::Configured;
 use sb_holdings::{BlockEnd, Report};
 use sb_log::{Committed, PlainLog};
 use sb_table::Table;
@@ -68,8 +69,8 @@ pub(crate) enum Answer {
 
 /// A node with its log, the write that was committed last, and its watches.
 #[derive(Drop)]
-pub(crate) struct Desk<N: Reached + Drop> {
-    node: N,
+pub(crate) struct Desk<S: Configured, H: Wait + Drop> {
+    node: Reach<S, H>,
     log: PlainLog,
     committed: Option<Committed>,
     watches: Vec<WatchId>,
@@ -132,9 +133,9 @@ fn delta_of_peer(rt: &impl Abort, alloc: Global, digest: &Digest) -> Delta {
     got(rt, peer.deltas(digest))
 }
 
-impl<N: Reached + Drop> Desk<N> {
+impl<S: Configured, H: Wait + Drop> Desk<S, H> {
     /// The desk of a node that was just opened.
-    pub(crate) fn new(node: N, log: PlainLog, alloc: Global) -> Desk<N> {
+    pub(crate) fn new(node: Reach<S, H>, log: PlainLog, alloc: Global) -> Desk<S, H> {
         Desk {
             node,
             log,
@@ -292,7 +293,11 @@ fn has_memory(rt: &impl Abort, answer: Answer) {
 pub(crate) type Case = (Call, Answer);
 
 /// These calls are answered so, one after the other.
-pub(crate) fn play<N: Reached + Drop, R: Wait + Abort>(rt: &R, desk: &mut Desk<N>, cases: &[Case]) {
+pub(crate) fn play<S: Configured, H: Wait + Drop, R: Wait + Abort>(
+    rt: &R,
+    desk: &mut Desk<S, H>,
+    cases: &[Case],
+) {
     for (index, (call, wanted)) in cases.iter().enumerate() {
         let found = desk.perform(rt, *call);
         has_memory(rt, found);

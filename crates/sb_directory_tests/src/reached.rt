@@ -19,37 +19,6 @@ use std::sync::ledger::Blank;
 /// What a reader sees: how many events, and how far a and b are held.
 pub(crate) type Seen = (u64, [u64; 2]);
 
-/// The calls of a node, each of which answers as the node's own does; those that enter a write say whether it is shown.
-pub(crate) trait Reached {
-    fn take_own<Q: Wait + Abort>(&mut self, rt: &Q, write: &Committed) -> Result<bool, Fault>;
-
-    fn apply<Q: Wait + Abort>(&mut self, rt: &Q, delta: &Delta) -> Result<(Report, bool), Fault>;
-
-    fn digest<Q: Wait + Abort>(&mut self, rt: &Q, want: bool) -> Result<Digest, Fault>;
-
-    fn deltas<Q: Wait + Abort>(&mut self, rt: &Q, digest: &Digest) -> Result<Delta, Fault>;
-
-    fn conflict<Q: Wait + Abort>(&mut self, rt: &Q) -> Option<u64>;
-
-    fn keys<Q: Wait + Abort>(&mut self, rt: &Q) -> usize;
-
-    fn watch<Q: Wait + Abort>(
-        &mut self,
-        rt: &Q,
-        filter: Filter,
-        capacity: usize,
-    ) -> Result<WatchId, Fault>;
-
-    fn unwatch<Q: Wait + Abort>(&mut self, rt: &Q, id: WatchId) -> Result<(), Fault>;
-
-    fn poll<Q: Wait + Abort>(&mut self, rt: &Q, id: WatchId) -> Result<Polled, Fault>;
-
-    fn refresh<Q: Wait + Abort>(&mut self, rt: &Q) -> bool;
-
-    /// The reader enters, and leaves.
-    fn read<Q: Abort>(&mut self, rt: &Q) -> Seen;
-}
-
 /// How far a and b are held.
 fn uptos(rt: &impl Abort, snapshot: &Snapshot<'_>) -> [u64; 2] {
     [
@@ -66,21 +35,22 @@ pub(crate) struct Bare<S: Site, H: Wait + Drop> {
 }
 
 /// A node that was just opened.
-pub(crate) fn locked_of<S: Site, R: Wait + Abort>(
+pub(crate) fn locked_of<S: Configured, R: Wait + Abort>(
     rt: &R,
     opened: Opened,
     core: NodeCore,
     alloc: Global,
-) -> Bare<S, &R>
+) -> Reach<S, &R>
     requires story { opened.seen.book ≡ S.story }
     requires opening { S.opening ≡ core.node }
 {
     let (story, start) = opened.named::<S>();
     let (locked, mut readers) = got(rt, Locked::<S, &R>::open(alloc, rt, story, start, core, 1));
-    Bare {
+    let bare = Bare {
         locked,
         reader: readers.pop(),
-    }
+    };
+    Reach::Locked(bare)
 }
 
 fn read_once<S: Site>(rt: &impl Abort, reader: Reader<S>) -> (Reader<S>, Seen) {
@@ -93,7 +63,7 @@ fn read_once<S: Site>(rt: &impl Abort, reader: Reader<S>) -> (Reader<S>, Seen) {
     }
 }
 
-impl<S: Site, H: Wait + Drop> Reached for Bare<S, H> {
+impl<S: Site, H: Wait + Drop> Bare<S, H> {
     fn take_own<Q: Wait + Abort>(&mut self, rt: &Q, write: &Committed) -> Result<bool, Fault> {
         self.locked.take_own(rt, write)
     }
@@ -160,7 +130,7 @@ pub(crate) fn seated_of<S: Configured, R: Wait + Abort>(
     blank: Blank,
     core: NodeCore,
     alloc: Global,
-) -> Seated<S, &R>
+) -> Reach<S, &R>
     requires story { opened.seen.book ≡ S.story }
     requires opening { S.opening ≡ core.node }
     requires settings { S.settings ≡ core.settings }
@@ -170,10 +140,11 @@ pub(crate) fn seated_of<S: Configured, R: Wait + Abort>(
 {
     let made = Directory::<S, &R>::make(rt, alloc, opened, blank, core, 1);
     let (directory, mut seats) = got(rt, made);
-    Seated {
+    let seated = Seated {
         directory,
         seat: seats.pop(),
-    }
+    };
+    Reach::Seated(seated)
 }
 
 fn read_seated<S: Site>(rt: &impl Abort, seat: ReaderSeat<S>) -> (ReaderSeat<S>, Seen) {
@@ -186,7 +157,7 @@ fn read_seated<S: Site>(rt: &impl Abort, seat: ReaderSeat<S>) -> (ReaderSeat<S>,
     }
 }
 
-impl<S: Configured, H: Wait + Drop> Reached for Seated<S, H> {
+impl<S: Configured, H: Wait + Drop> Seated<S, H> {
     fn take_own<Q: Wait + Abort>(&mut self, rt: &Q, write: &Committed) -> Result<bool, Fault> {
         let seat = there(rt, self.seat.as_mut());
         let receipt = self.directory.take_own(rt, seat, write)?;
@@ -247,5 +218,110 @@ impl<S: Configured, H: Wait + Drop> Reached for Seated<S, H> {
         let (seat, seen) = read_seated(rt, there(rt, self.seat.take()));
         self.seat = Some(seat);
         seen
+    }
+}
+
+/// A way to reach a node.
+#[derive(Drop)]
+pub(crate) enum Reach<S: Configured, H: Wait + Drop> {
+    Locked(Bare<S, H>),
+    Seated(Seated<S, H>),
+}
+
+/// The calls of a node, each of which answers as the node's own does; those that enter a write say whether it is shown.
+impl<S: Configured, H: Wait + Drop> Reach<S, H> {
+    pub(crate) fn take_own<Q: Wait + Abort>(
+        &mut self,
+        rt: &Q,
+        write: &Committed,
+    ) -> Result<bool, Fault> {
+        match self {
+            Reach::Locked(bare) => bare.take_own(rt, write),
+            Reach::Seated(seated) => seated.take_own(rt, write),
+        }
+    }
+
+    pub(crate) fn apply<Q: Wait + Abort>(
+        &mut self,
+        rt: &Q,
+        delta: &Delta,
+    ) -> Result<(Report, bool), Fault> {
+        match self {
+            Reach::Locked(bare) => bare.apply(rt, delta),
+            Reach::Seated(seated) => seated.apply(rt, delta),
+        }
+    }
+
+    pub(crate) fn digest<Q: Wait + Abort>(&mut self, rt: &Q, want: bool) -> Result<Digest, Fault> {
+        match self {
+            Reach::Locked(bare) => bare.digest(rt, want),
+            Reach::Seated(seated) => seated.digest(rt, want),
+        }
+    }
+
+    pub(crate) fn deltas<Q: Wait + Abort>(
+        &mut self,
+        rt: &Q,
+        digest: &Digest,
+    ) -> Result<Delta, Fault> {
+        match self {
+            Reach::Locked(bare) => bare.deltas(rt, digest),
+            Reach::Seated(seated) => seated.deltas(rt, digest),
+        }
+    }
+
+    pub(crate) fn conflict<Q: Wait + Abort>(&mut self, rt: &Q) -> Option<u64> {
+        match self {
+            Reach::Locked(bare) => bare.conflict(rt),
+            Reach::Seated(seated) => seated.conflict(rt),
+        }
+    }
+
+    pub(crate) fn keys<Q: Wait + Abort>(&mut self, rt: &Q) -> usize {
+        match self {
+            Reach::Locked(bare) => bare.keys(rt),
+            Reach::Seated(seated) => seated.keys(rt),
+        }
+    }
+
+    pub(crate) fn watch<Q: Wait + Abort>(
+        &mut self,
+        rt: &Q,
+        filter: Filter,
+        capacity: usize,
+    ) -> Result<WatchId, Fault> {
+        match self {
+            Reach::Locked(bare) => bare.watch(rt, filter, capacity),
+            Reach::Seated(seated) => seated.watch(rt, filter, capacity),
+        }
+    }
+
+    pub(crate) fn unwatch<Q: Wait + Abort>(&mut self, rt: &Q, id: WatchId) -> Result<(), Fault> {
+        match self {
+            Reach::Locked(bare) => bare.unwatch(rt, id),
+            Reach::Seated(seated) => seated.unwatch(rt, id),
+        }
+    }
+
+    pub(crate) fn poll<Q: Wait + Abort>(&mut self, rt: &Q, id: WatchId) -> Result<Polled, Fault> {
+        match self {
+            Reach::Locked(bare) => bare.poll(rt, id),
+            Reach::Seated(seated) => seated.poll(rt, id),
+        }
+    }
+
+    pub(crate) fn refresh<Q: Wait + Abort>(&mut self, rt: &Q) -> bool {
+        match self {
+            Reach::Locked(bare) => bare.refresh(rt),
+            Reach::Seated(seated) => seated.refresh(rt),
+        }
+    }
+
+    /// The reader enters, and leaves.
+    pub(crate) fn read<Q: Abort>(&mut self, rt: &Q) -> Seen {
+        match self {
+            Reach::Locked(bare) => bare.read(rt),
+            Reach::Seated(seated) => seated.read(rt),
+        }
     }
 }
