@@ -1,17 +1,20 @@
 //! What a desk goes through: plain calls, or first one that may find no memory.
 ghost use Rattle.std.specs.Prelude.{◌≡◌};
 
-use crate::desk::{Answer, Call, Case, Desk, desk_of, play};
+use crate::desk::{Answer, Call, Case, Desk, play};
 use crate::making::{log_of, new_node};
+use crate::reached::{Reach, locked_of, seated_of};
+use sb_directory::Configured;
 use sb_holdings::BlockEnd;
 use sb_log::PlainLog;
 use sb_node::NodeCore;
 use sb_types::Fault;
-use sb_views::{Opened, Site};
+use sb_views::Opened;
 use std::alloc::Global;
 use std::marker::Brand;
 use std::process::Abort;
 use std::sync::Wait;
+use std::sync::ledger::Blank;
 
 /// Nothing happened yet, as far as the reader sees.
 const NOTHING: Answer = Answer::Read(0, 0, 0);
@@ -32,7 +35,7 @@ pub(crate) enum Course<'a> {
 }
 
 /// A write of which some allocation may be refused, and what makes up for it.
-fn write_late<S: Site, H: Wait + Drop, R: Wait + Abort>(rt: &R, desk: &mut Desk<S, H>) {
+fn write_late<S: Configured, H: Wait + Drop, R: Wait + Abort>(rt: &R, desk: &mut Desk<S, H>) {
     match desk.perform(rt, Call::Take) {
         // Everything is as it was, and the same write is taken then.
         Answer::Refused(Fault::NoMemory) => play(
@@ -47,7 +50,7 @@ fn write_late<S: Site, H: Wait + Drop, R: Wait + Abort>(rt: &R, desk: &mut Desk<
 }
 
 /// A delta of which some allocation may be refused, and what makes up for it: how many events that makes.
-fn take_late<S: Site, H: Wait + Drop, R: Wait + Abort>(rt: &R, desk: &mut Desk<S, H>) -> u64 {
+fn take_late<S: Configured, H: Wait + Drop, R: Wait + Abort>(rt: &R, desk: &mut Desk<S, H>) -> u64 {
     match desk.perform(rt, TAKE_OF_B) {
         // Everything is as it was.
         Answer::Refused(Fault::NoMemory) => {
@@ -73,7 +76,7 @@ fn take_late<S: Site, H: Wait + Drop, R: Wait + Abort>(rt: &R, desk: &mut Desk<S
 }
 
 /// The desk of a node that did nothing yet is watched, writes, and then answers these calls so.
-fn play_late<S: Site, H: Wait + Drop, R: Wait + Abort>(
+fn play_late<S: Configured, H: Wait + Drop, R: Wait + Abort>(
     rt: &R,
     desk: &mut Desk<S, H>,
     cases: &[Case],
@@ -88,7 +91,7 @@ fn play_late<S: Site, H: Wait + Drop, R: Wait + Abort>(
 }
 
 /// A desk takes a delta, and shows it at last.
-fn show_late<S: Site, H: Wait + Drop, R: Wait + Abort>(rt: &R, desk: &mut Desk<S, H>) {
+fn show_late<S: Configured, H: Wait + Drop, R: Wait + Abort>(rt: &R, desk: &mut Desk<S, H>) {
     let events = take_late(rt, desk);
     let after = [
         (Call::Refresh, Answer::Shown),
@@ -97,43 +100,76 @@ fn show_late<S: Site, H: Wait + Drop, R: Wait + Abort>(rt: &R, desk: &mut Desk<S
     play(rt, desk, &after);
 }
 
-fn go<S: Site, H: Wait + Drop, R: Wait + Abort>(rt: &R, desk: &mut Desk<S, H>, course: Course<'_>) {
-    match course {
-        Course::Calls(cases) => play(rt, desk, cases),
-        Course::LateWrite(cases) => play_late(rt, desk, cases),
-        Course::LateDelta => show_late(rt, desk),
+/// A course, with the log of the node's owner.
+#[derive(Drop)]
+pub(crate) struct Run<'a> {
+    pub(crate) log: PlainLog,
+    pub(crate) course: Course<'a>,
+    pub(crate) alloc: Global,
+}
+
+fn go<S: Configured, H: Wait + Drop, R: Wait + Abort>(rt: &R, node: Reach<S, H>, run: Run<'_>) {
+    let mut desk = Desk::new(node, run.log, run.alloc);
+    match run.course {
+        Course::Calls(cases) => play(rt, &mut desk, cases),
+        Course::LateWrite(cases) => play_late(rt, &mut desk, cases),
+        Course::LateDelta => show_late(rt, &mut desk),
     }
 }
 
-fn run_as<S: Site, R: Wait + Abort>(
-    rt: &R,
-    opened: Opened,
-    core: NodeCore,
-    log: PlainLog,
-    alloc: Global,
-    course: Course<'_>,
-)
+fn go_locked<S: Configured, R: Wait + Abort>(rt: &R, opened: Opened, core: NodeCore, run: Run<'_>)
     requires story { opened.seen.book ≡ S.story }
     requires opening { S.opening ≡ core.node }
 {
-    let mut desk = desk_of::<S, R>(rt, opened, core, log, alloc);
-    go(rt, &mut desk, course);
+    let node = locked_of::<S, R>(rt, opened, core, run.alloc);
+    go(rt, node, run);
 }
 
-/// This node goes through this, with this log.
-pub(crate) fn run<R: Wait + Abort>(
+fn go_seated<S: Configured, R: Wait + Abort>(
     rt: &R,
-    alloc: Global,
+    opened: Opened,
+    blank: Blank,
     core: NodeCore,
-    log: PlainLog,
-    course: Course<'_>,
-) {
-    run_as::<Brand, _>(rt, Opened::new(), core, log, alloc, course);
+    run: Run<'_>,
+)
+    requires story { opened.seen.book ≡ S.story }
+    requires opening { S.opening ≡ core.node }
+    requires settings { S.settings ≡ core.settings }
+    requires name { blank.name ≡ S.name }
+    requires parts { blank.parts ≡ S.parts }
+    requires all { (1 ≡ S.seats) × (1 ≡ S.parts) }
+{
+    let node = seated_of::<S, R>(rt, opened, blank, core, run.alloc);
+    go(rt, node, run);
 }
 
-/// A new node goes through this.
+/// This node goes through this, behind its lock.
+pub(crate) fn run_locked<R: Wait + Abort>(rt: &R, core: NodeCore, run: Run<'_>) {
+    go_locked::<Brand, _>(rt, Opened::new(), core, run);
+}
+
+/// This node goes through this, from the one seat of its directory.
+pub(crate) fn run_seated<R: Wait + Abort>(rt: &R, core: NodeCore, run: Run<'_>) {
+    go_seated::<Brand, _>(rt, Opened::new(), Blank::new(1), core, run);
+}
+
+/// A course of a node that wrote nothing.
+pub(crate) fn new_run<'a>(rt: &impl Abort, alloc: Global, course: Course<'a>) -> Run<'a> {
+    Run {
+        log: log_of(rt, alloc, b"a"),
+        course,
+        alloc,
+    }
+}
+
+/// A new node goes through this, behind its lock.
 pub(crate) fn run_new<R: Wait + Abort>(rt: &R, alloc: Global, course: Course<'_>) {
-    let core = new_node(rt, alloc);
-    let log = log_of(rt, alloc, b"a");
-    run(rt, alloc, core, log, course);
+    let run = new_run(rt, alloc, course);
+    run_locked(rt, new_node(rt, alloc), run);
+}
+
+/// A new node goes through this, from the one seat of its directory.
+pub(crate) fn run_new_seated<R: Wait + Abort>(rt: &R, alloc: Global, course: Course<'_>) {
+    let run = new_run(rt, alloc, course);
+    run_seated(rt, new_node(rt, alloc), run);
 }

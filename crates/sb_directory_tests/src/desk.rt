@@ -1,16 +1,14 @@
-//! A locked node with a log, watches and a reader beside it; and calls of it as data, with what they answer.
+//! A node with its log and watches beside it; and calls of it as data, with what they answer.
 
-ghost use Rattle.std.specs.Prelude.{◌≡◌};
-
-use crate::making::{commit, delta_of, first_of, key, name, prefix};
+use crate::making::{commit, delta_of, first_of, key, name, node_of, prefix};
+use crate::reached::Reach;
 use crate::{got, same_at, there};
 use sb_digest::Digest;
-use sb_directory::Locked;
+use sb_directory::Configured;
 use sb_holdings::{BlockEnd, Report};
 use sb_log::{Committed, PlainLog};
-use sb_node::NodeCore;
-use sb_types::Fault;
-use sb_views::{Entered, Opened, Reader, Site};
+use sb_table::Table;
+use sb_types::{Delta, Fault};
 use sb_watch::{Filter, Note, Polled, WatchId};
 use std::alloc::Global;
 use std::process::Abort;
@@ -29,6 +27,8 @@ pub(crate) enum Call {
     TakeOfAnother,
     /// A delta of one block is taken: what an owner wrote under these letters, from the version behind the number on.
     Delta(&'static [u8], u64, &'static [u8]),
+    /// What b gives for the node's own digest is taken; b has two writes of a.
+    DeltaOfPeer,
     /// A watch of the keys with a prefix is added, with room for so many notes.
     Watch(&'static [u8], usize),
     /// So many watches of all keys are added, each with room for one note.
@@ -67,14 +67,13 @@ pub(crate) enum Answer {
     Refused(Fault),
 }
 
-/// A locked node with its log, the write that was committed last, its watches and a reader.
+/// A node with its log, the write that was committed last, and its watches.
 #[derive(Drop)]
-pub(crate) struct Desk<S: Site, H: Wait + Drop> {
-    locked: Locked<S, H>,
+pub(crate) struct Desk<S: Configured, H: Wait + Drop> {
+    node: Reach<S, H>,
     log: PlainLog,
     committed: Option<Committed>,
     watches: Vec<WatchId>,
-    reader: Option<Reader<S>>,
     alloc: Global,
 }
 
@@ -121,7 +120,31 @@ fn nothing(rt: &impl Abort, alloc: Global) -> Digest {
     got(rt, Digest::new(false, None, None, Vec::new(alloc)))
 }
 
-impl<S: Site, H: Wait + Drop> Desk<S, H> {
+/// What a node b that has two writes of a gives for this digest.
+fn delta_of_peer(rt: &impl Abort, alloc: Global, digest: &Digest) -> Delta {
+    let mut peer = node_of(rt, alloc, b"b", Table::new(alloc));
+    let report = got(rt, peer.apply(&delta_of(rt, alloc, b"a", 0, b"xy")));
+    same_at(
+        rt,
+        &"b",
+        &ended(rt, &report),
+        &Answer::Ended(BlockEnd::Taken(2)),
+    );
+    got(rt, peer.deltas(digest))
+}
+
+impl<S: Configured, H: Wait + Drop> Desk<S, H> {
+    /// The desk of a node that was just opened.
+    pub(crate) fn new(node: Reach<S, H>, log: PlainLog, alloc: Global) -> Desk<S, H> {
+        Desk {
+            node,
+            log,
+            committed: None,
+            watches: Vec::new(alloc),
+            alloc,
+        }
+    }
+
     /// What a call answers, or why it is refused.
     pub(crate) fn perform<Q: Wait + Abort>(&mut self, rt: &Q, call: Call) -> Answer {
         match call {
@@ -130,13 +153,14 @@ impl<S: Site, H: Wait + Drop> Desk<S, H> {
             Call::Take => self.take(rt),
             Call::TakeOfAnother => self.take_of_another(rt),
             Call::Delta(owner, after, letters) => self.take_delta(rt, owner, after, letters),
+            Call::DeltaOfPeer => self.take_of_peer(rt),
             Call::Watch(text, capacity) => self.watch(rt, text, capacity),
             Call::Watches(count) => self.watch_all(rt, count),
             Call::Unwatch(place) => self.unwatch(rt, place),
             Call::Poll(place) => self.poll(rt, place),
-            Call::Refresh => shown(self.locked.refresh(), Answer::Shown),
-            Call::Conflict => Answer::Conflict(self.locked.conflict()),
-            Call::Keys => Answer::Keys(self.locked.keys()),
+            Call::Refresh => shown(self.node.refresh(rt), Answer::Shown),
+            Call::Conflict => Answer::Conflict(self.node.conflict(rt)),
+            Call::Keys => Answer::Keys(self.node.keys(rt)),
             Call::Read => self.read(rt),
             Call::Tell => self.tell(rt),
         }
@@ -149,7 +173,7 @@ impl<S: Site, H: Wait + Drop> Desk<S, H> {
 
     fn take<Q: Wait + Abort>(&mut self, rt: &Q) -> Answer {
         match &self.committed {
-            Some(write) => entered(self.locked.take_own(rt, write)),
+            Some(write) => entered(self.node.take_own(rt, write)),
             None => panic!(rt; "error: nothing was committed"),
         }
     }
@@ -161,7 +185,7 @@ impl<S: Site, H: Wait + Drop> Desk<S, H> {
 
     fn take_of_another<Q: Wait + Abort>(&mut self, rt: &Q) -> Answer {
         let write = first_of(rt, self.alloc, b"b", b"x");
-        entered(self.locked.take_own(rt, &write))
+        entered(self.node.take_own(rt, &write))
     }
 
     fn take_delta<Q: Wait + Abort>(
@@ -172,14 +196,24 @@ impl<S: Site, H: Wait + Drop> Desk<S, H> {
         letters: &[u8],
     ) -> Answer {
         let delta = delta_of(rt, self.alloc, owner, after, letters);
-        match self.locked.apply(rt, &delta) {
+        self.apply(rt, &delta)
+    }
+
+    fn take_of_peer<Q: Wait + Abort>(&mut self, rt: &Q) -> Answer {
+        let digest = got(rt, self.node.digest(rt, true));
+        let delta = delta_of_peer(rt, self.alloc, &digest);
+        self.apply(rt, &delta)
+    }
+
+    fn apply<Q: Wait + Abort>(&mut self, rt: &Q, delta: &Delta) -> Answer {
+        match self.node.apply(rt, delta) {
             Ok((ends, is_shown)) => shown(is_shown, ended(rt, &ends)),
             Err(fault) => Answer::Refused(fault),
         }
     }
 
-    fn watch(&mut self, rt: &impl Abort, text: &[u8], capacity: usize) -> Answer {
-        match self.locked.watch(filter_of(rt, text), capacity) {
+    fn watch<Q: Wait + Abort>(&mut self, rt: &Q, text: &[u8], capacity: usize) -> Answer {
+        match self.node.watch(rt, filter_of(rt, text), capacity) {
             Ok(id) => {
                 got(rt, self.watches.push(id));
                 Answer::Done
@@ -188,7 +222,7 @@ impl<S: Site, H: Wait + Drop> Desk<S, H> {
         }
     }
 
-    fn watch_all(&mut self, rt: &impl Abort, count: usize) -> Answer {
+    fn watch_all<Q: Wait + Abort>(&mut self, rt: &Q, count: usize) -> Answer {
         for _ in 0..count {
             let answer = self.watch(rt, b"", 1);
             if answer != Answer::Done {
@@ -203,36 +237,35 @@ impl<S: Site, H: Wait + Drop> Desk<S, H> {
         *there(rt, self.watches.get(place))
     }
 
-    fn unwatch(&mut self, rt: &impl Abort, place: usize) -> Answer {
+    fn unwatch<Q: Wait + Abort>(&mut self, rt: &Q, place: usize) -> Answer {
         let id = self.id_at(rt, place);
-        match self.locked.unwatch(id) {
+        match self.node.unwatch(rt, id) {
             Ok(()) => Answer::Done,
             Err(fault) => Answer::Refused(fault),
         }
     }
 
-    fn poll(&mut self, rt: &impl Abort, place: usize) -> Answer {
+    fn poll<Q: Wait + Abort>(&mut self, rt: &Q, place: usize) -> Answer {
         let id = self.id_at(rt, place);
-        match self.locked.poll(id) {
+        match self.node.poll(rt, id) {
             Ok(polled) => Answer::Polled(polled),
             Err(fault) => Answer::Refused(fault),
         }
     }
 
     fn read(&mut self, rt: &impl Abort) -> Answer {
-        let (reader, answer) = read_both(rt, there(rt, self.reader.take()));
-        self.reader = Some(reader);
-        answer
+        let (events, [of_a, of_b]) = self.node.read(rt);
+        Answer::Read(events, of_a, of_b)
     }
 
-    fn tell(&self, rt: &impl Abort) -> Answer {
+    fn tell<Q: Wait + Abort>(&mut self, rt: &Q) -> Answer {
         let (of_a, of_b) = self.told(rt);
         Answer::Told(of_a, of_b, self.blocks_for_nothing(rt))
     }
 
     /// How far the digest of all owners tells that a and b are held.
-    fn told(&self, rt: &impl Abort) -> (u64, u64) {
-        let digest = got(rt, self.locked.digest(None, true));
+    fn told<Q: Wait + Abort>(&mut self, rt: &Q) -> (u64, u64) {
+        let digest = got(rt, self.node.digest(rt, true));
         (
             digest.number(&name(rt, b"a")),
             digest.number(&name(rt, b"b")),
@@ -240,28 +273,10 @@ impl<S: Site, H: Wait + Drop> Desk<S, H> {
     }
 
     /// How many blocks the delta has for a peer that holds nothing.
-    fn blocks_for_nothing(&self, rt: &impl Abort) -> usize {
-        let delta = got(rt, self.locked.deltas(&nothing(rt, self.alloc)));
+    fn blocks_for_nothing<Q: Wait + Abort>(&mut self, rt: &Q) -> usize {
+        let delta = got(rt, self.node.deltas(rt, &nothing(rt, self.alloc)));
         delta.blocks().len()
     }
-}
-
-/// What a reader sees of a and b.
-fn read_both<S: Site>(rt: &impl Abort, reader: Reader<S>) -> (Reader<S>, Answer) {
-    match reader.enter() {
-        Ok(entered) => {
-            let answer = seen(rt, &entered);
-            (entered.leave(), answer)
-        }
-        Err(_) => panic!(rt; "error: not entered"),
-    }
-}
-
-fn seen<S: Site>(rt: &impl Abort, entered: &Entered<S>) -> Answer {
-    let snapshot = entered.snapshot();
-    let of_a = snapshot.upto(&name(rt, b"a"));
-    let of_b = snapshot.upto(&name(rt, b"b"));
-    Answer::Read(entered.told().len(), of_a, of_b)
 }
 
 /// Ends the test where memory was wanting for a call, for a block, or to show what happened.
@@ -278,7 +293,7 @@ fn has_memory(rt: &impl Abort, answer: Answer) {
 pub(crate) type Case = (Call, Answer);
 
 /// These calls are answered so, one after the other.
-pub(crate) fn play<S: Site, H: Wait + Drop, R: Wait + Abort>(
+pub(crate) fn play<S: Configured, H: Wait + Drop, R: Wait + Abort>(
     rt: &R,
     desk: &mut Desk<S, H>,
     cases: &[Case],
@@ -287,28 +302,5 @@ pub(crate) fn play<S: Site, H: Wait + Drop, R: Wait + Abort>(
         let found = desk.perform(rt, *call);
         has_memory(rt, found);
         same_at(rt, &("at call", index), &found, wanted);
-    }
-}
-
-/// The desk of a node that was just opened, with one reader.
-pub(crate) fn desk_of<S: Site, R: Wait + Abort>(
-    rt: &R,
-    opened: Opened,
-    core: NodeCore,
-    log: PlainLog,
-    alloc: Global,
-) -> Desk<S, &R>
-    requires story { opened.seen.book ≡ S.story }
-    requires opening { S.opening ≡ core.node }
-{
-    let (story, start) = opened.named::<S>();
-    let (locked, mut readers) = got(rt, Locked::<S, &R>::open(alloc, rt, story, start, core, 1));
-    Desk {
-        locked,
-        log,
-        committed: None,
-        watches: Vec::new(alloc),
-        reader: readers.pop(),
-        alloc,
     }
 }

@@ -3,17 +3,19 @@
 #![tactic(auto)]
 
 #[cfg(test)]
+mod calls;
+#[cfg(test)]
 mod course;
 #[cfg(test)]
 mod desk;
-#[cfg(test)]
-mod locked;
 #[cfg(test)]
 mod making;
 #[cfg(test)]
 mod memory;
 #[cfg(test)]
 mod peers;
+#[cfg(test)]
+mod reached;
 #[cfg(test)]
 mod seats;
 #[cfg(test)]

@@ -1,17 +1,20 @@
-//! A locked node: what its calls answer, and what readers are shown of it.
-use crate::course::{Course, run, run_new};
+//! A node, behind its lock and from a seat of its directory: what its calls answer, and what readers are shown of it.
+use crate::course::{Course, Run, run_locked, run_new, run_new_seated, run_seated};
 use crate::desk::{Answer, Call, Case, noted};
+use crate::got;
 use crate::making::{full_table, node_of, written_log};
 use sb_holdings::BlockEnd;
+use sb_log::WriteLog;
 use sb_types::Fault;
 use sb_watch::Polled;
 use std::alloc::Global;
 use std::process::Abort;
 use std::sync::Wait;
 
-/// A new node answers these calls so.
+/// A new node answers these calls so, whichever way they reach it.
 fn answers<R: Wait + Abort>(rt: &R, alloc: Global, cases: &[Case]) {
     run_new(rt, alloc, Course::Calls(cases));
+    run_new_seated(rt, alloc, Course::Calls(cases));
 }
 
 fn refused(fault: Fault) -> Answer {
@@ -155,12 +158,32 @@ fn a_full_table_takes_no_new_key(rt: HostRuntime) {
         (Call::Write(b"new"), refused(Fault::TableFull)),
         (Call::Read, Answer::Read(0, 4_096, 0)),
     ];
-    let core = node_of(&rt, alloc, b"a", full_table(&rt, alloc));
-    run(
-        &rt,
+    let run = Run {
+        log: written_log(&rt, alloc, 4_096),
+        course: Course::Calls(&cases),
         alloc,
-        core,
-        written_log(&rt, alloc, 4_096),
-        Course::Calls(&cases),
-    );
+    };
+    run_locked(&rt, node_of(&rt, alloc, b"a", full_table(&rt, alloc)), run);
+}
+
+/// A node that is opened with one write, as from a copy of its log, where b has a second one; the log's next write is not taken.
+#[test]
+fn a_peer_has_later_writes(rt: HostRuntime) {
+    let alloc = rt.alloc();
+    let cases = [
+        (Call::Read, Answer::Read(0, 1, 0)),
+        (Call::DeltaOfPeer, ended(BlockEnd::OwnAhead(2))),
+        (Call::Conflict, Answer::Conflict(Some(2))),
+        (Call::Write(b"z"), refused(Fault::OwnerConflict(2))),
+        (Call::Read, Answer::Read(1, 1, 0)),
+        (Call::Tell, Answer::Told(1, 0, 1)),
+    ];
+    let mut log = written_log(&rt, alloc, 1);
+    let core = node_of(&rt, alloc, b"a", got(&rt, log.load(alloc)));
+    let run = Run {
+        log,
+        course: Course::Calls(&cases),
+        alloc,
+    };
+    run_seated(&rt, core, run);
 }

@@ -1,0 +1,327 @@
+//! How calls reach a node: behind its lock, or from a seat of its directory.
+ghost use Rattle.std.specs.Prelude.{◌≡◌};
+
+use crate::making::name;
+use crate::{got, same, there};
+use sb_digest::Digest;
+use sb_directory::{Configured, Directory, Locked, ReaderSeat};
+use sb_holdings::Report;
+use sb_log::Committed;
+use sb_node::NodeCore;
+use sb_types::{Delta, Fault};
+use sb_views::{Opened, Reader, Site, Snapshot};
+use sb_watch::{Filter, Polled, WatchId};
+use std::alloc::Global;
+use std::process::Abort;
+use std::sync::Wait;
+use std::sync::ledger::Blank;
+
+/// What a reader sees: how many events, and how far a and b are held.
+pub(crate) type Seen = (u64, [u64; 2]);
+
+/// How far a and b are held.
+fn uptos(rt: &impl Abort, snapshot: &Snapshot<'_>) -> [u64; 2] {
+    [
+        snapshot.upto(&name(rt, b"a")),
+        snapshot.upto(&name(rt, b"b")),
+    ]
+}
+
+/// A node behind its lock, and its one reader, which is away only while it reads.
+#[derive(Drop)]
+pub(crate) struct Bare<S: Site, H: Wait + Drop> {
+    locked: Locked<S, H>,
+    reader: Option<Reader<S>>,
+}
+
+/// A node that was just opened.
+pub(crate) fn locked_of<S: Configured, R: Wait + Abort>(
+    rt: &R,
+    opened: Opened,
+    core: NodeCore,
+    alloc: Global,
+) -> Reach<S, &R>
+    requires story { opened.seen.book ≡ S.story }
+    requires opening { S.opening ≡ core.node }
+{
+    let (story, start) = opened.named::<S>();
+    let (locked, mut readers) = got(rt, Locked::<S, &R>::open(alloc, rt, story, start, core, 1));
+    let bare = Bare {
+        locked,
+        reader: readers.pop(),
+    };
+    Reach::Locked(bare)
+}
+
+fn read_once<S: Site>(rt: &impl Abort, reader: Reader<S>) -> (Reader<S>, Seen) {
+    match reader.enter() {
+        Ok(entered) => {
+            let seen = (entered.told().len(), uptos(rt, &entered.snapshot()));
+            (entered.leave(), seen)
+        }
+        Err(_) => panic!(rt; "error: not entered"),
+    }
+}
+
+impl<S: Site, H: Wait + Drop> Bare<S, H> {
+    fn take_own<Q: Wait + Abort>(&mut self, rt: &Q, write: &Committed) -> Result<bool, Fault> {
+        self.locked.take_own(rt, write)
+    }
+
+    fn apply<Q: Wait + Abort>(&mut self, rt: &Q, delta: &Delta) -> Result<(Report, bool), Fault> {
+        self.locked.apply(rt, delta)
+    }
+
+    fn digest<Q: Wait + Abort>(&mut self, _rt: &Q, want: bool) -> Result<Digest, Fault> {
+        self.locked.digest(None, want)
+    }
+
+    fn deltas<Q: Wait + Abort>(&mut self, _rt: &Q, digest: &Digest) -> Result<Delta, Fault> {
+        self.locked.deltas(digest)
+    }
+
+    fn conflict<Q: Wait + Abort>(&mut self, _rt: &Q) -> Option<u64> {
+        self.locked.conflict()
+    }
+
+    fn keys<Q: Wait + Abort>(&mut self, _rt: &Q) -> usize {
+        self.locked.keys()
+    }
+
+    fn watch<Q: Wait + Abort>(
+        &mut self,
+        _rt: &Q,
+        filter: Filter,
+        capacity: usize,
+    ) -> Result<WatchId, Fault> {
+        self.locked.watch(filter, capacity)
+    }
+
+    fn unwatch<Q: Wait + Abort>(&mut self, _rt: &Q, id: WatchId) -> Result<(), Fault> {
+        self.locked.unwatch(id)
+    }
+
+    fn poll<Q: Wait + Abort>(&mut self, _rt: &Q, id: WatchId) -> Result<Polled, Fault> {
+        self.locked.poll(id)
+    }
+
+    fn refresh<Q: Wait + Abort>(&mut self, _rt: &Q) -> bool {
+        self.locked.refresh()
+    }
+
+    fn read<Q: Abort>(&mut self, rt: &Q) -> Seen {
+        let (reader, seen) = read_once(rt, there(rt, self.reader.take()));
+        self.reader = Some(reader);
+        seen
+    }
+}
+
+/// The directory of a node, and its one seat, which is away only while it reads.
+#[derive(Drop)]
+pub(crate) struct Seated<S: Configured, H: Wait + Drop> {
+    directory: Directory<S, H>,
+    seat: Option<ReaderSeat<S>>,
+}
+
+/// The directory of a node that was just opened.
+pub(crate) fn seated_of<S: Configured, R: Wait + Abort>(
+    rt: &R,
+    opened: Opened,
+    blank: Blank,
+    core: NodeCore,
+    alloc: Global,
+) -> Reach<S, &R>
+    requires story { opened.seen.book ≡ S.story }
+    requires opening { S.opening ≡ core.node }
+    requires settings { S.settings ≡ core.settings }
+    requires name { blank.name ≡ S.name }
+    requires parts { blank.parts ≡ S.parts }
+    requires all { (1 ≡ S.seats) × (1 ≡ S.parts) }
+{
+    let made = Directory::<S, &R>::make(rt, alloc, opened, blank, core, 1);
+    let (directory, mut seats) = got(rt, made);
+    let seated = Seated {
+        directory,
+        seat: seats.pop(),
+    };
+    Reach::Seated(seated)
+}
+
+fn read_seated<S: Site>(rt: &impl Abort, seat: ReaderSeat<S>) -> (ReaderSeat<S>, Seen) {
+    match seat.enter() {
+        Ok(entered) => {
+            let seen = (entered.told().len(), uptos(rt, &entered.snapshot()));
+            (entered.leave(), seen)
+        }
+        Err(_) => panic!(rt; "error: not entered"),
+    }
+}
+
+impl<S: Configured, H: Wait + Drop> Seated<S, H> {
+    fn take_own<Q: Wait + Abort>(&mut self, rt: &Q, write: &Committed) -> Result<bool, Fault> {
+        let seat = there(rt, self.seat.as_mut());
+        let receipt = self.directory.take_own(rt, seat, write)?;
+        same(rt, &receipt.version, &write.entry().version());
+        Ok(receipt.shown)
+    }
+
+    fn apply<Q: Wait + Abort>(&mut self, rt: &Q, delta: &Delta) -> Result<(Report, bool), Fault> {
+        let seat = there(rt, self.seat.as_mut());
+        let applied = self.directory.apply(rt, seat, delta)?;
+        Ok((applied.ends, applied.shown))
+    }
+
+    fn digest<Q: Wait + Abort>(&mut self, rt: &Q, want: bool) -> Result<Digest, Fault> {
+        let seat = there(rt, self.seat.as_mut());
+        self.directory.digest(rt, seat, None, want)
+    }
+
+    fn deltas<Q: Wait + Abort>(&mut self, rt: &Q, digest: &Digest) -> Result<Delta, Fault> {
+        let seat = there(rt, self.seat.as_mut());
+        self.directory.deltas(rt, seat, digest)
+    }
+
+    fn conflict<Q: Wait + Abort>(&mut self, rt: &Q) -> Option<u64> {
+        let seat = there(rt, self.seat.as_mut());
+        self.directory.conflict(rt, seat)
+    }
+
+    fn keys<Q: Wait + Abort>(&mut self, rt: &Q) -> usize {
+        let seat = there(rt, self.seat.as_mut());
+        self.directory.keys(rt, seat)
+    }
+
+    fn watch<Q: Wait + Abort>(
+        &mut self,
+        rt: &Q,
+        filter: Filter,
+        capacity: usize,
+    ) -> Result<WatchId, Fault> {
+        self.directory.watch(rt, filter, capacity)
+    }
+
+    fn unwatch<Q: Wait + Abort>(&mut self, rt: &Q, id: WatchId) -> Result<(), Fault> {
+        self.directory.unwatch(rt, id)
+    }
+
+    fn poll<Q: Wait + Abort>(&mut self, rt: &Q, id: WatchId) -> Result<Polled, Fault> {
+        let seat = there(rt, self.seat.as_mut());
+        self.directory.poll(rt, seat, id)
+    }
+
+    fn refresh<Q: Wait + Abort>(&mut self, rt: &Q) -> bool {
+        let seat = there(rt, self.seat.as_mut());
+        self.directory.refresh(rt, seat)
+    }
+
+    fn read<Q: Abort>(&mut self, rt: &Q) -> Seen {
+        let (seat, seen) = read_seated(rt, there(rt, self.seat.take()));
+        self.seat = Some(seat);
+        seen
+    }
+}
+
+/// A way to reach a node.
+#[derive(Drop)]
+pub(crate) enum Reach<S: Configured, H: Wait + Drop> {
+    Locked(Bare<S, H>),
+    Seated(Seated<S, H>),
+}
+
+/// The calls of a node, each of which answers as the node's own does; those that enter a write say whether it is shown.
+impl<S: Configured, H: Wait + Drop> Reach<S, H> {
+    pub(crate) fn take_own<Q: Wait + Abort>(
+        &mut self,
+        rt: &Q,
+        write: &Committed,
+    ) -> Result<bool, Fault> {
+        match self {
+            Reach::Locked(bare) => bare.take_own(rt, write),
+            Reach::Seated(seated) => seated.take_own(rt, write),
+        }
+    }
+
+    pub(crate) fn apply<Q: Wait + Abort>(
+        &mut self,
+        rt: &Q,
+        delta: &Delta,
+    ) -> Result<(Report, bool), Fault> {
+        match self {
+            Reach::Locked(bare) => bare.apply(rt, delta),
+            Reach::Seated(seated) => seated.apply(rt, delta),
+        }
+    }
+
+    pub(crate) fn digest<Q: Wait + Abort>(&mut self, rt: &Q, want: bool) -> Result<Digest, Fault> {
+        match self {
+            Reach::Locked(bare) => bare.digest(rt, want),
+            Reach::Seated(seated) => seated.digest(rt, want),
+        }
+    }
+
+    pub(crate) fn deltas<Q: Wait + Abort>(
+        &mut self,
+        rt: &Q,
+        digest: &Digest,
+    ) -> Result<Delta, Fault> {
+        match self {
+            Reach::Locked(bare) => bare.deltas(rt, digest),
+            Reach::Seated(seated) => seated.deltas(rt, digest),
+        }
+    }
+
+    pub(crate) fn conflict<Q: Wait + Abort>(&mut self, rt: &Q) -> Option<u64> {
+        match self {
+            Reach::Locked(bare) => bare.conflict(rt),
+            Reach::Seated(seated) => seated.conflict(rt),
+        }
+    }
+
+    pub(crate) fn keys<Q: Wait + Abort>(&mut self, rt: &Q) -> usize {
+        match self {
+            Reach::Locked(bare) => bare.keys(rt),
+            Reach::Seated(seated) => seated.keys(rt),
+        }
+    }
+
+    pub(crate) fn watch<Q: Wait + Abort>(
+        &mut self,
+        rt: &Q,
+        filter: Filter,
+        capacity: usize,
+    ) -> Result<WatchId, Fault> {
+        match self {
+            Reach::Locked(bare) => bare.watch(rt, filter, capacity),
+            Reach::Seated(seated) => seated.watch(rt, filter, capacity),
+        }
+    }
+
+    pub(crate) fn unwatch<Q: Wait + Abort>(&mut self, rt: &Q, id: WatchId) -> Result<(), Fault> {
+        match self {
+            Reach::Locked(bare) => bare.unwatch(rt, id),
+            Reach::Seated(seated) => seated.unwatch(rt, id),
+        }
+    }
+
+    pub(crate) fn poll<Q: Wait + Abort>(&mut self, rt: &Q, id: WatchId) -> Result<Polled, Fault> {
+        match self {
+            Reach::Locked(bare) => bare.poll(rt, id),
+            Reach::Seated(seated) => seated.poll(rt, id),
+        }
+    }
+
+    pub(crate) fn refresh<Q: Wait + Abort>(&mut self, rt: &Q) -> bool {
+        match self {
+            Reach::Locked(bare) => bare.refresh(rt),
+            Reach::Seated(seated) => seated.refresh(rt),
+        }
+    }
+
+    /// The reader enters, and leaves.
+    pub(crate) fn read<Q: Abort>(&mut self, rt: &Q) -> Seen {
+        match self {
+            Reach::Locked(bare) => bare.read(rt),
+            Reach::Seated(seated) => seated.read(rt),
+        }
+    }
+}
