@@ -1,4 +1,5 @@
 //! What a running node starts with, a log with writes and several workers, and how it asks for more owners than one digest tells of.
+ghost use Rattle.std.specs.Prelude.{◌≤◌};
 
 use crate::making::{key, name, new_log, node_of, settings, settings_with, weight};
 use crate::peers::{hears_only, next_of, put_is_done_as, reach, talk};
@@ -153,7 +154,9 @@ fn owner(rt: &impl Abort, number: u8) -> Name {
 }
 
 /// A delta of the write of this version of an owner.
-fn delta_of(rt: &impl Abort, alloc: Global, number: u8, version: u64) -> Delta {
+fn delta_of(rt: &impl Abort, alloc: Global, number: u8, version: u64) -> Delta
+    requires { 1 ≤ version }
+{
     let entry = Entry::new(key(rt, b"w"), version, weight(rt, 5));
     let entries = got(rt, vec![in alloc; entry]);
     let block = got(
