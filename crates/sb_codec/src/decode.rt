@@ -1,15 +1,16 @@
 //! A message out of its payload.
 
-ghost use Rattle.std.specs.Prelude.{◌≡◌, ℕ, IfOk, IfErr, Ok, Err};
+ghost use Rattle.std.specs.Prelude.{◌≡◌, ◌↔◌, ℕ, true, IfOk, IfErr, Ok, Err};
 ghost use Rattle.sb_types.specs.Faults.{Gives};
 ghost use Rattle.sb_codec.specs.declared.message.Message.{Message};
 ghost use Rattle.sb_codec.specs.Fields.{whole};
-ghost use Rattle.sb_codec.specs.Messages.{Spells, IsSole, TakesMemory, is_kind, fault_of, message_field, reading};
+ghost use Rattle.sb_codec.specs.Messages.{Spells, IsSole, TakesMemory, is_kept_in_memory, is_kind, fault_of, message_field, reading};
 ghost use Rattle.sb_codec.specs.Refusal.{ReadsWhole};
 
 use crate::fields::Fields;
 use crate::message::Message;
 use crate::refusal::Refusal;
+use bytes::Bytes;
 use sb_types::{
     Fault, KIND_ASK, KIND_BYE, KIND_DELTA, KIND_DIGEST, KIND_DONE, KIND_HELLO, KIND_PUT,
     KIND_REFUSED, KIND_ROWS,
@@ -31,6 +32,23 @@ fn test_kind(kind: u8) -> bool
             | KIND_DONE
             | KIND_REFUSED
     )
+}
+
+fn is_kept(kind: u8) -> bool
+    ensures { result ≡ is_kept_in_memory kind }
+{
+    matches!(kind, KIND_DIGEST | KIND_DELTA | KIND_ROWS | KIND_PUT)
+}
+
+/// Whether the payload begins with a kind whose messages take memory: that of a digest, a delta, a page of rows or a
+/// put.
+pub fn takes_memory(payload: &[u8]) -> bool
+    ensures { (result ≡ true) ↔ TakesMemory payload.now }
+{
+    match payload {
+        [kind, ..] => is_kept(*kind),
+        [] => false,
+    }
 }
 
 fn fault(payload: &[u8]) -> Fault
@@ -92,4 +110,22 @@ pub fn decode_payload(alloc: Global, payload: &[u8]) -> Result<Message, Fault>
     ensures memory { result ≡ Err Fault.NoMemory → TakesMemory payload.now }
 {
     read(alloc, payload)
+}
+
+/// The message that a payload in shared bytes spells. It lets go of the bytes: no message keeps any of them. The faults
+/// of `decode_payload`.
+pub fn decode_shared(alloc: Global, payload: Bytes) -> Result<Message, Fault>
+    // What is read is spelled so, and nothing else is.
+    ensures found { IfOk result (λ message. Spells payload message) }
+    ensures sole { IfOk result (λ message. IsSole payload message) }
+    // What is spelled so is read, unless memory runs out.
+    ensures only { (message : Message) → Spells payload message → Gives result (Ok message) }
+    // Which fault it is.
+    ensures exact { Gives result (reading payload) }
+    // A kind that is not known is told without memory.
+    ensures unknown { (kind : ℕ) → fault_of payload ≡ Fault.UnknownKind kind → result ≡ Err (Fault.UnknownKind kind) }
+    // Memory is asked for only to keep lists and addresses.
+    ensures memory { result ≡ Err Fault.NoMemory → TakesMemory payload }
+{
+    decode_payload(alloc, payload.as_slice())
 }

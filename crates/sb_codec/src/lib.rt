@@ -11,7 +11,7 @@ mod payloads;
 mod refusal;
 mod writing;
 
-pub use decode::decode_payload;
+pub use decode::{decode_payload, decode_shared, takes_memory};
 pub use encode::{append_payload, encode_payload};
 pub use lengths::length;
 pub use message::{Ask, Bye, Done, Hello, Message, Refused, Row, Rows};

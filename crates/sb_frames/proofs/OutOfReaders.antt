@@ -1,6 +1,6 @@
 -- Messages out of a reader.
 use Rattle.std.proofs.Common.{◌≡◌, ◌≢◌, ℕ, ◌+◌, ◌*◌, ◌<◌, ◌≤◌, true, false, List, [], ◌∷◌, ◌++◌, length, take, drop, Option, Some, None, Result, Ok, Err, refl, sym, ap, subst, ◌∙◌, ◌⊎◌, inl, inr, Bool, if◌then◌else◌, append_assoc, arith, length-append}
-use Rattle.std.proofs.lemmas.List.{append-nil, nil_from_length, take-append-le, drop-append-le, length-take-le, take_all}
+use Rattle.std.proofs.lemmas.List.{append-nil, nil_from_length, take-append-le, length-take-le}
 use Rattle.std.proofs.Math.Seq.{take-append-add, take-append_seam}
 use Rattle.std.specs.Result.{result_unwrap_or}
 use Rattle.std.proofs.KnownBytes.{Consumes-nil, Consumes-trans, Consumes-kept, Keeps-refl}
@@ -196,19 +196,19 @@ pub within_got : (from to : Option (List ℕ)) (got : List ℕ) (before left : �
 within_got from to got before left (Ok n) gives = gives.0
 within_got from to got before left (Err fault) gives = omega arith
 
-pub fills_by : (items : List ℕ) (taken : ℕ) (from to : Option (List ℕ)) (before left : ℕ) (result : Result ℕ Fault) (got new : List ℕ) → taken ≤ length items → length got ≡ READ_LENGTH
-    → GivesBytes from to got before left result → new ≡ items ++ take (count_in result) got → Fills (drop taken items) from to before left result (open_with (drop taken new))
-fills_by items taken from to before left (Ok n) got new within size gives is = record {
+pub fills_by : (front items : List ℕ) (from to : Option (List ℕ)) (before left : ℕ) (result : Result ℕ Fault) (got new : List ℕ) → length got ≡ READ_LENGTH
+    → GivesBytes from to got before left result → new ≡ items ++ take (count_in result) got → Fills (front ++ items) from to before left result (open_with (front ++ new))
+fills_by front items from to before left (Ok n) got new size gives is = record {
   bytes = take n got;
   consumed = gives.1;
   filled = length-take-le n got gives.0;
   most = omega (arith, gives.0, size);
   end = λ none. gives.2 none (omega (arith, size));
-  stands = ap (λ (x : List ℕ). open_with (drop taken x)) is ∙ ap open_with (drop-append-le taken items (take n got) within);
+  stands = ap (λ (x : List ℕ). open_with (front ++ x)) is ∙ ap open_with (sym (append_assoc front items (take n got)));
   read = gives.3;
 }
-fills_by items taken from to before left (Err fault) got new within size gives is =
-    (ap (λ (x : List ℕ). open_with (drop taken x)) (is ∙ append-nil items), gives.0, elim gives.1 [ inl read ↦ inr (inl read) | inr spent ↦ inr (inr spent) ])
+fills_by front items from to before left (Err fault) got new size gives is =
+    (ap (λ (x : List ℕ). open_with (front ++ x)) (is ∙ append-nil items), gives.0, elim gives.1 [ inl read ↦ inr (inl read) | inr spent ↦ inr (inr spent) ])
 
 pub open_view : (closed : Bool) (held : List ℕ) (now : Stream) → (if closed then shut else open_with held) ≡ now → is_shut now ≡ false → (closed ≡ false) × (held_of now ≡ held)
 open_view true held now view open_now = absurd cc (ap is_shut view ∙ open_now)
@@ -218,7 +218,6 @@ pub same_count : (result : Result ℕ Fault) → result_unwrap_or result 0 ≡ c
 same_count (Ok n) = refl
 same_count (Err fault) = refl
 
--- what was there stands in front of what was added
-pub resized_front : (old zeros : List ℕ) (start n : ℕ) → start ≡ length old → start ≤ n → take start (take n old ++ zeros) ≡ old
-resized_front old zeros start n is most =
-    ap (λ (x : List ℕ). take start (x ++ zeros)) (take_all n old (omega arith)) ∙ ap (λ k. take k (old ++ zeros)) is ∙ take-append_seam old zeros
+-- what was written over all of a buffer is what it has then
+pub written : (old new : List ℕ) → length new ≡ length old → take (length old) (new ++ drop (length new) old) ≡ new
+written old new same = ap (λ n. take n (new ++ drop (length new) old)) (sym same) ∙ take-append_seam new (drop (length new) old)

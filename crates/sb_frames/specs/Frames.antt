@@ -1,5 +1,5 @@
 -- How a message lies on a stream, and what stands at the front of bytes.
-use Rattle.std.specs.Prelude.{◌≡◌, ℕ, Bool, true, ◌==◌, if◌then◌else◌, List, ◌∷◌, ◌++◌, length, Option, Some, None, Result, Ok, Err}
+use Rattle.std.specs.Prelude.{◌≡◌, ℕ, Bool, true, ◌==◌, if◌then◌else◌, List, [], ◌∷◌, ◌++◌, length, Option, Some, None, Result, Ok, Err}
 use Rattle.std.specs.Int.{w32}
 use Rattle.sb_types.specs.declared.fault.Fault.{Fault}
 use Rattle.sb_types.specs.declared.fault.Fault.TheVariants.{BadMark, BadVersion, BadLength}
@@ -30,6 +30,10 @@ pub record IsFramed (bytes payload rest : List ℕ) : Type 0 where
 -- a whole payload of a kind of message that takes memory stands in front
 abbrev pub HasPayload : List ℕ → Type 0
 HasPayload bytes = (payload : List ℕ) × (rest : List ℕ) × IsFramed bytes payload rest × TakesMemory payload
+
+-- the bytes are one whole frame, whose payload takes memory, and no byte more
+abbrev pub IsLoneFrame : List ℕ → Type 0
+IsLoneFrame bytes = (payload : List ℕ) × IsFramed bytes payload [] × TakesMemory payload
 
 -- the frame of a message stands in front, and then a rest
 pub record Leads (bytes : List ℕ) (message : Message) (rest : List ℕ) : Type 0 where

@@ -32,6 +32,12 @@ Takes held (Ok None) new = (front_of held ≡ short) × (new ≡ open_with held)
 -- want of memory changes nothing, and a whole payload that takes memory was there to be read
 Takes held (Err fault) new = ((front_of held ≡ bad fault) × (new ≡ shut)) ⊎ ((fault ≡ NoMemory) × HasPayload held × (new ≡ open_with held))
 
+-- what is looked at in front of the bytes, and which of them stay
+abbrev pub TakesFirst : List ℕ → Result (Option Message) Fault → List ℕ → Type 0
+TakesFirst bytes (Ok (Some message)) rest = Leads bytes message rest
+TakesFirst bytes (Ok None) rest = (front_of bytes ≡ short) × (rest ≡ bytes)
+TakesFirst bytes (Err fault) rest = ((front_of bytes ≡ bad fault) ⊎ ((fault ≡ NoMemory) × HasPayload bytes)) × (rest ≡ bytes)
+
 abbrev pub TakesNext : Stream → Result (Option Message) Fault → Stream → Type 0
 TakesNext shut result new = (result ≡ Err Closed) × (new ≡ shut)
 TakesNext (open_with held) result new = Takes held result new

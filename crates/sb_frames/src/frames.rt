@@ -1,15 +1,16 @@
 //! The messages of a stream.
 
-ghost use Rattle.std.specs.Prelude.{◌≡◌, ◌+◌, ◌≤◌, false, [], drop, length};
-ghost use Rattle.sb_frames.specs.Frames.{short, front_of};
-ghost use Rattle.sb_frames.specs.Streams.{open_with, Feeds, TakesNext};
+ghost use Rattle.std.specs.Prelude.{◌≡◌, ◌+◌, ◌⊎◌, false, [], ◌++◌, length, IfOk, IfErr, OnOk, OnErr};
+ghost use Rattle.sb_frames.specs.Frames.{short, bad, front_of, IsLoneFrame, HasPayload, Leads};
+ghost use Rattle.sb_frames.specs.Streams.{open_with, Feeds, TakesFirst, TakesNext};
 ghost use Rattle.sb_frames.specs.Receiving.{is_shut, held_of, end_of, Fills, OnlyWhereReadFailed};
 
-use crate::front::message_in;
+use crate::front::payload_in;
 use crate::last_read::LastRead;
 use crate::steps::{Steps, read_telling};
-use sb_codec::Message;
-use sb_types::Fault;
+use bytes::{Bytes, BytesMut};
+use sb_codec::{Message, decode_payload, decode_shared, takes_memory};
+use sb_types::{Fault, HEADER_LENGTH};
 use std::alloc::Global;
 use std::io::Read;
 use std::marker::Model;
@@ -18,18 +19,45 @@ use std::sync::ledger::Ledger;
 /// How many bytes a read asks for.
 pub const READ_LENGTH: usize = 4_096;
 
-/// Lets go of the bytes that were taken out, where they are more than those behind them, and answers how
-/// many are still kept.
-fn let_go(bytes: &mut Vec<u8>, taken: usize) -> usize
-    requires { taken ≤ length bytes.now.items }
-    ensures held { drop result bytes.new.items ≡ drop taken bytes.old.items }
-    ensures few { result + result ≤ length bytes.new.items }
+/// The message of a whole frame, which is let go of then. `Malformed` and `NoMemory`, with the frame as it was.
+fn take_frame(alloc: Global, frame: &mut Bytes) -> Result<Message, Fault>
+    requires { IsLoneFrame frame.old }
+    ensures message { IfOk result (λ message. Leads frame.old message []) }
+    ensures gone { OnOk result (frame.new ≡ []) }
+    ensures fault { IfErr result (λ fault. (front_of frame.old ≡ bad fault)
+        ⊎ ((fault ≡ Fault.NoMemory) × HasPayload frame.old)) }
+    ensures kept { OnErr result (frame.new ≡ frame.old) }
 {
-    if taken <= bytes.len() - taken {
-        return taken;
+    let mut payload = frame.clone()?;
+    payload.advance(HEADER_LENGTH as usize);
+    let message = decode_shared(alloc, payload)?;
+    *frame = Bytes::new();
+    Ok(message)
+}
+
+/// The message of the first frame, taken out; nothing where less than a frame is held. A frame whose message takes memory
+/// is split off and shared with its reader, and waits by itself until there is memory for its message. Any other is read
+/// where it lies, since its faults are of its bytes alone.
+fn take_first(frame: &mut Bytes, buffer: &mut BytesMut) -> Result<Option<Message>, Fault>
+    requires { (frame.old ≡ []) ⊎ IsLoneFrame frame.old }
+    ensures alone { (frame.new ≡ []) ⊎ IsLoneFrame frame.new }
+    ensures takes { TakesFirst (frame.old ++ buffer.old.items) result (frame.new ++ buffer.new.items) }
+{
+    let alloc = *buffer.allocator();
+    if !frame.is_empty() {
+        return Ok(Some(take_frame(alloc, frame)?));
     }
-    bytes.drain(..taken);
-    0
+    let Some(payload) = payload_in(buffer.as_slice())? else {
+        return Ok(None);
+    };
+    let length = HEADER_LENGTH as usize + payload.len();
+    if !takes_memory(payload) {
+        let message = decode_payload(alloc, payload)?;
+        buffer.advance(length);
+        return Ok(Some(message));
+    }
+    *frame = buffer.freeze_to(length)?;
+    Ok(Some(take_frame(alloc, frame)?))
 }
 
 /// The messages of one stream of bytes, which comes in any pieces. After a faulty frame it is closed.
@@ -46,22 +74,24 @@ fn let_go(bytes: &mut Vec<u8>, taken: usize) -> usize
 /// The test `the_example_of_frames` runs these lines.
 #[derive(Debug, Drop)]
 pub struct Frames {
-    bytes: Vec<u8>,
-    /// How many of the bytes were taken out.
-    taken: usize,
+    /// A whole frame whose message found no memory, or nothing.
+    frame: Bytes,
+    /// What stands behind it.
+    buffer: BytesMut,
     is_closed: bool,
 }
 
 impl Model for Frames {
-    ghost use Rattle.std.specs.Prelude.{◌+◌, ◌≤◌, if◌then◌else◌, drop, length};
+    ghost use Rattle.std.specs.Prelude.{◌≡◌, ◌⊎◌, if◌then◌else◌, [], ◌++◌};
+    ghost use Rattle.sb_frames.specs.Frames.{IsLoneFrame};
     ghost use Rattle.sb_frames.specs.Streams.{Stream, open_with, shut};
 
     ghost Value = { Stream };
 
-    ghost view = { λ f. if f.is_closed then shut else open_with (drop f.taken f.bytes.items) };
+    ghost view = { λ f. if f.is_closed then shut else open_with (f.frame ++ f.buffer.items) };
 
-    // No more is kept of what was taken out than is held.
-    ghost invariant = { λ f. f.taken + f.taken ≤ length f.bytes.items };
+    // No more than one frame waits by itself.
+    ghost invariant = { λ f. (f.frame ≡ []) ⊎ IsLoneFrame f.frame };
 }
 
 impl Frames {
@@ -70,8 +100,8 @@ impl Frames {
         ensures { result ≡ open_with [] }
     {
         Frames {
-            bytes: Vec::new(alloc),
-            taken: 0,
+            frame: Bytes::new(),
+            buffer: BytesMut::new(alloc),
             is_closed: false,
         }
     }
@@ -84,7 +114,7 @@ impl Frames {
         if self.is_closed {
             return Err(Fault::Closed);
         }
-        self.bytes.extend_from_slice(piece)?;
+        self.buffer.extend_from_slice(piece)?;
         Ok(())
     }
 
@@ -98,13 +128,8 @@ impl Frames {
         if self.is_closed {
             return Err(Fault::Closed);
         }
-        let alloc = *self.bytes.allocator();
-        match message_in(alloc, &self.bytes[self.taken..]) {
-            Ok(Some((message, length))) => {
-                self.taken = let_go(&mut self.bytes, self.taken + length);
-                Ok(Some(message))
-            }
-            Ok(None) => Ok(None),
+        match take_first(&mut self.frame, &mut self.buffer) {
+            Ok(message) => Ok(message),
             Err(fault) => {
                 self.is_closed = !matches!(fault, Fault::NoMemory);
                 Err(fault)
@@ -119,7 +144,7 @@ impl Frames {
         if self.is_closed {
             return 0;
         }
-        self.bytes.len() - self.taken
+        self.frame.len() + self.buffer.len()
     }
 
     /// At the end of the stream: `Truncated` where a byte that was fed was not handed out in a message.
@@ -155,11 +180,18 @@ impl Frames {
         ensures counted { steps.new + left.new ≡ steps.old + left.old }
         ensures failed { OnlyWhereReadFailed result last.new }
     {
-        let start = self.bytes.len();
-        self.bytes.resize(start + READ_LENGTH, 0)?;
-        let answer = read_telling(reader, &mut self.bytes[start..], left, steps, last);
+        self.buffer.reserve(READ_LENGTH)?;
+        let start = self.buffer.len();
+        self.buffer.advance_mut(READ_LENGTH);
+        let answer = read_telling(
+            reader,
+            &mut self.buffer.as_mut_slice()[start..],
+            left,
+            steps,
+            last,
+        );
         let count = answer.unwrap_or(0);
-        self.bytes.truncate(start + count);
+        self.buffer.truncate(start + count);
         answer
     }
 }

@@ -1,14 +1,12 @@
 //! What stands at the front of bytes.
 
-ghost use Rattle.std.specs.Prelude.{◌≡◌, ◌+◌, ◌≤◌, ◌⊎◌, drop, length, IfOk, IfErr, IfNone, IfSome};
-ghost use Rattle.sb_frames.specs.Frames.{short, bad, front_of, IsFramed, HasPayload, Leads};
+ghost use Rattle.std.specs.Prelude.{◌≡◌, ◌+◌, drop, length, IfOk, IfErr, IfNone, IfSome};
+ghost use Rattle.sb_frames.specs.Frames.{short, bad, front_of, IsFramed};
 
-use sb_codec::{Message, decode_payload};
 use sb_types::{FRAME_MARK, FRAME_VERSION, Fault, HEADER_LENGTH, PAYLOAD_MOST};
-use std::alloc::Global;
 
 /// The payload of the first frame, where all of it has come.
-fn payload_in(bytes: &[u8]) -> Result<Option<&[u8]>, Fault>
+pub(crate) fn payload_in(bytes: &[u8]) -> Result<Option<&[u8]>, Fault>
     ensures none { IfOk result (λ found. IfNone found (front_of bytes.now ≡ short)) }
     ensures payload { IfOk result (λ found. IfSome found (λ payload.
         IsFramed bytes.now payload.now (drop (HEADER_LENGTH + length payload.now) bytes.now))) }
@@ -37,19 +35,4 @@ fn payload_in(bytes: &[u8]) -> Result<Option<&[u8]>, Fault>
         return Ok(None);
     };
     Ok(Some(payload))
-}
-
-/// The message of the first frame, where all of it has come, and the frame's length.
-pub(crate) fn message_in(alloc: Global, bytes: &[u8]) -> Result<Option<(Message, usize)>, Fault>
-    ensures none { IfOk result (λ found. IfNone found (front_of bytes.now ≡ short)) }
-    ensures leads { IfOk result (λ found. IfSome found (λ m. Leads bytes.now m.0 (drop m.1 bytes.now))) }
-    ensures within { IfOk result (λ found. IfSome found (λ m. m.1 ≤ length bytes.now)) }
-    ensures fault { IfErr result (λ fault. (front_of bytes.now ≡ bad fault)
-        ⊎ ((fault ≡ Fault.NoMemory) × HasPayload bytes.now)) }
-{
-    let Some(payload) = payload_in(bytes)? else {
-        return Ok(None);
-    };
-    let message = decode_payload(alloc, payload)?;
-    Ok(Some((message, HEADER_LENGTH as usize + payload.len())))
 }

@@ -3,3 +3,4 @@ pub mod Handing
 pub mod Together
 pub mod Pooling
 pub mod Enduring
+pub mod Hellos

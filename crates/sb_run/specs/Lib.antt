@@ -2,6 +2,8 @@ pub mod Owners
 pub mod Hearing
 pub mod Control
 pub mod Gates
+pub mod Hellos
 pub mod Pools
 pub mod Running
+pub mod Turns
 pub mod Together

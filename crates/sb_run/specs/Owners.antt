@@ -17,7 +17,7 @@ use Rattle.sb_run.specs.declared.owner.Stored.TheVariants.{Shared, Owed}
 
 abbrev pub version_of : Stored → ℕ
 version_of (Shared receipt) = receipt.version
-version_of (Owed version) = version
+version_of (Owed version fault) = version
 
 -- how many events handing in what is owed makes
 abbrev pub count_owed : Option Committed → ℕ
@@ -27,7 +27,7 @@ count_owed (Some c) = 1
 -- how many events the write itself makes
 abbrev pub count_shared : Stored → ℕ
 count_shared (Shared receipt) = 1
-count_shared (Owed version) = 0
+count_shared (Owed version fault) = 0
 
 -- the directory takes the write when it may, and with that the seat knows it, as the last; where that is said it was told so
 abbrev pub IsTaken : Node → Seat → Committed → Receipt → Seat → Type 0
@@ -44,10 +44,10 @@ IsHandedIn opening before None after = Unit {0}
 IsHandedIn opening before (Some c) after =
     (handed : Seat) × IsEntered (λ story. own_due_after opening story c) (TookOwn c.entry) before handed × IsPrefix handed.known after.known
 
--- the write is an event of the directory, the last that the seat knows, and nothing is owed; or the directory refuses it, and it is owed
+-- the write is an event of the directory, the last that the seat knows, and nothing is owed; or the directory refuses it by this fault, and it is owed
 abbrev pub PassesOn : Node → Seat → Committed → Stored → Option Committed → Seat → Type 0
 PassesOn opening before c (Shared receipt) owed after = (owed ≡ None) × IsTaken opening before c receipt after
-PassesOn opening before c (Owed version) owed after = (owed ≡ Some c) × ((fault : Fault) × IsTurnedAway opening before c fault after)
+PassesOn opening before c (Owed version fault) owed after = (owed ≡ Some c) × IsTurnedAway opening before c fault after
 
 -- the log took the write in this call, and what it took is passed on under the version that it gave
 pub record IsStored (opening : Node) (old : Log) (before : Seat) (key : List ℕ) (slot : Slot) (stored : Stored)

@@ -1,15 +1,20 @@
--- Why a node does not run.
+-- With what a node opens, and why it does not run.
 use Rattle.std.specs.Prelude.{◌≡◌, ◌⊎◌, ◌+◌, ℕ, true, nat_eq, nat_lt, if◌then◌else◌, Option, Some, None, Err}
 use Rattle.std.specs.Cmp.Lexicographic.{pointwise}
 use Rattle.sb_types.specs.declared.fault.Fault.{Fault}
 use Rattle.sb_types.specs.declared.fault.Fault.TheVariants.{NoMemory, BadSetting, ReadFailed, StoreFailed, WrongCluster}
-use Rattle.sb_types.specs.Records.{Settings}
+use Rattle.sb_types.specs.Records.{Settings, Table}
+use Rattle.sb_holdings.specs.Nodes.{Node, opened_node}
 use Rattle.sb_log.specs.Records.{Log}
 use Rattle.sb_log.specs.Puts.{Loads}
 use Rattle.sb_run.specs.declared.node.OnLogFault.{OnLogFault}
 use Rattle.sb_run.specs.declared.node.OnLogFault.TheVariants.{Exit}
 
--- why it does not, before its log is read: the first reason that holds
+-- the node holds its owner's table alone, under the name of the log's owner: what the log has, where its store kept its promise
+abbrev pub IsOpenedFrom : Log → Node → Type 0
+IsOpenedFrom log node = (table : Table) × (node ≡ opened_node log.owner table) × (log.is_clean ≡ true → table ≡ log.content)
+
+-- why a node does not run, before its log is read: the first reason that holds
 abbrev pub refusal : Settings → Log → Option Fault
 refusal settings log =
     if nat_lt settings.seats (settings.workers + 2) then Some BadSetting

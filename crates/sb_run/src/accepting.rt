@@ -70,7 +70,7 @@ impl<R: Clock> Source for Acceptor<'_, R> {
                 if let Some(counts) = self.counts {
                     counts.add_session();
                 }
-                Some(Ok((before.wrapping_add(1), input, output)))
+                Some(Ok((before.saturating_add(1), input, output)))
             }
             Err(_) => {
                 thread::sleep(self.rt, Duration::from_millis(RESPITE));

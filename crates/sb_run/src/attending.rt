@@ -1,5 +1,6 @@
 //! The calling thread of a running node, at its control socket.
 ghost use Rattle.std.specs.Prelude.{◌≡◌, ◌+◌, ◌<◌, ◌≤◌, true};
+ghost use Rattle.sb_run.specs.Running.{IsOpenedFrom};
 
 use crate::accepting::Acceptor;
 use crate::control::serve_control;
@@ -108,6 +109,7 @@ pub(crate) fn attend<
     Q: Wait + Net + Clock,
     O: Observer,
 >(node: &Shared<S, H, Q>, owner: Owner<L>, seat: ReaderSeat<S>, observer: &O) -> Attended<S>
+    requires opened { IsOpenedFrom (L.seen owner.log) S.opening }
     ensures { result.has_left ≡ true → node.now.pace.on_log_fault ≡ OnLogFault.Exit }
 {
     let door = &node.doors.control;

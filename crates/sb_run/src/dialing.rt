@@ -1,8 +1,10 @@
 //! One round: a session with a peer that is dialed.
 ghost use Rattle.std.specs.Prelude.{◌≡◌, ◌+◌, ◌<◌, ◌≤◌};
 ghost use Rattle.sb_directory.specs.Serving.{IsStill, IsLater};
+ghost use Rattle.sb_run.specs.Hellos.{Greets};
 
 use crate::gate::Gated;
+use crate::greeting::session_of;
 use crate::rounds::Paced;
 use crate::shared::Shared;
 use crate::sockets::{connect, limit};
@@ -10,6 +12,7 @@ use sb_directory::{ReaderSeat, Served};
 use sb_frames::Steps;
 use sb_session::{Ended, dial};
 use sb_types::{Fault, OWNERS_MOST};
+use std::io::{Read, Write};
 use std::marker::Brand;
 use std::net::Net;
 use std::os::unix::net::UnixStream;
@@ -39,24 +42,25 @@ pub(crate) fn digests_of_all<S: Paced, H: Wait + Drop, Q: Wait>(
 
 /// A session over a connection, of so many exchanges of digests and deltas, and how it ended. It makes at most the node's
 /// `max_reads` reads. What it enters is news.
-fn talk_within<S: Paced, H: Wait + Drop, Q: Wait, K: Ledger>(
+fn talk_within<S: Paced, H: Wait + Drop, Q: Wait, I: Read, O: Write, K: Ledger>(
     node: &Shared<S, H, Q>,
-    stream: UnixStream,
+    input: &mut I,
+    output: &mut O,
     seat: ReaderSeat<S>,
     exchanges: u64,
     steps: &mut Steps<K>,
 ) -> (ReaderSeat<S>, Result<Ended, Fault>)
     ensures later { IsLater seat result.0 }
+    ensures greets { Greets S.settings.cluster S.opening.held.me (O.contents output.old) (O.contents output.new) }
     ensures reads { steps.new ≤ steps.old + node.now.pace.max_reads }
 {
     let served = Served::new(node.rt, node.directory, seat);
     let mut handler = Gated::new(served, node.bell, 0);
-    let (mut input, mut output) = (&stream, &stream);
     let (ended, _) = dial(
         node.alloc,
-        &mut input,
-        &mut output,
-        node.session,
+        input,
+        output,
+        session_of(node.directory),
         &mut handler,
         exchanges,
         node.pace.max_reads,
@@ -79,7 +83,8 @@ fn talk<S: Paced, H: Wait + Drop, Q: Wait, K: Ledger>(
     ensures { IsLater seat result.0 }
 {
     let mut steps = Steps::<K>::new(blank);
-    talk_within(node, stream, seat, exchanges, &mut steps)
+    let (mut input, mut output) = (&stream, &stream);
+    talk_within(node, &mut input, &mut output, seat, exchanges, &mut steps)
 }
 
 /// Dials the peer at a path, for so many exchanges, and how that ended: by `ReadFailed` also where the peer can't be reached.

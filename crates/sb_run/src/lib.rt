@@ -12,6 +12,7 @@ mod dialer;
 mod dialing;
 mod ending;
 mod gate;
+mod greeting;
 mod hearing;
 mod laws;
 mod node;

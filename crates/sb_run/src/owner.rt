@@ -16,8 +16,8 @@ use std::sync::Wait;
 pub enum Stored {
     /// The directory took it.
     Shared(Receipt),
-    /// The directory refused it. It is kept under this version, and is handed in before the next write.
-    Owed(u64),
+    /// The directory refused it by this fault. It is kept under this version, and is handed in before the next write.
+    Owed(u64, Fault),
 }
 
 impl Stored {
@@ -27,7 +27,7 @@ impl Stored {
     {
         match self {
             Stored::Shared(receipt) => receipt.version,
-            Stored::Owed(version) => *version,
+            Stored::Owed(version, _) => *version,
         }
     }
 }
@@ -113,7 +113,7 @@ impl<L: WriteLog> Owner<L> {
     }
 
     /// Keeps a write in the log, under the next version, and hands it to the directory. Where the directory refuses
-    /// it, it is owed, and is handed in before the next write.
+    /// it, it is owed, with that fault, and is handed in before the next write.
     ///
     /// `OwnerConflict` where another node writes under the own name; the faults of the directory for what is owed.
     /// Each of these leaves everything as it was, but that the seat knows what had happened. Then, with what was owed handed in, the faults of `WriteLog::put`: with
@@ -142,9 +142,9 @@ impl<L: WriteLog> Owner<L> {
         let version = committed.entry().version();
         match directory.take_own(rt, seat, &committed) {
             Ok(receipt) => Ok(Stored::Shared(receipt)),
-            Err(_) => {
+            Err(fault) => {
                 self.owed = Some(committed);
-                Ok(Stored::Owed(version))
+                Ok(Stored::Owed(version, fault))
             }
         }
     }

@@ -1,5 +1,7 @@
 //! The peers of a node, and whose turn it is to be dialed.
-ghost use Rattle.std.specs.Prelude.{◌≡◌, IfErr};
+ghost use Rattle.std.specs.Prelude.{◌≡◌, ◌≢◌, ◌⊎◌, ◌+◌, ◌<◌, ◌&&◌, true, false, nat_lt, None, Some, is_err, slice_get, vec_len, if◌then◌else◌, IfSome, IfErr};
+ghost use Rattle.sb_run.specs.Turns as spec;
+ghost use Rattle.sb_run.specs.declared.peers.LastRound.TheVariants as lasts;
 
 use crate::observer::Observer;
 use sb_session::Ended;
@@ -23,7 +25,9 @@ pub enum LastRound {
 }
 
 impl LastRound {
-    fn of(ended: &Result<Ended, Fault>) -> LastRound {
+    fn of(ended: &Result<Ended, Fault>) -> LastRound
+        ensures { result ≡ spec.last_of ended.now }
+    {
         match ended {
             Ok(Ended::RoundsDone) => LastRound::Done,
             Ok(_) => LastRound::Early,
@@ -32,12 +36,16 @@ impl LastRound {
     }
 
     /// Whether it ended by a fault.
-    fn has_failed(&self) -> bool {
+    fn has_failed(&self) -> bool
+        ensures { result ≡ spec.has_failed self.now }
+    {
         matches!(self, LastRound::Failed(_))
     }
 
-    /// Whether the Hello of the peer was no one for this node.
-    fn was_refused(&self) -> bool {
+    /// Whether the Hello of the peer was none for this node.
+    fn was_refused(&self) -> bool
+        ensures { result ≡ spec.was_refused self.now }
+    {
         matches!(self, LastRound::Failed(22..=25))
     }
 }
@@ -68,6 +76,36 @@ impl<'a> Peer<'a> {
     pub fn round(&self) -> u64 {
         self.round
     }
+
+    /// Takes down how its round of this number ended, and whether it kept the node waiting; whether that is news: it ended
+    /// otherwise than the round before, and not by a write that failed behind a refused Hello, which is the same refusal.
+    fn note(&mut self, round: u64, ended: &Result<Ended, Fault>, has_waited: bool) -> bool
+        ensures round { self.new.round ≡ round }
+        ensures turns { self.new.turns_out ≡ spec.turns_after (has_waited && is_err ended.now) self.old.turns_out }
+        ensures last { self.new.last ≡ (if result then spec.last_of ended.now else self.old.last) }
+        ensures news { result ≡ true → (spec.last_of ended.now ≢ self.old.last)
+            × (spec.last_of ended.now ≡ lasts.Failed 17 → spec.was_refused self.old.last ≡ false) }
+        ensures same { result ≡ false → (spec.last_of ended.now ≡ self.old.last)
+            ⊎ ((spec.last_of ended.now ≡ lasts.Failed 17) × (spec.was_refused self.old.last ≡ true)) }
+    {
+        self.round = round;
+        if has_waited && ended.is_err() {
+            self.turns_out = TURNS_OUT;
+        }
+        let now = LastRound::of(ended);
+        if now == self.last || now == LastRound::Failed(17) && self.last.was_refused() {
+            return false;
+        }
+        self.last = now;
+        true
+    }
+}
+
+/// The turn of one of so many: behind the last comes the first.
+fn turn_of(count: usize, turn: usize) -> usize
+    ensures { result ≡ spec.turn_of count turn }
+{
+    if turn < count { turn } else { 0 }
 }
 
 /// The peers that are dialed, in turn.
@@ -101,37 +139,92 @@ impl<'a> Peers<'a> {
         })
     }
 
+    /// Takes the next turn: where the peer lies whose turn it is, and whether it is passed over in it. None where there are no
+    /// peers.
+    fn take_turn(&mut self) -> Option<(usize, bool)>
+        ensures none { result ≡ None → vec_len self.old.all ≡ 0 }
+        ensures turn { IfSome result (λ taken. taken.0 ≡ spec.turn_of (vec_len self.old.all) self.old.turn) }
+        ensures next { IfSome result (λ taken. self.new.turn ≡ taken.0 + 1) }
+        ensures out { IfSome result (λ taken. IfSome (slice_get self.old.all.items taken.0) (λ peer. taken.1 ≡ nat_lt 0 peer.turns_out)) }
+        ensures within { IfSome result (λ taken. taken.0 < vec_len self.new.all) }
+        ensures burst { self.new.burst_turn ≡ self.old.burst_turn }
+    {
+        let turn = turn_of(self.all.len(), self.turn);
+        self.turn = turn.saturating_add(1);
+        let peer = self.all.get_mut(turn)?;
+        let is_out = 0 < peer.turns_out;
+        peer.turns_out = peer.turns_out.saturating_sub(1);
+        Some((turn, is_out))
+    }
+
     /// Where the peer lies whose turn it is; behind the last comes the first. One that kept the node waiting is passed over in
     /// seven of its turns. Nobody where there are no peers.
-    pub(crate) fn next_in_turn(&mut self) -> Option<usize> {
+    pub(crate) fn next_in_turn(&mut self) -> Option<usize>
+        ensures first { IfSome (slice_get self.old.all.items (spec.turn_of (vec_len self.old.all) self.old.turn))
+            (λ peer. peer.turns_out ≡ 0 → result ≡ Some (spec.turn_of (vec_len self.old.all) self.old.turn)) }
+        ensures within { IfSome result (λ index. index < vec_len self.new.all) }
+        ensures next { IfSome result (λ index. self.new.turn ≡ index + 1) }
+    {
+        let (turn, is_out) = self.take_turn()?;
+        if is_out { self.pass_over() } else { Some(turn) }
+    }
+
+    /// Where the next peer lies that is not passed over, behind one that is.
+    fn pass_over(&mut self) -> Option<usize>
+        ensures within { IfSome result (λ index. index < vec_len self.new.all) }
+        ensures next { IfSome result (λ index. self.new.turn ≡ index + 1) }
+    {
         let most = self.all.len().saturating_mul(TURNS_OUT as usize + 1);
         for _ in 0..most {
-            let turn = if self.turn < self.all.len() {
-                self.turn
-            } else {
-                0
-            };
-            self.turn = turn.saturating_add(1);
-            let peer = self.all.get_mut(turn)?;
-            if peer.turns_out == 0 {
+            let (turn, is_out) = self.take_turn()?;
+            if !is_out {
                 return Some(turn);
             }
-            peer.turns_out = peer.turns_out.saturating_sub(1);
         }
         None
     }
 
+    /// Takes the next turn of a burst: where the peer lies whose turn it is, and whether its last round had a fault. None where
+    /// there are no peers.
+    fn take_burst_turn(&mut self) -> Option<(usize, bool)>
+        ensures none { result ≡ None → vec_len self.old.all ≡ 0 }
+        ensures turn { IfSome result (λ taken. taken.0 ≡ spec.turn_of (vec_len self.old.all) self.old.burst_turn) }
+        ensures next { IfSome result (λ taken. self.new.burst_turn ≡ taken.0 + 1) }
+        ensures failed { IfSome result (λ taken. IfSome (slice_get self.old.all.items taken.0) (λ peer. taken.1 ≡ spec.has_failed peer.last)) }
+        ensures within { IfSome result (λ taken. taken.0 < vec_len self.new.all) }
+        ensures turns { (self.new.turn ≡ self.old.turn) × (self.new.all ≡ self.old.all) }
+    {
+        let turn = turn_of(self.all.len(), self.burst_turn);
+        self.burst_turn = turn.saturating_add(1);
+        let peer = self.all.get(turn)?;
+        Some((turn, peer.last.has_failed()))
+    }
+
     /// Where the next peer lies whose last round had no fault; nobody where each had.
-    pub(crate) fn next_in_burst(&mut self) -> Option<usize> {
+    pub(crate) fn next_in_burst(&mut self) -> Option<usize>
+        ensures first { IfSome (slice_get self.old.all.items (spec.turn_of (vec_len self.old.all) self.old.burst_turn))
+            (λ peer. spec.has_failed peer.last ≡ false → result ≡ Some (spec.turn_of (vec_len self.old.all) self.old.burst_turn)) }
+        ensures fit { IfSome result (λ index. IfSome (slice_get self.new.all.items index) (λ peer. spec.has_failed peer.last ≡ false)) }
+        ensures within { IfSome result (λ index. index < vec_len self.new.all) }
+        ensures next { IfSome result (λ index. self.new.burst_turn ≡ index + 1) }
+    {
+        let (turn, has_failed) = self.take_burst_turn()?;
+        if has_failed {
+            self.pass_over_in_burst()
+        } else {
+            Some(turn)
+        }
+    }
+
+    /// Where the next peer lies whose last round had no fault, behind one whose had.
+    fn pass_over_in_burst(&mut self) -> Option<usize>
+        ensures fit { IfSome result (λ index. IfSome (slice_get self.new.all.items index) (λ peer. spec.has_failed peer.last ≡ false)) }
+        ensures within { IfSome result (λ index. index < vec_len self.new.all) }
+        ensures next { IfSome result (λ index. self.new.burst_turn ≡ index + 1) }
+    {
         for _ in 0..self.all.len() {
-            let turn = if self.burst_turn < self.all.len() {
-                self.burst_turn
-            } else {
-                0
-            };
-            self.burst_turn = turn.saturating_add(1);
-            let peer = self.all.get(turn)?;
-            if !peer.last.has_failed() {
+            let (turn, has_failed) = self.take_burst_turn()?;
+            if !has_failed {
                 return Some(turn);
             }
         }
@@ -163,8 +256,7 @@ impl<'a> Peers<'a> {
     }
 
     /// Takes down how the round of this number with a peer ended, and whether it kept the node waiting, and tells the observer
-    /// where that is otherwise than the round before, and says whether it is. A write that failed behind a refused Hello is the
-    /// same refusal: the peer hung up.
+    /// where that is news, and says whether it is.
     pub(crate) fn note<O: Observer>(
         &mut self,
         index: usize,
@@ -176,16 +268,10 @@ impl<'a> Peers<'a> {
         let Some(peer) = self.all.get_mut(index) else {
             return false;
         };
-        peer.round = round;
-        if has_waited && ended.is_err() {
-            peer.turns_out = TURNS_OUT;
+        let is_news = peer.note(round, ended, has_waited);
+        if is_news {
+            observer.dialed(peer.path, ended);
         }
-        let now = LastRound::of(ended);
-        if now == peer.last || now == LastRound::Failed(17) && peer.last.was_refused() {
-            return false;
-        }
-        peer.last = now;
-        observer.dialed(peer.path, ended);
-        true
+        is_news
     }
 }

@@ -1,14 +1,16 @@
 //! Workers that serve the connections of a source, each from a seat of its own.
-ghost use Rattle.std.specs.Prelude.{◌≡◌, ◌+◌, ◌<◌, ◌≤◌, IfOk, IsOk};
+ghost use Rattle.std.specs.Prelude.{◌≡◌, ◌+◌, ◌<◌, ◌≤◌, IfSome, IfOk, IsOk};
 ghost use Rattle.std.specs.Thread.{IsSend};
 ghost use Rattle.sb_run.specs.Gates.{IsShut, AreShut};
+ghost use Rattle.sb_run.specs.Hellos.{Greets};
 ghost use Rattle.sb_run.specs.Pools.{IsKept, AreKept};
 
 use crate::gate::{Gate, Gated};
+use crate::greeting::session_of;
 use core::mem::replace_with;
 use sb_directory::{Configured, Directory, ReaderSeat, Served};
 use sb_frames::Steps;
-use sb_session::{Session, serve};
+use sb_session::serve;
 use sb_types::Fault;
 use std::alloc::Global;
 use std::io::{Read, Write};
@@ -27,7 +29,8 @@ pub trait Source {
 
     /// The next connection, with the number of its session, from 1. `None` where there are no more; a fault where one
     /// could not be had, after which the next may be asked for.
-    fn next(&self) -> Option<Result<(u64, Self::In, Self::Out), Fault>>;
+    fn next(&self) -> Option<Result<(u64, Self::In, Self::Out), Fault>>
+        ensures numbered { IfSome result (λ next. IfOk next (λ taken. 0 < taken.0)) };
 }
 
 /// What the workers of a pool did.
@@ -53,7 +56,6 @@ fn meet_within<S: Configured, H: Wait + Drop, Q: Wait, I: Read, O: Write, G: Gat
     rt: &Q,
     alloc: Global,
     directory: &Directory<S, H>,
-    session: Session,
     gate: &G,
     max_reads: u64,
     number: u64,
@@ -63,6 +65,7 @@ fn meet_within<S: Configured, H: Wait + Drop, Q: Wait, I: Read, O: Write, G: Gat
     steps: &mut Steps<K>,
 ) -> (ReaderSeat<S>, bool)
     ensures kept { IsKept (IsShut (G.lets gate.now number)) seat result.0 }
+    ensures greets { Greets S.settings.cluster S.opening.held.me (O.contents output.old) (O.contents output.new) }
     ensures reads { steps.new ≤ steps.old + max_reads }
 {
     let mut handler = Gated::new(Served::new(rt, directory, seat), gate, number);
@@ -70,7 +73,7 @@ fn meet_within<S: Configured, H: Wait + Drop, Q: Wait, I: Read, O: Write, G: Gat
         alloc,
         input,
         output,
-        session,
+        session_of(directory),
         &mut handler,
         max_reads,
         steps,
@@ -83,7 +86,6 @@ fn meet<S: Configured, H: Wait + Drop, Q: Wait, I: Read, O: Write, G: Gate, K: L
     rt: &Q,
     alloc: Global,
     directory: &Directory<S, H>,
-    session: Session,
     gate: &G,
     max_reads: u64,
     number: u64,
@@ -99,7 +101,7 @@ fn meet<S: Configured, H: Wait + Drop, Q: Wait, I: Read, O: Write, G: Gate, K: L
 {
     let mut steps = Steps::<K>::new(blank);
     meet_within(
-        rt, alloc, directory, session, gate, max_reads, number, input, output, seat, &mut steps,
+        rt, alloc, directory, gate, max_reads, number, input, output, seat, &mut steps,
     )
 }
 
@@ -109,7 +111,6 @@ fn tend<S: Configured, H: Wait + Drop, Q: Wait, X: Source, G: Gate>(
     rt: &Q,
     alloc: Global,
     directory: &Directory<S, H>,
-    session: Session,
     source: &X,
     gate: &G,
     max_reads: u64,
@@ -131,7 +132,6 @@ fn tend<S: Configured, H: Wait + Drop, Q: Wait, X: Source, G: Gate>(
                     rt,
                     alloc,
                     directory,
-                    session,
                     gate,
                     max_reads,
                     number,
@@ -155,7 +155,6 @@ fn tend_in_place<S: Configured, H: Wait + Drop, Q: Wait, X: Source, G: Gate>(
     rt: &Q,
     alloc: Global,
     directory: &Directory<S, H>,
-    session: Session,
     source: &X,
     gate: &G,
     max_reads: u64,
@@ -170,18 +169,14 @@ fn tend_in_place<S: Configured, H: Wait + Drop, Q: Wait, X: Source, G: Gate>(
         |seat, _| -> (ReaderSeat<S>, ())
             requires { IsSend X.In.row × IsSend X.Out.row }
             ensures { IsKept (AreShut (G.lets gate.entry.now)) seat result.0 }
-        {
-            tend(
-                rt, alloc, directory, session, source, gate, max_reads, tally, seat,
-            )
-        },
+        { tend(rt, alloc, directory, source, gate, max_reads, tally, seat) },
     );
 }
 
 /// Serves the connections of a source until it has no more, with a worker for each seat, each in a thread of its own. The
-/// caller is one of them, and runs those whose thread can't be made. A session that the gate turns away ends with
-/// `TurnsSpent`; each makes at most `max_reads` reads. The seats come back in their order; where
-/// the gate lets no session apply a delta, none made an event or was told of one. It never refuses.
+/// caller is one of them, and runs those whose thread can't be made. A session is of the directory's node, under its name and
+/// of its cluster. One that the gate turns away ends with `TurnsSpent`; each makes at most `max_reads` reads. The seats come
+/// back in their order; where the gate lets no session apply a delta, none made an event or was told of one. It never refuses.
 pub fn serve_pool<
     S: Configured + Send + Sync,
     H: Wait + Drop + Send + Sync,
@@ -192,7 +187,6 @@ pub fn serve_pool<
     rt: &Q,
     alloc: Global,
     directory: &Directory<S, H>,
-    session: Session,
     seats: Vec<ReaderSeat<S>>,
     source: &X,
     gate: &G,
@@ -207,7 +201,7 @@ pub fn serve_pool<
     };
     let mut seats = seats;
     tend_all(
-        rt, alloc, directory, session, source, gate, max_reads, &tally, &mut seats,
+        rt, alloc, directory, source, gate, max_reads, &tally, &mut seats,
     );
     Ok(Pooled {
         sessions: tally.sessions.load(Ordering::SeqCst),
@@ -226,7 +220,6 @@ fn tend_all<
     rt: &Q,
     alloc: Global,
     directory: &Directory<S, H>,
-    session: Session,
     source: &X,
     gate: &G,
     max_reads: u64,
@@ -246,10 +239,6 @@ fn tend_all<
         &|_, seat| -> ()
             requires { IsSend X.In.row × IsSend X.Out.row }
             ensures { IsKept (AreShut (G.lets gate.entry.now)) seat.entry.now seat.exit.now }
-        {
-            tend_in_place(
-                rt, alloc, directory, session, source, gate, max_reads, tally, seat,
-            )
-        },
+        { tend_in_place(rt, alloc, directory, source, gate, max_reads, tally, seat) },
     );
 }

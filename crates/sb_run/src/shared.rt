@@ -8,7 +8,6 @@ use crate::node::Pace;
 use crate::rounds::Paced;
 use crate::sockets::Doors;
 use sb_directory::Directory;
-use sb_session::Session;
 use std::alloc::Global;
 use std::net::Net;
 use std::sync::Wait;
@@ -19,8 +18,6 @@ pub(crate) struct Shared<'a, S: Paced, H: Wait + Drop, Q> {
     pub(crate) rt: &'a Q,
     pub(crate) alloc: Global,
     pub(crate) directory: &'a Directory<S, H>,
-    /// A session that has not begun.
-    pub(crate) session: Session,
     pub(crate) doors: &'a Doors<'a>,
     pub(crate) ending: &'a Ending,
     pub(crate) bell: &'a Bell,

@@ -1,6 +1,6 @@
 //! A running node over a directory of its own.
 ghost use Rattle.std.specs.Prelude.{◌≡◌, ◌⊎◌, ◌+◌, ◌≤◌, vec_len, vec_capacity, IsOk, IfOk, IfErr};
-ghost use Rattle.sb_run.specs.Running.{IsEndFault};
+ghost use Rattle.sb_run.specs.Running.{IsEndFault, IsOpenedFrom};
 
 use crate::bell::Bell;
 use crate::counts::Counts;
@@ -18,7 +18,6 @@ use crate::threads::{Finished, run_threads};
 use sb_directory::{Directory, ReaderSeat};
 use sb_log::WriteLog;
 use sb_node::NodeCore;
-use sb_session::Session;
 use sb_types::Fault;
 use sb_views::Opened;
 use std::alloc::Global;
@@ -55,6 +54,7 @@ pub(crate) fn run_site<
 ) -> Result<Ran, Fault>
     requires story { opened.seen.book ≡ S.story }
     requires opening { S.opening ≡ core.node }
+    requires opened { IsOpenedFrom (L.seen owner.log) core.node }
     requires settings { S.settings ≡ core.settings }
     requires name { blank.name ≡ S.name }
     requires parts { blank.parts ≡ S.parts }
@@ -65,7 +65,6 @@ pub(crate) fn run_site<
     ensures fault { IfErr result (λ fault. IsEndFault pace.on_log_fault fault ⊎ (fault ≡ Fault.ReadFailed)) }
 {
     let settings = core.settings();
-    let session = Session::new(settings.cluster(), *core.name());
     let all = settings.seats() as usize;
     // (settings have no other number of seats than a directory may have)
     let Ok((directory, seats)) = Directory::<S, &R>::make(rt, alloc, opened, blank, core, all)
@@ -83,7 +82,6 @@ pub(crate) fn run_site<
         rt,
         alloc,
         directory: &directory,
-        session,
         doors: &doors,
         ending: &ending,
         bell: &bell,

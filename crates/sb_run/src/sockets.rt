@@ -95,7 +95,8 @@ impl<'a> Door<'a> {
 }
 
 impl<'a> Doors<'a> {
-    /// Binds both sockets, and tells the observer of each that was left behind. `ReadFailed` where one can't be bound; then there is no file that was not there.
+    /// Binds both sockets, and tells the observer of each that was left behind. `ReadFailed` where one can't be bound; then
+    /// there is no file that was not there.
     pub(crate) fn bind<R: Files + Net, O: Observer>(
         rt: &R,
         sock: &'a str,

@@ -1,7 +1,7 @@
 //! The threads of a running node.
 ghost use Rattle.std.specs.Prelude.{◌≡◌, vec_len, IfOk, IfErr};
 ghost use Rattle.std.specs.Thread.{IsSend, IsSync};
-ghost use Rattle.sb_run.specs.Running.{IsEndFault};
+ghost use Rattle.sb_run.specs.Running.{IsEndFault, IsOpenedFrom};
 
 use crate::accepting::Acceptor;
 use crate::attending::{Attended, attend};
@@ -60,7 +60,6 @@ fn tend_sock<
         node.rt,
         node.alloc,
         node.directory,
-        node.session,
         seats,
         &source,
         node.bell,
@@ -104,6 +103,8 @@ pub(crate) fn run_threads<
     teller: Teller<S>,
     hearer: Hearer<S>,
 ) -> Result<Finished<S>, Fault>
+    requires opened { IsOpenedFrom (L.seen owner.log) S.opening }
+    requires workers { vec_len crew.workers ≡ S.settings.workers }
     ensures crew { IfOk result (λ finished. vec_len finished.crew.workers ≡ vec_len crew.workers) }
     ensures fault { IfErr result (IsEndFault node.now.pace.on_log_fault) }
 {
@@ -118,7 +119,8 @@ pub(crate) fn run_threads<
         thread::scope_env(),
         node.rt,
         move |scope| -> Result<Finished<S>, Fault>
-            requires { IsSend S.row × IsSync S.row × IsSend H.row × IsSync H.row × IsSend Q.row × IsSync Q.row × IsSync O.row × (vec_len workers ≡ count) }
+            requires { IsSend S.row × IsSync S.row × IsSend H.row × IsSync H.row × IsSend Q.row × IsSync Q.row × IsSync O.row × (vec_len workers ≡ count)
+                × IsOpenedFrom (L.seen owner.log) S.opening }
             ensures crew { IfOk result (λ finished. vec_len finished.crew.workers ≡ count) }
             ensures fault { IfErr result (IsEndFault node.entry.now.pace.on_log_fault) }
         {

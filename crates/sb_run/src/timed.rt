@@ -1,5 +1,8 @@
 //! Connections that have to be through within a time.
 
+ghost use Rattle.std.specs.Prelude.{◌≡◌, ◌≢◌, ◌⊎◌, ◌*◌, ◌≤◌, None, Some, Ok, IfOk, IfSome};
+ghost use Rattle.std.specs.Duration.{as_nanos};
+
 use std::io;
 use std::io::{Read, Write};
 use std::os::unix::net::UnixStream;
@@ -31,9 +34,13 @@ impl<'a, Q: Clock> Timed<'a, Q> {
     }
 
     /// So long, but no longer than no byte may move.
-    fn at_most_idle(&self, left: Duration) -> Duration {
+    fn at_most_idle(&self, left: Duration) -> Duration
+        ensures left { as_nanos result ≤ as_nanos left }
+        ensures idle { self.now.idle ≢ 0 → as_nanos result ≤ self.now.idle * 1_000_000 }
+        ensures least { (result ≡ left) ⊎ ((self.now.idle ≢ 0) × (as_nanos result ≡ self.now.idle * 1_000_000)) }
+    {
         let idle = Duration::from_millis(self.idle);
-        if self.idle != 0 && idle < left {
+        if self.idle != 0 && idle.as_nanos() < left.as_nanos() {
             idle
         } else {
             left
@@ -42,7 +49,12 @@ impl<'a, Q: Clock> Timed<'a, Q> {
 
     /// How long the next read or write may wait; none where the limit that the connection has is the only one. `TimedOut`
     /// where the time is over.
-    fn left(&mut self) -> io::Result<Option<Duration>> {
+    fn left(&mut self) -> io::Result<Option<Duration>>
+        ensures unlimited { self.old.whole ≡ 0 → (result ≡ Ok None) }
+        ensures limited { self.old.until ≢ None → IfOk result (λ left. left ≡ None → self.old.whole ≡ 0) }
+        ensures until { IfSome self.old.until (λ until. self.new.until ≡ Some until) }
+        ensures idle { IfOk result (λ left. IfSome left (λ left. self.old.idle ≢ 0 → as_nanos left ≤ self.old.idle * 1_000_000)) }
+    {
         if self.whole == 0 {
             return Ok(None);
         }

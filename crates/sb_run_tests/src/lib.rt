@@ -21,6 +21,8 @@ mod pooling;
 #[cfg(test)]
 mod running;
 #[cfg(test)]
+mod starting;
+#[cfg(test)]
 mod telling;
 #[cfg(test)]
 mod waking;

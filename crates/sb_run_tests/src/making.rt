@@ -21,17 +21,22 @@ pub(crate) fn weight(rt: &impl Abort, weight: u64) -> Slot {
     Slot::Set(got(rt, Value::weight(weight)))
 }
 
-/// Settings of the cluster c1, with a budget of 256, so many seats and one worker.
-pub(crate) fn settings(rt: &impl Abort, seats: u64) -> Settings {
+/// Settings of the cluster c1, with such a budget, so many seats and so many workers.
+pub(crate) fn settings_with(rt: &impl Abort, budget: u64, seats: u64, workers: u64) -> Settings {
     let raw = RawSettings {
         cluster: b"c1",
-        budget: 256,
+        budget,
         order: Order::Breadth,
         max_version: 100,
         seats,
-        workers: 1,
+        workers,
     };
     got(rt, Settings::check(raw))
+}
+
+/// The same with a budget of 256, and one worker.
+pub(crate) fn settings(rt: &impl Abort, seats: u64) -> Settings {
+    settings_with(rt, 256, seats, 1)
 }
 
 /// A log of nothing.

@@ -31,7 +31,7 @@ struct Versions {
 }
 
 impl Versions {
-    /// Those after a put that ended so, where readers are then shown the own writes up to this version; nothing where no put
+    /// Those after a put that ended so, want of memory its only fault, where readers are then shown the own writes up to this version; nothing where no put
     /// ends so.
     fn after(self, ended: Result<Stored, Fault>, shown: u64) -> Option<Versions> {
         let next = self.kept.saturating_add(1);
@@ -42,7 +42,7 @@ impl Versions {
                     entered: next,
                 })
             }
-            Ok(Stored::Owed(version)) if version == next && shown == self.kept => {
+            Ok(Stored::Owed(version, Fault::NoMemory)) if version == next && shown == self.kept => {
                 Some(Versions {
                     kept: next,
                     entered: shown,

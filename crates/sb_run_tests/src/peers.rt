@@ -99,13 +99,20 @@ pub(crate) fn next_of(rt: &impl Abort, listener: &UnixListener) -> UnixStream {
     got(rt, listener.accept()).0
 }
 
-/// Whether the owner's Put is answered by its Done.
-pub(crate) fn put_is_done<R: Net + Abort>(rt: &R, control: &str) -> bool {
+/// Whether the owner's Put is answered by a Done of this version, below 256.
+pub(crate) fn put_is_done_as<R: Net + Abort>(rt: &R, control: &str, version: u8) -> bool {
     let mut stream = reach(rt, control);
     got(rt, stream.write_all(PUT));
     let mut answer = [0u8; 15];
     got(rt, stream.read_exact(&mut answer));
-    answer == DONE
+    let mut done = DONE;
+    done[14] = version;
+    answer == done
+}
+
+/// Whether the owner's first Put is answered by its Done.
+pub(crate) fn put_is_done<R: Net + Abort>(rt: &R, control: &str) -> bool {
+    put_is_done_as(rt, control, 1)
 }
 
 /// Hears on a connection until the other end hangs up; whether so many bytes came.

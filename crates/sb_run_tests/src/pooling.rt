@@ -1,12 +1,11 @@
 //! Workers of a pool, whose sessions wait for each other at a gate.
 ghost use Rattle.std.specs.Prelude.{◌≡◌};
 
-use crate::making::{name, new_node};
+use crate::making::new_node;
 use crate::{got, same};
 use sb_directory::{Configured, Directory, ReaderSeat};
 use sb_node::NodeCore;
 use sb_run::{Gate, Pooled, Source, Step, serve_pool};
-use sb_session::Session;
 use sb_types::Fault;
 use sb_views::Opened;
 use std::alloc::Global;
@@ -96,7 +95,6 @@ fn serve_from<S: Configured + Send + Sync, R: Threads + Wait + Clock + Abort + S
     seats: Vec<ReaderSeat<S>>,
     turns: u64,
 ) -> Pooled<S> {
-    let session = Session::new(name(rt, b"c1"), name(rt, b"a"));
     let peers = Peers {
         alloc,
         taken: AtomicUsize::new(0),
@@ -106,7 +104,7 @@ fn serve_from<S: Configured + Send + Sync, R: Threads + Wait + Clock + Abort + S
         has_answered: AtomicBool::new(false),
         turns,
     };
-    match serve_pool(rt, alloc, directory, session, seats, &peers, &gate, 99) {
+    match serve_pool(rt, alloc, directory, seats, &peers, &gate, 99) {
         Ok(pooled) => pooled,
         Err((fault, _)) => panic!(rt; "error: {fault:?}"),
     }

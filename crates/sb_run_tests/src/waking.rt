@@ -18,7 +18,7 @@ use std::time::{Clock, Duration, Instant};
 use std::{fs, thread};
 
 /// A node of the name b that wrote nothing.
-fn silent_b(rt: &impl Abort, alloc: Global) -> NodeCore {
+pub(crate) fn silent_b(rt: &impl Abort, alloc: Global) -> NodeCore {
     node_of(rt, alloc, settings(rt, 3), b"b", Table::new(alloc))
 }
 

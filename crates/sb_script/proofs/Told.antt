@@ -13,12 +13,12 @@ use Rattle.sb_script.specs.Told.{Explains, PlaysLines, EndsAt, Tells}
 pub ends_kept : (ending : Ending) (a b c : Option (List ℕ)) → EndsAt ending a b → Keeps b c → EndsAt ending a c
 ends_kept Whole a b c p q = Keeps-trans a b c p q
 ends_kept WrongLine a b c p q = (p.0, Appends-kept a b c _ p.1 q)
-ends_kept NoWorld a b c p q = (p.0, Appends-kept a b c _ p.1 q)
+ends_kept NoWorld a b c p q = (p.0, p.1, Appends-kept a b c _ p.2 q)
 
 pub told_kept : (ending : Ending) (detail : Detail) (a b c : Option (List ℕ)) → Tells ending detail a b → Keeps b c → Tells ending detail a c
 told_kept ending detail a b c (inl p) q = inl (ends_kept ending a b c p q)
 told_kept ending detail a b c (inr p) q =
-    let from = p.2 in inr (p.0, p.1, (from.0, from.1, from.2, from.3, ends_kept ending from.2 b c from.4 q))
+    let from = p.3 in inr (p.0, p.1, p.2, (from.0, from.1, from.2, from.3, ends_kept ending from.2 b c from.4 q))
 
 -- ---- one more line
 

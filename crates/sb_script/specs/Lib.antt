@@ -5,4 +5,6 @@ pub mod Commands
 pub mod Written
 pub mod Giving
 pub mod Played
+pub mod Faults
+pub mod Making
 pub mod Told

@@ -11,6 +11,7 @@ use Rattle.sb_script.specs.declared.command.Command.{Command}
 use Rattle.sb_script.specs.declared.command.Command.TheVariants as commands
 use Rattle.sb_script.specs.declared.line.Line.{Line}
 use Rattle.sb_script.specs.Commands.{IsCommand}
+use Rattle.sb_script.specs.Faults.{is_word_fault}
 use Rattle.sb_script.specs.Giving.{PlaysGive}
 use Rattle.sb_script.specs.Printed.{lines_of, fault_line, write_lines, shown_frame}
 
@@ -39,9 +40,9 @@ Plays old (commands.Show frame) before after new = (new ≡ old) × Appends befo
 abbrev pub PlaysCommand : Seen → Option (List ℕ) → Option (List ℕ) → Seen → Type 0
 PlaysCommand old before after new = (line : Line) × (command : Command) × IsCommand line command × Plays old command before after new
 
--- a line with a name, a key or a value that is none prints that fault alone
+-- a line with a name, a key or a value that is none prints that fault alone, and so does one for which memory is wanting
 abbrev pub PlaysFault : Seen → Option (List ℕ) → Option (List ℕ) → Seen → Type 0
-PlaysFault old before after new = (fault : Fault) × (new ≡ old) × Appends before after (fault_line fault)
+PlaysFault old before after new = (fault : Fault) × (is_word_fault fault ≡ true) × (new ≡ old) × Appends before after (fault_line fault)
 
 -- what is no command does nothing
 abbrev pub PlaysLine : Bool → Seen → Option (List ℕ) → Option (List ℕ) → Seen → Type 0

@@ -27,3 +27,7 @@ pub record IsRunFault (steps steps' allowed : ℕ) (fault : Fault) : Type 0 wher
   pub kind : is_run_fault fault ≡ true
   pub read : fault ≡ ReadFailed → steps < steps'
   pub spent : fault ≡ TurnsSpent → steps' ≡ steps + allowed
+
+-- a failed write tells how many bytes were written
+abbrev pub TellsTaken : ℕ → Fault → Type 0
+TellsTaken taken fault = (count : ℕ) → fault ≡ WriteFailed count → count ≡ taken

@@ -3,11 +3,13 @@ use Rattle.std.specs.Prelude.{◌≡◌, ◌⊎◌, ℕ, zero, suc, List, Option
 use Rattle.std.specs.Io.KnownBytes.{Appends, Keeps}
 use Rattle.sb_types.specs.declared.fault.Fault.{Fault}
 use Rattle.sb_world.specs.Places.{Seen}
-use Rattle.sb_world.specs.Making.{IsMade}
+use Rattle.sb_script.specs.declared.making.WorldLine.{WorldLine}
 use Rattle.sb_script.specs.declared.sim.Detail.{Detail}
 use Rattle.sb_script.specs.declared.sim.Detail.TheVariants.{Plain, Explained}
 use Rattle.sb_script.specs.declared.sim.Ending.{Ending}
 use Rattle.sb_script.specs.declared.sim.Ending.TheVariants.{Whole, WrongLine, NoWorld}
+use Rattle.sb_script.specs.Faults.{is_world_fault}
+use Rattle.sb_script.specs.Making.{IsWorldOf}
 use Rattle.sb_script.specs.Played.{PlaysLine}
 use Rattle.sb_script.specs.Printed.{fault_line, wrong_line}
 
@@ -30,13 +32,14 @@ PlaysLines detail (suc n) old before after new =
 abbrev pub EndsAt : Ending → Option (List ℕ) → Option (List ℕ) → Type 0
 EndsAt Whole before after = Keeps before after
 EndsAt WrongLine before after = (number : ℕ) × Appends before after (wrong_line number)
-EndsAt NoWorld before after = (fault : Fault) × Appends before after (fault_line fault)
+EndsAt NoWorld before after = (fault : Fault) × (is_world_fault fault ≡ true) × Appends before after (fault_line fault)
 
 -- commands are played in turn from this world on, and then the run ends
 abbrev pub TellsFrom : Seen → Ending → Detail → Option (List ℕ) → Option (List ℕ) → Type 0
 TellsFrom old ending detail before after =
     (count : ℕ) × (new : Seen) × (between : Option (List ℕ)) × PlaysLines detail count old before between new × EndsAt ending between after
 
--- a run that ends before there is a world, or that plays commands in a new one
+-- a run that ends before there is a world, or that plays commands in the one that its first line makes
 abbrev pub Tells : Ending → Detail → Option (List ℕ) → Option (List ℕ) → Type 0
-Tells ending detail before after = EndsAt ending before after ⊎ ((world : Seen) × IsMade world × TellsFrom world ending detail before after)
+Tells ending detail before after =
+    EndsAt ending before after ⊎ ((line : WorldLine) × (world : Seen) × IsWorldOf line world × TellsFrom world ending detail before after)

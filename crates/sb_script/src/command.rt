@@ -1,9 +1,10 @@
 //! What a line asks of the world, with its names, keys and values read.
-ghost use Rattle.std.specs.Prelude.{◌≡◌, IfOk, IfSome};
+ghost use Rattle.std.specs.Prelude.{◌≡◌, true, IfOk, IfErr, IfSome};
 ghost use Rattle.sb_world.specs.declared.event.Event.TheVariants as events;
 ghost use Rattle.sb_script.specs.declared.command.Command.TheVariants as commands;
 ghost use Rattle.sb_script.specs.declared.line.Line.{Line};
 ghost use Rattle.sb_script.specs.Commands.{IsCommand, IsOfWrite};
+ghost use Rattle.sb_script.specs.Faults.{is_word_fault};
 
 use crate::line::Line;
 use crate::words::{WriteWords, words_of};
@@ -36,7 +37,8 @@ pub(crate) enum Command {
 impl Command {
     /// A write and its entry. `BadName`; `BadKey`; `BadValue`; `NoMemory`.
     fn of_write(alloc: Global, write: &WriteWords<'_>) -> Result<Command, Fault>
-        ensures { IfOk result (IsOfWrite write.now (λ slot. commands.Write (events.Commit write.now.node.now write.now.key.now slot) (events.Take write.now.node.now))) }
+        ensures command { IfOk result (IsOfWrite write.now (λ slot. commands.Write (events.Commit write.now.node.now write.now.key.now slot) (events.Take write.now.node.now))) }
+        ensures fault { IfErr result (λ fault. is_word_fault fault ≡ true) }
     {
         Ok(Command::Write {
             commit: write.commit(alloc)?,
@@ -46,7 +48,8 @@ impl Command {
 
     /// `BadName`.
     fn of_give(giver: &[u8], taker: &[u8], after: u64) -> Result<Command, Fault>
-        ensures { IfOk result (λ command. command ≡ commands.Give giver.now taker.now after) }
+        ensures command { IfOk result (λ command. command ≡ commands.Give giver.now taker.now after) }
+        ensures fault { IfErr result (λ fault. is_word_fault fault ≡ true) }
     {
         Ok(Command::Give {
             giver: Name::read(giver)?,
@@ -57,7 +60,8 @@ impl Command {
 
     /// What the line asks for. `BadName`, `BadKey` and `BadValue`, from left to right; `NoMemory`.
     fn of_line(alloc: Global, line: &Line<'_>) -> Result<Command, Fault>
-        ensures { IfOk result (IsCommand line.now) }
+        ensures command { IfOk result (IsCommand line.now) }
+        ensures fault { IfErr result (λ fault. is_word_fault fault ≡ true) }
     {
         match *line {
             Line::Commit { write } => Ok(Command::Step(write.commit(alloc)?)),
@@ -95,7 +99,8 @@ impl Command {
     /// Reads a line, first its shape, then its names, keys and values from left to right. None where it is no command.
     /// `BadName`, `BadKey` and `BadValue`; `NoMemory`.
     pub(crate) fn read(alloc: Global, line: &[u8]) -> Result<Option<Command>, Fault>
-        ensures { IfOk result (λ read. IfSome read (λ command. (shape : Line) × IsCommand shape command)) }
+        ensures command { IfOk result (λ read. IfSome read (λ command. (shape : Line) × IsCommand shape command)) }
+        ensures fault { IfErr result (λ fault. is_word_fault fault ≡ true) }
     {
         let words = words_of(alloc, line)?;
         match Line::parse(&words) {

@@ -1,6 +1,7 @@
 //! The lines of a script.
 ghost use Rattle.std.specs.Prelude.{◌≡◌, ◌+◌, ◌<◌, ◌≤◌, true, false, length, vec_len, IfOk, OnOk, IfErr};
 ghost use Rattle.sb_script.specs.declared.lines.TheConstants.{ROOM};
+ghost use Rattle.sb_script.specs.Faults.{is_line_fault};
 ghost use Rattle.sb_script.specs.Reads.{AreCounted, IsRunFault, comes_before_reads};
 ghost use Rattle.sb_script.specs.Script.{bytes_to_come};
 
@@ -24,6 +25,7 @@ fn read_some<R: Read, L: Ledger>(
     ensures count { IfOk result (λ count. count ≤ length bytes.new) }
     ensures made { OnOk result (left.new < left.old) }
     ensures fault { IfErr result (IsRunFault steps.old steps.new left.old) }
+    ensures kind { IfErr result (λ fault. is_line_fault fault ≡ true) }
     ensures early { IfErr result (λ fault. comes_before_reads fault ≡ false → steps.old < steps.new) }
 {
     read_within(reader, bytes, left, steps)
@@ -82,6 +84,7 @@ impl<R: Read> Lines<R> {
         ensures counted { IfOk result (λ lines. AreCounted steps.old max_reads steps.new lines.left) }
         ensures made { OnOk result (steps.old < steps.new) }
         ensures fault { IfErr result (IsRunFault steps.old steps.new max_reads) }
+        ensures kind { IfErr result (λ fault. is_line_fault fault ≡ true) }
         ensures early { IfErr result (λ fault. comes_before_reads fault ≡ false → steps.old < steps.new) }
     {
         let mut lines = Lines::new(alloc, reader, max_reads)?;
@@ -109,6 +112,7 @@ impl<R: Read> Lines<R> {
         ensures ended { IfOk result (λ met. met ≡ false → self.new.ended ≡ true) }
         ensures left { IfOk result (λ met. met ≡ false → vec_len self.new.line ≡ 0) }
         ensures fault { IfErr result (IsRunFault steps.old steps.new self.old.left) }
+        ensures kind { IfErr result (λ fault. is_line_fault fault ≡ true) }
     {
         while self.next_line(steps)? {
             if !self.line.is_empty() {
@@ -128,6 +132,7 @@ impl<R: Read> Lines<R> {
         ensures ended { IfOk result (λ met. met ≡ false → self.new.ended ≡ true) }
         ensures left { IfOk result (λ met. met ≡ false → vec_len self.new.line ≡ 0) }
         ensures fault { IfErr result (IsRunFault steps.old steps.new self.old.left) }
+        ensures kind { IfErr result (λ fault. is_line_fault fault ≡ true) }
     {
         self.line.clear();
         self.number = self.number.saturating_add(1);
@@ -148,6 +153,7 @@ impl<R: Read> Lines<R> {
         ensures line { self.new.line ≡ self.old.line }
         ensures made { OnOk result (self.old.at ≡ self.old.end → self.old.ended ≡ false → steps.old < steps.new) }
         ensures fault { IfErr result (IsRunFault steps.old steps.new self.old.left) }
+        ensures kind { IfErr result (λ fault. is_line_fault fault ≡ true) }
         ensures early { IfErr result (λ fault. comes_before_reads fault ≡ false → steps.old < steps.new) }
     {
         if self.at == self.end && !self.ended {

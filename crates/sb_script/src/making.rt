@@ -1,6 +1,9 @@
 //! The line that makes the world.
-ghost use Rattle.std.specs.Prelude.{IfOk, IfSome};
-ghost use Rattle.sb_world.specs.Making.{IsMade};
+ghost use Rattle.std.specs.Prelude.{◌≡◌, ◌⊎◌, true, map, IfOk, IfErr, IfSome};
+ghost use Rattle.sb_script.specs.declared.making.WorldLine as lines;
+ghost use Rattle.sb_script.specs.Faults.{is_world_fault};
+ghost use Rattle.sb_script.specs.Making as spec;
+ghost use Rattle.sb_script.specs.Making.{IsWorldOf, empty_log, settings_of, names_in};
 
 use crate::words::{are_words, number_of, words_of};
 use sb_log::PlainLog;
@@ -46,7 +49,10 @@ impl<'a> WorldLine<'a> {
     }
 
     /// `BadSetting`.
-    fn settings(&self) -> Result<Settings, Fault> {
+    fn settings(&self) -> Result<Settings, Fault>
+        ensures settings { IfOk result (λ settings. settings ≡ settings_of self.now) }
+        ensures fault { IfErr result (λ fault. fault ≡ Fault.BadSetting) }
+    {
         Settings::check(RawSettings {
             cluster: CLUSTER,
             budget: self.budget,
@@ -58,27 +64,56 @@ impl<'a> WorldLine<'a> {
     }
 
     /// `BadName`; `BadSetting`, for more than 1,024 nodes, too; `SameName`; `NoMemory`.
+    #[tactic(auto, using(crate::proofs::Faults::name_fault))]
     fn world(&self, alloc: Global) -> Result<World<PlainLog>, Fault>
-        ensures { IfOk result IsMade }
+        ensures world { IfOk result (IsWorldOf self.now) }
+        ensures fault { IfErr result (λ fault. is_world_fault fault ≡ true) }
     {
-        let mut names = Vec::new(alloc);
-        for word in self.names {
-            names.push(Name::read(word)?)?;
-        }
+        let names = names_of(alloc, self.names)?;
         let settings = self.settings()?;
-        let (cluster, max_version) = (settings.cluster(), settings.max_version());
-        let mut logs = Vec::new(alloc);
-        for name in names {
-            logs.push(PlainLog::new(alloc, name, cluster, max_version))?;
-        }
+        let logs = logs_of(alloc, &settings, &names)?;
         World::new(alloc, settings, logs)
     }
+}
+
+/// The name of a word. `BadName`.
+fn name_of(word: &[u8]) -> Result<Name, Fault>
+    ensures name { IfOk result (λ name. name ≡ word.now) }
+    ensures fault { IfErr result (λ fault. fault ≡ Fault.BadName) }
+{
+    Name::read(word)
+}
+
+/// The names of these words. `BadName`; `NoMemory`.
+fn names_of(alloc: Global, words: &[&[u8]]) -> Result<Vec<Name>, Fault>
+    ensures names { IfOk result (λ names. names.items ≡ map (λ word. word.now) words.now) }
+    ensures fault { IfErr result (λ fault. (fault ≡ Fault.BadName) ⊎ (fault ≡ Fault.NoMemory)) }
+{
+    let mut names = Vec::new(alloc);
+    for word in words {
+        names.push(name_of(word)?)?;
+    }
+    Ok(names)
+}
+
+/// An empty log for each name. `NoMemory`.
+fn logs_of(alloc: Global, settings: &Settings, names: &[Name]) -> Result<Vec<PlainLog>, Fault>
+    ensures logs { IfOk result (λ logs. logs.items ≡ map (empty_log settings.now) names.now) }
+    ensures memory { IfErr result (λ fault. fault ≡ Fault.NoMemory) }
+{
+    let (cluster, max_version) = (settings.cluster(), settings.max_version());
+    let mut logs = Vec::new(alloc);
+    for name in names {
+        logs.push(PlainLog::new(alloc, *name, cluster, max_version))?;
+    }
+    Ok(logs)
 }
 
 /// The world of the first line, of empty logs. None where that line is no command. `BadName`; `BadSetting`, for more than
 /// 1,024 nodes, too; `SameName`; `NoMemory`.
 pub(crate) fn make_world(alloc: Global, line: &[u8]) -> Result<Option<World<PlainLog>>, Fault>
-    ensures { IfOk result (λ made. IfSome made IsMade) }
+    ensures world { IfOk result (λ made. IfSome made (λ world. (line : lines.WorldLine) × IsWorldOf line world)) }
+    ensures fault { IfErr result (λ fault. is_world_fault fault ≡ true) }
 {
     let words = words_of(alloc, line)?;
     match WorldLine::parse(&words) {

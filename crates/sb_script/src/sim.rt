@@ -1,11 +1,12 @@
 //! The run of a script.
 ghost use Rattle.std.specs.Prelude.{◌≡◌, ◌+◌, ◌<◌, ◌≤◌, true, false, vec_len, OnOk, IfOk, IfErr};
 ghost use Rattle.sb_script.specs.Script.{EndsSo, bytes_to_come, status_of};
-ghost use Rattle.sb_script.specs.Printed.{fault_line, wrong_line};
-ghost use Rattle.sb_script.specs.Told.{Tells, TellsFrom};
+ghost use Rattle.sb_script.specs.Printed.{wrong_line};
+ghost use Rattle.sb_script.specs.Faults.{is_world_fault};
+ghost use Rattle.sb_script.specs.Told.{EndsAt, Tells, TellsFrom};
 ghost use Rattle.std.specs.Io.KnownBytes.{Appends};
 ghost use Rattle.sb_script.specs.Written.{printed, taken, written};
-ghost use Rattle.sb_script.specs.Reads.{AreCounted, IsRunFault, comes_before_reads, is_run_fault};
+ghost use Rattle.sb_script.specs.Reads.{AreCounted, IsRunFault, TellsTaken, comes_before_reads, is_run_fault};
 
 use crate::explain::explain;
 use crate::lines::Lines;
@@ -60,7 +61,7 @@ impl Ending {
 /// The faults of lines are printed. The run's own come back: `ReadFailed`; `WriteFailed`, with how many
 /// bytes the output's writer took; `TurnsSpent` where the script takes more reads; `NoMemory`. What was printed before
 /// the end of the run has been written, but for what a failed write left.
-#[tactic(auto, using(crate::proofs::Runs::memory_fault, crate::proofs::Runs::write_fault, crate::proofs::Runs::fault_later))]
+#[tactic(auto, using(crate::proofs::Runs::memory_fault, crate::proofs::Runs::write_fault, crate::proofs::Runs::fault_later, crate::proofs::Faults::line_tells, crate::proofs::Faults::write_tells))]
 pub fn sim_run<R: Read + Drop, W: Write + Drop, L: Ledger>(
     alloc: Global,
     reader: R,
@@ -73,12 +74,16 @@ pub fn sim_run<R: Read + Drop, W: Write + Drop, L: Ledger>(
     ensures made { OnOk result (steps.old < steps.new) }
     ensures fault { IfErr result (IsRunFault steps.old steps.new max_reads) }
     ensures early { IfErr result (λ fault. comes_before_reads fault ≡ false → steps.old < steps.new) }
+    ensures written { IfErr result (TellsTaken (taken output.new)) }
 
     // The writer has the lines of commands that were played in turn in a new world, and no others but words that were asked for.
     ensures told { IfOk result (λ ending. Tells ending detail (printed W.contents output.old) (written W.contents output.new)) }
 {
     let mut lines = Lines::open(alloc, reader, max_reads, steps)?;
     let ended = play(alloc, &mut lines, output, detail, steps);
+    if let Err(Fault::WriteFailed(count)) = ended {
+        return Err(Fault::WriteFailed(count));
+    }
     let finished = output.finish();
     let ending = ended?;
     finished?;
@@ -96,6 +101,7 @@ pub fn sim_run_uncounted<R: Read + Drop, W: Write + Drop>(
     ensures made { OnOk result (0 < max_reads) }
     ensures fault { IfErr result (λ fault. is_run_fault fault ≡ true) }
     ensures early { IfErr result (λ fault. comes_before_reads fault ≡ false → 0 < max_reads) }
+    ensures written { IfErr result (TellsTaken (taken output.new)) }
     ensures told { IfOk result (λ ending. Tells ending detail (printed W.contents output.old) (written W.contents output.new)) }
 {
     run_on::<R, W, Brand>(alloc, reader, output, max_reads, detail, Blank::new(1))
@@ -116,6 +122,7 @@ fn run_on<R: Read + Drop, W: Write + Drop, L: Ledger>(
     ensures made { OnOk result (0 < max_reads) }
     ensures fault { IfErr result (λ fault. is_run_fault fault ≡ true) }
     ensures early { IfErr result (λ fault. comes_before_reads fault ≡ false → 0 < max_reads) }
+    ensures written { IfErr result (TellsTaken (taken output.new)) }
     ensures told { IfOk result (λ ending. Tells ending detail (printed W.contents output.old) (written W.contents output.new)) }
 {
     let mut steps = Steps::<L>::new(blank);
@@ -123,7 +130,7 @@ fn run_on<R: Read + Drop, W: Write + Drop, L: Ledger>(
 }
 
 /// Plays all lines, the world line first.
-#[tactic(auto, using(crate::proofs::Runs::counted_later, crate::proofs::Runs::fault_later, crate::proofs::Runs::write_fault))]
+#[tactic(auto, using(crate::proofs::Runs::counted_later, crate::proofs::Runs::fault_later, crate::proofs::Runs::write_fault, crate::proofs::Faults::line_tells, crate::proofs::Faults::write_tells))]
 fn play<R: Read, W: Write + Drop, L: Ledger>(
     alloc: Global,
     lines: &mut Lines<R>,
@@ -136,6 +143,7 @@ fn play<R: Read, W: Write + Drop, L: Ledger>(
         (bytes_to_come lines.old.left lines.old.at lines.old.end)
         (bytes_to_come lines.new.left lines.new.at lines.new.end)) }
     ensures fault { IfErr result (IsRunFault steps.old steps.new lines.old.left) }
+    ensures written { IfErr result (TellsTaken (taken output.new)) }
     ensures told { IfOk result (λ ending. Tells ending detail (printed W.contents output.old) (printed W.contents output.new)) }
 {
     if !lines.advance(steps)? {
@@ -149,7 +157,7 @@ fn play<R: Read, W: Write + Drop, L: Ledger>(
 }
 
 /// Plays the lines below the world line.
-#[tactic(auto, using(crate::proofs::Runs::counted_later, crate::proofs::Runs::fault_later, crate::proofs::Runs::write_fault))]
+#[tactic(auto, using(crate::proofs::Runs::counted_later, crate::proofs::Runs::fault_later, crate::proofs::Runs::write_fault, crate::proofs::Faults::line_tells, crate::proofs::Faults::write_tells))]
 fn play_in<R: Read, W: Write + Drop, L: Ledger>(
     alloc: Global,
     mut world: World<PlainLog>,
@@ -163,6 +171,7 @@ fn play_in<R: Read, W: Write + Drop, L: Ledger>(
         (bytes_to_come lines.old.left lines.old.at lines.old.end)
         (bytes_to_come lines.new.left lines.new.at lines.new.end)) }
     ensures fault { IfErr result (IsRunFault steps.old steps.new lines.old.left) }
+    ensures written { IfErr result (TellsTaken (taken output.new)) }
     ensures told { IfOk result (λ ending. TellsFrom world ending detail (printed W.contents output.old) (printed W.contents output.new)) }
 {
     let mut told = 0;
@@ -187,8 +196,9 @@ fn end_at<W: Write + Drop>(number: u64, output: &mut Output<W>) -> Result<Ending
 
 /// Ends the run at a world line that has a fault.
 fn end_without<W: Write + Drop>(fault: Fault, output: &mut Output<W>) -> Result<Ending, Fault>
+    requires kind { is_world_fault fault ≡ true }
     ensures none { IfOk result (λ ending. ending ≡ Ending.NoWorld) }
-    ensures printed { OnOk result (Appends (printed W.contents output.old) (printed W.contents output.new) (fault_line fault)) }
+    ensures told { OnOk result (EndsAt Ending.NoWorld (printed W.contents output.old) (printed W.contents output.new)) }
     ensures fault { IfErr result (λ fault. fault ≡ Fault.WriteFailed (taken output.new)) }
 {
     output.print(FaultLine(fault))?;

@@ -1,8 +1,9 @@
 //! The words of a line, and the numbers among them.
-ghost use Rattle.std.specs.Prelude.{◌≡◌, IfOk};
+ghost use Rattle.std.specs.Prelude.{◌≡◌, true, IfOk, IfErr};
 ghost use Rattle.sb_world.specs.declared.event.Event.TheVariants as events;
 ghost use Rattle.sb_types.specs.declared.entry.Slot as entries;
 ghost use Rattle.sb_script.specs.Commands.{IsSlot};
+ghost use Rattle.sb_script.specs.Faults.{is_word_fault};
 
 use sb_types::{Fault, Key, Name, Slot, Value};
 use sb_world::Event;
@@ -11,8 +12,10 @@ use std::alloc::Global;
 /// The greatest number of a connection in a script.
 pub(crate) const CONNECTION_MOST: u64 = 999_999;
 
-/// The words of a line, with one space between two. An empty word stands where that is broken.
-pub(crate) fn words_of(alloc: Global, line: &[u8]) -> Result<Vec<&[u8]>, Fault> {
+/// The words of a line, with one space between two. An empty word stands where that is broken. `NoMemory`.
+pub(crate) fn words_of(alloc: Global, line: &[u8]) -> Result<Vec<&[u8]>, Fault>
+    ensures memory { IfErr result (λ fault. fault ≡ Fault.NoMemory) }
+{
     Ok(line.split(|byte| *byte == b' ').collect(alloc)?)
 }
 
@@ -55,8 +58,10 @@ pub(crate) struct WriteWords<'a> {
 
 impl WriteWords<'_> {
     /// What is to stand under the key. `BadValue`; `NoMemory`.
+    #[tactic(auto, using(crate::proofs::Faults::value_fault))]
     fn slot(&self, alloc: Global) -> Result<Slot, Fault>
-        ensures { IfOk result (IsSlot self.now.value) }
+        ensures slot { IfOk result (IsSlot self.now.value) }
+        ensures fault { IfErr result (λ fault. is_word_fault fault ≡ true) }
     {
         match self.value {
             Some(words) => Ok(Slot::Set(Value::from_words(alloc, words.kind, words.content)?)),
@@ -66,7 +71,8 @@ impl WriteWords<'_> {
 
     /// The node commits the write. `BadName`; `BadKey`; `BadValue`; `NoMemory`.
     pub(crate) fn commit(&self, alloc: Global) -> Result<Event, Fault>
-        ensures { IfOk result (λ event. (slot : entries.Slot) × IsSlot self.now.value slot × (event ≡ events.Commit self.now.node.now self.now.key.now slot)) }
+        ensures event { IfOk result (λ event. (slot : entries.Slot) × IsSlot self.now.value slot × (event ≡ events.Commit self.now.node.now self.now.key.now slot)) }
+        ensures fault { IfErr result (λ fault. is_word_fault fault ≡ true) }
     {
         let node = Name::read(self.node)?;
         let key = Key::read(self.key)?;
@@ -75,7 +81,8 @@ impl WriteWords<'_> {
 
     /// The node crashes in that commit, behind it or before it. The faults of `commit`.
     pub(crate) fn crash(&self, alloc: Global, is_kept: bool) -> Result<Event, Fault>
-        ensures { IfOk result (λ event. (slot : entries.Slot) × IsSlot self.now.value slot × (event ≡ events.CrashInCommit self.now.node.now self.now.key.now slot is_kept)) }
+        ensures event { IfOk result (λ event. (slot : entries.Slot) × IsSlot self.now.value slot × (event ≡ events.CrashInCommit self.now.node.now self.now.key.now slot is_kept)) }
+        ensures fault { IfErr result (λ fault. is_word_fault fault ≡ true) }
     {
         let node = Name::read(self.node)?;
         let key = Key::read(self.key)?;

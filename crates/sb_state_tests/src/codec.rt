@@ -2,9 +2,10 @@
 ghost use Rattle.std.specs.Prelude.{◌≤◌};
 
 use crate::{entry, got, holds, key, name, one, push, refusal, same, same_at, weighing, weight};
+use bytes::Bytes;
 use sb_codec::{
     Ask, Bye, Done, Hello, Message, Refused, Row, Rows, append_payload, decode_payload,
-    encode_payload, length,
+    decode_shared, encode_payload, length,
 };
 use sb_digest::{Digest, Pair};
 use sb_types::{Block, Delta, Entry, Fault, KIND_DELTA, Key, Name, Prefix, Slot, Value, Write};
@@ -640,6 +641,39 @@ fn payloads_of_unknown_kinds(rt: HostRuntime) {
     assert_unknown(&rt, alloc, 0x15, b"\x15\x01");
     assert_unknown(&rt, alloc, 0x55, b"\x55");
     assert_unknown(&rt, alloc, 0xff, b"\xff");
+}
+
+/// The bytes that hexadecimal words stand for, in a block that others may read.
+fn shared(rt: &impl Abort, alloc: Global, words: &str) -> Bytes {
+    let payload = bytes(rt, alloc, words);
+    got(rt, Bytes::copy_from_slice(alloc, &payload))
+}
+
+/// How long the frame is of the message that shared bytes are read as.
+fn shared_length(alloc: Global, payload: Bytes) -> Result<u32, Fault> {
+    match decode_shared(alloc, payload) {
+        Ok(message) => Ok(length(&message)),
+        Err(fault) => Err(fault),
+    }
+}
+
+/// The words in shared bytes are read as a message whose frame is so long, or have this fault.
+fn assert_shared(rt: &impl Abort, alloc: Global, words: &str, wanted: Result<u32, Fault>) {
+    let found = shared_length(alloc, shared(rt, alloc, words));
+    same_at(rt, &words, &found, &wanted);
+}
+
+#[test]
+fn payloads_in_shared_bytes(rt: HostRuntime) {
+    let alloc = rt.alloc();
+    assert_shared(&rt, alloc, ONE_ENTRY, Ok(40));
+    assert_shared(&rt, alloc, HELLO, Ok(12));
+    assert_shared(&rt, alloc, DIGEST, Ok(22));
+    assert_shared(&rt, alloc, BYE, Ok(8));
+    assert_shared(&rt, alloc, ROWS, Ok(31));
+    assert_shared(&rt, alloc, PUT, Ok(18));
+    assert_shared(&rt, alloc, "03 0001", Err(Fault::Malformed(KIND_DELTA)));
+    assert_shared(&rt, alloc, "55", Err(Fault::UnknownKind(0x55)));
 }
 
 /// Whether the message of `ONE_ENTRY` has that payload.

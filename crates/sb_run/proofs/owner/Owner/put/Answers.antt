@@ -27,10 +27,7 @@ returns-in-Err-clause-stored g c =
       version = c.version-version.ensures.version ∙ ap (λ (e : Entry). e.version) c.entry.ensures.entry;
       passes = (
         refl,
-        (
-          c.in-Err.field-0,
-          turned_from g.S.Site.opening c.args.seat.now c.settle.new.seat kept c.in-Err.field-0 c.take_own.new.seat c.settle.ensures.later (is.knew, is.refused),
-        ),
+        turned_from g.S.Site.opening c.args.seat.now c.settle.new.seat kept c.in-Err.fault c.take_own.new.seat c.settle.ensures.later (is.knew, is.refused),
       );
     }
 

@@ -1,0 +1,233 @@
+//! What a running node starts with, a log with writes and several workers, and how it asks for more owners than one digest tells of.
+ghost use Rattle.std.specs.Prelude.{◌≤◌};
+
+use crate::making::{key, name, new_log, node_of, settings, settings_with, weight};
+use crate::peers::{hears_only, next_of, put_is_done_as, reach, talk};
+use crate::running::pace;
+use crate::waking::silent_b;
+use crate::{got, same};
+use sb_log::{PlainLog, WriteLog};
+use sb_node::NodeCore;
+use sb_run::{Nobody, Paths, Ran, run_node};
+use sb_table::Table;
+use sb_types::{Block, Delta, Entry, Name};
+use std::alloc::Global;
+use std::io::{Read, Write};
+use std::net::Net;
+use std::os::unix::net::{UnixListener, UnixStream};
+use std::process::Abort;
+use std::{fs, thread};
+
+/// The Hello of the node a of the cluster c1.
+const HELLO_OF_A: [u8; 12] = *b"\xa7\x01\x00\x00\x00\x06\x01\x02c1\x01a";
+
+/// The Hello of the node b of the cluster c1, and its Bye.
+const HELLO_AND_BYE: &[u8] =
+    b"\xa7\x01\x00\x00\x00\x06\x01\x02c1\x01b\xa7\x01\x00\x00\x00\x02\x04\x01";
+
+/// A log of a, which wrote twice.
+fn log_of_two(rt: &impl Abort, alloc: Global) -> PlainLog {
+    let mut log = new_log(rt, alloc, b"a");
+    got(rt, log.put(&key(rt, b"x"), &weight(rt, 5)));
+    got(rt, log.put(&key(rt, b"y"), &weight(rt, 5)));
+    log
+}
+
+/// How far b holds a behind a first session, whether the owner's write is then done as the third, and how far b holds a behind
+/// a second session.
+fn hear_twice<R: Net + Abort>(
+    rt: &R,
+    alloc: Global,
+    listener: &UnixListener,
+    paths: &Paths,
+) -> (u64, bool, u64) {
+    let mut of_b = silent_b(rt, alloc);
+    talk(rt, alloc, &mut of_b, &next_of(rt, listener), None);
+    let at_first = of_b.upto(&name(rt, b"a"));
+    let dialed = next_of(rt, listener);
+    let done = put_is_done_as(rt, paths.control, 3);
+    talk(rt, alloc, &mut of_b, &dialed, None);
+    (at_first, done, of_b.upto(&name(rt, b"a")))
+}
+
+#[test]
+fn a_node_opens_with_what_its_log_has(rt: HostRuntime) {
+    let paths = Paths {
+        sock: "kept.sock",
+        control: "kept.control",
+        peers: &["kept.b"],
+    };
+    let alloc = rt.alloc();
+    let listener = got(&rt, UnixListener::bind(&rt, "kept.b"));
+    let (ran, heard) = thread::join(
+        &rt,
+        || run_node(
+            &rt,
+            alloc,
+            settings(&rt, 3),
+            log_of_two(&rt, alloc),
+            &paths,
+            pace(2, 0),
+            &Nobody,
+        ),
+        || hear_twice(&rt, alloc, &listener, &paths),
+    );
+    got(&rt, fs::remove_file(&rt, "kept.b"));
+    same(&rt, &heard, &(2, true, 3));
+    let whole = Ran {
+        rounds: 2,
+        faults: 0,
+        events: 3,
+    };
+    same(&rt, &got(&rt, ran), &whole);
+}
+
+/// Hears the Hello of a.
+fn be_greeted(rt: &impl Abort, stream: &UnixStream) {
+    let mut reader = stream;
+    let mut heard = [0u8; 12];
+    got(rt, reader.read_exact(&mut heard));
+    same(rt, &heard, &HELLO_OF_A);
+}
+
+/// Says Hello and Bye; whether nothing more comes then.
+fn leave(rt: &impl Abort, stream: &UnixStream) -> bool {
+    let mut writer = stream;
+    got(rt, writer.write_all(HELLO_AND_BYE));
+    hears_only(rt, stream, 0)
+}
+
+/// Three peers connect, and each is greeted before any of them says a word; whether each then left in peace.
+fn crowd<R: Net + Abort>(rt: &R, sock: &str) -> [bool; 3] {
+    let (first, second, third) = (reach(rt, sock), reach(rt, sock), reach(rt, sock));
+    be_greeted(rt, &first);
+    be_greeted(rt, &second);
+    be_greeted(rt, &third);
+    [leave(rt, &first), leave(rt, &second), leave(rt, &third)]
+}
+
+/// With fewer workers the third would be greeted only once another was silent for ten seconds, and was given up with a fault.
+#[test]
+fn as_many_peers_are_served_at_once_as_there_are_workers(rt: HostRuntime) {
+    let paths = Paths {
+        sock: "crowd.sock",
+        control: "crowd.control",
+        peers: &["crowd.b"],
+    };
+    let alloc = rt.alloc();
+    let listener = got(&rt, UnixListener::bind(&rt, "crowd.b"));
+    let mut pace = pace(1, 10_000);
+    pace.dial_idle = 0;
+    let (ran, left) = thread::join(
+        &rt,
+        || run_node(
+            &rt,
+            alloc,
+            settings_with(&rt, 256, 5, 3),
+            new_log(&rt, alloc, b"a"),
+            &paths,
+            pace,
+            &Nobody,
+        ),
+        || {
+            let dialed = next_of(&rt, &listener);
+            let left = crowd(&rt, paths.sock);
+            talk(&rt, alloc, &mut silent_b(&rt, alloc), &dialed, None);
+            left
+        },
+    );
+    got(&rt, fs::remove_file(&rt, "crowd.b"));
+    same(&rt, &left, &[true, true, true]);
+    let whole = Ran {
+        rounds: 1,
+        faults: 0,
+        events: 1,
+    };
+    same(&rt, &got(&rt, ran), &whole);
+}
+
+/// The owner of this number, whose name is as long as may be: a digest of 256 bytes has room for fewer than seven.
+fn owner(rt: &impl Abort, number: u8) -> Name {
+    let mut text = [b'o'; 32];
+    text[31] = number;
+    name(rt, &text)
+}
+
+/// A delta of the write of this version of an owner.
+fn delta_of(rt: &impl Abort, alloc: Global, number: u8, version: u64) -> Delta
+    requires { 1 ≤ version }
+{
+    let entry = Entry::new(key(rt, b"w"), version, weight(rt, 5));
+    let entries = got(rt, vec![in alloc; entry]);
+    let block = got(
+        rt,
+        Block::new(owner(rt, number), version.saturating_sub(1), entries),
+    );
+    got(rt, Delta::new(got(rt, vec![in alloc; block])))
+}
+
+/// A node that holds the first write of seven owners.
+fn node_with_seven(rt: &impl Abort, alloc: Global, me: &[u8]) -> NodeCore {
+    let settings = settings_with(rt, 4_096, 3, 1);
+    let mut core = node_of(rt, alloc, settings, me, Table::new(alloc));
+    for number in b'1'..=b'7' {
+        got(rt, core.apply(&delta_of(rt, alloc, number, 1)));
+    }
+    core
+}
+
+/// c tells the node of seven owners; b, which holds a second write of the last of them, is dialed; how far c holds that owner
+/// once it asked the node again.
+fn ask_for_the_last<R: Net + Abort>(
+    rt: &R,
+    alloc: Global,
+    listener: &UnixListener,
+    sock: &str,
+) -> u64 {
+    let (mut of_b, mut of_c) = (
+        node_with_seven(rt, alloc, b"b"),
+        node_with_seven(rt, alloc, b"c"),
+    );
+    got(rt, of_b.apply(&delta_of(rt, alloc, b'7', 2)));
+    let first = next_of(rt, listener);
+    talk(rt, alloc, &mut of_c, &reach(rt, sock), Some(1));
+    talk(rt, alloc, &mut silent_b(rt, alloc), &first, None);
+    talk(rt, alloc, &mut of_b, &next_of(rt, listener), None);
+    let third = next_of(rt, listener);
+    talk(rt, alloc, &mut of_c, &reach(rt, sock), Some(1));
+    talk(rt, alloc, &mut of_b, &third, None);
+    of_c.upto(&owner(rt, b'7'))
+}
+
+/// The second and the third round have two exchanges, and so two deltas come in each; two come of c, and one in the first round.
+#[test]
+fn owners_behind_the_first_digest_are_asked_for(rt: HostRuntime) {
+    let paths = Paths {
+        sock: "seven.sock",
+        control: "seven.control",
+        peers: &["seven.b"],
+    };
+    let alloc = rt.alloc();
+    let listener = got(&rt, UnixListener::bind(&rt, "seven.b"));
+    let (ran, last) = thread::join(
+        &rt,
+        || run_node(
+            &rt,
+            alloc,
+            settings(&rt, 3),
+            new_log(&rt, alloc, b"a"),
+            &paths,
+            pace(3, 0),
+            &Nobody,
+        ),
+        || ask_for_the_last(&rt, alloc, &listener, paths.sock),
+    );
+    got(&rt, fs::remove_file(&rt, "seven.b"));
+    same(&rt, &last, &2);
+    let whole = Ran {
+        rounds: 3,
+        faults: 0,
+        events: 7,
+    };
+    same(&rt, &got(&rt, ran), &whole);
+}
