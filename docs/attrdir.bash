@@ -53,7 +53,8 @@ _attrdir() {
     serve)
       options='--name --cluster --log --sock --control --budget --order --max-version --seats --workers --rounds --pause --fanout --idle --dial-idle --request --max-reads --on-log-fault --log-time --metrics --help'
       ;;
-    set | del) options='--control --help' ;;
+    set) options='--control --raw --help' ;;
+    del) options='--control --help' ;;
     get) options='--control --owner --prefix --key --value --format --help' ;;
     watch) options='--control --owner --prefix --every --count --mark --retry --help' ;;
     owners) options='--sock --cluster --name --help' ;;
@@ -63,7 +64,7 @@ _attrdir() {
 
   if [[ $word != -* ]]; then
     case $command:$place:$kind in
-      set:1:*) options='addr weight flag' ;;
+      set:1:*) options='addr weight flag text' ;;
       set:2:flag) options='true false' ;;
       set:2:* | set:0:* | del:*) options='' ;;
       serve:*)

@@ -10,7 +10,7 @@ import threading
 import time
 from concurrent.futures import ThreadPoolExecutor
 
-from nodes import BYE, DONE, REFUSED, ROOT, SECONDS, Difference
+from nodes import BYE, DONE, FRAME_FRONT, REFUSED, ROOT, SECONDS, Difference
 from nodes import ask, delta, digest, frame, hello, number, page, put, read_frame, run, send_in_pieces, text, want, weight
 
 # the reads that a script may take, by docs/FAULTS.md
@@ -142,7 +142,7 @@ def wrong_answers(check):
     kind = lambda fault, message: told[fault].replace("kind N", f"kind {message[6]}")
     writes, reads = ["set", "k", "weight", "5"], ["get"]
     cases = [(writes, [answer], fault, told[fault]) for answer, fault in (
-        (b"\xa8" + good[1:], 10), (b"\xa7\x02" + good[2:], 11), (b"\xa7\x01" + bytes(4), 12), (b"\xa7\x01" + number(65531, 4), 12),
+        (b"\xa8" + good[1:], 10), (b"\xa7\x01" + good[2:], 11), (b"\xa7\x03" + good[2:], 11), (FRAME_FRONT + bytes(4), 12), (FRAME_FRONT + number(65531, 4), 12),
         (b"", 28), (good[:-1], 28),
     )]
     no_put = [hello("a"), digest(0), delta("a", 0, [("k", 1, weight(5))]), BYE, ask(), rows(), put("k", weight(5)), frame(0x7F, b"")]
@@ -214,7 +214,7 @@ def full_output(check):
     there = ["--control", str(node.control)]
     ends = [ended_at_full(check, *it) for it in (
         (["set", *there, "k", "weight", "5"],), (["get", *there],), (["get", "--format", "json", *there],), (["watch", *there],), (["del", *there, "k"],),
-        (["sim"], b"world 256 breadth 9 a\nupto a a\n"), (["--help"],),
+        (["sim"], b"world 1024 breadth 9 a\nupto a a\n"), (["--help"],),
     )]
     node.kill()
     ends.append(ended_at_full(check, ["log", "--log", str(node.log), "--name", "a", "--cluster", "c"]))

@@ -57,6 +57,30 @@ def one_row(check):
     wrong("get of a row at nobody", node.command("get", "--owner", "a", "--key", "up"), 3, "fault 16")
 
 
+def texts_of_scripts(check):
+    """A text is one argument of set, as it is spelled or with --raw as it is; in lines it is all behind its kind; get prints it as it is spelled."""
+    node = check.node("a").start()
+    for at, (words, line) in enumerate((
+        (["t/a", "text", "two  words "], "two  words "), (["t/b", "text", r" a\5cb\0a"], r" a\5cb\0a"), (["--raw", "t/c", "text", "C:\\5c\n\té "], r"C:\5c5c\0a\09é "),
+        (["t/d", "--raw", "text", "x" * 512], "x" * 512), (["--raw", "t/w", "weight", "5"], None), (["--raw", "--", "t/e", "text", "-- x"], "-- x"),
+    ), 1):
+        key = next(it for it in words if it.startswith("t/"))
+        want(f"set {words}", node.command("set", *words), (0, f"version {at}\n", ""))
+        if line is not None:
+            want(f"the row of {key}", node.command("get", "--owner", "a", "--key", key), (0, f"a {key} {at} text {line}\n", ""))
+            want(f"the value of {key}", node.command("get", "--owner", "a", "--key", key, "--value"), (0, f"{line}\n", ""))
+    for words in ([""], [r"a\41"], [r"\5C"], [r"\5"], ["\\"], ["a\nb"], ["\x7f"], ["x" * 513], ["é" * 257], ["--raw", ""], ["--raw", "x" * 513]):
+        *raw, word = words
+        wrong(f"set of the text {words}", node.command("set", *raw, "t/x", "text", word), 3, "fault 4", "value 'text ")
+    words = ["set", "--control", str(node.control), "-"]
+    given = "l/a text  x  y \nl/b text removed\nl/c text \\5c\\7f\nl/d removed\n"
+    status, printed, said = ended(check.program, words, given)
+    want("lines of texts", (status, printed, said.splitlines()[0]), (3, "version 7\nversion 8\nversion 9\n", "fault 9"))
+    want("their rows", node.get("--prefix", "l/"), ["a l/a 7 text  x  y ", "a l/b 8 text removed", r"a l/c 9 text \5c\7f"])
+    for line in ("k text", "k text ", "k  text x", r"k text \5C", "k text x\r"):
+        wrong(f"a line {line!r}", ended(check.program, words, f"{line}\n"), 3, "fault 4", "line 1: ")
+
+
 def lines_of_input(check):
     """set - writes what lines of standard input say, each as it comes, and stops at the first that is none."""
     node = check.node("a").start()
@@ -244,7 +268,7 @@ def digest(want_one, start, end, pairs):
 
 def owners(check):
     """owners prints how far each owner is held, over as many digests as it takes, writes nothing, and ends its session in order."""
-    node = check.node("a", "--budget", "256").start()
+    node = check.node("a", "--budget", "1024").start()
     ask = lambda *words: run(check.program, "owners", "--sock", str(node.sock), *words)
     want("a node that holds nothing", ask("--cluster", "c"), (0, "a 0\n", ""))
     want("set", [node.put("k", 5), node.put("l", 6)], [1, 2])
@@ -323,4 +347,4 @@ def made_up_digests(check):
         want(f"its first messages at {what}", made.messages[:2], begins)
 
 
-PARTS = (one_row, lines_of_input, environment, marks, outlasting, pages_apart, waiting, owners, whole_sessions, made_up_digests)
+PARTS = (one_row, texts_of_scripts, lines_of_input, environment, marks, outlasting, pages_apart, waiting, owners, whole_sessions, made_up_digests)

@@ -52,9 +52,9 @@ def delta_for(node, pairs=()):
 def orders(check):
     """By breadth a frame takes of each owner one, which is so where no order is given; by depth all of the owner with the most."""
     for options, owners in ((), [b"\x01a", b"\x01p"]), (("--order", "breadth"), [b"\x01a", b"\x01p"]), (("--order", "depth"), [b"\x01p"]):
-        node = check.node("a", "--budget", "256", *options).start()
+        node = check.node("a", "--budget", "1024", *options).start()
         want("a write", node.put("k", 5), 1)
-        give(node, "p", 50)
+        give(node, "p", 100)
         body = delta_for(node)
         found = [int.from_bytes(body[:2], "big"), body[2:4]]
         want(f"the blocks by {options}", found, [len(owners), owners[0]])
@@ -63,7 +63,7 @@ def orders(check):
 
 def budgets(check):
     """No frame is longer than the budget, and none leaves room for what it could hold."""
-    for options, budget in ((), 65536), (("--budget", "256"), 256), (("--budget", "1000"), 1000):
+    for options, budget in ((), 65536), (("--budget", "1024"), 1024), (("--budget", "2000"), 2000):
         node = check.node("a", *options).start()
         give(node, "p", 2000)
         give(node, "p", 2000, after=2000)

@@ -8,7 +8,7 @@ import subprocess
 import threading
 import time
 
-from nodes import SECONDS, Difference, run, want
+from nodes import SECONDS, Difference, run, spelled, want
 
 # kinds and words of values, with what JSON has of each; an address may have each printing byte but the space
 VALUES = [
@@ -19,6 +19,11 @@ VALUES = [
     ("weight", str(2**63 - 1), 2**63 - 1),
     ("flag", "true", True),
     ("flag", "false", False),
+    ("text", "zone b", "zone b"),
+    ("text", " é \\5c\\0a\\7f\\00\" ", ' é \\\n\x7f\0" '),
+    ("text", "x" * 512, "x" * 512),
+    ("text", "€" * 170 + "zz", "€" * 170 + "zz"),
+    ("text", "a\u2028b\u0085c", "a\u2028b\u0085c"),
 ]
 
 
@@ -61,16 +66,16 @@ def as_text(line):
     row = json.loads(line)
     want(f"the names of {line}", sorted(row), ["key", "kind", "owner", "value", "version"])
     value, kind = row["value"], row["kind"]
-    want(f"the kind of {line}", type(value), {"addr": str, "weight": int, "flag": bool}[kind])
-    word = ("true" if value else "false") if kind == "flag" else value
+    want(f"the kind of {line}", type(value), {"addr": str, "weight": int, "flag": bool, "text": str}[kind])
+    word = ("true" if value else "false") if kind == "flag" else spelled(value) if kind == "text" else value
     return f"{row['owner']} {row['key']} {row['version']} {kind} {word}"
 
 
 def rows_as_json(check):
     """Rows as JSON say what the lines of rows say, on each page."""
-    node = check.node("a-1", "--budget", "256").start()
+    node = check.node("a-1", "--budget", "1024").start()
     for at, (kind, word, _) in enumerate(VALUES):
-        want("set", node.command("set", "--", f"k/{at}._-", kind, word), (0, f"version {at + 1}\n", ""))
+        want("set", node.command("set", "--", f"k/{at:02}._-", kind, word), (0, f"version {at + 1}\n", ""))
     lines = node.get()
     want("how many rows", len(lines), len(VALUES))
     want("rows in words", node.get("--format", "text"), lines)
@@ -78,7 +83,7 @@ def rows_as_json(check):
     want("rows as JSON", [as_text(it) for it in told], lines)
     values = [json.loads(it)["value"] for it in told]
     want("values as JSON", list(map(repr, values)), [repr(value) for _, _, value in VALUES])
-    want("some rows as JSON", [as_text(it) for it in node.get("--format", "json", "--owner", "a-1", "--prefix", "k/3")], lines[3:4])
+    want("some rows as JSON", [as_text(it) for it in node.get("--format", "json", "--owner", "a-1", "--prefix", "k/03")], lines[3:4])
     want("no rows as JSON", node.get("--format", "json", "--prefix", "l"), [])
     for words in (["--format", "yaml"], ["--format"], ["--format="]):
         want(f"the status of {words}", node.command("get", *words)[0], 2)

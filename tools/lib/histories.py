@@ -25,7 +25,7 @@ def key_of(writer, index):
 
 def row_of(line):
     """The row that a line of `get` is; none where it is no such line."""
-    words = line.split(" ")
+    words = line.split(" ", 4)
     if len(words) != 5 or not words[2].isdecimal():
         return None
     return Row(words[0], words[1], int(words[2]), f"{words[3]} {words[4]}")
@@ -69,8 +69,10 @@ class History:
         """What write NUMBER is. Each number is of one writer, and each key of one writer too. Some keys are written often, some hardly."""
         mixed = zlib.crc32(f"{self.seed} {self.owner} {number}".encode())
         key = key_of(number % WRITERS, int(2 * (16 - log2(1 + mixed % 65536))) % KEYS)
-        kind = (REMOVED, "flag", "addr", "addr", "weight", "weight", "weight", "weight")[mixed >> 16 & 7]
-        values = {REMOVED: "-", "flag": ("false", "true")[mixed >> 19 & 1], "addr": f"10.0.0.1:{number}", "weight": str(number)}
+        kind = (REMOVED, "flag", "addr", "text", "weight", "weight", "weight", "weight")[mixed >> 16 & 7]
+        values = {
+            REMOVED: "-", "flag": ("false", "true")[mixed >> 19 & 1], "addr": f"10.0.0.1:{number}", "text": f" two  words é {number}", "weight": str(number),
+        }
         return Asked(key, kind, values[kind])
 
     def begin(self, number):

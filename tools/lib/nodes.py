@@ -26,6 +26,10 @@ def want(what, found, wanted):
 # ---- frames
 
 
+# what each frame begins with: the mark, and the version of the format
+FRAME_FRONT = b"\xa7\x02"
+
+
 def text(word):
     return bytes([len(word)]) + word.encode()
 
@@ -35,11 +39,22 @@ def number(value, size=8):
 
 
 def frame(kind, body):
-    return b"\xa7\x01" + number(1 + len(body), 4) + bytes([kind]) + body
+    return FRAME_FRONT + number(1 + len(body), 4) + bytes([kind]) + body
 
 
 def weight(value):
     return b"\x02" + number(value)
+
+
+def long_text(value):
+    """The slot of a text."""
+    found = value.encode()
+    return b"\x04" + number(len(found), 2) + found
+
+
+def spelled(value):
+    """A text as it stands in a line: control bytes and backslashes as a backslash and two digits."""
+    return "".join(f"\\{ord(it):02x}" if ord(it) < 32 or it in "\x7f\\" else it for it in value)
 
 
 def hello(name, cluster="c"):
@@ -212,7 +227,8 @@ class Node:
     def get(self, *words):
         status, printed, said = self.command("get", *words)
         want(f"get {words} at {self.name}", (status, said), (0, ""))
-        return printed.splitlines()
+        # (a text may have what Python takes for the end of a line, as U+2028)
+        return printed.split("\n")[:-1]
 
     def awaits(self, what, test):
         """Asks until the rows are as they should be."""

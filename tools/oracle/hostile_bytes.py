@@ -17,6 +17,7 @@ PREFIX = re.compile(rb"[a-z0-9._/-]{0,64}\Z")
 ADDR = re.compile(rb"[\x21-\x7e]{1,128}\Z")
 KINDS = {1, 2, 3, 4, 0x10, 0x11, 0x12, 0x13, 0x14}
 PAYLOAD_MOST = 65_530
+VERSION = 2
 
 
 class Malformed(Exception):
@@ -48,13 +49,18 @@ class Body:
         return text
 
     def value(self, least_tag):
-        tag = self.number(1, least_tag, 3)
+        tag = self.number(1, least_tag, 4)
         if tag == 1:
             self.text(ADDR)
         elif tag == 2:
             self.number(8, 0, 2**63 - 1)
         elif tag == 3:
             self.number(1, 0, 1)
+        elif tag == 4:
+            try:
+                self.take(self.number(2, 1, 512)).decode()
+            except UnicodeDecodeError:
+                raise Malformed from None
 
 
 def need(is_so):
@@ -142,7 +148,7 @@ def first(stream):
     """What a reader says of the bytes that it has: a word, and behind a message how long its frame is."""
     if stream and stream[0] != 0xA7:
         return "mark", 0
-    if len(stream) > 1 and stream[1] != 1:
+    if len(stream) > 1 and stream[1] != VERSION:
         return "version", 0
     if len(stream) < 6:
         return "waiting", 0
@@ -178,10 +184,11 @@ def u64(number):
 
 def frame(kind, body):
     payload = bytes([kind]) + body
-    return b"\xa7\x01" + len(payload).to_bytes(4, "big") + payload
+    return bytes([0xA7, VERSION]) + len(payload).to_bytes(4, "big") + payload
 
 
 WEIGHT, ADDRESS, FLAG, REMOVED = b"\x02" + u64(5), b"\x01" + text(b"p:1"), b"\x03\x01", b"\x00"
+TEXT = b"\x04" + u16(3) + b"h\xc3\xa9"
 
 FRAMES = [
     ("hello", frame(1, text(b"c1") + text(b"a"))),
@@ -192,7 +199,7 @@ FRAMES = [
             3,
             u16(2)
             + text(b"a") + u64(0) + u16(2) + text(b"w") + u64(1) + WEIGHT + text(b"x") + u64(2) + REMOVED
-            + text(b"b") + u64(1) + u16(2) + text(b"k") + u64(2) + ADDRESS + text(b"l") + u64(3) + FLAG,
+            + text(b"b") + u64(1) + u16(3) + text(b"k") + u64(2) + ADDRESS + text(b"l") + u64(3) + FLAG + text(b"m") + u64(4) + TEXT,
         ),
     ),
     ("bye", frame(4, b"\x01")),

@@ -8,6 +8,7 @@ thousand nodes, digests that take several frames.
 """
 import os
 import random
+import re
 import sys
 
 NAME_BYTES = "abcdefghijklmnopqrstuvwxyz0123456789-"
@@ -15,16 +16,18 @@ KEY_BYTES = NAME_BYTES + "._/"
 ADDR_BYTES = "".join(map(chr, range(0x21, 0x7F)))
 GREATEST = 2**64 - 1
 
-GOOD_WORLDS = ["256 breadth 100", "65536 depth 1099511627775", "0256 depth 7", "300 breadth 18", "512 depth 0000000000000000000000040"]
-BAD_SETTINGS = ["255 breadth 100", "65537 breadth 100", "0 depth 5", f"{GREATEST} depth 5", "256 depth 0", "256 breadth 1099511627776", f"256 breadth {GREATEST}"]
+GOOD_WORLDS = ["1024 breadth 100", "65536 depth 1099511627775", "01024 depth 7", "1100 breadth 18", "2048 depth 0000000000000000000000040"]
+BAD_SETTINGS = ["1023 breadth 100", "65537 breadth 100", "0 depth 5", f"{GREATEST} depth 5", "1024 depth 0", "1024 breadth 1099511627776", f"1024 breadth {GREATEST}"]
 BAD_NAMES = ["A", "a_b", "a.b", "a/b", "n" * 33, "é", "a\r", "a\x00", "a:", "\x7f", "a\t"]
 BAD_KEYS = ["K", "k:", "k" * 65, "k,k", "ké", "k\r", "\x00", "k\\", "~"]
 BAD_VALUES = [
     "addr " + "x" * 129, "addr \x7f", "addr x\r", "addr é", "addr a\x1fb", "addr a\tb",
     "weight 9223372036854775808", f"weight {GREATEST}", f"weight {GREATEST + 1}", "weight 00", "weight 01", "weight -1", "weight +1", "weight 1.0", "weight 0x1",
-    "weight x", "weight " + "9" * 40, "weight 5\r", "weight ٣", "flag True", "flag 1", "flag no", "flag true\r", "weights 5", "Addr x", "text x", "removed x", "removed removed",
+    "weight x", "weight " + "9" * 40, "weight 5\r", "weight ٣", "flag True", "flag 1", "flag no", "flag true\r", "weights 5", "Addr x", "Text x", "removed x", "removed removed",
+    "text ", "text a\\41", "text \\5C", "text \\0A", "text \\7F", "text \\80", "text \\5", "text \\", "text a\\ b", "text a\x1fb", "text \x7f", "text a\tb", "text x\r", "text " + "x" * 513, "text " + "é" * 257,
 ]
-GOOD_VALUES = ["addr " + "x" * 128, "addr !", "addr ~", "addr " + ADDR_BYTES, "weight 0", "weight 1", "weight 9223372036854775807", "weight 9223372036854775806", "flag true", "flag false"]
+GOOD_VALUES = ["addr " + "x" * 128, "addr !", "addr ~", "addr " + ADDR_BYTES, "weight 0", "weight 1", "weight 9223372036854775807", "weight 9223372036854775806", "flag true", "flag false", "text x", "text  x ", "text " + "x" * 512, "text " + "€" * 170 + "\\00\\5c", "text a\\5cb\\0a", "text kept", "text é removed"]
+TEXT_PARTS = [" ", "  ", "a", "Zz", "0", "\\5c", "\\0a", "\\00", "\\7f", "\\1f", "é", "€", "𝄞", "~", '"', "text ", " kept"]
 BAD_NUMBERS = ["-1", "+1", "x", "1x", "0x1", "1_0", "1.0", str(GREATEST + 1), "9" * 30, "٣", "1\r", "\x00"]
 
 
@@ -34,9 +37,20 @@ def text(rng, letters, most):
     return "".join(rng.choice(letters) for _ in range(length))
 
 
+def spelled(rng):
+    """Makes the spelling of a text, now and then of one of the longest."""
+    most, made, length = rng.choice([1, 3, 10, 40, 511, 512]), "", 0
+    while True:
+        part = rng.choice(TEXT_PARTS)
+        length += len(re.sub(r"\\..", "x", part).encode())
+        if length > most:
+            return made or "x"
+        made += part
+
+
 def value(rng):
     """Makes a value in its two words."""
-    made = [f"weight {rng.randint(0, 9)}", f"weight {rng.getrandbits(63)}", f"addr {text(rng, ADDR_BYTES, 128)}"]
+    made = [f"weight {rng.randint(0, 9)}", f"weight {rng.getrandbits(63)}", f"addr {text(rng, ADDR_BYTES, 128)}", f"text {spelled(rng)}"]
     return rng.choice([*made, rng.choice(GOOD_VALUES)])
 
 
@@ -133,7 +147,8 @@ class Life:
             f"give {node} {node} {bad}", f"offer {node} {node} {bad}", f"piece 1 {bad}", f"line 1 {bad}", f"show {bad}",
             f"connect {node} {far}", f"close {far}", f"ask {far}", f"line {far} 1", f"piece {far} 1",
             f"put {node} k removed", f"put {node} k addr a b", f"commit {node} k Removed", f"crash {node} k removed kept", f"crash {node} k weight 1", f"crash {node} k weight 1 Kept",
-            self.lines[0], "world 256 breadth 100 a b", "world",
+            f"put {node} k text", f"put {node} k  text x", f"put  {node} k text x", f"crash {node} k text kept", f"crash {node} k text  kept", f"crash {node} k text x y lost", f"crash {node} k text x ",
+            self.lines[0], "world 1024 breadth 100 a b", "world",
         ]
         return rng.choice(ways)
 
@@ -195,9 +210,9 @@ def talk(rng):
 
 def through(rng):
     """A node that learns of others' writes, and passes them on: digests and deltas of many owners."""
-    count = rng.choice([3, 5, 8, 12])
+    count = rng.choice([3, 5, 12, 28])
     names = [f"{at:02}".rjust(rng.choice([2, 32]), "n") for at in range(count)]
-    lines = [f"world {rng.choice([256, 300, 440, 512, 700, 65536])} {rng.choice(['breadth', 'depth'])} 1000 {' '.join(names)}"]
+    lines = [f"world {rng.choice([1024, 1100, 1240, 1500, 2100, 65536])} {rng.choice(['breadth', 'depth'])} 1000 {' '.join(names)}"]
     for name in names[1:]:
         lines += [f"put {name} k{rng.randint(0, 5)} {value(rng)}" for _ in range(rng.randint(0, 4))]
         lines += [f"give {name} {names[0]} 0"] * rng.randint(1, 3)
@@ -216,7 +231,7 @@ def through(rng):
 
 def spent(rng):
     """A life that uses up its versions and goes on."""
-    return Life(rng, f"256 breadth {rng.randint(1, 5)}").live(rng.randint(10, 60)).lines
+    return Life(rng, f"1024 breadth {rng.randint(1, 5)}").live(rng.randint(10, 60)).lines
 
 
 def twins(rng):
@@ -235,8 +250,8 @@ def worlds(rng):
     names, good = [rng.choice([text(rng, NAME_BYTES, 32), rng.choice(BAD_NAMES), "a"]) for _ in range(rng.randint(1, 4))], rng.choice(GOOD_WORLDS)
     line = rng.choice([
         f"world {good} {' '.join(names)}", f"world {rng.choice(BAD_SETTINGS)} {' '.join(names)}", f"world {rng.choice(BAD_SETTINGS)} a", f"world {good} a b a",
-        f"world {good}", f"world {good} ", f"world {good}  a", f"world {rng.choice(BAD_NUMBERS)} breadth 5 a", f"world 256 depth {rng.choice(BAD_NUMBERS)} a",
-        "world 256 Breadth 5 a", "world 256 random 5 a", "world 256 5 a", f"World {good} a", f" world {good} a", "world", "put a k weight 1", "\r", " ", f"world {good} a\r",
+        f"world {good}", f"world {good} ", f"world {good}  a", f"world {rng.choice(BAD_NUMBERS)} breadth 5 a", f"world 1024 depth {rng.choice(BAD_NUMBERS)} a",
+        "world 1024 Breadth 5 a", "world 1024 random 5 a", "world 1024 5 a", f"World {good} a", f" world {good} a", "world", "put a k weight 1", "\r", " ", f"world {good} a\r",
     ])
     return [""] * rng.randint(0, 2) + [line, "put a k weight 1", "read a a k"]
 
@@ -257,7 +272,7 @@ def full(rng):
     """An owner with 4,096 keys, and a few writes and gives beyond."""
     shown = rng.choice(["flag true", "weight 7"])
     most = rng.choice([4_094, 4_096, 4_098, 1_099_511_627_775])
-    lines = [f"world 256 breadth {most} a b", *(f"put a {at:03x} {shown}" for at in range(4_094))]
+    lines = [f"world 1024 breadth {most} a b", *(f"put a {at:03x} {shown}" for at in range(4_094))]
     if rng.random() < 0.5:
         lines += ["give a b 0"]
     lines += ["put a x weight 1", "put a y flag true", "put a z weight 1", "put a x flag false", "put a z weight 1", "put a y weight 2", "put a new weight 1", "put b z weight 1"]
@@ -283,7 +298,7 @@ def crowd(rng):
     names = [f"n{at}" for at in range(rng.choice([1_023, 1_024, 1_024, 1_025]))]
     if rng.random() < 0.4:
         names[-1] = rng.choice(["n0", "N"])
-    settings = rng.choice(["256 breadth 9", "256 breadth 9", "255 breadth 9"])
+    settings = rng.choice(["1024 breadth 9", "1024 breadth 9", "1023 breadth 9"])
     return [f"world {settings} {' '.join(names)}", "put n1022 k weight 1", "give n1022 n5 0", "read n5 n1022 k", "read n1023 n1022 k"]
 
 

@@ -1,5 +1,5 @@
 #!/usr/bin/env python3
-"""What `attrdir sim` must print, worked out a second time and without a look at the program.
+r"""What `attrdir sim` must print, worked out a second time and without a look at the program.
 
 Standard input is a script, standard output gets its answers. The exit status is 0, 2 after a line that is no command,
 or 3 after a fault of the world line. The program's output is compared with this line by line (see `compare`).
@@ -10,12 +10,17 @@ Lines
 - A script is bytes. Lines end at a byte 0a; a last line without one counts. A byte 0d is a byte as any other.
 - An empty line is passed over, but counts in `line N`. A script of empty lines prints nothing and ends with status 0.
 - Words are separated by exactly one space, with none at an end. A line of one space is no command.
+- A text that `put`, `commit` or `crash` writes is one word, and may have spaces anywhere: it is all behind `text` and a
+  space, of `crash` up to the last space. So `put a k text ` and `crash a k text  kept` write the empty text (4), and
+  `put a k text` and `crash a k text kept` are no commands. Before the text there is one space between two words.
 - The first line that is not empty is the world line. Later a world line is no command, even a faultless one.
 - The shape of the whole line is looked at before any of its words is read: how many words, the numbers, the order's
   word, `kept` or `lost`. The number of a connection is 1 to 999,999, and another is no command.
 - A line that is no command is `line N` and ends the run; what was printed before it stands.
 - Numbers are decimal digits, at most 2^64 - 1, and may have leading zeros, however many. A weight is no such number:
   it is a value with a spelling of its own, and a wrong one is fault 4.
+- A text is spelled in one way: the bytes 00 to 1f, 7f and the backslash are a backslash and two digits of 0-9 and a-f,
+  all others are themselves. Another spelling (`\41`, `\5C`, `\5`), bytes that are no UTF-8, none and more than 512: 4.
 - A value is two words. So `put a k removed` is no command, and `put a k removed x` is one with an unknown kind (4).
   `commit a k removed` is a removal, and `crash a k removed kept` no command.
 
@@ -38,14 +43,15 @@ import re
 import sys
 from dataclasses import dataclass, field
 
-NAME_MOST, KEY_MOST, ADDR_MOST = 32, 64, 128
+NAME_MOST, KEY_MOST, ADDR_MOST, TEXT_MOST = 32, 64, 128, 512
 WEIGHT_MOST = 2**63 - 1
 NUMBER_MOST = 2**64 - 1
 VERSION_MOST = 2**40 - 1
-BUDGET_LEAST, BUDGET_MOST = 256, 65_536
+BUDGET_LEAST, BUDGET_MOST = 1_024, 65_536
 NODES_MOST, KEYS_MOST, OWNERS_MOST = 1_024, 4_096, 1_024
 CONNECTION_MOST = 999_999
 CLUSTER = b"sim"
+FRAME_FRONT = b"\xa7\x02"
 
 BAD_NAME, BAD_KEY, BAD_VALUE, BAD_SETTING = 2, 3, 4, 5
 TABLE_FULL, VERSIONS_SPENT, NOTHING_THERE, CLOSED = 6, 8, 9, 15
@@ -69,8 +75,20 @@ class Fault(Exception):
 # ---- words
 
 
+TEXT_LINE = re.compile(rb"(put|commit|crash) ([^ ]+) ([^ ]+) (text) (.*)", re.DOTALL)
+
+
 def words_of(line):
-    """Splits a line into its words."""
+    """Splits a line into its words. A text that is written is one, whatever spaces it has."""
+    found = TEXT_LINE.fullmatch(line)
+    if found:
+        *front, behind = found.groups()
+        if front[0] != b"crash":
+            return [*front, behind]
+        spelled, space, end = behind.rpartition(b" ")
+        if not space or not end:
+            raise NoCommand
+        return [*front, spelled, end]
     words = line.split(b" ")
     if b"" in words:
         raise NoCommand
@@ -128,9 +146,28 @@ class Value:
 REMOVED = Value(0, b"", b"")
 
 
+SPELLING = re.compile(rb"([^\x00-\x1f\x7f\\]|\\([01][0-9a-f]|7f|5c))*", re.DOTALL)
+
+
+def read_text(word):
+    """Reads a text in its one spelling."""
+    if not SPELLING.fullmatch(word):
+        raise Fault(BAD_VALUE)
+    found = re.sub(rb"\\(..)", lambda it: bytes.fromhex(it[1].decode()), word)
+    try:
+        found.decode()
+    except UnicodeDecodeError:
+        raise Fault(BAD_VALUE) from None
+    if not 1 <= len(found) <= TEXT_MOST:
+        raise Fault(BAD_VALUE)
+    return Value(4, u16(len(found)) + found, b"text " + word)
+
+
 def read_value(words):
     """Reads a value in its two words."""
     kind, word = words
+    if kind == b"text":
+        return read_text(word)
     if kind == b"addr" and len(word) <= ADDR_MOST and re.fullmatch(rb"[\x21-\x7e]+", word):
         return Value(1, bytes([len(word)]) + word, b"addr " + word)
     if kind == b"weight" and len(word) <= 19 and re.fullmatch(rb"0|[1-9][0-9]*", word) and int(word) <= WEIGHT_MOST:
@@ -241,7 +278,7 @@ def u64(number):
 def frame_of(message):
     """Spells the frame of a message."""
     payload = message.payload()
-    return b"\xa7\x01" + len(payload).to_bytes(4, "big") + payload
+    return FRAME_FRONT + len(payload).to_bytes(4, "big") + payload
 
 
 # ---- nodes

@@ -1,16 +1,14 @@
 //! Requests to a node that runs, over its control socket.
 ghost use Rattle.std.specs.Prelude.{◌≡◌, ◌<◌};
 
+use crate::counting::Output;
 use crate::failure::{Failure, Place};
 use sb_codec::{Ask, Message, Rows};
 use sb_frames::Steps;
 use sb_listing::print_json_rows;
-use sb_query::{Pager, PagingFault, ask_all, goes_on, print_rows};
+use sb_query::{NoAnswer, Pager, PagingFault, ask_all, goes_on, page_in, print_rows, version_in};
 use sb_run::ask_control;
-use sb_types::{
-    Fault, KIND_ASK, KIND_BYE, KIND_DELTA, KIND_DIGEST, KIND_DONE, KIND_HELLO, KIND_PUT,
-    KIND_REFUSED, KIND_ROWS, Key, Slot, Write,
-};
+use sb_types::{Fault, KIND_ROWS, Key, Slot, Write};
 use std::alloc::Global;
 use std::io;
 use std::marker::Brand;
@@ -74,33 +72,11 @@ fn answer_of<'a>(
     }
 }
 
-fn kind_of(message: &Message) -> u8 {
-    match message {
-        Message::Hello(_) => KIND_HELLO,
-        Message::Digest(_) => KIND_DIGEST,
-        Message::Delta(_) => KIND_DELTA,
-        Message::Bye(_) => KIND_BYE,
-        Message::Ask(_) => KIND_ASK,
-        Message::Rows(_) => KIND_ROWS,
-        Message::Put(_) => KIND_PUT,
-        Message::Done(_) => KIND_DONE,
-        Message::Refused(_) => KIND_REFUSED,
-    }
-}
-
-/// Why an answer is not the one that was asked for.
-fn refusal<'a>(control: &'a str, answer: &Message) -> Failure<'a> {
-    match answer {
-        Message::Refused(refused) => Failure::told(control, refused.number()),
-        other => Failure::at(Place::Control(control), Fault::UnknownKind(kind_of(other))),
-    }
-}
-
-/// The version that a node answered.
-fn version_of<'a>(control: &'a str, answer: &Message) -> Result<u64, Failure<'a>> {
-    match answer {
-        Message::Done(done) => Ok(done.version()),
-        other => Err(refusal(control, other)),
+/// The failure of an answer that is not the one to the request.
+fn unanswered<'a>(control: &'a str, reason: NoAnswer) -> Failure<'a> {
+    match reason {
+        NoAnswer::Refused(fault) => Failure::at(Place::Node(control), fault),
+        NoAnswer::OtherKind(kind) => Failure::at(Place::Control(control), Fault::UnknownKind(kind)),
     }
 }
 
@@ -113,14 +89,9 @@ pub(crate) fn put<'a>(
 ) -> Result<u64, Failure<'a>> {
     let request = Message::Put(Write { key, slot });
     let answer = answer_of(rt, control, &request)?;
-    version_of(control, &answer)
-}
-
-/// The page that a node answered.
-fn rows_in<'a>(control: &'a str, answer: Message) -> Result<Rows, Failure<'a>> {
-    match answer {
-        Message::Rows(page) => Ok(page),
-        other => Err(refusal(control, &other)),
+    match version_in(&answer) {
+        Ok(version) => Ok(version),
+        Err(reason) => Err(unanswered(control, reason)),
     }
 }
 
@@ -131,7 +102,10 @@ pub(crate) fn page_of<'a>(
     ask: &Ask,
 ) -> Result<Rows, Failure<'a>> {
     let answer = answer_of(rt, control, &Message::Ask(*ask))?;
-    rows_in(control, answer)
+    match page_in(answer) {
+        Ok(page) => Ok(page),
+        Err(reason) => Err(unanswered(control, reason)),
+    }
 }
 
 /// The first page of a node's rows. `Malformed(KIND_ROWS)` too, where it has none though more are to follow.
@@ -176,14 +150,21 @@ pub(crate) enum Form {
     Json,
 }
 
-/// Prints the rows of a page. `NoMemory`; `WriteFailed`.
-pub(crate) fn print_page(rt: &HostRuntime, page: &Rows, form: Form) -> Result<(), Fault> {
-    let mut output = rt.stdout();
+/// Prints the rows of a page. `NoMemory`; `WriteFailed` with how many bytes the output took in all.
+pub(crate) fn print_page(
+    rt: &HostRuntime,
+    output: &mut Output<'_>,
+    page: &Rows,
+    form: Form,
+) -> Result<(), Fault> {
     let (printed, _) = match form {
-        Form::Text => print_rows(rt.alloc(), &mut output, page),
-        Form::Json => print_json_rows(rt.alloc(), &mut output, page),
+        Form::Text => print_rows(rt.alloc(), output, page),
+        Form::Json => print_json_rows(rt.alloc(), output, page),
     };
-    printed
+    match printed {
+        Err(Fault::WriteFailed(_)) => Err(Fault::WriteFailed(output.taken())),
+        printed => printed,
+    }
 }
 
 /// Asks a node for pages, and prints them.
@@ -192,6 +173,7 @@ struct Printer<'r, 'a> {
     rt: &'r HostRuntime,
     control: &'a str,
     form: Form,
+    output: Output<'r>,
 }
 
 impl<'a> Pager for Printer<'_, 'a> {
@@ -204,7 +186,7 @@ impl<'a> Pager for Printer<'_, 'a> {
     }
 
     fn take(&mut self, page: &Rows) -> Result<(), Failure<'a>> {
-        print_page(self.rt, page, self.form)?;
+        print_page(self.rt, &mut self.output, page, self.form)?;
         Ok(())
     }
 }
@@ -216,5 +198,12 @@ pub(crate) fn print_all<'a>(
     asked: Ask,
     form: Form,
 ) -> Result<(), Failure<'a>> {
-    take_all(control, &mut Printer { rt, control, form }, asked)
+    let output = Output::new(rt);
+    let mut printer = Printer {
+        rt,
+        control,
+        form,
+        output,
+    };
+    take_all(control, &mut printer, asked)
 }

@@ -8,13 +8,14 @@ use crate::one_row::{Wanted, print_one};
 use crate::owners::print_owners;
 use crate::serving::Given;
 use crate::watching::{Watched, watch, watch_on};
-use crate::words::{key_of, name_of, prefix_of, value_of};
+use crate::words::{key_of, name_of, prefix_of, text_of, value_of};
 use clap::ArgMatches;
 use clap::error::ErrorKind;
 use sb_codec::Ask;
 use sb_run::{OnLogFault, Pace};
 use sb_script::{Detail, Output, sim_run_uncounted};
-use sb_types::{Fault, Key, Name, Order, RawSettings, Slot};
+use sb_types::{Fault, Key, Name, Order, RawSettings, Slot, Value};
+use std::alloc::Global;
 use std::{env, io};
 
 /// How many reads a script may take.
@@ -179,12 +180,25 @@ fn tell_lacking(rt: &HostRuntime) -> u8 {
     USAGE_STATUS
 }
 
+/// The value that is given. The faults of `Value::from_words`.
+fn written_of<'a>(
+    alloc: Global,
+    given: &ArgMatches<'a>,
+    kind: &'a str,
+    word: &'a str,
+) -> Result<Value, Failure<'a>> {
+    if kind == "text" && given.get_flag("raw") {
+        return text_of(alloc, word);
+    }
+    value_of(alloc, kind, word)
+}
+
 fn run_set<'a>(rt: &HostRuntime, given: &ArgMatches<'a>) -> Result<u8, Failure<'a>> {
     let (key, control) = (value(given, "KEY"), value(given, "control"));
     match (given.get_str("KIND"), given.get_str("VALUE")) {
         (Some(kind), Some(word)) => {
             let key = key_of(key)?;
-            let written = value_of(rt.alloc(), kind, word)?;
+            let written = written_of(rt.alloc(), given, kind, word)?;
             write(rt, control, key, Slot::Set(written))
         }
         (None, None) if key == LINES => {

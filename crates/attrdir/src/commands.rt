@@ -72,7 +72,7 @@ const KIND: Part = Part {
     name: "KIND",
     form: Form::WordOrNone,
     value: "",
-    help: "addr, weight or flag",
+    help: "addr, weight, flag or text",
 };
 
 const VALUE: Part = Part {
@@ -80,6 +80,13 @@ const VALUE: Part = Part {
     form: Form::WordOrNone,
     value: "",
     help: "What is written",
+};
+
+const RAW: Part = Part {
+    name: "raw",
+    form: Form::Flag,
+    value: "",
+    help: "Takes the bytes of VALUE as they are, where KIND is text",
 };
 
 const REMOVED_KEY: Part = Part {
@@ -240,7 +247,7 @@ const BUDGET: Part = Part {
     name: "budget",
     form: Form::NumberOr("65536"),
     value: "B",
-    help: "The most bytes of a frame, 256 to 65536",
+    help: "The most bytes of a frame, 1024 to 65536",
 };
 
 const ORDER: Part = Part {
@@ -374,7 +381,7 @@ const SET_TASK: Task = Task {
     name: "set",
     about: "Has a node write a value under a key, or what lines of standard input say",
     more: help::SET,
-    parts: &[CONTROL, KEY, KIND, VALUE],
+    parts: &[CONTROL, RAW, KEY, KIND, VALUE],
 };
 
 const DEL_TASK: Task = Task {

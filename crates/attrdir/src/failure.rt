@@ -29,7 +29,7 @@ impl Setting {
     fn limits(self) -> &'static str {
         match self {
             Setting::Cluster => "give 1 to 32 lower-case letters, digits and -",
-            Setting::Budget => "give 256 to 65536",
+            Setting::Budget => "give 1024 to 65536",
             Setting::MaxVersion => "give 1 to 1099511627775",
             Setting::Workers => "give 1 to 62",
             Setting::Seats => "give at least the workers and 2 more, and at most 64",
@@ -114,11 +114,6 @@ impl<'a> Failure<'a> {
             _ => false,
         }
     }
-
-    /// The failure that a node answered by its number, 1 to 31.
-    pub(crate) fn told(control: &'a str, number: u8) -> Failure<'a> {
-        Failure::at(Place::Node(control), numbered(number))
-    }
 }
 
 impl From<AllocError> for Failure<'_> {
@@ -130,43 +125,6 @@ impl From<AllocError> for Failure<'_> {
 impl From<Fault> for Failure<'_> {
     fn from(fault: Fault) -> Self {
         Failure::at(Place::Line, fault)
-    }
-}
-
-/// The fault of a number, 1 to 31. What else a fault tells is 0: a number does not carry it.
-fn numbered(number: u8) -> Fault {
-    match number {
-        1 => Fault::NoMemory,
-        2 => Fault::BadName,
-        3 => Fault::BadKey,
-        4 => Fault::BadValue,
-        5 => Fault::BadSetting,
-        6 => Fault::TableFull,
-        7 => Fault::OwnersFull,
-        8 => Fault::VersionsSpent,
-        9 => Fault::NothingThere,
-        10 => Fault::BadMark,
-        11 => Fault::BadVersion,
-        12 => Fault::BadLength,
-        13 => Fault::UnknownKind(0),
-        14 => Fault::Malformed(0),
-        15 => Fault::Closed,
-        16 => Fault::ReadFailed,
-        17 => Fault::WriteFailed(0),
-        18 => Fault::StoreFailed,
-        19 => Fault::LogDamaged,
-        20 => Fault::WrongOwner,
-        21 => Fault::OwnerConflict(0),
-        22 => Fault::NoHello,
-        23 => Fault::WrongCluster,
-        24 => Fault::SameName,
-        25 => Fault::SecondHello,
-        26 => Fault::NoWatch,
-        27 => Fault::WatchesFull,
-        28 => Fault::Truncated,
-        29 => Fault::TurnsSpent,
-        30 => Fault::FloorTooHigh,
-        _ => Fault::OutOfTurn(0),
     }
 }
 
@@ -298,7 +256,7 @@ fn about_setting(place: Place<'_>) -> &'static str {
     match place {
         Place::Setting(setting) => setting.limits(),
         _ => {
-            "--cluster is a name, --budget 256 to 65536, --max-version 1 to 1099511627775, --workers 1 to 62, and --seats from the \
+            "--cluster is a name, --budget 1024 to 65536, --max-version 1 to 1099511627775, --workers 1 to 62, and --seats from the \
 workers and 2 more up to 64"
         }
     }
@@ -311,7 +269,8 @@ fn about_fault(fault: &Fault, place: Place<'_>) -> &'static str {
             "end other programs, or give the machine or the process more memory or threads, and try again",
         Fault::BadName => "give 1 to 32 lower-case letters, digits and -",
         Fault::BadKey => "give at most 64 lower-case letters, digits and the signs . _ / -",
-        Fault::BadValue => "give a kind and a word, as: addr 10.0.0.1:80, weight 5, flag true",
+        Fault::BadValue =>
+            "give a kind and a word, as: addr 10.0.0.1:80, weight 5, flag true, text 'zone b'",
         Fault::BadSetting => about_setting(place),
         Fault::TableFull => "no key comes free again; a new name begins with none",
         Fault::OwnersFull => "start the node again without owners that are gone",

@@ -14,9 +14,9 @@ Example of a node, which is then asked from a second terminal:
   a web/addr 1 addr 10.0.0.1:80
 
 Example of a script:
-  $ printf 'world 256 breadth 100 a b\\nput a w weight 5\\ngive a b 0\\nread b a w\\n' | attrdir sim
+  $ printf 'world 1024 breadth 100 a b\\nput a w weight 5\\ngive a b 0\\nread b a w\\n' | attrdir sim
   version 1
-  a7010000002203000101610000000000000000000101770000000000000001020000000000000005
+  a7020000002203000101610000000000000000000101770000000000000001020000000000000005
   taken 1
   a w 1 weight 5";
 
@@ -36,7 +36,8 @@ Each other line is a command, and prints its answer:
   line C I, piece C n             frame I is lined up towards it; the next n bytes of its line come
   read N O K, upto N O            what node N has of owner O under the key K; up to which version it holds O
   show I                          the frame of the number I, in hexadecimal
-VALUE is addr TEXT, weight NUMBER or flag true|false.
+VALUE is addr TEXT, weight NUMBER, flag true|false or text SPELLING. SPELLING is the rest of the line, in crash up to the space before
+the last word: the text, but that each byte 00 to 1f, 7f and \\ is a \\ and two digits, as \\0a and \\5c.
 
 A fault of a line below the first is printed as `fault N`, and the script goes on: 1 no memory, 2 a name, 3 a key, 4 a value that
 is none, 6 a key too many, 8 no version is left, 9 nothing to remove, 15 the node is down, 21 another writes under
@@ -51,16 +52,16 @@ The exit status is 0 after a whole script, 2 after a line that is none of these,
 fault that ended the run.
 
 Example:
-  $ printf 'world 256 breadth 100 a b\\nput a w weight 5\\ngive a b 0\\nread b a w\\n' | attrdir sim
+  $ printf 'world 1024 breadth 100 a b\\nput a w weight 5\\ngive a b 0\\nread b a w\\n' | attrdir sim
   version 1
-  a7010000002203000101610000000000000000000101770000000000000001020000000000000005
+  a7020000002203000101610000000000000000000101770000000000000001020000000000000005
   taken 1
   a w 1 weight 5
 
 With --explain each frame that a line sent or shows is said in words behind what the line prints:
-  $ printf 'world 256 breadth 100 a b\\nput a w weight 5\\ngive a b 0\\nread b a w\\n' | attrdir sim --explain
+  $ printf 'world 1024 breadth 100 a b\\nput a w weight 5\\ngive a b 0\\nread b a w\\n' | attrdir sim --explain
   version 1
-  a7010000002203000101610000000000000000000101770000000000000001020000000000000005
+  a7020000002203000101610000000000000000000101770000000000000001020000000000000005
   taken 1
     frame 1: hello, cluster sim, node a
     frame 2: delta, blocks 1
@@ -70,7 +71,7 @@ With --explain each frame that a line sent or shows is said in words behind what
   a w 1 weight 5
 
 The same in single events, with the frame in two pieces:
-  $ printf 'world 256 breadth 100 a b\\nput a w weight 5\\nconnect a 1\\noffer a a 0\\nconnect b 2\\nline 2 1\\nline 2 2\\n\
+  $ printf 'world 1024 breadth 100 a b\\nput a w weight 5\\nconnect a 1\\noffer a a 0\\nconnect b 2\\nline 2 1\\nline 2 2\\n\
 piece 2 20\\npiece 2 33\\n' | attrdir sim
   version 1
   frame 1
@@ -141,10 +142,12 @@ Examples:
   attrdir_log_open{node=\"a\"} 1";
 
 pub(crate) const SET: &str =
-    "KIND and VALUE are addr TEXT, weight NUMBER or flag true|false. Where KEY or VALUE begins with -, put -- before KEY. The node answers
-when its log has the write, and this prints `version V`. Other nodes have it once they asked, as is seen by `get` there.
+    "KIND and VALUE are addr TEXT, weight NUMBER, flag true|false or text SPELLING. SPELLING is one argument, as `get` prints it: the text, but
+that each byte 00 to 1f, 7f and \\ is a \\ and two digits, as \\0a and \\5c. With --raw it is the text itself. Where KEY or VALUE begins
+with -, put -- before KEY. The node answers when its log has the write, and this prints `version V`. Other nodes have it once they asked, as
+is seen by `get` there.
 
-With - alone it reads lines `KEY KIND VALUE` and `KEY removed` from standard input, with one space between two words, and makes the write of
+With - alone it reads lines `KEY KIND VALUE` and `KEY removed` from standard input, with one space between two words (a text is all behind its kind), and makes the write of
 each as it comes, one after the other: other writes may come between them. It prints the version of each. An empty line is passed over. The
 first fault ends it, and says the number of its line; the writes of the lines before stand.
 
@@ -177,9 +180,9 @@ Example:
 
 pub(crate) const GET: &str =
     "Each row is a line of the owner, the key, the version, the kind and the value, in ascending owner and then key; removed keys have
-none. With --format json it is a JSON object of key, kind, owner, value and version, where the value of an addr is a text, that of a
-weight a number, and that of a flag true or false. What others wrote stands as far as the node has heard of it. The rows come page by
-page: each page is what the node has at one time, and a later page is never older.
+none. With --format json it is a JSON object of key, kind, owner, value and version, where the value of an addr or a text is a
+string, that of a weight a number, and that of a flag true or false. What others wrote stands as far as the node has heard of it. The rows
+come page by page: each page is what the node has at one time, and a later page is never older.
 
 With --owner and --key it prints the row of that key alone, and with --value too only its value; where there is no such row it prints
 nothing, and the exit status is 1.

@@ -6,6 +6,7 @@ mod batch;
 mod command_line;
 mod commands;
 mod console;
+mod counting;
 mod environment;
 mod failure;
 mod help;

@@ -4,10 +4,12 @@ ghost use Rattle.std.specs.Option.{option_copied};
 ghost use Rattle.attrdir.specs.Rows as spec;
 
 use crate::asking::{Form, first_page_of, print_page};
+use crate::counting::Output;
 use crate::failure::Failure;
 use sb_codec::{Ask, Row, Rows};
-use sb_types::{Fault, Key, Name, Prefix, Value, ValueRef};
+use sb_types::{Fault, Key, Name, Prefix, Spelled, Value, ValueRef};
 use std::alloc::Global;
+use std::io::Write;
 
 /// The row that is asked for, and how it is printed: its value alone where no form is given.
 #[derive(Clone, Copy)]
@@ -41,16 +43,20 @@ fn page_with(alloc: Global, row: &Row) -> Result<Rows, Fault> {
     Rows::new(false, vec![in alloc; copy]?)
 }
 
-/// Prints a value alone, in a line. `WriteFailed`.
+/// Prints a value alone, in a line, a text as it is spelled there. `WriteFailed` with how many bytes the output took.
 fn print_value(rt: &HostRuntime, value: &Value) -> Result<(), Fault> {
+    let mut output = Output::new(rt);
     let printed = match value.view() {
-        ValueRef::Addr(text) => println!(rt; "{}", str::from_utf8(text).unwrap_or("")),
-        ValueRef::Weight(weight) => println!(rt; "{weight}"),
-        ValueRef::Flag(flag) => println!(rt; "{flag}"),
+        ValueRef::Addr(text) => writeln!(output, "{}", str::from_utf8(text).unwrap_or("")),
+        ValueRef::Weight(weight) => writeln!(output, "{weight}"),
+        ValueRef::Flag(flag) => writeln!(output, "{flag}"),
+        ValueRef::Text(text) => {
+            writeln!(output, "{}", Spelled(str::from_utf8(text).unwrap_or("")))
+        }
     };
     match printed {
         Ok(()) => Ok(()),
-        Err(_) => Err(Fault::WriteFailed(0)),
+        Err(_) => Err(Fault::WriteFailed(output.taken())),
     }
 }
 
@@ -71,7 +77,10 @@ pub(crate) fn print_one<'a>(
         return Ok(false);
     };
     match wanted.form {
-        Some(form) => print_page(rt, &page_with(rt.alloc(), row)?, form)?,
+        Some(form) => {
+            let page = page_with(rt.alloc(), row)?;
+            print_page(rt, &mut Output::new(rt), &page, form)?;
+        }
         None => print_value(rt, row.value())?,
     }
     Ok(true)

@@ -27,6 +27,14 @@ pub(crate) fn prefix_of(word: &str) -> Result<Prefix, Failure<'_>> {
     }
 }
 
+/// A text of these bytes, whatever they would spell. The faults of `Value::text`.
+pub(crate) fn text_of<'a>(alloc: Global, word: &'a str) -> Result<Value, Failure<'a>> {
+    match Value::text(alloc, word.as_bytes()) {
+        Ok(value) => Ok(value),
+        Err(fault) => Err(Failure::at(Place::Value("text", word), fault)),
+    }
+}
+
 /// A value, by its kind and its word. The faults of `Value::from_words`.
 pub(crate) fn value_of<'a>(
     alloc: Global,

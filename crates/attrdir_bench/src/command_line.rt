@@ -1,7 +1,7 @@
 //! The command line of the program, and the layers in turn.
 use crate::problem::Problem;
 use crate::report::{Telling, tell};
-use crate::sample::{Sizes, blocks, full_node};
+use crate::sample::{Kinds, Sizes, blocks, full_node};
 use crate::{catch_up, layers, logs, memory};
 use clap::error::ErrorKind;
 use clap::{Arg, ArgAction, ArgMatches, Command, value_parser};
@@ -165,6 +165,17 @@ fn measure_full(
     measure_bytes(rt, sizes, telling, &node)
 }
 
+/// How the greatest delta of a node that holds texts alone becomes bytes, and is read of them.
+fn measure_texts(rt: &HostRuntime, sizes: Sizes, telling: Telling) -> Result<(), Problem> {
+    let blocks = blocks(rt.alloc(), sizes, Kinds::Texts)?;
+    let node = full_node(rt.alloc(), &blocks)?;
+    let delta = layers::greatest_delta(rt.alloc(), &node)?;
+    let encoded = layers::encode(rt, sizes, &delta);
+    tell(rt, telling, encoded, "encode-texts", "entry")?;
+    let decoded = layers::decode(rt, sizes, &delta);
+    tell(rt, telling, decoded, "decode-texts", "entry")
+}
+
 /// How a node catches up with a peer.
 fn measure_session(
     rt: &HostRuntime,
@@ -203,8 +214,9 @@ fn measure(
     log: Option<&str>,
 ) -> Result<(), Problem> {
     memory::hold(rt, sizes, telling)?;
-    let blocks = blocks(rt.alloc(), sizes)?;
+    let blocks = blocks(rt.alloc(), sizes, Kinds::Short)?;
     measure_full(rt, sizes, telling, &blocks)?;
+    measure_texts(rt, sizes, telling)?;
     measure_session(rt, sizes, telling, &blocks)?;
     measure_log(rt, sizes, telling, log)
 }

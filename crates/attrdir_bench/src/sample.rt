@@ -23,8 +23,22 @@ pub(crate) fn key_at(alloc: Global, index: u64) -> Result<Key, Fault> {
     Key::read(format!(in alloc; "grp-{group:03}/attr-{place:02}x")?.as_bytes())
 }
 
+/// What is written: no text, or texts alone.
+#[derive(Clone, Copy, Debug, PartialEq, Eq)]
+pub(crate) enum Kinds {
+    Short,
+    Texts,
+}
+
+/// A text of 40 bytes.
+fn text_at(alloc: Global, index: u64) -> Result<Value, Fault> {
+    let (zone, rack) = (index % 7, index % 251);
+    let text = format!(in alloc; "zone {zone}, rack {rack:03}: caf\u{e9} {index:016}")?;
+    Value::text(alloc, text.as_bytes())
+}
+
 /// Half addresses of about sixteen bytes, four tenths weights, a tenth flags.
-fn value_at(alloc: Global, index: u64) -> Result<Value, Fault> {
+fn short_at(alloc: Global, index: u64) -> Result<Value, Fault> {
     match index % 10 {
         0..=4 => {
             let (second, third, fourth) = (index % 7, index % 251, index % 13);
@@ -34,6 +48,13 @@ fn value_at(alloc: Global, index: u64) -> Result<Value, Fault> {
         }
         5..=8 => Value::weight(index.wrapping_mul(2_654_435_761) % 1_000),
         _ => Ok(Value::flag(index % 3 == 0)),
+    }
+}
+
+fn value_at(alloc: Global, kinds: Kinds, index: u64) -> Result<Value, Fault> {
+    match kinds {
+        Kinds::Short => short_at(alloc, index),
+        Kinds::Texts => text_at(alloc, index),
     }
 }
 
@@ -47,21 +68,21 @@ fn scattered(owner: u64, turn: u64, keys: u64) -> u64 {
 }
 
 /// An owner's first writes, one under each of its keys.
-fn block_of(alloc: Global, owner: u64, keys: u64) -> Result<Block, Fault> {
+fn block_of(alloc: Global, owner: u64, keys: u64, kinds: Kinds) -> Result<Block, Fault> {
     let mut entries = Vec::new(alloc);
     for turn in 0..keys {
         let key = key_at(alloc, scattered(owner, turn, keys))?;
-        let value = value_at(alloc, turn.wrapping_mul(31).wrapping_add(owner))?;
+        let value = value_at(alloc, kinds, turn.wrapping_mul(31).wrapping_add(owner))?;
         entries.push(Entry::new(key, turn + 1, Slot::Set(value)))?;
     }
     Block::new(owner_at(alloc, owner)?, 0, entries)
 }
 
 /// A block of each owner.
-pub(crate) fn blocks(alloc: Global, sizes: Sizes) -> Result<Vec<Block>, Fault> {
+pub(crate) fn blocks(alloc: Global, sizes: Sizes, kinds: Kinds) -> Result<Vec<Block>, Fault> {
     let mut blocks = Vec::new(alloc);
     for owner in 0..sizes.owners {
-        blocks.push(block_of(alloc, owner, sizes.keys)?)?;
+        blocks.push(block_of(alloc, owner, sizes.keys, kinds)?)?;
     }
     Ok(blocks)
 }
@@ -84,7 +105,7 @@ pub(crate) fn full_node(alloc: Global, blocks: &[Block]) -> Result<Holdings, Fau
 pub(crate) fn lone_node(alloc: Global, sizes: Sizes) -> Result<Holdings, Fault> {
     let mut holdings = fresh_node(alloc)?;
     for owner in 0..sizes.owners {
-        holdings.apply_block(&block_of(alloc, owner, sizes.keys)?);
+        holdings.apply_block(&block_of(alloc, owner, sizes.keys, Kinds::Short)?);
     }
     Ok(holdings)
 }

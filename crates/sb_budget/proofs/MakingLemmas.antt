@@ -45,7 +45,7 @@ cut_whole budget listed making can up is =
     (cut_of_all budget making.room (listed ++ []) listed making.blocks (gathering_of budget listed [] making also up is) also (sym all))
 
 -- the first item always fits
-begun_short : (budget cost : ℕ) (front rest : List Offered) (making : Making) → IsFrontOf budget front rest making → cost ≤ 247 → making.room < cost → 0 < length making.blocks
+begun_short : (budget cost : ℕ) (front rest : List Offered) (making : Making) → IsFrontOf budget front rest making → cost ≤ 1015 → making.room < cost → 0 < length making.blocks
 begun_short budget cost [] rest making is few short = absurd (omega (arith, is.room, ap delta_frame_length is.blocks, is.least, few, short))
 begun_short budget cost (x ∷ xs) rest making is few short = is.begun (omega arith)
 
@@ -65,7 +65,7 @@ module _ (budget : ℕ) (front rest : List Offered) (next : Offered) (old : Maki
   so_far = gathering_of budget front (next ∷ rest) old can up is
 
   -- it does not fit
-  pub next_left : cost_of owner e place ≤ 247 → old.room < cost_of owner e place → IsCut budget (items_of_all (front ++ next ∷ rest)) old.blocks × (0 < length old.blocks)
+  pub next_left : cost_of owner e place ≤ 1015 → old.room < cost_of owner e place → IsCut budget (items_of_all (front ++ next ∷ rest)) old.blocks × (0 < length old.blocks)
   next_left few short = (
     cut_here budget old.room (front ++ next ∷ rest) front old.blocks so_far can next rest refl place bound found_next (omega (arith, short, cost_next)),
     begun_short budget (cost_of owner e place) front (next ∷ rest) old is few short,

@@ -7,7 +7,7 @@ use crate::offered::Offered;
 use sb_types::{BUDGET_LEAST, BUDGET_MOST, Delta, Fault};
 use std::alloc::Global;
 
-/// The longest front of the items whose delta has a frame of at most `budget` bytes, 256 to 65,536, as that
+/// The longest front of the items whose delta has a frame of at most `budget` bytes, 1,024 to 65,536, as that
 /// delta. The items have to be as an order leaves them, each owner's in ascending version. The delta has at
 /// least one entry where there is an item; the other items are dropped. `NoMemory`.
 ///
@@ -15,7 +15,7 @@ use std::alloc::Global;
 /// ```
 /// let digest = Digest::new(true, None, None, Vec::new(alloc))?;
 /// let offered = available(alloc, &holdings, &digest)?;
-/// let delta = cut(alloc, offered, 256)?;
+/// let delta = cut(alloc, offered, 1_024)?;
 /// assert_eq!(rt; delta.blocks().len(), 1);
 /// // 3 bytes, the block's 12, and the entry's 13.
 /// assert_eq!(rt; delta.encoded_length(), 28);

@@ -37,7 +37,7 @@ impl Model for DeltaBuilder {
 }
 
 impl DeltaBuilder {
-    /// A delta without entries, whose frame may have `budget` bytes, 256 to 65,536.
+    /// A delta without entries, whose frame may have `budget` bytes, 1,024 to 65,536.
     pub fn new(alloc: Global, budget: u64) -> DeltaBuilder
         requires least { BUDGET_LEAST ≤ budget }
         requires most { budget ≤ BUDGET_MOST }

@@ -24,7 +24,7 @@ pub trait DeltaOrder {
         ensures memory { IfErr result (λ fault. fault ≡ Fault.NoMemory) };
 
     /// What a peer that sent this digest lacks, in this order: the longest front of it within a frame of at most
-    /// `budget` bytes, 256 to 65,536, and at least one entry where one is lacking. It is what `cut` makes of some
+    /// `budget` bytes, 1,024 to 65,536, and at least one entry where one is lacking. It is what `cut` makes of some
     /// order of what `available` lists, without a list of what does not fit; each order says of which. `NoMemory`.
     fn delta(
         &self,

@@ -4,8 +4,8 @@ use Rattle.std.specs.List.{flat_map, AllByRecursion}
 use Rattle.std.specs.Int.{Width, byte_len, to_be_bytes}
 use Rattle.std.proofs.lemmas.Bool.{le-ltb}
 use Rattle.std.proofs.lemmas.List.{take_at, drop_at}
-use Rattle.sb_codec.specs.Spelling.{number, text, list}
-use Rattle.sb_codec.specs.Fields.{Field, given_field, lead_field, made_field, then_field, where_field, times_field, byte_field, bytes_field, number_field, text_field, list_field, case_field, tagged_field}
+use Rattle.sb_codec.specs.Spelling.{number, text, long_text, list}
+use Rattle.sb_codec.specs.Fields.{Field, given_field, lead_field, made_field, then_field, where_field, times_field, byte_field, bytes_field, number_field, text_field, long_text_field, list_field, case_field, tagged_field}
 use Rattle.sb_codec.proofs.Taken.{IsWide, wide16}
 
 pub record Again {A : Type 0} (field : Field A) (spelled : List ℕ) (x : A) : Type 0 where
@@ -50,6 +50,10 @@ number_again {w} wide n lt = record { read = λ rest. rw ((bytes_again (to_be_by
 pub text_again : (t : List ℕ) → Again text_field (text t) t
 unfolding text_field
 text_again t = lead_again bytes_field (byte_again (length t)) (bytes_again t (length t) refl)
+
+pub long_text_again : (t : List ℕ) → length t < 2 ^ 16 → Again long_text_field (long_text t) t
+unfolding long_text_field
+long_text_again t lt = lead_again bytes_field (number_again wide16 (length t) lt) (bytes_again t (length t) refl)
 
 pub list_again : {A : Type 0} {P : A → Type 0} {field : Field A} {s : A → List ℕ} → ((x : A) → P x → Again field (s x) x) → (xs : List A) → length xs < 2 ^ 16 → AllByRecursion P xs → Again (list_field field) (list s xs) xs
 unfolding list_field

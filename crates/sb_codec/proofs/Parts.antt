@@ -2,22 +2,23 @@
 use Rattle.std.proofs.Common.{◌≡◌, ℕ, ◌-◌, ◌^◌, ◌<◌, ◌≤◌, Bool, true, false, ◌&&◌, ◌==◌, List, [], ◌∷◌, length, refl, ap, subst, arith}
 use Rattle.std.specs.Prelude.{nat_le, nat_lt, sum_by}
 use Rattle.std.specs.List.{list_all, AllByRecursion}
+use Rattle.std.specs.Str.{is_utf8}
 use Rattle.std.proofs.lemmas.Bool.{and_parts, and_from, le-leb, leb-true, ltb-true, eqb-true, eq-eqb}
 use Rattle.std.proofs.lemmas.List.Sums.{sum_by-cons}
 use Rattle.sb_types.specs.declared.entry.Slot.{Slot}
 use Rattle.sb_types.specs.declared.entry.Slot.TheVariants.{Set, Removed}
-use Rattle.sb_types.specs.declared.limits.TheConstants.{ENTRIES_MOST, PAYLOAD_MOST}
+use Rattle.sb_types.specs.declared.limits.TheConstants.{ENTRIES_MOST, PAYLOAD_MOST, TEXT_MOST}
 use Rattle.sb_types.specs.Text.{is_between, is_name, is_key}
-use Rattle.sb_types.specs.Value.{Value, Addr, Weight, Flag, is_value}
+use Rattle.sb_types.specs.Value.{Value, Addr, Weight, Flag, Text, is_value}
 use Rattle.sb_types.specs.Records.{Entry, Block}
 use Rattle.sb_types.specs.Runs.{are_ascending, are_distinct, last_version}
 use Rattle.sb_types.specs.Lengths.{block_length, delta_length}
 use Rattle.sb_types.specs.Limits.{is_slot, is_entry, are_block_entries, block_of_entries, is_delta_block, are_owners_above, are_delta_blocks, is_delta}
-use Rattle.sb_types.specs.declared.format.TheConstants.{TAG_REMOVED, TAG_ADDR, TAG_WEIGHT, TAG_FLAG}
-use Rattle.sb_codec.specs.Spelling.{text, list, flag, tag_of, content, slot, entry, block}
-use Rattle.sb_codec.specs.Reading.{name_field, key_field, addr_field, weight_field, flag_cases, flag_field, flag_slot, slot_cases, slot_field, entry_of_parts, entry_field, are_block_parts, block_of_parts, block_field, delta_field}
-use Rattle.sb_codec.proofs.Taken.{Takes, wide64, fits_takes, made_takes, then_takes, where_takes, number_takes, text_takes, list_takes, tagged_takes, made_case, given_case}
-use Rattle.sb_codec.proofs.Again.{Again, given_again, made_again, then_again, where_again, number_again, text_again, list_again, tagged_again}
+use Rattle.sb_types.specs.declared.format.TheConstants.{TAG_REMOVED, TAG_ADDR, TAG_WEIGHT, TAG_FLAG, TAG_TEXT}
+use Rattle.sb_codec.specs.Spelling.{text, long_text, list, flag, tag_of, content, slot, entry, block}
+use Rattle.sb_codec.specs.Reading.{name_field, key_field, addr_field, weight_field, text_value_field, flag_cases, flag_field, flag_slot, slot_cases, slot_field, entry_of_parts, entry_field, are_block_parts, block_of_parts, block_field, delta_field}
+use Rattle.sb_codec.proofs.Taken.{Takes, wide64, fits_takes, made_takes, then_takes, where_takes, number_takes, text_takes, long_text_takes, list_takes, tagged_takes, made_case, given_case}
+use Rattle.sb_codec.proofs.Again.{Again, given_again, made_again, then_again, where_again, number_again, text_again, long_text_again, list_again, tagged_again}
 
 -- ---- texts
 
@@ -51,6 +52,10 @@ pub weight_takes : Takes (IsTagged TAG_WEIGHT) content weight_field
 unfolding weight_field content
 weight_takes = fits_takes (where_takes (made_takes {Q = λ v. tag_of v ≡ TAG_WEIGHT} Weight (number_takes wide64) (λ n lt. (refl, refl)))) (λ v fits. (fits.1, fits.0))
 
+pub text_value_takes : Takes (IsTagged TAG_TEXT) content text_value_field
+unfolding text_value_field content
+text_value_takes = fits_takes (where_takes (made_takes {Q = λ v. tag_of v ≡ TAG_TEXT} Text long_text_takes (λ t lt. (refl, refl)))) (λ v fits. (fits.1, fits.0))
+
 pub flag_takes : Takes (λ set. Unit {0}) flag flag_field
 unfolding flag_field
 flag_takes = tagged_takes flag_cases (given_case 0 false tt refl, (given_case 1 true tt refl, tt))
@@ -59,10 +64,16 @@ pub slot_takes : Takes (λ s. is_slot s ≡ true) slot slot_field
 unfolding slot_field slot content
 slot_takes =
     let spelled : (tag : ℕ) (v : Value) → IsTagged tag v → (is_value v ≡ true) × (tag_of v ∷ content v ≡ tag ∷ content v) = λ tag v fits. (fits.0, ap (λ (k : ℕ). k ∷ content v) fits.1) in
-    tagged_takes slot_cases (given_case TAG_REMOVED Removed refl refl, (made_case TAG_ADDR Set addr_takes (spelled TAG_ADDR), (made_case TAG_WEIGHT Set weight_takes (spelled TAG_WEIGHT), (made_case TAG_FLAG flag_slot flag_takes (λ set fits. (refl, refl)), tt))))
+    tagged_takes slot_cases (given_case TAG_REMOVED Removed refl refl, (made_case TAG_ADDR Set addr_takes (spelled TAG_ADDR), (made_case TAG_WEIGHT Set weight_takes (spelled TAG_WEIGHT), (made_case TAG_FLAG flag_slot flag_takes (λ set fits. (refl, refl)), (made_case TAG_TEXT Set text_value_takes (spelled TAG_TEXT), tt)))))
 
 pub weight_below : (n : ℕ) → is_value (Weight n) ≡ true → n < 2 ^ 64
 weight_below n fits = omega (arith, ltb-true n (2 ^ 63) fits)
+
+pub text_most : (t : List ℕ) → is_value (Text t) ≡ true → length t ≤ TEXT_MOST
+text_most t fits = leb-true (length t) TEXT_MOST (and_parts (nat_le 1 (length t)) (nat_le (length t) TEXT_MOST) (and_parts (is_between 1 TEXT_MOST (length t)) (is_utf8 t) fits).0).1
+
+pub text_below : (t : List ℕ) → is_value (Text t) ≡ true → length t < 2 ^ 16
+text_below t fits = omega (arith, text_most t fits)
 
 pub flag_again : (set : Bool) → Again flag_field (flag set) set
 unfolding flag_field
@@ -70,11 +81,12 @@ flag_again false = tagged_again flag_cases 0 (given_again false)
 flag_again true = tagged_again flag_cases 1 (given_again true)
 
 pub slot_again : (s : Slot) → is_slot s ≡ true → Again slot_field (slot s) s
-unfolding slot_field slot addr_field weight_field content
+unfolding slot_field slot addr_field weight_field text_value_field content
 slot_again Removed fits = tagged_again slot_cases TAG_REMOVED (given_again Removed)
 slot_again (Set (Addr t)) fits = tagged_again slot_cases TAG_ADDR (made_again Set (where_again is_value fits (made_again Addr (text_again t))))
 slot_again (Set (Weight n)) fits = tagged_again slot_cases TAG_WEIGHT (made_again Set (where_again is_value fits (made_again Weight (number_again wide64 n (weight_below n fits)))))
 slot_again (Set (Flag set)) fits = tagged_again slot_cases TAG_FLAG (made_again flag_slot (flag_again set))
+slot_again (Set (Text t)) fits = tagged_again slot_cases TAG_TEXT (made_again Set (where_again is_value fits (made_again Text (long_text_again t (text_below t fits)))))
 
 -- ---- entries
 

@@ -9,7 +9,7 @@ use Rattle.sb_types.specs.declared.entry.Slot.{Slot}
 use Rattle.sb_types.specs.declared.entry.Slot.TheVariants.{Set, Removed}
 use Rattle.sb_types.specs.declared.limits.TheConstants.{NAME_MOST, KEY_MOST, ADDR_MOST, PAYLOAD_MOST}
 use Rattle.sb_types.specs.Text.{is_between, is_name_byte, is_key_byte, is_addr_byte, is_name, is_key, is_prefix, is_addr}
-use Rattle.sb_types.specs.Value.{Value, Addr, Weight, Flag}
+use Rattle.sb_types.specs.Value.{Value, Addr, Weight, Flag, Text}
 use Rattle.sb_types.specs.Records.{Entry, Block}
 use Rattle.sb_types.specs.declared.entry.Write.{Write}
 use Rattle.sb_types.specs.Lengths.{value_length, slot_length, entry_length, block_length, delta_length}
@@ -25,7 +25,7 @@ use Rattle.sb_codec.specs.declared.message.Message.{Message}
 use Rattle.sb_codec.specs.declared.message.Message.TheVariants.{Hello, Digest, Delta, Bye, Ask, Rows, Put, Done, Refused}
 use Rattle.sb_codec.specs.Spelling.{number, text, list, content, value, slot, entry, block, optional, hello, pair, digest, place, ask, row, page, write}
 use Rattle.sb_codec.specs.Messages.{spelling, is_message}
-use Rattle.sb_codec.proofs.Parts.{between_parts, delta_parts}
+use Rattle.sb_codec.proofs.Parts.{between_parts, delta_parts, text_most}
 use Rattle.sb_codec.proofs.Bodies.{digest_within, page_within}
 
 length-number16 : (n : ℕ) → length (number w16 n) ≡ 2
@@ -42,6 +42,7 @@ slot-length Removed = refl
 slot-length (Set (Addr t)) = omega arith
 slot-length (Set (Weight n)) = refl
 slot-length (Set (Flag b)) = refl
+slot-length (Set (Text t)) = omega (arith, length-append (number w16 (length t)) t, length-number16 (length t))
 
 entry-length : (e : Entry) → length (entry e) ≡ entry_length e
 unfolding entry
@@ -77,6 +78,7 @@ unfolding content number
 value-length (Addr t) = omega arith
 value-length (Weight n) = refl
 value-length (Flag b) = refl
+value-length (Text t) = omega (arith, length-append (number w16 (length t)) t, length-number16 (length t))
 
 row-length : (r : records.Row) → length (row r) ≡ row_length r
 unfolding row
@@ -125,11 +127,12 @@ key-most t fits = (between_parts 1 KEY_MOST (length t) (and_parts (is_between 1 
 addr-most : (t : List ℕ) → is_addr t ≡ true → length t ≤ 128
 addr-most t fits = (between_parts 1 ADDR_MOST (length t) (and_parts (is_between 1 ADDR_MOST (length t)) (list_all is_addr_byte t) fits).0).1
 
-slot-most : (s : Slot) → is_slot s ≡ true → slot_length s ≤ 129
+slot-most : (s : Slot) → is_slot s ≡ true → slot_length s ≤ 514
 slot-most Removed fits = omega arith
 slot-most (Set (Addr t)) fits = omega (arith, addr-most t fits)
 slot-most (Set (Weight n)) fits = omega arith
 slot-most (Set (Flag b)) fits = omega arith
+slot-most (Set (Text t)) fits = omega (arith, text_most t fits)
 
 prefix-most : (t : List ℕ) → is_prefix t ≡ true → length t ≤ 64
 prefix-most t fits = leb-true (length t) KEY_MOST (and_parts (nat_le (length t) KEY_MOST) (list_all is_key_byte t) fits).0

@@ -7,9 +7,9 @@ use Rattle.std.proofs.lemmas.Bool.{cases_lt, ltb-false, eqb-true}
 use Rattle.std.proofs.lemmas.List.{append-nil, take-append-drop, length-take, get_or-append-add, get_or-take, get_or_past}
 use Rattle.std.proofs.lemmas.Option.{some_pair_parts}
 use Rattle.std.proofs.lemmas.Nat.{be_bytes_2, be_bytes_8, from_be_bytes-to_be_bytes_2, from_be_bytes-to_be_bytes_8}
-use Rattle.sb_codec.specs.Spelling.{number, text, list}
+use Rattle.sb_codec.specs.Spelling.{number, text, long_text, list}
 pub use Rattle.sb_codec.specs.Fields.{AreBytes}
-use Rattle.sb_codec.specs.Fields.{Field, none_field, given_field, lead_field, made_field, then_field, where_field, times_field, byte_field, bytes_field, number_field, text_field, list_field, case_field, tagged_field}
+use Rattle.sb_codec.specs.Fields.{Field, none_field, given_field, lead_field, made_field, then_field, where_field, times_field, byte_field, bytes_field, number_field, text_field, long_text_field, list_field, case_field, tagged_field}
 
 pub record Takes {A : Type 0} (Fits : A → Type 0) (spell : A → List ℕ) (field : Field A) : Type 0 where
   pub parts : (bytes : List ℕ) (x : A) (rest : List ℕ) → AreBytes bytes → field bytes ≡ Some (x, rest) → Fits x × (bytes ≡ spell x ++ rest)
@@ -138,6 +138,10 @@ number_takes {w} wide = made_takes (from_be_bytes w) (bytes_takes (byte_len w)) 
 pub text_takes : Takes (λ t. length t < 256) text text_field
 unfolding text_field
 text_takes = lead_takes text byte_takes (λ n lt. fits_takes (bytes_takes n) (λ t fits. (rw fits.0 lt, ap (λ (k : ℕ). k ∷ t) fits.0)))
+
+pub long_text_takes : Takes (λ t. length t < 2 ^ 16) long_text long_text_field
+unfolding long_text_field
+long_text_takes = lead_takes long_text (number_takes wide16) (λ n lt. fits_takes (bytes_takes n) (λ t fits. (rw fits.0 lt, ap (λ (k : ℕ). number w16 k ++ t) fits.0)))
 
 pub list_takes : {A : Type 0} {P : A → Type 0} {s : A → List ℕ} {field : Field A} → Takes P s field → Takes (λ xs. (length xs < 2 ^ 16) × AllByRecursion P xs) (list s) (list_field field)
 unfolding list_field

@@ -55,6 +55,10 @@ number_field w = made_field (from_be_bytes w) (bytes_field (byte_len w))
 unfoldable pub text_field : Field (List ℕ)
 text_field = lead_field byte_field bytes_field
 
+-- a length of two bytes, and that many bytes
+unfoldable pub long_text_field : Field (List ℕ)
+long_text_field = lead_field (number_field w16) bytes_field
+
 -- a count, and that many times a field
 unfoldable pub list_field : {A : Type 0} → Field A → Field (List A)
 list_field field = lead_field (number_field w16) (times_field field)

@@ -7,17 +7,17 @@ use Rattle.sb_types.specs.declared.entry.Write.{Write}
 use Rattle.sb_types.specs.declared.entry.Slot.{Slot}
 use Rattle.sb_types.specs.declared.entry.Slot.TheVariants.{Set, Removed}
 use Rattle.sb_types.specs.Text.{is_name, is_key, is_prefix}
-use Rattle.sb_types.specs.Value.{Value, Addr, Weight, Flag, is_value}
+use Rattle.sb_types.specs.Value.{Value, Addr, Weight, Flag, Text, is_value}
 use Rattle.sb_types.specs.Records.{Entry, Block}
 use Rattle.sb_types.specs.Limits.{are_block_entries, block_of_entries, are_delta_blocks}
-use Rattle.sb_types.specs.declared.format.TheConstants.{TAG_REMOVED, TAG_ADDR, TAG_WEIGHT, TAG_FLAG}
+use Rattle.sb_types.specs.declared.format.TheConstants.{TAG_REMOVED, TAG_ADDR, TAG_WEIGHT, TAG_FLAG, TAG_TEXT}
 use Rattle.sb_digest.specs.Digests.{Pair, Digest, plain_pair, digest_of}
 use Rattle.sb_digest.specs.Limits.{are_digest_parts}
 use Rattle.sb_codec.specs.declared.message.hello.Hello.{Hello}
 use Rattle.sb_codec.specs.declared.message.ask.Ask.{Ask}
 use Rattle.sb_codec.specs.Records.{Row, Rows, row_of, rows_of}
 use Rattle.sb_codec.specs.Limits.{is_reason, is_version, is_fault_number, are_page_rows}
-use Rattle.sb_codec.specs.Fields.{Field, given_field, made_field, then_field, where_field, byte_field, number_field, text_field, list_field, tagged_field}
+use Rattle.sb_codec.specs.Fields.{Field, given_field, made_field, then_field, where_field, byte_field, number_field, text_field, long_text_field, list_field, tagged_field}
 
 unfoldable pub name_field : Field (List ℕ)
 name_field = where_field is_name text_field
@@ -31,6 +31,9 @@ addr_field = where_field is_value (made_field Addr text_field)
 unfoldable pub weight_field : Field Value
 weight_field = where_field is_value (made_field Weight (number_field w64))
 
+unfoldable pub text_value_field : Field Value
+text_value_field = where_field is_value (made_field Text long_text_field)
+
 abbrev pub flag_cases : List (ℕ × Field Bool)
 flag_cases = (0, given_field false) ∷ (1, given_field true) ∷ []
 
@@ -41,7 +44,7 @@ abbrev pub flag_slot : Bool → Slot
 flag_slot set = Set (Flag set)
 
 abbrev pub slot_cases : List (ℕ × Field Slot)
-slot_cases = (TAG_REMOVED, given_field Removed) ∷ (TAG_ADDR, made_field Set addr_field) ∷ (TAG_WEIGHT, made_field Set weight_field) ∷ (TAG_FLAG, made_field flag_slot flag_field) ∷ []
+slot_cases = (TAG_REMOVED, given_field Removed) ∷ (TAG_ADDR, made_field Set addr_field) ∷ (TAG_WEIGHT, made_field Set weight_field) ∷ (TAG_FLAG, made_field flag_slot flag_field) ∷ (TAG_TEXT, made_field Set text_value_field) ∷ []
 
 unfoldable pub slot_field : Field Slot
 slot_field = tagged_field slot_cases
@@ -130,7 +133,7 @@ unfoldable pub ask_field : Field Ask
 ask_field = made_field ask_of (then_field (optional_field is_name) (then_field prefix_field place_field))
 
 abbrev pub value_cases : List (ℕ × Field Value)
-value_cases = (TAG_ADDR, addr_field) ∷ (TAG_WEIGHT, weight_field) ∷ (TAG_FLAG, made_field Flag flag_field) ∷ []
+value_cases = (TAG_ADDR, addr_field) ∷ (TAG_WEIGHT, weight_field) ∷ (TAG_FLAG, made_field Flag flag_field) ∷ (TAG_TEXT, text_value_field) ∷ []
 
 unfoldable pub value_field : Field Value
 value_field = tagged_field value_cases

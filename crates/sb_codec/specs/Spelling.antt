@@ -5,9 +5,9 @@ use Rattle.std.specs.Int.{Width, w16, w64, to_be_bytes, from_bool}
 use Rattle.sb_types.specs.declared.entry.Write.{Write}
 use Rattle.sb_types.specs.declared.entry.Slot.{Slot}
 use Rattle.sb_types.specs.declared.entry.Slot.TheVariants.{Set, Removed}
-use Rattle.sb_types.specs.Value.{Value, Addr, Weight, Flag}
+use Rattle.sb_types.specs.Value.{Value, Addr, Weight, Flag, Text}
 use Rattle.sb_types.specs.Records.{Entry, Block}
-use Rattle.sb_types.specs.declared.format.TheConstants.{TAG_REMOVED, TAG_ADDR, TAG_WEIGHT, TAG_FLAG}
+use Rattle.sb_types.specs.declared.format.TheConstants.{TAG_REMOVED, TAG_ADDR, TAG_WEIGHT, TAG_FLAG, TAG_TEXT}
 use Rattle.sb_digest.specs.Digests.{Pair, Digest}
 use Rattle.sb_codec.specs.declared.message.hello.Hello.{Hello}
 use Rattle.sb_codec.specs.declared.message.ask.Ask.{Ask}
@@ -21,6 +21,10 @@ number w n = to_be_bytes w n
 abbrev pub text : List ℕ → List ℕ
 text bytes = length bytes ∷ bytes
 
+-- a length of two bytes, and the bytes
+abbrev pub long_text : List ℕ → List ℕ
+long_text bytes = number w16 (length bytes) ++ bytes
+
 -- how many there are, and each of them
 abbrev pub list : {A : Type 0} → (A → List ℕ) → List A → List ℕ
 list each items = number w16 (length items) ++ flat_map each items
@@ -33,11 +37,13 @@ abbrev pub tag_of : Value → ℕ
 tag_of (Addr bytes) = TAG_ADDR
 tag_of (Weight weight) = TAG_WEIGHT
 tag_of (Flag set) = TAG_FLAG
+tag_of (Text bytes) = TAG_TEXT
 
 unfoldable pub content : Value → List ℕ
 content (Addr bytes) = text bytes
 content (Weight weight) = number w64 weight
 content (Flag set) = flag set
+content (Text bytes) = long_text bytes
 
 -- a tag, and what the value holds
 abbrev pub value : Value → List ℕ

@@ -4,9 +4,9 @@ ghost use Rattle.std.specs.Prelude.{◌≡◌, ◌==◌, ◌*◌, ◌≤◌, [],
 ghost use Rattle.std.specs.Vec.{vec_capacity};
 ghost use Rattle.std.specs.Int.{w16, w64};
 ghost use Rattle.sb_codec.specs.Refusal.{Reads, ReadsWithoutMemory};
-ghost use Rattle.sb_codec.specs.Fields.{byte_field, bytes_field, number_field, text_field, list_field, times_field};
+ghost use Rattle.sb_codec.specs.Fields.{byte_field, bytes_field, number_field, text_field, long_text_field, list_field, times_field};
 ghost use Rattle.sb_types.specs.Text.{is_name, is_key};
-ghost use Rattle.sb_codec.specs.Reading.{name_field, key_field, addr_field, weight_field, flag_field, slot_field, entry_field, block_field, delta_field};
+ghost use Rattle.sb_codec.specs.Reading.{name_field, key_field, addr_field, weight_field, flag_field, text_value_field, slot_field, entry_field, block_field, delta_field};
 ghost use Rattle.sb_codec.specs.Reading.{hello_field, bye_field, write_field, done_field, refused_field, optional_field, pair_field};
 ghost use Rattle.sb_codec.specs.Reading.{digest_field, prefix_field, place_field, ask_field, value_field, row_field, page_field};
 ghost use Rattle.sb_codec.specs.Messages.{message_field, TakesMemory};
@@ -18,7 +18,7 @@ use sb_digest::{Digest, Pair};
 use sb_types::{
     Block, Delta, Entry, KIND_ASK, KIND_BYE, KIND_DELTA, KIND_DIGEST, KIND_DONE, KIND_HELLO,
     KIND_PUT, KIND_REFUSED, KIND_ROWS, Key, Name, Prefix, Slot, TAG_ADDR, TAG_FLAG, TAG_REMOVED,
-    TAG_WEIGHT, Value, Write,
+    TAG_TEXT, TAG_WEIGHT, Value, Write,
 };
 use std::alloc::Global;
 use std::marker::Model;
@@ -115,6 +115,14 @@ impl<'a> Fields<'a> {
         self.bytes(usize::from(len))
     }
 
+    #[tactic(auto, unfolding(crate::specs::Fields::long_text_field))]
+    fn long_text(&mut self) -> Result<&'a [u8], Refusal>
+        ensures { ReadsWithoutMemory (λ x. x.now) (long_text_field self.old) result self.new }
+    {
+        let len = self.u16()?;
+        self.bytes(usize::from(len))
+    }
+
     #[tactic(auto, unfolding(crate::specs::Reading::name_field))]
     fn name(&mut self) -> Result<Name, Refusal>
         ensures { ReadsWithoutMemory (λ x. x) (name_field self.old) result self.new }
@@ -194,6 +202,13 @@ impl<'a> Fields<'a> {
         }
     }
 
+    #[tactic(auto, unfolding(crate::specs::Reading::text_value_field))]
+    fn text_value(&mut self, alloc: Global) -> Result<Value, Refusal>
+        ensures { Reads (λ x. x) (text_value_field self.old) result self.new }
+    {
+        Ok(Value::text(alloc, self.long_text()?)?)
+    }
+
     #[tactic(auto, unfolding(crate::specs::Reading::value_field))]
     fn value(&mut self, alloc: Global) -> Result<Value, Refusal>
         ensures { Reads (λ x. x) (value_field self.old) result self.new }
@@ -202,6 +217,7 @@ impl<'a> Fields<'a> {
             TAG_ADDR => self.addr(alloc),
             TAG_WEIGHT => self.weight(),
             TAG_FLAG => Ok(Value::flag(self.flag()?)),
+            TAG_TEXT => self.text_value(alloc),
             _ => Err(Refusal::Malformed),
         }
     }
@@ -215,6 +231,7 @@ impl<'a> Fields<'a> {
             TAG_ADDR => Ok(Slot::Set(self.addr(alloc)?)),
             TAG_WEIGHT => Ok(Slot::Set(self.weight()?)),
             TAG_FLAG => Ok(Slot::Set(Value::flag(self.flag()?))),
+            TAG_TEXT => Ok(Slot::Set(self.text_value(alloc)?)),
             _ => Err(Refusal::Malformed),
         }
     }

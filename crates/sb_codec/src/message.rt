@@ -1,5 +1,8 @@
 //! The messages, a kind for each, and the limits that their types keep.
 
+ghost use Rattle.std.specs.Prelude.{◌≡◌, [], ◌∷◌, take};
+ghost use Rattle.sb_codec.specs.Messages.{spelling};
+
 mod ask;
 mod bye;
 mod done;
@@ -14,7 +17,10 @@ pub use hello::Hello;
 pub use refused::Refused;
 pub use rows::{Row, Rows};
 use sb_digest::Digest;
-use sb_types::{Delta, Write};
+use sb_types::{
+    Delta, KIND_ASK, KIND_BYE, KIND_DELTA, KIND_DIGEST, KIND_DONE, KIND_HELLO, KIND_PUT,
+    KIND_REFUSED, KIND_ROWS, Write,
+};
 
 /// What one node sends to another, or a control socket and its caller to each other.
 ///
@@ -46,4 +52,24 @@ pub enum Message {
     Done(Done),
     /// What was asked for is refused.
     Refused(Refused),
+}
+
+impl Message {
+    /// The kind of the message: the first byte of its payload.
+    #[tactic(auto, unfolding(crate::specs::Messages::spelling))]
+    pub fn kind(&self) -> u8
+        ensures { take 1 (spelling self.now) ≡ result ∷ [] }
+    {
+        match self {
+            Message::Hello(_) => KIND_HELLO,
+            Message::Digest(_) => KIND_DIGEST,
+            Message::Delta(_) => KIND_DELTA,
+            Message::Bye(_) => KIND_BYE,
+            Message::Ask(_) => KIND_ASK,
+            Message::Rows(_) => KIND_ROWS,
+            Message::Put(_) => KIND_PUT,
+            Message::Done(_) => KIND_DONE,
+            Message::Refused(_) => KIND_REFUSED,
+        }
+    }
 }

@@ -1,19 +1,20 @@
 //! The parts of a message, written.
 
-ghost use Rattle.std.specs.Prelude.{◌≡◌, ◌<◌, ◌++◌, [], ◌∷◌, length, true, OnOk};
+ghost use Rattle.std.specs.Prelude.{◌≡◌, ◌<◌, ◌^◌, ◌++◌, [], ◌∷◌, length, true, OnOk};
 ghost use Rattle.std.specs.Int.{w16, w64};
 ghost use Rattle.sb_types.specs.Text.{is_name};
 ghost use Rattle.sb_types.specs.Value.{is_value};
 ghost use Rattle.sb_types.specs.Limits.{is_slot};
 ghost use Rattle.sb_codec.specs.Limits.{is_optional, is_place};
 ghost use Rattle.sb_codec.specs.Standing.{Stands};
-ghost use Rattle.sb_codec.specs.Spelling.{number, text, list, flag, value, slot, entry, block, optional, pair, place, row};
+ghost use Rattle.sb_codec.specs.Spelling.{number, text, long_text, list, flag, value, slot, entry, block, optional, pair, place, row};
 
 use crate::list_item::ListItem;
 use crate::message::Row;
 use sb_digest::Pair;
 use sb_types::{
-    Block, Entry, Key, Name, Slot, TAG_ADDR, TAG_FLAG, TAG_REMOVED, TAG_WEIGHT, Value, ValueRef,
+    Block, Entry, Key, Name, Slot, TAG_ADDR, TAG_FLAG, TAG_REMOVED, TAG_TEXT, TAG_WEIGHT, Value,
+    ValueRef,
 };
 use std::alloc::AllocError;
 
@@ -60,6 +61,16 @@ pub(crate) fn write_text(out: &mut Vec<u8>, bytes: &[u8]) -> Result<(), AllocErr
     write_bytes(out, bytes)
 }
 
+#[tactic(auto, using(crate::proofs::Standings::stands_on))]
+fn write_long_text(out: &mut Vec<u8>, bytes: &[u8]) -> Result<(), AllocError>
+    requires { length bytes.now < 2 ^ 16 }
+    ensures written { OnOk result (out.new.items ≡ out.old.items ++ long_text bytes.now) }
+    ensures stands { Stands out.old.items out.new.items }
+{
+    write_u16(out, bytes.len() as u16)?;
+    write_bytes(out, bytes)
+}
+
 pub(crate) fn write_flag(out: &mut Vec<u8>, set: bool) -> Result<(), AllocError>
     ensures written { OnOk result (out.new.items ≡ out.old.items ++ flag set) }
     ensures stands { Stands out.old.items out.new.items }
@@ -85,6 +96,10 @@ fn write_value(out: &mut Vec<u8>, written: &Value) -> Result<(), AllocError>
         ValueRef::Flag(set) => {
             write_byte(out, TAG_FLAG)?;
             write_flag(out, set)
+        }
+        ValueRef::Text(bytes) => {
+            write_byte(out, TAG_TEXT)?;
+            write_long_text(out, bytes)
         }
     }
 }

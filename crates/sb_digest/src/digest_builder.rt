@@ -46,7 +46,7 @@ fn pop_owner(pairs: &mut Vec<Pair>) -> Option<Name>
 }
 
 impl DigestBuilder {
-    /// No pairs yet, from a bound on, within a budget of 256 to 65,536 bytes. It takes no memory.
+    /// No pairs yet, from a bound on, within a budget of 1,024 to 65,536 bytes. It takes no memory.
     pub(crate) fn new(alloc: Global, from: Option<&Name>, budget: u64) -> DigestBuilder
         requires least { BUDGET_LEAST ≤ budget }
         requires most { budget ≤ BUDGET_MOST }

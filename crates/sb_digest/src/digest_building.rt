@@ -11,7 +11,7 @@ use sb_types::{BUDGET_LEAST, BUDGET_MOST, Fault, Name};
 use std::alloc::Global;
 
 /// The digest of the owners that are held from a name on, or of all where none is given, the own name
-/// among them. It has as many of them as fit a frame of `budget` bytes, 256 to 65,536, and at least one
+/// among them. It has as many of them as fit a frame of `budget` bytes, 1,024 to 65,536, and at least one
 /// where there is one. Its range ends before the first owner that does not fit, where the next digest
 /// begins, and has no end where all do. `NoMemory`.
 pub fn build(

@@ -34,7 +34,7 @@ fn weight(rt: &impl Abort, weight: u64) -> Slot {
 fn settings(rt: &impl Abort) -> Settings {
     let raw = RawSettings {
         cluster: b"c1",
-        budget: 256,
+        budget: 1_024,
         order: Order::Breadth,
         max_version: VERSIONS,
         seats: 2,

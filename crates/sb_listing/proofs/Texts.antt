@@ -1,14 +1,14 @@
--- Names, keys and addresses are ASCII, and no value is a float.
+-- Names, keys and addresses are ASCII, texts are UTF-8, and no value is a float.
 use Rattle.std.proofs.Common.{◌≡◌, ℕ, ◌<◌, ◌≤◌, Bool, true, false, ◌||◌, ◌&&◌, List, refl, arith, eqb, ⊎_elim}
 use Rattle.std.specs.Prelude.{nat_le, ◌==◌}
 use Rattle.std.specs.Str.{IsUtf8}
 use Rattle.std.specs.List.{list_all}
 use Rattle.std.proofs.lemmas.Bool.{and_parts, or_cases, leb-true, eqb-true}
 use Rattle.std.proofs.lemmas.List.Sums.{AllPass-from_list_all}
-use Rattle.std.proofs.lemmas.Str.{IsUtf8-from_ascii}
+use Rattle.std.proofs.lemmas.Str.{IsUtf8-from_ascii, IsUtf8-from_is_utf8}
 use Rattle.std.proofs.lemmas.Str.Ascii.{IsAscii-from_all}
-use Rattle.sb_types.specs.Text.{is_between, is_plain_byte, is_name_byte, is_key_byte, is_addr_byte, is_name, is_key, is_addr}
-use Rattle.sb_types.specs.Value.{Value, Addr, Weight, Flag}
+use Rattle.sb_types.specs.Text.{is_between, is_plain_byte, is_name_byte, is_key_byte, is_addr_byte, is_name, is_key, is_addr, is_text}
+use Rattle.sb_types.specs.Value.{Value, Addr, Weight, Flag, Text}
 use Rattle.serde_json.specs.Written.{has_float}
 use Rattle.sb_codec.specs.Records.{Row}
 use Rattle.serde_json.specs.Data.{Data}
@@ -55,10 +55,14 @@ key-utf8 text is = ascii is_key_byte text key-byte (and_parts _ _ is).1
 pub addr-utf8 : (text : List ℕ) → is_addr text ≡ true → IsUtf8 text
 addr-utf8 text is = ascii is_addr_byte text addr-byte (and_parts _ _ is).1
 
+pub text-utf8 : (text : List ℕ) → is_text text ≡ true → IsUtf8 text
+text-utf8 text is = IsUtf8-from_is_utf8 text (and_parts _ _ is).1
+
 pub value-plain : (value : Value) → has_float (value_data value) ≡ false
 value-plain (Addr text) = refl
 value-plain (Weight weight) = refl
 value-plain (Flag flag) = refl
+value-plain (Text text) = refl
 
 pub row-plain : (row : Row) → has_float (row_data row) ≡ false
 unfolding row_data

@@ -6,7 +6,7 @@ use Rattle.std.specs.Ordering.{nat_cmp, is_eq, ordering_then, match_ordering}
 use Rattle.std.specs.declared.cmp.Ordering.{Ordering}
 use Rattle.std.specs.declared.cmp.Ordering.TheVariants.{Less}
 use Rattle.std.specs.Cmp.Lexicographic.{pointwise, slice_cmp}
-use Rattle.sb_types.specs.Value.{Value, Addr, Weight, Flag, addr_of, weight_of, flag_of}
+use Rattle.sb_types.specs.Value.{Value, Addr, Weight, Flag, Text, addr_of, weight_of, flag_of, text_of}
 use Rattle.sb_codec.specs.Records.{Row}
 
 pub data Change : Type 0 where
@@ -21,6 +21,7 @@ abbrev pub is_same_value : Value → Value → Bool
 is_same_value (Addr text) other = unwrap_or (option_map (λ it. pointwise nat_eq it text) (addr_of other)) false
 is_same_value (Weight weight) other = unwrap_or (option_map (λ it. it == weight) (weight_of other)) false
 is_same_value (Flag flag) other = unwrap_or (option_map (λ it. beq it flag) (flag_of other)) false
+is_same_value (Text text) other = unwrap_or (option_map (λ it. pointwise nat_eq it text) (text_of other)) false
 
 -- one version and one value
 abbrev pub is_same : Row → Row → Bool

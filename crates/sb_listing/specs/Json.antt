@@ -1,7 +1,7 @@
 -- A row as JSON.
 use Rattle.std.specs.Prelude.{ℕ, List, [], ◌∷◌, ◌++◌, codes}
 use Rattle.std.specs.List.{flat_map}
-use Rattle.sb_types.specs.Value.{Value, Addr, Weight, Flag, words_of}
+use Rattle.sb_types.specs.Value.{Value, Addr, Weight, Flag, Text, words_of}
 use Rattle.sb_codec.specs.Records.{Row}
 use Rattle.serde_json.specs.Data.{Data, boolean, number, unsigned, string, object, member, no_members}
 use Rattle.serde_json.specs.Written.{compact_text}
@@ -10,6 +10,7 @@ abbrev pub value_data : Value → Data
 value_data (Addr text) = string text
 value_data (Weight weight) = number (unsigned weight)
 value_data (Flag flag) = boolean flag
+value_data (Text text) = string text
 
 -- the members stand in the order of their names
 abbrev pub object_data : List ℕ → List ℕ → List ℕ → Data → ℕ → Data

@@ -42,6 +42,10 @@ fn is_same_value(one: &Value, other: &Value) -> bool
             Some(it) => it == flag,
             None => false,
         },
+        ValueRef::Text(text) => match other.as_text() {
+            Some(it) => it == text,
+            None => false,
+        },
     }
 }
 

@@ -29,10 +29,11 @@ fn kind_of(value: &sb_types::Value) -> &'static str
         ValueRef::Addr(_) => "addr",
         ValueRef::Weight(_) => "weight",
         ValueRef::Flag(_) => "flag",
+        ValueRef::Text(_) => "text",
     }
 }
 
-/// What a value holds: a text, a number, or true or false.
+/// What a value holds: a text as it is and not as it is spelled on lines, a number, or true or false.
 fn json_of(alloc: Global, value: &sb_types::Value) -> Result<Value, AllocError>
     ensures { IfOk result (λ json. view json ≡ value_data value.now) }
 {
@@ -40,6 +41,7 @@ fn json_of(alloc: Global, value: &sb_types::Value) -> Result<Value, AllocError>
         ValueRef::Addr(text) => Value::try_from_str(alloc, text_of(text)),
         ValueRef::Weight(weight) => Ok(Value::from(weight)),
         ValueRef::Flag(flag) => Ok(Value::from(flag)),
+        ValueRef::Text(text) => Value::try_from_str(alloc, text_of(text)),
     }
 }
 

@@ -1,5 +1,5 @@
 -- Entries and the cells of their rows.
-use Rattle.std.proofs.Common.{◌≡◌, ℕ, ℤ, pos, ◌≤◌, Bool, true, false, ◌||◌, cond, List, [], ◌∷◌, ◌++◌, length, drop, Option, Some, None, refl, ap, arith}
+use Rattle.std.proofs.Common.{◌≡◌, ℕ, ℤ, pos, ◌≤◌, Bool, true, false, ◌||◌, cond, List, [], ◌∷◌, ◌++◌, length, drop, Option, Some, None, refl, ap, ◌∙◌, arith}
 use Rattle.std.specs.Option.{option_map}
 use Rattle.std.specs.Prelude.{nat_eq}
 use Rattle.std.specs.Cmp.Lexicographic.{pointwise}
@@ -48,14 +48,9 @@ six_cells (a ∷ b ∷ c ∷ d ∷ e ∷ []) h = absurd (omega arith)
 six_cells (a ∷ b ∷ c ∷ d ∷ e ∷ f ∷ []) h = refl
 six_cells (a ∷ b ∷ c ∷ d ∷ e ∷ f ∷ g ∷ more) h = absurd (omega arith)
 
-pub of_five : (row : Row) (a b c d e : Value) → length row ≡ 5 → column row 0 ≡ a → column row 1 ≡ b → column row 2 ≡ c → column row 3 ≡ d → column row 4 ≡ e → row ≡ a ∷ b ∷ c ∷ d ∷ e ∷ []
-of_five [] a b c d e h p q r s t = absurd (omega arith)
-of_five (x ∷ []) a b c d e h p q r s t = absurd (omega arith)
-of_five (x ∷ y ∷ []) a b c d e h p q r s t = absurd (omega arith)
-of_five (x ∷ y ∷ z ∷ []) a b c d e h p q r s t = absurd (omega arith)
-of_five (x ∷ y ∷ z ∷ u ∷ []) a b c d e h p q r s t = absurd (omega arith)
-of_five (x ∷ y ∷ z ∷ u ∷ v ∷ []) a b c d e h p q r s t = λ i. p i ∷ q i ∷ r i ∷ s i ∷ t i ∷ []
-of_five (x ∷ y ∷ z ∷ u ∷ v ∷ w ∷ more) a b c d e h p q r s t = absurd (omega arith)
+pub of_six : (row : Row) (a b c d e f : Value) → length row ≡ 6 → column row 0 ≡ a → column row 1 ≡ b → column row 2 ≡ c → column row 3 ≡ d → column row 4 ≡ e → column row 5 ≡ f
+    → row ≡ a ∷ b ∷ c ∷ d ∷ e ∷ f ∷ []
+of_six row a b c d e f h p q r s t u = six_cells row h ∙ (λ i. p i ∷ q i ∷ r i ∷ s i ∷ t i ∷ u i ∷ [])
 
 pub behind_first : (row : Row) (a b c d e f : Value) → row ≡ a ∷ b ∷ c ∷ d ∷ e ∷ f ∷ [] → drop 1 row ≡ b ∷ c ∷ d ∷ e ∷ f ∷ []
 behind_first row a b c d e f is = ap (drop 1) is

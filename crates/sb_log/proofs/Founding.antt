@@ -8,7 +8,7 @@ use Rattle.sqlite.proofs.Callers.{one_permutation}
 use Rattle.sb_types.specs.declared.fault.Fault.{Fault}
 use Rattle.sb_types.specs.Records.{Table}
 use Rattle.sb_table.specs.Plain.{plain_table}
-use Rattle.sb_log.specs.Opening.{meta_cells, meta_row, meta_found, writes_found, IsNamed, IsMetaOf, Completes, Opens, Grows, Founds}
+use Rattle.sb_log.specs.Opening.{meta_cells, meta_row, meta_found, writes_found, IsFormOf, IsNamedIn, IsMetaOf, Completes, Opens, Grows, Founds}
 use Rattle.sb_log.specs.Form.{log_schema, schema_with}
 use Rattle.sb_log.specs.declared.schema.Made.{Made}
 use Rattle.sb_log.specs.declared.schema.Made.TheVariants.{Neither, Meta, Both}
@@ -53,14 +53,15 @@ module _ (owner cluster : List ℕ) (old mid : Database) (shown : List Row) (all
       }
   opens_new (Err fault) none rows empty = tt
 
-  pub opens_old : (result : Result Table Fault) (row : Row) → shown ≡ row ∷ [] → OnOk result (row ≡ meta_row owner cluster) → IfOk result (λ t. AreRowsOf t (read.trees 1)) → IfOk result (Opens owner cluster old)
+  pub opens_old : (result : Result Table Fault) (row : Row) → shown ≡ row ∷ [] → IfOk result (λ t. (form : ℕ) × IsFormOf form t × (row ≡ meta_row form owner cluster))
+      → IfOk result (λ t. AreRowsOf t (read.trees 1))
+      → IfOk result (Opens owner cluster old)
   opens_old (Ok t) row one is rows =
-      let has : map meta_cells (meta_found all.made old.trees) ≡ meta_row owner cluster ∷ [] =
-      ap (map meta_cells) (sym all.meta) ∙ one_mapped (mid.trees 0) shown row same one ∙ ap (λ (r : Row). r ∷ []) is in
+      let has : map meta_cells (meta_found all.made old.trees) ≡ row ∷ [] = ap (map meta_cells) (sym all.meta) ∙ one_mapped (mid.trees 0) shown row same one in
       record {
         made = all.made;
         schema = all.schema;
-        meta = inr has;
+        meta = inr (is.0, is.1, has ∙ ap (λ (r : Row). r ∷ []) is.2);
         rows = subst (AreRowsOf t) (ap (λ (d : Database). d.trees 1) kept ∙ all.rows) rows;
         empty = λ none. absurd (never (sym (ap (map meta_cells) none) ∙ has));
         whole = all.whole;
@@ -74,13 +75,9 @@ pub whatever_came : {A E P : Type 0} (result : Result A E) → P → OnOk result
 whatever_came (Ok a) p = p
 whatever_came (Err e) p = tt
 
-pub then_meta : {P Q : Type 0} (result : Result Table Fault) → OnOk result P → (P → Q) → OnOk result Q
-then_meta (Ok t) p f = f p
-then_meta (Err fault) p f = tt
-
-pub both : (P Q : Type 0) (result : Result Table Fault) → OnOk result P → OnOk result Q → OnOk result (P × Q)
-both P Q (Ok t) p q = (p, q)
-both P Q (Err fault) p q = tt
+pub rows_stay : (result : Result Table Fault) (old new : List Row) → IfOk result (λ t. AreRowsOf t old) → OnOk result (new ≡ old) → IfOk result (λ t. AreRowsOf t new)
+rows_stay (Ok t) old new are same = subst (AreRowsOf t) (sym same) are
+rows_stay (Err fault) old new are same = tt
 
 -- ---- a log that is whole is not refused
 
@@ -113,13 +110,13 @@ module _ (owner cluster : List ℕ) (old mid : Database) (t : Table) (all : Comp
   pub still_empty : mid.trees 0 ≡ [] → t ≡ plain_table []
   still_empty none = opens.empty (ap (λ (m : Made). meta_found m old.trees) one_made ∙ sym all.meta ∙ none)
 
-  still_meta : IsMetaOf owner cluster (mid.trees 0)
-  still_meta = subst (IsMetaOf owner cluster) (ap (λ (m : Made). meta_found m old.trees) one_made ∙ sym all.meta) opens.meta
+  still_meta : IsMetaOf owner cluster t (mid.trees 0)
+  still_meta = subst (IsMetaOf owner cluster t) (ap (λ (m : Made). meta_found m old.trees) one_made ∙ sym all.meta) opens.meta
 
-  pub still_named : (row : Row) → map meta_cells (mid.trees 0) ≡ row ∷ [] → row ≡ meta_row owner cluster
+  pub still_named : (row : Row) → map meta_cells (mid.trees 0) ≡ row ∷ [] → (form : ℕ) × IsFormOf form t × (row ≡ meta_row form owner cluster)
   still_named row one = elim still_meta [
     | inl none ↦ absurd (let e = sym (ap (map meta_cells) none) ∙ one in cc)
-    | inr named ↦ (let e = sym one ∙ named in cc)
+    | inr named ↦ (named.0, named.1, (let e = sym one ∙ named.2 in cc))
   ]
 
   pub never_more : (shown : List Row) → IsPermutation (map meta_cells (mid.trees 0)) shown → 2 ≤ length shown → ⊥
@@ -127,7 +124,7 @@ module _ (owner cluster : List ℕ) (old mid : Database) (t : Table) (all : Comp
       let len = length_permutation (map meta_cells (mid.trees 0)) shown same in
       elim still_meta [
         | inl none ↦ (let e : length (map meta_cells (mid.trees 0)) ≡ 0 = ap (λ (l : List Row). length (map meta_cells l)) none in omega (arith, e, len, more))
-        | inr named ↦ (let e : length (map meta_cells (mid.trees 0)) ≡ 1 = ap length named in omega (arith, e, len, more))
+        | inr named ↦ (let e : length (map meta_cells (mid.trees 0)) ≡ 1 = ap length named.2 in omega (arith, e, len, more))
       ]
 
 pub or_grows : {A : Type 0} (owner cluster : List ℕ) (found : Database) (db : Trees) → A ⊎ Grows found db → A ⊎ Founds owner cluster found db
@@ -135,13 +132,25 @@ or_grows owner cluster found db (inl was) = inl was
 or_grows owner cluster found db (inr grows) = inr (inl grows)
 
 pub names_too : (owner cluster : List ℕ) (old mid read : Database) (db : Trees) → Completes old mid → read ≡ mid → mid.trees 0 ≡ []
-    → IsSound log_schema db × (db 1 ≡ read.trees 1) × IsNamed owner cluster (db 0) → Founds owner cluster old db
+    → IsSound log_schema db × (db 1 ≡ read.trees 1) × IsNamedIn 2 owner cluster (db 0) → Founds owner cluster old db
 names_too owner cluster old mid read db all kept none names =
-    inr (record {
+    inr (inl (record {
       made = all.made;
       schema = all.schema;
       none = sym all.meta ∙ none;
       sound = names.0;
       meta = names.2;
       rows = names.1 ∙ ap (λ (d : Database). d.trees 1) kept ∙ all.rows;
-    })
+    }))
+
+pub raises_too : (owner cluster : List ℕ) (old mid read : Database) (db : Trees) (row : Row) → Completes old mid → read ≡ mid → map meta_cells (mid.trees 0) ≡ row ∷ []
+    → (row ≡ meta_row 1 owner cluster) × IsSound log_schema db × (db 1 ≡ read.trees 1) × IsNamedIn 2 owner cluster (db 0) → Founds owner cluster old db
+raises_too owner cluster old mid read db row all kept one raises =
+    inr (inr (record {
+      made = all.made;
+      schema = all.schema;
+      older = ap (map meta_cells) (sym all.meta) ∙ one ∙ ap (λ (r : Row). r ∷ []) raises.0;
+      sound = raises.1;
+      meta = raises.3;
+      rows = raises.2 ∙ ap (λ (d : Database). d.trees 1) kept ∙ all.rows;
+    }))

@@ -1,6 +1,7 @@
 -- From what the statements of a log in a database do to what a log promises.
 use Rattle.std.proofs.Common.{◌≡◌, ◌≢◌, ◌⊎◌, inl, inr, ℕ, ◌≤◌, Bool, true, false, cond, nat_le, true≢false, List, Option, Some, None, Result, Ok, Err, IsTrue, refl, sym, ap, subst, ◌∙◌, arith}
 use Rattle.sqlite_trees.specs.declared.store.Store.{Ghosts}
+use Rattle.sqlite_value.specs.Order.{Row}
 use Rattle.sqlite_trees.specs.Tree.{Trees}
 use Rattle.sqlite_trees.specs.View.{doubt}
 use Rattle.sqlite_trees.proofs.Doubt.{clean_of, no_doubt}
@@ -18,7 +19,7 @@ use Rattle.sb_log.specs.Records.{Committed, Log}
 use Rattle.sb_log.specs.Puts.{is_idle, Puts, Loads, refusal, next_entry, next_content, IsReason}
 use Rattle.sb_log.specs.Form.{log_schema}
 use Rattle.sb_log.specs.Rows.{AreRowsOf, Enters, content_of}
-use Rattle.sb_log.specs.Opening.{IsNamed}
+use Rattle.sb_log.specs.Opening.{IsNamed, IsNamedIn}
 use Rattle.sb_log.specs.Standing.{IsReady, IsKept, MayLeave}
 use Rattle.sb_log.specs.Sql.{SqlView, log_in}
 use Rattle.sb_log.proofs.Unique.{content_is}
@@ -64,13 +65,16 @@ module _ (old : Log) (up : old.is_open ≡ true) (key : List ℕ) (slot : Slot) 
           (subst (λ (o : Option Fault). IsReason o fault) (sym is) (inl same))
 
 module _ {S : Type 0} (g : Ghosts S) (settled : (s : S) (db : Trees) → IsTrue (g.view s).is_open → g.recovers s db → db ≡ (g.view s).committed) (owner cluster : List ℕ) where
+  in_two : (content : Table) (rows : List Row) → IsNamedIn 2 owner cluster rows → IsNamed owner cluster content rows
+  in_two content rows named = (2, inr refl, named)
+
   -- after a crash what a log that stands holds is found
-  left_is : (conn : Held S) (table : Table) → IsReady (state g conn) → AreRowsOf table ((state g conn).now.trees 1) → IsNamed owner cluster ((state g conn).now.trees 0)
+  left_is : (conn : Held S) (table : Table) → IsReady (state g conn) → AreRowsOf table ((state g conn).now.trees 1) → IsNamedIn 2 owner cluster ((state g conn).now.trees 0)
       → (left : Table) → MayLeave g owner cluster conn left → left ≡ table
   left_is conn table ready are named left may =
       let same : may.0 ≡ (state g conn).now.trees = settled conn.store may.0 ready.is_open may.1 ∙ sym (ap (λ (d : Database). d.trees) ready.settled) in
       may.2 table (subst (λ (trees : Trees). IsSound log_schema trees) (sym same) (subst (λ (s : Schema). IsSound s (state g conn).now.trees) ready.schema ready.sound))
-      (subst (λ (trees : Trees). IsNamed owner cluster (trees 0)) (sym same) named) (subst (λ (trees : Trees). AreRowsOf table (trees 1)) (sym same) are)
+      (in_two table (may.0 0) (subst (λ (trees : Trees). IsNamedIn 2 owner cluster (trees 0)) (sym same) named)) (subst (λ (trees : Trees). AreRowsOf table (trees 1)) (sym same) are)
 
   pub settles : (conn : Held S) (table : Table) (is_open : Bool) → IsKept g owner cluster conn table is_open → (g.view conn.store).is_clean ≡ true → is_open ≡ true
       → (left : Table) → MayLeave g owner cluster conn left → left ≡ content_of ((g.view conn.store).trees 1)
@@ -177,7 +181,7 @@ module _ {S : Type 0} (g : Ghosts S) (settled : (s : S) (db : Trees) → IsTrue 
               let stands = kept up (no_doubt _ (was_clean (clean_of _ clean))) in (
                 ready clean stands.0,
                 subst (λ (t : Table). AreRowsOf t ((state g conn').now.trees 1)) (sym is) (enters clean stands.0 table plain stands.1),
-                subst (IsNamed owner cluster) (sym (meta clean stands.0)) stands.2,
+                subst (IsNamedIn 2 owner cluster) (sym (meta clean stands.0)) stands.2,
               )
 
           pub survives : (HasCleanDisk (state g conn') → IsReady (state g conn) → (db : Trees) → g.recovers conn'.store db
@@ -187,7 +191,7 @@ module _ {S : Type 0} (g : Ghosts S) (settled : (s : S) (db : Trees) → IsTrue 
               let stands = kept up (no_doubt _ (was_clean clean)) in
               elim (crash (no_doubt _ clean) stands.0 may.0 may.1) [
                 | inl was ↦ inl (settles conn table is_open kept (was_clean clean) up left (may.0, was, may.2))
-                | inr put ↦ inr (may.2 (with_entry table e) put.2 (subst (IsNamed owner cluster) (sym put.1) stands.2) (put.0 table plain stands.1) ∙ entered_is (was_clean clean))
+                | inr put ↦ inr (may.2 (with_entry table e) put.2 (in_two (with_entry table e) _ (subst (IsNamedIn 2 owner cluster) (sym put.1) stands.2)) (put.0 table plain stands.1) ∙ entered_is (was_clean clean))
               ]
 
     -- ---- reading it again
@@ -207,7 +211,7 @@ module _ {S : Type 0} (g : Ghosts S) (settled : (s : S) (db : Trees) → IsTrue 
           let was = still_clean (clean_of _ clean) in
           let stands = kept up (no_doubt _ was) in
           let now = read clean stands.0 in
-          (now.0, subst (λ (d : Database). AreRowsOf table (d.trees 1)) (sym now.1) stands.1, subst (λ (d : Database). IsNamed owner cluster (d.trees 0)) (sym now.1) stands.2)
+          (now.0, subst (λ (d : Database). AreRowsOf table (d.trees 1)) (sym now.1) stands.1, subst (λ (d : Database). IsNamedIn 2 owner cluster (d.trees 0)) (sym now.1) stands.2)
 
       pub gives : (t : Table) → IsPlainTable t → Read → (HasCleanDisk (state g conn') → IsReady (state g conn) → AreRowsOf t ((state g conn).now.trees 1))
           → Loads before (Ok t) (log_in g (view_with is_open conn'))

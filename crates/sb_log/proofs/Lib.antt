@@ -11,5 +11,6 @@ mod Entering
 mod Writing
 mod Keeping
 mod Naming
+mod Raising
 mod Founding
 mod Whole

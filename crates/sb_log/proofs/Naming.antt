@@ -28,13 +28,14 @@ use Rattle.sb_log.proofs.Upserting.{cast_null, cast_int}
 apart : ◌≡◌ {A = ℕ} 1 0 → ⊥
 apart e = absurd (omega (arith, e))
 
+module _ (form : ℕ) (owner cluster : List ℕ) where
+  abbrev pub source : Row
+  source = Int (pos 1) ∷ Null ∷ Int (pos form) ∷ Text owner ∷ Text cluster ∷ Int (pos 0) ∷ Int (pos 0) ∷ []
+
+  pub cast_source : cast_row meta_table source ≡ source
+  cast_source = λ i. cast_int (pos 1) i ∷ cast_null i ∷ cast_int (pos form) i ∷ Text owner ∷ Text cluster ∷ cast_int (pos 0) i ∷ cast_int (pos 0) i ∷ []
+
 module _ (owner cluster : List ℕ) where
-  abbrev source : Row
-  source = Int (pos 1) ∷ Null ∷ Int (pos 1) ∷ Text owner ∷ Text cluster ∷ Int (pos 0) ∷ Int (pos 0) ∷ []
-
-  cast_source : cast_row meta_table source ≡ source
-  cast_source = λ i. cast_int (pos 1) i ∷ cast_null i ∷ cast_int (pos 1) i ∷ Text owner ∷ Text cluster ∷ cast_int (pos 0) i ∷ cast_int (pos 0) i ∷ []
-
   abbrev params : Row
   params = Text owner ∷ Text cluster ∷ []
 
@@ -43,7 +44,7 @@ module _ (owner cluster : List ℕ) where
 
   module _ (limit : Option ℕ) (mode : Mode) where
     named : (text : List ℕ) (db : Database) (tally : Tally) (after : Database) → db.schema ≡ log_schema → Does limit mode params db text None insert (Ok (tally, after))
-        → (after.schema ≡ log_schema) × (after.trees 1 ≡ db.trees 1) × (db.trees 0 ≡ [] → after.trees 0 ≡ source ∷ [])
+        → (after.schema ≡ log_schema) × (after.trees 1 ≡ db.trees 1) × (db.trees 0 ≡ [] → after.trees 0 ≡ source 2 owner cluster ∷ [])
     named text db tally after has h =
         let done = went (subst (λ (s : Schema). Does limit mode params (record db { schema = s }) text None insert (Ok (tally, after))) has h) in
         let now = ap (λ (p : Tally × Database). p.1) (same_value (went (went done.2).2).2) in
@@ -57,7 +58,7 @@ module _ (owner cluster : List ℕ) where
           ap (λ (d : Database). d.schema) now,
           at 1 ∙ put.tables.1.0 apart,
           λ empty. at 0 ∙ put.rows ∙ (λ i. put_all (empty i) (numbered Chosen (empty i) (map (λ (s : Row). cast_row meta_table (drop 0 s)) (given.1.1 i))))
-              ∙ (λ i. put_all [] (numbered Chosen [] (cast_source i ∷ []))),
+              ∙ (λ i. put_all [] (numbered Chosen [] (cast_source 2 owner cluster i ∷ []))),
         )
 
   module _ (old new : State) (count : ℕ) (ready : IsReady old) (h : Executes meta_row_text params old new (Ok count)) where
@@ -67,7 +68,7 @@ module _ (owner cluster : List ℕ) where
     ran : Writes old new None insert text_run params count
     ran = runs_as meta_row_text params old new log_schema ready.schema insert meta_row_is meta_row_plain count h
 
-    did : (new.now.schema ≡ log_schema) × (new.now.trees 1 ≡ old.now.trees 1) × (old.now.trees 0 ≡ [] → new.now.trees 0 ≡ source ∷ [])
+    did : (new.now.schema ≡ log_schema) × (new.now.trees 1 ≡ old.now.trees 1) × (old.now.trees 0 ≡ [] → new.now.trees 0 ≡ source 2 owner cluster ∷ [])
     did = named old.step_limit (mode_of old) text_run old.now ran.tally new.now ready.schema ran.changed
 
     pub name_ready : IsReady new
@@ -78,13 +79,13 @@ module _ (owner cluster : List ℕ) where
     pub name_rows : new.now.trees 1 ≡ old.now.trees 1
     name_rows = did.1
 
-    pub name_meta : old.now.trees 0 ≡ [] → map meta_cells (new.now.trees 0) ≡ meta_row owner cluster ∷ []
+    pub name_meta : old.now.trees 0 ≡ [] → map meta_cells (new.now.trees 0) ≡ meta_row 2 owner cluster ∷ []
     name_meta empty = ap (map meta_cells) (did.2 empty)
 
   -- what a crash leaves of it
   module _ (old : State) (ready : IsReady old) where
     abbrev pub NamedIn : Trees → Type 0
-    NamedIn db = IsSound log_schema db × (db 1 ≡ old.now.trees 1) × (old.now.trees 0 ≡ [] → map meta_cells (db 0) ≡ meta_row owner cluster ∷ [])
+    NamedIn db = IsSound log_schema db × (db 1 ≡ old.now.trees 1) × (old.now.trees 0 ≡ [] → map meta_cells (db 0) ≡ meta_row 2 owner cluster ∷ [])
 
     abbrev text_left : List ℕ
     text_left = statement_of meta_row_text (understood log_schema meta_row_text)

@@ -3,7 +3,7 @@ use Rattle.std.proofs.Common.{◌≡◌, ℕ, pos, negsuc, List, [], ◌∷◌, 
 use Rattle.sqlite_value.specs.declared.value.Value.TheVariants.{Null, Int}
 use Rattle.sqlite_sql.specs.Term.{Term, lit, col, op2}
 use Rattle.sqlite_sql.specs.Query.{Query, inner, end}
-use Rattle.sqlite_schema.specs.declared.command.Command.TheVariants.{Insert, InsertOr, Select, CreateTable}
+use Rattle.sqlite_schema.specs.declared.command.Command.TheVariants.{Insert, InsertOr, Select, CreateTable, Update}
 use Rattle.sqlite_schema.specs.declared.command.Source.TheVariants.{Values}
 use Rattle.sqlite_resolve.specs.Compile.{table_defined_by}
 use Rattle.sqlite_tied.specs.Compute.{everything}
@@ -18,7 +18,7 @@ use Rattle.sqlite.specs.Listing.{understood, reads_listing}
 use Rattle.sqlite.proofs.Callers.{IsPlain, command_of, statement_of}
 use Rattle.sqlite_schema.specs.declared.schema.Table.{Table}
 use Rattle.sqlite_catalog.specs.Change.{created}
-use Rattle.sb_log.specs.Form.{meta_text, writes_text, rows_text, meta_rows_text, meta_row_text, upsert_text, meta_table, writes_table, no_schema, meta_schema, log_schema}
+use Rattle.sb_log.specs.Form.{meta_text, writes_text, rows_text, meta_rows_text, meta_row_text, raise_text, upsert_text, meta_table, writes_table, no_schema, meta_schema, log_schema}
 
 abbrev pub unplaced : Table
 unplaced = record writes_table { tree = 0 }
@@ -103,7 +103,7 @@ meta_query = record {
   from = inner 0 end;
   filter = [];
   group = None;
-  project = col 1 2 ∷ col 1 3 ∷ col 1 4 ∷ col 1 5 ∷ col 1 6 ∷ [];
+  project = col 1 0 ∷ col 1 2 ∷ col 1 3 ∷ col 1 4 ∷ col 1 5 ∷ col 1 6 ∷ [];
   distinct = false;
   collations = [];
   order = [];
@@ -112,7 +112,7 @@ meta_query = record {
 }
 
 abbrev pub meta_names : List (List ℕ)
-meta_names = codes "form" ∷ codes "owner" ∷ codes "cluster" ∷ codes "last" ∷ codes "floor" ∷ []
+meta_names = codes "id" ∷ codes "form" ∷ codes "owner" ∷ codes "cluster" ∷ codes "last" ∷ codes "floor" ∷ []
 
 pub meta_rows_is : (command_of (understood log_schema meta_rows_text) ≡ Select (record { lets = []; body = meta_query }) meta_names) × (reads_listing log_schema meta_rows_text ≡ false)
 unfolding understood everything
@@ -132,7 +132,7 @@ unfolding understood everything
 meta_alone_plain = (refl, refl)
 
 abbrev pub meta_terms : List Term
-meta_terms = lit (Int (pos 1)) ∷ lit Null ∷ lit (Int (pos 1)) ∷ col 0 0 ∷ col 0 1 ∷ lit (Int (pos 0)) ∷ lit (Int (pos 0)) ∷ []
+meta_terms = lit (Int (pos 1)) ∷ lit Null ∷ lit (Int (pos 2)) ∷ col 0 0 ∷ col 0 1 ∷ lit (Int (pos 0)) ∷ lit (Int (pos 0)) ∷ []
 
 pub meta_row_is : command_of (understood log_schema meta_row_text) ≡ Insert 0 (Values meta_terms 7)
 unfolding understood everything
@@ -141,3 +141,28 @@ meta_row_is = refl
 pub meta_row_plain : IsPlain (understood log_schema meta_row_text)
 unfolding understood everything
 meta_row_plain = (refl, refl)
+
+-- what the raising makes of each row of meta: its other columns stay
+abbrev pub raise_query : Query
+raise_query = record {
+  from = inner 0 end;
+  filter = [];
+  group = None;
+  project = col 1 0 ∷ col 1 0 ∷ lit Null ∷ lit (Int (pos 2)) ∷ col 1 3 ∷ col 1 4 ∷ col 1 5 ∷ col 1 6 ∷ [];
+  distinct = false;
+  collations = [];
+  order = [];
+  limit = lit (Int (negsuc 0));
+  offset = lit (Int (pos 0));
+}
+
+abbrev pub raise_program : Program
+raise_program = record { lets = []; body = raise_query }
+
+pub raise_is : command_of (understood log_schema raise_text) ≡ Update 0 raise_program
+unfolding understood everything
+raise_is = refl
+
+pub raise_plain : IsPlain (understood log_schema raise_text)
+unfolding understood everything
+raise_plain = (refl, refl)

@@ -5,7 +5,7 @@ use Rattle.std.proofs.lemmas.List.Sorted.{IsPermutation-refl, IsPermutation-cons
 use Rattle.sqlite_value.specs.Order.{Row, column}
 use Rattle.sb_types.specs.declared.entry.Slot.{Slot}
 use Rattle.sb_types.specs.declared.entry.Slot.TheVariants.{Set, Removed}
-use Rattle.sb_types.specs.Value.{Addr, Weight, Flag}
+use Rattle.sb_types.specs.Value.{Addr, Weight, Flag, Text}
 use Rattle.sb_types.specs.Records.{Entry, Table}
 use Rattle.sb_types.specs.Runs.{are_ascending}
 use Rattle.std.proofs.lemmas.Bool.{and_parts, cond_both}
@@ -24,6 +24,7 @@ entry_back e = ap (λ (s : Slot). let x : Entry = record { key = e.key; version 
     go (Set (Weight weight)) = refl
     go (Set (Flag true)) = refl
     go (Set (Flag false)) = refl
+    go (Set (Text text)) = refl
 
 entries_back : (es : List Entry) → map entry_by (map cells_of es) ≡ es
 entries_back [] = refl

@@ -30,6 +30,7 @@ use Rattle.sqlite.specs.State.{State, Writes, Executes, CommitsBy, MayCommit, mo
 use Rattle.sqlite.proofs.Callers.{IsPlain, command_of, statement_of, runs_as, one_step}
 use Rattle.sb_types.specs.declared.entry.Slot.{Slot}
 use Rattle.sb_types.specs.declared.entry.Slot.TheVariants.{Set, Removed}
+use Rattle.sb_types.specs.Value as values
 use Rattle.sb_types.specs.Value.{Addr, Weight, Flag}
 use Rattle.sb_types.specs.Records.{Entry, Table}
 use Rattle.sb_table.specs.Plain.{IsPlainTable, with_entry}
@@ -56,6 +57,7 @@ three Removed = refl
 three (Set (Addr text)) = refl
 three (Set (Weight weight)) = refl
 three (Set (Flag flag)) = refl
+three (Set (values.Text text)) = refl
 
 module _ (e : Entry) where
   abbrev spread : Row
@@ -73,6 +75,7 @@ module _ (e : Entry) where
   fits_slot (Set (Weight weight)) = λ i. cast_int (pos 2) i ∷ cast_int (pos weight) i ∷ Null ∷ []
   fits_slot (Set (Flag true)) = λ i. cast_int (pos 3) i ∷ cast_int (pos 1) i ∷ Null ∷ []
   fits_slot (Set (Flag false)) = λ i. cast_int (pos 3) i ∷ cast_int (pos 0) i ∷ Null ∷ []
+  fits_slot (Set (values.Text text)) = λ i. cast_int (pos 4) i ∷ cast_null i ∷ Text text ∷ []
 
   fits : cast_all writes_columns spread ≡ spread
   fits = λ i. Text e.key ∷ cast_int (pos e.version) i ∷ fits_slot e.slot i

@@ -1,4 +1,4 @@
--- The two tables of a log, in its form 1.
+-- The two tables of a log, which forms 1 and 2 have alike.
 use Rattle.std.specs.Prelude.{◌≡◌, ℕ, pos, ◌==◌, ◌&&◌, slice_get, Bool, true, false, List, [], ◌∷◌, codes, Option, None, Some}
 use Rattle.sqlite_value.specs.declared.keys.Collation.TheVariants.{Binary}
 use Rattle.sqlite_value.specs.declared.value.Value.TheVariants.{Null, Int}
@@ -29,10 +29,13 @@ abbrev pub rows_text : List ℕ
 rows_text = codes "SELECT rowid, k, version, tag, num, txt FROM writes ORDER BY version"
 
 abbrev pub meta_rows_text : List ℕ
-meta_rows_text = codes "SELECT form, owner, cluster, last, floor FROM meta"
+meta_rows_text = codes "SELECT id, form, owner, cluster, last, floor FROM meta"
 
 abbrev pub meta_row_text : List ℕ
-meta_row_text = codes "INSERT INTO meta (id, form, owner, cluster, last, floor) VALUES (1, 1, ?1, ?2, 0, 0)"
+meta_row_text = codes "INSERT INTO meta (id, form, owner, cluster, last, floor) VALUES (1, 2, ?1, ?2, 0, 0)"
+
+abbrev pub raise_text : List ℕ
+raise_text = codes "UPDATE meta SET form = 2"
 
 abbrev pub upsert_text : List ℕ
 upsert_text = codes "INSERT INTO writes (k, version, tag, num, txt) VALUES (?1, ?2, ?3, ?4, ?5) ON CONFLICT (k) DO UPDATE SET version = excluded.version, tag = excluded.tag, num = excluded.num, txt = excluded.txt"

@@ -1,8 +1,8 @@
 -- What a log's tables may hold where it is opened.
-use Rattle.std.specs.Prelude.{◌≡◌, ◌⊎◌, ℕ, pos, min, true, List, [], ◌∷◌, map}
+use Rattle.std.specs.Prelude.{◌≡◌, ◌⊎◌, ℕ, pos, min, false, true, List, [], ◌∷◌, map}
 use Rattle.sqlite_value.specs.declared.value.Value.TheVariants.{Int, Text}
 use Rattle.sqlite_value.specs.Order.{Row, column}
-use Rattle.sqlite_trees.specs.Tree.{Trees}
+use Rattle.sqlite_trees.specs.Tree.{Trees, rowid}
 use Rattle.sqlite.specs.Effect.{Database}
 use Rattle.sqlite_catalog.specs.Listing.{IsSound}
 use Rattle.sb_types.specs.declared.fault.Fault.{Fault}
@@ -14,23 +14,35 @@ use Rattle.sb_table.specs.Plain.{plain_table}
 use Rattle.sb_log.specs.declared.schema.Made.{Made}
 use Rattle.sb_log.specs.declared.schema.Made.TheVariants.{Neither, Meta, Both}
 use Rattle.sb_log.specs.Form.{schema_with, log_schema}
-use Rattle.sb_log.specs.Rows.{AreRowsOf}
+use Rattle.sb_log.specs.Rows.{has_texts, AreRowsOf}
 
--- form, owner, cluster, last and floor of a row of meta
+-- the rowid, form, owner, cluster, last and floor of a row of meta
 abbrev pub meta_cells : Row → Row
-meta_cells row = column row 2 ∷ column row 3 ∷ column row 4 ∷ column row 5 ∷ column row 6 ∷ []
+meta_cells row = rowid row ∷ column row 2 ∷ column row 3 ∷ column row 4 ∷ column row 5 ∷ column row 6 ∷ []
 
--- of form 1, with no version that was forgotten
-abbrev pub meta_row : List ℕ → List ℕ → Row
-meta_row owner cluster = Int (pos 1) ∷ Text owner ∷ Text cluster ∷ Int (pos 0) ∷ Int (pos 0) ∷ []
+-- of this form, with no version that was forgotten
+abbrev pub meta_row : ℕ → List ℕ → List ℕ → Row
+meta_row form owner cluster = Int (pos 1) ∷ Int (pos form) ∷ Text owner ∷ Text cluster ∷ Int (pos 0) ∷ Int (pos 0) ∷ []
 
--- the one row says that it is this owner's log, of this cluster
-abbrev pub IsNamed : List ℕ → List ℕ → List Row → Type 0
-IsNamed owner cluster rows = map meta_cells rows ≡ meta_row owner cluster ∷ []
+-- the one row says that it is this owner's log, of this cluster, in this form
+abbrev pub IsNamedIn : ℕ → List ℕ → List ℕ → List Row → Type 0
+IsNamedIn form owner cluster rows = map meta_cells rows ≡ meta_row form owner cluster ∷ []
+
+-- the forms that are read; the second is that of every log that was opened
+abbrev pub IsForm : ℕ → Type 0
+IsForm form = (form ≡ 1) ⊎ (form ≡ 2)
+
+-- one of them, which has such content: the first has no texts
+abbrev pub IsFormOf : ℕ → Table → Type 0
+IsFormOf form content = ((form ≡ 1) × (has_texts content ≡ false)) ⊎ (form ≡ 2)
+
+-- the same in a form that is read and has this content
+abbrev pub IsNamed : List ℕ → List ℕ → Table → List Row → Type 0
+IsNamed owner cluster content rows = (form : ℕ) × IsFormOf form content × IsNamedIn form owner cluster rows
 
 -- it says so, or there is no row yet
-abbrev pub IsMetaOf : List ℕ → List ℕ → List Row → Type 0
-IsMetaOf owner cluster rows = (rows ≡ []) ⊎ IsNamed owner cluster rows
+abbrev pub IsMetaOf : List ℕ → List ℕ → Table → List Row → Type 0
+IsMetaOf owner cluster content rows = (rows ≡ []) ⊎ IsNamed owner cluster content rows
 
 -- the rows of each table, and none of a table that is not there
 abbrev pub meta_found : Made → Trees → List Row
@@ -47,7 +59,7 @@ writes_found Both db = db 1
 pub record Opens (owner cluster : List ℕ) (found : Database) (content : Table) : Type 0 where
   pub made : Made
   pub schema : found.schema ≡ schema_with made
-  pub meta : IsMetaOf owner cluster (meta_found made found.trees)
+  pub meta : IsMetaOf owner cluster content (meta_found made found.trees)
   pub rows : AreRowsOf content (writes_found made found.trees)
   pub empty : meta_found made found.trees ≡ [] → content ≡ plain_table []
   -- where the table of writes is missing, nothing says yet whose the log is
@@ -76,12 +88,21 @@ pub record Names (owner cluster : List ℕ) (found : Database) (db : Trees) : Ty
   pub schema : found.schema ≡ schema_with made
   pub none : meta_found made found.trees ≡ []
   pub sound : IsSound log_schema db
-  pub meta : IsNamed owner cluster (db 0)
+  pub meta : IsNamedIn 2 owner cluster (db 0)
+  pub rows : db 1 ≡ writes_found made found.trees
+
+-- what was found is there, but that the owner's log, which was of form 1, is of form 2
+pub record Raises (owner cluster : List ℕ) (found : Database) (db : Trees) : Type 0 where
+  pub made : Made
+  pub schema : found.schema ≡ schema_with made
+  pub older : IsNamedIn 1 owner cluster (meta_found made found.trees)
+  pub sound : IsSound log_schema db
+  pub meta : IsNamedIn 2 owner cluster (db 0)
   pub rows : db 1 ≡ writes_found made found.trees
 
 -- what an opening may commit
 abbrev pub Founds : List ℕ → List ℕ → Database → Trees → Type 0
-Founds owner cluster found db = Grows found db ⊎ Names owner cluster found db
+Founds owner cluster found db = Grows found db ⊎ (Names owner cluster found db ⊎ Raises owner cluster found db)
 
 -- memory was wanting, or the store failed
 abbrev pub IsWant : Fault → Type 0

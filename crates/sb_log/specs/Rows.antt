@@ -1,6 +1,6 @@
 -- What the rows of a log's tables hold.
 use Rattle.std.specs.Prelude.{◌≡◌, ℕ, pos, Bool, true, false, ◌&&◌, ◌==◌, if◌then◌else◌, nat_le, nat_lt, List, [], ◌∷◌, map, IsPermutation}
-use Rattle.std.specs.List.{list_all, AllByRecursion}
+use Rattle.std.specs.List.{list_all, list_any, AllByRecursion}
 use Rattle.sqlite_value.specs.declared.value.Value as cell
 use Rattle.sqlite_value.specs.declared.value.Value.TheVariants.{Null, Int, Text}
 use Rattle.sqlite_value.specs.Order.{Row, column, bytes}
@@ -9,6 +9,7 @@ use Rattle.sqlite_trees.specs.View.{is_int}
 use Rattle.sb_types.specs.declared.entry.Slot.{Slot}
 use Rattle.sb_types.specs.declared.entry.Slot.TheVariants.{Set, Removed}
 use Rattle.sb_types.specs.declared.limits.TheConstants.{VERSION_MOST}
+use Rattle.sb_types.specs.Value as values
 use Rattle.sb_types.specs.Value.{Addr, Weight, Flag}
 use Rattle.sb_types.specs.Limits.{is_entry}
 use Rattle.sb_types.specs.Records.{Entry, Table}
@@ -24,6 +25,17 @@ slot_cells Removed = Int (pos 0) ∷ Null ∷ Null ∷ []
 slot_cells (Set (Addr text)) = Int (pos 1) ∷ Null ∷ Text text ∷ []
 slot_cells (Set (Weight weight)) = Int (pos 2) ∷ Int (pos weight) ∷ Null ∷ []
 slot_cells (Set (Flag flag)) = Int (pos 3) ∷ Int (pos (flag_number flag)) ∷ Null ∷ []
+slot_cells (Set (values.Text text)) = Int (pos 4) ∷ Null ∷ Text text ∷ []
+
+abbrev pub sets_text : Slot → Bool
+sets_text Removed = false
+sets_text (Set (Addr text)) = false
+sets_text (Set (Weight weight)) = false
+sets_text (Set (Flag flag)) = false
+sets_text (Set (values.Text text)) = true
+
+abbrev pub has_texts : Table → Bool
+has_texts table = list_any (λ e. sets_text e.slot) table.entries
 
 -- the columns of the row that holds an entry
 abbrev pub cells_of : Entry → Row
@@ -63,7 +75,7 @@ number_of _ = 0
 
 abbrev pub slot_by : ℕ → cell.Value → cell.Value → Slot
 slot_by tag number text =
-    if tag == 1 then Set (Addr (bytes text)) else (if tag == 2 then Set (Weight (number_of number)) else (if tag == 3 then Set (Flag (number_of number == 1)) else Removed))
+    if tag == 1 then Set (Addr (bytes text)) else (if tag == 2 then Set (Weight (number_of number)) else (if tag == 3 then Set (Flag (number_of number == 1)) else (if tag == 4 then Set (values.Text (bytes text)) else Removed)))
 
 abbrev pub entry_by : Row → Entry
 entry_by row = record { key = bytes (column row 0); version = number_of (column row 1); slot = slot_by (number_of (column row 2)) (column row 3) (column row 4) }

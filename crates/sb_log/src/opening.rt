@@ -1,5 +1,5 @@
 //! Opening a log's tables, and making those that are missing.
-ghost use Rattle.std.specs.Prelude.{◌≡◌, ◌≢◌, ◌≤◌, ◌⊎◌, Ok, Err, pos, [], ◌∷◌, map, IfErr, IfOk, IsTrue, OnOk, false, true};
+ghost use Rattle.std.specs.Prelude.{◌≡◌, ◌≢◌, ◌≤◌, ◌⊎◌, ℕ, List, Ok, Err, Some, IfSome, pos, [], ◌∷◌, map, IfErr, IfOk, IsTrue, OnOk, IsOkAnd, false, true};
 ghost use Rattle.sqlite_value.specs.declared.value.Value.TheVariants.{Int, Text};
 ghost use Rattle.sqlite_value.specs.Order.{column};
 ghost use Rattle.sqlite_trees.specs.Tree.{Trees};
@@ -11,12 +11,13 @@ ghost use Rattle.sqlite_catalog.specs.Listing.{IsSound};
 ghost use Rattle.sb_types.specs.Records as records;
 ghost use Rattle.sb_table.specs.Plain.{plain_table};
 ghost use Rattle.sb_log.specs.Form.{no_schema, meta_schema, log_schema, schema_with};
-ghost use Rattle.sb_log.specs.Opening.{meta_row, meta_found, IsNamed, Completes, Opens, Grows, Founds, IsWant, IsOpeningFault};
+ghost use Rattle.sb_log.specs.Opening.{meta_cells, meta_row, meta_found, IsForm, IsFormOf, IsNamedIn, Completes, Opens, Grows, Founds, IsWant, IsOpeningFault};
 ghost use Rattle.sb_log.specs.Rows.{AreRowsOf};
 ghost use Rattle.sb_log.specs.Standing.{IsPrepared, IsReady};
 
+use crate::rows::has_texts;
 use crate::schema::{Made, tables_in};
-use crate::statements::{make_meta, make_writes, read_meta, read_table, write_meta};
+use crate::statements::{make_meta, make_writes, raise_form, read_meta, read_table, write_meta};
 use sb_table::Table;
 use sb_types::{Fault, Name};
 use sqlite::{Alter, Connection, Row};
@@ -25,8 +26,8 @@ use std::alloc::Global;
 
 /// Opens a log's tables, and makes those that are missing: what their rows hold. In this order: `LogDamaged` where
 /// there is no meta row beside rows, a meta row without the table of writes, or an unknown form or schema;
-/// `WrongOwner`; `LogDamaged` where a row breaks a limit, or versions were forgotten. `StoreFailed` and `NoMemory`
-/// wherever they come.
+/// `WrongOwner`; `LogDamaged` where a row breaks a limit or has a text in form 1, or versions were forgotten.
+/// `StoreFailed` and `NoMemory` wherever they come.
 pub(crate) fn open_tables<S: Alter>(
     conn: &mut Connection<S>,
     alloc: Global,
@@ -37,7 +38,7 @@ pub(crate) fn open_tables<S: Alter>(
     ensures ready { HasCleanDisk (state S.Store conn.new) → OnOk result (IsReady (state S.Store conn.new)) }
     ensures rows { HasCleanDisk (state S.Store conn.new) → IfOk result (λ t. AreRowsOf t ((state S.Store conn.new).now.trees 1)) }
     ensures meta { HasCleanDisk (state S.Store conn.new)
-        → OnOk result (IsNamed owner.now cluster.now ((state S.Store conn.new).now.trees 0)) }
+        → OnOk result (IsNamedIn 2 owner.now cluster.now ((state S.Store conn.new).now.trees 0)) }
     // What is refused is refused again: at most the tables that were missing are made.
     ensures refused { HasCleanDisk (state S.Store conn.new) → IfErr result (λ fault. fault ≢ Fault.StoreFailed
         → ((state S.Store conn.new).now ≡ (state S.Store conn.old).now) ⊎ Completes (state S.Store conn.old).now (state S.Store conn.new).now) }
@@ -72,12 +73,12 @@ fn open_new<S: Alter>(
     ensures same { HasCleanDisk (state S.Store conn.new) → IsReady (state S.Store conn.old)
         → OnOk result ((state S.Store conn.new).now.trees 1 ≡ (state S.Store conn.old).now.trees 1) }
     ensures meta { HasCleanDisk (state S.Store conn.new) → IsReady (state S.Store conn.old) → (state S.Store conn.old).now.trees 0 ≡ []
-        → OnOk result (IsNamed owner.now cluster.now ((state S.Store conn.new).now.trees 0)) }
+        → OnOk result (IsNamedIn 2 owner.now cluster.now ((state S.Store conn.new).now.trees 0)) }
     ensures refused { HasCleanDisk (state S.Store conn.new) → IsReady (state S.Store conn.old)
         → IfErr result (λ fault. fault ≢ Fault.StoreFailed → (state S.Store conn.new).now ≡ (state S.Store conn.old).now) }
     ensures crash { HasCleanDisk (state S.Store conn.new) → IsReady (state S.Store conn.old) → (state S.Store conn.old).now.trees 0 ≡ []
         → (db : Trees) → (state S.Store conn.new).may_leave db
-        → (state S.Store conn.old).may_leave db ⊎ (IsSound log_schema db × (db 1 ≡ (state S.Store conn.old).now.trees 1) × IsNamed owner.now cluster.now (db 0)) }
+        → (state S.Store conn.old).may_leave db ⊎ (IsSound log_schema db × (db 1 ≡ (state S.Store conn.old).now.trees 1) × IsNamedIn 2 owner.now cluster.now (db 0)) }
     ensures whole { HasCleanDisk (state S.Store conn.new) → IsReady (state S.Store conn.old)
         → (t : records.Table) → AreRowsOf t ((state S.Store conn.old).now.trees 1) → t ≡ plain_table [] → IfErr result IsWant }
     ensures clean { doubt (state S.Store conn.old).is_clean ≤ doubt (state S.Store conn.new).is_clean }
@@ -94,7 +95,7 @@ fn open_new<S: Alter>(
     }
 }
 
-/// Opens tables that say whose they are.
+/// Opens tables that say whose they are, in this row, and raises their form to 2.
 fn open_old<S: Alter>(
     conn: &mut Connection<S>,
     alloc: Global,
@@ -104,25 +105,95 @@ fn open_old<S: Alter>(
 ) -> Result<Table, Fault>
     ensures rows { HasCleanDisk (state S.Store conn.new) → IsReady (state S.Store conn.old)
         → IfOk result (λ t. AreRowsOf t ((state S.Store conn.old).now.trees 1)) }
-    ensures ready { HasCleanDisk (state S.Store conn.new) → IsReady (state S.Store conn.old) → OnOk result (IsReady (state S.Store conn.new)) }
-    ensures same { HasCleanDisk (state S.Store conn.new) → IsReady (state S.Store conn.old)
-        → OnOk result ((state S.Store conn.new).now ≡ (state S.Store conn.old).now) }
-    ensures meta { OnOk result (row.now ≡ meta_row owner.now cluster.now) }
+    ensures ready { HasCleanDisk (state S.Store conn.new) → IsReady (state S.Store conn.old) → map meta_cells ((state S.Store conn.old).now.trees 0) ≡ row.now ∷ []
+        → OnOk result (IsReady (state S.Store conn.new)) }
+    ensures same { HasCleanDisk (state S.Store conn.new) → IsReady (state S.Store conn.old) → map meta_cells ((state S.Store conn.old).now.trees 0) ≡ row.now ∷ []
+        → OnOk result ((state S.Store conn.new).now.trees 1 ≡ (state S.Store conn.old).now.trees 1) }
+    ensures found { IfOk result (λ t. (form : ℕ) × IsFormOf form t × (row.now ≡ meta_row form owner.now cluster.now)) }
+    ensures meta { HasCleanDisk (state S.Store conn.new) → IsReady (state S.Store conn.old) → map meta_cells ((state S.Store conn.old).now.trees 0) ≡ row.now ∷ []
+        → OnOk result (IsNamedIn 2 owner.now cluster.now ((state S.Store conn.new).now.trees 0)) }
+    ensures refused { HasCleanDisk (state S.Store conn.new) → IsReady (state S.Store conn.old)
+        → IfErr result (λ fault. fault ≢ Fault.StoreFailed → (state S.Store conn.new).now ≡ (state S.Store conn.old).now) }
+    ensures crash { HasCleanDisk (state S.Store conn.new) → IsReady (state S.Store conn.old) → map meta_cells ((state S.Store conn.old).now.trees 0) ≡ row.now ∷ []
+        → (db : Trees) → (state S.Store conn.new).may_leave db → (state S.Store conn.old).may_leave db
+        ⊎ ((row.now ≡ meta_row 1 owner.now cluster.now) × IsSound log_schema db × (db 1 ≡ (state S.Store conn.old).now.trees 1) × IsNamedIn 2 owner.now cluster.now (db 0)) }
+    ensures whole { HasCleanDisk (state S.Store conn.new) → IsReady (state S.Store conn.old) → (form : ℕ) → row.now ≡ meta_row form owner.now cluster.now
+        → (t : records.Table) → IsFormOf form t → AreRowsOf t ((state S.Store conn.old).now.trees 1) → IfErr result IsWant }
+    ensures clean { doubt (state S.Store conn.old).is_clean ≤ doubt (state S.Store conn.new).is_clean }
+    ensures fault { IfErr result IsOpeningFault }
+{
+    let meta = test_meta(row, owner, cluster)?;
+    let table = read_whole(conn, alloc, meta.form, meta.has_forgotten)?;
+    match raise_from(conn, meta.form) {
+        Ok(()) => Ok(table),
+        Err(fault) => Err(fault),
+    }
+}
+
+/// The table of the writes of a log of this form. `LogDamaged` also where versions were forgotten, or form 1 has a text, after all that
+/// reading finds.
+fn read_whole<S: Alter>(
+    conn: &mut Connection<S>,
+    alloc: Global,
+    form: u64,
+    has_forgotten: bool,
+) -> Result<Table, Fault>
+    ensures rows { HasCleanDisk (state S.Store conn.new) → IsReady (state S.Store conn.old)
+        → IfOk result (λ t. AreRowsOf t ((state S.Store conn.old).now.trees 1)) }
+    ensures ready { HasCleanDisk (state S.Store conn.new) → IsReady (state S.Store conn.old)
+        → OnOk result (IsReady (state S.Store conn.new) × ((state S.Store conn.new).now ≡ (state S.Store conn.old).now)) }
+    ensures all { OnOk result (has_forgotten ≡ false) }
+    ensures form { IsForm form → IfOk result (IsFormOf form) }
     ensures refused { HasCleanDisk (state S.Store conn.new) → IsReady (state S.Store conn.old)
         → IfErr result (λ fault. fault ≢ Fault.StoreFailed → (state S.Store conn.new).now ≡ (state S.Store conn.old).now) }
     ensures crash { HasCleanDisk (state S.Store conn.new) → IsReady (state S.Store conn.old) → (db : Trees) → (state S.Store conn.new).may_leave db
         → (state S.Store conn.old).may_leave db }
-    ensures whole { HasCleanDisk (state S.Store conn.new) → IsReady (state S.Store conn.old) → row.now ≡ meta_row owner.now cluster.now
-        → (t : records.Table) → AreRowsOf t ((state S.Store conn.old).now.trees 1) → IfErr result IsWant }
+    ensures whole { HasCleanDisk (state S.Store conn.new) → IsReady (state S.Store conn.old) → has_forgotten ≡ false
+        → (t : records.Table) → IsFormOf form t → AreRowsOf t ((state S.Store conn.old).now.trees 1) → IfErr result IsWant }
     ensures clean { doubt (state S.Store conn.old).is_clean ≤ doubt (state S.Store conn.new).is_clean }
     ensures fault { IfErr result IsOpeningFault }
 {
-    let forgot = test_meta(row, owner, cluster)?;
     let table = read_table(conn, alloc)?;
-    if forgot {
+    if has_forgotten {
+        return Err(Fault::LogDamaged);
+    }
+    if !is_form_of(form, &table) {
         return Err(Fault::LogDamaged);
     }
     Ok(table)
+}
+
+/// Whether a log of this form, which is one that is read, has such entries: one of form 1 has no texts.
+fn is_form_of(form: u64, table: &Table) -> bool
+    ensures is { IsTrue result → IsForm form → IsFormOf form table.now }
+    ensures whole { IsFormOf form table.now → IsTrue result }
+{
+    if form != 1 {
+        return true;
+    }
+    !has_texts(table)
+}
+
+/// Raises the form of a log from this one to 2. `StoreFailed`, not of one that has it.
+fn raise_from<S: Alter>(conn: &mut Connection<S>, form: u64) -> Result<(), Fault>
+    ensures ready { HasCleanDisk (state S.Store conn.new) → IsReady (state S.Store conn.old) → (owner cluster : List ℕ)
+        → IsNamedIn form owner cluster ((state S.Store conn.old).now.trees 0) → OnOk result (IsReady (state S.Store conn.new)) }
+    ensures rows { HasCleanDisk (state S.Store conn.new) → IsReady (state S.Store conn.old) → (owner cluster : List ℕ)
+        → IsNamedIn form owner cluster ((state S.Store conn.old).now.trees 0)
+        → OnOk result ((state S.Store conn.new).now.trees 1 ≡ (state S.Store conn.old).now.trees 1) }
+    ensures meta { HasCleanDisk (state S.Store conn.new) → IsReady (state S.Store conn.old) → IsForm form → (owner cluster : List ℕ)
+        → IsNamedIn form owner cluster ((state S.Store conn.old).now.trees 0) → OnOk result (IsNamedIn 2 owner cluster ((state S.Store conn.new).now.trees 0)) }
+    ensures crash { HasCleanDisk (state S.Store conn.new) → IsReady (state S.Store conn.old) → (owner cluster : List ℕ)
+        → IsNamedIn form owner cluster ((state S.Store conn.old).now.trees 0) → (db : Trees) → (state S.Store conn.new).may_leave db
+        → (state S.Store conn.old).may_leave db
+        ⊎ ((form ≡ 1) × IsSound log_schema db × (db 1 ≡ (state S.Store conn.old).now.trees 1) × IsNamedIn 2 owner cluster (db 0)) }
+    ensures clean { doubt (state S.Store conn.old).is_clean ≤ doubt (state S.Store conn.new).is_clean }
+    ensures fault { IfErr result (λ fault. fault ≡ Fault.StoreFailed) }
+{
+    if form == 1 {
+        return raise_form(conn);
+    }
+    Ok(())
 }
 
 /// Makes those of a log's tables that are missing. `StoreFailed`, also inside a transaction; `LogDamaged` where
@@ -203,32 +274,65 @@ fn make_both<S: Alter>(conn: &mut Connection<S>) -> Result<(), Fault>
     make_writes(conn)
 }
 
-/// Tests the row that says whose log it is. `LogDamaged` where its form is unknown; `WrongOwner` of another owner
-/// or cluster. Whether versions were forgotten.
-#[tactic(auto, using(crate::proofs::Cells::of_five))]
-fn test_meta(row: &Row, owner: &Name, cluster: &Name) -> Result<bool, Fault>
-    ensures row { IfOk result (λ forgot. forgot ≡ false → row.now ≡ meta_row owner.now cluster.now) }
-    ensures whole { row.now ≡ meta_row owner.now cluster.now → result ≡ Ok false }
+/// What the row that says whose a log is says beside it.
+#[derive(Clone, Copy)]
+struct Meta {
+    form: u64,
+    has_forgotten: bool,
+}
+
+/// Tests the row that says whose log it is. `LogDamaged` where its number is not 1 or its form is unknown; `WrongOwner`
+/// of another owner or cluster.
+#[tactic(auto, using(crate::proofs::Cells::of_six))]
+fn test_meta(row: &Row, owner: &Name, cluster: &Name) -> Result<Meta, Fault>
+    ensures row { IfOk result (λ meta. meta.has_forgotten ≡ false → row.now ≡ meta_row meta.form owner.now cluster.now) }
+    ensures form { IfOk result (λ meta. IsForm meta.form) }
+    ensures whole { (form : ℕ) → IsForm form → row.now ≡ meta_row form owner.now cluster.now
+        → IsOkAnd result (λ meta. (meta.form ≡ form) × (meta.has_forgotten ≡ false)) }
     ensures others { IfErr result (λ fault. fault ≡ Fault.WrongOwner
-        → (column row.now 0 ≡ Int (pos 1)) × ((column row.now 1 ≢ Text owner.now) ⊎ (column row.now 2 ≢ Text cluster.now))) }
+        → (form : ℕ) × IsForm form × (column row.now 0 ≡ Int (pos 1)) × (column row.now 1 ≡ Int (pos form))
+        × ((column row.now 2 ≢ Text owner.now) ⊎ (column row.now 3 ≢ Text cluster.now))) }
     ensures fault { IfErr result (λ fault. (fault ≡ Fault.LogDamaged) ⊎ (fault ≡ Fault.WrongOwner)) }
 {
-    if row.column_count() != 5 {
+    if row.column_count() != 6 {
         return Err(Fault::LogDamaged);
     }
-    let Ok(ValueRef::Int(1)) = row.get_ref(0) else {
+    let Some(form) = form_of(row) else {
         return Err(Fault::LogDamaged);
     };
-    if !is_text(row, 1, owner) {
+    if !is_text(row, 2, owner) {
         return Err(Fault::WrongOwner);
     }
-    if !is_text(row, 2, cluster) {
+    if !is_text(row, 3, cluster) {
         return Err(Fault::WrongOwner);
     }
-    let (Ok(ValueRef::Int(0)), Ok(ValueRef::Int(0))) = (row.get_ref(3), row.get_ref(4)) else {
-        return Ok(true);
-    };
-    Ok(false)
+    Ok(Meta {
+        form,
+        has_forgotten: !has_zeros(row),
+    })
+}
+
+/// The form that a row numbered 1 says, where it is one that is read.
+fn form_of(row: &Row) -> Option<u64>
+    ensures is { IfSome result (λ form. IsForm form × (column row.now 0 ≡ Int (pos 1)) × (column row.now 1 ≡ Int (pos form))) }
+    ensures whole { (form : ℕ) → IsForm form → column row.now 0 ≡ Int (pos 1) → column row.now 1 ≡ Int (pos form) → result ≡ Some form }
+{
+    match (row.get_ref(0), row.get_ref(1)) {
+        (Ok(ValueRef::Int(1)), Ok(ValueRef::Int(1))) => Some(1),
+        (Ok(ValueRef::Int(1)), Ok(ValueRef::Int(2))) => Some(2),
+        _ => None,
+    }
+}
+
+/// Whether no version was forgotten.
+fn has_zeros(row: &Row) -> bool
+    ensures is { IsTrue result → (column row.now 4 ≡ Int (pos 0)) × (column row.now 5 ≡ Int (pos 0)) }
+    ensures whole { column row.now 4 ≡ Int (pos 0) → column row.now 5 ≡ Int (pos 0) → IsTrue result }
+{
+    match (row.get_ref(4), row.get_ref(5)) {
+        (Ok(ValueRef::Int(0)), Ok(ValueRef::Int(0))) => true,
+        _ => false,
+    }
 }
 
 /// Whether a column has a name.

@@ -11,10 +11,10 @@ ghost use Rattle.sb_types.specs.Limits.{is_slot, is_entry};
 ghost use Rattle.sb_types.specs.Records as records;
 ghost use Rattle.sb_types.specs.Runs.{has_key};
 ghost use Rattle.sb_table.specs.Plain.{IsPlainTable};
-ghost use Rattle.sb_log.specs.Rows.{slot_cells, cells_of, is_kept, AreNumbered};
+ghost use Rattle.sb_log.specs.Rows.{slot_cells, cells_of, is_kept, sets_text, has_texts, AreNumbered};
 
 use sb_table::Table;
-use sb_types::{Entry, Fault, Key, Slot, VERSION_MOST, Value};
+use sb_types::{Entry, Fault, Key, Slot, VERSION_MOST, Value, ValueRef as Lent};
 use sqlite::Row;
 use sqlite_value::value::ValueRef;
 use std::alloc::Global;
@@ -40,22 +40,20 @@ fn slot_cells(slot: &Slot) -> (ValueRef<'_>, ValueRef<'_>, ValueRef<'_>)
     let Slot::Set(value) = slot else {
         return (ValueRef::Int(0), ValueRef::Null, ValueRef::Null);
     };
-    if let Some(text) = value.as_addr() {
-        return (ValueRef::Int(1), ValueRef::Null, ValueRef::Text(text));
-    }
-    if let Some(weight) = value.as_weight() {
-        return (
+    match value.view() {
+        Lent::Addr(text) => (ValueRef::Int(1), ValueRef::Null, ValueRef::Text(text)),
+        Lent::Weight(weight) => (
             ValueRef::Int(2),
             ValueRef::Int(weight as i64),
             ValueRef::Null,
-        );
+        ),
+        Lent::Flag(flag) => (
+            ValueRef::Int(3),
+            ValueRef::Int(i64::from(flag)),
+            ValueRef::Null,
+        ),
+        Lent::Text(text) => (ValueRef::Int(4), ValueRef::Null, ValueRef::Text(text)),
     }
-    let flag = value.as_flag() == Some(true);
-    (
-        ValueRef::Int(3),
-        ValueRef::Int(i64::from(flag)),
-        ValueRef::Null,
-    )
 }
 
 /// The entry that a row of an answer holds behind its rowid, where it breaks no limit. `NoMemory`.
@@ -146,6 +144,11 @@ fn slot_in(
         (ValueRef::Int(3), ValueRef::Int(1), ValueRef::Null) => Ok(Some(Slot::Set(Value::flag(
             true,
         )))),
+        (ValueRef::Int(4), ValueRef::Null, ValueRef::Text(text)) => match Value::text(alloc, text) {
+            Ok(value) => Ok(Some(Slot::Set(value))),
+            Err(Fault::NoMemory) => Err(Fault::NoMemory),
+            Err(_) => Ok(None),
+        },
         _ => Ok(None),
     }
 }
@@ -169,6 +172,32 @@ pub(crate) fn table_of(alloc: Global, rows: &[Row]) -> Result<Table, Fault>
         }
     }
     Ok(table)
+}
+
+/// Whether one of the entries sets a text.
+pub(crate) fn has_texts(table: &Table) -> bool
+    ensures { result ≡ has_texts table.now }
+{
+    for entry in table.after(0) {
+        if sets_text(entry.slot()) {
+            return true;
+        }
+    }
+    false
+}
+
+fn sets_text(slot: &Slot) -> bool
+    ensures { result ≡ sets_text slot.now }
+{
+    let Slot::Set(value) = slot else {
+        return false;
+    };
+    match value.view() {
+        Lent::Addr(_) => false,
+        Lent::Weight(_) => false,
+        Lent::Flag(_) => false,
+        Lent::Text(_) => true,
+    }
 }
 
 /// Enters an entry of a new key and a later version. `LogDamaged` where it is none, or there is no room; `NoMemory`.

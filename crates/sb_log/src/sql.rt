@@ -5,7 +5,7 @@ ghost use Rattle.sqlite_trees.specs.View.{doubt};
 ghost use Rattle.sqlite.specs.Held.{state};
 ghost use Rattle.sqlite.specs.State.{HasCleanDisk};
 ghost use Rattle.sb_types.specs.Records as records;
-ghost use Rattle.sb_log.specs.Opening.{IsNamed, Opens, Completes, Founds, IsWant, IsOpeningFault, IsOpenedAs};
+ghost use Rattle.sb_log.specs.Opening.{IsNamedIn, Opens, Completes, Founds, IsWant, IsOpeningFault, IsOpenedAs};
 ghost use Rattle.sb_log.specs.Puts.{IsSettled, IsSure};
 ghost use Rattle.sb_log.specs.Sql.{log_in};
 ghost use Rattle.sb_log.specs.Standing.{MayLeave};
@@ -56,9 +56,10 @@ impl<S: Alter + Drop> SqlLog<S> {
     /// `LogDamaged` where rows stand without the row that says whose they are, where that row stands without the table of
     /// writes, where its form is unknown, or where there are other tables than a log's; `WrongOwner` where the log is
     /// another owner's or of another cluster; `LogDamaged` where a row breaks a limit or two have one key or version,
-    /// where there are more than 4,096, or where versions were forgotten. `NoMemory` and `StoreFailed` wherever they
-    /// come, the latter also inside a transaction. A refusal hands the connection back, and the database is as it was,
-    /// but that tables which were missing may have been made. However it ends, nothing of what was there is lost.
+    /// where a log of form 1 has a text, where there are more than 4,096, or where versions were forgotten. `NoMemory`
+    /// and `StoreFailed` wherever they come, the latter also inside a transaction. After all of these a log of form 1
+    /// becomes one of form 2. A refusal hands the connection back, and the database is as it was, but that tables which
+    /// were missing may have been made. However it ends, nothing of what was there is lost.
     pub fn open(
         alloc: Global,
         conn: Connection<S>,
@@ -69,7 +70,7 @@ impl<S: Alter + Drop> SqlLog<S> {
         ensures log { IfOk result (λ l. IsOpenedAs owner cluster max_version (log_in S.Store l)) }
         ensures clean { IfOk result (λ l. doubt (state S.Store conn).is_clean ≤ doubt (state S.Store l.conn).is_clean) }
         ensures found { IfOk result (λ l. HasCleanDisk (state S.Store l.conn) → Opens owner cluster (state S.Store conn).now (log_in S.Store l).content) }
-        ensures meta { IfOk result (λ l. HasCleanDisk (state S.Store l.conn) → IsNamed owner cluster ((state S.Store l.conn).now.trees 0)) }
+        ensures meta { IfOk result (λ l. HasCleanDisk (state S.Store l.conn) → IsNamedIn 2 owner cluster ((state S.Store l.conn).now.trees 0)) }
         ensures settled { IfOk result (λ l. IsSettled (log_in S.Store l) (MayLeave S.Store owner cluster l.conn)) }
         ensures whole { (t : records.Table) → Opens owner cluster (state S.Store conn).now t
             → IfErr result (λ refused. HasCleanDisk (state S.Store refused.1) → IsWant refused.0) }

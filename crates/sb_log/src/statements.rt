@@ -1,5 +1,5 @@
 //! The statements of a log, each of which commits by itself.
-ghost use Rattle.std.specs.Prelude.{◌≡◌, ◌≢◌, Err, ◌<◌, ◌≤◌, ◌^◌, ◌⊎◌, true, false, [], ◌∷◌, map, drop, IsPermutation, IfOk, IfErr, OnOk};
+ghost use Rattle.std.specs.Prelude.{◌≡◌, ◌≢◌, ℕ, List, Err, ◌<◌, ◌≤◌, ◌^◌, ◌⊎◌, true, false, [], ◌∷◌, map, drop, IsPermutation, IfOk, IfErr, OnOk};
 ghost use Rattle.sqlite_trees.specs.Tree.{Trees};
 ghost use Rattle.sqlite_trees.specs.View.{doubt};
 ghost use Rattle.sqlite.specs.Held.{state};
@@ -10,7 +10,7 @@ ghost use Rattle.sb_types.specs.Records as records;
 ghost use Rattle.sb_table.specs.Plain.{IsPlainTable};
 ghost use Rattle.sb_log.specs.Form.{no_schema, meta_schema, log_schema};
 ghost use Rattle.sb_log.specs.Rows.{cells_of, numbered_cells, is_kept, Enters, AreRowsOf};
-ghost use Rattle.sb_log.specs.Opening.{meta_cells, IsNamed};
+ghost use Rattle.sb_log.specs.Opening.{meta_cells, IsNamedIn};
 ghost use Rattle.sb_log.specs.Standing.{IsReady, IsPrepared};
 
 use crate::rows::{cells_of, table_of};
@@ -90,7 +90,10 @@ pub(crate) fn read_meta<S: Alter>(conn: &mut Connection<S>) -> Result<Vec<Row>, 
     ensures clean { doubt (state S.Store conn.old).is_clean ≤ doubt (state S.Store conn.new).is_clean }
     ensures fault { IfErr result (λ fault. fault ≡ Fault.StoreFailed) }
 {
-    match conn.query_all("SELECT form, owner, cluster, last, floor FROM meta", &[]) {
+    match conn.query_all(
+        "SELECT id, form, owner, cluster, last, floor FROM meta",
+        &[],
+    ) {
         Ok(rows) => Ok(rows),
         Err(_) => Err(Fault::StoreFailed),
     }
@@ -106,20 +109,42 @@ pub(crate) fn write_meta<S: Alter>(
     ensures rows { HasCleanDisk (state S.Store conn.new) → IsReady (state S.Store conn.old)
         → OnOk result ((state S.Store conn.new).now.trees 1 ≡ (state S.Store conn.old).now.trees 1) }
     ensures meta { HasCleanDisk (state S.Store conn.new) → IsReady (state S.Store conn.old) → (state S.Store conn.old).now.trees 0 ≡ []
-        → OnOk result (IsNamed owner.now cluster.now ((state S.Store conn.new).now.trees 0)) }
+        → OnOk result (IsNamedIn 2 owner.now cluster.now ((state S.Store conn.new).now.trees 0)) }
     ensures crash { HasCleanDisk (state S.Store conn.new) → IsReady (state S.Store conn.old) → (db : Trees) → (state S.Store conn.new).may_leave db
         → (state S.Store conn.old).may_leave db
-        ⊎ (IsSound log_schema db × (db 1 ≡ (state S.Store conn.old).now.trees 1) × ((state S.Store conn.old).now.trees 0 ≡ [] → IsNamed owner.now cluster.now (db 0))) }
+        ⊎ (IsSound log_schema db × (db 1 ≡ (state S.Store conn.old).now.trees 1) × ((state S.Store conn.old).now.trees 0 ≡ [] → IsNamedIn 2 owner.now cluster.now (db 0))) }
     ensures clean { doubt (state S.Store conn.old).is_clean ≤ doubt (state S.Store conn.new).is_clean }
     ensures fault { IfErr result (λ fault. fault ≡ Fault.StoreFailed) }
 {
     match conn.execute(
-        "INSERT INTO meta (id, form, owner, cluster, last, floor) VALUES (1, 1, ?1, ?2, 0, 0)",
+        "INSERT INTO meta (id, form, owner, cluster, last, floor) VALUES (1, 2, ?1, ?2, 0, 0)",
         &[
             ValueRef::Text(owner.bytes()),
             ValueRef::Text(cluster.bytes()),
         ],
     ) {
+        Ok(_) => Ok(()),
+        Err(_) => Err(Fault::StoreFailed),
+    }
+}
+
+/// Raises the form of a log that says whose it is to 2. `StoreFailed`.
+pub(crate) fn raise_form<S: Alter>(conn: &mut Connection<S>) -> Result<(), Fault>
+    ensures ready { HasCleanDisk (state S.Store conn.new) → IsReady (state S.Store conn.old) → (form : ℕ) (owner cluster : List ℕ)
+        → IsNamedIn form owner cluster ((state S.Store conn.old).now.trees 0) → OnOk result (IsReady (state S.Store conn.new)) }
+    ensures rows { HasCleanDisk (state S.Store conn.new) → IsReady (state S.Store conn.old) → (form : ℕ) (owner cluster : List ℕ)
+        → IsNamedIn form owner cluster ((state S.Store conn.old).now.trees 0)
+        → OnOk result ((state S.Store conn.new).now.trees 1 ≡ (state S.Store conn.old).now.trees 1) }
+    // Owner and cluster stay, and no version counts as forgotten.
+    ensures meta { HasCleanDisk (state S.Store conn.new) → IsReady (state S.Store conn.old) → (form : ℕ) (owner cluster : List ℕ)
+        → IsNamedIn form owner cluster ((state S.Store conn.old).now.trees 0) → OnOk result (IsNamedIn 2 owner cluster ((state S.Store conn.new).now.trees 0)) }
+    ensures crash { HasCleanDisk (state S.Store conn.new) → IsReady (state S.Store conn.old) → (form : ℕ) (owner cluster : List ℕ)
+        → IsNamedIn form owner cluster ((state S.Store conn.old).now.trees 0) → (db : Trees) → (state S.Store conn.new).may_leave db
+        → (state S.Store conn.old).may_leave db ⊎ (IsSound log_schema db × (db 1 ≡ (state S.Store conn.old).now.trees 1) × IsNamedIn 2 owner cluster (db 0)) }
+    ensures clean { doubt (state S.Store conn.old).is_clean ≤ doubt (state S.Store conn.new).is_clean }
+    ensures fault { IfErr result (λ fault. fault ≡ Fault.StoreFailed) }
+{
+    match conn.execute("UPDATE meta SET form = 2", &[]) {
         Ok(_) => Ok(()),
         Err(_) => Err(Fault::StoreFailed),
     }

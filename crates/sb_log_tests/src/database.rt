@@ -14,7 +14,10 @@ const META: &str =
 const WRITES: &str =
     "CREATE TABLE writes (k TEXT PRIMARY KEY NOT NULL, version INTEGER NOT NULL UNIQUE, tag INTEGER NOT NULL, num INTEGER, txt TEXT) STRICT";
 
-const OWNERS: &str = "INSERT INTO meta VALUES (1, 1, 'a', 'sim', 0, 0)";
+const OWNERS: &str = "INSERT INTO meta VALUES (1, 2, 'a', 'sim', 0, 0)";
+
+/// The same in the form of older releases.
+const OLDER: &str = "INSERT INTO meta VALUES (1, 1, 'a', 'sim', 0, 0)";
 
 const SPENT: Answer = Err(Fault::VersionsSpent);
 
@@ -155,8 +158,10 @@ fn tells_of_tables(rt: &impl Abort, alloc: Global) {
     tells(rt, alloc, &[META, WRITES, unowned], 19);
 }
 
-// Logs of an unknown form, and those from which versions were forgotten.
+// Logs of each form that is read, of unknown forms, and those from which versions were forgotten.
 fn tells_of_meta(rt: &impl Abort, alloc: Global) {
+    tells_with_tables(rt, alloc, OWNERS, 0);
+    tells_with_tables(rt, alloc, OLDER, 0);
     tells_with_tables(
         rt,
         alloc,
@@ -166,7 +171,19 @@ fn tells_of_meta(rt: &impl Abort, alloc: Global) {
     tells_with_tables(
         rt,
         alloc,
-        "INSERT INTO meta VALUES (1, 2, 'a', 'sim', 0, 0)",
+        "INSERT INTO meta VALUES (1, 3, 'a', 'sim', 0, 0)",
+        19,
+    );
+    tells_with_tables(
+        rt,
+        alloc,
+        "INSERT INTO meta VALUES (1, 2, 'a', 'sim', 7, 0)",
+        19,
+    );
+    tells_with_tables(
+        rt,
+        alloc,
+        "INSERT INTO meta VALUES (1, 2, 'a', 'sim', 0, 7)",
         19,
     );
     tells_with_tables(
@@ -227,10 +244,36 @@ fn tells_of_writes(rt: &impl Abort, alloc: Global) {
     );
 }
 
+// Texts within their limits and beyond, and one in a log of form 1, which has none.
+fn tells_of_texts(rt: &impl Abort, alloc: Global) {
+    let texts = "INSERT INTO writes VALUES ('x', 1, 4, NULL, 'é b'), ('y', 2, 1, NULL, 'h:1')";
+    tells_of_own(rt, alloc, texts, 0);
+    tells(rt, alloc, &[META, WRITES, OLDER, texts], 19);
+    tells_of_own(
+        rt,
+        alloc,
+        "INSERT INTO writes VALUES ('x', 1, 4, NULL, '')",
+        19,
+    );
+    tells_of_own(
+        rt,
+        alloc,
+        "INSERT INTO writes VALUES ('x', 1, 4, 0, 'b')",
+        19,
+    );
+    tells_of_own(
+        rt,
+        alloc,
+        "INSERT INTO writes VALUES ('x', 1, 5, NULL, 'b')",
+        19,
+    );
+}
+
 #[test]
 fn damage_is_told(rt: HostRuntime) {
     tells_of_tables(&rt, rt.alloc());
     tells_of_meta(&rt, rt.alloc());
     tells_of_others(&rt, rt.alloc());
     tells_of_writes(&rt, rt.alloc());
+    tells_of_texts(&rt, rt.alloc());
 }

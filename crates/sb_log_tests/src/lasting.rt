@@ -122,20 +122,25 @@ fn a_log_in_files_keeps_ten_of_many(rt: HostRuntime) {
     same(&rt, &got(&rt, outcome), &(10, 10));
 }
 
-/// Sets x, removes it, and sets y.
+/// Sets x, removes it, and sets a key to a value of each other kind.
 #[derive(Drop)]
-struct Three;
+struct Five;
 
-impl LogVisit for Three {
+impl LogVisit for Five {
     type Outcome = ();
 
-    fn visit<L: WriteLog + Drop>(self, rt: &impl Abort, _: Global, mut log: L) {
+    fn visit<L: WriteLog + Drop>(self, rt: &impl Abort, alloc: Global, mut log: L) {
+        let addr = got(rt, Value::addr(alloc, b"h:1"));
+        let text = got(rt, Value::text(alloc, b"\xc3\xa9 \\ b\n"));
         let answers = [
             set(rt, &mut log, b"x", 5),
             remove(rt, &mut log, b"x"),
             put(rt, &mut log, b"y", Slot::Set(Value::flag(true))),
+            put(rt, &mut log, b"t", Slot::Set(text)),
+            put(rt, &mut log, b"u", Slot::Set(addr)),
         ];
-        same(rt, &settled(rt, answers), &[Ok(1), Ok(2), Ok(3)]);
+        let wanted = [Ok(1), Ok(2), Ok(3), Ok(4), Ok(5)];
+        same(rt, &settled(rt, answers), &wanted);
     }
 }
 
@@ -164,11 +169,12 @@ fn a_log_in_files_is_printed(rt: HostRuntime) {
     let mut disks = new_disks(alloc);
     got(
         &rt,
-        log_on_disks(&rt, alloc, &mut disks, ENDLESS, OWN, Three),
+        log_on_disks(&rt, alloc, &mut disks, ENDLESS, OWN, Five),
     );
     let outcome = log_on_disks(&rt, alloc, &mut disks, ENDLESS, OWN, Printing);
     let (printed, lines) = got(&rt, outcome);
     same(&rt, &printed, &Ok(()));
-    let wanted = b"a x 2 removed -\na y 3 flag true\nlast 3\n";
+    let wanted =
+        b"a t 4 text \xc3\xa9 \\5c b\\0a\na u 5 addr h:1\na x 2 removed -\na y 3 flag true\nlast 5\n";
     same(&rt, &lines.as_slice(), &wanted.as_slice());
 }

@@ -1,7 +1,9 @@
 //! What an opening that fails or is refused leaves of a log: all of its rows.
 use crate::disks::{Calls, ENDLESS, new_disks, whole_copy};
 use crate::faulty::After;
-use crate::visits::{LogVisit, Looking, OWN, Opening, log_on_disks, number_of, run_on_disks};
+use crate::visits::{
+    LogVisit, Looking, OWN, Opening, form_on_disks, log_on_disks, number_of, run_on_disks,
+};
 use crate::writes::{OWNER, key, remove, set, settled};
 use crate::{got, same, same_at};
 use sb_log::WriteLog;
@@ -49,17 +51,22 @@ fn row_of(table: &Table, key: &Key) -> Row {
     }
 }
 
-/// Reads the rows of a log.
+fn rows_in<L: WriteLog>(rt: &impl Abort, alloc: Global, log: &mut L) -> Rows {
+    let table = got(rt, log.load(alloc));
+    let x = row_of(&table, &key(rt, b"x"));
+    (table.len(), x, row_of(&table, &key(rt, b"y")))
+}
+
+/// The rows of a log, and the version of its next write.
 #[derive(Drop)]
 struct Reading;
 
 impl LogVisit for Reading {
-    type Outcome = Rows;
+    type Outcome = (Rows, u64);
 
-    fn visit<L: WriteLog + Drop>(self, rt: &impl Abort, alloc: Global, mut log: L) -> Rows {
-        let table = got(rt, log.load(alloc));
-        let x = row_of(&table, &key(rt, b"x"));
-        (table.len(), x, row_of(&table, &key(rt, b"y")))
+    fn visit<L: WriteLog + Drop>(self, rt: &impl Abort, alloc: Global, mut log: L) -> (Rows, u64) {
+        let rows = rows_in(rt, alloc, &mut log);
+        (rows, got(rt, set(rt, &mut log, b"z", 1)))
     }
 }
 
@@ -96,9 +103,17 @@ const DAMAGED: Case = Case {
 
 const OF_ANOTHER_FORM: Case = Case {
     owner: OWNER,
-    spoil: &["UPDATE meta SET form = 2"],
-    mend: &["UPDATE meta SET form = 1"],
+    spoil: &["UPDATE meta SET form = 3"],
+    mend: &["UPDATE meta SET form = 2"],
     fault: 19,
+};
+
+/// A log of older releases, which an opening raises to form 2.
+const OF_FORM_1: Case = Case {
+    owner: OWNER,
+    spoil: &["UPDATE meta SET form = 1"],
+    mend: &[],
+    fault: 0,
 };
 
 /// The files of a log that has rows, spoiled.
@@ -114,7 +129,7 @@ fn written(rt: &impl Abort, alloc: Global, case: Case) -> Files<Memory> {
     disks
 }
 
-/// Opens it while a call may fail, and lets what was not synced be lost. The number of the fault.
+/// Opens it while a call may fail. The number of the fault.
 fn open_once(
     rt: &impl Abort,
     alloc: Global,
@@ -124,13 +139,16 @@ fn open_once(
 ) -> u8 {
     let opening = Opening { owner, ..OWN };
     let opened = log_on_disks(rt, alloc, disks, calls, opening, Looking);
-    disks.log.crash();
-    disks.db.crash();
     number_of(rt, opened)
 }
 
-/// The rows of a log that is mended and opened as its owner's.
-fn rows_of(rt: &impl Abort, alloc: Global, disks: &mut Files<Memory>, mend: &[&str]) -> Rows {
+/// The rows of a log that is mended and opened as its owner's, and the version of its next write.
+fn rows_of(
+    rt: &impl Abort,
+    alloc: Global,
+    disks: &mut Files<Memory>,
+    mend: &[&str],
+) -> (Rows, u64) {
     let opening = Opening {
         statements: mend,
         ..OWN
@@ -141,7 +159,14 @@ fn rows_of(rt: &impl Abort, alloc: Global, disks: &mut Files<Memory>, mend: &[&s
     )
 }
 
-/// Opens a copy of such files while a call may fail, and then again: each row is there. The number of the first fault.
+/// Lets what was not synced be lost.
+fn crash(disks: &mut Files<Memory>) {
+    disks.log.crash();
+    disks.db.crash();
+}
+
+/// Opens a copy of such files while a call may fail, and after a crash again: each row is there, and the next write has the next version.
+/// The number of the first fault.
 fn open_twice(
     rt: &impl Abort,
     alloc: Global,
@@ -151,8 +176,9 @@ fn open_twice(
 ) -> u8 {
     let mut disks = whole_copy(rt, alloc, files);
     let number = open_once(rt, alloc, &mut disks, calls, case.owner);
-    let rows = rows_of(rt, alloc, &mut disks, case.mend);
-    same_at(rt, &(calls.log, case.fault), &rows, &ROWS);
+    crash(&mut disks);
+    let found = rows_of(rt, alloc, &mut disks, case.mend);
+    same_at(rt, &(calls.log, case.fault), &found, &(ROWS, 4));
     number
 }
 
@@ -189,6 +215,12 @@ fn an_opening_makes_97_calls(rt: HostRuntime) {
 fn an_opening_behind_a_change_makes_101_calls(rt: HostRuntime) {
     ends_within(&rt, rt.alloc(), DAMAGED, 101);
     ends_within(&rt, rt.alloc(), OF_ANOTHER_FORM, 101);
+}
+
+// The statement that raises the form makes six of them.
+#[test]
+fn an_opening_that_raises_the_form_makes_107_calls(rt: HostRuntime) {
+    ends_within(&rt, rt.alloc(), OF_FORM_1, 107);
 }
 
 #[test]
@@ -239,4 +271,91 @@ fn an_opening_of_another_form_that_fails_at_calls_1_to_50_loses_nothing(rt: Host
 #[test]
 fn an_opening_of_another_form_that_fails_at_calls_51_to_101_loses_nothing(rt: HostRuntime) {
     miss_each(&rt, rt.alloc(), OF_ANOTHER_FORM, After::Answering, 50, 101);
+}
+
+/// Opens what an opening left that raises the form: each row is there, the next write has the next version, and the form is 2.
+fn is_raised(rt: &impl Abort, alloc: Global, disks: &mut Files<Memory>, log: u64) {
+    let found = rows_of(rt, alloc, disks, &[]);
+    let form = form_on_disks(rt, alloc, disks);
+    same_at(rt, &log, &(found, form), &((ROWS, 4), 2));
+}
+
+/// Lets one call fail of an opening that raises the form, each from call 101 on in its turn; then what was not synced stays, and is lost.
+fn miss_raise(rt: &impl Abort, alloc: Global, after: After) {
+    let files = written(rt, alloc, OF_FORM_1);
+    for log in 100..107 {
+        let calls = Calls {
+            log,
+            after,
+            ..ENDLESS
+        };
+        let mut disks = whole_copy(rt, alloc, &files);
+        let number = open_once(rt, alloc, &mut disks, calls, OWNER);
+        same_at(rt, &log, &number, &18);
+        is_raised(rt, alloc, &mut whole_copy(rt, alloc, &disks), log);
+        crash(&mut disks);
+        is_raised(rt, alloc, &mut disks, log);
+    }
+}
+
+#[test]
+fn an_opening_that_fails_to_raise_the_form_loses_nothing(rt: HostRuntime) {
+    miss_raise(&rt, rt.alloc(), After::Answering);
+}
+
+#[test]
+fn an_opening_on_a_disk_that_stops_at_the_raise_loses_nothing(rt: HostRuntime) {
+    miss_raise(&rt, rt.alloc(), After::Failing);
+}
+
+/// Opens such files, twice: the fault stays, and so does the form.
+fn keeps_form(rt: &impl Abort, alloc: Global, case: Case, form: i64) {
+    let mut disks = written(rt, alloc, case);
+    for _ in 0..2 {
+        let number = open_once(rt, alloc, &mut disks, ENDLESS, case.owner);
+        let found = form_on_disks(rt, alloc, &mut disks);
+        same_at(rt, &case.spoil, &(number, found), &(case.fault, form));
+    }
+}
+
+/// The same of a log of form 1 that a statement spoils.
+fn stays_in_form_1(rt: &impl Abort, alloc: Global, sql: &'static [&'static str], fault: u8) {
+    let case = Case {
+        spoil: sql,
+        fault,
+        ..OF_FORM_1
+    };
+    keeps_form(rt, alloc, case, 1);
+}
+
+#[test]
+fn a_refused_log_keeps_its_form(rt: HostRuntime) {
+    let alloc = rt.alloc();
+    let anothers = Case {
+        owner: ANOTHER,
+        fault: 20,
+        ..OF_FORM_1
+    };
+    keeps_form(&rt, alloc, anothers, 1);
+    keeps_form(&rt, alloc, OF_ANOTHER_FORM, 3);
+    stays_in_form_1(&rt, alloc, &["UPDATE meta SET form = 1, last = 3"], 19);
+    stays_in_form_1(&rt, alloc, &["UPDATE meta SET form = 1, floor = 1"], 19);
+    stays_in_form_1(
+        &rt,
+        alloc,
+        &[
+            "UPDATE meta SET form = 1",
+            "UPDATE writes SET tag = 4, num = NULL, txt = 'x' WHERE k = 'y'",
+        ],
+        19,
+    );
+    stays_in_form_1(
+        &rt,
+        alloc,
+        &[
+            "UPDATE meta SET form = 1",
+            "UPDATE writes SET num = 3 WHERE k = 'x'",
+        ],
+        19,
+    );
 }

@@ -142,27 +142,40 @@ pub fn run_on_disks(rt: &impl Abort, alloc: Global, disks: &mut Files<Memory>, s
     got(rt, on_disks(rt, alloc, disks, ENDLESS, Running { sql }));
 }
 
-fn count_of<S: Alter>(rt: &impl Abort, conn: &mut Connection<S>) -> i64 {
-    let row = got(rt, conn.query_row("SELECT count(*) FROM writes", &[]));
+fn number_by<S: Alter>(rt: &impl Abort, conn: &mut Connection<S>, sql: &str) -> i64 {
+    let row = got(rt, conn.query_row(sql, &[]));
     match row.get_ref(0) {
-        Ok(ValueRef::Int(count)) => count,
+        Ok(ValueRef::Int(number)) => number,
         _ => -1,
     }
 }
 
-/// Counts the rows of writes.
+/// Asks for a number.
 #[derive(Drop)]
-struct Counting;
+struct Asking<'a> {
+    sql: &'a str,
+}
 
-impl DatabaseVisit for Counting {
+impl DatabaseVisit for Asking<'_> {
     type Outcome = i64;
 
     fn visit<S: Alter + Drop>(self, rt: &impl Abort, _: Global, mut conn: Connection<S>) -> i64 {
-        count_of(rt, &mut conn)
+        number_by(rt, &mut conn, self.sql)
     }
 }
 
 /// How many rows of writes a database over disks has.
 pub fn rows_on_disks(rt: &impl Abort, alloc: Global, disks: &mut Files<Memory>) -> i64 {
-    got(rt, on_disks(rt, alloc, disks, ENDLESS, Counting))
+    let asking = Asking {
+        sql: "SELECT count(*) FROM writes",
+    };
+    got(rt, on_disks(rt, alloc, disks, ENDLESS, asking))
+}
+
+/// The form of a log over disks.
+pub fn form_on_disks(rt: &impl Abort, alloc: Global, disks: &mut Files<Memory>) -> i64 {
+    let asking = Asking {
+        sql: "SELECT form FROM meta",
+    };
+    got(rt, on_disks(rt, alloc, disks, ENDLESS, asking))
 }

@@ -1,7 +1,7 @@
 //! That a delta is the same, made with a list of all that a peer lacks and without it, of a thousand made-up holdings.
 ghost use Rattle.std.specs.Prelude.{◌≤◌, ◌<◌};
 
-use crate::making::{address, apply, arranged, entries_in, items};
+use crate::making::{address, apply, arranged, entries_in, items, longest};
 use crate::{got, key, name, push, same_at};
 use rand_core::utils::NextWord;
 use rand_pcg::Pcg32;
@@ -27,13 +27,14 @@ fn below(random: &mut Pcg32, limit: u32) -> u64
     u64::from(random.next_word() % limit)
 }
 
-/// Something to write, of 1 to 131 bytes in a message.
+/// Something to write, of 1 to 515 bytes in a message.
 fn slot_of(rt: &impl Abort, alloc: Global, random: &mut Pcg32) -> Slot {
-    match below(random, 4) {
+    match below(random, 5) {
         0 => Slot::Removed,
         1 => Slot::Set(Value::flag(true)),
         2 => Slot::Set(got(rt, Value::weight(below(random, 1_000)))),
-        _ => address(rt, alloc),
+        3 => address(rt, alloc),
+        _ => longest(rt, alloc),
     }
 }
 

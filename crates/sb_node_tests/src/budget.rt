@@ -1,7 +1,7 @@
 //! What is offered and cut at exact budgets, also of all keys that an owner may have.
 ghost use Rattle.std.specs.Prelude.{◌≡◌, ◌≤◌, ◌<◌, IfOk, OnOk};
 
-use crate::making::{address, apply, items, letters_of, nothing, tells};
+use crate::making::{apply, items, letters_of, longest, nothing, tells};
 use crate::{got, key, name, one, push, same, same_at, there};
 use sb_budget::{Offered, available, cut};
 use sb_digest::{Digest, Pair};
@@ -17,12 +17,12 @@ const LONGEST_NAME: &[u8] = b"abcdefghijklmnopqrstuvwxyz-01234";
 
 const LONGEST_KEY: &[u8] = b"abcdefghijklmnopqrstuvwxyz012345.bcdefghijklmnopqrstuvwxyz_/-789";
 
-/// An address of 128 bytes under a key.
+/// A text of 512 bytes under a key.
 fn longest_value(rt: &impl Abort, alloc: Global, text: &[u8], version: u64) -> Entry
     requires { 1 ≤ version }
     ensures { result.version ≡ version }
 {
-    Entry::new(key(rt, text), version, address(rt, alloc))
+    Entry::new(key(rt, text), version, longest(rt, alloc))
 }
 
 /// Enters a write of a later version than any before.
@@ -50,17 +50,17 @@ fn three_writes(rt: &impl Abort, alloc: Global) -> Holdings {
     holdings_of(rt, alloc, b"a", table)
 }
 
-/// Enters an entry of 203 bytes, whose key is 64 times the letter.
+/// Enters an entry of 588 bytes, whose key is 64 times the letter.
 fn enter_longest(alloc: Global, table: &mut Table, letter: u8, version: u64) -> Result<(), Fault>
     requires { table.old.held < version }
     ensures { OnOk result (table.new.held ≡ version) }
 {
-    let value = Value::addr(alloc, &[b'p'; 128])?;
+    let value = Value::text(alloc, &[b'p'; 512])?;
     let key = Key::read(&[letter; 64])?;
     table.push(Entry::new(key, version, Slot::Set(value)))
 }
 
-/// The owner a, which wrote three keys: entries of 203 bytes.
+/// The owner a, which wrote three keys: entries of 588 bytes.
 fn three_keys(alloc: Global, owner: Name) -> Result<Holdings, Fault> {
     let mut table = Table::new(alloc);
     enter_longest(alloc, &mut table, b'x', 1)?;
@@ -69,14 +69,14 @@ fn three_keys(alloc: Global, owner: Name) -> Result<Holdings, Fault> {
     Holdings::new(alloc, owner, table)
 }
 
-/// The block of an owner that wrote one key: an entry of 203 bytes.
+/// The block of an owner that wrote one key: an entry of 588 bytes.
 fn one_key(alloc: Global, owner: Name) -> Result<Block, Fault> {
-    let value = Value::addr(alloc, &[b'p'; 128])?;
+    let value = Value::text(alloc, &[b'p'; 512])?;
     let entry = Entry::new(Key::read(&[b'x'; 64])?, 1, Slot::Set(value));
     Block::new(owner, 0, vec![in alloc; entry]?)
 }
 
-/// The owner a, which wrote three keys, and the owner b, which wrote one: entries of 203 bytes.
+/// The owner a, which wrote three keys, and the owner b, which wrote one: entries of 588 bytes.
 fn two_owners_or_none(alloc: Global, a: Name, b: Name) -> Result<Holdings, Fault> {
     let mut holdings = three_keys(alloc, a)?;
     let block = one_key(alloc, b)?;
@@ -204,7 +204,7 @@ fn all_keys_of_an_owner_are_cut(rt: HostRuntime) {
     cut_of_a(&rt, alloc, &holdings, 65_536, 61_461, (4_096, 4_096));
     cut_of_a(&rt, alloc, &holdings, 61_461, 61_461, (4_096, 4_096));
     cut_of_a(&rt, alloc, &holdings, 61_460, 61_446, (4_095, 4_095));
-    cut_of_a(&rt, alloc, &holdings, 256, 246, (15, 15));
+    cut_of_a(&rt, alloc, &holdings, 1_024, 1_011, (66, 66));
 }
 
 /// The owner a, which wrote a flag.
@@ -222,7 +222,7 @@ fn extent_after(
     holdings: &Holdings,
     digest: &Digest,
 ) -> (usize, u64) {
-    let delta = cut_after(rt, alloc, holdings, digest, 256);
+    let delta = cut_after(rt, alloc, holdings, digest, 1_024);
     (delta.blocks().len(), delta.encoded_length())
 }
 
@@ -256,7 +256,7 @@ fn told_and_taken(
     holdings: &Holdings,
     wanted: &[(Name, u64)],
 ) -> ((u64, bool), Taken) {
-    let delta = cut_of_all(rt, alloc, holdings, 256);
+    let delta = cut_of_all(rt, alloc, holdings, 1_024);
     let block = there(rt, delta.blocks().first());
     (tells(&delta, wanted), taken(rt, alloc, block))
 }
@@ -265,13 +265,13 @@ fn told_and_taken(
 fn an_entry_that_does_not_fit_waits(rt: HostRuntime) {
     let alloc = rt.alloc();
     let holdings = three_writes(&rt, alloc);
-    // The whole has a frame of 301 bytes.
-    cut_of_a(&rt, alloc, &holdings, 256, 161, (2, 1));
-    cut_of_a(&rt, alloc, &holdings, 300, 161, (2, 1));
-    cut_of_a(&rt, alloc, &holdings, 301, 301, (3, 2));
+    // The whole has a frame of 1,071 bytes.
+    cut_of_a(&rt, alloc, &holdings, 1_024, 546, (2, 1));
+    cut_of_a(&rt, alloc, &holdings, 1_070, 546, (2, 1));
+    cut_of_a(&rt, alloc, &holdings, 1_071, 1_071, (3, 2));
     let found = told_and_taken(&rt, alloc, &holdings, &[(name(&rt, b"a"), 2)]);
     let wanted = (BlockEnd::Taken(1), 2, Some(2), None);
-    same(&rt, &found, &((161, true), wanted));
+    same(&rt, &found, &((546, true), wanted));
 }
 
 /// The longest entry of all, under the longest name.
@@ -285,8 +285,8 @@ fn longest_of_all(rt: &impl Abort, alloc: Global) -> Holdings {
 fn the_longest_entry_fits_the_least_budget(rt: HostRuntime) {
     let alloc = rt.alloc();
     let wanted = [(name(&rt, LONGEST_NAME), 0, 1, 1)];
-    let found = cut_to(&rt, alloc, &longest_of_all(&rt, alloc), 256, &wanted);
-    same(&rt, &found, &(255, true));
+    let found = cut_to(&rt, alloc, &longest_of_all(&rt, alloc), 1_024, &wanted);
+    same(&rt, &found, &(640, true));
 }
 
 /// Ends the test where a cut of all does not tell just the first so many of the writes, in a frame so long.
@@ -312,15 +312,15 @@ fn told_to(
 fn owners_follow_one_another(rt: HostRuntime) {
     let alloc = rt.alloc();
     let holdings = two_owners(&rt, alloc);
-    told_to(&rt, alloc, &holdings, 256, 1, 224);
-    told_to(&rt, alloc, &holdings, 426, 1, 224);
-    told_to(&rt, alloc, &holdings, 427, 2, 427);
-    told_to(&rt, alloc, &holdings, 438, 2, 427);
-    told_to(&rt, alloc, &holdings, 440, 2, 427);
-    told_to(&rt, alloc, &holdings, 629, 2, 427);
-    told_to(&rt, alloc, &holdings, 630, 3, 630);
-    told_to(&rt, alloc, &holdings, 844, 3, 630);
-    told_to(&rt, alloc, &holdings, 845, 4, 845);
+    told_to(&rt, alloc, &holdings, 1_024, 1, 609);
+    told_to(&rt, alloc, &holdings, 1_196, 1, 609);
+    told_to(&rt, alloc, &holdings, 1_197, 2, 1_197);
+    told_to(&rt, alloc, &holdings, 1_208, 2, 1_197);
+    told_to(&rt, alloc, &holdings, 1_209, 2, 1_197);
+    told_to(&rt, alloc, &holdings, 1_784, 2, 1_197);
+    told_to(&rt, alloc, &holdings, 1_785, 3, 1_785);
+    told_to(&rt, alloc, &holdings, 2_384, 3, 1_785);
+    told_to(&rt, alloc, &holdings, 2_385, 4, 2_385);
 }
 
 /// Of an item the owner, what it is offered after and up to, its rank and count, and its version.
@@ -375,9 +375,9 @@ fn nothing_is_cut_of_nothing(rt: HostRuntime) {
     same(&rt, &found, &(0, 3));
 }
 
-/// What a digest leaves, cut within 845 bytes, where there is memory.
+/// What a digest leaves, cut within the 2,385 bytes of its frame, where there is memory.
 fn cut_or_none(alloc: Global, holdings: &Holdings, digest: &Digest) -> Result<Delta, Fault> {
-    cut(alloc, available(alloc, holdings, digest)?, 845)
+    cut(alloc, available(alloc, holdings, digest)?, 2_385)
 }
 
 /// The same, made once more where memory was refused.
@@ -405,5 +405,5 @@ fn a_refused_cut_is_made_again(rt: HostRuntime) {
     let holdings = two_owners_again(&rt, alloc, a, b);
     let delta = cut_again(&rt, alloc, &holdings);
     let found = consists(&delta, &[(a, 0, 3, 3), (b, 0, 1, 1)]);
-    same(&rt, &found, &(845, true));
+    same(&rt, &found, &(2_385, true));
 }

@@ -50,6 +50,11 @@ pub(crate) fn address(rt: &impl Abort, alloc: Global) -> Slot {
     Slot::Set(got(rt, Value::addr(alloc, &[b'p'; 128])))
 }
 
+/// The longest value, a text of 512 bytes.
+pub(crate) fn longest(rt: &impl Abort, alloc: Global) -> Slot {
+    Slot::Set(got(rt, Value::text(alloc, &[b'p'; 512])))
+}
+
 /// What a peer that sent this digest lacks, in an order.
 pub(crate) fn arranged<O: DeltaOrder>(
     alloc: Global,

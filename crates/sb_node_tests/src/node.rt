@@ -1,7 +1,7 @@
 //! The node: own writes, blocks of others, digests and answers.
 ghost use Rattle.std.specs.Prelude.{◌≤◌};
 
-use crate::making::{address, nothing};
+use crate::making::{longest, nothing};
 use crate::{got, holds, key, name, one, push, same, same_at, settled};
 use sb_holdings::{BlockEnd, Report};
 use sb_log::{Committed, PlainLog, WriteLog};
@@ -39,7 +39,7 @@ pub(crate) fn node(
 
 /// A new node of the least budget.
 fn least(rt: &impl Abort, alloc: Global, me: &[u8]) -> NodeCore {
-    node(rt, alloc, name(rt, me), 256, Order::Breadth)
+    node(rt, alloc, name(rt, me), 1_024, Order::Breadth)
 }
 
 pub(crate) fn log_of(rt: &impl Abort, alloc: Global, owner: Name) -> PlainLog {
@@ -81,16 +81,16 @@ fn weigh(rt: &impl Abort, core: &mut NodeCore, log: &mut PlainLog, text: &[u8], 
     write(rt, core, log, text, &weight(rt, number));
 }
 
-/// Writes addresses of 128 bytes under these keys.
+/// Writes texts of 512 bytes under these keys.
 fn write_all(rt: &impl Abort, alloc: Global, core: &mut NodeCore, keys: &[&[u8]]) {
     let mut log = log_of(rt, alloc, *core.name());
-    let slot = address(rt, alloc);
+    let slot = longest(rt, alloc);
     for text in keys {
         write(rt, core, &mut log, text, &slot);
     }
 }
 
-/// A node that wrote addresses of 128 bytes under these keys.
+/// A node that wrote texts of 512 bytes under these keys.
 fn writer(
     rt: &impl Abort,
     alloc: Global,
@@ -373,7 +373,7 @@ fn removals_are_told(rt: HostRuntime) {
     let alloc = rt.alloc();
     let mut log = log_of(&rt, alloc, name(&rt, b"a"));
     let mut from = least(&rt, alloc, b"a");
-    let mut to = node(&rt, alloc, name(&rt, b"b"), 256, Order::Depth);
+    let mut to = node(&rt, alloc, name(&rt, b"b"), 1_024, Order::Depth);
     let told = tell_of_a_removal(&rt, &mut from, &mut log, &mut to);
     let again = Err(Fault::NothingThere);
     let wanted = (again, (32, 2, None, None), true, (40, 3, Some(3), None));
@@ -390,11 +390,11 @@ fn tell_thrice(rt: &impl Abort, from: &NodeCore, to: &mut NodeCore) -> [Told; 3]
 fn a_peer_learns_what_fits(rt: HostRuntime) {
     let alloc = rt.alloc();
     let keys: [&[u8]; 3] = [b"x", b"y", b"x"];
-    let from = writer(&rt, alloc, b"a", 256, Order::Breadth, &keys);
+    let from = writer(&rt, alloc, b"a", 1_024, Order::Breadth, &keys);
     let mut to = least(&rt, alloc, b"b");
     let told = tell_thrice(&rt, &from, &mut to);
-    let first = (161, 2, None, Some(2));
-    let second = (161, 3, Some(3), Some(2));
+    let first = (546, 2, None, Some(2));
+    let second = (546, 3, Some(3), Some(2));
     same(&rt, &told, &[first, second, (9, 3, Some(3), Some(2))]);
 }
 
@@ -419,7 +419,7 @@ fn tell_all(rt: &impl Abort, alloc: Global, core: &NodeCore) -> (u64, (usize, us
 }
 
 /// Ends the test where a node a does not tell so long a frame with so many entries of either, that wrote three keys, and
-/// heard of b that wrote one, each an entry of 203 bytes.
+/// heard of b that wrote one, each an entry of 588 bytes.
 fn tell_of_two(
     rt: &impl Abort,
     alloc: Global,
@@ -438,10 +438,10 @@ fn tell_of_two(
 #[test]
 fn deltas_come_in_the_order_of_the_settings(rt: HostRuntime) {
     let alloc = rt.alloc();
-    tell_of_two(&rt, alloc, Order::Depth, 440, 427, (2, 0));
-    tell_of_two(&rt, alloc, Order::Breadth, 440, 439, (1, 1));
-    tell_of_two(&rt, alloc, Order::Depth, 438, 427, (2, 0));
-    tell_of_two(&rt, alloc, Order::Breadth, 438, 224, (1, 0));
+    tell_of_two(&rt, alloc, Order::Depth, 1_209, 1_197, (2, 0));
+    tell_of_two(&rt, alloc, Order::Breadth, 1_209, 1_209, (1, 1));
+    tell_of_two(&rt, alloc, Order::Depth, 1_208, 1_197, (2, 0));
+    tell_of_two(&rt, alloc, Order::Breadth, 1_208, 609, (1, 0));
 }
 
 /// Of a digest: whether it wants one in answer, its bytes, its pairs, and how far it tells that a and b are held.
@@ -479,7 +479,7 @@ fn digests_tell_what_is_held(rt: HostRuntime) {
     let alloc = rt.alloc();
     let (a, b) = (name(&rt, b"a"), name(&rt, b"b"));
     let mut core = least(&rt, alloc, b"a");
-    same(&rt, &(*core.name(), core.settings().budget()), &(a, 256));
+    same(&rt, &(*core.name(), core.settings().budget()), &(a, 1_024));
     let found = digests(&rt, alloc, &mut core, b);
     let after = [(false, 26, 2, 0, 2), (false, 17, 1, 0, 2)];
     same(&rt, &found, &((true, 16, 1, 0, 0), true, after));

@@ -3,7 +3,7 @@ ghost use Rattle.std.specs.Prelude.{◌≤◌};
 ghost use Rattle.sb_budget.specs.Cut.{CanCut};
 
 use crate::making::{
-    address, apply, arranged, block_of, entries_in, items, letters_of, nothing, tells,
+    apply, arranged, block_of, entries_in, items, letters_of, longest, nothing, tells,
 };
 use crate::{got, key, name, push, same, same_at};
 use sb_breadth::Breadth;
@@ -15,12 +15,12 @@ use sb_types::{BUDGET_LEAST, BUDGET_MOST, Block, Delta, Entry, HEADER_LENGTH, Na
 use std::alloc::Global;
 use std::process::Abort;
 
-/// The block of an owner's first writes: addresses of 128 bytes under keys of 64 of these letters, entries of 203 bytes.
+/// The block of an owner's first writes: texts of 512 bytes under keys of 64 of these letters, entries of 588 bytes.
 fn long_block(rt: &impl Abort, alloc: Global, owner: Name, letters: &[u8]) -> Block {
     let mut entries = Vec::new(alloc);
     for (index, letter) in letters.iter().enumerate() {
         let key = key(rt, &[*letter; 64]);
-        let entry = Entry::new(key, index as u64 + 1, address(rt, alloc));
+        let entry = Entry::new(key, index as u64 + 1, longest(rt, alloc));
         push(rt, &mut entries, entry);
     }
     got(rt, Block::new(owner, 0, entries))
@@ -157,13 +157,13 @@ fn what_fits_is_told_of(rt: HostRuntime) {
         alloc,
         &holdings,
         Order::Breadth,
-        440,
-        439,
+        1_209,
+        1_209,
         &[(a, 1), (b, 1)],
     );
-    tell(&rt, alloc, &holdings, Order::Breadth, 438, 224, &[(a, 1)]);
-    tell(&rt, alloc, &holdings, Order::Depth, 440, 427, &deep);
-    tell(&rt, alloc, &holdings, Order::Depth, 438, 427, &deep);
+    tell(&rt, alloc, &holdings, Order::Breadth, 1_208, 609, &[(a, 1)]);
+    tell(&rt, alloc, &holdings, Order::Depth, 1_209, 1_197, &deep);
+    tell(&rt, alloc, &holdings, Order::Depth, 1_208, 1_197, &deep);
 }
 
 /// How many blocks and entries a delta has, and how long its frame is.
@@ -198,11 +198,11 @@ fn a_thousand_owners_are_cut(rt: HostRuntime) {
     let holdings = thousand_owners(&rt, alloc);
     extend(&rt, alloc, &holdings, wide, 65_536, (1_000, 2_000, 39_009));
     extend(&rt, alloc, &holdings, wide, 30_000, (1_000, 1_249, 29_997));
-    extend(&rt, alloc, &holdings, wide, 256, (9, 9, 252));
+    extend(&rt, alloc, &holdings, wide, 1_024, (37, 37, 1_008));
     extend(&rt, alloc, &holdings, deep, 65_536, (1_000, 2_000, 39_009));
     extend(&rt, alloc, &holdings, deep, 30_000, (769, 1_538, 30_000));
     extend(&rt, alloc, &holdings, deep, 29_999, (769, 1_537, 29_988));
-    extend(&rt, alloc, &holdings, deep, 256, (6, 12, 243));
+    extend(&rt, alloc, &holdings, deep, 1_024, (26, 52, 1_023));
 }
 
 /// What a wrote under x and y, and b under x.

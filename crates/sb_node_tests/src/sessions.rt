@@ -15,35 +15,35 @@ use std::process::Abort;
 use std::sync::ledger::{Blank, Ledger};
 
 /// Hello and the digest of a node a of the cluster c1 that holds only itself with nothing written, and its Bye.
-const SAID_BY_A: &[u8] = b"\xa7\x01\x00\x00\x00\x06\x01\x02c1\x01a\
-    \xa7\x01\x00\x00\x00\x10\x02\x01\x00\x00\x00\x01\x01a\x00\x00\x00\x00\x00\x00\x00\x00\
-    \xa7\x01\x00\x00\x00\x02\x04\x01";
+const SAID_BY_A: &[u8] = b"\xa7\x02\x00\x00\x00\x06\x01\x02c1\x01a\
+    \xa7\x02\x00\x00\x00\x10\x02\x01\x00\x00\x00\x01\x01a\x00\x00\x00\x00\x00\x00\x00\x00\
+    \xa7\x02\x00\x00\x00\x02\x04\x01";
 
 /// Hello of a node b, the delta of the flag true that it wrote under w as its version 1, and its digest.
-const SAID_BY_B: &[u8] = b"\xa7\x01\x00\x00\x00\x06\x01\x02c1\x01b\
-    \xa7\x01\x00\x00\x00\x1b\x03\x00\x01\x01b\x00\x00\x00\x00\x00\x00\x00\x00\
+const SAID_BY_B: &[u8] = b"\xa7\x02\x00\x00\x00\x06\x01\x02c1\x01b\
+    \xa7\x02\x00\x00\x00\x1b\x03\x00\x01\x01b\x00\x00\x00\x00\x00\x00\x00\x00\
     \x00\x01\x01w\x00\x00\x00\x00\x00\x00\x00\x01\x03\x01\
-    \xa7\x01\x00\x00\x00\x10\x02\x00\x00\x00\x00\x01\x01b\x00\x00\x00\x00\x00\x00\x00\x01";
+    \xa7\x02\x00\x00\x00\x10\x02\x00\x00\x00\x00\x01\x01b\x00\x00\x00\x00\x00\x00\x00\x01";
 
 /// Hello and the digest of a, a delta of no block, and Bye.
-const DIALED_BY_A: &[u8] = b"\xa7\x01\x00\x00\x00\x06\x01\x02c1\x01a\
-    \xa7\x01\x00\x00\x00\x10\x02\x01\x00\x00\x00\x01\x01a\x00\x00\x00\x00\x00\x00\x00\x00\
-    \xa7\x01\x00\x00\x00\x03\x03\x00\x00\
-    \xa7\x01\x00\x00\x00\x02\x04\x01";
+const DIALED_BY_A: &[u8] = b"\xa7\x02\x00\x00\x00\x06\x01\x02c1\x01a\
+    \xa7\x02\x00\x00\x00\x10\x02\x01\x00\x00\x00\x01\x01a\x00\x00\x00\x00\x00\x00\x00\x00\
+    \xa7\x02\x00\x00\x00\x03\x03\x00\x00\
+    \xa7\x02\x00\x00\x00\x02\x04\x01";
 
 /// Hello of b, and Bye.
-const DIALED_BY_B: &[u8] = b"\xa7\x01\x00\x00\x00\x06\x01\x02c1\x01b\
-    \xa7\x01\x00\x00\x00\x02\x04\x01";
+const DIALED_BY_B: &[u8] = b"\xa7\x02\x00\x00\x00\x06\x01\x02c1\x01b\
+    \xa7\x02\x00\x00\x00\x02\x04\x01";
 
 /// Hello of a.
-const HELLO_A: &[u8] = b"\xa7\x01\x00\x00\x00\x06\x01\x02c1\x01a";
+const HELLO_A: &[u8] = b"\xa7\x02\x00\x00\x00\x06\x01\x02c1\x01a";
 
 /// One block of a, after 0, with the weight 5 under w as version 1.
-const FRAME: &[u8] = b"\xa7\x01\x00\x00\x00\x22\x03\x00\x01\x01a\x00\x00\x00\x00\x00\x00\x00\x00\
+const FRAME: &[u8] = b"\xa7\x02\x00\x00\x00\x22\x03\x00\x01\x01a\x00\x00\x00\x00\x00\x00\x00\x00\
     \x00\x01\x01w\x00\x00\x00\x00\x00\x00\x00\x01\x02\x00\x00\x00\x00\x00\x00\x00\x05";
 
 /// A block of b, and then one of a.
-const DESCENDING: &[u8] = b"\xa7\x01\x00\x00\x00\x41\x03\x00\x02\
+const DESCENDING: &[u8] = b"\xa7\x02\x00\x00\x00\x41\x03\x00\x02\
     \x01b\x00\x00\x00\x00\x00\x00\x00\x00\
     \x00\x01\x01w\x00\x00\x00\x00\x00\x00\x00\x01\x02\x00\x00\x00\x00\x00\x00\x00\x05\
     \x01a\x00\x00\x00\x00\x00\x00\x00\x00\
@@ -181,7 +181,7 @@ fn talk(
 /// The node b, which wrote the flag true under w.
 fn node_b(rt: &impl Abort, alloc: Global) -> NodeCore {
     let b = name(rt, b"b");
-    let mut core = node(rt, alloc, b, 256, Order::Breadth);
+    let mut core = node(rt, alloc, b, 1_024, Order::Breadth);
     let mut log = log_of(rt, alloc, b);
     let slot = Slot::Set(Value::flag(true));
     write(rt, &mut core, &mut log, b"w", &slot);
@@ -196,7 +196,7 @@ fn talk_of_b(rt: &impl Abort, alloc: Global, terms: Terms<'_>, said: &[u8]) -> T
 
 /// The same of a that asks b, and how far it then holds b.
 fn talk_of_a(rt: &impl Abort, alloc: Global) -> (Talked, u64) {
-    let mut core = node(rt, alloc, name(rt, b"a"), 256, Order::Breadth);
+    let mut core = node(rt, alloc, name(rt, b"a"), 1_024, Order::Breadth);
     let terms = peer_terms(SAID_BY_B, Some(1));
     let dialed = talk(rt, &mut core, alloc, terms, DIALED_BY_A);
     (dialed, core.upto(&name(rt, b"b")))
@@ -302,9 +302,9 @@ fn faulty_frames_enter_nothing(rt: HostRuntime) {
     let alloc = rt.alloc();
     refuse(&rt, alloc, b"\xa6", Fault::BadMark);
     refuse(&rt, alloc, b"\xa7\x09", Fault::BadVersion);
-    refuse(&rt, alloc, b"\xa7\x01\x00\x00\x00\x00", Fault::BadLength);
-    refuse(&rt, alloc, b"\xa7\x01\x00\x00\xff\xfb", Fault::BadLength);
-    let unknown = b"\xa7\x01\x00\x00\x00\x01\x55";
+    refuse(&rt, alloc, b"\xa7\x02\x00\x00\x00\x00", Fault::BadLength);
+    refuse(&rt, alloc, b"\xa7\x02\x00\x00\xff\xfb", Fault::BadLength);
+    let unknown = b"\xa7\x02\x00\x00\x00\x01\x55";
     refuse(&rt, alloc, unknown, Fault::UnknownKind(0x55));
     refuse(&rt, alloc, DESCENDING, Fault::Malformed(3));
 }
@@ -363,7 +363,7 @@ fn asked_in_turn(
 
 /// A node a that holds one write of each of as many other owners.
 fn node_of_writes(rt: &impl Abort, alloc: Global, owners: u64) -> NodeCore {
-    let mut core = node(rt, alloc, name(rt, b"a"), 256, Order::Breadth);
+    let mut core = node(rt, alloc, name(rt, b"a"), 1_024, Order::Breadth);
     applied(rt, &mut core, &writes_of(rt, alloc, owners));
     core
 }
@@ -372,10 +372,10 @@ fn node_of_writes(rt: &impl Abort, alloc: Global, owners: u64) -> NodeCore {
 fn each_owner_is_told_of_in_turn(rt: HostRuntime) {
     let mut session = Session::new(name(&rt, b"c1"), name(&rt, b"a"));
     let mut core = node_of_writes(&rt, rt.alloc(), 1_023);
-    // 17 owners in the first digest, 16 in each of the next 62, and 15 in the last; then all once more.
+    // 72 owners in the first digest, 71 in each of the next 13, and 29 in the last; then all once more.
     let found = [
         asked_in_turn(&rt, &mut core, &mut session),
         asked_in_turn(&rt, &mut core, &mut session),
     ];
-    same(&rt, &found, &[Some((64, 1_024)), Some((64, 1_024))]);
+    same(&rt, &found, &[Some((15, 1_024)), Some((15, 1_024))]);
 }

@@ -107,7 +107,7 @@ module _ (budget : ℕ) (asked : List views.Row) where
       gathering-cut short = page-cut budget room rows copy (map row_told rest) (map row_told asked) with-next is.frame short
 
       -- a frame of the least budget has room for any row
-      pub gathering-some : 256 ≤ budget → row_length copy ≤ 236 → room < row_length copy → 0 < length rows
+      pub gathering-some : 1024 ≤ budget → row_length copy ≤ 621 → room < row_length copy → 0 < length rows
       gathering-some least most short = let frame = is.frame in some-rows rows (omega arith)
 
     pub gathering-whole : old ≡ [] → IsLongestPage budget (map row_told asked) (rows_of false rows)

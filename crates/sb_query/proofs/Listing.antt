@@ -12,15 +12,16 @@ use Rattle.sb_codec.specs.Lengths.{rows_length}
 use Rattle.sb_codec.specs.declared.message.ask.Ask.{Ask}
 use Rattle.sb_codec.specs.Records.{Row, Rows}
 use Rattle.sb_views.specs.Pages.{Page}
-use Rattle.sb_query.specs.Pages.{asked_rows, IsLongestPage}
-use Rattle.sb_query.specs.Paging.{Act, asks, Turns, AsksBehind, Leads, Lists, IsPlaceBehind, lies_behind, lie_behind, ends_or_has_rows, goes_on}
+use Rattle.sb_views.specs.Rows.{is_behind}
+use Rattle.sb_query.specs.Pages.{live_row, asked_rows, IsLongestPage}
+use Rattle.sb_query.specs.Paging.{Act, asks, Turns, AsksBehind, Leads, Lists, IsPlaceBehind, are_rows_behind, ends_or_has_rows, goes_on}
 use Rattle.sb_query.proofs.Following.{pages-follow}
 
 pub first-case : (after : Option (List ℕ × List ℕ)) (row : Row) (rest : List Row) (more : Bool) → are_rows_above row.owner row.key rest ≡ true
-    → (lie_behind after (row ∷ rest) && ends_or_has_rows more (row ∷ rest)) ≡ lies_behind after row
+    → (are_rows_behind after (row ∷ rest) && ends_or_has_rows more (row ∷ rest)) ≡ is_behind after (live_row row)
 first-case None row rest true above = refl
 first-case None row rest false above = refl
-first-case (Some place) row rest more above = both more (lies_behind (Some place) row) (are_rows_above row.owner row.key rest) above
+first-case (Some place) row rest more above = both more (is_behind (Some place) (live_row row)) (are_rows_above row.owner row.key rest) above
   where
     both : (more first others : Bool) → others ≡ true → ((first && others) && ends_or_has_rows more (row ∷ rest)) ≡ first
     both true true true is = refl
@@ -31,7 +32,7 @@ first-case (Some place) row rest more above = both more (lies_behind (Some place
 
 -- where the first row of a page lies behind a place, all do
 pub first_behind : (after : Option (List ℕ × List ℕ)) (page : Rows) (row : Row) (rest : List Row) → is_page page ≡ true → page.rows ≡ row ∷ rest
-    → goes_on after page ≡ lies_behind after row
+    → goes_on after page ≡ is_behind after (live_row row)
 first_behind after page row rest is rows =
     let limits = and_parts (list_all is_row page.rows) (are_page_rows page.rows) is in
     let ascend = and_parts (are_rows_above [] [] page.rows) (nat_le (rows_length page.rows) PAYLOAD_MOST) limits.1 in
@@ -39,7 +40,7 @@ first_behind after page row rest is rows =
     let others = and_parts (is_lt (ordering_then (slice_cmp nat_cmp [] row.owner) (slice_cmp nat_cmp [] row.key))) (are_rows_above row.owner row.key rest) laid in
     rw rows (first-case after row rest page.more others.1)
 
-none-case : (after : Option (List ℕ × List ℕ)) (more : Bool) → (lie_behind after [] && ends_or_has_rows more []) ≡ not more
+none-case : (after : Option (List ℕ × List ℕ)) (more : Bool) → (are_rows_behind after [] && ends_or_has_rows more []) ≡ not more
 none-case None true = refl
 none-case None false = refl
 none-case (Some place) true = refl

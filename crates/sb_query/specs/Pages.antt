@@ -11,6 +11,10 @@ use Rattle.sb_views.specs.Rows as views
 abbrev pub row_told : views.Row → Row
 row_told row = row_of row.owner row.key row.version row.value
 
+-- a row that an answer tells, as a live row
+abbrev pub live_row : Row → views.Row
+live_row row = record { owner = row.owner; key = row.key; value = row.value; version = row.version }
+
 -- the live rows that are asked for: of the owner or of all, under the prefix, behind the place
 abbrev pub asked_rows : Ask → Page → List Row
 asked_rows ask page = map row_told (views.rows_behind ask.after ask.owner ask.prefix page)

@@ -1,7 +1,5 @@
 -- Questions for all rows that are asked for, page after page.
 use Rattle.std.specs.Prelude.{◌≡◌, ℕ, Bool, true, false, ◌&&◌, ◌⊎◌, List, [], ◌∷◌, ◌++◌, length, Option, Some, None}
-use Rattle.std.specs.Ordering.{nat_cmp, is_lt, ordering_then}
-use Rattle.std.specs.Cmp.Lexicographic.{slice_cmp}
 use Rattle.sb_types.specs.declared.fault.Fault.{Fault}
 use Rattle.sb_types.specs.declared.fault.Fault.TheVariants.{Malformed, TurnsSpent}
 use Rattle.sb_types.specs.declared.format.TheConstants.{KIND_ROWS}
@@ -18,14 +16,10 @@ pub data Act : Type 0 where
   asks : Ask → Rows → Act
   takes : Rows → Act
 
--- a row stands behind a place, by its owner and then by its key
-abbrev pub lies_behind : Option (List ℕ × List ℕ) → Row → Bool
-lies_behind None row = true
-lies_behind (Some place) row = is_lt (ordering_then (slice_cmp nat_cmp place.0 row.owner) (slice_cmp nat_cmp place.1 row.key))
-
-abbrev pub lie_behind : Option (List ℕ × List ℕ) → List Row → Bool
-lie_behind None rows = true
-lie_behind (Some place) rows = are_rows_above place.0 place.1 rows
+-- all rows stand behind the place, each behind the one before; where there is no place, nothing is asked of them
+abbrev pub are_rows_behind : Option (List ℕ × List ℕ) → List Row → Bool
+are_rows_behind None rows = true
+are_rows_behind (Some place) rows = are_rows_above place.0 place.1 rows
 
 -- more follow only behind a row
 abbrev pub ends_or_has_rows : Bool → List Row → Bool
@@ -35,7 +29,7 @@ ends_or_has_rows false rows = true
 
 -- a page lies behind the place that was asked for, and where it says that more follow it has a row
 abbrev pub goes_on : Option (List ℕ × List ℕ) → Rows → Bool
-goes_on after page = lie_behind after page.rows && ends_or_has_rows page.more page.rows
+goes_on after page = are_rows_behind after page.rows && ends_or_has_rows page.more page.rows
 
 -- the place of the last row, where more follow behind it
 abbrev pub IsPlaceBehind : Rows → Option (List ℕ × List ℕ) → Type 0

@@ -45,7 +45,7 @@ fn gather(alloc: Global, asked: sb_views::Rows<'_>, budget: u64) -> Result<(bool
     Ok((false, rows))
 }
 
-/// The longest page of the live rows that are asked for whose frame has at most `budget` bytes, 256 to 65,536, and
+/// The longest page of the live rows that are asked for whose frame has at most `budget` bytes, 1,024 to 65,536, and
 /// whether rows are left. It has at least one row where one is asked for, so asking behind the last row goes on. It
 /// reads the rows of the page and one more, and of each owner that it passes makes one search, and reads at most one row
 /// beyond the prefix. `NoMemory`.

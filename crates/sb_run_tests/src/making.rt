@@ -4,7 +4,7 @@ use sb_codec::Message;
 use sb_log::PlainLog;
 use sb_node::NodeCore;
 use sb_table::Table;
-use sb_types::{Key, Name, Order, RawSettings, Settings, Slot, Value, Write};
+use sb_types::{BUDGET_LEAST, Key, Name, Order, RawSettings, Settings, Slot, Value, Write};
 use std::alloc::Global;
 use std::process::Abort;
 
@@ -34,9 +34,9 @@ pub(crate) fn settings_with(rt: &impl Abort, budget: u64, seats: u64, workers: u
     got(rt, Settings::check(raw))
 }
 
-/// The same with a budget of 256, and one worker.
+/// The same with the least budget, and one worker.
 pub(crate) fn settings(rt: &impl Abort, seats: u64) -> Settings {
-    settings_with(rt, 256, seats, 1)
+    settings_with(rt, BUDGET_LEAST, seats, 1)
 }
 
 /// A log of nothing.

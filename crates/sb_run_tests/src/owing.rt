@@ -18,10 +18,10 @@ use std::sync::Wait;
 use std::sync::ledger::Blank;
 
 /// Done, with the version 0.
-const DONE: [u8; 15] = *b"\xa7\x01\x00\x00\x00\x09\x13\x00\x00\x00\x00\x00\x00\x00\x00";
+const DONE: [u8; 15] = *b"\xa7\x02\x00\x00\x00\x09\x13\x00\x00\x00\x00\x00\x00\x00\x00";
 
 /// Refused, with the number of want of memory.
-const REFUSED: &[u8] = b"\xa7\x01\x00\x00\x00\x02\x14\x01";
+const REFUSED: &[u8] = b"\xa7\x02\x00\x00\x00\x02\x14\x01";
 
 /// The last version of the log, and that of the directory.
 #[derive(Clone, Copy)]

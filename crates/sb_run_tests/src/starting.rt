@@ -19,11 +19,11 @@ use std::process::Abort;
 use std::{fs, thread};
 
 /// The Hello of the node a of the cluster c1.
-const HELLO_OF_A: [u8; 12] = *b"\xa7\x01\x00\x00\x00\x06\x01\x02c1\x01a";
+const HELLO_OF_A: [u8; 12] = *b"\xa7\x02\x00\x00\x00\x06\x01\x02c1\x01a";
 
 /// The Hello of the node b of the cluster c1, and its Bye.
 const HELLO_AND_BYE: &[u8] =
-    b"\xa7\x01\x00\x00\x00\x06\x01\x02c1\x01b\xa7\x01\x00\x00\x00\x02\x04\x01";
+    b"\xa7\x02\x00\x00\x00\x06\x01\x02c1\x01b\xa7\x02\x00\x00\x00\x02\x04\x01";
 
 /// A log of a, which wrote twice.
 fn log_of_two(rt: &impl Abort, alloc: Global) -> PlainLog {
@@ -123,7 +123,7 @@ fn as_many_peers_are_served_at_once_as_there_are_workers(rt: HostRuntime) {
         || run_node(
             &rt,
             alloc,
-            settings_with(&rt, 256, 5, 3),
+            settings_with(&rt, 1_024, 5, 3),
             new_log(&rt, alloc, b"a"),
             &paths,
             pace,
@@ -146,37 +146,38 @@ fn as_many_peers_are_served_at_once_as_there_are_workers(rt: HostRuntime) {
     same(&rt, &got(&rt, ran), &whole);
 }
 
-/// The owner of this number, whose name is as long as may be: a digest of 256 bytes has room for fewer than seven.
-fn owner(rt: &impl Abort, number: u8) -> Name {
+/// The owner of this letter, whose name is as long as may be. Of 25 such owners and the node a, a digest of at most 1,024 bytes tells
+/// of a and of the first 23: with its end at the next name it has 997 bytes.
+fn owner(rt: &impl Abort, letter: u8) -> Name {
     let mut text = [b'o'; 32];
-    text[31] = number;
+    text[31] = letter;
     name(rt, &text)
 }
 
 /// A delta of the write of this version of an owner.
-fn delta_of(rt: &impl Abort, alloc: Global, number: u8, version: u64) -> Delta
+fn delta_of(rt: &impl Abort, alloc: Global, letter: u8, version: u64) -> Delta
     requires { 1 ≤ version }
 {
     let entry = Entry::new(key(rt, b"w"), version, weight(rt, 5));
     let entries = got(rt, vec![in alloc; entry]);
     let block = got(
         rt,
-        Block::new(owner(rt, number), version.saturating_sub(1), entries),
+        Block::new(owner(rt, letter), version.saturating_sub(1), entries),
     );
     got(rt, Delta::new(got(rt, vec![in alloc; block])))
 }
 
-/// A node that holds the first write of seven owners.
-fn node_with_seven(rt: &impl Abort, alloc: Global, me: &[u8]) -> NodeCore {
+/// A node that holds the first write of 25 owners.
+fn node_with_owners(rt: &impl Abort, alloc: Global, me: &[u8]) -> NodeCore {
     let settings = settings_with(rt, 4_096, 3, 1);
     let mut core = node_of(rt, alloc, settings, me, Table::new(alloc));
-    for number in b'1'..=b'7' {
-        got(rt, core.apply(&delta_of(rt, alloc, number, 1)));
+    for letter in b'a'..=b'y' {
+        got(rt, core.apply(&delta_of(rt, alloc, letter, 1)));
     }
     core
 }
 
-/// c tells the node of seven owners; b, which holds a second write of the last of them, is dialed; how far c holds that owner
+/// c tells the node of 25 owners; b, which holds a second write of the last of them, is dialed; how far c holds that owner
 /// once it asked the node again.
 fn ask_for_the_last<R: Net + Abort>(
     rt: &R,
@@ -185,10 +186,10 @@ fn ask_for_the_last<R: Net + Abort>(
     sock: &str,
 ) -> u64 {
     let (mut of_b, mut of_c) = (
-        node_with_seven(rt, alloc, b"b"),
-        node_with_seven(rt, alloc, b"c"),
+        node_with_owners(rt, alloc, b"b"),
+        node_with_owners(rt, alloc, b"c"),
     );
-    got(rt, of_b.apply(&delta_of(rt, alloc, b'7', 2)));
+    got(rt, of_b.apply(&delta_of(rt, alloc, b'y', 2)));
     let first = next_of(rt, listener);
     talk(rt, alloc, &mut of_c, &reach(rt, sock), Some(1));
     talk(rt, alloc, &mut silent_b(rt, alloc), &first, None);
@@ -196,19 +197,19 @@ fn ask_for_the_last<R: Net + Abort>(
     let third = next_of(rt, listener);
     talk(rt, alloc, &mut of_c, &reach(rt, sock), Some(1));
     talk(rt, alloc, &mut of_b, &third, None);
-    of_c.upto(&owner(rt, b'7'))
+    of_c.upto(&owner(rt, b'y'))
 }
 
 /// The second and the third round have two exchanges, and so two deltas come in each; two come of c, and one in the first round.
 #[test]
 fn owners_behind_the_first_digest_are_asked_for(rt: HostRuntime) {
     let paths = Paths {
-        sock: "seven.sock",
-        control: "seven.control",
-        peers: &["seven.b"],
+        sock: "owners.sock",
+        control: "owners.control",
+        peers: &["owners.b"],
     };
     let alloc = rt.alloc();
-    let listener = got(&rt, UnixListener::bind(&rt, "seven.b"));
+    let listener = got(&rt, UnixListener::bind(&rt, "owners.b"));
     let (ran, last) = thread::join(
         &rt,
         || run_node(
@@ -222,7 +223,7 @@ fn owners_behind_the_first_digest_are_asked_for(rt: HostRuntime) {
         ),
         || ask_for_the_last(&rt, alloc, &listener, paths.sock),
     );
-    got(&rt, fs::remove_file(&rt, "seven.b"));
+    got(&rt, fs::remove_file(&rt, "owners.b"));
     same(&rt, &last, &2);
     let whole = Ran {
         rounds: 3,

@@ -4,7 +4,7 @@ use crate::words::{ValueWords, WriteWords, are_words, connection_of, number_of};
 /// A line below the world line, with its words. Numbers of connections are 1 to 999,999.
 #[derive(Clone, Copy)]
 pub(crate) enum Line<'a> {
-    /// `commit N K KIND VALUE`, `commit N K removed`: the log of node N takes a write.
+    /// `commit N K KIND VALUE`, `commit N K removed`: the log of node N takes a write. A text is the rest of the line.
     Commit {
         write: WriteWords<'a>,
     },
@@ -12,7 +12,8 @@ pub(crate) enum Line<'a> {
     Write {
         write: WriteWords<'a>,
     },
-    /// `crash N K KIND VALUE kept`, `.. lost`: node N crashes in that commit.
+    /// `crash N K KIND VALUE kept`, `.. lost`: node N crashes in that commit. A text ends before the space in front of
+    /// the last word.
     Crash {
         write: WriteWords<'a>,
         is_kept: bool,

@@ -12,15 +12,61 @@ use std::alloc::Global;
 /// The greatest number of a connection in a script.
 pub(crate) const CONNECTION_MOST: u64 = 999_999;
 
-/// The words of a line, with one space between two. An empty word stands where that is broken. `NoMemory`.
+fn is_space(byte: &u8) -> bool {
+    *byte == b' '
+}
+
+/// Whether a line writes a text: a command, a node, a key and `text` stand in front.
+fn writes_text(line: &[u8]) -> bool {
+    let mut words = line.split(|byte| is_space(byte));
+    let is_write = matches!(words.next(), Some(b"put" | b"commit" | b"crash"));
+    is_write && words.nth(2) == Some(b"text".as_slice())
+}
+
+/// The words of a line, with one space between two. An empty word stands where that is broken. A text that the line
+/// writes is one word, whatever spaces it has: all behind `text`, in a line `crash` up to the space before the last word.
 pub(crate) fn words_of(alloc: Global, line: &[u8]) -> Result<Vec<&[u8]>, Fault>
     ensures memory { IfErr result (λ fault. fault ≡ Fault.NoMemory) }
 {
-    Ok(line.split(|byte| *byte == b' ').collect(alloc)?)
+    if !writes_text(line) {
+        return Ok(line.split(|byte| is_space(byte)).collect(alloc)?);
+    }
+    let words: Vec<&[u8]> = line.splitn(5, |byte| is_space(byte)).collect(alloc)?;
+    match *words.as_slice() {
+        [b"crash", node, key, kind, behind] => with_end(alloc, [b"crash", node, key, kind], behind),
+        _ => Ok(words),
+    }
 }
 
-/// Whether no word is empty.
+/// These words, and behind them the text and the last word, where there are two.
+fn with_end<'a>(
+    alloc: Global,
+    front: [&'a [u8]; 4],
+    behind: &'a [u8],
+) -> Result<Vec<&'a [u8]>, Fault>
+    ensures memory { IfErr result (λ fault. fault ≡ Fault.NoMemory) }
+{
+    let mut words = Vec::from_slice(alloc, &front)?;
+    match behind.iter().rposition(is_space) {
+        Some(place) => {
+            words.push(&behind[..place])?;
+            words.push(&behind[place + 1..])?;
+        }
+        None => words.push(behind)?,
+    }
+    Ok(words)
+}
+
+/// Whether no word is empty, but for a text that is written.
 pub(crate) fn are_words(words: &[&[u8]]) -> bool {
+    match *words {
+        [b"put" | b"commit" | b"crash", node, key, b"text", _] => are_filled(&[node, key]),
+        [b"crash", node, key, b"text", _, end] => are_filled(&[node, key, end]),
+        _ => are_filled(words),
+    }
+}
+
+fn are_filled(words: &[&[u8]]) -> bool {
     words.iter().all(|word| !word.is_empty())
 }
 
@@ -41,7 +87,7 @@ pub(crate) fn connection_of(word: &[u8]) -> Option<u64> {
     }
 }
 
-/// The two words of a value.
+/// The two words of a value. Those of a text may have spaces in the second.
 #[derive(Clone, Copy)]
 pub(crate) struct ValueWords<'a> {
     pub(crate) kind: &'a [u8],

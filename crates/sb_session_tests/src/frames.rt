@@ -11,18 +11,18 @@ use std::process::Abort;
 
 /// One block of the owner a, after 0, with the weight 5 under w as version 1.
 pub(crate) const FRAME: &[u8] =
-    b"\xa7\x01\x00\x00\x00\x22\x03\x00\x01\x01a\x00\x00\x00\x00\x00\x00\x00\x00\
+    b"\xa7\x02\x00\x00\x00\x22\x03\x00\x01\x01a\x00\x00\x00\x00\x00\x00\x00\x00\
     \x00\x01\x01w\x00\x00\x00\x00\x00\x00\x00\x01\x02\x00\x00\x00\x00\x00\x00\x00\x05";
 
 /// A block of b, and then one of a.
-const DESCENDING: &[u8] = b"\xa7\x01\x00\x00\x00\x41\x03\x00\x02\
+const DESCENDING: &[u8] = b"\xa7\x02\x00\x00\x00\x41\x03\x00\x02\
     \x01b\x00\x00\x00\x00\x00\x00\x00\x00\
     \x00\x01\x01w\x00\x00\x00\x00\x00\x00\x00\x01\x02\x00\x00\x00\x00\x00\x00\x00\x05\
     \x01a\x00\x00\x00\x00\x00\x00\x00\x00\
     \x00\x01\x01w\x00\x00\x00\x00\x00\x00\x00\x01\x02\x00\x00\x00\x00\x00\x00\x00\x05";
 
 /// Hello of a node of a cluster whose name has 33 bytes.
-const LONG_CLUSTER: &[u8] = b"\xa7\x01\x00\x00\x00\x25\x01\
+const LONG_CLUSTER: &[u8] = b"\xa7\x02\x00\x00\x00\x25\x01\
     \x21abcdefghijklmnopqrstuvwxyz-012345\x01a";
 
 /// Takes a few bytes in each write, and fails once it has no room. Before each of them it is interrupted so often.
@@ -314,11 +314,12 @@ fn closes(rt: &impl Abort, alloc: Global, bytes: &[u8], fault: Fault) {
 #[test]
 fn faulty_frames_close(rt: HostRuntime) {
     let alloc = rt.alloc();
-    let unknown = b"\xa7\x01\x00\x00\x00\x01\x55";
+    let unknown = b"\xa7\x02\x00\x00\x00\x01\x55";
     closes(&rt, alloc, b"\xa6", Fault::BadMark);
+    closes(&rt, alloc, b"\xa7\x01", Fault::BadVersion);
     closes(&rt, alloc, b"\xa7\x09", Fault::BadVersion);
-    closes(&rt, alloc, b"\xa7\x01\x00\x00\x00\x00", Fault::BadLength);
-    closes(&rt, alloc, b"\xa7\x01\x00\x00\xff\xfb", Fault::BadLength);
+    closes(&rt, alloc, b"\xa7\x02\x00\x00\x00\x00", Fault::BadLength);
+    closes(&rt, alloc, b"\xa7\x02\x00\x00\xff\xfb", Fault::BadLength);
     closes(&rt, alloc, unknown, Fault::UnknownKind(0x55));
     closes(&rt, alloc, DESCENDING, Fault::Malformed(3));
     closes(&rt, alloc, LONG_CLUSTER, Fault::Malformed(1));
@@ -505,7 +506,7 @@ fn a_failed_write_is_the_last(rt: HostRuntime) {
 #[test]
 fn the_example_of_frames(rt: HostRuntime) {
     let mut frames = Frames::new(rt.alloc());
-    feed(&rt, &mut frames, b"\xa7\x01\x00\x00\x00");
+    feed(&rt, &mut frames, b"\xa7\x02\x00\x00\x00");
     same(&rt, &has_next(&rt, &mut frames), &false);
     feed(&rt, &mut frames, b"\x02\x04\x01");
     same(&rt, &is_bye(next(&rt, &mut frames)), &true);

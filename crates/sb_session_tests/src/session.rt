@@ -15,19 +15,19 @@ use std::alloc::Global;
 use std::process::Abort;
 
 /// Hello of a node a of the cluster c2.
-pub(crate) const HELLO_C2: &[u8] = b"\xa7\x01\x00\x00\x00\x06\x01\x02c2\x01a";
+pub(crate) const HELLO_C2: &[u8] = b"\xa7\x02\x00\x00\x00\x06\x01\x02c2\x01a";
 
 /// An Ask, Rows, a Put, a Done and a Refused, which have no place in a session.
-pub(crate) const ASK: &[u8] = b"\xa7\x01\x00\x00\x00\x05\x10\x00\x00\x00\x00";
+pub(crate) const ASK: &[u8] = b"\xa7\x02\x00\x00\x00\x05\x10\x00\x00\x00\x00";
 
-pub(crate) const ROWS: &[u8] = b"\xa7\x01\x00\x00\x00\x04\x11\x00\x00\x00";
+pub(crate) const ROWS: &[u8] = b"\xa7\x02\x00\x00\x00\x04\x11\x00\x00\x00";
 
-pub(crate) const PUT: &[u8] = b"\xa7\x01\x00\x00\x00\x0c\x12\x01w\x02\
+pub(crate) const PUT: &[u8] = b"\xa7\x02\x00\x00\x00\x0c\x12\x01w\x02\
     \x00\x00\x00\x00\x00\x00\x00\x05";
 
-pub(crate) const DONE: &[u8] = b"\xa7\x01\x00\x00\x00\x09\x13\x00\x00\x00\x00\x00\x00\x00\x01";
+pub(crate) const DONE: &[u8] = b"\xa7\x02\x00\x00\x00\x09\x13\x00\x00\x00\x00\x00\x00\x00\x01";
 
-pub(crate) const REFUSED: &[u8] = b"\xa7\x01\x00\x00\x00\x02\x14\x01";
+pub(crate) const REFUSED: &[u8] = b"\xa7\x02\x00\x00\x00\x02\x14\x01";
 
 /// What a node holds, told and taken up without an order and a budget of deltas, in so many calls.
 #[derive(Drop)]

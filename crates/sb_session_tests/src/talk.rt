@@ -586,9 +586,9 @@ fn messages_end(rt: &impl Abort, alloc: Global) {
 
 /// Bytes that are no frame end the talks.
 fn bytes_end(rt: &impl Abort, alloc: Global) {
-    let no_length = b"\xa7\x01\x00\x00\x00\x00";
-    let no_kind = b"\xa7\x01\x00\x00\x00\x01\x55";
-    let no_reason = b"\xa7\x01\x00\x00\x00\x02\x04\x06";
+    let no_length = b"\xa7\x02\x00\x00\x00\x00";
+    let no_kind = b"\xa7\x02\x00\x00\x00\x01\x55";
+    let no_reason = b"\xa7\x02\x00\x00\x00\x02\x04\x06";
     ends_with(rt, alloc, &[b"\xa6"], Fault::BadMark);
     ends_with(rt, alloc, &[HELLO_A, b"\xa7\x09"], Fault::BadVersion);
     ends_with(rt, alloc, &[HELLO_A, no_length], Fault::BadLength);

@@ -5,28 +5,28 @@ use std::io::{self, ErrorKind, Read};
 use std::process::Abort;
 
 /// Hello of the nodes a and b of the cluster c1.
-pub(crate) const HELLO_A: &[u8] = b"\xa7\x01\x00\x00\x00\x06\x01\x02c1\x01a";
+pub(crate) const HELLO_A: &[u8] = b"\xa7\x02\x00\x00\x00\x06\x01\x02c1\x01a";
 
-pub(crate) const HELLO_B: &[u8] = b"\xa7\x01\x00\x00\x00\x06\x01\x02c1\x01b";
+pub(crate) const HELLO_B: &[u8] = b"\xa7\x02\x00\x00\x00\x06\x01\x02c1\x01b";
 
 /// The digest of a node a that holds only itself with nothing written; an answer is wanted.
-pub(crate) const DIGEST_A: &[u8] = b"\xa7\x01\x00\x00\x00\x10\x02\x01\x00\x00\
+pub(crate) const DIGEST_A: &[u8] = b"\xa7\x02\x00\x00\x00\x10\x02\x01\x00\x00\
     \x00\x01\x01a\x00\x00\x00\x00\x00\x00\x00\x00";
 
 /// The delta of the flag true that b wrote under w as its version 1.
 pub(crate) const DELTA_B: &[u8] =
-    b"\xa7\x01\x00\x00\x00\x1b\x03\x00\x01\x01b\x00\x00\x00\x00\x00\x00\x00\x00\
+    b"\xa7\x02\x00\x00\x00\x1b\x03\x00\x01\x01b\x00\x00\x00\x00\x00\x00\x00\x00\
     \x00\x01\x01w\x00\x00\x00\x00\x00\x00\x00\x01\x03\x01";
 
 /// The digest of b, which holds itself up to 1; none is wanted in answer.
-pub(crate) const DIGEST_B: &[u8] = b"\xa7\x01\x00\x00\x00\x10\x02\x00\x00\x00\
+pub(crate) const DIGEST_B: &[u8] = b"\xa7\x02\x00\x00\x00\x10\x02\x00\x00\x00\
     \x00\x01\x01b\x00\x00\x00\x00\x00\x00\x00\x01";
 
 /// A delta of no block.
-pub(crate) const DELTA_NONE: &[u8] = b"\xa7\x01\x00\x00\x00\x03\x03\x00\x00";
+pub(crate) const DELTA_NONE: &[u8] = b"\xa7\x02\x00\x00\x00\x03\x03\x00\x00";
 
 /// Bye, since the rounds are done.
-pub(crate) const BYE: &[u8] = b"\xa7\x01\x00\x00\x00\x02\x04\x01";
+pub(crate) const BYE: &[u8] = b"\xa7\x02\x00\x00\x00\x02\x04\x01";
 
 /// Gives so many bytes a read, and fails at the end or not. Before each of these reads so many are interrupted.
 #[derive(Drop)]
@@ -82,7 +82,7 @@ fn add_entry(rt: &impl Abort, alloc: Global, frame: &mut Vec<u8>, version: u64) 
 /// A frame of 65,536 bytes: a delta of 1,310 entries of 50 bytes and one of 15, behind 15 of its payload.
 pub(crate) fn greatest_frame(rt: &impl Abort, alloc: Global) -> Vec<u8> {
     let mut frame = Vec::new(alloc);
-    add(rt, &mut frame, b"\xa7\x01\x00\x00\xff\xfa\x03\x00\x01\x01a");
+    add(rt, &mut frame, b"\xa7\x02\x00\x00\xff\xfa\x03\x00\x01\x01a");
     add(rt, &mut frame, b"\x00\x00\x00\x00\x00\x00\x00\x00\x05\x1f");
     for version in 1..=1_310u64 {
         add_entry(rt, alloc, &mut frame, version);

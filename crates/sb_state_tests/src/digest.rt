@@ -236,7 +236,7 @@ fn assert_paired(
     pairs: &[(Name, u64)],
     length: u64,
 ) {
-    let digest = asked(rt, alloc, holdings, from, true, 256);
+    let digest = asked(rt, alloc, holdings, from, true, 1_024);
     let found = (extent(&digest), are_pairs(&digest, pairs));
     let wanted = wanting(from.copied(), None, pairs.len(), length);
     same(rt, &found, &(wanted, true));
@@ -295,7 +295,7 @@ fn assert_held(
     let [a, b] = [name(rt, b"a"), name(rt, b"b")];
     hold(rt, alloc, holdings, &a, version);
     let (owners, numbers) = ([a, b], [(true, held), (true, 0)]);
-    let found = told(rt, alloc, holdings, None, 256, &owners, &numbers);
+    let found = told(rt, alloc, holdings, None, 1_024, &owners, &numbers);
     same(rt, &found, &(wanting(None, None, pairs, length), true));
 }
 
@@ -323,7 +323,7 @@ fn with_a_write(rt: &impl Abort, alloc: Global, b: Name) -> Holdings {
 fn a_node_with_a_write_answers(rt: HostRuntime) {
     let b = name(&rt, b"b");
     let holdings = with_a_write(&rt, rt.alloc(), b);
-    let digest = asked(&rt, rt.alloc(), &holdings, None, false, 256);
+    let digest = asked(&rt, rt.alloc(), &holdings, None, false, 1_024);
     let found = (extent(&digest), are_pairs(&digest, &[(b, 1)]));
     same(&rt, &found, &((false, None, None, None, 1, 16), true));
 }
@@ -366,7 +366,7 @@ fn assert_range(
         name(rt, b"ca"),
     ];
     let from = name(rt, from);
-    let found = told(rt, alloc, holdings, Some(&from), 256, &owners, &numbers);
+    let found = told(rt, alloc, holdings, Some(&from), 1_024, &owners, &numbers);
     let wanted = (wanting(Some(from), None, pairs, length), true);
     same_at(rt, &from, &found, &wanted);
 }
@@ -410,46 +410,91 @@ fn assert_part(
     same_at(rt, &budget, &found, &(wanted, true));
 }
 
-const FIVE: Part<'static> = (5, 243, &[AT_0, AT_1, AT_1, AT_1, AT_1, BELOW]);
+/// 25 names of 32 letters, each of one letter.
+fn many_owners(rt: &impl Abort) -> [Name; 25] {
+    let mut owners = [long_name(rt, b'a'); 25];
+    let mut letter = b'a';
+    for owner in owners.iter_mut() {
+        *owner = long_name(rt, letter);
+        letter = letter.wrapping_add(1);
+    }
+    owners
+}
 
-const SIXTH: Part<'static> = (1, 79, &[BELOW, BELOW, BELOW, BELOW, BELOW, AT_1]);
+// What is told of the first owner, and of the last three.
 
-const SIX: Part<'static> = (6, 252, &[AT_0, AT_1, AT_1, AT_1, AT_1, AT_1]);
+const FIRST_23: Part<'static> = (23, 981, &[AT_0, AT_1, BELOW, BELOW]);
 
-fn assert_six(rt: &impl Abort, alloc: Global, held: &Holdings, owners: &[Name], last: &Name) {
-    assert_part(rt, alloc, held, 256, owners, (None, Some(last)), FIVE);
-    assert_part(rt, alloc, held, 256, owners, (Some(last), None), SIXTH);
-    assert_part(rt, alloc, held, 257, owners, (None, Some(last)), FIVE);
-    assert_part(rt, alloc, held, 258, owners, (None, None), SIX);
+const LAST_TWO: Part<'static> = (2, 120, &[BELOW, BELOW, AT_1, AT_1]);
+
+const FIRST_24: Part<'static> = (24, 1_022, &[AT_0, AT_1, AT_1, BELOW]);
+
+const LAST_ONE: Part<'static> = (1, 79, &[BELOW, BELOW, BELOW, AT_1]);
+
+const ALL: Part<'static> = (25, 1_031, &[AT_0, AT_1, AT_1, AT_1]);
+
+fn assert_many(rt: &impl Abort, alloc: Global, held: &Holdings, ends: &[Name; 4]) {
+    let [_, _, before_last, last] = ends;
+    assert_part(
+        rt,
+        alloc,
+        held,
+        1_024,
+        ends,
+        (None, Some(before_last)),
+        FIRST_23,
+    );
+    assert_part(
+        rt,
+        alloc,
+        held,
+        1_024,
+        ends,
+        (Some(before_last), None),
+        LAST_TWO,
+    );
+    assert_part(
+        rt,
+        alloc,
+        held,
+        1_027,
+        ends,
+        (None, Some(before_last)),
+        FIRST_23,
+    );
+    assert_part(rt, alloc, held, 1_028, ends, (None, Some(last)), FIRST_24);
+    assert_part(rt, alloc, held, 1_036, ends, (None, Some(last)), FIRST_24);
+    assert_part(rt, alloc, held, 1_036, ends, (Some(last), None), LAST_ONE);
+    assert_part(rt, alloc, held, 1_037, ends, (None, None), ALL);
 }
 
 #[test]
-fn six_owners_take_two_digests(rt: HostRuntime) {
-    let owners = six_owners(&rt);
-    let last = owners[5];
+fn many_owners_take_two_digests(rt: HostRuntime) {
+    let owners = many_owners(&rt);
+    let ends = [owners[0], owners[22], owners[23], owners[24]];
     let holdings = holding(&rt, rt.alloc(), owners[0], &owners);
-    assert_six(&rt, rt.alloc(), &holdings, &owners, &last);
+    assert_many(&rt, rt.alloc(), &holdings, &ends);
 }
 
-/// What is told of the last of five owners, the sixth and the seventh.
-const FRONT: Part<'static> = (5, 243, &[AT_1, BELOW, BELOW]);
+/// What is told of the last of 23 owners, the next and the last of all.
+const FRONT: Part<'static> = (23, 981, &[AT_1, BELOW, BELOW]);
 
-const REST: Part<'static> = (2, 120, &[BELOW, AT_1, AT_0]);
+const REST: Part<'static> = (3, 161, &[BELOW, AT_1, AT_0]);
 
-fn assert_seven(rt: &impl Abort, alloc: Global, held: &Holdings, ends: &[Name], sixth: &Name) {
-    assert_part(rt, alloc, held, 256, ends, (None, Some(sixth)), FRONT);
-    assert_part(rt, alloc, held, 256, ends, (Some(sixth), None), REST);
+fn assert_ended(rt: &impl Abort, alloc: Global, held: &Holdings, ends: &[Name; 3]) {
+    let next = &ends[1];
+    assert_part(rt, alloc, held, 1_024, ends, (None, Some(next)), FRONT);
+    assert_part(rt, alloc, held, 1_024, ends, (Some(next), None), REST);
 }
 
-/// A seventh owner is met before the digest of five is cut.
+/// Owners behind those that there is room for are met before the digest is cut, the own name last.
 #[test]
-fn seven_owners_take_two_digests(rt: HostRuntime) {
-    let owners = six_owners(&rt);
-    let seventh = long_name(&rt, b'g');
-    let holdings = holding(&rt, rt.alloc(), seventh, &owners);
-    let sixth = owners[5];
-    let ends = [owners[4], sixth, seventh];
-    assert_seven(&rt, rt.alloc(), &holdings, &ends, &sixth);
+fn the_own_name_may_be_last(rt: HostRuntime) {
+    let owners = many_owners(&rt);
+    let own = long_name(&rt, b'z');
+    let holdings = holding(&rt, rt.alloc(), own, &owners);
+    let ends = [owners[22], owners[23], own];
+    assert_ended(&rt, rt.alloc(), &holdings, &ends);
 }
 
 /// A name of 32 letters for each number.
@@ -493,11 +538,11 @@ fn assert_turn(
     from: Option<&Name>,
     turn: u32,
 ) -> Option<Name> {
-    let digest = asked(rt, alloc, holdings, from, true, 256);
+    let digest = asked(rt, alloc, holdings, from, true, 1_024);
     let (pairs, length) = match turn {
-        0 => (5, 243),
-        255 => (3, 161),
-        _ => (4, 234),
+        0 => (23, 981),
+        44 => (12, 530),
+        _ => (23, 1_013),
     };
     let wanted = wanting(from.copied(), digest.until(), pairs, length);
     same_at(rt, &turn, &extent(&digest), &wanted);
@@ -506,7 +551,7 @@ fn assert_turn(
 
 fn assert_turns(rt: &impl Abort, alloc: Global, holdings: &Holdings) {
     let mut from = None;
-    for turn in 0..256_u32 {
+    for turn in 0..45_u32 {
         let next_from = assert_turn(rt, alloc, holdings, from.as_ref(), turn);
         from = next_from;
     }
@@ -521,9 +566,9 @@ fn all_owners_are_told_of(rt: HostRuntime) {
     assert_turns(&rt, rt.alloc(), &holdings);
 }
 
-/// The extent of a digest of at most 256 bytes, unless memory ran out.
+/// The extent of a digest of at most 1,024 bytes, unless memory ran out.
 fn built(alloc: Global, holdings: &Holdings, from: Name, want: bool) -> Result<Extent, Fault> {
-    match build(alloc, holdings, Some(from), want, 256) {
+    match build(alloc, holdings, Some(from), want, 1_024) {
         Ok(digest) => Ok(extent(&digest)),
         Err(fault) => Err(fault),
     }

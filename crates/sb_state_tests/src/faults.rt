@@ -23,7 +23,7 @@ const FAULTS: &[(Fault, u8, &str)] = &[
     (
         Fault::BadValue,
         4,
-        "a value is addr with 1 to 128 printing bytes, weight with a number below 2^63, or flag with true or false",
+        "a value is addr with 1 to 128 printing bytes, weight with a number below 2^63, flag with true or false, or text with 1 to 512 bytes of UTF-8, whose control bytes and backslashes are a backslash and two digits, as \\0a",
     ),
     (Fault::BadSetting, 5, "a setting is outside its limits"),
     (
@@ -125,4 +125,24 @@ fn each_fault_has_its_number_and_its_text(rt: HostRuntime) {
     for (fault, number, text) in FAULTS.iter() {
         assert_told(&rt, rt.alloc(), *fault, *number, text);
     }
+}
+
+fn is_fault_of(rt: &impl Abort, fault: Fault, number: u8) {
+    same(rt, &Fault::of_number(number), &Some(fault));
+}
+
+#[test]
+fn a_number_gives_its_fault_and_carries_no_more(rt: HostRuntime) {
+    is_fault_of(&rt, Fault::NoMemory, 1);
+    is_fault_of(&rt, Fault::UnknownKind(0), 13);
+    is_fault_of(&rt, Fault::WriteFailed(0), 17);
+    is_fault_of(&rt, Fault::OwnerConflict(0), 21);
+    is_fault_of(&rt, Fault::OutOfTurn(0), 31);
+    for (_, number, _) in FAULTS.iter() {
+        let told = Fault::of_number(*number).map_or(0, |fault| fault.number());
+        same(&rt, &told, number);
+    }
+    same(&rt, &Fault::of_number(0), &None);
+    same(&rt, &Fault::of_number(32), &None);
+    same(&rt, &Fault::of_number(255), &None);
 }

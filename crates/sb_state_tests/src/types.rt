@@ -81,12 +81,14 @@ fn texts_have_an_order(rt: HostRuntime) {
 
 /// Whether the value is this one, in each way to read it.
 fn is_seen(value: &Value, wanted: ValueRef<'_>) -> bool {
-    let (addr, weight, flag) = match wanted {
-        ValueRef::Addr(text) => (Some(text), None, None),
-        ValueRef::Weight(weight) => (None, Some(weight), None),
-        ValueRef::Flag(flag) => (None, None, Some(flag)),
+    let (addr, weight, flag, text) = match wanted {
+        ValueRef::Addr(text) => (Some(text), None, None, None),
+        ValueRef::Weight(weight) => (None, Some(weight), None, None),
+        ValueRef::Flag(flag) => (None, None, Some(flag), None),
+        ValueRef::Text(text) => (None, None, None, Some(text)),
     };
-    let is_read = value.as_addr() == addr && value.as_weight() == weight && value.as_flag() == flag;
+    let is_number = value.as_weight() == weight && value.as_flag() == flag;
+    let is_read = is_number && value.as_addr() == addr && value.as_text() == text;
     is_read && value.view() == wanted
 }
 
@@ -114,6 +116,42 @@ fn addresses_within_their_limits(rt: HostRuntime) {
     assert_address(&rt, alloc, b"a b", no_value);
     assert_address(&rt, alloc, b"\x7f", no_value);
     assert_address(&rt, alloc, b"\x20", no_value);
+}
+
+/// Whether a text is read with its bytes, and its length.
+fn note(alloc: Global, text: &[u8]) -> Result<(bool, u64), Fault> {
+    let value = Value::text(alloc, text)?;
+    Ok((
+        is_seen(&value, ValueRef::Text(text)),
+        value.encoded_length(),
+    ))
+}
+
+fn assert_note(rt: &impl Abort, alloc: Global, text: &[u8], wanted: Result<(bool, u64), Fault>) {
+    let found = settled(rt, note(alloc, text));
+    same_at(rt, &text, &found, &wanted);
+}
+
+#[test]
+fn texts_of_values_within_their_limits(rt: HostRuntime) {
+    let alloc = rt.alloc();
+    assert_note(&rt, alloc, b"x", Ok((true, 3)));
+    assert_note(&rt, alloc, &[b'x'; 512], Ok((true, 514)));
+    assert_note(&rt, alloc, b"h\xc3\xa9", Ok((true, 5)));
+    assert_note(&rt, alloc, b" \x00\n\x7f\\ ", Ok((true, 8)));
+    assert_note(&rt, alloc, b"\xf4\x8f\xbf\xbf", Ok((true, 6)));
+}
+
+/// No length outside 1 to 512; a byte that begins nothing, a longer spelling than needed, half of a pair, and a number beyond the last.
+#[test]
+fn bytes_that_are_no_text(rt: HostRuntime) {
+    let (alloc, no_value) = (rt.alloc(), Err(Fault::BadValue));
+    assert_note(&rt, alloc, b"", no_value);
+    assert_note(&rt, alloc, &[b'x'; 513], no_value);
+    assert_note(&rt, alloc, b"h\xff\xa9", no_value);
+    assert_note(&rt, alloc, b"\xc0\x80", no_value);
+    assert_note(&rt, alloc, b"\xed\xa0\x80", no_value);
+    assert_note(&rt, alloc, b"\xf4\x90\x80\x80", no_value);
 }
 
 /// What a weight is read as.
@@ -181,6 +219,48 @@ fn assert_flag(rt: &impl Abort, alloc: Global, word: &str, flag: bool, line: &st
     assert_value(rt, alloc, "flag", word, ValueRef::Flag(flag), line);
 }
 
+/// The word is the text of these bytes.
+fn assert_text(rt: &impl Abort, alloc: Global, word: &str, text: &[u8], line: &str) {
+    assert_value(rt, alloc, "text", word, ValueRef::Text(text), line);
+}
+
+#[test]
+fn texts_from_words(rt: HostRuntime) {
+    let alloc = rt.alloc();
+    assert_text(&rt, alloc, "zone-b", b"zone-b", "text zone-b");
+    assert_text(
+        &rt,
+        alloc,
+        " two  words ",
+        b" two  words ",
+        "text  two  words ",
+    );
+    assert_text(&rt, alloc, "a\\5cb\\0a", b"a\\b\n", "text a\\5cb\\0a");
+    assert_text(
+        &rt,
+        alloc,
+        "\\00\\1f\\7f",
+        b"\x00\x1f\x7f",
+        "text \\00\\1f\\7f",
+    );
+    assert_text(&rt, alloc, "h\u{e9}~", b"h\xc3\xa9~", "text h\u{e9}~");
+}
+
+/// An escape of what stands for itself, upper case, a digit too few, none, and what has to be escaped; then no UTF-8, and nothing.
+#[test]
+fn words_that_spell_no_text(rt: HostRuntime) {
+    let alloc = rt.alloc();
+    assert_no_value(&rt, alloc, b"text", b"a\\41");
+    assert_no_value(&rt, alloc, b"text", b"\\5C");
+    assert_no_value(&rt, alloc, b"text", b"\\5");
+    assert_no_value(&rt, alloc, b"text", b"a\\");
+    assert_no_value(&rt, alloc, b"text", b"a\nb");
+    assert_no_value(&rt, alloc, b"text", b"\x7f");
+    assert_no_value(&rt, alloc, b"text", b"h\xff");
+    assert_no_value(&rt, alloc, b"text", b"");
+    assert_no_value(&rt, alloc, b"text", &[b'x'; 513]);
+}
+
 #[test]
 fn values_from_words(rt: HostRuntime) {
     let alloc = rt.alloc();
@@ -234,7 +314,7 @@ fn words_that_are_no_value(rt: HostRuntime) {
     assert_no_value(&rt, alloc, b"flag", b"True");
     assert_no_value(&rt, alloc, b"flag", b"1");
     assert_no_value(&rt, alloc, b"addr", b"");
-    assert_no_value(&rt, alloc, b"text", b"x");
+    assert_no_value(&rt, alloc, b"note", b"x");
     assert_no_value(&rt, alloc, b"removed", b"");
 }
 
@@ -436,7 +516,7 @@ fn the_longest_delta(rt: HostRuntime) {
 /// Settings of which each number is the least or the greatest that is allowed.
 const OUTERMOST: RawSettings = RawSettings {
     cluster: b"c1",
-    budget: 256,
+    budget: 1_024,
     order: Order::Depth,
     max_version: 1_099_511_627_775,
     seats: 64,
@@ -455,7 +535,7 @@ fn settings_within_their_limits(rt: HostRuntime) {
         settings.workers(),
     );
     let c1 = name(&rt, b"c1");
-    let wanted = (c1, 256, Order::Depth, 1_099_511_627_775, 64, 62);
+    let wanted = (c1, 1_024, Order::Depth, 1_099_511_627_775, 64, 62);
     same(&rt, &read, &wanted);
     let other_ends = RawSettings {
         budget: 65_536,
@@ -520,7 +600,7 @@ fn assert_workers(rt: &impl Abort, workers: u64) {
 fn settings_past_their_limits(rt: HostRuntime) {
     assert_cluster(&rt, b"");
     assert_cluster(&rt, b"C");
-    assert_budget(&rt, 255);
+    assert_budget(&rt, 1_023);
     assert_budget(&rt, 65_537);
     assert_max_version(&rt, 0);
     assert_max_version(&rt, 1_099_511_627_776);

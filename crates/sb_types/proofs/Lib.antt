@@ -6,3 +6,7 @@ pub mod Live
 pub mod Texts
 pub mod Standing
 pub mod Padded
+pub mod Spelling
+pub mod Characters
+pub mod Utf8
+pub mod TextReading

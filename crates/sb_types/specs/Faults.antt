@@ -36,6 +36,15 @@ number_of TurnsSpent = 29
 number_of FloorTooHigh = 30
 number_of (OutOfTurn version) = 31
 
+-- what a fault carries beside its number; 0 where it carries nothing
+abbrev pub carried_by : Fault → ℕ
+carried_by (UnknownKind kind) = kind
+carried_by (Malformed kind) = kind
+carried_by (WriteFailed count) = count
+carried_by (OwnerConflict version) = version
+carried_by (OutOfTurn version) = version
+carried_by other = 0
+
 -- the result is what is wanted, unless there was no memory
 abbrev pub Gives : {X : Type 0} → Result X Fault → Result X Fault → Type 0
 Gives (Ok x) want = want ≡ Ok x

@@ -2,14 +2,15 @@
 use Rattle.std.specs.Prelude.{ℕ, ◌+◌, List, length, sum_by}
 use Rattle.sb_types.specs.declared.entry.Slot.{Slot}
 use Rattle.sb_types.specs.declared.entry.Slot.TheVariants.{Set, Removed}
-use Rattle.sb_types.specs.Value.{Value, Addr, Weight, Flag}
+use Rattle.sb_types.specs.Value.{Value, Addr, Weight, Flag, Text}
 use Rattle.sb_types.specs.Records.{Entry, Block}
 
--- an address has a length byte before its text
+-- an address has a length byte before its text, and a text has two
 abbrev pub value_length : Value → ℕ
 value_length (Addr text) = 1 + length text
 value_length (Weight weight) = 8
 value_length (Flag flag) = 1
+value_length (Text text) = 2 + length text
 
 abbrev pub slot_length : Slot → ℕ
 slot_length (Set value) = value_length value

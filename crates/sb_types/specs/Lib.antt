@@ -1,4 +1,5 @@
 pub mod Text
+pub mod Spelling
 pub mod Value
 pub mod Content
 pub mod Records

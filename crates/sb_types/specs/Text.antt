@@ -1,7 +1,8 @@
--- Which bytes are a name, a key, a prefix or an address.
+-- Which bytes are a name, a key, a prefix, an address or a text.
 use Rattle.std.specs.Prelude.{ℕ, Bool, ◌&&◌, ◌||◌, ◌==◌, nat_le, List, length}
 use Rattle.std.specs.List.{list_all}
-use Rattle.sb_types.specs.declared.limits.TheConstants.{NAME_MOST, KEY_MOST, ADDR_MOST}
+use Rattle.std.specs.Str.{is_utf8}
+use Rattle.sb_types.specs.declared.limits.TheConstants.{NAME_MOST, KEY_MOST, ADDR_MOST, TEXT_MOST}
 
 abbrev pub is_between : ℕ → ℕ → ℕ → Bool
 is_between least most n = nat_le least n && nat_le n most
@@ -33,3 +34,7 @@ is_prefix text = nat_le (length text) KEY_MOST && list_all is_key_byte text
 
 abbrev pub is_addr : List ℕ → Bool
 is_addr text = is_between 1 ADDR_MOST (length text) && list_all is_addr_byte text
+
+-- UTF-8
+abbrev pub is_text : List ℕ → Bool
+is_text text = is_between 1 TEXT_MOST (length text) && is_utf8 text

@@ -48,7 +48,7 @@ impl Model for Entry {
 }
 
 impl Slot {
-    /// An equal slot. `NoMemory`, of an address alone.
+    /// An equal slot. `NoMemory`, of an address or a text alone.
     pub fn copy(&self, alloc: Global) -> Result<Slot, Fault>
         ensures copied { Gives result (Ok self.now) }
         ensures memory { IfErr result (λ _. slot_holds_text self.now ≡ true) }
@@ -59,7 +59,7 @@ impl Slot {
         }
     }
 
-    /// How many bytes it takes in a message, its tag not counted: 0 for a removal, else 1 to 129.
+    /// How many bytes it takes in a message, its tag not counted: 0 for a removal, else 1 to 514.
     pub fn encoded_length(&self) -> u64
         ensures length { result ≡ slot_length self.now }
         ensures slot { is_slot self.now ≡ true }
@@ -108,7 +108,7 @@ impl Entry {
         &self.slot
     }
 
-    /// An equal entry. `NoMemory`, of an address alone.
+    /// An equal entry. `NoMemory`, of an address or a text alone.
     pub fn copy(&self, alloc: Global) -> Result<Entry, Fault>
         ensures copied { Gives result (Ok self.now) }
         ensures memory { IfErr result (λ _. slot_holds_text self.now.slot ≡ true) }
@@ -120,7 +120,7 @@ impl Entry {
         })
     }
 
-    /// How many bytes it takes in a message: 11 to 203.
+    /// How many bytes it takes in a message: 11 to 588.
     pub fn encoded_length(&self) -> u64
         ensures length { result ≡ entry_length self.now }
         ensures entry { is_entry self.now ≡ true }

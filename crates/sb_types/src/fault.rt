@@ -1,8 +1,10 @@
 //! Faults: why a call was refused.
 
-ghost use Rattle.std.specs.Prelude.{◌≡◌};
-ghost use Rattle.sb_types.specs.Faults.{number_of};
+ghost use Rattle.std.specs.Prelude.{◌≡◌, false, IfSome, IfNone};
+ghost use Rattle.sb_types.specs.Faults.{number_of, carried_by};
+ghost use Rattle.sb_types.specs.Text.{is_between};
 
+use crate::limits::FAULT_NUMBER_MOST;
 use std::alloc::{AllocError, AllocFailed};
 use thiserror::Error;
 
@@ -15,7 +17,7 @@ pub enum Fault {
     BadName,
     #[error("a key is 1 to 64 of the bytes a-z, 0-9, '.', '_', '/' and -; a prefix may be empty")]
     BadKey,
-    #[error("a value is addr with 1 to 128 printing bytes, weight with a number below 2^63, or flag with true or false")]
+    #[error("a value is addr with 1 to 128 printing bytes, weight with a number below 2^63, flag with true or false, or text with 1 to 512 bytes of UTF-8, whose control bytes and backslashes are a backslash and two digits, as \\0a")]
     BadValue,
     #[error("a setting is outside its limits")]
     BadSetting,
@@ -111,6 +113,47 @@ impl Fault {
             Fault::FloorTooHigh => 30,
             Fault::OutOfTurn(_) => 31,
         }
+    }
+
+    /// The fault of a number, 1 to 31, and none of another one. What else the fault carries is 0: a number does not tell it.
+    pub fn of_number(number: u8) -> Option<Fault>
+        ensures some { IfSome result (λ fault. (number_of fault ≡ number) × (carried_by fault ≡ 0)) }
+        ensures none { IfNone result (is_between 1 FAULT_NUMBER_MOST number ≡ false) }
+    {
+        Some(match number {
+            1 => Fault::NoMemory,
+            2 => Fault::BadName,
+            3 => Fault::BadKey,
+            4 => Fault::BadValue,
+            5 => Fault::BadSetting,
+            6 => Fault::TableFull,
+            7 => Fault::OwnersFull,
+            8 => Fault::VersionsSpent,
+            9 => Fault::NothingThere,
+            10 => Fault::BadMark,
+            11 => Fault::BadVersion,
+            12 => Fault::BadLength,
+            13 => Fault::UnknownKind(0),
+            14 => Fault::Malformed(0),
+            15 => Fault::Closed,
+            16 => Fault::ReadFailed,
+            17 => Fault::WriteFailed(0),
+            18 => Fault::StoreFailed,
+            19 => Fault::LogDamaged,
+            20 => Fault::WrongOwner,
+            21 => Fault::OwnerConflict(0),
+            22 => Fault::NoHello,
+            23 => Fault::WrongCluster,
+            24 => Fault::SameName,
+            25 => Fault::SecondHello,
+            26 => Fault::NoWatch,
+            27 => Fault::WatchesFull,
+            28 => Fault::Truncated,
+            29 => Fault::TurnsSpent,
+            30 => Fault::FloorTooHigh,
+            31 => Fault::OutOfTurn(0),
+            _ => return None,
+        })
     }
 }
 

@@ -1,13 +1,13 @@
 //! The numbers of the format: what begins a frame, the kinds of messages, the tags of slots, the
 //! reasons of a Bye, and how many bytes the parts of a message take. Each stands here alone.
 
-use crate::limits::{ADDR_MOST, KEY_MOST, NAME_MOST};
+use crate::limits::{KEY_MOST, NAME_MOST, TEXT_MOST};
 
 /// The first byte of a frame.
 pub const FRAME_MARK: u8 = 0xa7;
 
 /// The second byte of a frame, the version of the format.
-pub const FRAME_VERSION: u8 = 1;
+pub const FRAME_VERSION: u8 = 2;
 
 /// How many bytes of a frame stand before its payload.
 pub const HEADER_LENGTH: u64 = 6;
@@ -51,6 +51,9 @@ pub const TAG_WEIGHT: u8 = 2;
 /// The tag of a flag.
 pub const TAG_FLAG: u8 = 3;
 
+/// The tag of a text.
+pub const TAG_TEXT: u8 = 4;
+
 /// The reason of a Bye when the rounds are done.
 pub const REASON_ROUNDS_DONE: u8 = 1;
 
@@ -58,10 +61,10 @@ pub const REASON_ROUNDS_DONE: u8 = 1;
 pub const REASON_MOST: u8 = 5;
 
 /// How many bytes each of these takes: a kind, a tag, a flag, a reason, the number of a fault, the length of a
-/// text.
+/// name, a key or an address.
 pub const BYTE_LENGTH: u64 = 1;
 
-/// How many bytes a count of blocks, entries, pairs or rows takes.
+/// How many bytes a count of blocks, entries, pairs or rows takes, and the length of a text.
 pub const COUNT_LENGTH: u64 = 2;
 
 /// How many bytes a version takes, and a weight.
@@ -73,8 +76,8 @@ pub const NAME_LENGTH_MOST: u64 = BYTE_LENGTH + NAME_MOST as u64;
 /// The most bytes that a key takes, with its length.
 pub const KEY_LENGTH_MOST: u64 = BYTE_LENGTH + KEY_MOST as u64;
 
-/// The most bytes that a value takes: an address with its length.
-pub const VALUE_LENGTH_MOST: u64 = BYTE_LENGTH + ADDR_MOST as u64;
+/// The most bytes that a value takes: a text with its length.
+pub const VALUE_LENGTH_MOST: u64 = COUNT_LENGTH + TEXT_MOST as u64;
 
 /// The most bytes that an entry takes: a key, a version, a tag and a value.
 pub const ENTRY_LENGTH_MOST: u64 = KEY_LENGTH_MOST

@@ -1,17 +1,19 @@
 //! What follows from the definitions alone. The functions do nothing: each clause is a law.
 
 ghost use Rattle.std.specs.Prelude.{◌≡◌, ℕ, ◌∷◌, ◌++◌, List, true};
+ghost use Rattle.sb_types.specs.Spelling.{printed_text, is_one_line};
 ghost use Rattle.sb_types.specs.Value as values;
 
 use crate::format::{
     BLOCK_HEAD_MOST, BYTE_LENGTH, COUNT_LENGTH, ENTRY_LENGTH_MOST, FRAME_MARK, FRAME_VERSION,
     HEADER_LENGTH, KEY_LENGTH_MOST, KIND_ASK, KIND_BYE, KIND_DELTA, KIND_DIGEST, KIND_DONE,
     KIND_HELLO, KIND_PUT, KIND_REFUSED, KIND_ROWS, NAME_LENGTH_MOST, NUMBER_LENGTH, REASON_MOST,
-    REASON_ROUNDS_DONE, TAG_ADDR, TAG_FLAG, TAG_REMOVED, TAG_WEIGHT, VALUE_LENGTH_MOST,
+    REASON_ROUNDS_DONE, TAG_ADDR, TAG_FLAG, TAG_REMOVED, TAG_TEXT, TAG_WEIGHT, VALUE_LENGTH_MOST,
 };
 use crate::limits::{
     ADDR_MOST, BUDGET_LEAST, BUDGET_MOST, ENTRIES_MOST, FAULT_NUMBER_MOST, KEY_MOST, KEYS_MOST,
-    NAME_MOST, OWNERS_MOST, PAYLOAD_MOST, SEATS_MOST, VERSION_MOST, WEIGHT_MOST, WORKERS_MOST,
+    NAME_MOST, OWNERS_MOST, PAYLOAD_MOST, SEATS_MOST, TEXT_MOST, VERSION_MOST, WEIGHT_MOST,
+    WORKERS_MOST,
 };
 
 /// Each limit of the directory, as a number.
@@ -19,6 +21,7 @@ pub fn limits_are_these_numbers()
     ensures name_most { NAME_MOST ≡ 32 }
     ensures key_most { KEY_MOST ≡ 64 }
     ensures addr_most { ADDR_MOST ≡ 128 }
+    ensures text_most { TEXT_MOST ≡ 512 }
     ensures weight_most { WEIGHT_MOST ≡ 9223372036854775807 }
     ensures owners_most { OWNERS_MOST ≡ 1024 }
     ensures keys_most { KEYS_MOST ≡ 4096 }
@@ -26,7 +29,7 @@ pub fn limits_are_these_numbers()
     ensures version_most { VERSION_MOST ≡ 1099511627775 }
     ensures seats_most { SEATS_MOST ≡ 64 }
     ensures workers_most { WORKERS_MOST ≡ 62 }
-    ensures budget_least { BUDGET_LEAST ≡ 256 }
+    ensures budget_least { BUDGET_LEAST ≡ 1024 }
     ensures payload_most { PAYLOAD_MOST ≡ 65530 }
     ensures budget_most { BUDGET_MOST ≡ 65536 }
     ensures fault_number_most { FAULT_NUMBER_MOST ≡ 31 }
@@ -35,7 +38,7 @@ pub fn limits_are_these_numbers()
 /// Each mark, kind, tag and reason of the format, as a number.
 pub fn marks_are_these_numbers()
     ensures frame_mark { FRAME_MARK ≡ 167 }
-    ensures frame_version { FRAME_VERSION ≡ 1 }
+    ensures frame_version { FRAME_VERSION ≡ 2 }
     ensures kind_hello { KIND_HELLO ≡ 1 }
     ensures kind_digest { KIND_DIGEST ≡ 2 }
     ensures kind_delta { KIND_DELTA ≡ 3 }
@@ -49,6 +52,7 @@ pub fn marks_are_these_numbers()
     ensures tag_addr { TAG_ADDR ≡ 1 }
     ensures tag_weight { TAG_WEIGHT ≡ 2 }
     ensures tag_flag { TAG_FLAG ≡ 3 }
+    ensures tag_text { TAG_TEXT ≡ 4 }
     ensures reason_rounds_done { REASON_ROUNDS_DONE ≡ 1 }
     ensures reason_most { REASON_MOST ≡ 5 }
 {}
@@ -61,14 +65,21 @@ pub fn lengths_are_these_numbers()
     ensures number_length { NUMBER_LENGTH ≡ 8 }
     ensures name_length_most { NAME_LENGTH_MOST ≡ 33 }
     ensures key_length_most { KEY_LENGTH_MOST ≡ 65 }
-    ensures value_length_most { VALUE_LENGTH_MOST ≡ 129 }
-    ensures entry_length_most { ENTRY_LENGTH_MOST ≡ 203 }
+    ensures value_length_most { VALUE_LENGTH_MOST ≡ 514 }
+    ensures entry_length_most { ENTRY_LENGTH_MOST ≡ 588 }
     ensures block_head_most { BLOCK_HEAD_MOST ≡ 43 }
 {}
 
 /// No two values have the same words, and a printed value, cut at its first space, is its words. So what
-/// prints a value is read back as that value alone.
+/// prints a value is read back as that value alone. It has no control byte, so a line with it stays a line.
 pub fn words_tell_values_apart()
     ensures apart { (a b : values.Value) → values.is_value a ≡ true → values.is_value b ≡ true → values.words_of a ≡ values.words_of b → a ≡ b }
     ensures cut { (a : values.Value) (kind word : List ℕ) → values.is_word kind ≡ true → values.line_of a ≡ kind ++ 32 ∷ word → values.words_of a ≡ (kind, word) }
+    ensures line { (a : values.Value) → values.is_value a ≡ true → is_one_line (values.line_of a) ≡ true }
+{}
+
+/// No two texts have the same spelling, of whatever length and bytes they are, and no spelling has a control byte.
+pub fn spellings_tell_texts_apart()
+    ensures apart { (a b : List ℕ) → printed_text a ≡ printed_text b → a ≡ b }
+    ensures line { (text : List ℕ) → is_one_line (printed_text text) ≡ true }
 {}

@@ -7,12 +7,14 @@ mod block;
 mod delta;
 mod distinct;
 mod entry;
+mod escapes;
 mod fault;
 mod format;
 mod inline;
 mod laws;
 mod limits;
 mod settings;
+mod spelled;
 mod text;
 mod value;
 
@@ -24,16 +26,18 @@ pub use format::{
     BLOCK_HEAD_MOST, BYTE_LENGTH, COUNT_LENGTH, ENTRY_LENGTH_MOST, FRAME_MARK, FRAME_VERSION,
     HEADER_LENGTH, KEY_LENGTH_MOST, KIND_ASK, KIND_BYE, KIND_DELTA, KIND_DIGEST, KIND_DONE,
     KIND_HELLO, KIND_PUT, KIND_REFUSED, KIND_ROWS, NAME_LENGTH_MOST, NUMBER_LENGTH, REASON_MOST,
-    REASON_ROUNDS_DONE, TAG_ADDR, TAG_FLAG, TAG_REMOVED, TAG_WEIGHT, VALUE_LENGTH_MOST,
+    REASON_ROUNDS_DONE, TAG_ADDR, TAG_FLAG, TAG_REMOVED, TAG_TEXT, TAG_WEIGHT, VALUE_LENGTH_MOST,
 };
 pub use laws::{
     lengths_are_these_numbers, limits_are_these_numbers, marks_are_these_numbers,
-    words_tell_values_apart,
+    spellings_tell_texts_apart, words_tell_values_apart,
 };
 pub use limits::{
     ADDR_MOST, BUDGET_LEAST, BUDGET_MOST, ENTRIES_MOST, FAULT_NUMBER_MOST, KEY_MOST, KEYS_MOST,
-    NAME_MOST, OWNERS_MOST, PAYLOAD_MOST, SEATS_MOST, VERSION_MOST, WEIGHT_MOST, WORKERS_MOST,
+    NAME_MOST, OWNERS_MOST, PAYLOAD_MOST, SEATS_MOST, TEXT_MOST, VERSION_MOST, WEIGHT_MOST,
+    WORKERS_MOST,
 };
 pub use settings::{Order, RawSettings, Settings};
+pub use spelled::Spelled;
 pub use text::{Key, Name, Prefix};
 pub use value::{Value, ValueRef};

@@ -11,6 +11,9 @@ pub const KEY_MOST: usize = 64;
 /// The most bytes of an address.
 pub const ADDR_MOST: usize = 128;
 
+/// The most bytes of a text.
+pub const TEXT_MOST: usize = 512;
+
 /// The greatest weight, 2^63 - 1.
 pub const WEIGHT_MOST: u64 = 9_223_372_036_854_775_807;
 
@@ -33,7 +36,7 @@ pub const SEATS_MOST: u64 = 64;
 pub const WORKERS_MOST: u64 = 62;
 
 /// The least budget of a frame in bytes: the longest delta of one entry fits it.
-pub const BUDGET_LEAST: u64 = 256;
+pub const BUDGET_LEAST: u64 = 1_024;
 
 /// The most bytes of a payload.
 pub const PAYLOAD_MOST: u64 = 65_530;

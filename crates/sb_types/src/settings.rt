@@ -24,7 +24,7 @@ pub enum Order {
 pub struct RawSettings<'a> {
     /// The cluster's name.
     pub cluster: &'a [u8],
-    /// The greatest length of one frame in bytes, 256 to 65,536.
+    /// The greatest length of one frame in bytes, 1,024 to 65,536.
     pub budget: u64,
     /// In which order a delta lists what is available.
     pub order: Order,
@@ -101,7 +101,7 @@ impl Settings {
         self.cluster
     }
 
-    /// The greatest length of one frame in bytes, 256 to 65,536.
+    /// The greatest length of one frame in bytes, 1,024 to 65,536.
     pub fn budget(&self) -> u64
         ensures budget { result ≡ self.now.budget }
         ensures settings { are_settings self.now ≡ true }

@@ -1,16 +1,20 @@
 //! Values: their kinds, their limits and their words.
 
-ghost use Rattle.std.specs.Prelude.{◌≡◌, ◌≢◌, ℕ, ◌≤◌, ◌^◌, nat_lt, Bool, codes, decimal, true, false, if◌then◌else◌, Ok, Err, IfOk, IfErr};
+ghost use Rattle.std.specs.Prelude.{◌≡◌, ◌≢◌, ◌⊎◌, ℕ, ◌≤◌, ◌^◌, nat_lt, List, Bool, codes, decimal, true, false, if◌then◌else◌, Ok, Err, IfOk, IfErr};
 ghost use Rattle.std.specs.Option.{option_copied};
 ghost use Rattle.std.specs.List.{list_all};
-ghost use Rattle.sb_types.specs.Text.{is_addr, is_addr_byte};
+ghost use Rattle.std.specs.Str.{IsUtf8, is_utf8};
+ghost use Rattle.sb_types.specs.Text.{is_addr, is_addr_byte, is_text};
+ghost use Rattle.sb_types.specs.Spelling.{printed_text};
 ghost use Rattle.sb_types.specs.Value as values;
 ghost use Rattle.sb_types.specs.Lengths.{value_length};
 ghost use Rattle.sb_types.specs.Faults.{Gives};
 
+use crate::escapes::unescape;
 use crate::fault::Fault;
-use crate::format::{BYTE_LENGTH, NUMBER_LENGTH, VALUE_LENGTH_MOST};
-use crate::limits::{ADDR_MOST, WEIGHT_MOST};
+use crate::format::{BYTE_LENGTH, COUNT_LENGTH, NUMBER_LENGTH, VALUE_LENGTH_MOST};
+use crate::limits::{ADDR_MOST, TEXT_MOST, WEIGHT_MOST};
+use crate::spelled::Spelled;
 use std::alloc::Global;
 use std::fmt;
 use std::marker::Model;
@@ -22,6 +26,8 @@ pub enum ValueRef<'a> {
     Addr(&'a [u8]),
     Weight(u64),
     Flag(bool),
+    /// The bytes of a text, which are UTF-8.
+    Text(&'a [u8]),
 }
 
 #[derive(Debug, Drop, PartialEq, Eq)]
@@ -29,9 +35,11 @@ enum Content {
     Addr(Vec<u8>),
     Weight(u64),
     Flag(bool),
+    Text(Vec<u8>),
 }
 
-/// What an owner keeps under a key: an address of 1 to 128 printing bytes, a weight below 2^63, or a flag.
+/// What an owner keeps under a key: an address of 1 to 128 printing bytes, a weight below 2^63, a flag, or a text of 1 to
+/// 512 bytes of UTF-8.
 ///
 /// ```
 /// let value = Value::from_words(alloc, b"weight", b"7")?;
@@ -68,6 +76,12 @@ fn has_addr_bytes(text: &[u8]) -> bool
     ensures { result ≡ list_all is_addr_byte text.now }
 {
     text.iter().all(|byte| test_addr_byte(*byte))
+}
+
+fn test_utf8(text: &[u8]) -> bool
+    ensures { result ≡ is_utf8 text.now }
+{
+    str::from_utf8(text).is_ok()
 }
 
 impl Value {
@@ -108,20 +122,37 @@ impl Value {
         }
     }
 
-    /// Reads the two words of a value in a script: `addr TEXT`, `weight N` or `flag true|false`, where N
-    /// is decimal, with no sign and no leading zero. `BadValue` where they are another kind or content;
-    /// then, of an address alone, `NoMemory`.
+    /// A text. `BadValue` where it is not UTF-8 of 1 to 512 bytes; then `NoMemory`.
+    pub fn text(alloc: Global, text: &[u8]) -> Result<Value, Fault>
+        ensures exact { Gives result (if is_text text.now then Ok (values.Text text.now) else Err Fault.BadValue) }
+        // What is no text is told without memory.
+        ensures refused { is_text text.now ≡ false → result ≡ Err Fault.BadValue }
+    {
+        if text.is_empty() || text.len() > TEXT_MOST || !test_utf8(text) {
+            return Err(Fault::BadValue);
+        }
+        Ok(Value {
+            content: Content::Text(Vec::from_slice(alloc, text)?),
+        })
+    }
+
+    /// Reads the two words of a value in a script: `addr TEXT`, `weight N`, `flag true|false` or `text SPELLING`, where N
+    /// is decimal, with no sign and no leading zero. The spelling of a text is the text, but that each of the bytes 00 to
+    /// 1f, 7f and the backslash is a backslash and two digits of 0-9 and a-f; it may have spaces. `BadValue` where they
+    /// are another kind or content; then, of an address or a text alone, `NoMemory`.
     pub fn from_words(alloc: Global, kind: &[u8], word: &[u8]) -> Result<Value, Fault>
         ensures found { IfOk result (λ value. (values.is_value value ≡ true) × (values.words_of value ≡ (kind.now, word.now))) }
         ensures only { (value : values.Value) → values.is_value value ≡ true → values.words_of value ≡ (kind.now, word.now) → Gives result (Ok value) }
         ensures fault { IfErr result (λ fault. fault ≢ Fault.NoMemory → fault ≡ Fault.BadValue) }
-        // Memory is asked for only to keep an address.
-        ensures memory { IfErr result (λ fault. fault ≡ Fault.NoMemory → (kind.now ≡ codes "addr") × (is_addr word.now ≡ true)) }
+        // Memory is asked for only to keep an address or a text.
+        ensures memory { IfErr result (λ fault. fault ≡ Fault.NoMemory
+            → ((kind.now ≡ codes "addr") × (is_addr word.now ≡ true)) ⊎ ((kind.now ≡ codes "text") × values.IsSpelled word.now)) }
     {
         match kind {
             b"addr" => Value::addr(alloc, word),
             b"weight" => read_weight(word),
             b"flag" => read_flag(word),
+            b"text" => read_text(alloc, word),
             _ => Err(Fault::BadValue),
         }
     }
@@ -135,6 +166,7 @@ impl Value {
             Content::Addr(text) => ValueRef::Addr(text),
             Content::Weight(weight) => ValueRef::Weight(*weight),
             Content::Flag(flag) => ValueRef::Flag(*flag),
+            Content::Text(text) => ValueRef::Text(text),
         }
     }
 
@@ -171,10 +203,21 @@ impl Value {
         }
     }
 
-    /// An equal value. `NoMemory`, of an address alone.
+    /// The bytes of the text, where it is one. They are UTF-8.
+    pub fn as_text(&self) -> Option<&[u8]>
+        ensures text { option_copied result ≡ values.text_of self.now }
+        ensures value { values.is_value self.now ≡ true }
+    {
+        match &self.content {
+            Content::Text(text) => Some(text.as_slice()),
+            _ => None,
+        }
+    }
+
+    /// An equal value. `NoMemory`, of an address or a text alone.
     pub fn copy(&self, alloc: Global) -> Result<Value, Fault>
         ensures copied { Gives result (Ok self.now) }
-        // Memory is asked for only to copy an address.
+        // Memory is asked for only to copy an address or a text.
         ensures memory { IfErr result (λ _. values.holds_text self.now ≡ true) }
     {
         Ok(Value {
@@ -182,11 +225,12 @@ impl Value {
                 Content::Addr(text) => Content::Addr(Vec::from_slice(alloc, text)?),
                 Content::Weight(weight) => Content::Weight(*weight),
                 Content::Flag(flag) => Content::Flag(*flag),
+                Content::Text(text) => Content::Text(Vec::from_slice(alloc, text)?),
             },
         })
     }
 
-    /// How many bytes it takes in a message: 1 to 129.
+    /// How many bytes it takes in a message: 1 to 514.
     pub fn encoded_length(&self) -> u64
         ensures length { result ≡ value_length self.now }
         ensures value { values.is_value self.now ≡ true }
@@ -196,6 +240,7 @@ impl Value {
             Content::Addr(text) => BYTE_LENGTH + text.len() as u64,
             Content::Weight(_) => NUMBER_LENGTH,
             Content::Flag(_) => BYTE_LENGTH,
+            Content::Text(text) => COUNT_LENGTH + text.len() as u64,
         }
     }
 }
@@ -206,6 +251,7 @@ impl fmt::Display for Value {
 
     ghost output = { λ value. Some (values.line_of value) };
 
+    #[tactic(auto, using(crate::proofs::Utf8::text_utf8))]
     fn fmt<W: fmt::Write>(&self, f: &mut fmt::Formatter<W>) -> fmt::Result {
         match self.view() {
             ValueRef::Addr(text) => {
@@ -214,6 +260,10 @@ impl fmt::Display for Value {
             }
             ValueRef::Weight(weight) => write!(f, "weight {weight}"),
             ValueRef::Flag(flag) => write!(f, "flag {flag}"),
+            ValueRef::Text(text) => {
+                f.write_str("text ")?;
+                f.write(Spelled(utf8_text(text)))
+            }
         }
     }
 }
@@ -224,6 +274,29 @@ fn addr_text(text: &[u8]) -> &str
     ensures { result.now ≡ text.now }
 {
     str::from_utf8(text).unwrap_or("")
+}
+
+/// The text of a text, which is UTF-8.
+fn utf8_text(text: &[u8]) -> &str
+    requires { IsUtf8 text.now }
+    ensures { result.now ≡ text.now }
+{
+    str::from_utf8(text).unwrap_or("")
+}
+
+/// The text that a word spells. `BadValue` where it spells none; then `NoMemory`.
+#[tactic(auto, using(crate::proofs::TextReading::read_found, crate::proofs::TextReading::read_only, crate::proofs::TextReading::read_fault, crate::proofs::TextReading::read_memory))]
+fn read_text(alloc: Global, word: &[u8]) -> Result<Value, Fault>
+    ensures found { IfOk result (λ value. (values.is_value value ≡ true) × (values.words_of value ≡ (codes "text", word.now))) }
+    ensures only { (text : List ℕ) → is_text text ≡ true → printed_text text ≡ word.now → Gives result (Ok (values.Text text)) }
+    ensures fault { IfErr result (λ fault. fault ≢ Fault.NoMemory → fault ≡ Fault.BadValue) }
+    ensures memory { IfErr result (λ fault. fault ≡ Fault.NoMemory → values.IsSpelled word.now) }
+{
+    let mut room = [0; TEXT_MOST];
+    match unescape(word, &mut room) {
+        Some(count) => Value::text(alloc, &room[..count]),
+        None => Err(Fault::BadValue),
+    }
 }
 
 fn read_flag(word: &[u8]) -> Result<Value, Fault>

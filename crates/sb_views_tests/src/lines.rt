@@ -76,6 +76,14 @@ fn a_log_is_printed_in_ascending_key(rt: HostRuntime) {
     );
 }
 
+/// A text is printed as it is spelled, with its spaces.
+#[test]
+fn a_text_is_printed_as_it_is_spelled(rt: HostRuntime) {
+    let writes: [Write; 1] = [(b"t", Some((b"text", b" two\\0awords ")))];
+    let wanted = b"a t 1 text  two\\0awords \nlast 1\n";
+    is_printed(&rt, rt.alloc(), &writes, wanted);
+}
+
 /// The printing of the log of five fails at a writer that closes behind so many bytes.
 fn fails_behind(rt: &impl Abort, alloc: Global, left: usize) {
     let mut log = log_of(rt, alloc, &five());

@@ -24,6 +24,10 @@ const B_A: Told = (b"b", b"a", 3, (b"addr", b"h:80"));
 
 const B_A_OTHER: Told = (b"b", b"a", 3, (b"addr", b"h:81"));
 
+const A_T: Told = (b"a", b"t", 4, (b"text", b"two words"));
+
+const A_T_OTHER: Told = (b"a", b"t", 4, (b"text", b"two words "));
+
 // Listings that are compared with others.
 fn a_to_b() -> [Told; 3] {
     [A_V, A_W, B_A]
@@ -79,6 +83,11 @@ fn address_changed(rt: &impl Abort, alloc: Global) {
     line_is(rt, alloc, B_A, B_A_OTHER, b"set b a 3 addr h:81\n");
 }
 
+fn text_changed(rt: &impl Abort, alloc: Global) {
+    line_is(rt, alloc, A_T, A_T, b"");
+    line_is(rt, alloc, A_T, A_T_OTHER, b"set a t 4 text two words \n");
+}
+
 /// All rows came, and all went.
 fn all_changed(rt: &impl Abort, alloc: Global) {
     lines_are(
@@ -118,14 +127,17 @@ fn what_changed_is_printed(rt: HostRuntime) {
     weight_changed(&rt, alloc);
     flag_changed(&rt, alloc);
     address_changed(&rt, alloc);
+    text_changed(&rt, alloc);
     each_in_turn(&rt, alloc);
 }
 
-// An address with a quote and a backslash, the greatest weight, and a flag.
-const KINDS: [Told; 3] = [
+// An address with a quote and a backslash, the greatest weight, a flag, and a text with a quote, three bytes that are escaped in
+// lines, a letter outside ASCII and a space at its end.
+const KINDS: [Told; 4] = [
     (b"a", b"v", 1, (b"addr", b"\"\\/~h")),
     (b"a", b"w-._/0", 2, (b"weight", b"9223372036854775807")),
     (b"b-1", b"up", 3, (b"flag", b"true")),
+    (b"c", b"t", 4, (b"text", b"\"\\5c\\0a\\7f\xc3\xa9 ")),
 ];
 
 /// A page of these.
@@ -138,6 +150,7 @@ const AS_JSON: &[u8] =
     b"{\"key\":\"v\",\"kind\":\"addr\",\"owner\":\"a\",\"value\":\"\\\"\\\\/~h\",\"version\":1}
 {\"key\":\"w-._/0\",\"kind\":\"weight\",\"owner\":\"a\",\"value\":9223372036854775807,\"version\":2}
 {\"key\":\"up\",\"kind\":\"flag\",\"owner\":\"b-1\",\"value\":true,\"version\":3}
+{\"key\":\"t\",\"kind\":\"text\",\"owner\":\"c\",\"value\":\"\\\"\\\\\\n\x7f\xc3\xa9 \",\"version\":4}
 ";
 
 /// A page as JSON is this.

@@ -24,7 +24,7 @@ const LAST_OF_A: Place = (b"a", b"w");
 // An owner, a key and a version.
 type Told = (&'static [u8], &'static [u8], u64);
 
-// The live rows, which take 118, 25, 114, 18 and 114 bytes; a removed x as well.
+// The live rows, which take 519, 25, 515, 18 and 515 bytes; a removed x as well.
 const ROWS: [Told; 5] = [
     (b"a", b"net/a", 1),
     (b"a", b"net/b", 2),
@@ -33,9 +33,9 @@ const ROWS: [Told; 5] = [
     (b"b", b"y", 2),
 ];
 
-/// A write of a long address.
-fn long_address(rt: &impl Abort, alloc: Global, text: &[u8], version: u64) -> Entry {
-    let value = got(rt, Value::addr(alloc, &[b'p'; 100]));
+/// A write of a long text.
+fn long_text(rt: &impl Abort, alloc: Global, text: &[u8], version: u64) -> Entry {
+    let value = got(rt, Value::text(alloc, &[b'p'; 500]));
     entry(rt, text, version, Some(value))
 }
 
@@ -46,18 +46,18 @@ fn flag(rt: &impl Abort, text: &[u8], version: u64) -> Entry {
 fn block_of_b(rt: &impl Abort, alloc: Global) -> Block {
     let mut entries = Vec::new(alloc);
     got(rt, entries.push(flag(rt, b"net/a", 1)));
-    got(rt, entries.push(long_address(rt, alloc, b"y", 2)));
+    got(rt, entries.push(long_text(rt, alloc, b"y", 2)));
     got(rt, Block::new(name(rt, b"b"), 0, entries))
 }
 
 /// The four writes of a, the last a removal.
 fn write_own(rt: &impl Abort, alloc: Global, holdings: &mut Holdings) {
-    got(rt, holdings.push_own(long_address(rt, alloc, b"net/a", 1)));
+    got(rt, holdings.push_own(long_text(rt, alloc, b"net/a", 1)));
     got(
         rt,
         holdings.push_own(entry(rt, b"net/b", 2, Some(weight(rt, 5)))),
     );
-    got(rt, holdings.push_own(long_address(rt, alloc, b"w", 3)));
+    got(rt, holdings.push_own(long_text(rt, alloc, b"w", 3)));
     got(rt, holdings.push_own(entry(rt, b"x", 4, None)));
 }
 
@@ -155,16 +155,16 @@ fn first_is(
     page_is(rt, alloc, snapshot, &ask, budget, (rows, more));
 }
 
-/// All five make a frame of 399 bytes, four one of 285, three one of 267 and two one of 153.
+/// All five make a frame of 1,602 bytes, four one of 1,087, three one of 1,069 and two one of 554.
 fn first_pages(rt: &impl Abort, alloc: Global, snapshot: &Snapshot<'_>) {
     first_is(rt, alloc, snapshot, 65_536, &[0, 1, 2, 3, 4], false);
-    first_is(rt, alloc, snapshot, 399, &[0, 1, 2, 3, 4], false);
-    first_is(rt, alloc, snapshot, 398, &[0, 1, 2, 3], true);
-    first_is(rt, alloc, snapshot, 285, &[0, 1, 2, 3], true);
-    first_is(rt, alloc, snapshot, 284, &[0, 1, 2], true);
-    first_is(rt, alloc, snapshot, 267, &[0, 1, 2], true);
-    first_is(rt, alloc, snapshot, 266, &[0, 1], true);
-    first_is(rt, alloc, snapshot, 256, &[0, 1], true);
+    first_is(rt, alloc, snapshot, 1_602, &[0, 1, 2, 3, 4], false);
+    first_is(rt, alloc, snapshot, 1_601, &[0, 1, 2, 3], true);
+    first_is(rt, alloc, snapshot, 1_087, &[0, 1, 2, 3], true);
+    first_is(rt, alloc, snapshot, 1_086, &[0, 1, 2], true);
+    first_is(rt, alloc, snapshot, 1_069, &[0, 1, 2], true);
+    first_is(rt, alloc, snapshot, 1_068, &[0, 1], true);
+    first_is(rt, alloc, snapshot, 1_024, &[0, 1], true);
 }
 
 /// The page behind a place within a budget.
@@ -180,34 +180,34 @@ fn behind_is(
     page_is(rt, alloc, snapshot, &ask, budget, wanted);
 }
 
-/// In the middle of a. The last three rows make a frame of 256 bytes.
+/// In the middle of a. The last three rows make a frame of 1,058 bytes.
 fn pages_within_a(rt: &impl Abort, alloc: Global, snapshot: &Snapshot<'_>) {
-    behind_is(rt, alloc, snapshot, NET_A, 281, (&[1, 2, 3, 4], false));
-    behind_is(rt, alloc, snapshot, NET_A, 280, (&[1, 2, 3], true));
+    behind_is(rt, alloc, snapshot, NET_A, 1_083, (&[1, 2, 3, 4], false));
+    behind_is(rt, alloc, snapshot, NET_A, 1_082, (&[1, 2, 3], true));
     behind_is(
         rt,
         alloc,
         snapshot,
         (b"a", b"net/b"),
-        256,
+        1_058,
         (&[2, 3, 4], false),
     );
 }
 
 /// At the last key of a, its removed key, an owner that is not there, and the end.
 fn pages_behind_a(rt: &impl Abort, alloc: Global, snapshot: &Snapshot<'_>) {
-    behind_is(rt, alloc, snapshot, LAST_OF_A, 256, (&[3, 4], false));
-    behind_is(rt, alloc, snapshot, (b"a", b"x"), 256, (&[3, 4], false));
+    behind_is(rt, alloc, snapshot, LAST_OF_A, 1_024, (&[3, 4], false));
+    behind_is(rt, alloc, snapshot, (b"a", b"x"), 1_024, (&[3, 4], false));
     behind_is(
         rt,
         alloc,
         snapshot,
         (b"aa", b"net/a"),
-        256,
+        1_024,
         (&[3, 4], false),
     );
-    behind_is(rt, alloc, snapshot, (b"b", b"y"), 256, (&[], false));
-    behind_is(rt, alloc, snapshot, (b"c", b"a"), 256, (&[], false));
+    behind_is(rt, alloc, snapshot, (b"b", b"y"), 1_024, (&[], false));
+    behind_is(rt, alloc, snapshot, (b"c", b"a"), 1_024, (&[], false));
 }
 
 /// The last page under net/ behind a place.
@@ -219,7 +219,7 @@ fn under_net_is(
     rows: &'static [usize],
 ) {
     let ask = ask_of(rt, b"", b"net/", after);
-    page_is(rt, alloc, snapshot, &ask, 256, (rows, false));
+    page_is(rt, alloc, snapshot, &ask, 1_024, (rows, false));
 }
 
 /// Under net/, behind nothing, a key of it, a key before it and one behind it.
@@ -240,7 +240,7 @@ fn of_one_is(
     rows: &'static [usize],
 ) {
     let ask = ask_of(rt, owner, b"", after);
-    page_is(rt, alloc, snapshot, &ask, 400, (rows, false));
+    page_is(rt, alloc, snapshot, &ask, 1_024, (rows, false));
 }
 
 /// Of one owner, behind places of its own and of others.
@@ -261,10 +261,10 @@ pub(crate) fn rows_are_told(rt: &impl Abort, alloc: Global, snapshot: &Snapshot<
     pages_of_one(rt, alloc, snapshot);
 }
 
-/// A flag under each of 300 keys of three letters.
-fn holdings_of_300(rt: &impl Abort, alloc: Global) -> Holdings {
+/// A flag under each of 315 keys of three letters.
+fn holdings_of_315(rt: &impl Abort, alloc: Global) -> Holdings {
     let mut holdings = holdings_of_a(rt, alloc);
-    for number in 0..300u64 {
+    for number in 0..315u64 {
         let text = [b'k', b'a' + (number / 26) as u8, b'a' + (number % 26) as u8];
         got(rt, holdings.push_own(flag(rt, &text, number + 1)));
     }
@@ -273,7 +273,7 @@ fn holdings_of_300(rt: &impl Abort, alloc: Global) -> Holdings {
 
 #[test]
 fn pages_follow_one_another(rt: HostRuntime) {
-    let holdings = holdings_of_300(&rt, rt.alloc());
+    let holdings = holdings_of_315(&rt, rt.alloc());
     read(&rt, rt.alloc(), &holdings, Look::Following);
 }
 
@@ -299,20 +299,23 @@ fn turn(
     snapshot: &Snapshot<'_>,
     ask: &mut Ask,
 ) -> (usize, bool, u64) {
-    let page = page_of(rt, alloc, snapshot, ask, 256);
+    let page = page_of(rt, alloc, snapshot, ask, 1_024);
     ask_behind(ask, page.rows());
     (page.rows().len(), page.more(), first_version(page.rows()))
 }
 
-/// At 16 bytes a row a frame of 256 has 15, and so 300 rows make 20 pages.
+/// At 16 bytes a row a frame of 1,024 has 63, and so 315 rows make five pages.
 pub(crate) fn pages_follow(rt: &impl Abort, alloc: Global, snapshot: &Snapshot<'_>) {
     let mut ask = ask_of(rt, b"", b"", NOWHERE);
-    for number in 1..21u64 {
+    for number in 1..6u64 {
         let told = turn(rt, alloc, snapshot, &mut ask);
-        same_at(rt, &number, &told, &(15, number < 20, number * 15 - 14));
+        same_at(rt, &number, &told, &(63, number < 5, number * 63 - 62));
     }
     same(rt, &turn(rt, alloc, snapshot, &mut ask), &(0, false, 0));
 }
+
+// A text, whose line is as it is spelled.
+const A_TEXT: making::Told = (b"a", b"t", 1, (b"text", b" two\\0awords "));
 
 // A weight, an address and a flag: lines of 19, 16 and 16 bytes.
 const THREE: [making::Told; 3] = [
@@ -324,6 +327,11 @@ const THREE: [making::Told; 3] = [
 /// A page of these.
 fn page_of_three(rt: &impl Abort, alloc: Global) -> Rows {
     got(rt, Rows::new(true, rows_of(rt, alloc, &THREE)))
+}
+
+/// A page of a text alone.
+fn page_of_a_text(rt: &impl Abort, alloc: Global) -> Rows {
+    got(rt, Rows::new(false, rows_of(rt, alloc, &[A_TEXT])))
 }
 
 /// These are the lines of a page.
@@ -346,6 +354,12 @@ fn a_page_is_printed(rt: HostRuntime) {
         alloc,
         &page_of_three(&rt, alloc),
         b"a net/a 1 weight 5\nb y 2 addr h:80\nb z 3 flag true\n",
+    );
+    is_printed(
+        &rt,
+        alloc,
+        &page_of_a_text(&rt, alloc),
+        b"a t 1 text  two\\0awords \n",
     );
     no_rows_are_printed(&rt, alloc);
 }

@@ -29,7 +29,7 @@ use Rattle.sb_world.specs.Hearing.{Listener, Heard, Hears, Tells}
 use Rattle.sb_world.specs.Turns.{Turn, rests, listens, with_core}
 
 -- the least budget that settings have
-pub least_budget : (s : Settings) → are_settings s ≡ true → 256 ≤ s.budget
+pub least_budget : (s : Settings) → are_settings s ≡ true → 1024 ≤ s.budget
 least_budget s is =
     let within = and_parts (is_name s.cluster) (is_between BUDGET_LEAST BUDGET_MOST s.budget) (and_parts _ _ (and_parts _ _ (and_parts _ _ is).0).0).0 in
     (between_parts BUDGET_LEAST BUDGET_MOST s.budget within.1).0
@@ -60,12 +60,12 @@ module _ (p : Place) (number : ℕ) (conns : List Connection) (sent : List (List
   in_use c found = ([], subst (λ o. Connects o p number conns sent (resting p (Ok answers.Nothing) []) conns) (sym found) (refl, refl), sym (append-nil sent))
 
   -- a Hello is within each budget
-  pub hello_within : is_message (hello_of (begun p)) ≡ true → 256 ≤ p.core.settings.budget → length (frame (hello_of (begun p))) ≤ p.core.settings.budget
+  pub hello_within : is_message (hello_of (begun p)) ≡ true → 1024 ≤ p.core.settings.budget → length (frame (hello_of (begun p))) ≤ p.core.settings.budget
   hello_within is least =
       let parts = and_parts (is_name p.core.settings.cluster) (is_name p.me) is in
       omega (arith, length-frame (hello_of (begun p)), hello-spelled (record { cluster = p.core.settings.cluster; node = p.me }), name-most p.core.settings.cluster parts.0, name-most p.me parts.1)
 
-  pub connected : connection_at conns number ≡ None → is_message (hello_of (begun p)) ≡ true → 256 ≤ p.core.settings.budget → (later : List (List ℕ)) (count : ℕ) (new : List Connection) →
+  pub connected : connection_at conns number ≡ None → is_message (hello_of (begun p)) ≡ true → 1024 ≤ p.core.settings.budget → (later : List (List ℕ)) (count : ℕ) (new : List Connection) →
       later ≡ sent ++ frame (hello_of (begun p)) ∷ [] → count ≡ length sent + 1 → new ≡ conns ++ new_connection p number ∷ [] →
       (frames : List (List ℕ)) × Connects (connection_at conns number) p number conns sent (resting p (Ok (answers.Sent count)) frames) new × (later ≡ sent ++ frames)
   connected none is least later count new is_later counted is_new = (

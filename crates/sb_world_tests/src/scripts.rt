@@ -8,14 +8,14 @@ use std::io;
 use std::io::{ErrorKind, Read, Write};
 use std::process::Abort;
 
-const EXAMPLE: &str = "world 256 breadth 100 a b
+const EXAMPLE: &str = "world 1024 breadth 100 a b
 put a w weight 5
 give a b 0
 read b a w
 ";
 
 const PRINTED: &str = "version 1
-a7010000002203000101610000000000000000000101770000000000000001020000000000000005
+a7020000002203000101610000000000000000000101770000000000000001020000000000000005
 taken 1
 a w 1 weight 5
 ";
@@ -23,14 +23,14 @@ a w 1 weight 5
 /// A writer that takes no memory, of so many bytes at most.
 #[derive(Drop)]
 struct Page {
-    bytes: [u8; 1024],
+    bytes: [u8; 2048],
     used: usize,
 }
 
 impl Page {
     fn new() -> Page {
         Page {
-            bytes: [0; 1024],
+            bytes: [0; 2048],
             used: 0,
         }
     }
@@ -161,16 +161,23 @@ impl Write for ClosingWriter {
 
 /// The frame of a delta of one weight, and that of an empty delta.
 const FRAME: &str =
-    "a7010000002203000101610000000000000000000101770000000000000001020000000000000005";
+    "a7020000002203000101610000000000000000000101770000000000000001020000000000000005";
 
-const EMPTY_FRAME: &str = "a70100000003030000";
+const EMPTY_FRAME: &str = "a70200000003030000";
 
 const P: &str = "pppppppppppppppppppppppppppppppppppppppppppppppppppppppppppppppp\
 pppppppppppppppppppppppppppppppppppppppppppppppppppppppppppppppp";
 
+const T: &str =
+    "pppppppppppppppppppppppppppppppppppppppppppppppppppppppppppppppppppppppppppppppppppppppppppppppppppppppppppppppppppppppppppppppp\
+pppppppppppppppppppppppppppppppppppppppppppppppppppppppppppppppppppppppppppppppppppppppppppppppppppppppppppppppppppppppppppppppp\
+pppppppppppppppppppppppppppppppppppppppppppppppppppppppppppppppppppppppppppppppppppppppppppppppppppppppppppppppppppppppppppppppp\
+pppppppppppppppppppppppppppppppppppppppppppppppppppppppppppppppppppppppppppppppppppppppppppppppppppppppppppppppppppppppppppppppp";
+
 /// What a word of a transcript stands for.
 fn meaning(word: &[u8]) -> &[u8] {
     match word {
+        b"T" => T.as_bytes(),
         b"P" => P.as_bytes(),
         b"Q" => P.as_bytes().get(1..).unwrap_or(&[]),
         b"FRAME" => FRAME.as_bytes(),
@@ -237,9 +244,33 @@ fn ends_with(rt: &impl Abort, alloc: Global, script: &str, status: u8, printed: 
 fn a_wrong_line_ends_the_run(rt: HostRuntime) {
     let alloc = rt.alloc();
     ends_with(&rt, alloc, "", 0, "");
-    let script = "world 256 breadth 100 a\n\nread a a\nput a w flag true\n";
+    let script = "world 1024 breadth 100 a\n\nread a a\nput a w flag true\n";
     ends_with(&rt, alloc, script, 2, "line 3\n");
-    ends_with(&rt, alloc, "world 255 breadth 100 a", 3, "fault 5\n");
+    ends_with(&rt, alloc, "world 1023 breadth 100 a", 3, "fault 5\n");
+}
+
+/// A world of one node, and this line, end with this status, and print just this.
+fn line_ends_with(rt: &impl Abort, alloc: Global, line: &str, status: u8, printed: &str) {
+    let script = got(rt, format!(in alloc; "world 1024 breadth 100 a\n{line}\n"));
+    ends_with(rt, alloc, script.as_str(), status, printed);
+}
+
+/// Behind the kind stands one space, and then all is the text, spaces too; in a crash, up to the last word.
+#[test]
+fn lines_with_texts(rt: HostRuntime) {
+    let alloc = rt.alloc();
+    line_ends_with(&rt, alloc, "put a t text", 2, "line 2\n");
+    line_ends_with(&rt, alloc, "put a t text ", 0, "fault 4\n");
+    line_ends_with(&rt, alloc, "put a t text  x ", 0, "version 1\n");
+    line_ends_with(&rt, alloc, "put a t  text x", 2, "line 2\n");
+    line_ends_with(&rt, alloc, "put  a t text x", 2, "line 2\n");
+    line_ends_with(&rt, alloc, "put a t text a\\5C", 0, "fault 4\n");
+    line_ends_with(&rt, alloc, "put a t text a\\5", 0, "fault 4\n");
+    line_ends_with(&rt, alloc, "put a t text a\r", 0, "fault 4\n");
+    line_ends_with(&rt, alloc, "put a t removed x", 0, "fault 4\n");
+    line_ends_with(&rt, alloc, "crash a t text kept", 2, "line 2\n");
+    line_ends_with(&rt, alloc, "crash a t text x lost ", 2, "line 2\n");
+    line_ends_with(&rt, alloc, "crash a t text lost lost", 0, "crashed\n");
 }
 
 /// The example ends so in so many reads.

@@ -14,7 +14,7 @@ use std::alloc::Global;
 use std::process::Abort;
 
 /// The greatest frame that a node sends, in bytes.
-const BUDGET: u64 = 256;
+const BUDGET: u64 = 1_024;
 
 /// How many bytes the network brings at once.
 const PIECE: usize = 100;
@@ -24,11 +24,11 @@ fn node(rt: &impl Abort, alloc: Global, text: &[u8]) -> Holdings {
     got(rt, Holdings::new(alloc, name(rt, text), Table::new(alloc)))
 }
 
-/// The node writes an address of 128 letters under the key, as this version.
+/// The node writes a text of 512 letters under the key, as this version.
 fn put(rt: &impl Abort, alloc: Global, node: &mut Holdings, text: &[u8], version: u64)
     requires { 1 ≤ version }
 {
-    let slot = Slot::Set(got(rt, Value::addr(alloc, &[b'p'; 128])));
+    let slot = Slot::Set(got(rt, Value::text(alloc, &[b'p'; 512])));
     let entry = Entry::new(key(rt, text), version, slot);
     got(rt, node.push_own(entry));
 }
@@ -138,7 +138,7 @@ fn left(rt: &impl Abort, alloc: Global, giver: &Holdings, taker: &Holdings) -> u
     answer_from(rt, alloc, giver, &digest).blocks().len()
 }
 
-/// Node a puts two addresses. One makes a frame of 161 bytes and both would make one of 301, so that a budget of 256
+/// Node a puts two texts. One makes a frame of 546 bytes and both would make one of 1,071, so that a budget of 1,024
 /// carries one of them at a time.
 fn giver_of_two(rt: &impl Abort, alloc: Global) -> Holdings {
     let mut giver = node(rt, alloc, b"a");

@@ -1,15 +1,15 @@
 //! What lines of scripts print: each transcript is a script, and below each line what it prints, behind a sign.
 use sb_script::Detail;
 
-/// What a run is about, whether words are asked for, and its lines. Of the words of a line P stands for 128 letters, Q for 127 of
-/// them, FRAME for the frame of a delta of one weight, and EMPTY for that of an empty delta.
+/// What a run is about, whether words are asked for, and its lines. Of the words of a line T stands for 512 letters, P for 128 and
+/// Q for 127 of them, FRAME for the frame of a delta of one weight, and EMPTY for that of an empty delta.
 pub(crate) type Transcript = (&'static str, Detail, &'static str);
 
-pub(crate) const TRANSCRIPTS: [Transcript; 13] = [
+pub(crate) const TRANSCRIPTS: [Transcript; 15] = [
     (
         "a write is committed, taken and offered",
         Detail::Plain,
-        "world 256 breadth 2 a b
+        "world 1024 breadth 2 a b
 commit a w weight 5
 > committed 1
 take a
@@ -27,7 +27,7 @@ show 2
     (
         "a write goes from node to node",
         Detail::Plain,
-        "world 256 breadth 100 a b
+        "world 1024 breadth 100 a b
 put a w weight 5
 > version 1
 connect a 1
@@ -59,12 +59,12 @@ show 10
     (
         "a value that is overwritten waits for the write in its place",
         Detail::Plain,
-        "world 256 breadth 100 a b
-put a x addr P
+        "world 1024 breadth 100 a b
+put a x text T
 > version 1
-put a y addr P
+put a y text T
 > version 2
-put a x addr P
+put a x text T
 > version 3
 connect a 1
 > frame 1
@@ -76,24 +76,58 @@ line 2 1
 > lined
 line 2 2
 > lined
-piece 2 173
+piece 2 558
 > nothing
 piece 2 1
 > taken 1
 upto b a
 > 2
 read b a y
-> a y 2 addr P
+> a y 2 text T
 read b a x
 > none
 read a a x
-> a x 3 addr P
+> a x 3 text T
+",
+    ),
+    (
+        "a text is the rest of its line",
+        Detail::Plain,
+        "world 1024 breadth 100 a b
+put a t text a\\5cb\\0a
+> version 1
+read a a t
+> a t 1 text a\\5cb\\0a
+put a t text a\\41
+> fault 4
+put a t text  two  words
+> version 2
+read a a t
+> a t 2 text  two  words
+crash a t text is it lost kept
+> crashed
+restart a
+> restarted 3
+read a a t
+> a t 3 text is it lost
+crash a t text  kept
+> fault 4
+put a u text h\u{e9}
+> version 4
+commit a t removed
+> committed 5
+take a
+> took 5
+offer a a 3
+> frame 1
+show 1
+> a7020000002a0300010161000000000000000300020175000000000000000404000368c3a90174000000000000000500
 ",
     ),
     (
         "a removal is a write",
         Detail::Plain,
-        "world 256 depth 100 a b
+        "world 1024 depth 100 a b
 put a x weight 1
 > version 1
 commit a x removed
@@ -105,7 +139,7 @@ del a x
 offer a a 0
 > frame 1
 show 1
-> a7010000001a0300010161000000000000000000010178000000000000000200
+> a7020000001a0300010161000000000000000000010178000000000000000200
 put a x weight 2
 > version 3
 connect a 1
@@ -129,7 +163,7 @@ read b a x
     (
         "a crash keeps a write",
         Detail::Plain,
-        "world 256 breadth 2 a b
+        "world 1024 breadth 2 a b
 crash a x weight 1 kept
 > crashed
 upto b a
@@ -155,7 +189,7 @@ upto c a
     (
         "a crash loses a write",
         Detail::Plain,
-        "world 256 breadth 100 a b
+        "world 1024 breadth 100 a b
 crash a x weight 1 lost
 > crashed
 read a a x
@@ -172,7 +206,7 @@ put a x weight 2
     (
         "what waited goes with a restart",
         Detail::Plain,
-        "world 256 breadth 100 a b
+        "world 1024 breadth 100 a b
 commit a x weight 2
 > committed 1
 upto a a
@@ -188,7 +222,7 @@ read a a x
     (
         "a frame is lost and another comes twice",
         Detail::Plain,
-        "world 256 breadth 100 a b
+        "world 1024 breadth 100 a b
 put a w weight 5
 > version 1
 connect a 1
@@ -244,7 +278,7 @@ show 5
     (
         "a session asks and is answered",
         Detail::Plain,
-        "world 256 breadth 100 a b
+        "world 1024 breadth 100 a b
 put a w weight 5
 > version 1
 connect a 1
@@ -289,7 +323,7 @@ connect b 2
     (
         "a node restarts inside a frame",
         Detail::Plain,
-        "world 512 breadth 100 a b
+        "world 1024 breadth 100 a b
 put a x addr P
 > version 1
 put a y addr Q
@@ -333,7 +367,7 @@ upto b a
     (
         "nodes that are not there and words that are none",
         Detail::Plain,
-        "world 256 breadth 100 a b
+        "world 1024 breadth 100 a b
 put c x weight 1
 > nothing
 give c b 0
@@ -363,13 +397,13 @@ connect b 1
 ask 1
 > frame 8
 show 8
-> a7010000001002010000000101610000000000000000
+> a7020000001002010000000101610000000000000000
 ",
     ),
     (
         "frames are said in words",
         Detail::Explained,
-        "world 256 breadth 100 a b
+        "world 1024 breadth 100 a b
 put a w weight 5
 > version 1
 put a x flag true
@@ -401,7 +435,7 @@ offer a a 4
 > frame 5
 >   frame 5: delta, blocks 0
 show 5
-> a70100000003030000
+> a70200000003030000
 >   frame 5: delta, blocks 0
 show 6
 > nothing
@@ -414,9 +448,25 @@ commit a X flag true
 ",
     ),
     (
+        "texts are said in words",
+        Detail::Explained,
+        "world 1024 breadth 100 a b
+put a t text a\\5cb\\0a
+> version 1
+put a u text two words
+> version 2
+offer a a 0
+> frame 1
+>   frame 1: delta, blocks 1
+>     block of a, after 0, upto 2, entries 2
+>       a t 1 text a\\5cb\\0a
+>       a u 2 text two words
+",
+    ),
+    (
         "frames of a give and replies are said in words",
         Detail::Explained,
-        "world 256 breadth 100 a b
+        "world 1024 breadth 100 a b
 put a w weight 5
 > version 1
 give a b 0

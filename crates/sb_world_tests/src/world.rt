@@ -18,7 +18,7 @@ fn log(rt: &impl Abort, alloc: Global, owner: &[u8]) -> PlainLog {
 pub(crate) fn settings(rt: &impl Abort) -> Settings {
     let settings = Settings::check(RawSettings {
         cluster: b"sim",
-        budget: 256,
+        budget: 1_024,
         order: Order::Breadth,
         max_version: 2,
         seats: 1,

@@ -1,6 +1,7 @@
 //! The answer to what was refused.
 
 ghost use Rattle.std.specs.Prelude.{◌≡◌, true, if◌then◌else◌, Ok, Err};
+ghost use Rattle.sb_types.specs.Faults.{number_of, carried_by};
 ghost use Rattle.sb_codec.specs.Limits.{is_fault_number};
 
 use sb_types::{FAULT_NUMBER_MOST, Fault, KIND_REFUSED};
@@ -42,5 +43,16 @@ impl Refused {
         ensures refused { is_fault_number self.now ≡ true }
     {
         self.number
+    }
+
+    /// The fault of this number. What else it carries is 0: a refusal does not tell it.
+    pub fn fault(&self) -> Fault
+        ensures fault { number_of result ≡ self.now }
+        ensures bare { carried_by result ≡ 0 }
+    {
+        match Fault::of_number(self.number) {
+            Some(fault) => fault,
+            None => Fault::Malformed(0),
+        }
     }
 }

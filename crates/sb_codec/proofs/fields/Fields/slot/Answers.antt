@@ -17,3 +17,7 @@ returns-in_ok-weight-in-2 c = rw (c.in_ok-byte.ensures, c.in-2.is, c.in_ok-weigh
 pub returns-in_ok-flag-in-3 : goal.returns-in_ok-flag-in-3
 unfolding slot_field
 returns-in_ok-flag-in-3 c = rw (c.in_ok-byte.ensures, c.in-3.is, c.in_ok-flag-in-3.ensures, c.flag-in-3.ensures) refl
+
+pub returns-in_ok-text_value-in-4 : goal.returns-in_ok-text_value-in-4
+unfolding slot_field
+returns-in_ok-text_value-in-4 c = rw (c.in_ok-byte.ensures, c.in-4.is, c.in_ok-text_value-in-4.ensures) refl

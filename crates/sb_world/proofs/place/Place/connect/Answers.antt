@@ -38,7 +38,7 @@ returns g c =
     let session : c.new-session.result ≡ begun v = c.new-session.ensures ∙ ap (λ (name : List ℕ). new_session name v.me) cluster in
     let message : c.hello.result ≡ hello_of (begun v) = c.hello.ensures ∙ ap hello_of session in
     let is : is_message (hello_of (begun v)) ≡ true = subst (λ (m : Message). is_message m ≡ true) message c.in_ok-hello.ensures.limits in
-    let least : 256 ≤ v.core.settings.budget = subst (λ (s : Settings). 256 ≤ s.budget) of_settings (least_budget c.settings-settings.result c.budget.ensures.settings) in
+    let least : 1024 ≤ v.core.settings.budget = subst (λ (s : Settings). 1024 ≤ s.budget) of_settings (least_budget c.settings-settings.result c.budget.ensures.settings) in
     let is_later : later ≡ sent ++ frame (hello_of (begun v)) ∷ [] =
     c.push_reserved.ensures.items ∙ ap (λ (fs : List (List ℕ)). fs ++ c.in_ok-hello.hello ∷ []) c.in_ok-reserve-2.ensures.items ∙ ap (λ (f : List ℕ). sent ++ f ∷ []) (c.in_ok-hello.ensures.frame ∙ ap frame message) in
     let is_new : new ≡ conns ++ new_connection v number ∷ [] =

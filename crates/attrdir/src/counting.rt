@@ -1,0 +1,32 @@
+//! Standard output, with a count of what it took.
+use std::io::{self, Write};
+
+/// Standard output, which counts the bytes that it took.
+#[derive(Drop)]
+pub(crate) struct Output<'r> {
+    rt: &'r HostRuntime,
+    taken: u64,
+}
+
+impl<'r> Output<'r> {
+    pub(crate) fn new(rt: &'r HostRuntime) -> Output<'r> {
+        Output { rt, taken: 0 }
+    }
+
+    /// How many bytes it took.
+    pub(crate) fn taken(&self) -> u64 {
+        self.taken
+    }
+}
+
+impl Write for Output<'_> {
+    fn write(&mut self, bytes: &[u8]) -> io::Result<usize> {
+        let count = self.rt.stdout().write(bytes)?;
+        self.taken = self.taken.saturating_add(count as u64);
+        Ok(count)
+    }
+
+    fn flush(&mut self) -> io::Result<()> {
+        self.rt.stdout().flush()
+    }
+}

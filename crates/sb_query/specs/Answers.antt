@@ -1,0 +1,23 @@
+-- What a message tells to the one who asked.
+use Rattle.std.specs.Prelude.{◌≡◌, ℕ, [], ◌∷◌, take, Result, Ok, Err}
+use Rattle.sb_types.specs.declared.fault.Fault.{Fault}
+use Rattle.sb_types.specs.Faults.{number_of, carried_by}
+use Rattle.sb_codec.specs.declared.message.Message.{Message}
+use Rattle.sb_codec.specs.declared.message.Message.TheVariants.{Rows, Done, Refused}
+use Rattle.sb_codec.specs.Messages.{spelling}
+use Rattle.sb_codec.specs.Records as records
+use Rattle.sb_query.specs.declared.answers.NoAnswer.{NoAnswer}
+use Rattle.sb_query.specs.declared.answers.NoAnswer.TheVariants as reasons
+
+-- the fault of the number that a refusal gives, which carries nothing else; or the kind of another message
+abbrev pub IsNoAnswer : Message → NoAnswer → Type 0
+IsNoAnswer (Refused number) reason = (fault : Fault) × (reason ≡ reasons.Refused fault) × (number_of fault ≡ number) × (carried_by fault ≡ 0)
+IsNoAnswer other reason = (kind : ℕ) × (reason ≡ reasons.OtherKind kind) × (take 1 (spelling other) ≡ kind ∷ [])
+
+abbrev pub TellsVersion : Message → Result ℕ NoAnswer → Type 0
+TellsVersion (Done version) result = result ≡ Ok version
+TellsVersion other result = (reason : NoAnswer) × (result ≡ Err reason) × IsNoAnswer other reason
+
+abbrev pub TellsPage : Message → Result records.Rows NoAnswer → Type 0
+TellsPage (Rows page) result = result ≡ Ok page
+TellsPage other result = (reason : NoAnswer) × (result ≡ Err reason) × IsNoAnswer other reason
