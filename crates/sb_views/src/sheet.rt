@@ -153,7 +153,7 @@ impl Sheet {
     pub(crate) fn rows<'a>(&'a self, owner: &'a Name, prefix: Prefix) -> OwnerRows<'a>
         ensures { result ≡ spec.rows_under prefix owner.now self.now }
     {
-        let from_start = (start_of(&prefix), Bound::Unbounded);
+        let from_start = (prefix.start(), Bound::Unbounded);
         OwnerRows::new(owner, self.rows.range(from_start), prefix)
     }
 
@@ -171,16 +171,6 @@ impl Sheet {
     }
 }
 
-/// Where the keys start that do not come before the prefix.
-fn start_of(prefix: &Prefix) -> Bound<Key>
-    ensures { (key : List ℕ) → is_from_start (slice_cmp nat_cmp) result key ≡ is_le (slice_cmp nat_cmp prefix.now key) }
-{
-    match Key::read(prefix.bytes()) {
-        Ok(key) => Bound::Included(key),
-        Err(_) => Bound::Unbounded,
-    }
-}
-
 /// Where the keys start that stand behind the key and do not come before the prefix.
 fn start_behind(key: Key, prefix: Prefix) -> Bound<Key>
     ensures from { (other : List ℕ) → is_from_start (slice_cmp nat_cmp) result other ≡ true → is_le (slice_cmp nat_cmp prefix other) ≡ true }
@@ -188,7 +178,7 @@ fn start_behind(key: Key, prefix: Prefix) -> Bound<Key>
         → is_from_start (slice_cmp nat_cmp) result other ≡ is_lt (slice_cmp nat_cmp key other) }
 {
     if key.bytes().cmp(prefix.bytes()).is_lt() {
-        start_of(&prefix)
+        prefix.start()
     } else {
         Bound::Excluded(key)
     }

@@ -20,6 +20,6 @@ returns c =
     let up = c.self.invariant in
     c.new.ensures
     ∙ ap (reached owner prefix) (c.range.ensures.between tt)
-    ∙ reached-filter owner prefix (range_contains (slice_cmp nat_cmp) c.start_of.result Unbounded) (λ key. and-true _ ∙ c.start_of.ensures key) es up
+    ∙ reached-filter owner prefix (range_contains (slice_cmp nat_cmp) c.start.result Unbounded) (λ key. and-true _ ∙ c.start.ensures key) es up
     ∙ ap (λ (rows : List (List ℕ × (Value × ℕ))). map (row_at owner) (filter (λ p. starts_with nat_eq p.0 prefix) rows)) (sym (entries-from_sorted by_text es (sorted es up)))
     ∙ ap (rows_under prefix owner) c.self.view_is
