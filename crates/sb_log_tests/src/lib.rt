@@ -9,6 +9,8 @@ mod database;
 #[cfg(test)]
 mod disks;
 #[cfg(test)]
+mod examples;
+#[cfg(test)]
 mod faulty;
 #[cfg(test)]
 mod lasting;

@@ -9,6 +9,8 @@ mod codec;
 #[cfg(test)]
 mod digest;
 #[cfg(test)]
+mod examples;
+#[cfg(test)]
 mod faults;
 #[cfg(test)]
 mod holdings;
