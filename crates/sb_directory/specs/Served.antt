@@ -17,7 +17,7 @@ knows-more opening settings old new act step =
 
 no-events : (act : Act) → may_enter act ≡ false → events_of act ≡ []
 no-events (tells from want answer) none = refl
-no-events (gives told answer) none = refl
+no-events (gives theirs answer) none = refl
 no-events (applies blocks (Ok ends)) none = absurd (false≢true (sym none))
 no-events (applies blocks (Err fault)) none = refl
 

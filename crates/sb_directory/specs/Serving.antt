@@ -19,16 +19,16 @@ abbrev pub AnswersAfter : Node → Settings → List Event → Act → Type 0
 AnswersAfter opening settings story (tells from want (Ok digest)) =
     IsLongestFront settings.budget want from (pairs_from from (node_after opening story).held) digest
 AnswersAfter opening settings story (tells from want (Err fault)) = fault ≡ NoMemory
-AnswersAfter opening settings story (gives told (Ok blocks)) =
-    IsDelta settings (node_after opening story).held told blocks × IsAnswer settings.budget (node_after opening story).held told blocks
-AnswersAfter opening settings story (gives told (Err fault)) = fault ≡ NoMemory
+AnswersAfter opening settings story (gives theirs (Ok blocks)) =
+    IsDelta settings (node_after opening story).held theirs blocks × IsAnswer settings.budget (node_after opening story).held theirs blocks
+AnswersAfter opening settings story (gives theirs (Err fault)) = fault ≡ NoMemory
 AnswersAfter opening settings story (applies blocks (Ok ends)) = (delta_due_after story ≡ Ok tt) × Treats (node_after opening story) blocks ends
 AnswersAfter opening settings story (applies blocks (Err fault)) = Refuses (delta_due_after story) fault
 
 -- the events that a call with this answer makes: one, where it took a delta
 abbrev pub events_of : Act → List Event
 events_of (tells from want answer) = []
-events_of (gives told answer) = []
+events_of (gives theirs answer) = []
 events_of (applies blocks (Ok ends)) = Applied blocks ends ∷ []
 events_of (applies blocks (Err fault)) = []
 

@@ -72,8 +72,8 @@ impl<'a, S: Configured, R: Wait + Drop, Q: Wait> Handler for Served<'a, S, R, Q>
         self.directory.digest(self.rt, &mut self.seat, from, want)
     }
 
-    fn deltas(&mut self, told: &Digest) -> Result<Delta, Fault> {
-        self.directory.deltas(self.rt, &mut self.seat, told)
+    fn deltas(&mut self, theirs: &Digest) -> Result<Delta, Fault> {
+        self.directory.deltas(self.rt, &mut self.seat, theirs)
     }
 
     fn apply(&mut self, delta: &Delta) -> Result<Report, Fault> {

@@ -109,8 +109,8 @@ impl<H: Handler, G: Gate> Handler for Gated<'_, H, G> {
         self.inner.digest(from, want)
     }
 
-    fn deltas(&mut self, told: &Digest) -> Result<Delta, Fault> {
-        let delta = self.inner.deltas(told)?;
+    fn deltas(&mut self, theirs: &Digest) -> Result<Delta, Fault> {
+        let delta = self.inner.deltas(theirs)?;
         if !self.gate.pass(self.session, Step::AfterAnswer) {
             return Err(Fault::TurnsSpent);
         }

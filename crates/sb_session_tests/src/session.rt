@@ -83,11 +83,11 @@ impl Node {
         self.holdings.upto(&name(rt, owner))
     }
 
-    fn lacking(&self, told: &Digest) -> Result<Delta, Fault> {
+    fn lacking(&self, theirs: &Digest) -> Result<Delta, Fault> {
         let mut blocks = Vec::new(self.alloc);
         for (owner, table) in self.holdings.tables_from(None) {
-            let number = told.number(owner);
-            if !told.covers(owner) || table.upto() <= number {
+            let number = theirs.number(owner);
+            if !theirs.covers(owner) || table.upto() <= number {
                 continue;
             }
             blocks.push(block_above(self.alloc, *owner, table, number)?)?;
@@ -126,9 +126,9 @@ impl Handler for Node {
         granted(build(self.alloc, &self.holdings, from, want, BUDGET_LEAST))
     }
 
-    fn deltas(&mut self, told: &Digest) -> Result<Delta, Fault> {
+    fn deltas(&mut self, theirs: &Digest) -> Result<Delta, Fault> {
         self.grant()?;
-        granted(self.lacking(told))
+        granted(self.lacking(theirs))
     }
 
     fn apply(&mut self, delta: &Delta) -> Result<Report, Fault> {

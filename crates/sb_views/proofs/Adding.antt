@@ -7,7 +7,7 @@ use prog.Atomic.{either}
 use Rattle.logbook.specs.Pages.{Cell, cell, keeps, no_nib, step, Moves, Goes}
 use Rattle.sb_views.specs.declared.event.Event.{Event}
 use Rattle.sb_views.specs.Rules.{IsKept, Adds}
-use Rattle.sb_views.proofs.Fronts.{prefix_whole}
+use Rattle.sb_views.proofs.Prefixes.{prefix_whole}
 
 abbrev pub shown : List Event → List Event
 shown log = []
