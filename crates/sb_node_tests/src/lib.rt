@@ -7,6 +7,8 @@ mod both_ways;
 #[cfg(test)]
 mod budget;
 #[cfg(test)]
+mod examples;
+#[cfg(test)]
 mod making;
 #[cfg(test)]
 mod node;

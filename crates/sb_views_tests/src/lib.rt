@@ -5,6 +5,8 @@
 #[cfg(test)]
 mod answers;
 #[cfg(test)]
+mod examples;
+#[cfg(test)]
 mod lines;
 #[cfg(test)]
 mod listings;

@@ -1,16 +1,16 @@
 //! Which running node a directory shares.
 
-use sb_views::Site;
+use sb_views::NodeTag;
 use std::marker::Brand;
 
 /// A site that also names the settings of its node, in proofs alone.
-pub trait Configured: Site {
+pub trait DirectoryTag: NodeTag {
     ghost use Rattle.sb_types.specs.Records.{Settings};
 
     ghost settings: { Settings };
 }
 
-impl Configured for Brand {
+impl DirectoryTag for Brand {
     ghost use Rattle.std.specs.Prelude.{[]};
     ghost use Rattle.sb_types.specs.declared.settings.Order.TheVariants as orders;
 

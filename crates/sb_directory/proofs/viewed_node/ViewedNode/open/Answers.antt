@@ -4,24 +4,24 @@ use Rattle.sb_holdings.specs.Plain.{IsHoldings}
 use Rattle.sb_node.specs.Cores.{Core}
 use Rattle.sb_watch.specs.Hubs.{AllNotes}
 use Rattle.sb_views.specs.declared.event.Event.{Event}
-use Rattle.sb_views.specs.Stories.{node_after}
-use Rattle.sb_views.specs.Views.{Views}
+use Rattle.sb_views.specs.Histories.{node_after}
+use Rattle.sb_views.specs.Publishing.{Views}
 use Rattle.sb_directory.specs.Notes.{is_held}
 use Rattle.sb_directory.specs.Behind.{AreSince}
 use Rattle.sb_directory.proofs.Following.{grown-there, since-there}
-use Rattle.sb_directory.proofs.locked.Locked.open.Goals as goal
+use Rattle.sb_directory.proofs.viewed_node.ViewedNode.open.Goals as goal
 
 pub invariant_of-locked : goal.invariant_of-locked
 invariant_of-locked g c =
-    let opening = g.S.Site.opening in
+    let opening = g.S.NodeTag.opening in
     let held = c.args.core.node.held in
-    let ready : c.in_ok-views.views.ready ≡ [] = ap (λ (v : Views). v.ready) c.in_ok-views.ensures.views in
+    let queued : c.in_ok-views.views.queued ≡ [] = ap (λ (v : Views). v.queued) c.in_ok-views.ensures.views in
     let is : IsHoldings held = subst (λ (k : Core). IsHoldings k.node.held) c.core.view_is c.core.invariant in
     record {
       node = sym c.requires.opening ∙ sym (ap (node_after opening) c.requires.start);
-      begins = subst (λ (r : List Event). IsPrefix r c.args.start) (sym ready) (c.args.start, refl);
-      grown = grown-there opening c.args.core.node c.in_ok-views.views.ready (sym c.requires.opening ∙ sym (ap (node_after opening) ready)) is;
-      since = subst (AreSince (node_after opening c.in_ok-views.views.ready).held held) (sym c.new-2.ensures)
-          (since-there opening c.args.core.node c.in_ok-views.views.ready (sym c.requires.opening ∙ sym (ap (node_after opening) ready)));
+      begins = subst (λ (r : List Event). IsPrefix r c.args.start) (sym queued) (c.args.start, refl);
+      grown = grown-there opening c.args.core.node c.in_ok-views.views.queued (sym c.requires.opening ∙ sym (ap (node_after opening) queued)) is;
+      since = subst (AreSince (node_after opening c.in_ok-views.views.queued).held held) (sym c.new-2.ensures)
+          (since-there opening c.args.core.node c.in_ok-views.views.queued (sym c.requires.opening ∙ sym (ap (node_after opening) queued)));
       notes = subst (AllNotes (is_held held)) (sym c.new.ensures) tt;
     }

@@ -1,7 +1,7 @@
 use Rattle.std.proofs.Common.{rules, ◌∙◌}
 use Rattle.sb_types.specs.Runs.{above}
 use Rattle.sb_directory.proofs.Noting.{telling-begins, telling-goes_on, telling-ends}
-use Rattle.sb_directory.proofs.notes.tell_above.Goals as goal
+use Rattle.sb_directory.proofs.notes.push_notes_above.Goals as goal
 
 pub loop-entry-init : goal.loop-entry-init
 loop-entry-init c =

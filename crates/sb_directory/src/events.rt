@@ -4,40 +4,40 @@ ghost use Rattle.sb_views.specs.declared.event.Event.TheVariants as events;
 
 use sb_holdings::Report;
 use sb_types::{Delta, Entry};
-use sb_views::{Front, Site, Story};
+use sb_views::{HistoryPrefix, NodeTag, HistoryHead};
 use std::sync::Wait;
 
 /// Lets a value go.
 pub(crate) fn lose<T: Drop>(_value: T) {}
 
 /// Adds the taking of an own write to the story.
-pub(crate) fn add_own<S: Site, Q: Wait>(
+pub(crate) fn add_own<S: NodeTag, Q: Wait>(
     rt: &Q,
-    story: &Story<S>,
-    front: &mut Front<S>,
+    head: &HistoryHead<S>,
+    history: &mut HistoryPrefix<S>,
     entry: &Entry,
 )
-    requires { length front.old < 2 ^ 64 - 1 }
-    ensures { front.new ≡ front.old ++ events.TookOwn entry.now ∷ [] }
+    requires { length history.old < 2 ^ 64 - 1 }
+    ensures { history.new ≡ history.old ++ events.TookOwn entry.now ∷ [] }
 {
-    if !front.add_own(story, entry) {
+    if !history.add_own(head, entry) {
         for _ in rt.forever() {}
         unreachable!();
     }
 }
 
 /// Adds a delta whose blocks ended so to the story.
-pub(crate) fn add_applied<S: Site, Q: Wait>(
+pub(crate) fn add_applied<S: NodeTag, Q: Wait>(
     rt: &Q,
-    story: &Story<S>,
-    front: &mut Front<S>,
+    head: &HistoryHead<S>,
+    history: &mut HistoryPrefix<S>,
     delta: &Delta,
     ends: &Report,
 )
-    requires { length front.old < 2 ^ 64 - 1 }
-    ensures { front.new ≡ front.old ++ events.Applied delta.now ends.now ∷ [] }
+    requires { length history.old < 2 ^ 64 - 1 }
+    ensures { history.new ≡ history.old ++ events.Applied delta.now ends.now ∷ [] }
 {
-    if !front.add_applied(story, delta, ends) {
+    if !history.add_applied(head, delta, ends) {
         for _ in rt.forever() {}
         unreachable!();
     }

@@ -4,7 +4,7 @@ ghost use Rattle.std.specs.Prelude.{◌≡◌};
 use crate::directory::Directory;
 use crate::receipt::Applied;
 use crate::seat::ReaderSeat;
-use crate::site::Configured;
+use crate::tag::DirectoryTag;
 use sb_digest::Digest;
 use sb_holdings::Report;
 use sb_session::Handler;
@@ -14,13 +14,13 @@ use std::sync::Wait;
 
 /// A directory as a session asks it, from a seat of its own. Contracts see it as the seat.
 #[derive(Drop)]
-pub struct Served<'a, S: Configured, R: Wait + Drop, Q: Wait> {
+pub struct SeatHandler<'a, S: DirectoryTag, R: Wait + Drop, Q: Wait> {
     rt: &'a Q,
     directory: &'a Directory<S, R>,
     seat: ReaderSeat<S>,
 }
 
-impl<'a, S: Configured, R: Wait + Drop, Q: Wait> Model for Served<'a, S, R, Q> {
+impl<'a, S: DirectoryTag, R: Wait + Drop, Q: Wait> Model for SeatHandler<'a, S, R, Q> {
     ghost use Rattle.sb_directory.specs.Seats as spec;
 
     ghost Value = { spec.Seat };
@@ -28,16 +28,16 @@ impl<'a, S: Configured, R: Wait + Drop, Q: Wait> Model for Served<'a, S, R, Q> {
     ghost view = { λ s. s.seat };
 }
 
-impl<'a, S: Configured, R: Wait + Drop, Q: Wait> Served<'a, S, R, Q> {
+impl<'a, S: DirectoryTag, R: Wait + Drop, Q: Wait> SeatHandler<'a, S, R, Q> {
     /// A directory asked from this seat.
     pub fn new(
         rt: &'a Q,
         directory: &'a Directory<S, R>,
         seat: ReaderSeat<S>,
-    ) -> Served<'a, S, R, Q>
+    ) -> SeatHandler<'a, S, R, Q>
         ensures { result ≡ seat }
     {
-        Served {
+        SeatHandler {
             rt,
             directory,
             seat,
@@ -48,7 +48,7 @@ impl<'a, S: Configured, R: Wait + Drop, Q: Wait> Served<'a, S, R, Q> {
     pub fn into_seat(self) -> ReaderSeat<S>
         ensures { result ≡ self.entry }
     {
-        let Served {
+        let SeatHandler {
             rt: _,
             directory: _,
             seat,
@@ -57,9 +57,9 @@ impl<'a, S: Configured, R: Wait + Drop, Q: Wait> Served<'a, S, R, Q> {
     }
 }
 
-impl<'a, S: Configured, R: Wait + Drop, Q: Wait> Handler for Served<'a, S, R, Q> {
+impl<'a, S: DirectoryTag, R: Wait + Drop, Q: Wait> Handler for SeatHandler<'a, S, R, Q> {
     ghost use Rattle.sb_directory.specs.Serving.{Serves, IsStill, IsLater};
-    ghost use Rattle.sb_directory.specs.Served.{serves-nothing, still-same, still-on, serves-later, later-same, later-on};
+    ghost use Rattle.sb_directory.specs.Handling.{serves-nothing, still-same, still-on, serves-later, later-same, later-on};
 
     // Others may have entered anything since the last call.
     ghost step = { Serves S.opening S.settings };
