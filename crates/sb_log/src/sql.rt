@@ -122,7 +122,7 @@ impl<S: Alter + Drop> WriteLog for SqlLog<S> {
         match write_entry(&mut self.conn, &entry) {
             Ok(()) => Ok(Committed::new(self.owner, entry)),
             Err(fault) => {
-                let_go(entry);
+                drop(entry);
                 self.is_open = false;
                 Err(fault)
             }
@@ -156,6 +156,3 @@ impl<S: Alter + Drop> WriteLog for SqlLog<S> {
         Ok(())
     }
 }
-
-/// Drops an entry.
-fn let_go(_entry: Entry) {}
