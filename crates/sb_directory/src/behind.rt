@@ -4,7 +4,6 @@ ghost use Rattle.std.specs.FinMap.{empty, entries, contains_key};
 ghost use Rattle.sb_holdings.specs.Held.{Held};
 ghost use Rattle.sb_directory.specs.Behind as spec;
 
-
 use sb_holdings::Holdings;
 use sb_types::{Block, Fault, Name};
 use std::alloc::Global;

@@ -16,12 +16,12 @@ ghost use Rattle.sb_watch.specs.Hubs.{next_id, has_watch, answer_at};
 ghost use Rattle.sb_directory.specs.Seats as spec;
 ghost use Rattle.sb_directory.specs.Serving.{AnswersAfter};
 
-use crate::viewed_node::ViewedNode;
+use crate::locked::Locked;
 use crate::receipt::{Applied, Closing, Receipt};
 use crate::seat::ReaderSeat;
 use crate::shares::seat_all;
 use crate::tag::DirectoryTag;
-use crate::locked::Locked;
+use crate::viewed_node::ViewedNode;
 use sb_digest::Digest;
 use sb_log::Committed;
 use sb_node::NodeCore;

@@ -3,8 +3,9 @@
 
 mod behind;
 mod directory;
+mod events;
 mod laws;
-mod viewed_node;
+mod locked;
 mod notes;
 mod pending;
 mod receipt;
@@ -12,14 +13,13 @@ mod seat;
 mod seat_handler;
 mod shares;
 mod tag;
-mod events;
-mod locked;
+mod viewed_node;
 mod views;
 
 pub use directory::Directory;
 pub use laws::held_never_falls;
-pub use viewed_node::ViewedNode;
 pub use receipt::{Applied, Closing, Receipt};
 pub use seat::{EnteredSeat, ReaderSeat};
 pub use seat_handler::SeatHandler;
 pub use tag::DirectoryTag;
+pub use viewed_node::ViewedNode;

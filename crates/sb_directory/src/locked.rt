@@ -15,11 +15,11 @@ ghost use Rattle.sb_directory.specs.ViewedNodes as nodes;
 ghost use Rattle.sb_directory.specs.Seats as spec;
 ghost use Rattle.sb_directory.specs.Serving.{AnswersAfter};
 
-use crate::viewed_node::ViewedNode;
 use crate::receipt::{Applied, Closing, Receipt};
 use crate::seat::ReaderSeat;
 use crate::shares::join_all;
 use crate::tag::DirectoryTag;
+use crate::viewed_node::ViewedNode;
 use sb_digest::Digest;
 use sb_log::Committed;
 use sb_types::{Delta, Fault, Name};

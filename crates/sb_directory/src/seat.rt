@@ -6,7 +6,7 @@ ghost use Rattle.sb_views.specs.Publishing.{IsView};
 ghost use Rattle.sb_directory.specs.Seats as spec;
 
 use core::mem::replace_with;
-use sb_views::{Entered, HistoryPrefix, Reader, NodeTag, Snapshot};
+use sb_views::{Entered, HistoryPrefix, NodeTag, Reader, Snapshot};
 use std::marker::Model;
 use std::sync::Wait;
 use std::sync::ledger::{Book, Share};

@@ -4,7 +4,7 @@ ghost use Rattle.sb_directory.specs.Seats as spec;
 
 use crate::seat::ReaderSeat;
 use sb_types::Fault;
-use sb_views::{HistoryPrefix, Reader, NodeTag};
+use sb_views::{HistoryPrefix, NodeTag, Reader};
 use std::alloc::Global;
 use std::sync::Wait;
 use std::sync::ledger::Share;

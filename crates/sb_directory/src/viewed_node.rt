@@ -16,15 +16,15 @@ ghost use Rattle.sb_views.specs.Histories.{node_after};
 ghost use Rattle.sb_directory.specs.ViewedNodes as spec;
 
 use crate::behind::Behind;
-use crate::notes::{push_note, push_notes_since, versions_of};
 use crate::events::{add_applied, add_own};
+use crate::notes::{push_note, push_notes_since, versions_of};
 use crate::views::Views;
 use sb_digest::Digest;
 use sb_holdings::Report;
 use sb_log::Committed;
 use sb_node::NodeCore;
 use sb_types::{Delta, Fault, Name};
-use sb_views::{HistoryPrefix, Reader, NodeTag, HistoryHead};
+use sb_views::{HistoryHead, HistoryPrefix, NodeTag, Reader};
 use sb_watch::{Filter, Hub, Polled, WatchId};
 use std::alloc::Global;
 use std::marker::Model;

@@ -8,10 +8,9 @@ ghost use Rattle.sb_directory.specs.Behind.{AreSince};
 
 use crate::behind::Behind;
 use crate::pending::pending;
-
 use sb_node::NodeCore;
 use sb_types::Fault;
-use sb_views::{HistoryPrefix, Reader, NodeTag, ViewWriter, views};
+use sb_views::{HistoryPrefix, NodeTag, Reader, ViewWriter, views};
 use std::alloc::Global;
 use std::marker::Model;
 use std::sync::Wait;
@@ -65,7 +64,12 @@ impl<S: NodeTag, R: Wait + Drop> Views<S, R> {
     }
 
     /// Appends all that is lacked. `NoMemory`, which changes nothing.
-    fn append(&mut self, core: &NodeCore, history: &HistoryPrefix<S>, behind: &Behind) -> Result<(), Fault>
+    fn append(
+        &mut self,
+        core: &NodeCore,
+        history: &HistoryPrefix<S>,
+        behind: &Behind,
+    ) -> Result<(), Fault>
         requires node { core.now.node ≡ node_after S.opening history.now }
         requires begins { IsPrefix self.old.queued history.now }
         requires grown { AreGrown (node_after S.opening self.old.queued).held core.now.node.held }
@@ -105,7 +109,12 @@ impl<S: NodeTag, R: Wait + Drop> Views<S, R> {
 
     /// Shows readers the node as it stands, after these events, and says whether there was memory for it. Where there
     /// was none, what is shown stays, and what could not be appended is appended by the next call.
-    pub(crate) fn show(&mut self, core: &NodeCore, history: &HistoryPrefix<S>, behind: &mut Behind) -> bool
+    pub(crate) fn show(
+        &mut self,
+        core: &NodeCore,
+        history: &HistoryPrefix<S>,
+        behind: &mut Behind,
+    ) -> bool
         requires node { core.now.node ≡ node_after S.opening history.now }
         requires begins { IsPrefix self.old.queued history.now }
         requires grown { AreGrown (node_after S.opening self.old.queued).held core.now.node.held }

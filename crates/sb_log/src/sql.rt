@@ -16,7 +16,7 @@ use crate::log::WriteLog;
 use crate::opening::open_tables;
 use crate::statements::{read_table, write_entry};
 use sb_table::Table;
-use sb_types::{Entry, Fault, Key, Name, Slot, VERSION_MOST};
+use sb_types::{Fault, Key, Name, Slot, VERSION_MOST};
 use sqlite::{Alter, Connection};
 use std::alloc::Global;
 use std::marker::Model;

@@ -2,7 +2,6 @@
 ghost use Rattle.std.specs.Prelude.{◌≡◌, ◌++◌, ◌∷◌, [], true, OnOk, OnErr, IfErr};
 ghost use Rattle.sb_views.specs.Operations.{entries_of, are_entries};
 
-use crate::owner_view::lose;
 use crate::view_copy::Operation;
 use sb_types::{Entry, Fault, Name};
 use std::alloc::Global;

@@ -295,7 +295,12 @@ impl<S: NodeTag> HistoryPrefix<S> {
         let mut offer: Offer<Event, u64, LengthRule, NoGain> = position
             .seen
             .plain::<NoGain, Entry, AddEvent>(entry);
-        let found = exchange(&history.head, position.events, &mut position.seen, &mut offer);
+        let found = exchange(
+            &history.head,
+            position.events,
+            &mut position.seen,
+            &mut offer,
+        );
         let added = found == position.events;
         position.events = if added { found + 1 } else { found };
         added
@@ -311,7 +316,12 @@ impl<S: NodeTag> HistoryPrefix<S> {
         let mut offer: Offer<Event, u64, LengthRule, NoGain> = position
             .seen
             .plain::<NoGain, Came<'_>, AddEvent>(&Came { delta, ends });
-        let found = exchange(&history.head, position.events, &mut position.seen, &mut offer);
+        let found = exchange(
+            &history.head,
+            position.events,
+            &mut position.seen,
+            &mut offer,
+        );
         let added = found == position.events;
         position.events = if added { found + 1 } else { found };
         added

@@ -11,9 +11,9 @@ ghost use Rattle.std.specs.declared.ops.Bound.TheVariants.{Included};
 ghost use Rattle.sb_views.specs.NodeViews as node_views;
 ghost use Rattle.sb_views.specs.LiveRows as spec;
 
+use crate::owner_view::OwnerView;
 use crate::owner_views::OwnerViews;
-use crate::rows::{OwnerRows, LiveRows};
-use crate::owner_view::{OwnerView, lose};
+use crate::rows::{LiveRows, OwnerRows};
 use sb_types::{Entry, Key, Name, Prefix, Value};
 use std::alloc::{AllocError, Global};
 use std::collections::BTreeMap;

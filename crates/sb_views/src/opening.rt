@@ -4,10 +4,10 @@ ghost use Rattle.std.specs.FinMap.{empty};
 ghost use Rattle.sb_views.specs.NodeViews as node_views;
 ghost use Rattle.sb_holdings.specs.Plain.{IsHoldings};
 
+use crate::history::{HistoryPrefix, NodeTag};
 use crate::node_view::NodeView;
 use crate::reader::Reader;
 use crate::view_copy::ViewCopy;
-use crate::history::{HistoryPrefix, NodeTag};
 use crate::writer::ViewWriter;
 use sb_holdings::Holdings;
 use sb_table::Table;

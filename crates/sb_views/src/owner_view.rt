@@ -42,9 +42,6 @@ impl Model for OwnerView {
     ghost invariant = { λ s. IsOrdered (slice_cmp nat_cmp) s.rows };
 }
 
-/// Lets a value go that a map gave back.
-pub(crate) fn lose<T: Drop>(_value: T) {}
-
 /// Puts a value under a key, with the version of its write. Where memory is wanting nothing changes.
 fn set_row(
     alloc: Global,
@@ -85,7 +82,11 @@ fn remove_row(rows: &mut BTreeMap<Key, LiveValue>, key: &Key)
 }
 
 /// Shows what a write puts under its key. Where memory is wanting nothing changes.
-fn enter_row(alloc: Global, rows: &mut BTreeMap<Key, LiveValue>, entry: &Entry) -> Result<(), AllocError>
+fn enter_row(
+    alloc: Global,
+    rows: &mut BTreeMap<Key, LiveValue>,
+    entry: &Entry,
+) -> Result<(), AllocError>
     requires { IsOrdered (slice_cmp nat_cmp) rows.old }
     ensures ok { OnOk result (node_views.rows_of rows.new.entries ≡ node_views.rows_with (node_views.rows_of rows.old.entries) entry.now entry.now.slot) }
     ensures err { OnErr result (rows.new.entries ≡ rows.old.entries) }

@@ -5,10 +5,10 @@ ghost use mathlib.Core.List.{IsPrefix};
 ghost use Rattle.sb_views.specs.Histories.{node_after};
 ghost use Rattle.sb_views.specs.Publishing as spec;
 
-use crate::rule::{EnterOutcome, ViewRule};
-use crate::view_copy::ViewCopy;
-use crate::snapshot::Snapshot;
 use crate::history::{HistoryPrefix, NodeTag};
+use crate::rule::{EnterOutcome, ViewRule};
+use crate::snapshot::Snapshot;
+use crate::view_copy::ViewCopy;
 use left_right::reader;
 use left_right::reader::Reading;
 use std::marker::Model;
@@ -54,7 +54,10 @@ impl<S: NodeTag> Model for Entered<S> {
 
 impl<S: NodeTag> Reader<S> {
     /// A reader that has seen nothing.
-    pub(crate) fn new(reader: reader::Reader<ViewCopy, u64, ViewRule<S>>, seen: HistoryPrefix<S>) -> Reader<S>
+    pub(crate) fn new(
+        reader: reader::Reader<ViewCopy, u64, ViewRule<S>>,
+        seen: HistoryPrefix<S>,
+    ) -> Reader<S>
         requires start { seen ≡ [] }
         requires view { sides.view reader.place ≡ 0 }
         ensures { result ≡ [] }

@@ -38,7 +38,11 @@ impl<'a> Model for OwnerRows<'a> {
 }
 
 impl<'a> OwnerRows<'a> {
-    pub(crate) fn new(owner: &'a Name, rows: Range<'a, Key, LiveValue>, prefix: Prefix) -> OwnerRows<'a>
+    pub(crate) fn new(
+        owner: &'a Name,
+        rows: Range<'a, Key, LiveValue>,
+        prefix: Prefix,
+    ) -> OwnerRows<'a>
         ensures { result ≡ spec.rows_left false owner.now prefix rows.entry }
     {
         OwnerRows {

@@ -1,7 +1,7 @@
 //! The rule of views: what is published is the view of a beginning of the story, no shorter than any reader saw.
 
-use crate::view_copy::ViewCopy;
 use crate::history::NodeTag;
+use crate::view_copy::ViewCopy;
 use crossbeam_utils::rule::{Outcome, Protocol};
 use std::marker::PhantomData;
 

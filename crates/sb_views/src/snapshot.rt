@@ -5,8 +5,8 @@ ghost use Rattle.std.specs.Option.{option_map};
 ghost use Rattle.sb_views.specs.NodeViews as node_views;
 ghost use Rattle.sb_views.specs.LiveRows as spec;
 
-use crate::owner_views::OwnerViews;
 use crate::node_view::NodeView;
+use crate::owner_views::OwnerViews;
 use crate::rows::LiveRows;
 use sb_types::{Key, Name, Prefix, Value};
 use std::marker::Model;

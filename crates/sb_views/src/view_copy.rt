@@ -1,8 +1,8 @@
 //! One copy of what readers are shown, and the steps by which both copies follow.
 ghost use Rattle.std.specs.Prelude.{◌≡◌};
 
-use crate::node_view::NodeView;
 use crate::history::Position;
+use crate::node_view::NodeView;
 use left_right::Absorb;
 use sb_types::{Entry, Name};
 use std::alloc::AllocError;

@@ -6,10 +6,10 @@ ghost use Rattle.sb_views.specs.Histories.{node_after};
 ghost use Rattle.sb_views.specs.Publishing as spec;
 
 use crate::batch::Batch;
+use crate::history::{HistoryPrefix, NodeTag, Position};
 use crate::reader::Reader;
 use crate::rule::{PublishOutcome, ViewRule};
 use crate::view_copy::{Operation, ViewCopy};
-use crate::history::{HistoryPrefix, Position, NodeTag};
 use core::mem::replace_with;
 use left_right::writer::Writer;
 use sb_types::Fault;
