@@ -10,7 +10,7 @@ mod sizes;
 mod writing;
 
 use problem::Problem;
-use sb_views::Opened;
+use sb_views::NewHistory;
 use std::env;
 use std::marker::Brand;
 use std::sync::ledger::Blank;
@@ -20,6 +20,6 @@ fn main(rt: HostRuntime) -> Result<(), Problem> {
     let sizes = sizes::read(words.as_slice())?;
     let core = sample::full_core(rt.alloc(), sizes)?;
     let blank = Blank::new(measure::SEATS as u64);
-    let figures = measure::measure::<Brand, _>(&rt, rt.alloc(), Opened::new(), blank, core, sizes)?;
+    let figures = measure::measure::<Brand, _>(&rt, rt.alloc(), NewHistory::new(), blank, core, sizes)?;
     figures.print(&rt, sizes)
 }

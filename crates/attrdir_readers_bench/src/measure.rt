@@ -7,10 +7,10 @@ use crate::report::{Beside, Figures, Measured};
 use crate::sample::{Asked, questions};
 use crate::sizes::Sizes;
 use crate::writing::Writer;
-use sb_directory::{Configured, Directory, ReaderSeat};
+use sb_directory::{DirectoryTag, Directory, ReaderSeat};
 use sb_node::NodeCore;
 use sb_types::Fault;
-use sb_views::{Opened, Site};
+use sb_views::{NewHistory, NodeTag};
 use std::alloc::{AllocError, Global};
 use std::sync::Wait;
 use std::sync::atomic::{AtomicBool, Ordering};
@@ -34,13 +34,13 @@ struct Task<'a> {
 
 /// What is left after a measuring: the writer, the seats, and what was measured.
 #[derive(Drop)]
-struct Left<S: Site> {
+struct Left<S: NodeTag> {
     writer: Writer<S>,
     seats: Vec<ReaderSeat<S>>,
     beside: Beside,
 }
 
-fn take_some<S: Site>(
+fn take_some<S: NodeTag>(
     alloc: Global,
     seats: &mut Vec<ReaderSeat<S>>,
     count: usize,
@@ -55,7 +55,7 @@ fn take_some<S: Site>(
 }
 
 /// Each reader in a thread of its own.
-fn read_all<S: Configured + Send + Sync, R: Threads + CpuClock + Sync>(
+fn read_all<S: DirectoryTag + Send + Sync, R: Threads + CpuClock + Sync>(
     rt: &R,
     seats: Vec<ReaderSeat<S>>,
     task: Task<'_>,
@@ -68,7 +68,7 @@ fn read_all<S: Configured + Send + Sync, R: Threads + CpuClock + Sync>(
 }
 
 /// What the readers found, and their seats put back.
-fn add_up<S: Site>(
+fn add_up<S: NodeTag>(
     read: Vec<Result<Read<S>, Problem>>,
     seats: &mut Vec<ReaderSeat<S>>,
 ) -> Result<Measured, Problem> {
@@ -88,7 +88,7 @@ fn add_up<S: Site>(
 type Wrote<S> = (Writer<S>, Result<(), Fault>);
 
 /// Readers beside a writer, and the time until the last of them has read.
-fn run_beside<S: Configured + Send + Sync, R: Threads + Wait + Clock + CpuClock + Sync + Send>(
+fn run_beside<S: DirectoryTag + Send + Sync, R: Threads + Wait + Clock + CpuClock + Sync + Send>(
     rt: &R,
     directory: &Directory<S, &R>,
     writer: Writer<S>,
@@ -112,7 +112,7 @@ fn run_beside<S: Configured + Send + Sync, R: Threads + Wait + Clock + CpuClock 
 }
 
 /// These readers beside the writer.
-fn measure_beside<S: Configured + Send + Sync, R: Threads + Wait + Clock + CpuClock + Sync + Send>(
+fn measure_beside<S: DirectoryTag + Send + Sync, R: Threads + Wait + Clock + CpuClock + Sync + Send>(
     rt: &R,
     alloc: Global,
     directory: &Directory<S, &R>,
@@ -147,7 +147,7 @@ fn measure_beside<S: Configured + Send + Sync, R: Threads + Wait + Clock + CpuCl
 }
 
 /// One reader, two and three beside the writer.
-fn measure_readers<S: Configured + Send + Sync, R: Threads + Wait + Clock + CpuClock + Sync + Send>(
+fn measure_readers<S: DirectoryTag + Send + Sync, R: Threads + Wait + Clock + CpuClock + Sync + Send>(
     rt: &R,
     alloc: Global,
     directory: &Directory<S, &R>,
@@ -170,7 +170,7 @@ fn measure_readers<S: Configured + Send + Sync, R: Threads + Wait + Clock + CpuC
 }
 
 /// All that is measured from these seats.
-fn measure_from<S: Configured + Send + Sync, R: Threads + Wait + Clock + CpuClock + Sync + Send>(
+fn measure_from<S: DirectoryTag + Send + Sync, R: Threads + Wait + Clock + CpuClock + Sync + Send>(
     rt: &R,
     alloc: Global,
     directory: &Directory<S, &R>,
@@ -198,17 +198,17 @@ fn measure_from<S: Configured + Send + Sync, R: Threads + Wait + Clock + CpuCloc
 
 /// Makes a directory of this node, and measures it.
 pub(crate) fn measure<
-    S: Configured + Send + Sync,
+    S: DirectoryTag + Send + Sync,
     R: Threads + Wait + Clock + CpuClock + Sync + Send,
 >(
     rt: &R,
     alloc: Global,
-    opened: Opened,
+    opened: NewHistory,
     blank: Blank,
     core: NodeCore,
     sizes: Sizes,
 ) -> Result<Figures, Problem>
-    requires story { opened.seen.book ≡ S.story }
+    requires story { opened.seen.book ≡ S.history }
     requires opening { S.opening ≡ core.node }
     requires settings { S.settings ≡ core.settings }
     requires name { blank.name ≡ S.name }

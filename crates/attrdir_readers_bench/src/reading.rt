@@ -3,18 +3,18 @@ use crate::problem::Problem;
 use crate::report::Measured;
 use crate::sample::Asked;
 use sb_directory::ReaderSeat;
-use sb_views::{Rows, Site};
+use sb_views::{LiveRows, NodeTag};
 use std::time::CpuClock;
 
 /// A reader that has read: its seat, and how many it found in the time that its thread ran.
 #[derive(Drop)]
-pub(crate) struct Read<S: Site> {
+pub(crate) struct Read<S: NodeTag> {
     pub(crate) seat: ReaderSeat<S>,
     pub(crate) found: Measured,
 }
 
 /// Enters, looks a key up and leaves; says whether it was found.
-fn get<S: Site>(seat: ReaderSeat<S>, asked: &Asked) -> (ReaderSeat<S>, bool) {
+fn get<S: NodeTag>(seat: ReaderSeat<S>, asked: &Asked) -> (ReaderSeat<S>, bool) {
     match seat.enter() {
         Ok(entered) => {
             let found = entered.snapshot().get(&asked.owner, &asked.key).is_some();
@@ -25,7 +25,7 @@ fn get<S: Site>(seat: ReaderSeat<S>, asked: &Asked) -> (ReaderSeat<S>, bool) {
 }
 
 /// Looks up all of these so many times, and gives how often a key was found.
-fn get_all<S: Site>(seat: ReaderSeat<S>, asked: &[Asked], rounds: u64) -> (ReaderSeat<S>, u64) {
+fn get_all<S: NodeTag>(seat: ReaderSeat<S>, asked: &[Asked], rounds: u64) -> (ReaderSeat<S>, u64) {
     let mut seat = seat;
     let mut found: u64 = 0;
     for _ in 0..rounds {
@@ -39,7 +39,7 @@ fn get_all<S: Site>(seat: ReaderSeat<S>, asked: &[Asked], rounds: u64) -> (Reade
 }
 
 /// Goes through rows, and gives how many there were.
-fn count_rows(rows: Rows<'_>) -> u64 {
+fn count_rows(rows: LiveRows<'_>) -> u64 {
     let mut count: u64 = 0;
     for _row in rows {
         count = count.saturating_add(1);
@@ -48,7 +48,7 @@ fn count_rows(rows: Rows<'_>) -> u64 {
 }
 
 /// Enters, goes through the rows of a prefix and leaves; gives how many there were.
-fn list<S: Site>(seat: ReaderSeat<S>, asked: &Asked) -> (ReaderSeat<S>, u64) {
+fn list<S: NodeTag>(seat: ReaderSeat<S>, asked: &Asked) -> (ReaderSeat<S>, u64) {
     match seat.enter() {
         Ok(entered) => {
             let rows = count_rows(entered.snapshot().rows(Some(asked.owner), asked.prefix));
@@ -59,7 +59,7 @@ fn list<S: Site>(seat: ReaderSeat<S>, asked: &Asked) -> (ReaderSeat<S>, u64) {
 }
 
 /// Goes through the rows of each of these prefixes, and gives how many there were.
-fn list_all<S: Site>(seat: ReaderSeat<S>, asked: &[Asked]) -> (ReaderSeat<S>, u64) {
+fn list_all<S: NodeTag>(seat: ReaderSeat<S>, asked: &[Asked]) -> (ReaderSeat<S>, u64) {
     let mut seat = seat;
     let mut rows: u64 = 0;
     for one in asked {
@@ -71,7 +71,7 @@ fn list_all<S: Site>(seat: ReaderSeat<S>, asked: &[Asked]) -> (ReaderSeat<S>, u6
 }
 
 /// Looks up all of these so many times.
-pub(crate) fn look_up<S: Site, R: CpuClock>(
+pub(crate) fn look_up<S: NodeTag, R: CpuClock>(
     rt: &R,
     seat: ReaderSeat<S>,
     asked: &[Asked],
@@ -87,7 +87,7 @@ pub(crate) fn look_up<S: Site, R: CpuClock>(
 }
 
 /// Goes through the rows of each of these prefixes once.
-pub(crate) fn go_through<S: Site, R: CpuClock>(
+pub(crate) fn go_through<S: NodeTag, R: CpuClock>(
     rt: &R,
     seat: ReaderSeat<S>,
     asked: &[Asked],

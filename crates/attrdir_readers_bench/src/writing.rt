@@ -2,10 +2,10 @@
 use crate::problem::Problem;
 use crate::report::Measured;
 use crate::sample::{commit, log};
-use sb_directory::{Configured, Directory, ReaderSeat};
+use sb_directory::{DirectoryTag, Directory, ReaderSeat};
 use sb_log::{Committed, PlainLog};
 use sb_types::Fault;
-use sb_views::Site;
+use sb_views::NodeTag;
 use std::alloc::Global;
 use std::sync::Wait;
 use std::sync::atomic::{AtomicBool, Ordering};
@@ -20,14 +20,14 @@ const WRITES_MOST: u64 = 1_000_000;
 
 /// A seat and the log whose writes are entered from it.
 #[derive(Drop)]
-pub(crate) struct Writer<S: Site> {
+pub(crate) struct Writer<S: NodeTag> {
     seat: ReaderSeat<S>,
     log: PlainLog,
     written: u64,
     alloc: Global,
 }
 
-impl<S: Configured> Writer<S> {
+impl<S: DirectoryTag> Writer<S> {
     pub(crate) fn new(alloc: Global, seat: ReaderSeat<S>) -> Result<Writer<S>, Fault> {
         Ok(Writer {
             seat,

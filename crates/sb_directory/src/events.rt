@@ -1,8 +1,23 @@
-//! Adding events to the story, which nobody else adds to while the lock is held.
+//! Adding events to the history, which nobody else adds to while the lock is held.
 ghost use Rattle.std.specs.Prelude.{◌≡◌, ◌<◌, ◌-◌, ◌^◌, ◌++◌, ◌∷◌, [], length};
-ghost use Rattle.sb_views.specs.declared.event.Event.TheVariants as events;
+ghost use Rattle.sb_views.specs.Histories.{event_of};
 
-use sb_holdings::Report;
-use sb_types::{Delta, Entry};
-use sb_views::{HistoryHead, HistoryPrefix, NodeTag};
+use sb_views::{EventRef, HistoryHead, HistoryPrefix, NodeTag};
 use std::sync::Wait;
+
+/// Adds an event to a history, of which the prefix has all events so far. Where it has not, which no run has found, this would not
+/// return.
+pub(crate) fn add_event<S: NodeTag, Q: Wait>(
+    rt: &Q,
+    head: &HistoryHead<S>,
+    history: &mut HistoryPrefix<S>,
+    event: EventRef<'_>,
+)
+    requires { length history.old < 2 ^ 64 - 1 }
+    ensures { history.new ≡ history.old ++ event_of event ∷ [] }
+{
+    if !history.add(head, event) {
+        for _ in rt.forever() {}
+        unreachable!();
+    }
+}

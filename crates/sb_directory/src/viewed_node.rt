@@ -16,7 +16,7 @@ ghost use Rattle.sb_views.specs.Histories.{node_after};
 ghost use Rattle.sb_directory.specs.ViewedNodes as spec;
 
 use crate::behind::Behind;
-use crate::events::{add_applied, add_own};
+use crate::events::add_event;
 use crate::notes::{push_note, push_notes_since, versions_of};
 use crate::views::Views;
 use sb_digest::Digest;
@@ -24,7 +24,7 @@ use sb_holdings::Report;
 use sb_log::Committed;
 use sb_node::NodeCore;
 use sb_types::{Delta, Fault, Name};
-use sb_views::{HistoryHead, HistoryPrefix, NodeTag, Reader};
+use sb_views::{EventRef, HistoryHead, HistoryPrefix, NodeTag, Reader};
 use sb_watch::{Filter, Hub, Polled, WatchId};
 use std::alloc::Global;
 use std::marker::Model;
@@ -109,7 +109,7 @@ impl<S: NodeTag, R: Wait + Drop> ViewedNode<S, R> {
         let entry = committed.entry();
         self.behind.add(me, self.core.upto(&me))?;
         self.core.take_own(committed)?;
-        add_own(rt, &self.head, &mut self.history, entry);
+        add_event(rt, &self.head, &mut self.history, EventRef::TookOwn(entry));
         push_note(&mut self.hub, &me, entry);
         Ok(self.views.show(&self.core, &self.history, &mut self.behind))
     }
@@ -135,7 +135,8 @@ impl<S: NodeTag, R: Wait + Drop> ViewedNode<S, R> {
         let versions = versions_of(self.alloc, self.core.holdings(), blocks)?;
         self.behind.add_owners(self.core.holdings(), blocks)?;
         let ends = self.core.apply(delta)?;
-        add_applied(rt, &self.head, &mut self.history, delta, &ends);
+        let event = EventRef::Applied(delta, &ends);
+        add_event(rt, &self.head, &mut self.history, event);
         push_notes_since(&mut self.hub, self.core.holdings(), versions);
         let shown = self.views.show(&self.core, &self.history, &mut self.behind);
         Ok((ends, shown))

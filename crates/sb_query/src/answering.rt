@@ -24,7 +24,11 @@ fn copy_of(alloc: Global, row: sb_views::LiveRow<'_>) -> Result<Row, Fault>
 }
 
 /// Whether rows are left, and the longest front of the rows whose page has a frame within the budget.
-fn gather(alloc: Global, asked: sb_views::LiveRows<'_>, budget: u64) -> Result<(bool, Vec<Row>), Fault>
+fn gather(
+    alloc: Global,
+    asked: sb_views::LiveRows<'_>,
+    budget: u64,
+) -> Result<(bool, Vec<Row>), Fault>
     requires least { BUDGET_LEAST ≤ budget }
     requires most { budget ≤ BUDGET_MOST }
     ensures front { IfOk result (λ found. IsLongestPage budget (map message_row asked.entry) (rows_of found.0 found.1.items)) }

@@ -15,8 +15,8 @@ abbrev pub IsOpenedFrom : Log → Node → Type 0
 IsOpenedFrom log node = (table : Table) × (node ≡ opened_node log.owner table) × (log.is_clean ≡ true → table ≡ log.content)
 
 -- why a node does not run, before its log is read: the first reason that holds
-abbrev pub refusal : Settings → Log → Option Fault
-refusal settings log =
+abbrev pub start_refusal : Settings → Log → Option Fault
+start_refusal settings log =
     if nat_lt settings.seats (settings.workers + 2) then Some BadSetting
     else (if pointwise nat_eq log.cluster settings.cluster then None else Some WrongCluster)
 
@@ -31,4 +31,4 @@ IsStartFault None log on_log_fault fault =
     ((new : Log) × Loads log (Err fault) new) ⊎ ((log.is_open ≡ true) × (IsEndFault on_log_fault fault ⊎ (fault ≡ ReadFailed)))
 
 abbrev pub IsRunningFault : Settings → Log → OnLogFault → Fault → Type 0
-IsRunningFault settings log on_log_fault fault = IsStartFault (refusal settings log) log on_log_fault fault
+IsRunningFault settings log on_log_fault fault = IsStartFault (start_refusal settings log) log on_log_fault fault

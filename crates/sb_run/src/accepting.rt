@@ -1,9 +1,9 @@
 //! The connections that come to a socket of the node.
 
 use crate::counts::Counts;
-use crate::ending::Ending;
+use crate::ending::EndFlag;
 use crate::pool::Source;
-use crate::sockets::{Door, limit};
+use crate::sockets::{BoundSocket, limit};
 use sb_types::Fault;
 use std::os::unix::net::UnixStream;
 use std::sync::atomic::{AtomicU64, Ordering};
@@ -17,8 +17,8 @@ const RESPITE: u64 = 20;
 #[derive(Drop)]
 pub(crate) struct Acceptor<'a, R> {
     rt: &'a R,
-    door: &'a Door<'a>,
-    ending: &'a Ending,
+    socket: &'a BoundSocket<'a>,
+    ending: &'a EndFlag,
     idle: u64,
     accepted: AtomicU64,
     /// What counts the connections too, where they are those of peers.
@@ -26,7 +26,10 @@ pub(crate) struct Acceptor<'a, R> {
 }
 
 /// A connection that was accepted, as a reader and a writer, with a limit on how long it may be idle.
-fn both_ways(accepted: io::Result<UnixStream>, idle: u64) -> io::Result<(UnixStream, UnixStream)> {
+fn reader_and_writer(
+    accepted: io::Result<UnixStream>,
+    idle: u64,
+) -> io::Result<(UnixStream, UnixStream)> {
     let stream = accepted?;
     limit(&stream, idle)?;
     let other = stream.try_clone()?;
@@ -38,14 +41,14 @@ impl<'a, R> Acceptor<'a, R> {
     /// counted here too.
     pub(crate) fn new(
         rt: &'a R,
-        door: &'a Door<'a>,
-        ending: &'a Ending,
+        socket: &'a BoundSocket<'a>,
+        ending: &'a EndFlag,
         idle: u64,
         counts: Option<&'a Counts>,
     ) -> Acceptor<'a, R> {
         Acceptor {
             rt,
-            door,
+            socket,
             ending,
             idle,
             accepted: AtomicU64::new(0),
@@ -60,11 +63,11 @@ impl<R: Clock> Source for Acceptor<'_, R> {
     type Out = UnixStream;
 
     fn next(&self) -> Option<Result<(u64, UnixStream, UnixStream), Fault>> {
-        let accepted = self.door.accept();
+        let accepted = self.socket.accept();
         if self.ending.has_come() {
             return None;
         }
-        match both_ways(accepted, self.idle) {
+        match reader_and_writer(accepted, self.idle) {
             Ok((input, output)) => {
                 let before = self.accepted.fetch_add(1, Ordering::SeqCst);
                 if let Some(counts) = self.counts {

@@ -1,7 +1,7 @@
 //! The bell that wakes the thread that dials.
 ghost use Rattle.std.specs.Prelude.{◌≡◌, IfErr};
 
-use crate::gate::{Gate, Step};
+use crate::gate::{Gate, GatePoint};
 use crossbeam_utils::sync::{Parker, Unparker};
 use sb_types::{Delta, Fault};
 use std::alloc::Global;
@@ -63,7 +63,7 @@ impl Gate for Bell {
     // It turns nobody away.
     ghost turns = { λ gate session step. ⊥ };
 
-    fn pass(&self, _session: u64, _step: Step) -> bool {
+    fn pass(&self, _session: u64, _step: GatePoint) -> bool {
         true
     }
 

@@ -1,10 +1,10 @@
 //! The thread that dials the peers of a node: in turn, with a pause after each round, and in bursts where there is news.
 
+use crate::context::NodeContext;
 use crate::dialing::{dial_peer, digests_of_all};
 use crate::observer::Observer;
 use crate::peers::Peers;
-use crate::rounds::{Paced, Rounds};
-use crate::shared::Shared;
+use crate::rounds::{Rounds, RoundsTag};
 use crate::status::Status;
 use crossbeam_utils::sync::Parker;
 use sb_directory::ReaderSeat;
@@ -101,9 +101,9 @@ impl<'a, O: Observer> Dialer<'a, O> {
     }
 
     /// How many exchanges tell of all owners that the node holds; 1 where memory is wanting to count them.
-    fn count_exchanges<S: Paced, H: Wait + Drop, Q: Wait>(
+    fn count_exchanges<S: RoundsTag, H: Wait + Drop, Q: Wait>(
         &mut self,
-        node: &Shared<S, H, Q>,
+        node: &NodeContext<S, H, Q>,
         seat: &mut ReaderSeat<S>,
     ) -> u64 {
         if node.bell.take_new_owner() {
@@ -116,9 +116,9 @@ impl<'a, O: Observer> Dialer<'a, O> {
     }
 
     /// One round with the peer that lies there.
-    fn round<S: Paced, H: Wait + Drop, Q: Wait + Net + Clock>(
+    fn round<S: RoundsTag, H: Wait + Drop, Q: Wait + Net + Clock>(
         &mut self,
-        node: &Shared<S, H, Q>,
+        node: &NodeContext<S, H, Q>,
         seat: ReaderSeat<S>,
         index: usize,
     ) -> ReaderSeat<S> {
@@ -141,9 +141,9 @@ impl<'a, O: Observer> Dialer<'a, O> {
     }
 
     /// Tells the observer how the node is, where it wants to know and is to be told by now.
-    fn tell_status<S: Paced, H: Wait + Drop, Q: Wait + Clock>(
+    fn tell_status<S: RoundsTag, H: Wait + Drop, Q: Wait + Clock>(
         &mut self,
-        node: &Shared<S, H, Q>,
+        node: &NodeContext<S, H, Q>,
         seat: ReaderSeat<S>,
     ) -> ReaderSeat<S> {
         let is_early = self
@@ -175,9 +175,9 @@ impl<'a, O: Observer> Dialer<'a, O> {
     }
 
     /// Shows what could not be shown for want of memory, and says, once, that another node writes under this node's name.
-    fn look_after<S: Paced, H: Wait + Drop, Q: Wait>(
+    fn look_after<S: RoundsTag, H: Wait + Drop, Q: Wait>(
         &mut self,
-        node: &Shared<S, H, Q>,
+        node: &NodeContext<S, H, Q>,
         seat: &mut ReaderSeat<S>,
     ) {
         let _ = node.directory.refresh(node.rt, seat);
@@ -191,9 +191,9 @@ impl<'a, O: Observer> Dialer<'a, O> {
     }
 
     /// One round, if there is a peer for it: of a burst, or in turn. After one in turn the next is due behind the pause.
-    fn next_round<S: Paced, H: Wait + Drop, Q: Wait + Net + Clock>(
+    fn next_round<S: RoundsTag, H: Wait + Drop, Q: Wait + Net + Clock>(
         &mut self,
-        node: &Shared<S, H, Q>,
+        node: &NodeContext<S, H, Q>,
         seat: ReaderSeat<S>,
         cause: Cause,
     ) -> ReaderSeat<S> {
@@ -215,7 +215,7 @@ impl<'a, O: Observer> Dialer<'a, O> {
     }
 
     /// Waits until the next round in turn is due, whatever the news.
-    fn wait<S: Paced, H: Wait + Drop, Q: Wait + Clock>(&self, node: &Shared<S, H, Q>) {
+    fn wait<S: RoundsTag, H: Wait + Drop, Q: Wait + Clock>(&self, node: &NodeContext<S, H, Q>) {
         match self.due {
             Some(due) => thread::sleep(node.rt, until(node.rt, due)),
             None => thread::sleep(node.rt, Duration::from_millis(node.pace.pause)),
@@ -223,9 +223,9 @@ impl<'a, O: Observer> Dialer<'a, O> {
     }
 
     /// Begins a burst, where there is news and a peer to hear of it. News that comes soon after a burst began is gathered first.
-    fn begins_burst<S: Paced, H: Wait + Drop, Q: Wait + Clock>(
+    fn begins_burst<S: RoundsTag, H: Wait + Drop, Q: Wait + Clock>(
         &mut self,
-        node: &Shared<S, H, Q>,
+        node: &NodeContext<S, H, Q>,
     ) -> bool {
         if node.pace.fanout == 0 || !node.bell.take_news() {
             return false;
@@ -244,7 +244,10 @@ impl<'a, O: Observer> Dialer<'a, O> {
     }
 
     /// Waits until the next round is to be made, and says why.
-    fn rest<S: Paced, H: Wait + Drop, Q: Wait + Clock>(&mut self, node: &Shared<S, H, Q>) -> Cause {
+    fn rest<S: RoundsTag, H: Wait + Drop, Q: Wait + Clock>(
+        &mut self,
+        node: &NodeContext<S, H, Q>,
+    ) -> Cause {
         let Some(due) = self.due else {
             self.wait(node);
             return Cause::Turn;
@@ -265,9 +268,9 @@ impl<'a, O: Observer> Dialer<'a, O> {
     }
 
     /// Makes all rounds; 0 for rounds without end. Nothing where the node ended before.
-    pub(crate) fn dial_all<S: Paced, H: Wait + Drop, Q: Wait + Net + Clock>(
+    pub(crate) fn dial_all<S: RoundsTag, H: Wait + Drop, Q: Wait + Net + Clock>(
         self,
-        node: &Shared<S, H, Q>,
+        node: &NodeContext<S, H, Q>,
         seat: ReaderSeat<S>,
     ) -> (ReaderSeat<S>, Option<Rounds<S>>) {
         let mut dialer = self;

@@ -4,12 +4,12 @@ ghost use Rattle.sb_run.specs.Running as spec;
 ghost use Rattle.sb_run.specs.Running.{IsRunningFault};
 
 use crate::observer::Observer;
-use crate::owner::Owner;
-use crate::site::run_site;
+use crate::own_writes::OwnWrites;
+use crate::tagged::run_tagged;
 use sb_log::WriteLog;
 use sb_node::NodeCore;
 use sb_types::{Fault, Settings};
-use sb_views::Opened;
+use sb_views::NewHistory;
 use std::alloc::Global;
 use std::marker::Brand;
 use std::net::{Net, TcpListener, TcpStream};
@@ -74,8 +74,8 @@ pub struct Ran {
 }
 
 /// Why a node does not run, before its log is read: the first reason that holds.
-fn refusal<L: WriteLog>(settings: &Settings, log: &L) -> Option<Fault>
-    ensures { result ≡ spec.refusal settings.now (L.seen log.now) }
+fn start_refusal<L: WriteLog>(settings: &Settings, log: &L) -> Option<Fault>
+    ensures { result ≡ spec.start_refusal settings.now (L.seen log.now) }
 {
     if settings.seats() < settings.workers() + 2 {
         return Some(Fault::BadSetting);
@@ -129,12 +129,12 @@ pub fn run_node<
     pace: Pace,
     observer: &O,
 ) -> Result<Ran, Fault>
-    ensures refused { IfSome (spec.refusal settings (L.seen log)) (λ fault. result ≡ Err fault) }
-    ensures closed { spec.refusal settings (L.seen log) ≡ None → (L.seen log).is_open ≡ false → result ≡ Err Fault.Closed }
+    ensures refused { IfSome (spec.start_refusal settings (L.seen log)) (λ fault. result ≡ Err fault) }
+    ensures closed { spec.start_refusal settings (L.seen log) ≡ None → (L.seen log).is_open ≡ false → result ≡ Err Fault.Closed }
     ensures fault { IfErr result (IsRunningFault settings (L.seen log) pace.on_log_fault) }
     ensures rounds { IfOk result (λ ran. ran.rounds ≡ pace.rounds) }
 {
-    if let Some(fault) = refusal(&settings, &log) {
+    if let Some(fault) = start_refusal(&settings, &log) {
         return Err(fault);
     }
     let mut log = log;
@@ -142,13 +142,13 @@ pub fn run_node<
     let table = log.load(alloc)?;
     let core = NodeCore::open(alloc, settings, me, table)?;
     let blank = Blank::new(settings.seats());
-    run_site::<Brand, L, R, O>(
+    run_tagged::<Brand, L, R, O>(
         rt,
         alloc,
-        Opened::new(),
+        NewHistory::new(),
         blank,
         core,
-        Owner::new(log),
+        OwnWrites::new(log),
         paths,
         pace,
         observer,

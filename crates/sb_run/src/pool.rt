@@ -5,10 +5,10 @@ ghost use Rattle.sb_run.specs.Gates.{IsShut, AreShut};
 ghost use Rattle.sb_run.specs.Hellos.{Greets};
 ghost use Rattle.sb_run.specs.Pools.{IsKept, AreKept};
 
-use crate::gate::{Gate, Gated};
+use crate::gate::{Gate, GatedHandler};
 use crate::greeting::session_of;
 use core::mem::replace_with;
-use sb_directory::{Configured, Directory, ReaderSeat, Served};
+use sb_directory::{Directory, DirectoryTag, ReaderSeat, SeatHandler};
 use sb_frames::Steps;
 use sb_session::serve;
 use sb_types::Fault;
@@ -35,7 +35,7 @@ pub trait Source {
 
 /// What the workers of a pool did.
 #[derive(Drop)]
-pub struct Pooled<S: Configured> {
+pub struct Pooled<S: DirectoryTag> {
     /// How many connections were taken.
     pub sessions: u64,
     /// How many of them ended with a fault, and how many could not be had.
@@ -52,7 +52,7 @@ struct Tally {
 }
 
 /// Serves one connection from a seat, with at most `max_reads` reads, and says whether it ended with a fault.
-fn meet_within<S: Configured, H: Wait + Drop, Q: Wait, I: Read, O: Write, G: Gate, K: Ledger>(
+fn meet_within<S: DirectoryTag, H: Wait + Drop, Q: Wait, I: Read, O: Write, G: Gate, K: Ledger>(
     rt: &Q,
     alloc: Global,
     directory: &Directory<S, H>,
@@ -68,7 +68,7 @@ fn meet_within<S: Configured, H: Wait + Drop, Q: Wait, I: Read, O: Write, G: Gat
     ensures greets { Greets S.settings.cluster S.opening.held.me (O.contents output.old) (O.contents output.new) }
     ensures reads { steps.new ≤ steps.old + max_reads }
 {
-    let mut handler = Gated::new(Served::new(rt, directory, seat), gate, number);
+    let mut handler = GatedHandler::new(SeatHandler::new(rt, directory, seat), gate, number);
     let (ended, _) = serve(
         alloc,
         input,
@@ -82,7 +82,7 @@ fn meet_within<S: Configured, H: Wait + Drop, Q: Wait, I: Read, O: Write, G: Gat
 }
 
 /// The same, where nothing was read before.
-fn meet<S: Configured, H: Wait + Drop, Q: Wait, I: Read, O: Write, G: Gate, K: Ledger>(
+fn meet<S: DirectoryTag, H: Wait + Drop, Q: Wait, I: Read, O: Write, G: Gate, K: Ledger>(
     rt: &Q,
     alloc: Global,
     directory: &Directory<S, H>,
@@ -107,7 +107,7 @@ fn meet<S: Configured, H: Wait + Drop, Q: Wait, I: Read, O: Write, G: Gate, K: L
 
 /// Serves connections from a seat until the source has no more.
 #[tactic(auto, using(crate::proofs::Pooling::kept_same, crate::proofs::Pooling::kept_on))]
-fn tend<S: Configured, H: Wait + Drop, Q: Wait, X: Source, G: Gate>(
+fn work<S: DirectoryTag, H: Wait + Drop, Q: Wait, X: Source, G: Gate>(
     rt: &Q,
     alloc: Global,
     directory: &Directory<S, H>,
@@ -151,7 +151,7 @@ fn tend<S: Configured, H: Wait + Drop, Q: Wait, X: Source, G: Gate>(
 }
 
 /// The same from a seat that stays in its place.
-fn tend_in_place<S: Configured, H: Wait + Drop, Q: Wait, X: Source, G: Gate>(
+fn work_in_place<S: DirectoryTag, H: Wait + Drop, Q: Wait, X: Source, G: Gate>(
     rt: &Q,
     alloc: Global,
     directory: &Directory<S, H>,
@@ -169,7 +169,7 @@ fn tend_in_place<S: Configured, H: Wait + Drop, Q: Wait, X: Source, G: Gate>(
         |seat, _| -> (ReaderSeat<S>, ())
             requires { IsSend X.In.row × IsSend X.Out.row }
             ensures { IsKept (AreShut (G.lets gate.entry.now)) seat result.0 }
-        { tend(rt, alloc, directory, source, gate, max_reads, tally, seat) },
+        { work(rt, alloc, directory, source, gate, max_reads, tally, seat) },
     );
 }
 
@@ -178,7 +178,7 @@ fn tend_in_place<S: Configured, H: Wait + Drop, Q: Wait, X: Source, G: Gate>(
 /// of its cluster. One that the gate turns away ends with `TurnsSpent`; each makes at most `max_reads` reads. The seats come
 /// back in their order; where the gate lets no session apply a delta, none made an event or was told of one. It never refuses.
 pub fn serve_pool<
-    S: Configured + Send + Sync,
+    S: DirectoryTag + Send + Sync,
     H: Wait + Drop + Send + Sync,
     Q: Threads + Wait + Sync,
     X: Source + Sync,
@@ -200,7 +200,7 @@ pub fn serve_pool<
         faults: AtomicU64::new(0),
     };
     let mut seats = seats;
-    tend_all(
+    work_all(
         rt, alloc, directory, source, gate, max_reads, &tally, &mut seats,
     );
     Ok(Pooled {
@@ -210,8 +210,8 @@ pub fn serve_pool<
     })
 }
 
-fn tend_all<
-    S: Configured + Send + Sync,
+fn work_all<
+    S: DirectoryTag + Send + Sync,
     H: Wait + Drop + Send + Sync,
     Q: Threads + Wait + Sync,
     X: Source + Sync,
@@ -239,6 +239,6 @@ fn tend_all<
         &|_, seat| -> ()
             requires { IsSend X.In.row × IsSend X.Out.row }
             ensures { IsKept (AreShut (G.lets gate.entry.now)) seat.entry.now seat.exit.now }
-        { tend_in_place(rt, alloc, directory, source, gate, max_reads, tally, seat) },
+        { work_in_place(rt, alloc, directory, source, gate, max_reads, tally, seat) },
     );
 }

@@ -3,13 +3,13 @@ ghost use Rattle.std.specs.Prelude.{◌≡◌, ◌<◌};
 
 use crate::making::{key, name, new_log, weight};
 use crate::{got, there};
-use sb_directory::{Configured, Directory, EnteredSeat, ReaderSeat};
+use sb_directory::{Directory, DirectoryTag, EnteredSeat, ReaderSeat};
 use sb_frames::Steps;
 use sb_log::PlainLog;
 use sb_node::NodeCore;
-use sb_run::{Owner, Stored, serve_control};
+use sb_run::{OwnWrites, Stored, serve_control};
 use sb_types::{Delta, Fault};
-use sb_views::Opened;
+use sb_views::NewHistory;
 use std::alloc::Global;
 use std::io;
 use std::marker::Brand;
@@ -19,21 +19,21 @@ use std::sync::ledger::{Blank, Ledger};
 
 /// A directory, its seat, which is away while it enters or serves, and an owner with a new log.
 #[derive(Drop)]
-pub(crate) struct Desk<S: Configured, H: Wait + Drop> {
+pub(crate) struct Desk<S: DirectoryTag, H: Wait + Drop> {
     directory: Directory<S, H>,
     seat: Option<ReaderSeat<S>>,
-    owner: Owner<PlainLog>,
+    owner: OwnWrites<PlainLog>,
 }
 
 /// The desk of a node a with one seat.
-pub(crate) fn desk_of<S: Configured, R: Wait + Abort>(
+pub(crate) fn desk_of<S: DirectoryTag, R: Wait + Abort>(
     rt: &R,
     alloc: Global,
-    opened: Opened,
+    opened: NewHistory,
     blank: Blank,
     core: NodeCore,
 ) -> Desk<S, &R>
-    requires story { opened.seen.book ≡ S.story }
+    requires story { opened.seen.book ≡ S.history }
     requires opening { S.opening ≡ core.node }
     requires settings { S.settings ≡ core.settings }
     requires name { blank.name ≡ S.name }
@@ -45,11 +45,11 @@ pub(crate) fn desk_of<S: Configured, R: Wait + Abort>(
     Desk {
         directory,
         seat: seats.pop(),
-        owner: Owner::new(new_log(rt, alloc, b"a")),
+        owner: OwnWrites::new(new_log(rt, alloc, b"a")),
     }
 }
 
-impl<S: Configured, H: Wait + Drop> Desk<S, H> {
+impl<S: DirectoryTag, H: Wait + Drop> Desk<S, H> {
     /// Puts the weight 5 under a key.
     pub(crate) fn put<Q: Wait + Abort>(&mut self, rt: &Q, text: &[u8]) -> Result<Stored, Fault> {
         let seat = there(rt, self.seat.as_mut());
@@ -113,7 +113,7 @@ impl<S: Configured, H: Wait + Drop> Desk<S, H> {
 }
 
 /// How far a reader sees the writes of a.
-fn upto_of_a<S: Configured>(rt: &impl Abort, seat: ReaderSeat<S>) -> (ReaderSeat<S>, u64) {
+fn upto_of_a<S: DirectoryTag>(rt: &impl Abort, seat: ReaderSeat<S>) -> (ReaderSeat<S>, u64) {
     match seat.enter() {
         Ok(entered) => {
             let upto = seen_of_a(rt, &entered);
@@ -123,15 +123,22 @@ fn upto_of_a<S: Configured>(rt: &impl Abort, seat: ReaderSeat<S>) -> (ReaderSeat
     }
 }
 
-fn seen_of_a<S: Configured>(rt: &impl Abort, entered: &EnteredSeat<S>) -> u64 {
+fn seen_of_a<S: DirectoryTag>(rt: &impl Abort, entered: &EnteredSeat<S>) -> u64 {
     entered.snapshot().upto(&name(rt, b"a"))
 }
 
-fn serve_from<S: Configured, H: Wait + Drop, Q: Wait + Abort, R: io::Read, W: io::Write, K: Ledger>(
+fn serve_from<
+    S: DirectoryTag,
+    H: Wait + Drop,
+    Q: Wait + Abort,
+    R: io::Read,
+    W: io::Write,
+    K: Ledger,
+>(
     rt: &Q,
     alloc: Global,
     directory: &Directory<S, H>,
-    owner: &mut Owner<PlainLog>,
+    owner: &mut OwnWrites<PlainLog>,
     seat: ReaderSeat<S>,
     reader: &mut R,
     writer: &mut W,

@@ -6,10 +6,10 @@ use crate::desk::{Desk, desk_of};
 use crate::making::{new_node, put_of_w};
 use crate::owning::PUT;
 use crate::same;
-use sb_directory::Configured;
+use sb_directory::DirectoryTag;
 use sb_node::NodeCore;
 use sb_types::Fault;
-use sb_views::Opened;
+use sb_views::NewHistory;
 use std::alloc::Global;
 use std::io;
 use std::io::ErrorKind;
@@ -70,18 +70,18 @@ impl io::Write for ByteWriter {
 #[test]
 fn a_request_that_breaks_off_is_not_heard(rt: HostRuntime) {
     let core = new_node(&rt, rt.alloc(), 1);
-    hear_parts::<Brand, _>(&rt, rt.alloc(), Opened::new(), Blank::new(1), core);
+    hear_parts::<Brand, _>(&rt, rt.alloc(), NewHistory::new(), Blank::new(1), core);
 }
 
 /// No part of a Put is answered or heard; the whole one is the first write.
-fn hear_parts<S: Configured, R: Wait + Abort>(
+fn hear_parts<S: DirectoryTag, R: Wait + Abort>(
     rt: &R,
     alloc: Global,
-    opened: Opened,
+    opened: NewHistory,
     blank: Blank,
     core: NodeCore,
 )
-    requires story { opened.seen.book ≡ S.story }
+    requires story { opened.seen.book ≡ S.history }
     requires opening { S.opening ≡ core.node }
     requires settings { S.settings ≡ core.settings }
     requires name { blank.name ≡ S.name }
@@ -97,7 +97,7 @@ fn hear_parts<S: Configured, R: Wait + Abort>(
 }
 
 /// So many bytes of a Put end with this fault, and nothing is answered.
-fn hears_no_part<S: Configured, R: Wait + Abort>(
+fn hears_no_part<S: DirectoryTag, R: Wait + Abort>(
     rt: &R,
     alloc: Global,
     desk: &mut Desk<S, &R>,
@@ -115,7 +115,7 @@ fn hears_no_part<S: Configured, R: Wait + Abort>(
 }
 
 /// A whole Put is answered so.
-fn hears_all<S: Configured, R: Wait + Abort>(
+fn hears_all<S: DirectoryTag, R: Wait + Abort>(
     rt: &R,
     alloc: Global,
     desk: &mut Desk<S, &R>,
@@ -133,18 +133,18 @@ fn hears_all<S: Configured, R: Wait + Abort>(
 #[test]
 fn an_answer_that_breaks_off_leaves_the_write(rt: HostRuntime) {
     let core = new_node(&rt, rt.alloc(), 1);
-    answer_in_parts::<Brand, _>(&rt, rt.alloc(), Opened::new(), Blank::new(1), core);
+    answer_in_parts::<Brand, _>(&rt, rt.alloc(), NewHistory::new(), Blank::new(1), core);
 }
 
 /// A Put whose answer of 15 bytes breaks off at each of them is a write each time: the next one is the sixteenth.
-fn answer_in_parts<S: Configured, R: Wait + Abort>(
+fn answer_in_parts<S: DirectoryTag, R: Wait + Abort>(
     rt: &R,
     alloc: Global,
-    opened: Opened,
+    opened: NewHistory,
     blank: Blank,
     core: NodeCore,
 )
-    requires story { opened.seen.book ≡ S.story }
+    requires story { opened.seen.book ≡ S.history }
     requires opening { S.opening ≡ core.node }
     requires settings { S.settings ≡ core.settings }
     requires name { blank.name ≡ S.name }

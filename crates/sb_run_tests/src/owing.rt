@@ -6,11 +6,11 @@ use crate::desk::{Desk, desk_of};
 use crate::making::new_node;
 use crate::owning::PUT;
 use crate::same;
-use sb_directory::Configured;
+use sb_directory::DirectoryTag;
 use sb_node::NodeCore;
 use sb_run::Stored;
 use sb_types::Fault;
-use sb_views::Opened;
+use sb_views::NewHistory;
 use std::alloc::Global;
 use std::marker::Brand;
 use std::process::Abort;
@@ -62,18 +62,18 @@ impl Versions {
 #[test]
 fn an_owed_write_enters_before_the_next(rt: HostRuntime) {
     let core = new_node(&rt, rt.alloc(), 1);
-    put_each::<Brand, _>(&rt, rt.alloc(), Opened::new(), Blank::new(1), core);
+    put_each::<Brand, _>(&rt, rt.alloc(), NewHistory::new(), Blank::new(1), core);
 }
 
 /// Puts under some keys, one after the other, to a new directory.
-fn put_each<S: Configured, R: Wait + Abort>(
+fn put_each<S: DirectoryTag, R: Wait + Abort>(
     rt: &R,
     alloc: Global,
-    opened: Opened,
+    opened: NewHistory,
     blank: Blank,
     core: NodeCore,
 )
-    requires story { opened.seen.book ≡ S.story }
+    requires story { opened.seen.book ≡ S.history }
     requires opening { S.opening ≡ core.node }
     requires settings { S.settings ≡ core.settings }
     requires name { blank.name ≡ S.name }
@@ -92,7 +92,7 @@ fn put_each<S: Configured, R: Wait + Abort>(
 }
 
 /// Puts under a key, where the log and the directory are at these versions; those after it.
-fn put_next<S: Configured, R: Wait + Abort>(
+fn put_next<S: DirectoryTag, R: Wait + Abort>(
     rt: &R,
     desk: &mut Desk<S, &R>,
     text: &[u8],
@@ -109,17 +109,17 @@ fn put_next<S: Configured, R: Wait + Abort>(
 #[test]
 fn an_owed_write_is_answered_by_its_version(rt: HostRuntime) {
     let core = new_node(&rt, rt.alloc(), 1);
-    request_each::<Brand, _>(&rt, rt.alloc(), Opened::new(), Blank::new(1), core);
+    request_each::<Brand, _>(&rt, rt.alloc(), NewHistory::new(), Blank::new(1), core);
 }
 
-fn request_each<S: Configured, R: Wait + Abort>(
+fn request_each<S: DirectoryTag, R: Wait + Abort>(
     rt: &R,
     alloc: Global,
-    opened: Opened,
+    opened: NewHistory,
     blank: Blank,
     core: NodeCore,
 )
-    requires story { opened.seen.book ≡ S.story }
+    requires story { opened.seen.book ≡ S.history }
     requires opening { S.opening ≡ core.node }
     requires settings { S.settings ≡ core.settings }
     requires name { blank.name ≡ S.name }
@@ -134,7 +134,7 @@ fn request_each<S: Configured, R: Wait + Abort>(
 }
 
 /// Asks for a put, where this version was told last; the version that is told last then.
-fn request_next<S: Configured, R: Wait + Abort>(
+fn request_next<S: DirectoryTag, R: Wait + Abort>(
     rt: &R,
     alloc: Global,
     desk: &mut Desk<S, &R>,

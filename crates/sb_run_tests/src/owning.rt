@@ -4,11 +4,11 @@ ghost use Rattle.std.specs.Prelude.{◌≡◌};
 use crate::desk::{Desk, desk_of};
 use crate::making::{key, name, new_node, weight};
 use crate::{got, same};
-use sb_directory::Configured;
+use sb_directory::DirectoryTag;
 use sb_node::NodeCore;
 use sb_run::Stored;
 use sb_types::{Block, Delta, Entry, Fault};
-use sb_views::Opened;
+use sb_views::NewHistory;
 use std::alloc::Global;
 use std::marker::Brand;
 use std::process::Abort;
@@ -35,17 +35,17 @@ const UNKNOWN: &[u8] = b"\xa7\x02\x00\x00\x00\x02\x14\x0d";
 #[test]
 fn requests_are_answered(rt: HostRuntime) {
     let core = new_node(&rt, rt.alloc(), 1);
-    answer_each::<Brand, _>(&rt, rt.alloc(), Opened::new(), Blank::new(1), core);
+    answer_each::<Brand, _>(&rt, rt.alloc(), NewHistory::new(), Blank::new(1), core);
 }
 
-fn answer_each<S: Configured, R: Wait + Abort>(
+fn answer_each<S: DirectoryTag, R: Wait + Abort>(
     rt: &R,
     alloc: Global,
-    opened: Opened,
+    opened: NewHistory,
     blank: Blank,
     core: NodeCore,
 )
-    requires story { opened.seen.book ≡ S.story }
+    requires story { opened.seen.book ≡ S.history }
     requires opening { S.opening ≡ core.node }
     requires settings { S.settings ≡ core.settings }
     requires name { blank.name ≡ S.name }
@@ -59,7 +59,7 @@ fn answer_each<S: Configured, R: Wait + Abort>(
 }
 
 /// A request is answered so.
-fn answers<S: Configured, R: Wait + Abort>(
+fn answers<S: DirectoryTag, R: Wait + Abort>(
     rt: &R,
     alloc: Global,
     desk: &mut Desk<S, &R>,
@@ -74,18 +74,18 @@ fn answers<S: Configured, R: Wait + Abort>(
 #[test]
 fn another_node_under_the_own_name_stops_writes(rt: HostRuntime) {
     let core = new_node(&rt, rt.alloc(), 1);
-    meet_another::<Brand, _>(&rt, rt.alloc(), Opened::new(), Blank::new(1), core);
+    meet_another::<Brand, _>(&rt, rt.alloc(), NewHistory::new(), Blank::new(1), core);
 }
 
 /// The first put is shared under the version 1; a second one is refused, once the directory took what another node a wrote.
-fn meet_another<S: Configured, R: Wait + Abort>(
+fn meet_another<S: DirectoryTag, R: Wait + Abort>(
     rt: &R,
     alloc: Global,
-    opened: Opened,
+    opened: NewHistory,
     blank: Blank,
     core: NodeCore,
 )
-    requires story { opened.seen.book ≡ S.story }
+    requires story { opened.seen.book ≡ S.history }
     requires opening { S.opening ≡ core.node }
     requires settings { S.settings ≡ core.settings }
     requires name { blank.name ≡ S.name }

@@ -75,7 +75,7 @@ fn shown_to(rt: &impl Abort, status: &Status<'_>) -> Shown {
         snapshot.upto(&name(rt, b"b")),
         snapshot.upto(&name(rt, b"c")),
     ];
-    (snapshot.sheets().count(), upto)
+    (snapshot.owners().count(), upto)
 }
 
 impl<R: Wait + Abort> Observer for Listener<'_, R> {

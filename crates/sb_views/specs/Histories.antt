@@ -6,6 +6,8 @@ use Rattle.logbook.specs.Pages.{Book}
 use Rattle.sb_holdings.specs.Nodes.{Node, NodeEvent, Wrote, replay_node}
 use Rattle.sb_holdings.specs.Treats.{took_each}
 use Rattle.sb_views.specs.declared.event.Event.{Event}
+use Rattle.sb_views.specs.declared.event.EventRef.{EventRef}
+use Rattle.sb_views.specs.declared.event.EventRef.TheVariants as lent
 use Rattle.sb_views.specs.declared.event.Event.TheVariants.{TookOwn, Applied}
 
 -- these events begin the story of this book
@@ -13,6 +15,12 @@ pub record Position : Type 0 where
   pub book : Book
   pub events : List Event
 
+-- the event of these parts
+abbrev pub event_of : EventRef → Event
+event_of (lent.TookOwn entry) = TookOwn entry.now
+event_of (lent.Applied delta ends) = Applied delta.now ends.now
+
+-- what it is to the node: a write of its own, or the blocks that it took
 abbrev pub node_events_of : Event → List NodeEvent
 node_events_of (TookOwn e) = Wrote e ∷ []
 node_events_of (Applied blocks ends) = took_each blocks ends

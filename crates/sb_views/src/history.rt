@@ -1,14 +1,11 @@
 //! The story: all events of a node in one order, which exists in proofs alone.
 ghost use Rattle.std.specs.Prelude.{◌≡◌, ◌≢◌, ◌+◌, ◌<◌, ◌≤◌, ◌-◌, ◌^◌, ◌++◌, ◌∷◌, ◌⊎◌, [], length, MatchBool, ◌==◌};
 ghost use mathlib.Core.List.{IsPrefix};
-ghost use Rattle.sb_views.specs.declared.event.Event.TheVariants as events;
-ghost use Rattle.sb_views.specs.Histories.{IsLonger};
+ghost use Rattle.sb_views.specs.Histories.{IsLonger, event_of};
 ghost use Rattle.sb_views.specs.Rules.{head_of};
 
-use crate::event::Event;
+use crate::event::{Event, EventRef};
 use logbook::{Gain, Offer, Plain, Play, Rule, Seen, Start, Word};
-use sb_holdings::Report;
-use sb_types::{Delta, Entry};
 use std::marker::{Brand, Model, PhantomData};
 use std::sync::ledger::Ledger;
 
@@ -49,28 +46,13 @@ impl Play<Event, u64> for AddEvent {
     ghost then = { Adds };
 }
 
-impl Plain<Entry, Event, u64> for AddEvent {
+impl<'a> Plain<EventRef<'a>, Event, u64> for AddEvent {
     ghost use Rattle.std.specs.Prelude.{None};
-    ghost use Rattle.sb_views.specs.declared.event.Event.TheVariants as events;
+    ghost use Rattle.sb_views.specs.Histories.{event_of};
 
-    ghost ask = { λ entry. events.TookOwn entry };
+    ghost ask = { λ event. event_of event };
 
-    ghost state = { λ entry. None };
-}
-
-#[derive(Clone, Copy)]
-struct Came<'a> {
-    delta: &'a Delta,
-    ends: &'a Report,
-}
-
-impl<'a> Plain<Came<'a>, Event, u64> for AddEvent {
-    ghost use Rattle.std.specs.Prelude.{None};
-    ghost use Rattle.sb_views.specs.declared.event.Event.TheVariants as events;
-
-    ghost ask = { λ came. events.Applied came.delta.now came.ends.now };
-
-    ghost state = { λ came. None };
+    ghost state = { λ event. None };
 }
 
 /// Which running node it is, in proofs alone: its state when it was opened, its story, and how many seats it has.
@@ -285,37 +267,16 @@ impl<S: NodeTag> HistoryPrefix<S> {
         self.position = longer;
     }
 
-    /// Adds the taking of an own write to all that was seen, and says whether it did. It did not where the story is
-    /// longer: then this has seen more of it, and nothing is added.
-    pub fn add_own(&mut self, history: &HistoryHead<S>, entry: &Entry) -> bool
+    /// Adds an event behind all events of this prefix, and says whether it did. It did not where the history is longer: then this
+    /// is a longer prefix of it, and nothing is added.
+    pub fn add(&mut self, history: &HistoryHead<S>, event: EventRef<'_>) -> bool
         requires { length self.old < 2 ^ 64 - 1 }
-        ensures { MatchBool result (self.new ≡ self.old ++ events.TookOwn entry.now ∷ []) (IsLonger self.old self.new) }
+        ensures { MatchBool result (self.new ≡ self.old ++ event_of event ∷ []) (IsLonger self.old self.new) }
     {
         let position = &mut self.position;
         let mut offer: Offer<Event, u64, LengthRule, NoGain> = position
             .seen
-            .plain::<NoGain, Entry, AddEvent>(entry);
-        let found = exchange(
-            &history.head,
-            position.events,
-            &mut position.seen,
-            &mut offer,
-        );
-        let added = found == position.events;
-        position.events = if added { found + 1 } else { found };
-        added
-    }
-
-    /// Adds a delta whose blocks ended so to all that was seen, and says whether it did. It did not where the story
-    /// is longer: then this has seen more of it, and nothing is added.
-    pub fn add_applied(&mut self, history: &HistoryHead<S>, delta: &Delta, ends: &Report) -> bool
-        requires { length self.old < 2 ^ 64 - 1 }
-        ensures { MatchBool result (self.new ≡ self.old ++ events.Applied delta.now ends.now ∷ []) (IsLonger self.old self.new) }
-    {
-        let position = &mut self.position;
-        let mut offer: Offer<Event, u64, LengthRule, NoGain> = position
-            .seen
-            .plain::<NoGain, Came<'_>, AddEvent>(&Came { delta, ends });
+            .plain::<NoGain, EventRef<'_>, AddEvent>(&event);
         let found = exchange(
             &history.head,
             position.events,

@@ -18,7 +18,7 @@ mod view_copy;
 mod writer;
 
 pub use batch::Batch;
-pub use event::Event;
+pub use event::{Event, EventRef};
 pub use history::{HistoryHead, HistoryPrefix, NewHistory, NodeTag, Position};
 pub use laws::{
     new_entries_lead, own_writes_lead, rows_ascend, tables_grow, views_show_what_is_held,

@@ -5,7 +5,7 @@ use crate::pages::{pages_follow, rows_are_told};
 use crate::views::live_is_shown;
 use crate::{got, there};
 use sb_holdings::Holdings;
-use sb_views::{Entered, Opened, Reader, Site, views};
+use sb_views::{Entered, NewHistory, NodeTag, Reader, views};
 use std::alloc::Global;
 use std::marker::Brand;
 use std::process::Abort;
@@ -24,17 +24,17 @@ pub(crate) enum Look {
 
 /// Makes the views of what is held, and has a reader look at them.
 pub(crate) fn read<R: Wait + Abort>(rt: &R, alloc: Global, holdings: &Holdings, look: Look) {
-    read_on::<Brand, _>(rt, alloc, Opened::new(), holdings, look);
+    read_on::<Brand, _>(rt, alloc, NewHistory::new(), holdings, look);
 }
 
-fn read_on<S: Site, R: Wait + Abort>(
+fn read_on<S: NodeTag, R: Wait + Abort>(
     rt: &R,
     alloc: Global,
-    opened: Opened,
+    opened: NewHistory,
     holdings: &Holdings,
     look: Look,
 )
-    requires story { opened.seen.book ≡ S.story }
+    requires story { opened.seen.book ≡ S.history }
     requires opening { S.opening.held ≡ holdings.now }
 {
     let (_story, start) = opened.named::<S>();
@@ -43,11 +43,11 @@ fn read_on<S: Site, R: Wait + Abort>(
 }
 
 /// A reader that entered.
-pub(crate) fn entered<S: Site>(rt: &impl Abort, reader: Reader<S>) -> Entered<S> {
+pub(crate) fn entered<S: NodeTag>(rt: &impl Abort, reader: Reader<S>) -> Entered<S> {
     there(rt, reader.enter().ok())
 }
 
-fn look_at<S: Site>(rt: &impl Abort, alloc: Global, entered: &Entered<S>, look: Look) {
+fn look_at<S: NodeTag>(rt: &impl Abort, alloc: Global, entered: &Entered<S>, look: Look) {
     let snapshot = entered.snapshot();
     match look {
         Look::Live => live_is_shown(rt, &snapshot),

@@ -9,7 +9,8 @@ use crate::{got, holds, same, there};
 use sb_holdings::{BlockEnd, Holdings, Report};
 use sb_types::{Block, Delta, Entry, Key, Name, Value, ValueRef};
 use sb_views::{
-    Batch, Front, Opened, Reader, Row, Rows, Sheet, Site, Snapshot, Story, ViewWriter, views,
+    Batch, HistoryHead, HistoryPrefix, NewHistory, NodeTag, OwnerView, Reader, Row, Rows, Snapshot,
+    ViewWriter, views,
 };
 use std::alloc::Global;
 use std::marker::Brand;
@@ -192,7 +193,7 @@ const SHEET_OF_A: ToldSheet = (b"a", 4, 2);
 
 const SHEET_OF_B: ToldSheet = (b"b", 1, 1);
 
-fn is_sheet(found: Option<(&Name, &Sheet)>, told: ToldSheet) -> bool {
+fn is_sheet(found: Option<(&Name, &OwnerView)>, told: ToldSheet) -> bool {
     let (name, upto, count) = told;
     match found {
         Some((owner, sheet)) => {
@@ -204,7 +205,7 @@ fn is_sheet(found: Option<(&Name, &Sheet)>, told: ToldSheet) -> bool {
 
 /// The sheet of each owner of whom something is held comes once, in order.
 fn sheets_come_in_order(rt: &impl Abort, snapshot: &Snapshot<'_>) {
-    let mut sheets = snapshot.sheets();
+    let mut sheets = snapshot.owners();
     holds(rt, "the sheet of a", is_sheet(sheets.next(), SHEET_OF_A));
     holds(rt, "the sheet of b", is_sheet(sheets.next(), SHEET_OF_B));
     holds(rt, "no other sheet", sheets.next().is_none());
@@ -251,47 +252,47 @@ fn publish_behind<R: Wait + Abort>(
     if held == u64::MAX || entry.version() != held + 1 {
         panic!(rt; "error: the write behind those");
     }
-    publish_one::<Brand, _>(rt, alloc, Opened::new(), holdings, entry)
+    publish_one::<Brand, _>(rt, alloc, NewHistory::new(), holdings, entry)
 }
 
-fn publish_one<S: Site, R: Wait + Abort>(
+fn publish_one<S: NodeTag, R: Wait + Abort>(
     rt: &R,
     alloc: Global,
-    opened: Opened,
+    opened: NewHistory,
     holdings: &Holdings,
     entry: Entry,
 ) -> [Seen; 2]
-    requires story { opened.seen.book ≡ S.story }
+    requires head { opened.seen.book ≡ S.history }
     requires opening { S.opening.held ≡ holdings.now }
     requires next { entry.version ≡ (shown_of holdings.now holdings.now.me).held + 1 }
 {
     let key = *entry.key();
-    let (story, start) = opened.named::<S>();
+    let (head, start) = opened.named::<S>();
     let (mut writer, mut readers) = match views::<S, &R>(alloc, rt, start.again(), holdings, 2) {
         Ok(made) => made,
         Err(fault) => panic!(rt; "error: {fault:?}"),
     };
-    append_own(rt, alloc, &story, start, &mut writer, holdings, entry);
+    append_own(rt, alloc, &head, start, &mut writer, holdings, entry);
     let reader = there(rt, readers.pop());
     look_around(rt, &mut writer, reader, holdings.me(), &key)
 }
 
-/// Appends the first event of a story, an own write.
-fn append_own<S: Site, R: Wait + Abort>(
+/// Appends the first event of a head, an own write.
+fn append_own<S: NodeTag, R: Wait + Abort>(
     rt: &R,
     alloc: Global,
-    story: &Story<S>,
-    mut upto: Front<S>,
+    head: &HistoryHead<S>,
+    mut upto: HistoryPrefix<S>,
     writer: &mut ViewWriter<S, &R>,
     holdings: &Holdings,
     entry: Entry,
 )
     requires start { upto ≡ [] }
-    requires ready { writer.old.ready ≡ [] }
+    requires queued { writer.old.queued ≡ [] }
     requires opening { S.opening.held ≡ holdings.now }
     requires next { entry.version ≡ (shown_of holdings.now holdings.now.me).held + 1 }
 {
-    let added = upto.add_own(story, &entry);
+    let added = upto.add(head, EventRef::TookOwn(&entry));
     let mut batch = Batch::new(alloc);
     match batch.push(*holdings.me(), entry) {
         Ok(()) => {}
@@ -306,7 +307,7 @@ fn append_own<S: Site, R: Wait + Abort>(
 }
 
 /// What a reader sees before all is published, and then.
-fn look_around<S: Site, R: Wait + Abort>(
+fn look_around<S: NodeTag, R: Wait + Abort>(
     rt: &R,
     writer: &mut ViewWriter<S, &R>,
     reader: Reader<S>,
@@ -319,7 +320,7 @@ fn look_around<S: Site, R: Wait + Abort>(
     [before, after]
 }
 
-fn look_once<S: Site>(
+fn look_once<S: NodeTag>(
     rt: &impl Abort,
     reader: Reader<S>,
     owner: &Name,
@@ -327,14 +328,14 @@ fn look_once<S: Site>(
 ) -> (Reader<S>, Seen) {
     let entered = entered(rt, reader);
     let shown = shown_under(&entered.snapshot(), owner, key);
-    let told = entered.told().len();
+    let told = entered.seen().len();
     (entered.leave(), (shown, told))
 }
 
 #[test]
 fn events_are_added_behind_others(rt: HostRuntime) {
     let events = events_to_add(&rt, rt.alloc());
-    let (added, counts) = add_events::<Brand>(Opened::new(), &events);
+    let (added, counts) = add_events::<Brand>(NewHistory::new(), &events);
     same(&rt, &added, &[(true, false), (false, true), (true, false)]);
     same(&rt, &counts, &(0, 1, 2));
 }
@@ -361,41 +362,45 @@ fn events_to_add(rt: &impl Abort, alloc: Global) -> Events {
     }
 }
 
-/// Whether an event was added, and then whether the front is that of another.
+/// Whether an event was added, and then whether the history is that of another.
 type Added = (bool, bool);
 
 /// What comes of adding the own write to two fronts, and the delta to the second, and how many events the first
-/// front and these two have then.
-fn add_events<S: Site>(opened: Opened, events: &Events) -> ([Added; 3], (u64, u64, u64))
-    requires { opened.seen.book ≡ S.story }
+/// history and these two have then.
+fn add_events<S: NodeTag>(opened: NewHistory, events: &Events) -> ([Added; 3], (u64, u64, u64))
+    requires { opened.seen.book ≡ S.history }
 {
-    let (story, start) = opened.named::<S>();
+    let (head, start) = opened.named::<S>();
     let (mut one, mut two) = (start.again(), start.again());
-    let first = add_write(&story, &mut one, &start, &events.own);
-    let again = add_write(&story, &mut two, &one, &events.own);
-    let applied = add_delta(&story, &mut two, &one, events);
+    let first = add_write(&head, &mut one, &start, &events.own);
+    let again = add_write(&head, &mut two, &one, &events.own);
+    let applied = add_delta(&head, &mut two, &one, events);
     let counts = (start.len(), one.len(), two.len());
     ([first, again, applied], counts)
 }
 
-fn add_write<S: Site>(
-    story: &Story<S>,
-    front: &mut Front<S>,
-    other: &Front<S>,
+fn add_write<S: NodeTag>(
+    head: &HistoryHead<S>,
+    history: &mut HistoryPrefix<S>,
+    other: &HistoryPrefix<S>,
     entry: &Entry,
 ) -> Added
-    requires { front.old ≡ [] }
+    requires { history.old ≡ [] }
 {
-    (front.add_own(story, entry), front.is_same(other))
+    (
+        history.add(head, EventRef::TookOwn(entry)),
+        history.is_same(other),
+    )
 }
 
 /// Adds nothing where there is not just one event.
-fn add_delta<S: Site>(
-    story: &Story<S>,
-    front: &mut Front<S>,
-    other: &Front<S>,
+fn add_delta<S: NodeTag>(
+    head: &HistoryHead<S>,
+    history: &mut HistoryPrefix<S>,
+    other: &HistoryPrefix<S>,
     events: &Events,
 ) -> Added {
-    let added = front.len() == 1 && front.add_applied(story, &events.delta, &events.ends);
-    (added, front.is_same(other))
+    let added = history.len() == 1
+        && history.add(head, EventRef::Applied(&events.delta, &events.ends));
+    (added, history.is_same(other))
 }

@@ -4,8 +4,8 @@ abbrev pub ghosts-hear_parts-S-Ledger : goal.ghosts-hear_parts-S-Ledger
 ghosts-hear_parts-S-Ledger g a = record { name = a.blank.name; parts = a.blank.parts }
 
 -- the story that was just opened, of this node, with one seat
-abbrev pub ghosts-hear_parts-S-Site : goal.ghosts-hear_parts-S-Site
-ghosts-hear_parts-S-Site g a = record { opening = a.core.node; story = a.opened.seen.book; seats = 1 }
+abbrev pub ghosts-hear_parts-S-NodeTag : goal.ghosts-hear_parts-S-NodeTag
+ghosts-hear_parts-S-NodeTag g a = record { opening = a.core.node; story = a.opened.seen.book; seats = 1 }
 
-abbrev pub ghosts-hear_parts-S-Configured : goal.ghosts-hear_parts-S-Configured
-ghosts-hear_parts-S-Configured g a = record { settings = a.core.settings }
+abbrev pub ghosts-hear_parts-S-DirectoryTag : goal.ghosts-hear_parts-S-DirectoryTag
+ghosts-hear_parts-S-DirectoryTag g a = record { settings = a.core.settings }

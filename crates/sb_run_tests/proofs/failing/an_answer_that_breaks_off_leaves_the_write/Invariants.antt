@@ -4,8 +4,8 @@ abbrev pub ghosts-answer_in_parts-S-Ledger : goal.ghosts-answer_in_parts-S-Ledge
 ghosts-answer_in_parts-S-Ledger g a = record { name = a.blank.name; parts = a.blank.parts }
 
 -- the story that was just opened, of this node, with one seat
-abbrev pub ghosts-answer_in_parts-S-Site : goal.ghosts-answer_in_parts-S-Site
-ghosts-answer_in_parts-S-Site g a = record { opening = a.core.node; story = a.opened.seen.book; seats = 1 }
+abbrev pub ghosts-answer_in_parts-S-NodeTag : goal.ghosts-answer_in_parts-S-NodeTag
+ghosts-answer_in_parts-S-NodeTag g a = record { opening = a.core.node; story = a.opened.seen.book; seats = 1 }
 
-abbrev pub ghosts-answer_in_parts-S-Configured : goal.ghosts-answer_in_parts-S-Configured
-ghosts-answer_in_parts-S-Configured g a = record { settings = a.core.settings }
+abbrev pub ghosts-answer_in_parts-S-DirectoryTag : goal.ghosts-answer_in_parts-S-DirectoryTag
+ghosts-answer_in_parts-S-DirectoryTag g a = record { settings = a.core.settings }

@@ -4,8 +4,8 @@ abbrev pub ghosts-request_each-S-Ledger : goal.ghosts-request_each-S-Ledger
 ghosts-request_each-S-Ledger g a = record { name = a.blank.name; parts = a.blank.parts }
 
 -- the story that was just opened, of this node, with one seat
-abbrev pub ghosts-request_each-S-Site : goal.ghosts-request_each-S-Site
-ghosts-request_each-S-Site g a = record { opening = a.core.node; story = a.opened.seen.book; seats = 1 }
+abbrev pub ghosts-request_each-S-NodeTag : goal.ghosts-request_each-S-NodeTag
+ghosts-request_each-S-NodeTag g a = record { opening = a.core.node; story = a.opened.seen.book; seats = 1 }
 
-abbrev pub ghosts-request_each-S-Configured : goal.ghosts-request_each-S-Configured
-ghosts-request_each-S-Configured g a = record { settings = a.core.settings }
+abbrev pub ghosts-request_each-S-DirectoryTag : goal.ghosts-request_each-S-DirectoryTag
+ghosts-request_each-S-DirectoryTag g a = record { settings = a.core.settings }

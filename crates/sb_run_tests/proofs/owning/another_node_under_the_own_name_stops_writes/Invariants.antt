@@ -4,8 +4,8 @@ abbrev pub ghosts-meet_another-S-Ledger : goal.ghosts-meet_another-S-Ledger
 ghosts-meet_another-S-Ledger g a = record { name = a.blank.name; parts = a.blank.parts }
 
 -- the story that was just opened, of this node, with one seat
-abbrev pub ghosts-meet_another-S-Site : goal.ghosts-meet_another-S-Site
-ghosts-meet_another-S-Site g a = record { opening = a.core.node; story = a.opened.seen.book; seats = 1 }
+abbrev pub ghosts-meet_another-S-NodeTag : goal.ghosts-meet_another-S-NodeTag
+ghosts-meet_another-S-NodeTag g a = record { opening = a.core.node; story = a.opened.seen.book; seats = 1 }
 
-abbrev pub ghosts-meet_another-S-Configured : goal.ghosts-meet_another-S-Configured
-ghosts-meet_another-S-Configured g a = record { settings = a.core.settings }
+abbrev pub ghosts-meet_another-S-DirectoryTag : goal.ghosts-meet_another-S-DirectoryTag
+ghosts-meet_another-S-DirectoryTag g a = record { settings = a.core.settings }

@@ -11,14 +11,14 @@ use Rattle.sb_directory.specs.Notes.{with_notes, versions_of, entered_of}
 use Rattle.sb_directory.specs.ViewedNodes.{ViewedNode, IsViewedNode}
 use Rattle.sb_directory.proofs.Keeping.{noted, delta-there, moved}
 use Rattle.sb_directory.proofs.viewed_node.ViewedNode.apply.Given.{Over}
-use Rattle.sb_directory.proofs.viewed_node.ViewedNode.apply.Goals.{After-add_applied}
+use Rattle.sb_directory.proofs.viewed_node.ViewedNode.apply.Goals.{After-add_event}
 use Rattle.sb_directory.proofs.viewed_node.ViewedNode.apply.Goals as goal
 
 -- what lies under the lock once the blocks are taken, where watches are told of what they entered
-entered : (g : Over) (c : After-add_applied g) (hub : Hub)
+entered : (g : Over) (c : After-add_event g) (hub : Hub)
     → hub ≡ with_notes c.self.inside.hub (entered_of c.args.delta.now c.self.inside.core.node.held (replay_node c.self.inside.core.node (took_each c.args.delta.now c.in_ok-ends.ends)).held)
     → IsViewedNode g.S.NodeTag.opening c.self.inside.views.queued c.add_owners.new.self
-    (record { core = c.apply.new.self; hub = hub; history = c.add_applied.new.history; published = c.self.inside.views.published })
+    (record { core = c.apply.new.self; hub = hub; history = c.add_event.new.history; published = c.self.inside.views.published })
 entered g c hub seen =
     let opening = g.S.NodeTag.opening in
     let inside = c.self.inside in
@@ -37,16 +37,16 @@ entered g c hub seen =
     let is = noted opening queued inside.behind more old c.self.invariant since in
     let has : HasOwners more blocks = subst (HasOwners more) c.blocks-blocks.ensures.blocks c.in_ok-add_owners.ensures.owners in
     delta-there opening queued more old is c.holdings.ensures.holdings blocks ends c.in_ok-ends.ensures.delta c.in_ok-ends.ensures.ends after has
-    c.apply.new.self c.add_applied.new.history hub inside.views.published taken c.add_applied.ensures seen
+    c.apply.new.self c.add_event.new.history hub inside.views.published taken c.add_event.ensures seen
 
 pub show-shown-requires-clause-node : goal.show-shown-requires-clause-node
-show-shown-requires-clause-node g c = (entered g (goal.at.show-shown-requires-clause-node g c).After-add_applied _ refl).node
+show-shown-requires-clause-node g c = (entered g (goal.at.show-shown-requires-clause-node g c).After-add_event _ refl).node
 
 pub show-shown-requires-clause-grown : goal.show-shown-requires-clause-grown
-show-shown-requires-clause-grown g c = (entered g (goal.at.show-shown-requires-clause-grown g c).After-add_applied _ refl).grown
+show-shown-requires-clause-grown g c = (entered g (goal.at.show-shown-requires-clause-grown g c).After-add_event _ refl).grown
 
 pub show-shown-requires-clause-since : goal.show-shown-requires-clause-since
-show-shown-requires-clause-since g c = (entered g (goal.at.show-shown-requires-clause-since g c).After-add_applied _ refl).since
+show-shown-requires-clause-since g c = (entered g (goal.at.show-shown-requires-clause-since g c).After-add_event _ refl).since
 
 pub invariant_of-self-2 : goal.invariant_of-self-2
 invariant_of-self-2 g c =
@@ -59,9 +59,9 @@ invariant_of-self-2 g c =
     let held : c.holdings-3.result.now ≡ new.held = c.holdings-3.ensures.held ∙ ap (λ (k : Core). k.node.held) c.in_ok-ends.ensures.ok in
     let seen : c.push_notes_since.new.hub ≡ with_notes inside.hub (entered_of blocks node.held new.held) =
     c.push_notes_since.ensures ∙ (λ i. with_notes inside.hub (entries_since (versions i) (held i))) in
-    let now : ViewedNode = record { core = c.apply.new.self; hub = c.push_notes_since.new.hub; history = c.add_applied.new.history; published = inside.views.published } in
+    let now : ViewedNode = record { core = c.apply.new.self; hub = c.push_notes_since.new.hub; history = c.add_event.new.history; published = inside.views.published } in
     moved g.S.NodeTag.opening inside.views.queued c.show-shown.new.self.queued c.add_owners.new.self c.show-shown.new.behind now c.show-shown.new.self.published
-    (entered g (goal.at.invariant_of-self-2 g c).After-add_applied c.push_notes_since.new.hub seen)
+    (entered g (goal.at.invariant_of-self-2 g c).After-add_event c.push_notes_since.new.hub seen)
     c.show-shown.ensures.begins c.show-shown.ensures.grown c.show-shown.ensures.since
 
 -- owners are noted as lacking, whether all could be or not

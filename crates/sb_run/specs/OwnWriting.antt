@@ -9,11 +9,11 @@ use Rattle.sb_log.specs.Records.{Committed, Log}
 use Rattle.sb_log.specs.Puts.{Puts}
 use Rattle.sb_views.specs.declared.event.Event.{Event}
 use Rattle.sb_views.specs.declared.event.Event.TheVariants.{TookOwn}
-use Rattle.sb_views.specs.Stories.{node_after}
+use Rattle.sb_views.specs.Histories.{node_after}
 use Rattle.sb_directory.specs.declared.receipt.Receipt.{Receipt}
-use Rattle.sb_directory.specs.Seats.{Seat, Begins, IsEntered, Refuses, with_known, own_due_after}
-use Rattle.sb_run.specs.declared.owner.Stored.{Stored}
-use Rattle.sb_run.specs.declared.owner.Stored.TheVariants.{Shared, Owed}
+use Rattle.sb_directory.specs.Seats.{Seat, Begins, IsEntered, Refuses, with_last_call, own_due_after}
+use Rattle.sb_run.specs.declared.own_writes.Stored.{Stored}
+use Rattle.sb_run.specs.declared.own_writes.Stored.TheVariants.{Shared, Owed}
 
 abbrev pub version_of : Stored → ℕ
 version_of (Shared receipt) = receipt.version
@@ -32,17 +32,17 @@ count_shared (Owed version fault) = 0
 -- the directory takes the write when it may, and with that the seat knows it, as the last; where that is said it was told so
 abbrev pub IsTaken : Node → Seat → Committed → Receipt → Seat → Type 0
 IsTaken opening before c receipt after =
-    IsEntered (λ story. own_due_after opening story c) (TookOwn c.entry) before after × (receipt.shown ≡ true → after.told ≡ after.known)
+    IsEntered (λ history. own_due_after opening history c) (TookOwn c.entry) before after × (receipt.shown ≡ true → after.seen ≡ after.last_call)
 
 -- the directory refuses the write after what the seat now knows: with this fault, where there is memory
 abbrev pub IsTurnedAway : Node → Seat → Committed → Fault → Seat → Type 0
-IsTurnedAway opening before c fault after = Begins after.known before × Refuses (own_due_after opening after.known c) fault
+IsTurnedAway opening before c fault after = Begins after.last_call before × Refuses (own_due_after opening after.last_call c) fault
 
 -- what was owed is an event of the directory, which the seat knows
 abbrev pub IsHandedIn : Node → Seat → Option Committed → Seat → Type 0
 IsHandedIn opening before None after = Unit {0}
 IsHandedIn opening before (Some c) after =
-    (handed : Seat) × IsEntered (λ story. own_due_after opening story c) (TookOwn c.entry) before handed × IsPrefix handed.known after.known
+    (handed : Seat) × IsEntered (λ history. own_due_after opening history c) (TookOwn c.entry) before handed × IsPrefix handed.last_call after.last_call
 
 -- the write is an event of the directory, the last that the seat knows, and nothing is owed; or the directory refuses it by this fault, and it is owed
 abbrev pub PassesOn : Node → Seat → Committed → Stored → Option Committed → Seat → Type 0
@@ -59,16 +59,16 @@ pub record IsStored (opening : Node) (old : Log) (before : Seat) (key : List ℕ
 
 -- at some moment of the call, no block that the node had taken told of a write of another under the own name
 abbrev pub IsUndisputed : Node → Seat → Seat → Type 0
-IsUndisputed opening before after = (l : List Event) × Begins l before × IsPrefix l after.known × ((node_after opening l).conflict ≡ None)
+IsUndisputed opening before after = (l : List Event) × Begins l before × IsPrefix l after.last_call × ((node_after opening l).conflict ≡ None)
 
 -- another node writes under the own name; or the directory refuses what is owed
 abbrev pub IsHeldBack : Node → Seat → Option Committed → Fault → Seat → Type 0
 IsHeldBack opening before owed fault after =
-    (Begins after.known before × ((version : ℕ) × ((node_after opening after.known).conflict ≡ Some version) × (fault ≡ OwnerConflict version)))
+    (Begins after.last_call before × ((version : ℕ) × ((node_after opening after.last_call).conflict ≡ Some version) × (fault ≡ OwnerConflict version)))
     ⊎ ((c : Committed) × (owed ≡ Some c) × IsTurnedAway opening before c fault after)
 
 -- nothing changes but what the seat knows, and the log is not asked; or what was owed is handed in, and the log refuses
 abbrev pub IsRefused : {L : Type 0} → (L → Log) → Node → L → Option Committed → Seat → List ℕ → Slot → L → Option Committed → Seat → Fault → Type 0
 IsRefused seen opening old owed before key slot new owes after fault =
-    (IsHeldBack opening before owed fault after × (new ≡ old) × (owes ≡ owed) × (after ≡ with_known before after.known))
+    (IsHeldBack opening before owed fault after × (new ≡ old) × (owes ≡ owed) × (after ≡ with_last_call before after.last_call))
     ⊎ (Puts (seen old) key slot (Err fault) (seen new) × (owes ≡ None) × IsHandedIn opening before owed after × (after.events ≡ before.events + count_owed owed))

@@ -1,7 +1,7 @@
 use Rattle.std.proofs.Common.{Err, refl}
 use Rattle.sb_codec.specs.declared.message.Message.{Message}
 use Rattle.sb_session.proofs.Saying.{received_wrote}
-use Rattle.sb_run.proofs.hearing.hear.Goals as goal
+use Rattle.sb_run.proofs.one_message.receive_one.Goals as goal
 
 pub returns-clause-unwritten : goal.returns-clause-unwritten
 returns-clause-unwritten g c =

@@ -2,7 +2,7 @@
 ghost use Rattle.std.specs.Prelude.{◌≡◌, ◌+◌, ℕ};
 ghost use Rattle.sb_frames.specs.declared.last_write.Outcome.{Outcome};
 ghost use Rattle.sb_frames.specs.Sending.{OnlyWhereFailed};
-ghost use Rattle.sb_run.specs.Hearing.{Hears};
+ghost use Rattle.sb_run.specs.OneMessage.{ReceivesOne};
 
 use sb_codec::Message;
 use sb_frames::{Frames, Steps, receive};
@@ -14,13 +14,13 @@ use std::sync::ledger::Ledger;
 /// The first message of a stream, with at most `max_reads` reads. `BadMark`, `BadVersion`, `BadLength`, `UnknownKind`
 /// or `Malformed` of its frame; `ReadFailed`; `Truncated` at an end before or inside the frame; `TurnsSpent` where one
 /// more read is needed; `NoMemory`.
-pub(crate) fn hear<R: Read, K: Ledger>(
+pub(crate) fn receive_one<R: Read, K: Ledger>(
     alloc: Global,
     reader: &mut R,
     max_reads: u64,
     steps: &mut Steps<K>,
 ) -> Result<Message, Fault>
-    ensures hears { (left : ℕ) × Hears (R.remaining reader.old) (R.remaining reader.new) max_reads left result × (steps.new + left ≡ steps.old + max_reads) }
+    ensures hears { (left : ℕ) × ReceivesOne (R.remaining reader.old) (R.remaining reader.new) max_reads left result × (steps.new + left ≡ steps.old + max_reads) }
     // It writes nothing, and no fault of it says that a write failed.
     ensures unwritten { (last : Outcome) → OnlyWhereFailed result last }
 {

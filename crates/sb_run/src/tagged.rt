@@ -3,23 +3,23 @@ ghost use Rattle.std.specs.Prelude.{◌≡◌, ◌⊎◌, ◌+◌, ◌≤◌, ve
 ghost use Rattle.sb_run.specs.Running.{IsEndFault, IsOpenedFrom};
 
 use crate::bell::Bell;
+use crate::context::NodeContext;
 use crate::counts::Counts;
 use crate::dialer::Dialer;
-use crate::ending::Ending;
+use crate::ending::EndFlag;
 use crate::node::{Pace, Paths, Ran};
 use crate::observer::Observer;
-use crate::owner::Owner;
+use crate::own_writes::OwnWrites;
 use crate::peers::Peers;
-use crate::rounds::{Paced, ends};
+use crate::rounds::{RoundsTag, ends};
 use crate::seats::{gather, part};
-use crate::shared::Shared;
-use crate::sockets::Doors;
-use crate::threads::{Finished, run_threads};
+use crate::sockets::BoundSockets;
+use crate::threads::{ThreadsEnd, run_threads};
 use sb_directory::{Directory, ReaderSeat};
 use sb_log::WriteLog;
 use sb_node::NodeCore;
 use sb_types::Fault;
-use sb_views::Opened;
+use sb_views::NewHistory;
 use std::alloc::Global;
 use std::net::{Net, TcpListener, TcpStream};
 use std::rt::Files;
@@ -30,8 +30,8 @@ use std::time::Clock;
 
 /// Makes the directory and its seats, binds both sockets, runs the threads, and removes the sockets' files. `NoMemory`;
 /// `ReadFailed` where a socket can't be bound; `StoreFailed` where the log failed and the node is to exit then.
-pub(crate) fn run_site<
-    S: Paced + Send + Sync,
+pub(crate) fn run_tagged<
+    S: RoundsTag + Send + Sync,
     L: WriteLog + Drop,
     R: Threads
         + Wait
@@ -44,17 +44,17 @@ pub(crate) fn run_site<
 >(
     rt: &R,
     alloc: Global,
-    opened: Opened,
+    new_history: NewHistory,
     blank: Blank,
     core: NodeCore,
-    owner: Owner<L>,
+    writes: OwnWrites<L>,
     paths: &Paths,
     pace: Pace,
     observer: &O,
 ) -> Result<Ran, Fault>
-    requires story { opened.seen.book ≡ S.story }
+    requires history { new_history.seen.book ≡ S.history }
     requires opening { S.opening ≡ core.node }
-    requires opened { IsOpenedFrom (L.seen owner.log) core.node }
+    requires new_history { IsOpenedFrom (L.seen writes.log) core.node }
     requires settings { S.settings ≡ core.settings }
     requires name { blank.name ≡ S.name }
     requires parts { blank.parts ≡ S.parts }
@@ -67,52 +67,59 @@ pub(crate) fn run_site<
     let settings = core.settings();
     let all = settings.seats() as usize;
     // (settings have no other number of seats than a directory may have)
-    let Ok((directory, seats)) = Directory::<S, &R>::make(rt, alloc, opened, blank, core, all)
+    let Ok((directory, seats)) = Directory::<S, &R>::make(rt, alloc, new_history, blank, core, all)
     else {
         return Err(Fault::NoMemory);
     };
-    let (crew, spare) = part(seats, settings.workers() as usize)?;
-    let (teller, hearer) = ends::<S>(alloc)?;
+    let (thread_seats, spare) = part(seats, settings.workers() as usize)?;
+    let (rounds_sender, rounds_receiver) = ends::<S>(alloc)?;
     let (bell, parker) = Bell::new(alloc)?;
     let dialer = Dialer::new(Peers::new(alloc, paths.peers)?, observer, parker);
-    let doors = Doors::bind(rt, paths.sock, paths.control, observer)?;
+    let sockets = BoundSockets::bind(rt, paths.sock, paths.control, observer)?;
     observer.listening();
-    let (ending, counts) = (Ending::new(), Counts::new());
-    let node = Shared {
+    let (ending, counts) = (EndFlag::new(), Counts::new());
+    let node = NodeContext {
         rt,
         alloc,
         directory: &directory,
-        doors: &doors,
+        sockets: &sockets,
         ending: &ending,
         bell: &bell,
         counts: &counts,
         workers: settings.workers(),
         pace,
     };
-    let finished = run_threads(&node, dialer, owner, crew, teller, hearer);
-    doors.remove(rt);
+    let finished = run_threads(
+        &node,
+        dialer,
+        writes,
+        thread_seats,
+        rounds_sender,
+        rounds_receiver,
+    );
+    sockets.remove(rt);
     close(rt, directory, finished?, spare)
 }
 
 /// Closes the directory, and tells what the node did.
-fn close<S: Paced, R: Wait>(
+fn close<S: RoundsTag, R: Wait>(
     rt: &R,
     directory: Directory<S, &R>,
-    finished: Finished<S>,
+    finished: ThreadsEnd<S>,
     spare: Vec<ReaderSeat<S>>,
 ) -> Result<Ran, Fault>
     requires parts { S.seats ≡ S.parts }
-    requires all { vec_len spare + (vec_len finished.crew.workers + 2) ≡ S.seats }
+    requires all { vec_len spare + (vec_len finished.thread_seats.workers + 2) ≡ S.seats }
     requires room { S.seats ≤ vec_capacity spare }
     ensures ok { IsOk result }
     ensures rounds { IfOk result (λ ran. ran.rounds ≡ S.rounds) }
 {
-    let Finished {
-        crew,
+    let ThreadsEnd {
+        thread_seats,
         rounds,
         faults,
     } = finished;
-    match directory.close(rt, gather(crew, spare)) {
+    match directory.close(rt, gather(thread_seats, spare)) {
         Ok(closing) => Ok(Ran {
             rounds: rounds.made,
             faults,

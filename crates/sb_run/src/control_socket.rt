@@ -3,13 +3,13 @@ ghost use Rattle.std.specs.Prelude.{◌≡◌, ◌+◌, ◌<◌, ◌≤◌, true
 ghost use Rattle.sb_run.specs.Running.{IsOpenedFrom};
 
 use crate::accepting::Acceptor;
+use crate::context::NodeContext;
 use crate::control::serve_control;
 use crate::node::OnLogFault;
 use crate::observer::Observer;
-use crate::owner::Owner;
+use crate::own_writes::OwnWrites;
 use crate::pool::Source;
-use crate::rounds::Paced;
-use crate::shared::Shared;
+use crate::rounds::RoundsTag;
 use crate::timed::Timed;
 use sb_directory::ReaderSeat;
 use sb_frames::Steps;
@@ -23,9 +23,9 @@ use std::time::Clock;
 
 /// One connection: a request and its answer, each whole within the node's `request`; whether it ended with a fault. It makes
 /// at most the node's `max_reads` reads.
-fn answer_within<L: WriteLog, S: Paced, H: Wait + Drop, Q: Wait + Clock, K: Ledger>(
-    node: &Shared<S, H, Q>,
-    owner: &mut Owner<L>,
+fn answer_within<L: WriteLog, S: RoundsTag, H: Wait + Drop, Q: Wait + Clock, K: Ledger>(
+    node: &NodeContext<S, H, Q>,
+    writes: &mut OwnWrites<L>,
     input: &UnixStream,
     output: &UnixStream,
     seat: ReaderSeat<S>,
@@ -42,7 +42,7 @@ fn answer_within<L: WriteLog, S: Paced, H: Wait + Drop, Q: Wait + Clock, K: Ledg
         &mut request,
         &mut reply,
         node.directory,
-        owner,
+        writes,
         seat,
         node.pace.max_reads,
         steps,
@@ -51,9 +51,9 @@ fn answer_within<L: WriteLog, S: Paced, H: Wait + Drop, Q: Wait + Clock, K: Ledg
 }
 
 /// The same, where nothing was read before.
-fn answer_one<L: WriteLog, S: Paced, H: Wait + Drop, Q: Wait + Clock, K: Ledger>(
-    node: &Shared<S, H, Q>,
-    owner: &mut Owner<L>,
+fn answer_one<L: WriteLog, S: RoundsTag, H: Wait + Drop, Q: Wait + Clock, K: Ledger>(
+    node: &NodeContext<S, H, Q>,
+    writes: &mut OwnWrites<L>,
     input: &UnixStream,
     output: &UnixStream,
     seat: ReaderSeat<S>,
@@ -64,12 +64,12 @@ fn answer_one<L: WriteLog, S: Paced, H: Wait + Drop, Q: Wait + Clock, K: Ledger>
     requires some { 0 < blank.parts }
 {
     let mut steps = Steps::<K>::new(blank);
-    answer_within(node, owner, input, output, seat, &mut steps)
+    answer_within(node, writes, input, output, seat, &mut steps)
 }
 
 /// What comes of the control socket.
 #[derive(Drop)]
-pub(crate) struct Attended<S: Paced> {
+pub(crate) struct ControlEnd<S: RoundsTag> {
     pub(crate) seat: ReaderSeat<S>,
     /// How many connections ended with a fault or could not be accepted.
     pub(crate) faults: u64,
@@ -79,17 +79,17 @@ pub(crate) struct Attended<S: Paced> {
 
 /// Tells of what came of the last request: the dialing thread of a write, and the observer of a log that failed. Whether the
 /// node is to end with that.
-fn tell_of<L: WriteLog, S: Paced, H: Wait + Drop, Q, O: Observer>(
-    node: &Shared<S, H, Q>,
-    owner: &mut Owner<L>,
+fn tell_of<L: WriteLog, S: RoundsTag, H: Wait + Drop, Q, O: Observer>(
+    node: &NodeContext<S, H, Q>,
+    writes: &mut OwnWrites<L>,
     observer: &O,
 ) -> bool
     ensures { result ≡ true → node.now.pace.on_log_fault ≡ OnLogFault.Exit }
 {
-    if let Some(version) = owner.take_stored() {
+    if let Some(version) = writes.take_stored() {
         node.bell.ring(version == 1);
     }
-    if !owner.take_failure() {
+    if !writes.take_failure() {
         return false;
     }
     node.counts.fail_log();
@@ -102,25 +102,30 @@ fn tell_of<L: WriteLog, S: Paced, H: Wait + Drop, Q, O: Observer>(
 
 /// Serves one connection after another at the control socket, until the node is to end, or ends it where its log has failed
 /// and it is to exit then.
-pub(crate) fn attend<
+pub(crate) fn serve_control_socket<
     L: WriteLog + Drop,
-    S: Paced,
+    S: RoundsTag,
     H: Wait + Drop,
     Q: Wait + Net + Clock,
     O: Observer,
->(node: &Shared<S, H, Q>, owner: Owner<L>, seat: ReaderSeat<S>, observer: &O) -> Attended<S>
-    requires opened { IsOpenedFrom (L.seen owner.log) S.opening }
+>(
+    node: &NodeContext<S, H, Q>,
+    writes: OwnWrites<L>,
+    seat: ReaderSeat<S>,
+    observer: &O,
+) -> ControlEnd<S>
+    requires opened { IsOpenedFrom (L.seen writes.log) S.opening }
     ensures { result.has_left ≡ true → node.now.pace.on_log_fault ≡ OnLogFault.Exit }
 {
-    let door = &node.doors.control;
-    let acceptor = Acceptor::new(node.rt, door, node.ending, node.pace.idle, None);
-    let mut owner = owner;
+    let socket = &node.sockets.control;
+    let acceptor = Acceptor::new(node.rt, socket, node.ending, node.pace.idle, None);
+    let mut writes = writes;
     let mut sitting = seat;
     let mut faults: u64 = 0;
     for _ in node.rt.forever() {
         let failed = match acceptor.next() {
             None => {
-                return Attended {
+                return ControlEnd {
                     seat: sitting,
                     faults,
                     has_left: false,
@@ -130,7 +135,7 @@ pub(crate) fn attend<
             Some(Ok((_, input, output))) => {
                 let (seat, failed) = answer_one::<L, S, H, Q, Brand>(
                     node,
-                    &mut owner,
+                    &mut writes,
                     &input,
                     &output,
                     sitting,
@@ -143,9 +148,9 @@ pub(crate) fn attend<
         if failed {
             faults = faults.saturating_add(1);
         }
-        if tell_of(node, &mut owner, observer) {
+        if tell_of(node, &mut writes, observer) {
             node.end();
-            return Attended {
+            return ControlEnd {
                 seat: sitting,
                 faults,
                 has_left: true,

@@ -2,11 +2,11 @@
 ghost use Rattle.std.specs.Prelude.{◌≡◌, ◌+◌, true, None, OnOk, IfOk, IfErr};
 ghost use Rattle.sb_codec.specs.Limits.{is_version};
 ghost use Rattle.sb_log.specs.Puts.{Puts, IsSettled};
-ghost use Rattle.sb_directory.specs.Seats.{with_known};
+ghost use Rattle.sb_directory.specs.Seats.{with_last_call};
 ghost use Rattle.sb_directory.specs.Serving.{IsLater};
-ghost use Rattle.sb_run.specs.Owners.{IsUndisputed, version_of, count_owed, count_shared, IsHeldBack, IsHandedIn, IsStored, IsRefused};
+ghost use Rattle.sb_run.specs.OwnWriting.{IsUndisputed, version_of, count_owed, count_shared, IsHeldBack, IsHandedIn, IsStored, IsRefused};
 
-use sb_directory::{Configured, Directory, ReaderSeat, Receipt};
+use sb_directory::{Directory, DirectoryTag, ReaderSeat, Receipt};
 use sb_log::{Committed, WriteLog};
 use sb_types::{Fault, Key, Slot};
 use std::sync::Wait;
@@ -34,7 +34,7 @@ impl Stored {
 
 /// The log of a node's own writes, and the write that the directory has refused so far.
 #[derive(Drop)]
-pub struct Owner<L: WriteLog> {
+pub struct OwnWrites<L: WriteLog> {
     log: L,
     owed: Option<Committed>,
     /// The version of the last write that the log took, where it was not asked for since.
@@ -43,13 +43,13 @@ pub struct Owner<L: WriteLog> {
     has_failed: bool,
 }
 
-impl<L: WriteLog> Owner<L> {
+impl<L: WriteLog> OwnWrites<L> {
     /// The owner of what this log keeps, which owes nothing.
-    pub fn new(log: L) -> Owner<L>
+    pub fn new(log: L) -> OwnWrites<L>
         ensures log { result.log ≡ log }
         ensures owed { result.owed ≡ None }
     {
-        Owner {
+        OwnWrites {
             log,
             owed: None,
             stored: None,
@@ -86,7 +86,7 @@ impl<L: WriteLog> Owner<L> {
 
     /// Hands in what is owed. `OwnerConflict` where another node writes under the own name; then the faults of
     /// the directory for what is owed. Each leaves everything as it was, but that the seat knows what had happened.
-    fn settle<S: Configured, H: Wait + Drop, Q: Wait>(
+    fn hand_in<S: DirectoryTag, H: Wait + Drop, Q: Wait>(
         &mut self,
         rt: &Q,
         directory: &Directory<S, H>,
@@ -99,7 +99,7 @@ impl<L: WriteLog> Owner<L> {
         ensures free { IfOk result (λ _. IsUndisputed S.opening seat.old seat.new) }
         ensures refused { IfErr result (λ fault. IsHeldBack S.opening seat.old self.old.owed fault seat.new) }
         ensures owes { IfErr result (λ _. self.new.owed ≡ self.old.owed) }
-        ensures seat { IfErr result (λ _. seat.new ≡ with_known seat.old seat.new.known) }
+        ensures seat { IfErr result (λ _. seat.new ≡ with_last_call seat.old seat.new.last_call) }
         ensures later { IsLater seat.old seat.new }
     {
         if let Some(version) = directory.conflict(rt, seat) {
@@ -118,7 +118,7 @@ impl<L: WriteLog> Owner<L> {
     /// `OwnerConflict` where another node writes under the own name; the faults of the directory for what is owed.
     /// Each of these leaves everything as it was, but that the seat knows what had happened. Then, with what was owed handed in, the faults of `WriteLog::put`: with
     /// `StoreFailed` the write stands or does not, and the log is closed; with each other one the log took nothing.
-    pub fn put<S: Configured, H: Wait + Drop, Q: Wait>(
+    pub fn put<S: DirectoryTag, H: Wait + Drop, Q: Wait>(
         &mut self,
         rt: &Q,
         directory: &Directory<S, H>,
@@ -137,7 +137,7 @@ impl<L: WriteLog> Owner<L> {
         ensures settled { IsSettled (L.seen self.old.log) (L.leaves self.old.log) → IsSettled (L.seen self.new.log) (L.leaves self.new.log) }
         ensures later { IsLater seat.old seat.new }
     {
-        self.settle(rt, directory, seat)?;
+        self.hand_in(rt, directory, seat)?;
         let committed = self.keep(key, slot)?;
         let version = committed.entry().version();
         match directory.take_own(rt, seat, &committed) {
