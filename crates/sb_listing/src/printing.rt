@@ -1,7 +1,7 @@
 //! The lines of changes.
 ghost use Rattle.std.specs.Prelude.{◌≡◌, ◌++◌, OnOk, IfOk, IfErr};
 ghost use Rattle.sb_frames.specs.Sending.{Sends, OnlyWhereFailed};
-ghost use Rattle.sb_listing.specs.Seen.{told_line, told_lines};
+ghost use Rattle.sb_listing.specs.Seen.{printed_line, printed_lines};
 
 use crate::changing::Change;
 use sb_frames::{LastWrite, write_counted};
@@ -12,7 +12,7 @@ use std::alloc::Global;
 use std::io::Write;
 
 fn add_change(out: &mut Vec<u8>, change: &Change<'_>) -> Result<(), Fault>
-    ensures added { OnOk result (out.new.items ≡ out.old.items ++ told_line change.now) }
+    ensures added { OnOk result (out.new.items ≡ out.old.items ++ printed_line change.now) }
     ensures memory { IfErr result (λ fault. fault ≡ Fault.NoMemory) }
 {
     match change {
@@ -30,7 +30,7 @@ fn add_change(out: &mut Vec<u8>, change: &Change<'_>) -> Result<(), Fault>
 
 /// The lines of these changes.
 fn lines_of(alloc: Global, changes: &[Change<'_>]) -> Result<Vec<u8>, Fault>
-    ensures lines { IfOk result (λ lines. lines.items ≡ told_lines changes.now) }
+    ensures lines { IfOk result (λ lines. lines.items ≡ printed_lines changes.now) }
     ensures memory { IfErr result (λ fault. fault ≡ Fault.NoMemory) }
 {
     let mut out = Vec::new(alloc);
@@ -47,7 +47,7 @@ pub fn print_changes<W: Write>(
     writer: &mut W,
     changes: &[Change<'_>],
 ) -> (Result<(), Fault>, LastWrite)
-    ensures prints { Sends (W.contents writer.old) (W.contents writer.new) (told_lines changes.now) result.0 }
+    ensures prints { Sends (W.contents writer.old) (W.contents writer.new) (printed_lines changes.now) result.0 }
     // A write that did not fail, or that was made before the call, is no reason to stop.
     ensures failed { OnlyWhereFailed result.0 result.1 }
 {
