@@ -14,7 +14,7 @@ pub(crate) fn add_event<S: NodeTag, Q: Wait>(
     event: EventRef<'_>,
 )
     requires { length history.old < 2 ^ 64 - 1 }
-    ensures { history.new ≡ history.old ++ event_of event ∷ [] }
+    ensures { history.new ≡ history.old ++ event_of event.entry ∷ [] }
 {
     if !history.add(head, event) {
         for _ in rt.forever() {}

@@ -132,17 +132,17 @@ behind-nothing wanted prefix view = sym (keeps-all (rows_in wanted prefix view))
 pub rest-unwanted : (wanted : Option (List ℕ)) (prefix owner key : List ℕ) (view : NodeView) → is_wanted wanted owner ≡ false → None ≡ rest_of wanted prefix owner key view
 rest-unwanted wanted prefix owner key view is = rw is refl
 
-module _ (owner key : List ℕ) (wanted : Option (List ℕ)) (prefix : List ℕ) (es : List (List ℕ × OwnerView)) (up : Ascend es) (view : NodeView) (view : view_of es ≡ view) where
+module _ (owner key : List ℕ) (wanted : Option (List ℕ)) (prefix : List ℕ) (es : List (List ℕ × OwnerView)) (up : Ascend es) (view : NodeView) (viewed : view_of es ≡ view) where
   pub rest-wanted : (at : Option OwnerView) → at ≡ found es owner → is_wanted wanted owner ≡ true
       → option_map (λ owner_view. filter (is_behind (Some (owner, key))) (rows_under prefix owner owner_view)) at ≡ rest_of wanted prefix owner key view
   rest-wanted at is wants =
-      rw wants (ap (option_map (λ (owner_view : OwnerView). filter (is_behind (Some (owner, key))) (rows_under prefix owner owner_view))) (is ∙ sym (owner_view-found owner es up view view)))
+      rw wants (ap (option_map (λ (owner_view : OwnerView). filter (is_behind (Some (owner, key))) (rows_under prefix owner owner_view))) (is ∙ sym (owner_view-found owner es up view viewed)))
 
   abbrev wanted-later : List (List ℕ × OwnerView) → List (List ℕ × OwnerView)
   wanted-later ps = filter (λ p. is_wanted wanted p.0 && is_lt (by_text owner p.0)) ps
 
   plain : wanted-later (entries view) ≡ wanted-later es
-  plain = ap (λ (p : NodeView). wanted-later (entries p)) (sym view) ∙ ap wanted-later (entries-from_sorted by_text es (sorted es up))
+  plain = ap (λ (p : NodeView). wanted-later (entries p)) (sym viewed) ∙ ap wanted-later (entries-from_sorted by_text es (sorted es up))
 
   -- a part of the sheets between two bounds
   pub others-behind : (start end : Bound (List ℕ)) (part : List (List ℕ × OwnerView)) → part ≡ filter (λ p. range_contains by_text start end p.0) es
@@ -156,14 +156,14 @@ module _ (owner key : List ℕ) (wanted : Option (List ℕ)) (prefix : List ℕ)
   view-behind owners is =
       ap₂ (λ (at : Option OwnerView) (ps : List (List ℕ × OwnerView)).
       rows_to_come prefix (cond (is_wanted wanted owner) (option_map (λ owner_view. filter (is_behind (Some (owner, key))) (rows_under prefix owner owner_view)) at) None) ps)
-      (owner_view-found owner es up view view) (is ∙ plain)
+      (owner_view-found owner es up view viewed) (is ∙ plain)
       ∙ sym (parted owner key prefix (is_wanted wanted) es up)
-      ∙ ap (filter (is_behind (Some (owner, key)))) (rows-wanted wanted prefix es (filter (λ p. is_wanted wanted p.0) es) view up view refl)
+      ∙ ap (filter (is_behind (Some (owner, key)))) (rows-wanted wanted prefix es (filter (λ p. is_wanted wanted p.0) es) view up viewed refl)
 
 pub view-from : (place : List ℕ × List ℕ) (wanted : Option (List ℕ)) (prefix : List ℕ) (view : NodeView) (owners : List (List ℕ × OwnerView))
     → owners ≡ filter (λ p. is_wanted wanted p.0 && is_lt (by_text place.0 p.0)) (entries view)
     → rows_to_come prefix (rest_of wanted prefix place.0 place.1 view) owners ≡ rows_behind (Some place) wanted prefix view
 view-from place wanted prefix view owners is =
     let es = entries view in
-    let view = same_entries_map (view_of es) view (entries-from_sorted by_text es (entries_sorted view)) in
-    view-behind place.0 place.1 wanted prefix es (rising es (entries_sorted view)) view view owners is
+    let viewed = same_entries_map (view_of es) view (entries-from_sorted by_text es (entries_sorted view)) in
+    view-behind place.0 place.1 wanted prefix es (rising es (entries_sorted view)) view viewed owners is

@@ -19,7 +19,7 @@ use Rattle.sb_holdings.specs.declared.ends.BlockEnd.{BlockEnd}
 use Rattle.sb_holdings.specs.declared.ends.BlockEnd.TheVariants.{Own, OwnAhead, Gap, Stale, OwnersFull, Taken, TooManyKeys, NoMemory}
 use Rattle.sb_holdings.specs.Held.{Held, nothing, holder_of, shown_of, with_owner, written, held_after_block}
 use Rattle.sb_holdings.specs.Plain.{alone, with_entries, with_entered, IsHoldings}
-use Rattle.sb_holdings.specs.Ends.{is_own, has_place, keys_with, EnterOutcome, entered_count, IsTaken, Fits}
+use Rattle.sb_holdings.specs.Ends.{is_own, has_place, keys_with, Enters, entered_count, IsTaken, Fits}
 use Rattle.sb_holdings.specs.Nodes.{Node, replay_node, node_after_block}
 use Rattle.sb_holdings.specs.Treats.{Treats, took_each}
 use Rattle.sb_holdings.proofs.Order.{distinct_kept, run_front, run_entered}
@@ -128,7 +128,7 @@ no_shorter es early x apart =
 some_entry : Entry
 some_entry = record { key = []; version = 0; slot = Removed }
 
-keys-fit : (entries new : List Entry) (end : BlockEnd) → are_distinct entries ≡ true → EnterOutcome entries new end → keys_with (entered_count end) new entries ≤ KEYS_MOST
+keys-fit : (entries new : List Entry) (end : BlockEnd) → are_distinct entries ≡ true → Enters entries new end → keys_with (entered_count end) new entries ≤ KEYS_MOST
 keys-fit entries new Own apart e = absurd e
 keys-fit entries new (OwnAhead upto) apart e = absurd e
 keys-fit entries new Gap apart e = absurd e

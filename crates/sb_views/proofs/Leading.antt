@@ -9,7 +9,7 @@ use Rattle.sb_types.specs.Records.{Entry, Holder}
 use Rattle.sb_types.proofs.Texts.{same_text}
 use Rattle.sb_table.specs.Plain.{with_entry}
 use Rattle.sb_holdings.specs.Held.{Held, nothing, holder_of, shown_of, written}
-use Rattle.sb_holdings.specs.ViewCopy.{own}
+use Rattle.sb_holdings.specs.Shown.{own}
 use Rattle.sb_holdings.specs.Nodes.{Node}
 use Rattle.sb_views.specs.declared.event.Event.{Event}
 use Rattle.sb_views.specs.declared.event.Event.TheVariants.{TookOwn}

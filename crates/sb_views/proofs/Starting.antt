@@ -19,5 +19,5 @@ pub is_copy-first : (history : Book) (opening : Node) (held : Held) (position : 
 is_copy-first history opening held position view is same at first =
     let shows : IsView opening (view_with_all empty (all_owned held)) =
     subst (λ (h : Held). ShowsTables (shown_of h) (view_with_all empty (all_owned held))) (sym same) (first-view held is) in
-    let view : IsView opening view = subst (IsView opening) (sym first) shows in
-    subst (λ (m : Position). IsCopyOf history opening (copy_of m view)) (sym at) (record { book = refl; view = view })
+    let viewed : IsView opening view = subst (IsView opening) (sym first) shows in
+    subst (λ (m : Position). IsCopyOf history opening (copy_of m view)) (sym at) (record { book = refl; view = viewed })

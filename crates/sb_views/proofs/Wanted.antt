@@ -28,9 +28,9 @@ one-between owner es =
 
 pub rows-wanted : (wanted : Option (List ℕ)) (prefix : List ℕ) (es part : List (List ℕ × OwnerView)) (view : NodeView) → Ascend es → view_of es ≡ view
     → part ≡ filter (λ (p : List ℕ × OwnerView). is_wanted wanted p.0) es → rows_of_owners prefix part ≡ rows_in wanted prefix view
-rows-wanted wanted prefix es part view up view e =
+rows-wanted wanted prefix es part view up viewed e =
     ap (rows_of_owners prefix) (e ∙ ap (filter (λ (p : List ℕ × OwnerView). is_wanted wanted p.0)) (sym (entries-from_sorted by_text es (sorted es up))))
-    ∙ ap (rows_in wanted prefix) view
+    ∙ ap (rows_in wanted prefix) viewed
 
 -- of the wanted name alone, where it is behind the owner's
 pub one-behind : (owner name : List ℕ) → is_lt (by_text owner name) ≡ true → (q : List ℕ)

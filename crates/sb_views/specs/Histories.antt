@@ -1,4 +1,4 @@
--- The story of a node: all that happened to it since it was opened, in one order. Nobody keeps it.
+-- The history of a node: all its events since it was opened, in one order. Nobody keeps it.
 use Rattle.std.specs.Prelude.{◌<◌, List, [], ◌∷◌, length}
 use Rattle.std.specs.List.{flat_map}
 use mathlib.Core.List.{IsPrefix}
@@ -10,7 +10,7 @@ use Rattle.sb_views.specs.declared.event.EventRef.{EventRef}
 use Rattle.sb_views.specs.declared.event.EventRef.TheVariants as lent
 use Rattle.sb_views.specs.declared.event.Event.TheVariants.{TookOwn, Applied}
 
--- these events begin the story of this book
+-- these events are a prefix of the history of this book
 pub record Position : Type 0 where
   pub book : Book
   pub events : List Event

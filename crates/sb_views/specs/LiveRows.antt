@@ -26,7 +26,7 @@ row_at owner p = record { owner = owner; key = p.0; value = p.1.0; version = p.1
 abbrev pub rows_under : List ℕ → List ℕ → OwnerView → List LiveRow
 rows_under prefix owner owner_view = map (row_at owner) (filter (λ p. starts_with nat_eq p.0 prefix) (entries owner_view.rows))
 
--- the same of owners with their sheets, one after the other
+-- the same of owners with their views, one after the other
 abbrev pub rows_of_owners : List ℕ → List (List ℕ × OwnerView) → List LiveRow
 rows_of_owners prefix owners = flat_map (λ p. rows_under prefix p.0 p.1) owners
 
@@ -59,7 +59,7 @@ abbrev pub rest_of : Option (List ℕ) → List ℕ → List ℕ → List ℕ �
 rest_of wanted prefix owner key view =
     if is_wanted wanted owner then option_map (λ owner_view. filter (is_behind (Some (owner, key))) (rows_under prefix owner owner_view)) (get view owner) else None
 
--- the rows at the front whose keys begin so
+-- the first rows, as long as their keys begin so
 abbrev pub reached : List ℕ → List ℕ → List (List ℕ × (Value × ℕ)) → List LiveRow
 reached owner prefix [] = []
 reached owner prefix (p ∷ ps) = if starts_with nat_eq p.0 prefix then row_at owner p ∷ reached owner prefix ps else []

@@ -1,4 +1,4 @@
--- What readers are shown of a node.
+-- The view of a node: what its readers get.
 use Rattle.std.specs.Prelude.{◌≡◌, ℕ, nat_eq, List, [], ◌∷◌, map, filter, flat_map, Option, None, unwrap_or}
 use Rattle.std.specs.Ordering.{nat_cmp}
 use Rattle.std.specs.Cmp.Lexicographic.{slice_cmp, pointwise}
@@ -12,12 +12,12 @@ use Rattle.sb_table.specs.Plain.{with_entry}
 use Rattle.sb_holdings.specs.Held.{Held, shown_of}
 use Rattle.sb_holdings.specs.Plain.{tables_from}
 
--- what is shown of one owner: up to which version it is held, and under each key that is live its value, with the version of its write
+-- the view of one owner: up to which version it is held, and under each key that is live its value, with the version of its write
 pub record OwnerView : Type 0 where
   pub upto : ℕ
   pub rows : FinMap (slice_cmp nat_cmp) (Value × ℕ)
 
--- the owners' sheets, by name
+-- the views of the owners, by name
 abbrev pub NodeView : Type 0
 NodeView = FinMap (slice_cmp nat_cmp) OwnerView
 
@@ -40,7 +40,7 @@ upto_of view owner = (owner_view_of view owner).upto
 abbrev pub row_of : NodeView → List ℕ → List ℕ → Option (Value × ℕ)
 row_of view owner key = get (owner_view_of view owner).rows key
 
--- the page shows these tables: of each owner the version that is held, and what it has under each key
+-- the view shows these tables: of each owner the version that is held, and what it has under each key
 pub record ShowsTables (tables : List ℕ → Table) (view : NodeView) : Type 0 where
   pub upto : (owner : List ℕ) → upto_of view owner ≡ (tables owner).held
   pub row : (owner key : List ℕ) → row_of view owner key ≡ shown_at key (tables owner).entries
@@ -49,14 +49,14 @@ abbrev pub rows_with : FinMap (slice_cmp nat_cmp) (Value × ℕ) → Entry → S
 rows_with rows e (Set value) = insert rows e.key (value, e.version)
 rows_with rows e Removed = remove rows e.key
 
--- the sheet once the owner wrote this
+-- the owner's view once the owner wrote this
 abbrev pub owner_view_with : OwnerView → Entry → OwnerView
 owner_view_with owner_view e = record { upto = e.version; rows = rows_with owner_view.rows e e.slot }
 
 abbrev pub view_with : NodeView → List ℕ → Entry → NodeView
 view_with view owner e = insert view owner (owner_view_with (owner_view_of view owner) e)
 
--- the page with entries of owners entered in turn
+-- the view with entries of owners entered in turn
 abbrev pub view_with_all : NodeView → List (List ℕ × Entry) → NodeView
 view_with_all view [] = view
 view_with_all view (p ∷ ps) = view_with_all (view_with view p.0 p.1) ps

@@ -1,4 +1,4 @@
--- The steps by which a copy of the page follows.
+-- The operations by which a copy follows.
 use Rattle.std.specs.Prelude.{Bool, true, false, List, [], ◌∷◌, ℕ}
 use Rattle.sb_types.specs.Records.{Entry}
 use Rattle.sb_views.specs.NodeViews.{view_with}
@@ -6,7 +6,7 @@ use Rattle.sb_views.specs.declared.view_copy.Operation.{Operation}
 use Rattle.sb_views.specs.declared.view_copy.Operation.TheVariants.{Enter, Reach}
 use Rattle.sb_views.specs.Copies.{ViewCopy}
 
--- the copy once an entry is entered, or with the mark of what it shows
+-- the copy once an entry is entered, or once it is said how far it goes
 abbrev pub after_operation : ViewCopy → Operation → ViewCopy
 after_operation copy (Enter owner e) = record { position = copy.position; view = view_with copy.view owner e }
 after_operation copy (Reach position) = record { position = position; view = copy.view }

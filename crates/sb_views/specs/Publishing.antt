@@ -11,11 +11,11 @@ use Rattle.sb_views.specs.Histories.{node_after}
 use Rattle.sb_views.specs.NodeViews.{NodeView, ShowsTables}
 use Rattle.sb_views.specs.Copies.{ViewCopy}
 
--- the page is the view of this node
+-- it is the view of this node
 abbrev pub IsView : Node → NodeView → Type 0
 IsView node view = ShowsTables (shown_of node.held) view
 
--- the copy is of this story, and shows the node after the events of its mark
+-- the copy is of this history, and is the view of the node after the events of its prefix
 pub record IsCopyOf (history : Book) (opening : Node) (copy : ViewCopy) : Type 0 where
   pub book : copy.position.book ≡ history
   pub view : IsView (node_after opening copy.position.events) copy.view
@@ -24,17 +24,17 @@ pub record IsCopyOf (history : Book) (opening : Node) (copy : ViewCopy) : Type 0
 abbrev pub AllBelow : ℕ → List ℕ → Type 0
 AllBelow n seen = (reader v : ℕ) → get_elem? seen reader ≡ some v → v ≤ n
 
--- the rule of views: what is published is the view of a beginning of the story, no shorter than any reader saw
+-- the rule of views: what is published is the view of a prefix of the history, no shorter than any reader saw
 pub record IsPublished (history : Book) (opening : Node) (copy : ViewCopy) (seen : List ℕ) : Type 0 where
   pub is_copy : IsCopyOf history opening copy
   pub longest : AllBelow (length copy.position.events) seen
 
--- the events that are shown, and those that will be once all that is pending is published
+-- the events that are published, and those that will be once all that is queued is published
 pub record Views : Type 0 where
   pub published : List Event
   pub queued : List Event
 
--- what is shown begins what is ready, of which the next copy is the view
+-- what is published begins what is queued, of which the next copy is the view
 pub record IsQueued (history : Book) (opening : Node) (queued : List Event) (shown next : ViewCopy) : Type 0 where
   pub is_copy : IsCopyOf history opening next
   pub reaches : next.position.events ≡ queued

@@ -26,7 +26,7 @@ impl Model for Batch {
     ghost invariant = { λ b. are_entries b.entries.items ≡ true };
 }
 
-/// Puts a step behind the others. Where memory is wanting nothing changes.
+/// Puts an operation behind the others. Where memory is wanting nothing changes.
 fn push_operation(steps: &mut VecDeque<Operation>, step: Operation) -> Result<(), Fault>
     ensures ok { OnOk result (steps.new.items ≡ steps.old.items ++ step ∷ []) }
     ensures err { OnErr result (steps.new.items ≡ steps.old.items) }
@@ -60,7 +60,7 @@ impl Batch {
         push_operation(&mut self.entries, Operation::Enter(owner, entry))
     }
 
-    /// The entries as steps of a copy.
+    /// The entries as operations on a copy.
     pub(crate) fn into_operations(self) -> VecDeque<Operation>
         ensures entries { entries_of result.items ≡ self }
         ensures alone { are_entries result.items ≡ true }
@@ -69,7 +69,7 @@ impl Batch {
         entries
     }
 
-    /// The batch of these steps.
+    /// The batch of these operations.
     pub(crate) fn from_operations(entries: VecDeque<Operation>) -> Batch
         requires { are_entries entries.items ≡ true }
         ensures { result ≡ entries_of entries.items }

@@ -1,4 +1,5 @@
-//! The story: all events of a node in one order, which exists in proofs alone.
+//! The history of a node: all its events since it was opened, in one order. It exists in proofs alone; at run time there is only its
+//! length.
 ghost use Rattle.std.specs.Prelude.{◌≡◌, ◌≢◌, ◌+◌, ◌<◌, ◌≤◌, ◌-◌, ◌^◌, ◌++◌, ◌∷◌, ◌⊎◌, [], length, MatchBool, ◌==◌};
 ghost use mathlib.Core.List.{IsPrefix};
 ghost use Rattle.sb_views.specs.Histories.{IsLonger, event_of};
@@ -9,7 +10,7 @@ use logbook::{Gain, Offer, Plain, Play, Rule, Seen, Start, Word};
 use std::marker::{Brand, Model, PhantomData};
 use std::sync::ledger::Ledger;
 
-/// The rule of the story: its word is its length.
+/// The rule of a history: its word is its length.
 pub struct LengthRule;
 
 impl Rule<Event, u64> for LengthRule {
@@ -55,7 +56,7 @@ impl<'a> Plain<EventRef<'a>, Event, u64> for AddEvent {
     ghost state = { λ event. None };
 }
 
-/// Which running node it is, in proofs alone: its state when it was opened, its story, and how many seats it has.
+/// Which running node it is, in proofs alone: its state when it was opened, its history, and how many seats it has.
 pub trait NodeTag: Ledger {
     ghost use Rattle.std.specs.Prelude.{ℕ};
     ghost use Rattle.logbook.specs.Pages.{Book};
@@ -79,7 +80,7 @@ impl NodeTag for Brand {
     ghost history = { record { number = 0; log_name = 0; cells_name = 0 } };
 }
 
-/// A story that has just begun, which has no name yet.
+/// A history without events, which names no node yet.
 #[derive(Drop)]
 pub struct NewHistory {
     head: Word<Event, u64, LengthRule>,
@@ -89,7 +90,7 @@ pub struct NewHistory {
 }
 
 impl NewHistory {
-    /// A story without events. It takes no memory.
+    /// A history without events. It takes no memory.
     pub fn new() -> NewHistory {
         let (seen, mut first, _second) = Seen::open(Start::alone(), 0, 0);
         NewHistory {
@@ -98,7 +99,7 @@ impl NewHistory {
         }
     }
 
-    /// The story's word under a name, and the front that has seen nothing.
+    /// The head of the history of the node that the tag names, and its empty prefix.
     pub fn named<S: NodeTag>(self) -> (HistoryHead<S>, HistoryPrefix<S>)
         requires { self.seen.book ≡ S.history }
         ensures { result.1 ≡ [] }
@@ -117,7 +118,7 @@ impl NewHistory {
     }
 }
 
-/// The word that all threads share: how many events there are.
+/// The head of a history, which all threads share: how many events there are.
 #[derive(Drop)]
 pub struct HistoryHead<S: NodeTag> {
     head: Word<Event, u64, LengthRule>,
@@ -125,7 +126,7 @@ pub struct HistoryHead<S: NodeTag> {
     ghost head_is: { head ≡ head_of S.history },
 }
 
-/// A beginning of some story that was seen.
+/// How far a prefix of some history goes: the number of its events at run time, and the events in proofs.
 #[derive(Drop)]
 pub struct Position {
     events: u64,
@@ -181,7 +182,7 @@ impl Position {
         self.events <= other.events
     }
 
-    /// Of two marks of one story the shorter begins the longer.
+    /// The longer of two prefixes of one history, of which the shorter is a prefix.
     pub(crate) fn longer(&self, other: &Position) -> Position
         requires { other.now.book ≡ self.now.book }
         ensures one { (result ≡ self.now) ⊎ (result ≡ other.now) }
@@ -198,7 +199,7 @@ impl Position {
     }
 }
 
-/// A beginning of the story that was seen. Contracts see it as its events.
+/// A prefix of the history of the node that the tag names. Contracts see it as its events.
 #[derive(Drop)]
 pub struct HistoryPrefix<S: NodeTag> {
     position: Position,
@@ -224,7 +225,7 @@ impl<S: NodeTag> HistoryPrefix<S> {
         self.position.len()
     }
 
-    /// The mark of its events.
+    /// How far it goes.
     pub(crate) fn position(&self) -> &Position
         ensures { result.now ≡ record { book = S.history; events = self.now } }
     {
@@ -256,7 +257,7 @@ impl<S: NodeTag> HistoryPrefix<S> {
         }
     }
 
-    /// Sees as much as a longer mark.
+    /// Becomes the longer prefix that goes so far.
     pub(crate) fn extend_to(&mut self, position: &Position)
         requires book { position.now.book ≡ S.history }
         requires longer { length self.old ≤ length position.now.events }
@@ -271,7 +272,7 @@ impl<S: NodeTag> HistoryPrefix<S> {
     /// is a longer prefix of it, and nothing is added.
     pub fn add(&mut self, history: &HistoryHead<S>, event: EventRef<'_>) -> bool
         requires { length self.old < 2 ^ 64 - 1 }
-        ensures { MatchBool result (self.new ≡ self.old ++ event_of event ∷ []) (IsLonger self.old self.new) }
+        ensures { MatchBool result (self.new ≡ self.old ++ event_of event.entry ∷ []) (IsLonger self.old self.new) }
     {
         let position = &mut self.position;
         let mut offer: Offer<Event, u64, LengthRule, NoGain> = position

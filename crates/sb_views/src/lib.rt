@@ -1,4 +1,19 @@
-//! Views: what threads read of a node without its lock.
+//! Views: what readers get of a node without its lock.
+//!
+//! A node's events make its history, which proofs alone have. One writer queues what is new and publishes it; each reader enters
+//! without waiting, and gets a snapshot: the view of the node after a prefix of its history, no shorter than any that it saw before.
+//!
+//! ```rust
+//! /// How many of an owner's live rows under a prefix a reader gets, and up to which version it has the owner.
+//! fn count_under<S: NodeTag>(entered: &Entered<S>, owner: &Name, prefix: Prefix) -> (usize, u64) {
+//!     let snapshot = entered.snapshot();
+//!     let mut count = 0;
+//!     for _ in snapshot.rows(Some(*owner), prefix) {
+//!         count += 1;
+//!     }
+//!     (count, snapshot.upto(owner))
+//! }
+//! ```
 #![tactic(auto)]
 
 mod batch;

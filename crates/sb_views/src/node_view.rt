@@ -21,7 +21,7 @@ use std::collections::btree_map::Range;
 use std::marker::Model;
 use std::ops::Bound;
 
-/// The owners' sheets, by name.
+/// The view of a node: the views of its owners, by name.
 #[derive(Drop)]
 pub(crate) struct NodeView {
     owners: BTreeMap<Name, OwnerView>,
@@ -45,7 +45,7 @@ impl Model for NodeView {
     ghost invariant = { λ p. IsOrdered (slice_cmp nat_cmp) p.owners };
 }
 
-/// Puts a sheet under a name. Where memory is wanting nothing changes.
+/// Puts an owner's view under its name. Where memory is wanting nothing changes.
 fn put_owner_view(
     owners: &mut BTreeMap<Name, OwnerView>,
     owner: Name,
@@ -69,7 +69,7 @@ fn put_owner_view(
 }
 
 impl NodeView {
-    /// A page without owners. It takes no memory.
+    /// A view without owners. It takes no memory.
     pub(crate) fn new(alloc: Global) -> NodeView
         ensures { result ≡ empty }
     {
@@ -102,7 +102,7 @@ impl NodeView {
         put_owner_view(&mut self.owners, *owner, owner_view)
     }
 
-    /// The sheet of an owner.
+    /// The view of an owner.
     pub(crate) fn owner_view(&self, owner: &Name) -> Option<&OwnerView>
         ensures { option_copied result ≡ get self.now owner.now }
     {
@@ -179,7 +179,7 @@ impl NodeView {
         LiveRows::new(rest, others, prefix)
     }
 
-    /// The sheets of the wanted owners behind this one.
+    /// The views of the wanted owners behind this one.
     fn others_behind(&self, wanted: Option<Name>, owner: Name) -> Range<'_, Name, OwnerView>
         ensures { result ≡ filter (λ p. spec.is_wanted wanted p.0 && is_lt (slice_cmp nat_cmp owner p.0)) (entries self.now) }
     {

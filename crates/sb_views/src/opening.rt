@@ -1,4 +1,4 @@
-//! The first page, and the making of views.
+//! The view of a node as it is opened, and the making of its writer and its readers.
 ghost use Rattle.std.specs.Prelude.{◌≡◌, ◌<◌, ◌^◌, [], replicate, IfOk, IfErr, OnOk};
 ghost use Rattle.std.specs.FinMap.{empty};
 ghost use Rattle.sb_views.specs.NodeViews as node_views;
@@ -25,7 +25,7 @@ fn enter_table(view: &mut NodeView, owner: &Name, table: &Table) -> Result<(), A
     Ok(())
 }
 
-/// The page of all that is held.
+/// The view of all that is held.
 fn view_of(alloc: Global, holdings: &Holdings) -> Result<NodeView, AllocError>
     ensures view { IfOk result (λ view. view ≡ node_views.view_with_all empty (node_views.all_owned holdings.now)) }
     ensures holdings { IsHoldings holdings.now }
@@ -38,7 +38,7 @@ fn view_of(alloc: Global, holdings: &Holdings) -> Result<NodeView, AllocError>
 }
 
 /// The views of a node as it is opened, for so many readers: what is held is published, and every reader has seen
-/// nothing of the story. `NoMemory`.
+/// nothing of the history. `NoMemory`.
 pub fn views<S: NodeTag, R: Wait + Drop>(
     alloc: Global,
     rt: R,

@@ -102,7 +102,7 @@ fn enter_row(
 }
 
 impl OwnerView {
-    /// The sheet of an owner who wrote nothing. It takes no memory.
+    /// The view of an owner who wrote nothing. It takes no memory.
     pub(crate) fn new(alloc: Global) -> OwnerView
         ensures { result ≡ node_views.no_view }
     {

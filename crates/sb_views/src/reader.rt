@@ -13,7 +13,7 @@ use left_right::reader;
 use left_right::reader::Reading;
 use std::marker::Model;
 
-/// A reader that is not reading. Contracts see it as the beginning of the story that it was told or has seen.
+/// A reader that is not reading. Contracts see it as the prefix of the history that it has seen.
 #[derive(Drop)]
 pub struct Reader<S: NodeTag> {
     reader: reader::Reader<ViewCopy, u64, ViewRule<S>>,
@@ -32,7 +32,7 @@ impl<S: NodeTag> Model for Reader<S> {
     ghost invariant = { λ r. sides.view r.reader.place ≡ length r.seen };
 }
 
-/// A reader with what it reads. Contracts see it as the beginning of the story of which that is the view.
+/// A reader with the view that it reads. Contracts see it as the prefix of the history whose view that is.
 pub struct Entered<S: NodeTag> {
     reading: Reading<ViewCopy, u64, ViewRule<S>>,
     seen: HistoryPrefix<S>,
@@ -80,7 +80,7 @@ impl<S: NodeTag> Reader<S> {
         }
     }
 
-    /// What it was told or has seen.
+    /// The prefix of the history that it has seen.
     pub fn seen(&self) -> &HistoryPrefix<S>
         ensures { result.now ≡ self.now }
     {
@@ -96,7 +96,7 @@ impl<S: NodeTag> Entered<S> {
         Snapshot::of(self.reading.get().view())
     }
 
-    /// What it has seen.
+    /// The prefix of the history that it has seen.
     pub fn seen(&self) -> &HistoryPrefix<S>
         ensures { result.now ≡ self.now }
     {

@@ -1,4 +1,4 @@
-//! The rule of views: what is published is the view of a beginning of the story, no shorter than any reader saw.
+//! The rule of views: what is published is the view of a prefix of the history, no shorter than any reader saw.
 
 use crate::history::NodeTag;
 use crate::view_copy::ViewCopy;
@@ -18,7 +18,7 @@ impl<S: NodeTag> Protocol<ViewCopy, u64> for ViewRule<S> {
     ghost first = { 0 };
 }
 
-/// Of publishing nothing is told.
+/// A publish promises nothing by itself.
 pub(crate) struct PublishOutcome;
 
 impl Outcome<ViewCopy, u64> for PublishOutcome {

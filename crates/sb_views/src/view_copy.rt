@@ -1,4 +1,4 @@
-//! One copy of what readers are shown, and the steps by which both copies follow.
+//! One of the two copies of the view, and the operations by which both follow.
 ghost use Rattle.std.specs.Prelude.{◌≡◌};
 
 use crate::history::Position;
@@ -8,7 +8,7 @@ use sb_types::{Entry, Name};
 use std::alloc::AllocError;
 use std::marker::Model;
 
-/// One copy of what readers are shown: a page, and the mark of the events of which it is the view.
+/// One copy: the view, and how far the prefix goes whose view it is.
 #[derive(Drop)]
 pub struct ViewCopy {
     view: NodeView,
@@ -27,12 +27,12 @@ impl Model for ViewCopy {
     ghost view = { λ s. record { position = s.position; view = s.view } };
 }
 
-/// A step of a copy.
+/// An operation on a copy.
 #[derive(Drop)]
 pub enum Operation {
-    /// A write of an owner is shown.
+    /// A write of an owner is entered.
     Enter(Name, Entry),
-    /// What is shown is the view of these events.
+    /// The copy is the view of these events.
     Reach(Position),
 }
 

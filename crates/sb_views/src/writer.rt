@@ -18,8 +18,8 @@ use std::collections::VecDeque;
 use std::marker::Model;
 use std::sync::Wait;
 
-/// Publishes what readers are shown. Contracts see it as two beginnings of the story: the events that are shown, and
-/// those that will be once all that is pending is published.
+/// The one writer of the views of a node. Contracts see it as two prefixes of the history: `published`, whose view readers get when
+/// they enter, and `queued`, whose view they get once all that is queued is published.
 pub struct ViewWriter<S: NodeTag, R: Wait + Drop> {
     writer: Writer<ViewCopy, Operation, u64, ViewRule<S>>,
     // What is appended and not yet handed to the writer, so that no reader meets a part of a batch.
@@ -59,7 +59,7 @@ fn hand_over<S: NodeTag>(
     Ok(())
 }
 
-/// Queues steps and then a mark, or nothing where there is no memory for all.
+/// Queues operations and then how far they lead, or nothing where there is no memory for all.
 fn queue_all(
     queue: &mut VecDeque<Operation>,
     steps: &mut VecDeque<Operation>,
@@ -129,7 +129,7 @@ impl<S: NodeTag, R: Wait + Drop> ViewWriter<S, R> {
         }
     }
 
-    /// Appends a batch, which leads from what is ready to the view of the events up to `upto`. Readers see nothing of
+    /// Queues a batch, which leads from the view of what is queued to that of the events up to `upto`. Readers see nothing of
     /// it until it is published. Where memory is wanting the batch comes back and nothing changes.
     pub fn append(&mut self, batch: Batch, upto: &HistoryPrefix<S>) -> Result<(), Batch>
         requires begins { IsPrefix self.old.queued upto.now }
@@ -180,8 +180,8 @@ impl<S: NodeTag, R: Wait + Drop> ViewWriter<S, R> {
         }
     }
 
-    /// Shows readers all that is pending. It waits for those that still read what was published before the last time.
-    /// `NoMemory`, where neither what is shown nor what is pending changes.
+    /// Publishes all that is queued. It waits for those that still read what was published before the last time.
+    /// `NoMemory`, where neither what is published nor what is queued changes.
     pub fn publish(&mut self) -> Result<(), Fault>
         ensures end { MatchResult result (λ _. self.new ≡ record { published = self.old.queued; queued = self.old.queued }) (λ _. self.new ≡ self.old) }
         ensures memory { IfErr result (λ fault. fault ≡ Fault.NoMemory) }

@@ -1,5 +1,5 @@
-//! The tests of views, pages, listings, watches and lines. They stand in a crate of their own, since a crate with tests is proved
-//! twice: with them and without.
+//! The tests of views, pages, listings, watches, lines and the words of lines. They stand in a crate of their own, since a crate
+//! with tests is proved twice: with them and without.
 #![tactic(auto)]
 
 #[cfg(test)]
@@ -14,6 +14,8 @@ mod listings;
 mod making;
 #[cfg(test)]
 mod pages;
+#[cfg(test)]
+mod printing;
 #[cfg(test)]
 mod reading;
 #[cfg(test)]

@@ -11,7 +11,7 @@ mod real;
 #[cfg(test)]
 mod scripts;
 #[cfg(test)]
-mod story;
+mod whole_way;
 #[cfg(test)]
 mod transcripts;
 #[cfg(test)]

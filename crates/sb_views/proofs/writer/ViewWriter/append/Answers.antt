@@ -31,5 +31,5 @@ invariant_of-self g c =
     let is_queued : dropped ++ c.queue_all.new.queue.items ≡ (dropped ++ queue) ++ (operations ++ Reach position ∷ []) =
     ap (λ (q : List Operation). dropped ++ q) (c.in-Ok.ensures ∙ ap (λ (m : Position). queue ++ (operations ++ Reach m ∷ [])) c.position.ensures)
     ∙ sym (append_assoc dropped queue (operations ++ Reach position ∷ [])) in
-    subst (λ (l : List Event). IsQueued history opening l shown (fold after_operation shown (dropped ++ c.queue_all.new.queue.items))) (sym c.again.ensures)
+    subst (λ (l : List Event). IsQueued history opening l shown (fold after_operation shown (dropped ++ c.queue_all.new.queue.items))) (sym c.copy.ensures)
     (appended history opening queued upto shown (dropped ++ queue) operations c.self.invariant c.into_operations-steps.ensures.alone begins leads (dropped ++ c.queue_all.new.queue.items) is_queued)
