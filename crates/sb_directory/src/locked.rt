@@ -46,9 +46,9 @@ impl<S: DirectoryTag, R: Wait + Drop> Model for Locked<S, R> {
 
     ghost coded = { Prim.hlevel (codes, code) };
 
-    ghost view = { λ u. u.node };
+    ghost view = { λ l. l.node };
 
-    ghost invariant = { λ u. (u.book.total ≡ length u.node.history) × (u.node.core.settings ≡ S.settings) × (u.rest.parts ≡ 0) × (u.rest.amount ≡ 0) };
+    ghost invariant = { λ l. (l.book.total ≡ length l.node.history) × (l.node.core.settings ≡ S.settings) × (l.rest.parts ≡ 0) × (l.rest.amount ≡ 0) };
 }
 
 /// Counts the event that a call of this seat made, with which its last call ends, and lets the seat see what is published, where
