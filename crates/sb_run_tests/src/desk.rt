@@ -3,7 +3,7 @@ ghost use Rattle.std.specs.Prelude.{◌≡◌, ◌<◌};
 
 use crate::making::{key, name, new_log, new_node, weight};
 use crate::{got, there};
-use sb_directory::{DirectoryTag, Directory, EnteredSeat, ReaderSeat};
+use sb_directory::{Directory, DirectoryTag, EnteredSeat, ReaderSeat};
 use sb_frames::Steps;
 use sb_log::PlainLog;
 use sb_node::NodeCore;
@@ -139,7 +139,14 @@ fn seen_of_a<S: DirectoryTag>(rt: &impl Abort, entered: &EnteredSeat<S>) -> u64 
     entered.snapshot().upto(&name(rt, b"a"))
 }
 
-fn serve_from<S: DirectoryTag, H: Wait + Drop, Q: Wait + Abort, R: io::Read, W: io::Write, K: Ledger>(
+fn serve_from<
+    S: DirectoryTag,
+    H: Wait + Drop,
+    Q: Wait + Abort,
+    R: io::Read,
+    W: io::Write,
+    K: Ledger,
+>(
     rt: &Q,
     alloc: Global,
     directory: &Directory<S, H>,

@@ -93,7 +93,12 @@ where
 {}
 
 /// Runs the node a with a new log.
-pub(crate) fn run_a<R: Host>(rt: &R, alloc: Global, paths: &Paths, pace: Pace) -> Result<Ran, Fault> {
+pub(crate) fn run_a<R: Host>(
+    rt: &R,
+    alloc: Global,
+    paths: &Paths,
+    pace: Pace,
+) -> Result<Ran, Fault> {
     run_observed(rt, alloc, paths, pace, &Nobody)
 }
 
@@ -239,7 +244,11 @@ fn play<R: Net + Abort>(rt: &R, alloc: Global, listener: &UnixListener, paths: &
 
 #[test]
 fn a_node_beside_its_owner_and_its_peers(rt: HostRuntime) {
-    let paths = paths_of("beside.sock", "beside.control", &["beside.nobody", "beside.peer"]);
+    let paths = paths_of(
+        "beside.sock",
+        "beside.control",
+        &["beside.nobody", "beside.peer"],
+    );
     let alloc = rt.alloc();
     let listener = got(&rt, UnixListener::bind(&rt, "beside.peer"));
     let (ran, seen) = thread::join(

@@ -189,10 +189,7 @@ fn changes_behind(rt: &impl Abort, alloc: Global, left: usize) -> Ended {
 /// The same of that page as JSON.
 fn json_behind(rt: &impl Abort, alloc: Global, left: usize) -> Ended {
     let page = page_of_kinds(rt, alloc);
-    settled(
-        rt,
-        print_json_rows(alloc, &mut Closing::new(left), &page),
-    )
+    settled(rt, print_json_rows(alloc, &mut Closing::new(left), &page))
 }
 
 /// Both fail behind so many bytes.

@@ -1,7 +1,7 @@
 //! Pages at exact budgets and behind places, and the lines of a page.
 use crate::making::{
-    Ended, apply, entry, failed_behind, has_lines, holdings_of_a, key, name,
-    owner_of, prefix, rows_of, settled, weight,
+    Ended, apply, entry, failed_behind, has_lines, holdings_of_a, key, name, owner_of, prefix,
+    rows_of, settled, weight,
 };
 use crate::reading::{Look, read};
 use crate::{got, making, same, same_at};
