@@ -232,7 +232,7 @@ impl<'a> Peers<'a> {
     }
 
     /// How many peers had no fault in their last round.
-    pub(crate) fn count_fit(&self) -> u64 {
+    pub(crate) fn count_without_fault(&self) -> u64 {
         let mut count: u64 = 0;
         for peer in &self.all {
             if !peer.last.has_failed() {

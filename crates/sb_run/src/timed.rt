@@ -33,7 +33,7 @@ impl<'a, Q: Clock> Timed<'a, Q> {
         }
     }
 
-    /// So long, but no longer than no byte may move.
+    /// This time, but no more than no byte may move.
     fn at_most_idle(&self, left: Duration) -> Duration
         ensures left { as_nanos result ≤ as_nanos left }
         ensures idle { self.now.idle ≢ 0 → as_nanos result ≤ self.now.idle * 1_000_000 }

@@ -3,20 +3,18 @@
 use crate::making::{name, new_log, settings};
 use crate::peers::{hears_only, next_of, node_with, put_is_done, reach, talk};
 use crate::{got, holds, same};
-use sb_run::{Nobody, Observer, OnLogFault, Pace, Paths, Ran, run_node};
+use sb_run::{Nobody, NodeConfig, Observer, OnLogFault, Pace, Paths, Ran, Runtime, run_node};
 use sb_session::Ended;
 use sb_types::Fault;
 use std::alloc::Global;
 use std::fs::File;
 use std::io::{Read, Write};
-use std::net::{Net, Shutdown, TcpListener, TcpStream};
+use std::net::{Net, Shutdown};
 use std::os::unix::net::{UnixListener, UnixStream};
 use std::process::Abort;
 use std::rt::Files;
 use std::sync::atomic::{AtomicBool, Ordering};
 use std::sync::{Mutex, Wait};
-use std::thread::Threads;
-use std::time::Clock;
 use std::{fs, io, thread};
 
 /// The length of the Hello that a says.
@@ -53,33 +51,30 @@ fn are_there(files: &impl Files, paths: &Paths) -> [bool; 2] {
 }
 
 /// Runs the node a with a new log.
-fn run_a<
-    R: Threads
-        + Wait
-        + Clock
-        + Files
-        + Net<Listener = TcpListener, Stream = TcpStream>
-        + Abort
-        + Send
-        + Sync,
->(rt: &R, alloc: Global, paths: &Paths, pace: Pace) -> Result<Ran, Fault> {
+fn run_a<R: Runtime + Abort>(
+    rt: &R,
+    alloc: Global,
+    paths: &Paths,
+    pace: Pace,
+) -> Result<Ran, Fault> {
     run_observed(rt, alloc, paths, pace, &Nobody)
 }
 
 /// The same, with this observer.
-pub(crate) fn run_observed<
-    R: Threads
-        + Wait
-        + Clock
-        + Files
-        + Net<Listener = TcpListener, Stream = TcpStream>
-        + Abort
-        + Send
-        + Sync,
-    O: Observer + Sync,
->(rt: &R, alloc: Global, paths: &Paths, pace: Pace, observer: &O) -> Result<Ran, Fault> {
+pub(crate) fn run_observed<R: Runtime + Abort, O: Observer + Sync>(
+    rt: &R,
+    alloc: Global,
+    paths: &Paths,
+    pace: Pace,
+    observer: &O,
+) -> Result<Ran, Fault> {
     let log = new_log(rt, alloc, b"a");
-    run_node(rt, alloc, settings(rt, 3), log, paths, pace, observer)
+    let config = NodeConfig {
+        settings: settings(rt, 3),
+        paths: *paths,
+        pace,
+    };
+    run_node(rt, alloc, config, log, observer)
 }
 
 /// Looks whether the sockets are there once the node listens.
@@ -136,16 +131,7 @@ fn is_kept(rt: &(impl Files + Abort), alloc: Global) -> bool {
 }
 
 /// A node is refused where there is a file at one of its paths: it is left as it was, and there is none at the other.
-fn leaves_taken<
-    R: Threads
-        + Wait
-        + Clock
-        + Files
-        + Net<Listener = TcpListener, Stream = TcpStream>
-        + Abort
-        + Send
-        + Sync,
->(rt: &R, alloc: Global, sock: &str, control: &str, free: &str) {
+fn leaves_taken<R: Runtime + Abort>(rt: &R, alloc: Global, sock: &str, control: &str, free: &str) {
     let paths = Paths {
         sock,
         control,
@@ -165,16 +151,13 @@ fn a_path_that_is_taken_is_left(rt: HostRuntime) {
 }
 
 /// A node is refused where one of its paths is empty, and there is no file at the other.
-fn refuses_empty<
-    R: Threads
-        + Wait
-        + Clock
-        + Files
-        + Net<Listener = TcpListener, Stream = TcpStream>
-        + Abort
-        + Send
-        + Sync,
->(rt: &R, alloc: Global, sock: &str, control: &str, other: &str) {
+fn refuses_empty<R: Runtime + Abort>(
+    rt: &R,
+    alloc: Global,
+    sock: &str,
+    control: &str,
+    other: &str,
+) {
     let paths = Paths {
         sock,
         control,
@@ -192,16 +175,14 @@ fn an_empty_path_is_refused(rt: HostRuntime) {
 }
 
 /// What the node did. Where it did not dial so often, connections stand for it, so that the player does not wait for them.
-fn run_and_reach<
-    R: Threads
-        + Wait
-        + Clock
-        + Files
-        + Net<Listener = TcpListener, Stream = TcpStream>
-        + Abort
-        + Send
-        + Sync,
->(rt: &R, alloc: Global, paths: &Paths, pace: Pace, peer: &str, times: u64) -> Ran {
+fn run_and_reach<R: Runtime + Abort>(
+    rt: &R,
+    alloc: Global,
+    paths: &Paths,
+    pace: Pace,
+    peer: &str,
+    times: u64,
+) -> Ran {
     let ran = run_a(rt, alloc, paths, pace);
     for _ in 0..times {
         let _ = UnixStream::connect(rt, peer);
