@@ -102,16 +102,15 @@ pub(crate) fn serve_control_socket<
     requires opened { IsOpenedFrom (L.seen writes.log) S.opening }
     ensures { result.has_left ≡ true → node.now.pace.on_log_fault ≡ OnLogFault.Exit }
 {
-    let socket = &node.sockets.control;
-    let acceptor = Acceptor::new(node.rt, socket, node.ending, node.pace.idle, None);
-    let mut writes = writes;
-    let mut sitting = seat;
+    let control = &node.sockets.control;
+    let acceptor = Acceptor::new(node.rt, control, node.ending, node.pace.idle, None);
+    let (mut writes, mut current) = (writes, seat);
     let mut faults: u64 = 0;
     for _ in node.rt.forever() {
         let failed = match acceptor.next() {
             None => {
                 return ControlEnd {
-                    seat: sitting,
+                    seat: current,
                     faults,
                     has_left: false,
                 };
@@ -123,10 +122,10 @@ pub(crate) fn serve_control_socket<
                     &mut writes,
                     &input,
                     &output,
-                    sitting,
+                    current,
                     Blank::new(1),
                 );
-                sitting = seat;
+                current = seat;
                 failed
             }
         };
@@ -136,7 +135,7 @@ pub(crate) fn serve_control_socket<
         if report_writes(node, &mut writes, observer) {
             node.end();
             return ControlEnd {
-                seat: sitting,
+                seat: current,
                 faults,
                 has_left: true,
             };

@@ -13,7 +13,7 @@ use std::sync::Wait;
 use std::thread;
 use std::time::{Clock, Duration, Instant};
 
-/// How long after the observer was told how the node is it is told again, in milliseconds.
+/// After how long the observer is told again how the node is, in milliseconds.
 const STATUS_INTERVAL: u64 = 1_000;
 
 /// How long after a burst begins news is gathered for the next, in milliseconds.
@@ -40,7 +40,7 @@ pub(crate) struct Dialer<'a, O> {
     due: Option<Instant>,
     /// Until when news is gathered for the next burst.
     gathers_until: Option<Instant>,
-    /// How many more peers the burst dials that goes on.
+    /// How many more peers the current burst dials.
     burst_left: u64,
 }
 
@@ -203,16 +203,16 @@ impl<'a, O: Observer> Dialer<'a, O> {
             Cause::News => self.peers.next_in_burst(),
         };
         self.rounds = self.rounds.saturating_add(1);
-        let mut sitting = seat;
+        let mut current = seat;
         if let Some(index) = next {
-            sitting = self.round(node, sitting, index);
+            current = self.round(node, current, index);
         }
-        sitting = self.tell_status(node, sitting);
+        current = self.tell_status(node, current);
         if cause == Cause::Turn {
-            self.refresh_and_report(node, &mut sitting);
+            self.refresh_and_report(node, &mut current);
             self.due = moment_after(node.rt, node.pace.pause);
         }
-        sitting
+        current
     }
 
     /// Waits until the next round in turn is due, whatever the news.
@@ -278,28 +278,28 @@ impl<'a, O: Observer> Dialer<'a, O> {
         seat: ReaderSeat<S>,
     ) -> (ReaderSeat<S>, Option<Rounds<S>>) {
         let mut dialer = self;
-        let mut sitting = seat;
+        let mut current = seat;
         let mut cause = Cause::Turn;
         if node.pace.rounds == 0 {
             for _ in node.rt.forever() {
                 if node.ending.is_raised() {
-                    return (sitting, None);
+                    return (current, None);
                 }
-                sitting = dialer.next_round(node, sitting, cause);
+                current = dialer.next_round(node, current, cause);
                 cause = dialer.wait_for_round(node);
             }
             unreachable!();
         }
         for round in 1..=node.pace.rounds {
             if node.ending.is_raised() {
-                return (sitting, None);
+                return (current, None);
             }
-            sitting = dialer.next_round(node, sitting, cause);
+            current = dialer.next_round(node, current, cause);
             if round != node.pace.rounds {
                 cause = dialer.wait_for_round(node);
             }
         }
         dialer.wait_for_turn(node);
-        (sitting, Some(Rounds::new(node.pace.rounds, dialer.faults)))
+        (current, Some(Rounds::new(node.pace.rounds, dialer.faults)))
     }
 }

@@ -91,8 +91,8 @@ fn start_refusal<L: WriteLog>(settings: &Settings, log: &L) -> Option<Fault>
     None
 }
 
-/// Runs the node that owns a log. It binds both sockets, each at a path where no file is or a socket at which nobody listens,
-/// and tells the observer. Then it serves peers on `sock`, as many at once as there are workers, and its owner on `control`,
+/// Runs the node that owns a log. It binds both sockets, each at a path where no file is or a socket at which nobody
+/// listens, and tells the observer. Then it serves peers on `sock`, as many at once as there are workers, and its owner on `control`,
 /// one connection after another; and it dials its peers in turn, one a round, with a pause after each, for as many exchanges of
 /// digests and deltas as it takes to tell of all owners that it holds: one, where the budget has room for a digest of all. A
 /// peer that let a round wait for `dial_idle` milliseconds is passed over in its next seven turns, unless nobody else is left.

@@ -25,8 +25,8 @@ pub trait Observer {
         false
     }
 
-    /// How the node is, where it wants to know: behind a round that ended otherwise than that peer's before, and behind each that
-    /// ends a second or more after it was told last.
+    /// How the node is, where it wants to know: behind a round that ended otherwise than the one before with that peer, and
+    /// behind each that ends a second or more after it was told last.
     fn status(&self, _status: &Status<'_>) {}
 
     /// At this path lay the socket of a node that no longer runs, and it was removed. It is told before `listening`.

@@ -94,10 +94,10 @@ fn work<S: DirectoryTag, H: Wait + Drop, Q: Wait, X: Source, G: Gate>(
 ) -> (ReaderSeat<S>, ())
     ensures { IsKept (AreShut (G.lets gate.now)) seat result.0 }
 {
-    let mut sitting = seat;
+    let mut current = seat;
     for _ in serving.rt.forever() {
         match source.next() {
-            None => return (sitting, ()),
+            None => return (current, ()),
             Some(Err(_)) => {
                 tally.faults.fetch_add(1, Ordering::SeqCst);
             }
@@ -109,10 +109,10 @@ fn work<S: DirectoryTag, H: Wait + Drop, Q: Wait, X: Source, G: Gate>(
                     gate,
                     number,
                     &mut streams,
-                    sitting,
+                    current,
                     Blank::new(1),
                 );
-                sitting = seat;
+                current = seat;
                 if failed {
                     tally.faults.fetch_add(1, Ordering::SeqCst);
                 }

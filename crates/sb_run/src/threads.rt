@@ -80,8 +80,8 @@ fn dial_to_the_end<S: RoundsTag, H: Wait + Drop, Q: Wait + Net + Clock, O: Obser
 }
 
 /// Runs the threads of a node to their end: its workers, the one that dials, and the calling one at the control socket.
-/// `NoMemory` where the thread of the pool, or the one that dials, can't be made; `StoreFailed` where the log failed and the node
-/// is to exit then.
+/// `NoMemory` where the thread of the pool, or the one that dials, can't be made; `StoreFailed` where the log failed and the
+/// node is to exit then.
 pub(crate) fn run_threads<
     S: RoundsTag + Send + Sync,
     L: WriteLog + Drop,
@@ -133,8 +133,7 @@ pub(crate) fn run_threads<
             };
             let at_control = serve_control_socket(node, writes, control, observer);
             let rounds = rounds_receiver.receive(node.rt);
-            let dialing = dialing_thread.join(node.rt);
-            let pooled = pool_thread.join(node.rt);
+            let (dialing, pooled) = (dialing_thread.join(node.rt), pool_thread.join(node.rt));
             if at_control.has_left {
                 return Err(Fault::StoreFailed);
             }

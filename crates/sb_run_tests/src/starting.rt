@@ -118,7 +118,7 @@ fn as_many_peers_are_served_at_once_as_there_are_workers(rt: HostRuntime) {
     let config = NodeConfig {
         settings: settings_with(&rt, 1_024, 5, 3),
         paths,
-        pace: pace,
+        pace,
     };
     let (ran, left) = thread::join(
         &rt,
