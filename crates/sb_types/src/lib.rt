@@ -8,7 +8,7 @@
 //! fn entry_of_words(alloc: Global) -> Result<Entry, Fault> {
 //!     let key = Key::read(b"web/weight")?;
 //!     let value = Value::from_words(alloc, b"weight", b"5")?;
-//!     Ok(Entry::new(key, 1, Slot::Value(value)))
+//!     Ok(Entry::new(key, 1, Slot::Set(value)))
 //! }
 //! ```
 #![tactic(auto)]

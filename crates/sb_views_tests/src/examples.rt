@@ -1,11 +1,15 @@
-//! The examples that stand at the top of the crates of watches and of lines.
-use crate::making::{key, name};
+//! The examples that stand at the top of the crates of watches, of lines and of views.
+use crate::making::{key, name, prefix};
+use crate::reading::{Look, read};
+use crate::views::all_written;
 use crate::{got, same};
 use sb_lines::log_run;
 use sb_log::{PlainLog, WriteLog};
 use sb_types::{Fault, Key, Name, Prefix, Slot, VERSION_MOST, Value};
+use sb_views::{Entered, NodeTag};
 use sb_watch::{Filter, Hub, Note, Polled};
 use std::alloc::Global;
+use std::process::Abort;
 
 /// What a watch of the keys under `net/` answers behind a write of `net/b`.
 fn watch_once(alloc: Global) -> Result<[Polled; 2], Fault> {
@@ -48,4 +52,25 @@ fn example_of_sb_lines(rt: HostRuntime) {
     let lines = got(&rt, lines_of_log(rt.alloc()));
     let wanted = b"a web/up 1 flag true\nlast 1\n";
     same(&rt, &lines.as_slice(), &wanted.as_slice());
+}
+
+/// How many of an owner's live rows under a prefix a reader gets, and up to which version it has the owner.
+fn count_under<S: NodeTag>(entered: &Entered<S>, owner: &Name, prefix: Prefix) -> (usize, u64) {
+    let snapshot = entered.snapshot();
+    let mut count = 0;
+    for _ in snapshot.rows(Some(*owner), prefix) {
+        count += 1;
+    }
+    (count, snapshot.upto(owner))
+}
+
+pub(crate) fn rows_are_counted<S: NodeTag>(rt: &impl Abort, entered: &Entered<S>) {
+    let found = count_under(entered, &name(rt, b"a"), prefix(rt, b"net/"));
+    same(rt, &found, &(1, 4));
+}
+
+#[test]
+fn example_of_sb_views(rt: HostRuntime) {
+    let holdings = all_written(&rt, rt.alloc());
+    read(&rt, rt.alloc(), &holdings, Look::Count);
 }

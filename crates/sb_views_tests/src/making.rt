@@ -50,15 +50,15 @@ pub(crate) fn entry(rt: &impl Abort, text: &[u8], version: u64, value: Option<Va
 pub(crate) type Words = (&'static [u8], &'static [u8]);
 
 // An owner, a key, a version, and a value.
-pub(crate) type Told = (&'static [u8], &'static [u8], u64, Words);
+pub(crate) type RowParts = (&'static [u8], &'static [u8], u64, Words);
 
 /// The value of these words.
 pub(crate) fn value_of(rt: &impl Abort, alloc: Global, words: Words) -> Value {
     got(rt, Value::from_words(alloc, words.0, words.1))
 }
 
-fn row_of(rt: &impl Abort, alloc: Global, told: Told) -> Row {
-    let (owner, text, version, words) = told;
+fn row_of(rt: &impl Abort, alloc: Global, parts: RowParts) -> Row {
+    let (owner, text, version, words) = parts;
     let (owner, key) = (name(rt, owner), key(rt, text));
     got(
         rt,
@@ -66,9 +66,9 @@ fn row_of(rt: &impl Abort, alloc: Global, told: Told) -> Row {
     )
 }
 
-pub(crate) fn rows_of(rt: &impl Abort, alloc: Global, told: &[Told]) -> Vec<Row> {
+pub(crate) fn rows_of(rt: &impl Abort, alloc: Global, parts: &[RowParts]) -> Vec<Row> {
     let mut rows = Vec::new(alloc);
-    for one in told {
+    for one in parts {
         got(rt, rows.push(row_of(rt, alloc, *one)));
     }
     rows

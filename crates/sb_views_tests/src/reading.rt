@@ -1,7 +1,8 @@
 //! A reader of a node whose views were just made, and what it is to find.
 ghost use Rattle.std.specs.Prelude.{◌≡◌};
 
-use crate::pages::{pages_follow, rows_are_told};
+use crate::examples::rows_are_counted;
+use crate::pages::{pages_follow, rows_are_answered};
 use crate::views::live_is_shown;
 use crate::{got, there};
 use sb_holdings::Holdings;
@@ -20,6 +21,8 @@ pub(crate) enum Look {
     Pages,
     /// Pages that follow one another.
     Following,
+    /// The rows under a prefix, which are counted.
+    Count,
 }
 
 /// Makes the views of what is held, and has a reader look at them.
@@ -30,14 +33,14 @@ pub(crate) fn read<R: Wait + Abort>(rt: &R, alloc: Global, holdings: &Holdings, 
 fn read_on<S: NodeTag, R: Wait + Abort>(
     rt: &R,
     alloc: Global,
-    opened: NewHistory,
+    new_history: NewHistory,
     holdings: &Holdings,
     look: Look,
 )
-    requires story { opened.seen.book ≡ S.history }
+    requires history { new_history.seen.book ≡ S.history }
     requires opening { S.opening.held ≡ holdings.now }
 {
-    let (_story, start) = opened.named::<S>();
+    let (_head, start) = new_history.named::<S>();
     let (_writer, mut readers) = got(rt, views::<S, &R>(alloc, rt, start, holdings, 1));
     look_at(rt, alloc, &entered(rt, there(rt, readers.pop())), look);
 }
@@ -51,7 +54,8 @@ fn look_at<S: NodeTag>(rt: &impl Abort, alloc: Global, entered: &Entered<S>, loo
     let snapshot = entered.snapshot();
     match look {
         Look::Live => live_is_shown(rt, &snapshot),
-        Look::Pages => rows_are_told(rt, alloc, &snapshot),
+        Look::Pages => rows_are_answered(rt, alloc, &snapshot),
         Look::Following => pages_follow(rt, alloc, &snapshot),
+        Look::Count => rows_are_counted(rt, entered),
     }
 }

@@ -9,8 +9,8 @@ use crate::{got, holds, same, there};
 use sb_holdings::{BlockEnd, Holdings, Report};
 use sb_types::{Block, Delta, Entry, Key, Name, Value, ValueRef};
 use sb_views::{
-    Batch, HistoryHead, HistoryPrefix, NewHistory, NodeTag, OwnerView, Reader, Row, Rows, Snapshot,
-    ViewWriter, views,
+    Batch, EventRef, HistoryHead, HistoryPrefix, LiveRow, LiveRows, NewHistory, NodeTag, OwnerView,
+    Reader, Snapshot, ViewWriter, views,
 };
 use std::alloc::Global;
 use std::marker::Brand;
@@ -85,7 +85,7 @@ fn before_removal(rt: &impl Abort, alloc: Global) -> Holdings {
 }
 
 /// What it holds behind the removal.
-fn all_written(rt: &impl Abort, alloc: Global) -> Holdings {
+pub(crate) fn all_written(rt: &impl Abort, alloc: Global) -> Holdings {
     let mut holdings = before_removal(rt, alloc);
     enter(rt, &mut holdings, NET_B_REMOVED);
     holdings
@@ -136,23 +136,23 @@ fn keys_are_shown(rt: &impl Abort, snapshot: &Snapshot<'_>) {
 }
 
 // The owner, the key and the version of a row.
-type Told = (&'static [u8], &'static [u8], u64);
+type RowParts = (&'static [u8], &'static [u8], u64);
 
-const A_NET_A: Told = (b"a", b"net/a", 2);
+const A_NET_A: RowParts = (b"a", b"net/a", 2);
 
-const A_W: Told = (b"a", b"w", 3);
+const A_W: RowParts = (b"a", b"w", 3);
 
-const B_NET_A: Told = (b"b", b"net/a", 1);
+const B_NET_A: RowParts = (b"b", b"net/a", 1);
 
 // The rows of all, those under net/, and those of a.
-const OF_ALL: [Told; 3] = [A_NET_A, A_W, B_NET_A];
+const OF_ALL: [RowParts; 3] = [A_NET_A, A_W, B_NET_A];
 
-const UNDER_NET: [Told; 2] = [A_NET_A, B_NET_A];
+const UNDER_NET: [RowParts; 2] = [A_NET_A, B_NET_A];
 
-const OF_A: [Told; 2] = [A_NET_A, A_W];
+const OF_A: [RowParts; 2] = [A_NET_A, A_W];
 
-fn is_told(row: Option<Row<'_>>, told: Told) -> bool {
-    let (owner, key, version) = told;
+fn is_row(row: Option<LiveRow<'_>>, wanted: RowParts) -> bool {
+    let (owner, key, version) = wanted;
     match row {
         Some(row) => {
             row.owner.bytes() == owner && row.key.bytes() == key && row.live.version() == version
@@ -162,9 +162,9 @@ fn is_told(row: Option<Row<'_>>, told: Told) -> bool {
 }
 
 /// Whether just these rows come.
-fn are_told(mut rows: Rows<'_>, wanted: &[Told]) -> bool {
-    for told in wanted {
-        if !is_told(rows.next(), *told) {
+fn are_rows(mut rows: LiveRows<'_>, wanted: &[RowParts]) -> bool {
+    for row in wanted {
+        if !is_row(rows.next(), *row) {
             return false;
         }
     }
@@ -172,9 +172,15 @@ fn are_told(mut rows: Rows<'_>, wanted: &[Told]) -> bool {
 }
 
 /// Just these rows of an owner come under a prefix, in order; of all owners where none is named.
-fn rows_are(rt: &impl Abort, snapshot: &Snapshot<'_>, owner: &[u8], under: &[u8], wanted: &[Told]) {
+fn rows_are(
+    rt: &impl Abort,
+    snapshot: &Snapshot<'_>,
+    owner: &[u8],
+    under: &[u8],
+    wanted: &[RowParts],
+) {
     let rows = snapshot.rows(owner_of(rt, owner), prefix(rt, under));
-    holds(rt, "its rows come in order", are_told(rows, wanted));
+    holds(rt, "its rows come in order", are_rows(rows, wanted));
 }
 
 /// The rows of each that is asked.
@@ -187,34 +193,34 @@ fn rows_come_in_order(rt: &impl Abort, snapshot: &Snapshot<'_>) {
 }
 
 // An owner, up to which version it is held, and how many rows it has.
-type ToldSheet = (&'static [u8], u64, usize);
+type OwnerParts = (&'static [u8], u64, usize);
 
-const SHEET_OF_A: ToldSheet = (b"a", 4, 2);
+const OWNER_A: OwnerParts = (b"a", 4, 2);
 
-const SHEET_OF_B: ToldSheet = (b"b", 1, 1);
+const OWNER_B: OwnerParts = (b"b", 1, 1);
 
-fn is_sheet(found: Option<(&Name, &OwnerView)>, told: ToldSheet) -> bool {
-    let (name, upto, count) = told;
+fn is_owner(found: Option<(&Name, &OwnerView)>, wanted: OwnerParts) -> bool {
+    let (name, upto, count) = wanted;
     match found {
-        Some((owner, sheet)) => {
-            owner.bytes() == name && sheet.upto() == upto && sheet.len() == count
+        Some((owner, view)) => {
+            owner.bytes() == name && view.upto() == upto && view.len() == count
         }
         None => false,
     }
 }
 
-/// The sheet of each owner of whom something is held comes once, in order.
-fn sheets_come_in_order(rt: &impl Abort, snapshot: &Snapshot<'_>) {
-    let mut sheets = snapshot.owners();
-    holds(rt, "the sheet of a", is_sheet(sheets.next(), SHEET_OF_A));
-    holds(rt, "the sheet of b", is_sheet(sheets.next(), SHEET_OF_B));
-    holds(rt, "no other sheet", sheets.next().is_none());
+/// The view of each owner of whom something is held comes once, in order.
+fn owners_come_in_order(rt: &impl Abort, snapshot: &Snapshot<'_>) {
+    let mut owners = snapshot.owners();
+    holds(rt, "the view of a", is_owner(owners.next(), OWNER_A));
+    holds(rt, "the view of b", is_owner(owners.next(), OWNER_B));
+    holds(rt, "no other view", owners.next().is_none());
 }
 
 pub(crate) fn live_is_shown(rt: &impl Abort, snapshot: &Snapshot<'_>) {
     keys_are_shown(rt, snapshot);
     rows_come_in_order(rt, snapshot);
-    sheets_come_in_order(rt, snapshot);
+    owners_come_in_order(rt, snapshot);
 }
 
 #[test]
@@ -258,17 +264,17 @@ fn publish_behind<R: Wait + Abort>(
 fn publish_one<S: NodeTag, R: Wait + Abort>(
     rt: &R,
     alloc: Global,
-    opened: NewHistory,
+    new_history: NewHistory,
     holdings: &Holdings,
     entry: Entry,
 ) -> [Seen; 2]
-    requires head { opened.seen.book ≡ S.history }
+    requires history { new_history.seen.book ≡ S.history }
     requires opening { S.opening.held ≡ holdings.now }
     requires next { entry.version ≡ (shown_of holdings.now holdings.now.me).held + 1 }
 {
     let key = *entry.key();
-    let (head, start) = opened.named::<S>();
-    let (mut writer, mut readers) = match views::<S, &R>(alloc, rt, start.again(), holdings, 2) {
+    let (head, start) = new_history.named::<S>();
+    let (mut writer, mut readers) = match views::<S, &R>(alloc, rt, start.copy(), holdings, 2) {
         Ok(made) => made,
         Err(fault) => panic!(rt; "error: {fault:?}"),
     };
@@ -277,7 +283,7 @@ fn publish_one<S: NodeTag, R: Wait + Abort>(
     look_around(rt, &mut writer, reader, holdings.me(), &key)
 }
 
-/// Appends the first event of a head, an own write.
+/// Adds the first event of a history, an own write.
 fn append_own<S: NodeTag, R: Wait + Abort>(
     rt: &R,
     alloc: Global,
@@ -328,8 +334,8 @@ fn look_once<S: NodeTag>(
 ) -> (Reader<S>, Seen) {
     let entered = entered(rt, reader);
     let shown = shown_under(&entered.snapshot(), owner, key);
-    let told = entered.seen().len();
-    (entered.leave(), (shown, told))
+    let events = entered.seen().len();
+    (entered.leave(), (shown, events))
 }
 
 #[test]
@@ -367,11 +373,11 @@ type Added = (bool, bool);
 
 /// What comes of adding the own write to two fronts, and the delta to the second, and how many events the first
 /// history and these two have then.
-fn add_events<S: NodeTag>(opened: NewHistory, events: &Events) -> ([Added; 3], (u64, u64, u64))
-    requires { opened.seen.book ≡ S.history }
+fn add_events<S: NodeTag>(new_history: NewHistory, events: &Events) -> ([Added; 3], (u64, u64, u64))
+    requires { new_history.seen.book ≡ S.history }
 {
-    let (head, start) = opened.named::<S>();
-    let (mut one, mut two) = (start.again(), start.again());
+    let (head, start) = new_history.named::<S>();
+    let (mut one, mut two) = (start.copy(), start.copy());
     let first = add_write(&head, &mut one, &start, &events.own);
     let again = add_write(&head, &mut two, &one, &events.own);
     let applied = add_delta(&head, &mut two, &one, events);
