@@ -1,4 +1,4 @@
--- What a seat knows of a delta that its call entered.
+-- The last call of a seat, where it entered a delta.
 use Rattle.std.proofs.Common.{◌≡◌, List, [], ◌∷◌, ◌++◌, Result, Ok, Err, IfOk, OnOk}
 use Rattle.sb_types.specs.declared.fault.Fault.{Fault}
 use Rattle.sb_types.specs.Records.{Block}

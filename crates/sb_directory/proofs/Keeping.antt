@@ -1,4 +1,4 @@
--- What lies under the lock stays a replay of its story.
+-- A viewed node stays a replay of its history.
 use Rattle.std.proofs.Common.{◌≡◌, ℕ, ◌+◌, ◌≤◌, ◌<◌, ◌^◌, ◌==◌, Bool, true, false, cond, not, List, [], ◌∷◌, ◌++◌, map, flat_map, Result, Ok, Err, le-leb, leb-true, eqb-true, refl, sym, ap, subst, ◌∙◌, arith, append-nil}
 use Rattle.std.proofs.lemmas.Grind.{flat_map-append}
 use Rattle.std.specs.FinMap.{contains_key}
@@ -34,9 +34,9 @@ use Rattle.sb_directory.specs.Behind.{Behind, with_owner, HasOwners, AreSince}
 use Rattle.sb_directory.specs.Notes.{note_of, with_notes, entered_of, versions_of, is_held}
 use Rattle.sb_directory.specs.ViewedNodes.{ViewedNode, IsViewedNode, after_own, after_delta, with_published, with_hub}
 use Rattle.sb_directory.proofs.Lacking.{add-has, added-since, own-since, delta-since}
-use Rattle.sb_directory.proofs.Noting.{seen-held, since-held}
+use Rattle.sb_directory.proofs.Noting.{noted-held, since-held}
 
--- ---- the story
+-- ---- the history
 
 pub node-own : (opening : Node) (history : List Event) (e : Entry) → node_after opening (history ++ TookOwn e ∷ []) ≡ node_after_event (node_after opening history) (Wrote e)
 node-own opening history e =
@@ -51,7 +51,7 @@ node-delta opening history blocks ends =
 pub begins-longer : (queued history : List Event) (event : Event) → IsPrefix queued history → IsPrefix queued (history ++ event ∷ [])
 begins-longer queued history event begins = prefix_trans queued history (history ++ event ∷ []) begins (event ∷ [], refl)
 
--- ---- what watches are told of
+-- ---- what is noted in watches
 
 raised : (note : Note) (old new : Held) → AreGrown old new → IsHoldings new → is_held old note ≡ true → is_held new note ≡ true
 raised note old new grown is held =
@@ -65,7 +65,7 @@ notes-raised old new hub grown is notes =
 
 -- ---- what is lacked, before more comes
 
--- with what is lacked known otherwise
+-- with what is lacked noted otherwise
 pub noted : (opening : Node) (queued : List Event) (behind more : Behind) (l : ViewedNode) → IsViewedNode opening queued behind l
     → AreSince (node_after opening queued).held l.core.node.held more → IsViewedNode opening queued more l
 noted opening queued behind more l is since = record { node = is.node; begins = is.begins; grown = is.grown; since = since; notes = is.notes }
@@ -103,28 +103,28 @@ module _ (opening : Node) (queued : List Event) (behind : Behind) (old : ViewedN
     next : e.version ≡ (shown_of old.core.node.held old.core.node.held.me).held + 1
     next = entry-next e _ entry few (own-turn old.core.node.held e turn)
 
-    pub own-locked : (shown : List Event) → IsViewedNode opening queued behind (after_own old e shown)
+    pub own-locked : (published : List Event) → IsViewedNode opening queued behind (after_own old e published)
     own-locked published = record {
       node = ap (λ (n : Node). node_after_event n (Wrote e)) is.node ∙ sym (node-own opening old.history e);
       begins = begins-longer queued old.history (TookOwn e) is.begins;
       grown = grown-on (node_after opening queued).held old.core.node.held (written old.core.node.held e) holds is.grown (own-grown old.core.node.held e holds);
       since = own-since behind (node_after opening queued).held old.core.node.held e has is.since;
-      notes = seen-held (written old.core.node.held e) old.hub ((old.core.node.held.me, e) ∷ [])
+      notes = noted-held (written old.core.node.held e) old.hub ((old.core.node.held.me, e) ∷ [])
           (notes-raised old.core.node.held (written old.core.node.held e) old.hub (own-grown old.core.node.held e holds) after is.notes)
           (own-noted old.core.node.held e next, tt);
     }
 
-    -- so it is wherever the core, the story and the watches are these
-    pub own-there : (core : Core) (history : List Event) (hub : Hub) (shown : List Event) → core ≡ with_node old.core (node_after_event old.core.node (Wrote e))
+    -- so it is wherever the core, the history and the watches are these
+    pub own-there : (core : Core) (history : List Event) (hub : Hub) (published : List Event) → core ≡ with_node old.core (node_after_event old.core.node (Wrote e))
         → history ≡ old.history ++ TookOwn e ∷ [] → hub ≡ with_notes old.hub ((old.core.node.held.me, e) ∷ [])
-        → IsViewedNode opening queued behind (record { core = core; hub = hub; history = history; published = shown })
-    own-there core history hub shown taken longer seen =
-        subst (IsViewedNode opening queued behind) (λ i. record { core = sym taken i; hub = sym seen i; history = sym longer i; published = shown }) (own-locked shown)
+        → IsViewedNode opening queued behind (record { core = core; hub = hub; history = history; published = published })
+    own-there core history hub published taken longer seen =
+        subst (IsViewedNode opening queued behind) (λ i. record { core = sym taken i; hub = sym seen i; history = sym longer i; published = published }) (own-locked published)
 
   module _ (blocks : List Block) (ends : List BlockEnd) (delta : is_delta blocks ≡ true) (treats : Treats old.core.node blocks ends)
       (after : IsHoldings (replay_node old.core.node (took_each blocks ends)).held) (has : HasOwners behind blocks) where
-    pub delta-locked : (shown : List Event) → IsViewedNode opening queued behind (after_delta old blocks ends shown)
-    delta-locked shown =
+    pub delta-locked : (published : List Event) → IsViewedNode opening queued behind (after_delta old blocks ends published)
+    delta-locked published =
         let new = replay_node old.core.node (took_each blocks ends) in
         let grown = delta-grown old.core.node blocks ends holds delta treats in
         record {
@@ -132,23 +132,23 @@ module _ (opening : Node) (queued : List Event) (behind : Behind) (old : ViewedN
           begins = begins-longer queued old.history (Applied blocks ends) is.begins;
           grown = grown-on (node_after opening queued).held old.core.node.held new.held holds is.grown grown;
           since = delta-since behind (node_after opening queued).held old.core.node blocks ends has is.since;
-          notes = seen-held new.held old.hub (entered_of blocks old.core.node.held new.held)
+          notes = noted-held new.held old.hub (entered_of blocks old.core.node.held new.held)
               (notes-raised old.core.node.held new.held old.hub grown after is.notes)
               (since-held new.held (versions_of old.core.node.held blocks) after);
         }
 
-    pub delta-there : (core : Core) (history : List Event) (hub : Hub) (shown : List Event) → core ≡ with_node old.core (replay_node old.core.node (took_each blocks ends))
+    pub delta-there : (core : Core) (history : List Event) (hub : Hub) (published : List Event) → core ≡ with_node old.core (replay_node old.core.node (took_each blocks ends))
         → history ≡ old.history ++ Applied blocks ends ∷ []
         → hub ≡ with_notes old.hub (entered_of blocks old.core.node.held (replay_node old.core.node (took_each blocks ends)).held)
-        → IsViewedNode opening queued behind (record { core = core; hub = hub; history = history; published = shown })
-    delta-there core history hub shown taken longer seen =
-        subst (IsViewedNode opening queued behind) (λ i. record { core = sym taken i; hub = sym seen i; history = sym longer i; published = shown }) (delta-locked shown)
+        → IsViewedNode opening queued behind (record { core = core; hub = hub; history = history; published = published })
+    delta-there core history hub published taken longer seen =
+        subst (IsViewedNode opening queued behind) (λ i. record { core = sym taken i; hub = sym seen i; history = sym longer i; published = published }) (delta-locked published)
 
 -- ---- what changes nothing of the node
 
-pub moved : (opening : Node) (queued later : List Event) (behind left : Behind) (l : ViewedNode) (shown : List Event) → IsViewedNode opening queued behind l → IsPrefix later l.history
-    → AreGrown (node_after opening later).held l.core.node.held → AreSince (node_after opening later).held l.core.node.held left → IsViewedNode opening later left (with_published l shown)
-moved opening queued later behind left l shown is begins grown since = record { node = is.node; begins = begins; grown = grown; since = since; notes = is.notes }
+pub moved : (opening : Node) (queued later : List Event) (behind left : Behind) (l : ViewedNode) (published : List Event) → IsViewedNode opening queued behind l → IsPrefix later l.history
+    → AreGrown (node_after opening later).held l.core.node.held → AreSince (node_after opening later).held l.core.node.held left → IsViewedNode opening later left (with_published l published)
+moved opening queued later behind left l published is begins grown since = record { node = is.node; begins = begins; grown = grown; since = since; notes = is.notes }
 
 pub hub-locked : (opening : Node) (queued : List Event) (behind : Behind) (l : ViewedNode) (hub : Hub) → IsViewedNode opening queued behind l → AllNotes (is_held l.core.node.held) hub
     → IsViewedNode opening queued behind (with_hub l hub)

@@ -18,7 +18,7 @@ use Rattle.sb_holdings.specs.declared.ends.BlockEnd.TheVariants.{Own, OwnAhead, 
 use Rattle.sb_holdings.specs.Held.{Held, holder_of, shown_of, with_owner as held_with, written, held_after_taking}
 use Rattle.sb_holdings.specs.Nodes.{Node, held_by, node_after_block, replay_node}
 use Rattle.sb_holdings.specs.Plain.{IsHoldings}
-use Rattle.sb_holdings.specs.ViewCopy.{own}
+use Rattle.sb_holdings.specs.Shown.{own}
 use Rattle.sb_holdings.specs.Taken.{holder_after_block}
 use Rattle.sb_holdings.specs.Treats.{took_each}
 use Rattle.sb_holdings.proofs.Nodes.{Put, put_with}

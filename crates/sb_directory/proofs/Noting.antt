@@ -1,4 +1,4 @@
--- Watches that are told entry by entry, and owner by owner.
+-- Entries noted in watches one by one, and owner by owner.
 use Rattle.std.proofs.Common.{◌≡◌, ℕ, ◌≤◌, true, List, [], ◌∷◌, ◌++◌, map, Option, Some, None, unwrap_or, inl, inr, refl, sym, ap, ◌∙◌, append_assoc, append-nil, le-leb}
 use Rattle.std.specs.List.{AllByRecursion}
 use Rattle.std.specs.Option.{option_map}
@@ -45,11 +45,11 @@ pub record IsTellingAll (held : Held) (from : Hub) (all : List (List ℕ × ℕ)
 pub telling_all-begins : (held : Held) (from : Hub) (all rest : List (List ℕ × ℕ)) → rest ≡ all → IsTellingAll held from all from rest
 telling_all-begins held from all rest is = record { left = ap (λ (vs : List (List ℕ × ℕ)). with_notes from (entries_since vs held)) is }
 
-pub held-table : (o : Option Holder) (t : Table) → Some t ≡ option_map (λ (h : Holder). h.shown) o → t ≡ (unwrap_or o nothing).published
+pub held-table : (o : Option Holder) (t : Table) → Some t ≡ option_map (λ (h : Holder). h.shown) o → t ≡ (unwrap_or o nothing).shown
 held-table None t is = absurd (cc)
 held-table (Some h) t is = cc
 
-pub no-table : (v : ℕ) (o : Option Holder) → None ≡ option_map (λ (h : Holder). h.shown) o → above v (unwrap_or o nothing).published.entries ≡ []
+pub no-table : (v : ℕ) (o : Option Holder) → None ≡ option_map (λ (h : Holder). h.shown) o → above v (unwrap_or o nothing).shown.entries ≡ []
 no-table v None is = refl
 no-table v (Some h) is = absurd (cc)
 
@@ -96,15 +96,15 @@ pub listing-ends : (held : Held) (all : List Block) (versions : List (List ℕ �
 listing-ends held all versions rest done is =
     sym (append-nil versions) ∙ sym (ap (λ (bs : List Block). versions ++ map (mark_of held) bs) done) ∙ is.left
 
--- ---- what watches are told of is held
+-- ---- what is noted in watches is held
 
 abbrev pub AreHeld : Held → List (List ℕ × Entry) → Type 0
 AreHeld held ps = AllByRecursion (λ p. is_held held (note_of p) ≡ true) ps
 
-pub seen-held : (held : Held) (hub : Hub) (ps : List (List ℕ × Entry)) → AllNotes (is_held held) hub → AreHeld held ps → AllNotes (is_held held) (with_notes hub ps)
-seen-held held hub [] notes all = notes
-seen-held held hub (p ∷ ps) notes all =
-    seen-held held (with_push hub (note_of p)) ps (pushed_keeps (λ note. is_held held note ≡ true) hub (note_of p) notes all.0) all.1
+pub noted-held : (held : Held) (hub : Hub) (ps : List (List ℕ × Entry)) → AllNotes (is_held held) hub → AreHeld held ps → AllNotes (is_held held) (with_notes hub ps)
+noted-held held hub [] notes all = notes
+noted-held held hub (p ∷ ps) notes all =
+    noted-held held (with_push hub (note_of p)) ps (pushed_keeps (λ note. is_held held note ≡ true) hub (note_of p) notes all.0) all.1
 
 both-held : (held : Held) (xs ys : List (List ℕ × Entry)) → AreHeld held xs → AreHeld held ys → AreHeld held (xs ++ ys)
 both-held held [] ys xa ya = ya

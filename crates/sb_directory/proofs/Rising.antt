@@ -13,8 +13,8 @@ use Rattle.sb_types.proofs.Texts.{same_text}
 use Rattle.sb_table.specs.Plain.{with_entry}
 use Rattle.sb_holdings.specs.declared.ends.BlockEnd.{BlockEnd}
 use Rattle.sb_holdings.specs.declared.ends.BlockEnd.TheVariants.{Own, OwnAhead, Gap, Stale, OwnersFull, Taken, TooManyKeys, NoMemory}
-use Rattle.sb_holdings.specs.Blocks.{part_above, history}
-use Rattle.sb_holdings.specs.ViewCopy.{joins_shown, shown_with, stage_beyond, own}
+use Rattle.sb_holdings.specs.Blocks.{part_above, front}
+use Rattle.sb_holdings.specs.Shown.{joins_shown, shown_with, stage_beyond, own}
 use Rattle.sb_holdings.specs.Stages.{new_stage, goes_on, begins, stage_for, stage_with, swapped, staged_all, staged_front, staged_refused}
 use Rattle.sb_holdings.specs.Taken.{routed, holder_after_block}
 use Rattle.sb_holdings.specs.Held.{Held, nothing, holder_of, shown_of, with_owner, held_after_taking}
@@ -68,21 +68,21 @@ module _ (h : Holder) (b : Block) where
   all-rises less None at = omega arith
   all-rises less (Some s) at =
       let t = stage_with s (part_above s.progress b) in
-      cond_both (nat_le t.floor t.progress) (record { published = swapped h.shown t; stage = None }) (record { published = h.shown; stage = Some t }) Rises
+      cond_both (nat_le t.floor t.progress) (record { shown = swapped h.shown t; stage = None }) (record { shown = h.shown; stage = Some t }) Rises
       (λ le. omega (arith, less, at, leb-true t.floor t.progress le)) (λ _. omega arith)
 
-  history-rises : (n : ℕ) (o : Option Stage) → Rises (staged_front n h b o)
-  history-rises zero o = omega arith
-  history-rises (suc n) None = omega arith
-  history-rises (suc n) (Some s) = omega arith
+  front-rises : (n : ℕ) (o : Option Stage) → Rises (staged_front n h b o)
+  front-rises zero o = omega arith
+  front-rises (suc n) None = omega arith
+  front-rises (suc n) (Some s) = omega arith
 
   refused-rises : (n : ℕ) (o : Option Stage) → Rises (staged_refused n h b o)
   refused-rises n None = omega arith
   refused-rises n (Some s) =
-      cond_both (nat_lt n (length (above s.progress b.entries))) (staged_front n h b (Some s)) (record { published = h.shown; stage = None }) Rises
-      (λ _. history-rises n (Some s)) (λ _. omega arith)
+      cond_both (nat_lt n (length (above s.progress b.entries))) (staged_front n h b (Some s)) (record { shown = h.shown; stage = None }) Rises
+      (λ _. front-rises n (Some s)) (λ _. omega arith)
 
-  part-rises : (n : ℕ) → Rises (shown_with h (history n (part_above h.shown.held b)))
+  part-rises : (n : ℕ) → Rises (shown_with h (front n (part_above h.shown.held b)))
   part-rises n =
       last-rises h.shown.held h.shown.held (take n (above h.shown.held b.entries)) (omega arith)
       (λ e s. (of_above h.shown.held b.entries e (of-take n (above h.shown.held b.entries) e s)).1)
@@ -96,13 +96,13 @@ module _ (h : Holder) (b : Block) where
   treat-rises (Taken n) =
       routed-rises (shown_with h (part_above h.shown.held b)) (staged_all h b) (λ joins. omega (arith, joins-less joins)) (λ less. all-rises less (stage_for h.stage b) (stage-floor h.stage))
   treat-rises (TooManyKeys n) =
-      routed-rises (shown_with h (history n (part_above h.shown.held b))) (staged_front n h b) (λ _. part-rises n) (λ _. history-rises n (stage_for h.stage b))
+      routed-rises (shown_with h (front n (part_above h.shown.held b))) (staged_front n h b) (λ _. part-rises n) (λ _. front-rises n (stage_for h.stage b))
   treat-rises (NoMemory n) =
-      routed-rises (shown_with h (history n (part_above h.shown.held b))) (staged_refused n h b) (λ _. part-rises n) (λ _. refused-rises n (stage_for h.stage b))
+      routed-rises (shown_with h (front n (part_above h.shown.held b))) (staged_refused n h b) (λ _. part-rises n) (λ _. refused-rises n (stage_for h.stage b))
 
-own-rises : (h : Holder) (e : Entry) → h.shown.held ≤ (own h e).published.held
+own-rises : (h : Holder) (e : Entry) → h.shown.held ≤ (own h e).shown.held
 own-rises h e =
-    cond_both (nat_eq e.version (h.shown.held + 1)) (record { published = with_entry h.shown e; stage = stage_beyond e.version h.stage }) h (λ k. h.shown.held ≤ k.shown.held)
+    cond_both (nat_eq e.version (h.shown.held + 1)) (record { shown = with_entry h.shown e; stage = stage_beyond e.version h.stage }) h (λ k. h.shown.held ≤ k.shown.held)
     (λ next. omega (arith, eqb-true e.version (h.shown.held + 1) next)) (λ _. omega arith)
 
 -- ---- all owners
@@ -115,22 +115,22 @@ module _ (owners : FinMap (slice_cmp nat_cmp) Holder) (owner : List ℕ) (h : Ho
   pub put-owner : Put owners owner h (insert owners owner h)
   put-owner q = rw (get-insert nat_list_cmp_total owners owner h q, same_test owners owner h q) (put (pointwise nat_eq q owner) (get owners q))
 
-put-rises : (owners new : FinMap (slice_cmp nat_cmp) Holder) (owner : List ℕ) (h : Holder) → Put owners owner h new → (holder_of owners owner).published.held ≤ h.shown.held
-    → (q : List ℕ) → (holder_of owners q).published.held ≤ (holder_of new q).published.held
+put-rises : (owners new : FinMap (slice_cmp nat_cmp) Holder) (owner : List ℕ) (h : Holder) → Put owners owner h new → (holder_of owners owner).shown.held ≤ h.shown.held
+    → (q : List ℕ) → (holder_of owners q).shown.held ≤ (holder_of new q).shown.held
 put-rises owners new owner h is_put le q =
     rw (is_put q)
-    (cond_both (pointwise nat_eq q owner) h (holder_of owners q) (λ (k : Holder). (holder_of owners q).published.held ≤ k.shown.held)
-    (λ same. subst (λ (o : List ℕ). (holder_of owners o).published.held ≤ h.shown.held) (sym (same_text q owner same)) le)
+    (cond_both (pointwise nat_eq q owner) h (holder_of owners q) (λ (k : Holder). (holder_of owners q).shown.held ≤ k.shown.held)
+    (λ same. subst (λ (o : List ℕ). (holder_of owners o).shown.held ≤ h.shown.held) (sym (same_text q owner same)) le)
     (λ _. omega arith))
 
-taken-rises : (node : Node) (b : Block) (end : BlockEnd) (q : List ℕ) → (held_by node q).published.held ≤ (holder_of (held_after_taking node.held b end).owners q).published.held
+taken-rises : (node : Node) (b : Block) (end : BlockEnd) (q : List ℕ) → (held_by node q).shown.held ≤ (holder_of (held_after_taking node.held b end).owners q).shown.held
 taken-rises node b end q =
     let k = holder_after_block (held_by node b.owner) b end in
-    cond_both (pointwise nat_eq b.owner node.held.me) node.held (with_owner node.held b.owner k) (λ (h : Held). (held_by node q).published.held ≤ (holder_of h.owners q).published.held)
+    cond_both (pointwise nat_eq b.owner node.held.me) node.held (with_owner node.held b.owner k) (λ (h : Held). (held_by node q).shown.held ≤ (holder_of h.owners q).shown.held)
     (λ _. omega arith)
     (λ _. put-rises node.held.owners (with_owner node.held b.owner k).owners b.owner k (put_with node.held.owners b.owner k) (treat-rises (held_by node b.owner) b end) q)
 
-event-rises : (node : Node) (event : NodeEvent) (q : List ℕ) → (held_by node q).published.held ≤ (held_by (node_after_event node event) q).published.held
+event-rises : (node : Node) (event : NodeEvent) (q : List ℕ) → (held_by node q).shown.held ≤ (held_by (node_after_event node event) q).shown.held
 event-rises node (Wrote e) q =
     let k = own (held_by node node.held.me) e in
     put-rises node.held.owners (insert node.held.owners node.held.me k) node.held.me k (put-owner node.held.owners node.held.me k) (own-rises (held_by node node.held.me) e) q
@@ -143,7 +143,7 @@ event-rises node (Took b (Taken n)) q = taken-rises node b (Taken n) q
 event-rises node (Took b (TooManyKeys n)) q = taken-rises node b (TooManyKeys n) q
 event-rises node (Took b (NoMemory n)) q = taken-rises node b (NoMemory n) q
 
-replay-rises : (node : Node) (events : List NodeEvent) (q : List ℕ) → (held_by node q).published.held ≤ (held_by (replay_node node events) q).published.held
+replay-rises : (node : Node) (events : List NodeEvent) (q : List ℕ) → (held_by node q).shown.held ≤ (held_by (replay_node node events) q).shown.held
 replay-rises node [] q = omega arith
 replay-rises node (event ∷ events) q = omega (arith, event-rises node event q, replay-rises (node_after_event node event) events q)
 

@@ -1,4 +1,4 @@
--- What readers are shown, where a seat is told of it.
+-- What is published, where a call says that its seat has seen it.
 use Rattle.std.proofs.Common.{◌≡◌, Bool, true, false, inl, inr, refl}
 use Rattle.std.proofs.lemmas.Bool.{false≢true}
 use Rattle.sb_directory.specs.ViewedNodes.{ViewedNode, Publishes}

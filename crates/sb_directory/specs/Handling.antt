@@ -10,9 +10,9 @@ use Rattle.sb_views.proofs.Prefixes.{prefix_self, prefix_trans}
 use Rattle.sb_directory.specs.Seats.{Seat}
 use Rattle.sb_directory.specs.Serving.{Serves, IsStill, IsLater, events_of}
 
--- what was known begins what is known after the call
-knows-more : (opening : Node) (settings : Settings) (old new : Seat) (act : Act) → Serves opening settings old act new → IsPrefix old.last_call new.last_call
-knows-more opening settings old new act step =
+-- the last call begins the last call after this one
+last-grows : (opening : Node) (settings : Settings) (old new : Seat) (act : Act) → Serves opening settings old act new → IsPrefix old.last_call new.last_call
+last-grows opening settings old new act step =
     prefix_trans old.last_call step.history new.last_call step.begins.last_call (events_of act, sym step.last_call)
 
 no-events : (act : Act) → may_enter act ≡ false → events_of act ≡ []
@@ -25,7 +25,7 @@ pub serves-nothing : (opening : Node) (settings : Settings) (old new : Seat) (ac
     → Serves opening settings old act new → IsStill old new
 serves-nothing opening settings old new act none step = record {
   seen = step.seen none;
-  last_call = knows-more opening settings old new act step;
+  last_call = last-grows opening settings old new act step;
   events = omega (arith, step.events, ap (λ (l : List Event). length l) (no-events act none));
 }
 
@@ -42,7 +42,7 @@ still-on old mid new first next = record {
 pub serves-later : (opening : Node) (settings : Settings) (old new : Seat) (act : Act) → Serves opening settings old act new → IsLater old new
 serves-later opening settings old new act step = record {
   seen = step.grows;
-  last_call = knows-more opening settings old new act step;
+  last_call = last-grows opening settings old new act step;
   events = omega (arith, step.events);
 }
 

@@ -1,4 +1,4 @@
--- What is known of a seat, and what the node answers after some events.
+-- What contracts see of a seat, and what the node answers after some events.
 use Rattle.std.specs.Prelude.{◌≡◌, ◌≢◌, ℕ, ◌+◌, ◌++◌, Bool, MatchBool, if◌then◌else◌, ◌⊎◌, List, [], ◌∷◌, Result, Ok, Err, IfErr}
 use mathlib.Core.List.{IsPrefix}
 use Rattle.sb_types.specs.Text.{is_between}
@@ -12,7 +12,7 @@ use Rattle.sb_views.specs.declared.event.Event.{Event}
 use Rattle.sb_views.specs.Histories.{node_after}
 use Rattle.sb_directory.specs.ViewedNodes.{ViewedNode, unless_spent}
 
--- what its reader was told or has seen, what had happened when its last call was answered, and how many events its calls made
+-- the prefix that it has seen, the history as it was when its last call was answered, and how many events its calls made
 pub record Seat : Type 0 where
   pub seen : List Event
   pub last_call : List Event
@@ -22,16 +22,16 @@ pub record Seat : Type 0 where
 abbrev pub new_seat : List Event → Seat
 new_seat seen = record { seen = seen; last_call = seen; events = 0 }
 
--- a seat that called once more, when this had happened
+-- the seat once a further call was answered after this history
 abbrev pub with_last_call : Seat → List Event → Seat
 with_last_call seat last_call = record { seen = seat.seen; last_call = last_call; events = seat.events }
 
--- the story begins with what the seat was told, and with what it knew
+-- the history begins with what the seat has seen, and with its last call
 pub record Begins (history : List Event) (seat : Seat) : Type 0 where
   pub seen : IsPrefix seat.seen history
   pub last_call : IsPrefix seat.last_call history
 
--- This had happened when a call was made, and the call may make this event then; with it the seat knows the event, as the last.
+-- A call was made after this history, and may make this event then, with which the seat's last call ends.
 pub record IsEntered (due : List Event → Result (Unit {0}) Fault) (event : Event) (old new : Seat) : Type 0 where
   pub history : List Event
   pub begins : Begins history old
@@ -43,7 +43,7 @@ abbrev pub events_of_all : List Seat → ℕ
 events_of_all [] = 0
 events_of_all (seat ∷ seats) = seat.events + events_of_all seats
 
--- what each of these seats was told and knew begins the story
+-- the history begins with what each of these seats has seen, and with its last call
 abbrev pub AllBegin : List Event → List Seat → Type 0
 AllBegin history [] = Unit {0}
 AllBegin history (seat ∷ seats) = Begins history seat × AllBegin history seats
@@ -64,6 +64,6 @@ delta_due_after history = unless_spent history (Ok tt)
 abbrev pub Refuses : Result (Unit {0}) Fault → Fault → Type 0
 Refuses due fault = IfErr due (λ other. fault ≡ other) × (fault ≢ NoMemory → due ≡ Err fault)
 
--- all that happened is shown where that is said; where it is not said, that may be so too, or what is shown stays
+-- all that happened is published where that is said; where it is not said, that may be so too, or what is published stays
 abbrev pub PublishesWhereSaid : Bool → ViewedNode → ViewedNode → Type 0
 PublishesWhereSaid said old new = MatchBool said (new.published ≡ new.history) ((new.published ≡ new.history) ⊎ (new.published ≡ old.published))

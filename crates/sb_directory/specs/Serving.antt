@@ -32,8 +32,8 @@ events_of (gives theirs answer) = []
 events_of (applies blocks (Ok ends)) = Applied blocks ends ∷ []
 events_of (applies blocks (Err fault)) = []
 
--- The node answers so after all that had happened, which begins with what the seat was told and knew; then the seat knows that, and
--- the event that the call made, if it made one. Only then is the seat told more.
+-- The node answers so after the history up to then, which begins with what the seat has seen and with its last call. That history, and
+-- the event that the call made, if it made one, is the seat's last call from then on. Only a call that may make one lets the seat see more.
 pub record Serves (opening : Node) (settings : Settings) (old : Seat) (act : Act) (new : Seat) : Type 0 where
   pub history : List Event
   pub begins : Begins history old
@@ -43,13 +43,13 @@ pub record Serves (opening : Node) (settings : Settings) (old : Seat) (act : Act
   pub grows : IsPrefix old.seen new.seen
   pub seen : may_enter act ≡ false → new.seen ≡ old.seen
 
--- the seat made no event and was told of none; it may know more
+-- the seat made no event and has seen no more; its last call may be later
 pub record IsStill (old new : Seat) : Type 0 where
   pub seen : new.seen ≡ old.seen
   pub last_call : IsPrefix old.last_call new.last_call
   pub events : new.events ≡ old.events
 
--- what the seat was told and knows only grows, and so does the number of events that it made
+-- what the seat has seen and its last call only grow, and so does the number of events that it made
 pub record IsLater (old new : Seat) : Type 0 where
   pub seen : IsPrefix old.seen new.seen
   pub last_call : IsPrefix old.last_call new.last_call

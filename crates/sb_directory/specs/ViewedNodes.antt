@@ -1,4 +1,4 @@
--- What lies under the lock, and what its calls leave.
+-- A node with its history, its views and its watches, and what its calls leave.
 use Rattle.std.specs.Prelude.{◌≡◌, ◌-◌, ◌^◌, ◌==◌, Bool, MatchBool, if◌then◌else◌, List, [], ◌∷◌, ◌++◌, length, Result, Ok, Err}
 use mathlib.Core.List.{IsPrefix}
 use Rattle.sb_types.specs.declared.fault.Fault.{Fault}
@@ -21,9 +21,9 @@ use Rattle.sb_directory.specs.Notes.{with_notes, entered_of, is_held}
 pub record ViewedNode : Type 0 where
   pub core : Core
   pub hub : Hub
-  -- all that happened to the node since it was opened
+  -- all events of the node since it was opened
   pub history : List Event
-  -- the beginning of it that readers are shown
+  -- the prefix of it whose view is published
   pub published : List Event
 
 -- no further event can be counted
@@ -42,13 +42,13 @@ own_due l c = unless_spent l.history (committed_answer l.core.node c)
 abbrev pub delta_due : ViewedNode → Result (Unit {0}) Fault
 delta_due l = unless_spent l.history (Ok tt)
 
--- the write is entered, watches are told of it, and it is the story's last event
+-- the write is entered and noted in watches, and it is the last event of the history
 abbrev pub after_own : ViewedNode → Entry → List Event → ViewedNode
 after_own l e published = record {
   core = with_node l.core (node_after_event l.core.node (Wrote e));
   hub = with_notes l.hub ((l.core.node.held.me, e) ∷ []);
   history = l.history ++ TookOwn e ∷ [];
-  published = shown;
+  published = published;
 }
 
 -- the same of a delta whose blocks ended so
@@ -59,22 +59,22 @@ after_delta l blocks ends published = (
       core = with_node l.core node;
       hub = with_notes l.hub (entered_of blocks l.core.node.held node.held);
       history = l.history ++ Applied blocks ends ∷ [];
-      published = shown;
+      published = published;
     }
     )
 
 abbrev pub with_published : ViewedNode → List Event → ViewedNode
-with_published l published = record { core = l.core; hub = l.hub; history = l.history; published = shown }
+with_published l published = record { core = l.core; hub = l.hub; history = l.history; published = published }
 
 abbrev pub with_hub : ViewedNode → Hub → ViewedNode
 with_hub l hub = record { core = l.core; hub = hub; history = l.history; published = l.published }
 
--- the answer says whether all that happened is shown; where it is not, what is shown stays
+-- the answer says whether all that happened is published; where it is not, what is published stays
 abbrev pub Publishes : Bool → ViewedNode → ViewedNode → Type 0
 Publishes shown old new = MatchBool shown (new.published ≡ new.history) (new.published ≡ old.published)
 
--- the node is the replay of the story, of which the views have a beginning that its tables have grown from; what they lack
--- since is known; and what watches are told of is held
+-- the node is the replay of the history, of which a prefix is queued for the views; the tables have grown from those after it, and
+-- what views lack since is noted; and what is noted in watches is held
 pub record IsViewedNode (opening : Node) (queued : List Event) (behind : Behind) (l : ViewedNode) : Type 0 where
   pub node : l.core.node ≡ node_after opening l.history
   pub begins : IsPrefix queued l.history

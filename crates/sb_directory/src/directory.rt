@@ -45,10 +45,11 @@ struct Identity<S: DirectoryTag> {
     ghost named: { name ≡ S.opening.held.me },
 }
 
-/// A node that threads share, each from a seat of its own. Each call but `settings` and `name` takes the one lock, so that
-/// its answer is that of the node after the events up to then. These begin with those that the seat was told or has seen and with those
-/// that it knew, and from then on the seat knows them. Of two seats' lists one begins the other, since each is a `Front` of the one story;
-/// and once the directory is closed, the story has as many events as the calls of all seats made.
+/// A node that threads share, each from a seat of its own. Each call but `settings` and `name` takes the one lock, which guards
+/// the node, its watches and the writing of its views; reading from a seat that has entered takes none. A call from a seat is
+/// answered as the node is after its history up to then. That begins with what the seat has seen and with its last call, and is
+/// the seat's last call from then on. Of the histories of two seats one begins the other, since each is a `HistoryPrefix` of the
+/// one history; and once the directory is closed, that has as many events as the calls of all seats made.
 #[derive(Drop)]
 pub struct Directory<S: DirectoryTag, R: Wait + Drop> {
     locked: Mutex<Locked<S, R>>,
@@ -57,8 +58,8 @@ pub struct Directory<S: DirectoryTag, R: Wait + Drop> {
 
 impl<S: DirectoryTag, R: Wait + Drop> Directory<S, R> {
     /// A directory of a node as it was opened, and its seats, which have seen nothing. It keeps `rt` to wait for readers
-    /// that read when it shows what happened. `BadSetting` where there are not 1 to 64 seats; `NoMemory`. Each drops
-    /// what was given.
+    /// that still read when it publishes. `BadSetting` where there are not 1 to 64 seats; `NoMemory`. Each drops what was
+    /// given.
     pub fn make(
         rt: R,
         alloc: Global,
@@ -108,10 +109,10 @@ impl<S: DirectoryTag, R: Wait + Drop> Directory<S, R> {
         &self.identity.name
     }
 
-    /// Enters a committed write of the node's own, tells watches of it, and shows readers all that happened; gives its
-    /// version, and whether the seat saw it. Where it did not, the next call that shows makes up for it. `WrongOwner`,
+    /// Enters a committed write of the node's own, notes it in watches, and publishes all that happened; gives its version,
+    /// and whether the seat has seen it. Where it has not, the next call that publishes makes up for it. `WrongOwner`,
     /// `OwnerConflict`, `OutOfTurn` and `TableFull` as of the node; `TurnsSpent` after 2^64 - 1 events; `NoMemory`. Each
-    /// leaves everything as it was, but that the seat knows what had happened.
+    /// leaves everything as it was, but for the seat's last call.
     pub fn take_own<Q: Wait>(
         &self,
         rt: &Q,
@@ -131,10 +132,10 @@ impl<S: DirectoryTag, R: Wait + Drop> Directory<S, R> {
         self.locked.lock(rt).take_own(rt, seat, committed)
     }
 
-    /// Takes each block of a delta in turn, tells watches of each entry that it entered, and shows readers all that
-    /// happened; gives how the blocks ended, and whether the seat saw it. Where it did not, the next call that shows
-    /// makes up for it. `TurnsSpent` after 2^64 - 1 events; `NoMemory` where there is no room for the ends, or to note of which
-    /// owners watches and readers are to be told. Each leaves everything as it was, but that the seat knows what had happened.
+    /// Takes each block of a delta in turn, notes each entry that it entered in watches, and publishes all that happened;
+    /// gives how the blocks ended, and whether the seat has seen it. Where it has not, the next call that publishes makes up
+    /// for it. `TurnsSpent` after 2^64 - 1 events; `NoMemory` where there is no room for the ends, or to note of which owners
+    /// watches and views lack writes. Each leaves everything as it was, but for the seat's last call.
     pub fn apply<Q: Wait>(
         &self,
         rt: &Q,
@@ -155,7 +156,7 @@ impl<S: DirectoryTag, R: Wait + Drop> Directory<S, R> {
     }
 
     /// The digest of the owners from a name on, or of all, as of the node; `want` says whether a digest is wanted in
-    /// answer. `NoMemory`.
+    /// answer. `NoMemory`. Either way it is noted as the seat's last call.
     pub fn digest<Q: Wait>(
         &self,
         rt: &Q,
@@ -168,10 +169,10 @@ impl<S: DirectoryTag, R: Wait + Drop> Directory<S, R> {
         ensures seat { seat.new ≡ spec.with_last_call seat.old seat.new.last_call }
         ensures memory { IfErr result (λ fault. fault ≡ Fault.NoMemory) }
     {
-        self.locked.lock(rt).digest(rt, seat, from, want)
+        self.locked.lock(rt).core_for(rt, seat).digest(from, want)
     }
 
-    /// What a peer that sent this digest lacks, as of the node. `NoMemory`.
+    /// What a peer that sent this digest lacks, as of the node. `NoMemory`. Either way it is noted as the seat's last call.
     pub fn deltas<Q: Wait>(
         &self,
         rt: &Q,
@@ -183,25 +184,26 @@ impl<S: DirectoryTag, R: Wait + Drop> Directory<S, R> {
         ensures seat { seat.new ≡ spec.with_last_call seat.old seat.new.last_call }
         ensures memory { IfErr result (λ fault. fault ≡ Fault.NoMemory) }
     {
-        self.locked.lock(rt).deltas(rt, seat, digest)
+        self.locked.lock(rt).core_for(rt, seat).deltas(digest)
     }
 
-    /// The greatest version under the own name that a block told of and the node never wrote; none where no block did.
+    /// The greatest version under the own name that a block told of and the node never wrote; none where no block did. It is
+    /// noted as the seat's last call.
     pub fn conflict<Q: Wait>(&self, rt: &Q, seat: &mut ReaderSeat<S>) -> Option<u64>
         ensures answer { result ≡ (node_after S.opening seat.new.last_call).conflict }
         ensures begins { spec.Begins seat.new.last_call seat.old }
         ensures seat { seat.new ≡ spec.with_last_call seat.old seat.new.last_call }
     {
-        self.locked.lock(rt).conflict(rt, seat)
+        self.locked.lock(rt).core_for(rt, seat).conflict()
     }
 
-    /// How many keys the node's own table has, removed ones counted.
+    /// How many keys the node's own table has, removed ones counted. It is noted as the seat's last call.
     pub fn keys<Q: Wait>(&self, rt: &Q, seat: &mut ReaderSeat<S>) -> usize
         ensures answer { result ≡ own_keys (node_after S.opening seat.new.last_call) }
         ensures begins { spec.Begins seat.new.last_call seat.old }
         ensures seat { seat.new ≡ spec.with_last_call seat.old seat.new.last_call }
     {
-        self.locked.lock(rt).keys(rt, seat)
+        self.locked.lock(rt).core_for(rt, seat).keys()
     }
 
     /// Adds a watch with room for 1 to 1,024 notes, and gives its id. `BadSetting`, `WatchesFull` and `NoMemory` as of
@@ -219,8 +221,9 @@ impl<S: DirectoryTag, R: Wait + Drop> Directory<S, R> {
         self.locked.lock(rt).unwatch(id)
     }
 
-    /// Shows readers all that happened, and says whether the seat saw it: then it was told at least as many events as its own calls
-    /// made. Where there is no memory to show it, what is shown stays; where the seat may not see it, it is shown all the same.
+    /// Publishes all that happened, and says whether the seat has seen it: then it has seen at least as many events as its own
+    /// calls made. Where there is no memory to publish it, what is published stays; where the seat cannot enter, it is published
+    /// all the same. Either way it is noted as the seat's last call.
     pub fn refresh<Q: Wait>(&self, rt: &Q, seat: &mut ReaderSeat<S>) -> bool
         ensures seen { result ≡ true → seat.new.seen ≡ seat.new.last_call }
         ensures begins { spec.Begins seat.new.last_call seat.old }
@@ -231,10 +234,10 @@ impl<S: DirectoryTag, R: Wait + Drop> Directory<S, R> {
         self.locked.lock(rt).refresh(rt, seat)
     }
 
-    /// Shows readers all that happened, and gives what the watch answers once the seat saw it: how many notes it lost,
-    /// where it lost any since it last said so; then its notes, the oldest first; then that none is left. `NoWatch` where
-    /// no watch with the id stands, before anything is shown: then the seat only knows what had happened. `NoMemory` where
-    /// there is none to show what happened, or the seat may not see it, and then the note is still to come.
+    /// Publishes all that happened, and gives what the watch answers once the seat has seen it: how many notes it lost, where it
+    /// lost any since it last said so; then its notes, the oldest first; then that none is left. `NoWatch` where no watch with
+    /// the id stands, before anything is published: it is noted as the seat's last call, and nothing else changes. `NoMemory`
+    /// where there is none to publish what happened, or the seat cannot enter, and then the note is still to come.
     pub fn poll<Q: Wait>(
         &self,
         rt: &Q,
@@ -254,7 +257,7 @@ impl<S: DirectoryTag, R: Wait + Drop> Directory<S, R> {
     }
 
     /// Ends a directory, and gives its node, whose settings are as they were, with the number of events. `BadSetting` where
-    /// these are not all of its seats: then directory and seats come back.
+    /// these are not all of its seats: then directory and seats come back as they were.
     pub fn close<Q: Wait>(
         self,
         rt: &Q,

@@ -5,8 +5,8 @@ ghost use Rattle.sb_views.specs.Histories.{event_of};
 use sb_views::{EventRef, HistoryHead, HistoryPrefix, NodeTag};
 use std::sync::Wait;
 
-/// Adds an event to a history, of which the prefix has all events so far. Where it has not, which no run has found, this would not
-/// return.
+/// Adds an event to the history, of which the prefix is to have all events so far. Where it has fewer, which no run has found,
+/// this does not return.
 pub(crate) fn add_event<S: NodeTag, Q: Wait>(
     rt: &Q,
     head: &HistoryHead<S>,

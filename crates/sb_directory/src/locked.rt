@@ -1,11 +1,10 @@
-//! What the lock guards: the node, and the book of its seats.
+//! What the lock guards: the viewed node, and the book that counts the events of all seats.
 ghost use Rattle.std.specs.Prelude.{◌≡◌, ◌≤◌, ◌+◌, ◌++◌, ◌∷◌, [], true, false, length, if◌then◌else◌, Ok, Err, MatchResult, IfOk, IfErr, OnOk, OnErr};
 ghost use mathlib.Core.List.{IsPrefix};
 ghost use Rattle.sb_types.specs.Faults.{Gives};
 ghost use Rattle.sb_holdings.specs.Held.{shown_of};
 ghost use Rattle.sb_holdings.specs.Treats.{Treats};
-ghost use Rattle.sb_session.specs.Handlers.{tells, gives, IsRefusal};
-ghost use Rattle.sb_node.specs.Cores.{own_keys};
+ghost use Rattle.sb_session.specs.Handlers.{IsRefusal};
 ghost use Rattle.sb_views.specs.Histories.{node_after};
 ghost use Rattle.sb_views.specs.declared.event.Event.TheVariants as events;
 ghost use Rattle.sb_watch.specs.declared.note.Polled.TheVariants as answers;
@@ -13,23 +12,22 @@ ghost use Rattle.sb_watch.specs.declared.note.Note.{Note};
 ghost use Rattle.sb_watch.specs.Hubs.{next_id, has_watch, answer_at, with_watch, with_answer, without_watch};
 ghost use Rattle.sb_directory.specs.ViewedNodes as nodes;
 ghost use Rattle.sb_directory.specs.Seats as spec;
-ghost use Rattle.sb_directory.specs.Serving.{AnswersAfter};
 
 use crate::receipt::{Applied, Closing, Receipt};
 use crate::seat::ReaderSeat;
 use crate::shares::join_all;
 use crate::tag::DirectoryTag;
 use crate::viewed_node::ViewedNode;
-use sb_digest::Digest;
 use sb_log::Committed;
-use sb_types::{Delta, Fault, Name};
+use sb_node::NodeCore;
+use sb_types::{Delta, Fault};
 use sb_views::NodeTag;
 use sb_watch::{Filter, Polled, WatchId};
 use std::marker::Model;
 use std::sync::Wait;
 use std::sync::ledger::{Book, Share};
 
-/// The locked node with the book of its seats. Contracts see it as the locked node.
+/// The viewed node, with the book that counts the events of all seats. Contracts see it as the viewed node.
 #[derive(Drop)]
 pub(crate) struct Locked<S: DirectoryTag, R: Wait + Drop> {
     node: ViewedNode<S, R>,
@@ -48,13 +46,13 @@ impl<S: DirectoryTag, R: Wait + Drop> Model for Locked<S, R> {
 
     ghost coded = { Prim.hlevel (codes, code) };
 
-    ghost view = { λ u. u.node };
+    ghost view = { λ l. l.node };
 
-    ghost invariant = { λ u. (u.book.total ≡ length u.node.history) × (u.node.core.settings ≡ S.settings) × (u.rest.parts ≡ 0) × (u.rest.amount ≡ 0) };
+    ghost invariant = { λ l. (l.book.total ≡ length l.node.history) × (l.node.core.settings ≡ S.settings) × (l.rest.parts ≡ 0) × (l.rest.amount ≡ 0) };
 }
 
-/// Counts the event that a call of this seat made, which the seat then knows, and lets it see what readers are shown; says whether
-/// that is all that happened.
+/// Counts the event that a call of this seat made, with which its last call ends, and lets the seat see what is published, where
+/// that has the event; says whether it has seen it.
 fn count_event<S: NodeTag, R: Wait + Drop>(
     node: &ViewedNode<S, R>,
     book: &mut Book<S>,
@@ -77,7 +75,7 @@ fn count_event<S: NodeTag, R: Wait + Drop>(
 }
 
 impl<S: DirectoryTag, R: Wait + Drop> Locked<S, R> {
-    /// A node as it was opened, with the book of a ledger of which each seat has its part.
+    /// A node as it was opened, with the book of a ledger of which each seat has one part.
     pub(crate) fn new(node: ViewedNode<S, R>, book: Book<S>, rest: Share<S>) -> Locked<S, R>
         requires history { node.history ≡ [] }
         requires settings { node.core.settings ≡ S.settings }
@@ -89,7 +87,7 @@ impl<S: DirectoryTag, R: Wait + Drop> Locked<S, R> {
         Locked { node, book, rest }
     }
 
-    /// Enters a committed write for a seat.
+    /// Enters a committed write, for a seat.
     pub(crate) fn take_own<Q: Wait>(
         &mut self,
         rt: &Q,
@@ -122,7 +120,7 @@ impl<S: DirectoryTag, R: Wait + Drop> Locked<S, R> {
         }
     }
 
-    /// Takes the blocks of a delta for a seat.
+    /// Takes the blocks of a delta, for a seat.
     pub(crate) fn apply<Q: Wait>(
         &mut self,
         rt: &Q,
@@ -153,57 +151,15 @@ impl<S: DirectoryTag, R: Wait + Drop> Locked<S, R> {
         }
     }
 
-    /// The digest of the owners from a name on, for a seat.
-    pub(crate) fn digest<Q: Wait>(
-        &self,
-        rt: &Q,
-        seat: &mut ReaderSeat<S>,
-        from: Option<Name>,
-        want: bool,
-    ) -> Result<Digest, Fault>
-        ensures answer { AnswersAfter S.opening S.settings self.now.history (tells from want result) }
-        ensures memory { IfErr result (λ fault. fault ≡ Fault.NoMemory) }
+    /// Notes a call of a seat, and lends the node that it asks.
+    pub(crate) fn core_for<Q: Wait>(&self, rt: &Q, seat: &mut ReaderSeat<S>) -> &NodeCore
+        ensures node { result.now.node ≡ node_after S.opening self.now.history }
+        ensures settings { result.now.settings ≡ S.settings }
         ensures begins { spec.Begins self.now.history seat.old }
         ensures last_call { seat.new ≡ spec.with_last_call seat.old self.now.history }
     {
         seat.call_at(rt, self.node.history());
-        self.node.digest(from, want)
-    }
-
-    /// What a peer that sent this digest lacks, for a seat.
-    pub(crate) fn deltas<Q: Wait>(
-        &self,
-        rt: &Q,
-        seat: &mut ReaderSeat<S>,
-        digest: &Digest,
-    ) -> Result<Delta, Fault>
-        ensures answer { AnswersAfter S.opening S.settings self.now.history (gives digest.now result) }
-        ensures memory { IfErr result (λ fault. fault ≡ Fault.NoMemory) }
-        ensures begins { spec.Begins self.now.history seat.old }
-        ensures last_call { seat.new ≡ spec.with_last_call seat.old self.now.history }
-    {
-        seat.call_at(rt, self.node.history());
-        self.node.deltas(digest)
-    }
-
-    /// The greatest version under the own name that the node never wrote, for a seat.
-    pub(crate) fn conflict<Q: Wait>(&self, rt: &Q, seat: &mut ReaderSeat<S>) -> Option<u64>
-        ensures answer { result ≡ (node_after S.opening self.now.history).conflict }
-        ensures begins { spec.Begins self.now.history seat.old }
-        ensures last_call { seat.new ≡ spec.with_last_call seat.old self.now.history }
-    {
-        seat.call_at(rt, self.node.history());
-        self.node.conflict()
-    }
-
-    /// How many keys the node's own table has, for a seat.
-    pub(crate) fn keys<Q: Wait>(&self, rt: &Q, seat: &mut ReaderSeat<S>) -> usize
-        ensures answer { result ≡ own_keys (node_after S.opening self.now.history) }
-        ensures begins { spec.Begins self.now.history seat.old }
-        ensures last_call { seat.new ≡ spec.with_last_call seat.old self.now.history }
-    {
-        seat.call_at(rt, self.node.history());
-        self.node.keys()
+        self.node.core()
     }
 
     /// Adds a watch.
@@ -224,7 +180,7 @@ impl<S: DirectoryTag, R: Wait + Drop> Locked<S, R> {
         self.node.unwatch(id)
     }
 
-    /// Shows readers all that happened, and lets the seat see it; says whether it did.
+    /// Publishes all that happened, and lets the seat see it; says whether it did.
     pub(crate) fn refresh<Q: Wait>(&mut self, rt: &Q, seat: &mut ReaderSeat<S>) -> bool
         ensures left { self.new ≡ nodes.with_published self.old self.new.published }
         ensures shown { spec.PublishesWhereSaid result self.old self.new }
@@ -243,7 +199,7 @@ impl<S: DirectoryTag, R: Wait + Drop> Locked<S, R> {
         seat.look(self.node.history())
     }
 
-    /// Shows readers all that happened, lets the seat see it, and gives what the watch answers.
+    /// Publishes all that happened, lets the seat see it, and gives what the watch answers.
     pub(crate) fn poll<Q: Wait>(
         &mut self,
         rt: &Q,
@@ -272,8 +228,8 @@ impl<S: DirectoryTag, R: Wait + Drop> Locked<S, R> {
         if !self.refresh(rt, seat) {
             return Err(Fault::NoMemory);
         }
-        // Does nothing: the call tells the prover that the node is what its story made of it.
-        let _story = self.node.history();
+        // Does nothing: the call tells the prover that the node is what its history made of it.
+        let _history = self.node.history();
         self.node.poll(id)
     }
 

@@ -11,8 +11,9 @@ use std::marker::Model;
 use std::sync::Wait;
 use std::sync::ledger::{Book, Share};
 
-/// A seat. Contracts see it as two beginnings of the story, that which it was told or has seen, and all that had happened when its
-/// last call was answered; and as the number of events that its calls made.
+/// A seat: one thread's place at a directory. The thread reads from it, without the lock, and passes it to the calls that take the
+/// lock. Contracts see it as two prefixes of the history and a number: `seen`, whose view its reader entered last or was let see
+/// by a call; `last_call`, the history as it was when its last call was answered; `events`, how many its calls made.
 #[derive(Drop)]
 pub struct ReaderSeat<S: NodeTag> {
     reader: Reader<S>,
@@ -31,7 +32,7 @@ impl<S: NodeTag> Model for ReaderSeat<S> {
     ghost invariant = { λ s. s.share.parts ≡ 1 };
 }
 
-/// A seat whose reader reads. Contracts see it as they see the seat.
+/// A seat that has entered: it reads a snapshot, and makes no call until it leaves. Contracts see it as they see the seat.
 #[derive(Drop)]
 pub struct EnteredSeat<S: NodeTag> {
     entered: Entered<S>,
@@ -51,7 +52,7 @@ impl<S: NodeTag> Model for EnteredSeat<S> {
 }
 
 impl<S: NodeTag> ReaderSeat<S> {
-    /// A seat for a reader, with one part of the ledger. It knows what the reader was told.
+    /// The seat of a reader, with one part of the ledger. It made no call: its last call is what its reader has seen.
     pub(crate) fn new(reader: Reader<S>, share: Share<S>) -> ReaderSeat<S>
         requires { share.parts ≡ 1 }
         ensures { result ≡ record { seen = reader; last_call = reader; events = share.amount } }
@@ -64,9 +65,9 @@ impl<S: NodeTag> ReaderSeat<S> {
         }
     }
 
-    /// Takes what is published, which stays as it is until the seat leaves. It takes no memory, and no lock: for that a call
-    /// needs a `Wait`, and this one has none. So it waits for nobody. Where it is refused, as when the directory is gone, the
-    /// seat comes back unchanged.
+    /// Enters the snapshot that is published, which does not change until the seat leaves. It takes no memory, and no lock: for
+    /// that a call needs a `Wait`, and this one has none. So it waits for nobody. Where it is refused, as when the directory is
+    /// gone, the seat comes back unchanged.
     pub fn enter(self) -> Result<EnteredSeat<S>, ReaderSeat<S>>
         ensures { MatchResult result (λ entered. IsPrefix self.seen entered.seen × (entered.last_call ≡ self.last_call) × (entered.events ≡ self.events))
             (λ seat. seat ≡ self) }
@@ -90,7 +91,7 @@ impl<S: NodeTag> ReaderSeat<S> {
         }
     }
 
-    /// The events that it was told or has seen.
+    /// The events that it has seen.
     pub fn seen(&self) -> &HistoryPrefix<S>
         ensures { result.now ≡ self.now.seen }
     {
@@ -109,7 +110,7 @@ impl<S: NodeTag> ReaderSeat<S> {
         }
     }
 
-    /// Sees what is published, and says whether that is the view of these events.
+    /// Lets the seat see what is published, and says whether that is the view after this history.
     pub(crate) fn look(&mut self, history: &HistoryPrefix<S>) -> bool
         ensures seen { MatchBool result (self.new.seen ≡ history.now) (Unit {0}) }
         ensures grows { IsPrefix self.old.seen self.new.seen }
@@ -120,8 +121,8 @@ impl<S: NodeTag> ReaderSeat<S> {
         history.is_same(self.reader.seen())
     }
 
-    /// Knows all that happened up to here. What it was told and knew begins that, which no run has found otherwise: where it did
-    /// not, this would not return.
+    /// Notes a call that is answered after this history, which begins with what the seat has seen and with its last call. Where
+    /// it did not, which no run has found, this does not return.
     pub(crate) fn call_at<Q: Wait>(&mut self, rt: &Q, history: &HistoryPrefix<S>)
         ensures begins { spec.Begins history.now self.old }
         ensures last_call { self.new ≡ spec.with_last_call self.old history.now }
@@ -133,7 +134,7 @@ impl<S: NodeTag> ReaderSeat<S> {
         self.set_last_call(history);
     }
 
-    /// Knows all that happened up to here.
+    /// Notes that its last call was answered after this history.
     pub(crate) fn set_last_call(&mut self, history: &HistoryPrefix<S>)
         ensures { self.new ≡ spec.with_last_call self.old history.now }
     {
@@ -147,13 +148,13 @@ impl<S: NodeTag> ReaderSeat<S> {
     {
         let ReaderSeat {
             reader: _reader,
-            last_call: _known,
+            last_call: _last_call,
             share,
         } = self;
         share
     }
 
-    /// Tells that there are at least as many events as its calls made.
+    /// Shows the prover that there are at least as many events as its calls made.
     pub(crate) fn audit(&mut self, book: &mut Book<S>)
         ensures made { self.old.events ≤ book.old.total }
         ensures total { book.new.total ≡ book.old.total }
@@ -162,7 +163,7 @@ impl<S: NodeTag> ReaderSeat<S> {
         book.audit(&mut self.share);
     }
 
-    /// Counts an event that a call of it made.
+    /// Counts an event that its call made.
     pub(crate) fn count(&mut self, book: &mut Book<S>)
         ensures total { book.new.total ≡ book.old.total + 1 }
         ensures seat { self.new ≡ record { seen = self.old.seen; last_call = self.old.last_call; events = self.old.events + 1 } }
@@ -172,7 +173,7 @@ impl<S: NodeTag> ReaderSeat<S> {
 }
 
 impl<S: NodeTag> EnteredSeat<S> {
-    /// What is read: the view of the node after the events that this seat has seen.
+    /// What it reads: the view of the node after the events that it has seen.
     pub fn snapshot(&self) -> Snapshot<'_>
         ensures { IsView (node_after S.opening self.now.seen) result }
     {
@@ -186,7 +187,7 @@ impl<S: NodeTag> EnteredSeat<S> {
         self.entered.seen()
     }
 
-    /// Reads no longer.
+    /// Leaves the snapshot.
     pub fn leave(self) -> ReaderSeat<S>
         ensures { result ≡ self }
     {

@@ -12,7 +12,7 @@ use sb_types::{Delta, Fault, Name};
 use std::marker::Model;
 use std::sync::Wait;
 
-/// A directory as a session asks it, from a seat of its own. Contracts see it as the seat.
+/// A directory at one end of a session, which calls it from a seat of its own. Contracts see it as the seat.
 #[derive(Drop)]
 pub struct SeatHandler<'a, S: DirectoryTag, R: Wait + Drop, Q: Wait> {
     rt: &'a Q,
@@ -29,7 +29,7 @@ impl<'a, S: DirectoryTag, R: Wait + Drop, Q: Wait> Model for SeatHandler<'a, S, 
 }
 
 impl<'a, S: DirectoryTag, R: Wait + Drop, Q: Wait> SeatHandler<'a, S, R, Q> {
-    /// A directory asked from this seat.
+    /// A directory that is called from this seat.
     pub fn new(
         rt: &'a Q,
         directory: &'a Directory<S, R>,
@@ -44,7 +44,7 @@ impl<'a, S: DirectoryTag, R: Wait + Drop, Q: Wait> SeatHandler<'a, S, R, Q> {
         }
     }
 
-    /// The seat.
+    /// The seat, once the session is over.
     pub fn into_seat(self) -> ReaderSeat<S>
         ensures { result ≡ self.entry }
     {
@@ -61,7 +61,7 @@ impl<'a, S: DirectoryTag, R: Wait + Drop, Q: Wait> Handler for SeatHandler<'a, S
     ghost use Rattle.sb_directory.specs.Serving.{Serves, IsStill, IsLater};
     ghost use Rattle.sb_directory.specs.Handling.{serves-nothing, still-same, still-on, serves-later, later-same, later-on};
 
-    // Others may have entered anything since the last call.
+    // Other seats may have entered anything since the last call.
     ghost step = { Serves S.opening S.settings };
 
     ghost stays = { IsStill };

@@ -31,7 +31,7 @@ pub(crate) fn seat_all<S: NodeTag>(
     Ok(seats)
 }
 
-/// Joins the parts of these seats, and tells that what they were told and knew begins the story up to here.
+/// Joins the parts of these seats. The history up to here begins with what each of them has seen, and with its last call.
 #[tactic(auto, using(crate::proofs::Sharing::joining_goes_on, crate::proofs::Sharing::joining_ends))]
 pub(crate) fn join_all<S: NodeTag, Q: Wait>(
     rt: &Q,

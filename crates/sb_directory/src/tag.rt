@@ -3,7 +3,7 @@
 use sb_views::NodeTag;
 use std::marker::Brand;
 
-/// A site that also names the settings of its node, in proofs alone.
+/// Which running node a directory shares, with the settings of the node. It exists in proofs alone, as a type parameter.
 pub trait DirectoryTag: NodeTag {
     ghost use Rattle.sb_types.specs.Records.{Settings};
 

@@ -1,13 +1,8 @@
-//! What lies under the lock: a node with its story, its views and its watches.
+//! A node with its history, its views and its watches.
 ghost use Rattle.std.specs.Prelude.{◌≡◌, ◌≢◌, ◌<◌, ◌≤◌, ◌^◌, [], length, replicate, Ok, Err, if◌then◌else◌, OnOk, OnErr, IfOk, IfErr};
 ghost use Rattle.sb_types.specs.Faults.{Gives};
 ghost use Rattle.sb_holdings.specs.Held.{shown_of};
 ghost use Rattle.sb_holdings.specs.Treats.{Treats};
-ghost use Rattle.sb_digest.specs.Builders.{IsLongestFront};
-ghost use Rattle.sb_digest.specs.Pairs.{pairs_from};
-ghost use Rattle.sb_budget.specs.Available.{available_for};
-ghost use Rattle.sb_node.specs.Answers.{IsDelta, IsAnswer};
-ghost use Rattle.sb_node.specs.Cores.{own_keys};
 ghost use Rattle.sb_session.specs.Handlers.{IsRefusal};
 ghost use Rattle.sb_watch.specs.declared.note.Note.{Note};
 ghost use Rattle.sb_watch.specs.declared.note.Polled.TheVariants as answers;
@@ -19,19 +14,18 @@ use crate::behind::Behind;
 use crate::events::add_event;
 use crate::notes::{push_note, push_notes_since, versions_of};
 use crate::views::Views;
-use sb_digest::Digest;
 use sb_holdings::Report;
 use sb_log::Committed;
 use sb_node::NodeCore;
-use sb_types::{Delta, Fault, Name};
+use sb_types::{Delta, Fault};
 use sb_views::{EventRef, HistoryHead, HistoryPrefix, NodeTag, Reader};
 use sb_watch::{Filter, Hub, Polled, WatchId};
 use std::alloc::Global;
 use std::marker::Model;
 use std::sync::Wait;
 
-/// A node with its story, its views and its watches. Contracts see it as the core, the watches, all that happened to
-/// the node since it was opened, and the beginning of that which readers are shown.
+/// A node with its history, its views and its watches, which one thread uses at a time: a directory keeps it behind its lock.
+/// Contracts see it as the core, the watches, the history, and the prefix of it that is published.
 #[derive(Drop)]
 pub struct ViewedNode<S: NodeTag, R: Wait + Drop> {
     core: NodeCore,
@@ -70,12 +64,12 @@ impl<S: NodeTag, R: Wait + Drop> ViewedNode<S, R> {
         requires opening { S.opening ≡ core.node }
         requires start { start ≡ [] }
         requires seats { (0 < seats) × (seats < 2 ^ 32) }
-        ensures locked { IfOk result (λ l. l.0 ≡ record { core = core; hub = new_hub; history = []; published = [] }) }
+        ensures node { IfOk result (λ l. l.0 ≡ record { core = core; hub = new_hub; history = []; published = [] }) }
         ensures readers { IfOk result (λ l. l.1.items ≡ replicate seats []) }
         ensures memory { IfErr result (λ fault. fault ≡ Fault.NoMemory) }
     {
         let (views, readers) = Views::open(alloc, rt, &start, &core, seats)?;
-        let locked = ViewedNode {
+        let node = ViewedNode {
             core,
             hub: Hub::new(alloc),
             head,
@@ -84,11 +78,11 @@ impl<S: NodeTag, R: Wait + Drop> ViewedNode<S, R> {
             behind: Behind::new(alloc),
             alloc,
         };
-        Ok((locked, readers))
+        Ok((node, readers))
     }
 
-    /// Enters a committed write of the node's own, tells watches of it, and shows readers all that happened; says
-    /// whether there was memory to show it. Where there was none, the next call that shows makes up for it.
+    /// Enters a committed write of the node's own, notes it in watches, and publishes all that happened; says whether
+    /// there was memory to publish it. Where there was none, the next call that publishes makes up for it.
     /// `WrongOwner`, `OwnerConflict`, `OutOfTurn` and `TableFull` as of the node; `TurnsSpent` after 2^64 - 1 events;
     /// `NoMemory`. Each leaves everything as it was.
     pub fn take_own<Q: Wait>(&mut self, rt: &Q, committed: &Committed) -> Result<bool, Fault>
@@ -114,10 +108,10 @@ impl<S: NodeTag, R: Wait + Drop> ViewedNode<S, R> {
         Ok(self.views.show(&self.core, &self.history, &mut self.behind))
     }
 
-    /// Takes each block of a delta in turn, tells watches of each entry that it entered, and shows readers all that
-    /// happened; gives how the blocks ended, and says whether there was memory to show it. Where there was none, the
-    /// next call that shows makes up for it. `TurnsSpent` after 2^64 - 1 events; `NoMemory` where there is no room for
-    /// the ends, or to note of which owners watches and readers are to be told. Each leaves everything as it was.
+    /// Takes each block of a delta in turn, notes each entry that it entered in watches, and publishes all that
+    /// happened; gives how the blocks ended, and says whether there was memory to publish it. Where there was none, the
+    /// next call that publishes makes up for it. `TurnsSpent` after 2^64 - 1 events; `NoMemory` where there is no room
+    /// for the ends, or to note of which owners watches and views lack writes. Each leaves everything as it was.
     pub fn apply<Q: Wait>(&mut self, rt: &Q, delta: &Delta) -> Result<(Report, bool), Fault>
         ensures answer { IfErr result (λ fault. fault ≢ Fault.NoMemory → spec.delta_due self.old ≡ Err fault) }
         ensures refused { IfErr (spec.delta_due self.old) (λ fault. result ≡ Err fault) }
@@ -142,38 +136,11 @@ impl<S: NodeTag, R: Wait + Drop> ViewedNode<S, R> {
         Ok((ends, shown))
     }
 
-    /// The digest of the owners from a name on, or of all, as of the node; `want` says whether it asks for one in answer.
-    /// `NoMemory`.
-    pub fn digest(&self, from: Option<Name>, want: bool) -> Result<Digest, Fault>
-        ensures longest { IfOk result (IsLongestFront self.now.core.settings.budget want from (pairs_from from self.now.core.node.held)) }
-        ensures goes { IfOk result (λ digest. 0 < length (pairs_from from self.now.core.node.held) → 0 < length digest.pairs) }
-        ensures memory { IfErr result (λ fault. fault ≡ Fault.NoMemory) }
+    /// The node, for calls that only read it.
+    pub fn core(&self) -> &NodeCore
+        ensures { result.now ≡ self.now.core }
     {
-        self.core.digest(from, want)
-    }
-
-    /// What a peer that sent this digest lacks, as of the node. `NoMemory`.
-    pub fn deltas(&self, digest: &Digest) -> Result<Delta, Fault>
-        ensures delta { IfOk result (IsDelta self.now.core.settings self.now.core.node.held digest.now) }
-        ensures answer { IfOk result (IsAnswer self.now.core.settings.budget self.now.core.node.held digest.now) }
-        ensures goes { IfOk result (λ delta. 0 < length (available_for self.now.core.node.held digest.now) → 0 < length delta) }
-        ensures memory { IfErr result (λ fault. fault ≡ Fault.NoMemory) }
-    {
-        self.core.deltas(digest)
-    }
-
-    /// The greatest version under the own name that a block told of and the node never wrote; none where no block did.
-    pub fn conflict(&self) -> Option<u64>
-        ensures { result ≡ self.now.core.node.conflict }
-    {
-        self.core.conflict()
-    }
-
-    /// How many keys the node's own table has, removed ones counted.
-    pub fn keys(&self) -> usize
-        ensures { result ≡ own_keys self.now.core.node }
-    {
-        self.core.keys()
+        &self.core
     }
 
     /// Adds a watch with room for 1 to 1,024 notes, and gives its id. `BadSetting`, `WatchesFull` and `NoMemory` as of
@@ -205,7 +172,7 @@ impl<S: NodeTag, R: Wait + Drop> ViewedNode<S, R> {
         self.hub.drop_watch(id)
     }
 
-    /// Shows readers all that happened, and says whether there was memory for it. Where there was none, what is shown
+    /// Publishes all that happened, and says whether there was memory for it. Where there was none, what is published
     /// stays.
     pub fn refresh(&mut self) -> bool
         ensures left { self.new ≡ spec.with_published self.old self.new.published }
@@ -214,8 +181,8 @@ impl<S: NodeTag, R: Wait + Drop> ViewedNode<S, R> {
         self.views.show(&self.core, &self.history, &mut self.behind)
     }
 
-    /// Shows readers all that happened, and gives what the watch answers, so that a note is handed out once its write
-    /// is shown. `NoWatch` where no watch with the id stands; `NoMemory` where there is none to show what happened.
+    /// Publishes all that happened, and gives what the watch answers, so that a note is handed out once its write is
+    /// published. `NoWatch` where no watch with the id stands; `NoMemory` where there is none to publish what happened.
     /// Each leaves everything as it was.
     pub fn poll(&mut self, id: WatchId) -> Result<Polled, Fault>
         ensures answer { Gives result (answer_at self.old.hub id) }
@@ -233,7 +200,7 @@ impl<S: NodeTag, R: Wait + Drop> ViewedNode<S, R> {
         self.hub.take(id)
     }
 
-    /// The events that happened.
+    /// All events that happened.
     pub fn history(&self) -> &HistoryPrefix<S>
         ensures history { result.now ≡ self.now.history }
         ensures node { self.now.core.node ≡ node_after S.opening self.now.history }
@@ -241,14 +208,14 @@ impl<S: NodeTag, R: Wait + Drop> ViewedNode<S, R> {
         &self.history
     }
 
-    /// The events that are shown.
+    /// The events that are published.
     pub fn published(&self) -> &HistoryPrefix<S>
         ensures { result.now ≡ self.now.published }
     {
         self.views.published()
     }
 
-    /// The node; readers that still read see what they read, and no other enters.
+    /// The node; readers that have entered keep their snapshot, and no other enters.
     pub fn into_core(self) -> NodeCore
         ensures { result ≡ self.core }
     {
@@ -256,7 +223,7 @@ impl<S: NodeTag, R: Wait + Drop> ViewedNode<S, R> {
             core,
             hub: _hub,
             head: _head,
-            history: _front,
+            history: _history,
             views: _views,
             behind: _behind,
             alloc: _,

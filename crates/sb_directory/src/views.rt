@@ -15,8 +15,8 @@ use std::alloc::Global;
 use std::marker::Model;
 use std::sync::Wait;
 
-/// The writer of the views of a node. Contracts see it as two beginnings of the story: the events that are shown, and
-/// those that will be once all that is pending is published.
+/// The writer of the views of a node. Contracts see it as two prefixes of the history: what is published, and what will be once
+/// all that is queued is published.
 #[derive(Drop)]
 pub(crate) struct Views<S: NodeTag, R: Wait + Drop> {
     writer: ViewWriter<S, R>,
@@ -63,7 +63,7 @@ impl<S: NodeTag, R: Wait + Drop> Views<S, R> {
         Ok((views, readers))
     }
 
-    /// Appends all that is lacked. `NoMemory`, which changes nothing.
+    /// Queues all that the views lack. `NoMemory`, which changes nothing.
     fn append(
         &mut self,
         core: &NodeCore,
@@ -93,7 +93,7 @@ impl<S: NodeTag, R: Wait + Drop> Views<S, R> {
         }
     }
 
-    /// Shows all that is pending. `NoMemory`, which changes nothing.
+    /// Publishes all that is queued. `NoMemory`, which changes nothing.
     fn publish(&mut self) -> Result<(), Fault>
         ensures end { MatchResult result (λ _. self.new ≡ record { published = self.old.queued; queued = self.old.queued }) (λ _. self.new ≡ self.old) }
         ensures memory { IfErr result (λ fault. fault ≡ Fault.NoMemory) }
@@ -107,8 +107,8 @@ impl<S: NodeTag, R: Wait + Drop> Views<S, R> {
         }
     }
 
-    /// Shows readers the node as it stands, after these events, and says whether there was memory for it. Where there
-    /// was none, what is shown stays, and what could not be appended is appended by the next call.
+    /// Publishes the view of the node as it is after this history, and says whether there was memory for it. Where there
+    /// was none, what is published stays, and what could not be queued is queued by the next call.
     pub(crate) fn show(
         &mut self,
         core: &NodeCore,
@@ -136,7 +136,7 @@ impl<S: NodeTag, R: Wait + Drop> Views<S, R> {
         }
     }
 
-    /// Appends what is not appended, and says whether nothing is left.
+    /// Queues what is not queued, and says whether the views lack nothing then.
     fn catch_up(&mut self, core: &NodeCore, history: &HistoryPrefix<S>, behind: &mut Behind) -> bool
         requires node { core.now.node ≡ node_after S.opening history.now }
         requires begins { IsPrefix self.old.queued history.now }
@@ -158,7 +158,7 @@ impl<S: NodeTag, R: Wait + Drop> Views<S, R> {
         }
     }
 
-    /// The events that are shown.
+    /// The events that are published.
     pub(crate) fn published(&self) -> &HistoryPrefix<S>
         ensures { result.now ≡ self.now.published }
     {

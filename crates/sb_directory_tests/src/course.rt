@@ -3,7 +3,7 @@ ghost use Rattle.std.specs.Prelude.{◌≡◌};
 
 use crate::desk::{Answer, Call, Case, Desk, play};
 use crate::making::{log_of, new_node};
-use crate::reached::{Reach, locked_of, seated_of};
+use crate::reached::{Reach, bare_of, seated_of};
 use sb_directory::DirectoryTag;
 use sb_holdings::BlockEnd;
 use sb_log::PlainLog;
@@ -120,40 +120,40 @@ fn go<S: DirectoryTag, H: Wait + Drop, R: Wait + Abort>(rt: &R, node: Reach<S, H
     }
 }
 
-fn go_locked<S: DirectoryTag, R: Wait + Abort>(
+fn go_bare<S: DirectoryTag, R: Wait + Abort>(
     rt: &R,
-    opened: NewHistory,
+    history: NewHistory,
     core: NodeCore,
     run: Run<'_>,
 )
-    requires story { opened.seen.book ≡ S.history }
+    requires history { history.seen.book ≡ S.history }
     requires opening { S.opening ≡ core.node }
 {
-    let node = locked_of::<S, R>(rt, opened, core, run.alloc);
+    let node = bare_of::<S, R>(rt, history, core, run.alloc);
     go(rt, node, run);
 }
 
 fn go_seated<S: DirectoryTag, R: Wait + Abort>(
     rt: &R,
-    opened: NewHistory,
+    history: NewHistory,
     blank: Blank,
     core: NodeCore,
     run: Run<'_>,
 )
-    requires story { opened.seen.book ≡ S.history }
+    requires history { history.seen.book ≡ S.history }
     requires opening { S.opening ≡ core.node }
     requires settings { S.settings ≡ core.settings }
     requires name { blank.name ≡ S.name }
     requires parts { blank.parts ≡ S.parts }
     requires all { (1 ≡ S.seats) × (1 ≡ S.parts) }
 {
-    let node = seated_of::<S, R>(rt, opened, blank, core, run.alloc);
+    let node = seated_of::<S, R>(rt, history, blank, core, run.alloc);
     go(rt, node, run);
 }
 
-/// This node goes through this, behind its lock.
-pub(crate) fn run_locked<R: Wait + Abort>(rt: &R, core: NodeCore, run: Run<'_>) {
-    go_locked::<Brand, _>(rt, NewHistory::new(), core, run);
+/// This node goes through this, by itself.
+pub(crate) fn run_bare<R: Wait + Abort>(rt: &R, core: NodeCore, run: Run<'_>) {
+    go_bare::<Brand, _>(rt, NewHistory::new(), core, run);
 }
 
 /// This node goes through this, from the one seat of its directory.
@@ -170,10 +170,10 @@ pub(crate) fn new_run<'a>(rt: &impl Abort, alloc: Global, course: Course<'a>) ->
     }
 }
 
-/// A new node goes through this, behind its lock.
+/// A new node goes through this, by itself.
 pub(crate) fn run_new<R: Wait + Abort>(rt: &R, alloc: Global, course: Course<'_>) {
     let run = new_run(rt, alloc, course);
-    run_locked(rt, new_node(rt, alloc), run);
+    run_bare(rt, new_node(rt, alloc), run);
 }
 
 /// A new node goes through this, from the one seat of its directory.

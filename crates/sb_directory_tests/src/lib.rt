@@ -9,6 +9,8 @@ mod course;
 #[cfg(test)]
 mod desk;
 #[cfg(test)]
+mod examples;
+#[cfg(test)]
 mod making;
 #[cfg(test)]
 mod memory;

@@ -17,19 +17,19 @@ use std::sync::ledger::Blank;
 fn made<S: DirectoryTag, R: Wait>(
     rt: &R,
     alloc: Global,
-    opened: NewHistory,
+    history: NewHistory,
     blank: Blank,
     core: NodeCore,
     seats: usize,
 ) -> Result<usize, Fault>
-    requires story { opened.seen.book ≡ S.history }
+    requires history { history.seen.book ≡ S.history }
     requires opening { S.opening ≡ core.node }
     requires settings { S.settings ≡ core.settings }
     requires name { blank.name ≡ S.name }
     requires parts { blank.parts ≡ S.parts }
     requires all { (seats ≡ S.seats) × (seats ≡ S.parts) }
 {
-    match Directory::<S, &R>::make(rt, alloc, opened, blank, core, seats) {
+    match Directory::<S, &R>::make(rt, alloc, history, blank, core, seats) {
         Ok((_directory, made)) => Ok(made.len()),
         Err(fault) => Err(fault),
     }
@@ -145,18 +145,18 @@ pub(crate) fn all_shown(rt: &impl Abort, shown: bool) {
 fn write_and_close<S: DirectoryTag, R: Wait + Abort>(
     rt: &R,
     alloc: Global,
-    opened: NewHistory,
+    history: NewHistory,
     blank: Blank,
     core: NodeCore,
 ) -> (u64, usize, Closed)
-    requires story { opened.seen.book ≡ S.history }
+    requires history { history.seen.book ≡ S.history }
     requires opening { S.opening ≡ core.node }
     requires settings { S.settings ≡ core.settings }
     requires name { blank.name ≡ S.name }
     requires parts { blank.parts ≡ S.parts }
     requires all { (2 ≡ S.seats) × (2 ≡ S.parts) }
 {
-    let made = Directory::<S, &R>::make(rt, alloc, opened, blank, core, 2);
+    let made = Directory::<S, &R>::make(rt, alloc, history, blank, core, 2);
     let (directory, mut seats) = got(rt, made);
     let mut kept = there(rt, seats.pop());
     let version = write(rt, alloc, &directory, &mut kept);

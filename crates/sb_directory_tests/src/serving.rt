@@ -36,19 +36,19 @@ fn serve_from<S: DirectoryTag, H: Wait + Drop, R: Wait + Abort>(
 fn serve_one<S: DirectoryTag, R: Wait + Abort>(
     rt: &R,
     alloc: Global,
-    opened: NewHistory,
+    history: NewHistory,
     blank: Blank,
     core: NodeCore,
     piece: usize,
 ) -> (Talked, u64)
-    requires story { opened.seen.book ≡ S.history }
+    requires history { history.seen.book ≡ S.history }
     requires opening { S.opening ≡ core.node }
     requires settings { S.settings ≡ core.settings }
     requires name { blank.name ≡ S.name }
     requires parts { blank.parts ≡ S.parts }
     requires all { (1 ≡ S.seats) × (1 ≡ S.parts) }
 {
-    let made = Directory::<S, &R>::make(rt, alloc, opened, blank, core, 1);
+    let made = Directory::<S, &R>::make(rt, alloc, history, blank, core, 1);
     let (directory, mut seats) = got(rt, made);
     let talked = serve_from(rt, alloc, &directory, &mut seats, piece);
     (talked, close(rt, directory, seats).events)

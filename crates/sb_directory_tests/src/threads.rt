@@ -177,18 +177,18 @@ type Beside = ([u64; 2], bool, u64);
 fn read_beside<S: DirectoryTag + Send + Sync, R: Wait + Threads + Abort + Sync + Send>(
     rt: &R,
     alloc: Global,
-    opened: NewHistory,
+    history: NewHistory,
     blank: Blank,
     core: NodeCore,
 ) -> Beside
-    requires story { opened.seen.book ≡ S.history }
+    requires history { history.seen.book ≡ S.history }
     requires opening { S.opening ≡ core.node }
     requires settings { S.settings ≡ core.settings }
     requires name { blank.name ≡ S.name }
     requires parts { blank.parts ≡ S.parts }
     requires all { (2 ≡ S.seats) × (2 ≡ S.parts) }
 {
-    let made = Directory::<S, &R>::make(rt, alloc, opened, blank, core, 2);
+    let made = Directory::<S, &R>::make(rt, alloc, history, blank, core, 2);
     let (directory, mut seats) = got(rt, made);
     let [a, b] = run_from(rt, alloc, &directory, &mut seats);
     let closing = close(rt, directory, seats);

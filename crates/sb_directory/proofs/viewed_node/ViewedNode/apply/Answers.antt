@@ -14,7 +14,7 @@ use Rattle.sb_directory.proofs.viewed_node.ViewedNode.apply.Given.{Over}
 use Rattle.sb_directory.proofs.viewed_node.ViewedNode.apply.Goals.{After-add_event}
 use Rattle.sb_directory.proofs.viewed_node.ViewedNode.apply.Goals as goal
 
--- what lies under the lock once the blocks are taken, where watches are told of what they entered
+-- the viewed node once the blocks are taken, where what they entered is noted in watches
 entered : (g : Over) (c : After-add_event g) (hub : Hub)
     → hub ≡ with_notes c.self.inside.hub (entered_of c.args.delta.now c.self.inside.core.node.held (replay_node c.self.inside.core.node (took_each c.args.delta.now c.in_ok-ends.ends)).held)
     → IsViewedNode g.S.NodeTag.opening c.self.inside.views.queued c.add_owners.new.self

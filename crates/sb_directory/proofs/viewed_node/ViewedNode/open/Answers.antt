@@ -11,8 +11,8 @@ use Rattle.sb_directory.specs.Behind.{AreSince}
 use Rattle.sb_directory.proofs.Following.{grown-there, since-there}
 use Rattle.sb_directory.proofs.viewed_node.ViewedNode.open.Goals as goal
 
-pub invariant_of-locked : goal.invariant_of-locked
-invariant_of-locked g c =
+pub invariant_of-node : goal.invariant_of-node
+invariant_of-node g c =
     let opening = g.S.NodeTag.opening in
     let held = c.args.core.node.held in
     let queued : c.in_ok-views.views.queued ≡ [] = ap (λ (v : Views). v.queued) c.in_ok-views.ensures.views in

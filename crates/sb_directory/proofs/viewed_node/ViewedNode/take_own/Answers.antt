@@ -12,7 +12,7 @@ use Rattle.sb_directory.proofs.viewed_node.ViewedNode.take_own.Given.{Over}
 use Rattle.sb_directory.proofs.viewed_node.ViewedNode.take_own.Goals.{After-add_event}
 use Rattle.sb_directory.proofs.viewed_node.ViewedNode.take_own.Goals as goal
 
--- what lies under the lock once the write is entered, where watches are told of it
+-- the viewed node once the write is entered, where it is noted in watches
 entered : (g : Over) (c : After-add_event g) (hub : Hub) → hub ≡ with_notes c.self.inside.hub ((c.self.inside.core.node.held.me, c.args.committed.now.entry) ∷ [])
     → IsViewedNode g.S.NodeTag.opening c.self.inside.views.queued c.add.new.self
     (record { core = c.take_own.new.self; hub = hub; history = c.add_event.new.history; published = c.self.inside.views.published })
@@ -52,7 +52,7 @@ invariant_of-self-2 g c =
     (entered g (goal.at.invariant_of-self-2 g c).After-add_event c.push_note.new.hub seen)
     c.show.ensures.begins c.show.ensures.grown c.show.ensures.since
 
--- the write is not entered; what is lacked stays known
+-- the write is not entered; what is lacked stays noted
 pub invariant_of-self-in_err-take_own : goal.invariant_of-self-in_err-take_own
 invariant_of-self-in_err-take_own g c =
     let inside = c.self.inside in
