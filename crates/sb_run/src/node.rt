@@ -92,17 +92,17 @@ fn start_refusal<L: WriteLog>(settings: &Settings, log: &L) -> Option<Fault>
 }
 
 /// Runs the node that owns a log. It binds both sockets, each at a path where no file is or a socket at which nobody
-/// listens, and tells the observer. Then it serves peers on `sock`, as many at once as there are workers, and its owner on `control`,
-/// one connection after another; and it dials its peers in turn, one a round, with a pause after each, for as many exchanges of
-/// digests and deltas as it takes to tell of all owners that it holds: one, where the budget has room for a digest of all. A
-/// peer that let a round wait for `dial_idle` milliseconds is passed over in its next seven turns, unless nobody else is left.
-/// It tells the observer of a round where the one before with that peer ended otherwise. After the last round it ends, once
-/// the connections that are open have ended, and removes what is at the paths of both sockets, also where another put it
-/// there since.
+/// listens, and tells the observer. Workers serve peers on `sock`, as many at once as there are workers. The calling thread
+/// serves the owner on `control`, one connection after another. One more thread dials the peers in turn, one a round, with a
+/// pause after each. A round has as many exchanges of digests and deltas as it takes to tell of all owners that the node
+/// holds: one, where the budget has room for a digest of all. A peer that let a round wait for `dial_idle` milliseconds is
+/// passed over in its next seven turns, unless nobody else is left. The observer is told of a round that ended otherwise
+/// than the one before with that peer. After the last round the node ends, once the connections that are open have ended,
+/// and removes what is at the paths of both sockets, also where another put it there since.
 ///
-/// Where its owner wrote, or a peer told of something new, it dials the next `fanout` peers at once, without a pause, but for
-/// those whose last round had a fault; news that comes within ten milliseconds goes together. These are rounds too. With no
-/// pause there is no need of them.
+/// Where its owner wrote, or a peer told of something new, the node dials the next `fanout` peers at once, without a pause,
+/// but for those whose last round had a fault. News that comes within ten milliseconds goes together. These are rounds too.
+/// With no pause there is no need of them.
 ///
 /// A connection ends with a fault where its peer breaks the rules of a session or of the control socket, where it takes
 /// more than `max_reads` reads, where no byte moved for `idle` milliseconds, or for `dial_idle` where the node has dialed, or

@@ -143,9 +143,10 @@ fn work_in_place<S: DirectoryTag, H: Wait + Drop, Q: Wait, X: Source, G: Gate>(
 }
 
 /// Serves the connections of a source until it has no more, with a worker for each seat, each in a thread of its own. The
-/// caller is one of them, and runs those whose thread can't be made. A session is of the directory's node, under its name and
-/// of its cluster. One that the gate turns away ends with `TurnsSpent`; each makes at most `max_reads` reads. The seats come
-/// back in their order; where the gate lets no session apply a delta, none made an event or has seen more. It never refuses.
+/// caller is one of the workers, and does the work of those whose thread can't be made. A session is of the directory's node,
+/// under its name and of its cluster. One that the gate turns away ends with `TurnsSpent`; each makes at most `max_reads`
+/// reads. The seats come back in their order. Where the gate lets no session apply a delta, none of them made an event or has
+/// seen more. It never refuses.
 pub fn serve_pool<
     S: DirectoryTag + Send + Sync,
     H: Wait + Drop + Send + Sync,
