@@ -1,4 +1,4 @@
--- What is true of the events of a story is true of those that it begins with and of those that follow.
+-- What is true of the events of a history is true of those that it begins with and of those that follow.
 use Rattle.std.proofs.Common.{◌≡◌, List, ◌++◌, sym, ap, subst, ◌∙◌}
 use Rattle.std.proofs.lemmas.Grind.{flat_map-append}
 use Rattle.std.specs.List.{flat_map}
@@ -8,7 +8,7 @@ use Rattle.sb_holdings.specs.Nodes.{Node, NodeEvent, replay_node, AreNodeEvents,
 use Rattle.sb_views.specs.declared.event.Event.{Event}
 use Rattle.sb_views.specs.Histories.{node_events_of, node_after}
 
--- what a longer story has beyond this one
+-- what a longer history has beyond this one
 abbrev beyond : (history more : List Event) → IsPrefix history more → List NodeEvent
 beyond history more begins = flat_map node_events_of begins.0
 

@@ -1,4 +1,4 @@
--- What a seat knows after calls that follow on others.
+-- A seat's last call, and what it has seen, after calls that follow on others.
 use Rattle.std.proofs.Common.{◌≡◌, ◌+◌, List, [], ◌∷◌, Option, Some, None, Result, sym, subst, arith}
 use mathlib.Core.List.{IsPrefix}
 use Rattle.sb_types.specs.declared.fault.Fault.{Fault}
@@ -13,7 +13,7 @@ use Rattle.sb_directory.specs.Serving.{IsLater}
 use Rattle.sb_directory.specs.Handling.{later-on}
 use Rattle.sb_run.specs.OwnWriting.{IsTaken, IsTurnedAway, IsHandedIn}
 
--- what begins with what a later seat was told and knew begins with that of an earlier one
+-- what begins with what a later seat has seen and with its last call begins with those of an earlier one
 pub begins_before : (l : List Event) (before mid : Seat) → IsLater before mid → Begins l mid → Begins l before
 begins_before l before mid later begins = record {
   seen = prefix_trans before.seen mid.seen l later.seen begins.seen;
@@ -43,21 +43,21 @@ pub handed_from : (opening : Node) (c : Committed) (before mid after : Seat) →
 handed_from opening c before mid after later is =
     (after, entered_from (λ history. own_due_after opening history c) (TookOwn c.entry) before mid after later is, prefix_self after.last_call)
 
--- and a later one still knows of it
+-- and the last call of a later one still has it
 pub handed_on : (opening : Node) (before : Seat) (owed : Option Committed) (mid after : Seat) → IsPrefix mid.last_call after.last_call
     → IsHandedIn opening before owed mid → IsHandedIn opening before owed after
 handed_on opening before None mid after more is = tt
 handed_on opening before (Some c) mid after more is = (is.0, is.1, prefix_trans is.0.last_call mid.last_call after.last_call is.2 more)
 
 -- a call that made an event
-pub event_knows : (due : List Event → Result (Unit {0}) Fault) (event : Event) (old new : Seat) → IsEntered due event old new → IsPrefix old.last_call new.last_call
-event_knows due event old new is = prefix_trans old.last_call is.history new.last_call is.begins.last_call (event ∷ [], sym is.last_call)
+pub event_called : (due : List Event → Result (Unit {0}) Fault) (event : Event) (old new : Seat) → IsEntered due event old new → IsPrefix old.last_call new.last_call
+event_called due event old new is = prefix_trans old.last_call is.history new.last_call is.begins.last_call (event ∷ [], sym is.last_call)
 
 pub event_later : (due : List Event → Result (Unit {0}) Fault) (event : Event) (old new : Seat) → IsPrefix old.seen new.seen → IsEntered due event old new
     → new.events ≡ old.events + 1 → IsLater old new
 event_later due event old new grows is more = record {
   seen = grows;
-  last_call = event_knows due event old new is;
+  last_call = event_called due event old new is;
   events = omega (arith, more);
 }
 

@@ -123,5 +123,5 @@ pub together_true : GivesTruth → (writes : List ℕ → List Write) (opening :
 together_true law writes opening settings all opened turns =
     true_below law writes opening settings opened (suc (length all)) all (omega arith) turns
 
-pub story_begins : (run : ℕ) (earlier all : List RunEvent) → IsPrefix earlier all → IsPrefix (history_of run earlier) (history_of run all)
-story_begins run earlier all begins = (history_of run begins.0, sym (flat_map-append (in_run run) earlier begins.0) ∙ ap (history_of run) begins.1)
+pub history_begins : (run : ℕ) (earlier all : List RunEvent) → IsPrefix earlier all → IsPrefix (history_of run earlier) (history_of run all)
+history_begins run earlier all begins = (history_of run begins.0, sym (flat_map-append (in_run run) earlier begins.0) ∙ ap (history_of run) begins.1)

@@ -74,7 +74,7 @@ Answers seen opening budget old owed before (kinds.Rows x) new owes after reply 
 Answers seen opening budget old owed before (kinds.Done x) new owes after reply = (new ≡ old) × (owes ≡ owed) × (after ≡ before) × IsUnknown reply
 Answers seen opening budget old owed before (kinds.Refused x) new owes after reply = (new ≡ old) × (owes ≡ owed) × (after ≡ before) × IsUnknown reply
 
--- where no request is heard all stays the same and nothing is put out; else one answer is put out, or its first bytes
+-- where no request is received all stays the same and nothing is written; else one answer is written, or its first bytes
 abbrev pub Controls : Type 0 → (Message → Message → Type 0) → Option (List ℕ) → Option (List ℕ) → Option (List ℕ) → Option (List ℕ)
     → ℕ → ℕ → Result (Unit {0}) Fault → Type 0
 Controls same answers from to old new before left result =

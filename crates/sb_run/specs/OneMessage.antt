@@ -1,4 +1,4 @@
--- What comes of hearing one message, and of asking for one.
+-- What comes of receiving one message, and of sending a request for one.
 use Rattle.std.specs.Prelude.{◌≡◌, ◌⊎◌, ℕ, List, [], Option, Result, Ok, Err}
 use Rattle.std.specs.Io.KnownBytes.{Keeps, Appends, Consumes, IsAtEnd}
 use Rattle.sb_types.specs.declared.fault.Fault.{Fault}
@@ -19,7 +19,7 @@ ReceivesOneIn bytes to before left (Err fault) =
 abbrev pub ReceivesOne : Option (List ℕ) → Option (List ℕ) → ℕ → ℕ → Result Message Fault → Type 0
 ReceivesOne from to before left result = (bytes : List ℕ) × Consumes from to bytes × ReceivesOneIn bytes to before left result
 
--- the request is put out, and then the answer is heard; or the request is cut short, and nothing is read
+-- the request is written, and then the answer is received; or the request is cut short, and nothing is read
 abbrev pub Asks : Message → Option (List ℕ) → Option (List ℕ) → Option (List ℕ) → Option (List ℕ) → ℕ → ℕ → Result Message Fault → Type 0
 Asks request from to old new before left result =
     (Appends old new (frame request) × ReceivesOne from to before left result)

@@ -29,22 +29,22 @@ abbrev pub count_shared : Stored → ℕ
 count_shared (Shared receipt) = 1
 count_shared (Owed version fault) = 0
 
--- the directory takes the write when it may, and with that the seat knows it, as the last; where that is said it was told so
+-- the directory takes the write when it may, and the seat's last call ends with that; where the receipt says so, the seat has seen it
 abbrev pub IsTaken : Node → Seat → Committed → Receipt → Seat → Type 0
 IsTaken opening before c receipt after =
     IsEntered (λ history. own_due_after opening history c) (TookOwn c.entry) before after × (receipt.shown ≡ true → after.seen ≡ after.last_call)
 
--- the directory refuses the write after what the seat now knows: with this fault, where there is memory
+-- the directory refuses the write after the history of the seat's last call: by this fault, where there is memory
 abbrev pub IsTurnedAway : Node → Seat → Committed → Fault → Seat → Type 0
 IsTurnedAway opening before c fault after = Begins after.last_call before × Refuses (own_due_after opening after.last_call c) fault
 
--- what was owed is an event of the directory, which the seat knows
+-- what was owed is an event, which is in the history of the seat's last call
 abbrev pub IsHandedIn : Node → Seat → Option Committed → Seat → Type 0
 IsHandedIn opening before None after = Unit {0}
 IsHandedIn opening before (Some c) after =
     (handed : Seat) × IsEntered (λ history. own_due_after opening history c) (TookOwn c.entry) before handed × IsPrefix handed.last_call after.last_call
 
--- the write is an event of the directory, the last that the seat knows, and nothing is owed; or the directory refuses it by this fault, and it is owed
+-- the write is the last event of the seat's last call, and nothing is owed; or the directory refuses it by this fault, and it is owed
 abbrev pub PassesOn : Node → Seat → Committed → Stored → Option Committed → Seat → Type 0
 PassesOn opening before c (Shared receipt) owed after = (owed ≡ None) × IsTaken opening before c receipt after
 PassesOn opening before c (Owed version fault) owed after = (owed ≡ Some c) × IsTurnedAway opening before c fault after
@@ -57,7 +57,7 @@ pub record IsStored (opening : Node) (old : Log) (before : Seat) (key : List ℕ
   pub version : version_of stored ≡ committed.entry.version
   pub passes : PassesOn opening before committed stored owed after
 
--- at some moment of the call, no block that the node had taken told of a write of another under the own name
+-- at some moment of the call the node had taken no block with a write of another node under its own name
 abbrev pub IsUndisputed : Node → Seat → Seat → Type 0
 IsUndisputed opening before after = (l : List Event) × Begins l before × IsPrefix l after.last_call × ((node_after opening l).conflict ≡ None)
 
@@ -67,7 +67,7 @@ IsHeldBack opening before owed fault after =
     (Begins after.last_call before × ((version : ℕ) × ((node_after opening after.last_call).conflict ≡ Some version) × (fault ≡ OwnerConflict version)))
     ⊎ ((c : Committed) × (owed ≡ Some c) × IsTurnedAway opening before c fault after)
 
--- nothing changes but what the seat knows, and the log is not asked; or what was owed is handed in, and the log refuses
+-- nothing changes but the seat's last call, and the log is not asked; or what was owed is handed in, and the log refuses
 abbrev pub IsRefused : {L : Type 0} → (L → Log) → Node → L → Option Committed → Seat → List ℕ → Slot → L → Option Committed → Seat → Fault → Type 0
 IsRefused seen opening old owed before key slot new owes after fault =
     (IsHeldBack opening before owed fault after × (new ≡ old) × (owes ≡ owed) × (after ≡ with_last_call before after.last_call))

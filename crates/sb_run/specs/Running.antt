@@ -1,18 +1,29 @@
--- With what a node opens, and why it does not run.
-use Rattle.std.specs.Prelude.{◌≡◌, ◌⊎◌, ◌+◌, ℕ, true, nat_eq, nat_lt, if◌then◌else◌, Option, Some, None, Err}
+-- With what a node opens, what it starts from, and why it does not run.
+use Rattle.std.specs.Prelude.{◌≡◌, ◌⊎◌, ◌+◌, ◌≤◌, ℕ, true, nat_eq, nat_lt, if◌then◌else◌, Option, Some, None, Err}
 use Rattle.std.specs.Cmp.Lexicographic.{pointwise}
+use Rattle.logbook.specs.Pages.{Book}
 use Rattle.sb_types.specs.declared.fault.Fault.{Fault}
 use Rattle.sb_types.specs.declared.fault.Fault.TheVariants.{NoMemory, BadSetting, ReadFailed, StoreFailed, WrongCluster}
 use Rattle.sb_types.specs.Records.{Settings, Table}
 use Rattle.sb_holdings.specs.Nodes.{Node, opened_node}
 use Rattle.sb_log.specs.Records.{Log}
 use Rattle.sb_log.specs.Puts.{Loads}
+use Rattle.sb_node.specs.Cores.{Core}
 use Rattle.sb_run.specs.declared.node.OnLogFault.{OnLogFault}
 use Rattle.sb_run.specs.declared.node.OnLogFault.TheVariants.{Exit}
 
 -- the node holds its owner's table alone, under the name of the log's owner: what the log has, where its store kept its promise
 abbrev pub IsOpenedFrom : Log → Node → Type 0
 IsOpenedFrom log node = (table : Table) × (node ≡ opened_node log.owner table) × (log.is_clean ≡ true → table ≡ log.content)
+
+-- the tag has this history, this node as it was opened and its settings, and as many seats, and parts of the ledger, as these ask for
+abbrev pub IsTagOf : Book → Node → Settings → ℕ → ℕ → Book → Core → Type 0
+IsTagOf history opening settings seats parts new core =
+    (new ≡ history) × (opening ≡ core.node) × (settings ≡ core.settings) × (core.settings.seats ≡ seats) × (core.settings.seats ≡ parts)
+
+-- the node was opened from its log, and it has a seat for each worker and two more
+abbrev pub IsStarted : Log → Core → Type 0
+IsStarted log core = IsOpenedFrom log core.node × (core.settings.workers + 2 ≤ core.settings.seats)
 
 -- why a node does not run, before its log is read: the first reason that holds
 abbrev pub start_refusal : Settings → Log → Option Fault

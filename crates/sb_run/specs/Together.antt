@@ -1,4 +1,4 @@
--- Runs of nodes that tell each other, and what happens to them all, in one order.
+-- Runs of nodes that give each other deltas, and what happens to them all, in one order.
 use Rattle.std.specs.Prelude.{◌≡◌, ℕ, ◌==◌, if◌then◌else◌, List, [], ◌∷◌, ◌++◌, Ok}
 use Rattle.std.specs.List.{flat_map}
 use mathlib.Core.List.{IsPrefix}
@@ -21,7 +21,7 @@ pub record RunEvent : Type 0 where
 abbrev pub in_run : ℕ → RunEvent → List Event
 in_run run h = if h.run == run then h.event ∷ [] else []
 
--- all that happened in this run: its story
+-- all that happened in this run: its history
 abbrev pub history_of : ℕ → List RunEvent → List Event
 history_of run all = flat_map (in_run run) all
 

@@ -11,10 +11,10 @@ use std::alloc::Global;
 use std::io::{Read, Write};
 use std::sync::ledger::Ledger;
 
-/// Sends one request and gives its answer, with at most `max_reads` reads, and tells what the last write of the call
-/// answered. `WriteFailed`, with how many bytes of the
-/// request are out; `BadMark`, `BadVersion`, `BadLength`, `UnknownKind` or `Malformed` of the answer; `ReadFailed`;
-/// `Truncated` where no whole answer comes; `TurnsSpent` where one more read is needed; `NoMemory`.
+/// Sends one request and gives its answer, with at most `max_reads` reads, and says what the last write of the call answered.
+/// `WriteFailed`, with how many bytes of the request are out; `BadMark`, `BadVersion`, `BadLength`, `UnknownKind` or
+/// `Malformed` of the answer; `ReadFailed`; `Truncated` where no whole answer comes; `TurnsSpent` where one more read is
+/// needed; `NoMemory`.
 pub fn ask_control<R: Read, W: Write, K: Ledger>(
     alloc: Global,
     reader: &mut R,

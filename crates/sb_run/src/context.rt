@@ -6,13 +6,14 @@ use crate::counts::Counts;
 use crate::ending::EndFlag;
 use crate::node::Pace;
 use crate::rounds::RoundsTag;
+use crate::serving::Serving;
 use crate::sockets::BoundSockets;
 use sb_directory::Directory;
 use std::alloc::Global;
 use std::net::Net;
 use std::sync::Wait;
 
-/// A running node, as each of its threads has it.
+/// A running node, which its threads share.
 #[derive(Drop)]
 pub(crate) struct NodeContext<'a, S: RoundsTag, H: Wait + Drop, Q> {
     pub(crate) rt: &'a Q,
@@ -27,10 +28,24 @@ pub(crate) struct NodeContext<'a, S: RoundsTag, H: Wait + Drop, Q> {
     ghost paced: { pace.rounds ≡ S.rounds },
 }
 
+impl<S: RoundsTag, H: Wait + Drop, Q> NodeContext<'_, S, H, Q> {
+    /// What it takes to serve a connection of the node.
+    pub(crate) fn serving(&self) -> Serving<'_, S, H, Q>
+        ensures { result.max_reads ≡ self.now.pace.max_reads }
+    {
+        Serving {
+            rt: self.rt,
+            alloc: self.alloc,
+            directory: self.directory,
+            max_reads: self.pace.max_reads,
+        }
+    }
+}
+
 impl<S: RoundsTag, H: Wait + Drop, Q: Net> NodeContext<'_, S, H, Q> {
-    /// Ends each thread that accepts, and the one that dials.
+    /// Ends each thread that accepts, and wakes the one that dials.
     pub(crate) fn end(&self) {
-        self.ending.come(self.rt, self.sockets, self.workers);
+        self.ending.raise(self.rt, self.sockets, self.workers);
         self.bell.wake();
     }
 }

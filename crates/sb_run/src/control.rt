@@ -9,8 +9,9 @@ ghost use Rattle.sb_run.specs.Control.{IsPutReply, IsPageReply, IsLookedUp, Answ
 
 use crate::one_message::receive_one;
 use crate::own_writes::OwnWrites;
+use crate::serving::Serving;
 use sb_codec::{Ask, Done, Message, Refused};
-use sb_directory::{Directory, DirectoryTag, EnteredSeat, ReaderSeat};
+use sb_directory::{DirectoryTag, EnteredSeat, ReaderSeat};
 use sb_frames::{LastWrite, Steps, send_telling};
 use sb_log::WriteLog;
 use sb_query::answer;
@@ -80,10 +81,9 @@ fn reply_to_ask<S: NodeTag>(
     }
 }
 
-/// Answers a Put: the log takes the write before the directory is told of it.
+/// Answers a Put: the log takes the write before the directory does.
 fn reply_to_put<L: WriteLog, S: DirectoryTag, H: Wait + Drop, Q: Wait>(
-    rt: &Q,
-    directory: &Directory<S, H>,
+    serving: &Serving<S, H, Q>,
     writes: &mut OwnWrites<L>,
     seat: &mut ReaderSeat<S>,
     key: &Key,
@@ -92,7 +92,7 @@ fn reply_to_put<L: WriteLog, S: DirectoryTag, H: Wait + Drop, Q: Wait>(
     ensures put { IsPutReply L.seen S.opening writes.old.log writes.old.owed seat.old key.now slot.now writes.new.log writes.new.owed seat.new result }
     ensures settled { IsSettled (L.seen writes.old.log) (L.leaves writes.old.log) → IsSettled (L.seen writes.new.log) (L.leaves writes.new.log) }
 {
-    match writes.put(rt, directory, seat, key, slot) {
+    match writes.put(serving.rt, serving.directory, seat, key, slot) {
         Ok(stored) => done(stored.version()),
         Err(met) => refused_by(met),
     }
@@ -100,9 +100,7 @@ fn reply_to_put<L: WriteLog, S: DirectoryTag, H: Wait + Drop, Q: Wait>(
 
 /// The answer to a request.
 fn reply_to<L: WriteLog, S: DirectoryTag, H: Wait + Drop, Q: Wait>(
-    rt: &Q,
-    alloc: Global,
-    directory: &Directory<S, H>,
+    serving: &Serving<S, H, Q>,
     writes: &mut OwnWrites<L>,
     seat: ReaderSeat<S>,
     request: &Message,
@@ -112,10 +110,12 @@ fn reply_to<L: WriteLog, S: DirectoryTag, H: Wait + Drop, Q: Wait>(
     ensures settled { IsSettled (L.seen writes.old.log) (L.leaves writes.old.log) → IsSettled (L.seen writes.new.log) (L.leaves writes.new.log) }
 {
     match request {
-        Message::Ask(ask) => reply_to_ask(alloc, directory.settings(), seat, ask),
+        Message::Ask(ask) => {
+            reply_to_ask(serving.alloc, serving.directory.settings(), seat, ask)
+        }
         Message::Put(write) => {
             let mut seat = seat;
-            let reply = reply_to_put(rt, directory, writes, &mut seat, &write.key, &write.slot);
+            let reply = reply_to_put(serving, writes, &mut seat, &write.key, &write.slot);
             (seat, reply)
         }
         Message::Hello(_) => (seat, refused_by(Fault::UnknownKind(KIND_HELLO))),
@@ -130,7 +130,7 @@ fn reply_to<L: WriteLog, S: DirectoryTag, H: Wait + Drop, Q: Wait>(
 
 /// Reads one request, with at most `max_reads` reads, and writes one answer: to an Ask its page, to a Put the version
 /// under which the log took the write in this call, and to either the fault that it met; to any other message the
-/// fault `UnknownKind`. The seat comes back, and it tells what the last write of the call answered.
+/// fault `UnknownKind`. It gives the seat back, and says what the last write of the call answered.
 ///
 /// `BadMark`, `BadVersion`, `BadLength`, `UnknownKind` or `Malformed` of the request; `ReadFailed`; `Truncated` at an
 /// end before or inside it; `TurnsSpent` where one more read is needed; `NoMemory`. Each of these is before anything
@@ -145,29 +145,26 @@ pub fn serve_control<
     Q: Wait,
     K: Ledger,
 >(
-    rt: &Q,
-    alloc: Global,
+    serving: &Serving<S, H, Q>,
     reader: &mut R,
     writer: &mut W,
-    directory: &Directory<S, H>,
     writes: &mut OwnWrites<L>,
     seat: ReaderSeat<S>,
-    max_reads: u64,
     steps: &mut Steps<K>,
 ) -> (ReaderSeat<S>, Result<(), Fault>, LastWrite)
     ensures controls { (left : ℕ)
         × Controls ((writes.new.log ≡ writes.old.log) × (writes.new.owed ≡ writes.old.owed) × (result.0 ≡ seat))
         (λ request reply. Answers L.seen S.opening S.settings.budget writes.old.log writes.old.owed seat request writes.new.log writes.new.owed result.0 reply)
-        (R.remaining reader.old) (R.remaining reader.new) (W.contents writer.old) (W.contents writer.new) max_reads left result.1
-        × (steps.new + left ≡ steps.old + max_reads) }
+        (R.remaining reader.old) (R.remaining reader.new) (W.contents writer.old) (W.contents writer.new) serving.now.max_reads left result.1
+        × (steps.new + left ≡ steps.old + serving.now.max_reads) }
     // A write that did not fail, or that was made before the call, is no reason to stop.
     ensures failed { OnlyWhereFailed result.1 result.2 }
     ensures settled { IsSettled (L.seen writes.old.log) (L.leaves writes.old.log) → IsSettled (L.seen writes.new.log) (L.leaves writes.new.log) }
 {
-    match receive_one(alloc, reader, max_reads, steps) {
+    match receive_one(serving.alloc, reader, serving.max_reads, steps) {
         Ok(request) => {
-            let (seat, reply) = reply_to(rt, alloc, directory, writes, seat, &request);
-            let (sent, last) = send_telling(alloc, writer, &reply);
+            let (seat, reply) = reply_to(serving, writes, seat, &request);
+            let (sent, last) = send_telling(serving.alloc, writer, &reply);
             (seat, sent, last)
         }
         Err(fault) => (seat, Err(fault), LastWrite::new()),

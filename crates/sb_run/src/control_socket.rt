@@ -21,36 +21,8 @@ use std::sync::Wait;
 use std::sync::ledger::{Blank, Ledger};
 use std::time::Clock;
 
-/// One connection: a request and its answer, each whole within the node's `request`; whether it ended with a fault. It makes
-/// at most the node's `max_reads` reads.
-fn answer_within<L: WriteLog, S: RoundsTag, H: Wait + Drop, Q: Wait + Clock, K: Ledger>(
-    node: &NodeContext<S, H, Q>,
-    writes: &mut OwnWrites<L>,
-    input: &UnixStream,
-    output: &UnixStream,
-    seat: ReaderSeat<S>,
-    steps: &mut Steps<K>,
-) -> (ReaderSeat<S>, bool)
-    ensures reads { steps.new ≤ steps.old + node.now.pace.max_reads }
-{
-    let pace = &node.pace;
-    let mut request = Timed::new(node.rt, input, pace.idle, pace.request);
-    let mut reply = Timed::new(node.rt, output, pace.idle, pace.request);
-    let (seat, ended, _) = serve_control(
-        node.rt,
-        node.alloc,
-        &mut request,
-        &mut reply,
-        node.directory,
-        writes,
-        seat,
-        node.pace.max_reads,
-        steps,
-    );
-    (seat, ended.is_err())
-}
-
-/// The same, where nothing was read before.
+/// Serves one connection: a request and its answer, each whole within the node's `request`. Whether it ended with a fault, and
+/// the reads that it made, at most the node's `max_reads`.
 fn answer_one<L: WriteLog, S: RoundsTag, H: Wait + Drop, Q: Wait + Clock, K: Ledger>(
     node: &NodeContext<S, H, Q>,
     writes: &mut OwnWrites<L>,
@@ -58,13 +30,26 @@ fn answer_one<L: WriteLog, S: RoundsTag, H: Wait + Drop, Q: Wait + Clock, K: Led
     output: &UnixStream,
     seat: ReaderSeat<S>,
     blank: Blank,
-) -> (ReaderSeat<S>, bool)
+) -> (ReaderSeat<S>, bool, Steps<K>)
     requires name { blank.name ≡ K.name }
     requires parts { blank.parts ≡ K.parts }
     requires some { 0 < blank.parts }
+    ensures reads { result.2 ≤ node.now.pace.max_reads }
 {
     let mut steps = Steps::<K>::new(blank);
-    answer_within(node, writes, input, output, seat, &mut steps)
+    let pace = &node.pace;
+    let mut request = Timed::new(node.rt, input, pace.idle, pace.request);
+    let mut reply = Timed::new(node.rt, output, pace.idle, pace.request);
+    let serving = node.serving();
+    let (seat, ended, _) = serve_control(
+        &serving,
+        &mut request,
+        &mut reply,
+        writes,
+        seat,
+        &mut steps,
+    );
+    (seat, ended.is_err(), steps)
 }
 
 /// What comes of the control socket.
@@ -77,9 +62,9 @@ pub(crate) struct ControlEnd<S: RoundsTag> {
     pub(crate) has_left: bool,
 }
 
-/// Tells of what came of the last request: the dialing thread of a write, and the observer of a log that failed. Whether the
-/// node is to end with that.
-fn tell_of<L: WriteLog, S: RoundsTag, H: Wait + Drop, Q, O: Observer>(
+/// Tells the dialing thread of a write that the last request made, and the observer of a log that it closed. Whether the node
+/// is to end with that.
+fn report_writes<L: WriteLog, S: RoundsTag, H: Wait + Drop, Q, O: Observer>(
     node: &NodeContext<S, H, Q>,
     writes: &mut OwnWrites<L>,
     observer: &O,
@@ -117,41 +102,40 @@ pub(crate) fn serve_control_socket<
     requires opened { IsOpenedFrom (L.seen writes.log) S.opening }
     ensures { result.has_left ≡ true → node.now.pace.on_log_fault ≡ OnLogFault.Exit }
 {
-    let socket = &node.sockets.control;
-    let acceptor = Acceptor::new(node.rt, socket, node.ending, node.pace.idle, None);
-    let mut writes = writes;
-    let mut sitting = seat;
+    let control = &node.sockets.control;
+    let acceptor = Acceptor::new(node.rt, control, node.ending, node.pace.idle, None);
+    let (mut writes, mut current) = (writes, seat);
     let mut faults: u64 = 0;
     for _ in node.rt.forever() {
         let failed = match acceptor.next() {
             None => {
                 return ControlEnd {
-                    seat: sitting,
+                    seat: current,
                     faults,
                     has_left: false,
                 };
             }
             Some(Err(_)) => true,
             Some(Ok((_, input, output))) => {
-                let (seat, failed) = answer_one::<L, S, H, Q, Brand>(
+                let (seat, failed, _) = answer_one::<L, S, H, Q, Brand>(
                     node,
                     &mut writes,
                     &input,
                     &output,
-                    sitting,
+                    current,
                     Blank::new(1),
                 );
-                sitting = seat;
+                current = seat;
                 failed
             }
         };
         if failed {
             faults = faults.saturating_add(1);
         }
-        if tell_of(node, &mut writes, observer) {
+        if report_writes(node, &mut writes, observer) {
             node.end();
             return ControlEnd {
-                seat: sitting,
+                seat: current,
                 faults,
                 has_left: true,
             };

@@ -40,20 +40,24 @@ pub(crate) fn digests_of_all<S: RoundsTag, H: Wait + Drop, Q: Wait>(
     Some(most)
 }
 
-/// A session over a connection, of so many exchanges of digests and deltas, and how it ended. It makes at most the node's
-/// `max_reads` reads. What it enters is news.
-fn talk_within<S: RoundsTag, H: Wait + Drop, Q: Wait, I: Read, O: Write, K: Ledger>(
+/// A session over a connection, of so many exchanges of digests and deltas: how it ended, and the reads that it made, at most
+/// the node's `max_reads`. What it enters is news.
+fn talk<S: RoundsTag, H: Wait + Drop, Q: Wait, I: Read, O: Write, K: Ledger>(
     node: &NodeContext<S, H, Q>,
     input: &mut I,
     output: &mut O,
     seat: ReaderSeat<S>,
     exchanges: u64,
-    steps: &mut Steps<K>,
-) -> (ReaderSeat<S>, Result<Ended, Fault>)
+    blank: Blank,
+) -> (ReaderSeat<S>, Result<Ended, Fault>, Steps<K>)
+    requires name { blank.name ≡ K.name }
+    requires parts { blank.parts ≡ K.parts }
+    requires some { 0 < blank.parts }
     ensures later { IsLater seat result.0 }
     ensures greets { Greets S.settings.cluster S.opening.held.me (O.contents output.old) (O.contents output.new) }
-    ensures reads { steps.new ≤ steps.old + node.now.pace.max_reads }
+    ensures reads { result.2 ≤ node.now.pace.max_reads }
 {
+    let mut steps = Steps::<K>::new(blank);
     let served = SeatHandler::new(node.rt, node.directory, seat);
     let mut handler = GatedHandler::new(served, node.bell, 0);
     let (ended, _) = dial(
@@ -64,27 +68,9 @@ fn talk_within<S: RoundsTag, H: Wait + Drop, Q: Wait, I: Read, O: Write, K: Ledg
         &mut handler,
         exchanges,
         node.pace.max_reads,
-        steps,
+        &mut steps,
     );
-    (handler.into_inner().into_seat(), ended)
-}
-
-/// The same, where nothing was read before.
-fn talk<S: RoundsTag, H: Wait + Drop, Q: Wait, K: Ledger>(
-    node: &NodeContext<S, H, Q>,
-    stream: UnixStream,
-    seat: ReaderSeat<S>,
-    exchanges: u64,
-    blank: Blank,
-) -> (ReaderSeat<S>, Result<Ended, Fault>)
-    requires name { blank.name ≡ K.name }
-    requires parts { blank.parts ≡ K.parts }
-    requires some { 0 < blank.parts }
-    ensures { IsLater seat result.0 }
-{
-    let mut steps = Steps::<K>::new(blank);
-    let (mut input, mut output) = (&stream, &stream);
-    talk_within(node, &mut input, &mut output, seat, exchanges, &mut steps)
+    (handler.into_inner().into_seat(), ended, steps)
 }
 
 /// Dials the peer at a path, for so many exchanges, and how that ended: by `ReadFailed` also where the peer can't be reached.
@@ -102,5 +88,14 @@ pub(crate) fn dial_peer<S: RoundsTag, H: Wait + Drop, Q: Wait + Net>(
     if limit(&stream, node.pace.dial_idle).is_err() {
         return (seat, Err(Fault::ReadFailed));
     }
-    talk::<S, H, Q, Brand>(node, stream, seat, exchanges, Blank::new(1))
+    let (mut input, mut output) = (&stream, &stream);
+    let (seat, ended, _) = talk::<S, H, Q, &UnixStream, &UnixStream, Brand>(
+        node,
+        &mut input,
+        &mut output,
+        seat,
+        exchanges,
+        Blank::new(1),
+    );
+    (seat, ended)
 }

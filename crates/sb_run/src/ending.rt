@@ -4,7 +4,7 @@ use crate::sockets::BoundSockets;
 use std::net::Net;
 use std::sync::atomic::{AtomicBool, Ordering};
 
-/// Whether the node is to end. What accepts asks it behind each connection.
+/// Whether the node is to end. Whoever accepts asks it behind each connection.
 #[derive(Drop)]
 pub(crate) struct EndFlag {
     flag: AtomicBool,
@@ -19,12 +19,12 @@ impl EndFlag {
     }
 
     /// Whether the node is to end.
-    pub(crate) fn has_come(&self) -> bool {
+    pub(crate) fn is_raised(&self) -> bool {
         self.flag.load(Ordering::SeqCst)
     }
 
-    /// Ends the node: each worker that accepts, and the calling thread at the control socket.
-    pub(crate) fn come<R: Net>(&self, rt: &R, sockets: &BoundSockets, workers: u64) {
+    /// Ends the node: wakes each worker that accepts, and the calling thread at the control socket.
+    pub(crate) fn raise<R: Net>(&self, rt: &R, sockets: &BoundSockets, workers: u64) {
         self.flag.store(true, Ordering::SeqCst);
         sockets.sock.wake(rt, workers);
         sockets.control.wake(rt, 1);

@@ -1,4 +1,4 @@
-//! Gates: what a session of a pool passes before it applies a delta and after it answers a digest.
+//! Gates: a session of a pool passes one before it applies a delta, and after it answers a digest.
 ghost use Rattle.std.specs.Prelude.{◌≡◌, ◌⊎◌, MatchBool};
 
 use sb_digest::Digest;
@@ -6,7 +6,7 @@ use sb_holdings::{BlockEnd, Report};
 use sb_session::Handler;
 use sb_types::{Delta, Fault, Name};
 
-/// Where a session stands.
+/// Where a session asks its gate.
 #[derive(Clone, Copy, Debug, PartialEq, Eq)]
 pub enum GatePoint {
     /// It is about to apply a delta.
@@ -15,22 +15,22 @@ pub enum GatePoint {
     AfterAnswer,
 }
 
-/// Which steps sessions may take. It is asked outside of any lock, and may take its time.
+/// Says which sessions may go on. They ask it outside of any lock, and it may take its time.
 pub trait Gate {
     ghost use Rattle.std.specs.Prelude.{ℕ};
     ghost use Rattle.sb_run.specs.declared.gate.GatePoint.{GatePoint};
 
-    /// What is known where it lets the session of this number take the step: nothing need be.
+    /// What holds where it lets the session of this number go on at this point: nothing need.
     ghost lets: { Self → ℕ → GatePoint → Type 0 };
 
-    /// What is known where it turns the session away: nothing need be.
+    /// What holds where it turns the session away: nothing need.
     ghost turns: { Self → ℕ → GatePoint → Type 0 };
 
     /// Whether the session may go on. Where it may not, it ends with `TurnsSpent`.
-    fn pass(&self, session: u64, step: GatePoint) -> bool
-        ensures { MatchBool result (lets self.now session step) (turns self.now session step) };
+    fn pass(&self, session: u64, point: GatePoint) -> bool
+        ensures { MatchBool result (lets self.now session point) (turns self.now session point) };
 
-    /// It is told of each delta of which something was entered, behind that.
+    /// Sessions call it behind each delta of which something was entered.
     fn entered(&self, _delta: &Delta) {}
 }
 
@@ -39,12 +39,12 @@ pub trait Gate {
 pub struct Open;
 
 impl Gate for Open {
-    ghost lets = { λ gate session step. Unit {0} };
+    ghost lets = { λ gate session point. Unit {0} };
 
     // It turns nobody away.
-    ghost turns = { λ gate session step. ⊥ };
+    ghost turns = { λ gate session point. ⊥ };
 
-    fn pass(&self, _session: u64, _step: GatePoint) -> bool {
+    fn pass(&self, _session: u64, _point: GatePoint) -> bool {
         true
     }
 }

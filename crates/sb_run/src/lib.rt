@@ -1,5 +1,19 @@
-//! The running node: writes that are kept before they are shared, the control socket, workers for peers, and the threads and
-//! sockets of all that.
+//! The running node: it serves its peers and its owner over sockets, and dials its peers.
+//!
+//! `run_node` runs the node that owns a log: workers serve the peers that connect, one thread dials the peers in turn and
+//! where there is news, and the calling thread answers the owner at the control socket. Each write of the owner is in the
+//! log before the directory takes it. Who has connections of their own serves them by `serve_pool` and `serve_control`, and
+//! asks by `ask_control`.
+//!
+//! ```rust
+//! /// Runs the node `a` over a log in memory, until it has made its rounds.
+//! fn run_in_memory<R: Runtime>(rt: &R, alloc: Global, config: NodeConfig) -> Result<Ran, Fault> {
+//!     let settings = &config.settings;
+//!     let name = Name::read(b"a")?;
+//!     let log = PlainLog::new(alloc, name, settings.cluster(), settings.max_version());
+//!     run_node(rt, alloc, config, log, &Nobody)
+//! }
+//! ```
 #![tactic(auto)]
 
 mod accepting;
@@ -22,7 +36,9 @@ mod own_writes;
 mod peers;
 mod pool;
 mod rounds;
+mod runtime;
 mod seats;
+mod serving;
 mod sockets;
 mod status;
 mod tagged;
@@ -33,9 +49,11 @@ pub use asking::ask_control;
 pub use control::serve_control;
 pub use gate::{Gate, GatePoint, Open};
 pub use laws::{running_nodes_keep_truth, running_nodes_tell_truth};
-pub use node::{OnLogFault, Pace, Paths, Ran, run_node};
+pub use node::{NodeConfig, OnLogFault, Pace, Paths, Ran, run_node};
 pub use observer::{Nobody, Observer};
 pub use own_writes::{OwnWrites, Stored};
 pub use peers::{LastRound, Peer};
 pub use pool::{Pooled, Source, serve_pool};
+pub use runtime::Runtime;
+pub use serving::Serving;
 pub use status::Status;

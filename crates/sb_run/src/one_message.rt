@@ -20,7 +20,7 @@ pub(crate) fn receive_one<R: Read, K: Ledger>(
     max_reads: u64,
     steps: &mut Steps<K>,
 ) -> Result<Message, Fault>
-    ensures hears { (left : ℕ) × ReceivesOne (R.remaining reader.old) (R.remaining reader.new) max_reads left result × (steps.new + left ≡ steps.old + max_reads) }
+    ensures receives { (left : ℕ) × ReceivesOne (R.remaining reader.old) (R.remaining reader.new) max_reads left result × (steps.new + left ≡ steps.old + max_reads) }
     // It writes nothing, and no fault of it says that a write failed.
     ensures unwritten { (last : Outcome) → OnlyWhereFailed result last }
 {

@@ -1,4 +1,4 @@
-//! The owner of a node's writes: each is kept in its log before the directory is told of it.
+//! A node's own writes: its log takes each before the directory does.
 ghost use Rattle.std.specs.Prelude.{◌≡◌, ◌+◌, true, None, OnOk, IfOk, IfErr};
 ghost use Rattle.sb_codec.specs.Limits.{is_version};
 ghost use Rattle.sb_log.specs.Puts.{Puts, IsSettled};
@@ -16,7 +16,7 @@ use std::sync::Wait;
 pub enum Stored {
     /// The directory took it.
     Shared(Receipt),
-    /// The directory refused it by this fault. It is kept under this version, and is handed in before the next write.
+    /// The directory refused it by this fault. The log has it under this version, and it is handed in before the next write.
     Owed(u64, Fault),
 }
 
@@ -32,7 +32,7 @@ impl Stored {
     }
 }
 
-/// The log of a node's own writes, and the write that the directory has refused so far.
+/// The log of a node's own writes, and the write in it that the directory refused and is still owed.
 #[derive(Drop)]
 pub struct OwnWrites<L: WriteLog> {
     log: L,
@@ -44,7 +44,7 @@ pub struct OwnWrites<L: WriteLog> {
 }
 
 impl<L: WriteLog> OwnWrites<L> {
-    /// The owner of what this log keeps, which owes nothing.
+    /// The own writes of this log. Nothing is owed.
     pub fn new(log: L) -> OwnWrites<L>
         ensures log { result.log ≡ log }
         ensures owed { result.owed ≡ None }
@@ -69,7 +69,7 @@ impl<L: WriteLog> OwnWrites<L> {
         has_failed
     }
 
-    /// Keeps a write in the log, and takes down whether it did.
+    /// Puts a write into the log, and takes down whether that took it.
     fn keep(&mut self, key: &Key, slot: &Slot) -> Result<Committed, Fault>
         ensures puts { Puts (L.seen self.old.log) key.now slot.now result (L.seen self.new.log) }
         ensures settled { IsSettled (L.seen self.new.log) (L.leaves self.new.log) }
@@ -85,7 +85,7 @@ impl<L: WriteLog> OwnWrites<L> {
     }
 
     /// Hands in what is owed. `OwnerConflict` where another node writes under the own name; then the faults of
-    /// the directory for what is owed. Each leaves everything as it was, but that the seat knows what had happened.
+    /// the directory for what is owed. Each leaves everything as it was, but for the seat's last call.
     fn hand_in<S: DirectoryTag, H: Wait + Drop, Q: Wait>(
         &mut self,
         rt: &Q,
@@ -112,12 +112,13 @@ impl<L: WriteLog> OwnWrites<L> {
         Ok(())
     }
 
-    /// Keeps a write in the log, under the next version, and hands it to the directory. Where the directory refuses
-    /// it, it is owed, with that fault, and is handed in before the next write.
+    /// Puts a write into the log, under the next version, and hands it to the directory. Where the directory refuses it by a
+    /// fault, it is owed, and is handed in before the next write.
     ///
     /// `OwnerConflict` where another node writes under the own name; the faults of the directory for what is owed.
-    /// Each of these leaves everything as it was, but that the seat knows what had happened. Then, with what was owed handed in, the faults of `WriteLog::put`: with
-    /// `StoreFailed` the write stands or does not, and the log is closed; with each other one the log took nothing.
+    /// Each of these leaves everything as it was, but for the seat's last call. Then, with what was owed handed in, the
+    /// faults of `WriteLog::put`: with `StoreFailed` the write stands or does not, and the log is closed; with each other one
+    /// the log took nothing.
     pub fn put<S: DirectoryTag, H: Wait + Drop, Q: Wait>(
         &mut self,
         rt: &Q,

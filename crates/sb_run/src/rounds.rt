@@ -1,4 +1,4 @@
-//! What the dialing thread tells the calling thread at its end.
+//! What the dialing thread sends the calling thread at its end.
 ghost use Rattle.std.specs.Prelude.{◌≡◌, IfErr};
 ghost use Rattle.crossbeam_channel.specs.Claims.{IsSeatAt};
 ghost use Rattle.crossbeam_channel.specs.Ends.{sends_on, receives_on};
@@ -60,23 +60,23 @@ pub(crate) struct RoundsReceiver<S: RoundsTag> {
     ghost fits: { IsSeatAt (receives_on from) pass },
 }
 
-/// Both ends know nothing.
-struct Same;
+/// Neither end knows anything.
+struct NothingKnown;
 
-impl Split<()> for Same {
+impl Split<()> for NothingKnown {
     ghost left = { λ v. v };
 
     ghost right = { λ v. v };
 }
 
 /// A channel for one message. `NoMemory`.
-pub(crate) fn ends<S: RoundsTag>(
+pub(crate) fn rounds_channel<S: RoundsTag>(
     alloc: Global,
 ) -> Result<(RoundsSender<S>, RoundsReceiver<S>), Fault>
     ensures { IfErr result (λ fault. fault ≡ Fault.NoMemory) }
 {
     let (to, from, mut pass) = bounded_with::<Rounds<S>, (), Free, Global>(alloc, 1)?;
-    let other = to.another::<Same>(&mut pass);
+    let other = to.another::<NothingKnown>(&mut pass);
     Ok((
         RoundsSender { to, pass },
         RoundsReceiver { from, pass: other },
@@ -84,16 +84,16 @@ pub(crate) fn ends<S: RoundsTag>(
 }
 
 impl<S: RoundsTag> RoundsSender<S> {
-    /// Tells of the rounds, at the end.
-    pub(crate) fn tell<R: Wait>(self, rt: &R, rounds: Rounds<S>) {
+    /// Sends the rounds, at the end.
+    pub(crate) fn send<R: Wait>(self, rt: &R, rounds: Rounds<S>) {
         let RoundsSender { to, mut pass } = self;
         let _ = to.send_as::<Free, R>(rt, &mut pass, rounds);
     }
 }
 
 impl<S: RoundsTag> RoundsReceiver<S> {
-    /// Waits until the rounds are told of. `NoMemory` where the other end is gone before.
-    pub(crate) fn receive_one<R: Wait>(self, rt: &R) -> Result<Rounds<S>, Fault>
+    /// Waits until the rounds are sent. `NoMemory` where the other end is gone before.
+    pub(crate) fn receive<R: Wait>(self, rt: &R) -> Result<Rounds<S>, Fault>
         ensures { IfErr result (λ fault. fault ≡ Fault.NoMemory) }
     {
         let RoundsReceiver { from, mut pass } = self;

@@ -4,7 +4,7 @@ ghost use Rattle.std.specs.Prelude.{◌≡◌, ◌+◌, ◌≤◌, length, vec_l
 use sb_directory::{DirectoryTag, ReaderSeat};
 use sb_types::Fault;
 
-/// Who sits where: a seat for each worker, one for the thread that dials, and one for the calling thread.
+/// The seats of a node's threads: one for each worker, one for the thread that dials, and one for the calling thread.
 #[derive(Drop)]
 pub(crate) struct ThreadSeats<S: DirectoryTag> {
     pub(crate) workers: Vec<ReaderSeat<S>>,
@@ -12,8 +12,8 @@ pub(crate) struct ThreadSeats<S: DirectoryTag> {
     pub(crate) control: ReaderSeat<S>,
 }
 
-/// Parts the seats for so many workers; gives those to spare too, with room for all. `NoMemory`.
-pub(crate) fn part<S: DirectoryTag>(
+/// Gives so many workers, and both other threads, a seat each; gives those to spare too, with room for all. `NoMemory`.
+pub(crate) fn part_seats<S: DirectoryTag>(
     seats: Vec<ReaderSeat<S>>,
     workers: usize,
 ) -> Result<(ThreadSeats<S>, Vec<ReaderSeat<S>>), Fault>
@@ -40,8 +40,8 @@ pub(crate) fn part<S: DirectoryTag>(
     Ok((thread_seats, spare))
 }
 
-/// All seats again, those to spare first.
-pub(crate) fn gather<S: DirectoryTag>(
+/// All seats, those to spare first.
+pub(crate) fn gather_seats<S: DirectoryTag>(
     thread_seats: ThreadSeats<S>,
     spare: Vec<ReaderSeat<S>>,
 ) -> Vec<ReaderSeat<S>>

@@ -29,6 +29,7 @@ pub(crate) struct BoundSockets<'a> {
     pub(crate) control: BoundSocket<'a>,
 }
 
+/// The socket of a listener once more.
 fn latch_of(listener: &UnixListener) -> io::Result<UnixStream> {
     Ok(UnixStream::from(OwnedFd::from(listener.try_clone()?)))
 }

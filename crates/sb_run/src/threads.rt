@@ -11,11 +11,12 @@ use crate::observer::Observer;
 use crate::own_writes::OwnWrites;
 use crate::pool::{Pooled, serve_pool};
 use crate::rounds::{Rounds, RoundsReceiver, RoundsSender, RoundsTag};
+use crate::runtime::Runtime;
 use crate::seats::ThreadSeats;
 use sb_directory::{DirectoryTag, ReaderSeat};
 use sb_log::WriteLog;
 use sb_types::Fault;
-use std::net::{Net, TcpListener, TcpStream};
+use std::net::Net;
 use std::sync::Wait;
 use std::thread;
 use std::thread::{Promise, Threads};
@@ -56,22 +57,14 @@ fn serve_sock<
         node.pace.idle,
         Some(node.counts),
     );
-    let pooled = serve_pool(
-        node.rt,
-        node.alloc,
-        node.directory,
-        seats,
-        &source,
-        node.bell,
-        node.pace.max_reads,
-    );
-    match pooled {
+    let serving = node.serving();
+    match serve_pool(&serving, seats, &source, node.bell) {
         Ok(pooled) => pooled,
         Err(_) => unreachable!(),
     }
 }
 
-/// Makes all rounds, tells of them, and ends the node; or leaves where the node ended before.
+/// Makes all rounds, sends how many to the calling thread, and ends the node; or leaves where the node ended before.
 fn dial_to_the_end<S: RoundsTag, H: Wait + Drop, Q: Wait + Net + Clock, O: Observer>(
     node: &NodeContext<S, H, Q>,
     dialer: Dialer<'_, O>,
@@ -80,20 +73,20 @@ fn dial_to_the_end<S: RoundsTag, H: Wait + Drop, Q: Wait + Net + Clock, O: Obser
 ) -> ReaderSeat<S> {
     let (seat, rounds) = dialer.dial_all(node, seat);
     if let Some(rounds) = rounds {
-        rounds_sender.tell(node.rt, rounds);
+        rounds_sender.send(node.rt, rounds);
         node.end();
     }
     seat
 }
 
 /// Runs the threads of a node to their end: its workers, the one that dials, and the calling one at the control socket.
-/// `NoMemory` where the thread of the pool, or the one that dials, can't be made; `StoreFailed` where the log failed and the node
-/// is to exit then.
+/// `NoMemory` where the thread of the pool, or the one that dials, can't be made; `StoreFailed` where the log failed and the
+/// node is to exit then.
 pub(crate) fn run_threads<
     S: RoundsTag + Send + Sync,
     L: WriteLog + Drop,
     H: Wait + Drop + Send + Sync,
-    Q: Threads + Wait + Clock + Net<Listener = TcpListener, Stream = TcpStream> + Send + Sync,
+    Q: Runtime,
     O: Observer + Sync,
 >(
     node: &NodeContext<S, H, Q>,
@@ -124,33 +117,33 @@ pub(crate) fn run_threads<
             ensures thread_seats { IfOk result (λ finished. vec_len finished.thread_seats.workers ≡ count) }
             ensures fault { IfErr result (IsEndFault node.entry.now.pace.on_log_fault) }
         {
-            let Ok(pool) = scope.spawn_with(AsMany(count), move || serve_sock(node, workers)) else {
+            let Ok(pool_thread) = scope.spawn_with(AsMany(count), move || serve_sock(node, workers))
+            else {
                 return Err(Fault::NoMemory);
             };
-            let Ok(line) = scope.spawn(move || dial_to_the_end(
+            let Ok(dialing_thread) = scope.spawn(move || dial_to_the_end(
                 node,
                 dialer,
                 dialing,
                 rounds_sender,
             )) else {
                 node.end();
-                pool.join(node.rt);
+                pool_thread.join(node.rt);
                 return Err(Fault::NoMemory);
             };
             let at_control = serve_control_socket(node, writes, control, observer);
-            let rounds = rounds_receiver.receive_one(node.rt);
-            let dialing = line.join(node.rt);
-            let pooled = pool.join(node.rt);
+            let rounds = rounds_receiver.receive(node.rt);
+            let (dialing, pooled) = (dialing_thread.join(node.rt), pool_thread.join(node.rt));
             if at_control.has_left {
                 return Err(Fault::StoreFailed);
             }
-            Ok(finish(pooled, dialing, at_control, rounds?))
+            Ok(threads_end(pooled, dialing, at_control, rounds?))
         },
     )
 }
 
-/// What is left, put together.
-fn finish<S: RoundsTag>(
+/// Puts together what the threads left.
+fn threads_end<S: RoundsTag>(
     pooled: Pooled<S>,
     dialing: ReaderSeat<S>,
     at_control: ControlEnd<S>,

@@ -7,7 +7,7 @@ use sb_directory::{Directory, DirectoryTag, EnteredSeat, ReaderSeat};
 use sb_frames::Steps;
 use sb_log::PlainLog;
 use sb_node::NodeCore;
-use sb_run::{OwnWrites, Stored, serve_control};
+use sb_run::{OwnWrites, Serving, Stored, serve_control};
 use sb_types::{Delta, Fault};
 use sb_views::NewHistory;
 use std::alloc::Global;
@@ -108,15 +108,18 @@ impl<S: DirectoryTag, H: Wait + Drop> Desk<S, H> {
         max_reads: u64,
     ) -> Result<(), Fault> {
         let seat = there(rt, self.seat.take());
-        let (seat, ended) = serve_from::<S, H, Q, R, W, Brand>(
+        let serving = Serving {
             rt,
             alloc,
-            &self.directory,
+            directory: &self.directory,
+            max_reads,
+        };
+        let (seat, ended) = serve_from::<S, H, Q, R, W, Brand>(
+            &serving,
             &mut self.owner,
             seat,
             reader,
             writer,
-            max_reads,
             Blank::new(1),
         );
         self.seat = Some(seat);
@@ -147,14 +150,11 @@ fn serve_from<
     W: io::Write,
     K: Ledger,
 >(
-    rt: &Q,
-    alloc: Global,
-    directory: &Directory<S, H>,
+    serving: &Serving<S, H, Q>,
     owner: &mut OwnWrites<PlainLog>,
     seat: ReaderSeat<S>,
     reader: &mut R,
     writer: &mut W,
-    max_reads: u64,
     blank: Blank,
 ) -> (ReaderSeat<S>, Result<(), Fault>)
     requires name { blank.name ≡ K.name }
@@ -162,8 +162,6 @@ fn serve_from<
     requires some { 0 < blank.parts }
 {
     let mut steps = Steps::<K>::new(blank);
-    let (seat, ended, _) = serve_control(
-        rt, alloc, reader, writer, directory, owner, seat, max_reads, &mut steps,
-    );
+    let (seat, ended, _) = serve_control(serving, reader, writer, owner, seat, &mut steps);
     (seat, ended)
 }

@@ -7,6 +7,8 @@ mod asking;
 #[cfg(test)]
 mod desk;
 #[cfg(test)]
+mod examples;
+#[cfg(test)]
 mod failing;
 #[cfg(test)]
 mod making;

@@ -3,20 +3,18 @@
 use crate::making::{name, new_log, settings};
 use crate::peers::{hears_only, next_of, node_with, put_is_done, reach, talk};
 use crate::{got, holds, same};
-use sb_run::{Nobody, Observer, OnLogFault, Pace, Paths, Ran, run_node};
+use sb_run::{Nobody, NodeConfig, Observer, OnLogFault, Pace, Paths, Ran, Runtime, run_node};
 use sb_session::Ended;
 use sb_types::Fault;
 use std::alloc::Global;
 use std::fs::File;
 use std::io::{Read, Write};
-use std::net::{Net, Shutdown, TcpListener, TcpStream};
+use std::net::{Net, Shutdown};
 use std::os::unix::net::{UnixListener, UnixStream};
 use std::process::Abort;
 use std::rt::Files;
 use std::sync::atomic::{AtomicBool, Ordering};
 use std::sync::{Mutex, Wait};
-use std::thread::Threads;
-use std::time::Clock;
 use std::{fs, io, thread};
 
 /// The length of the Hello that a says.
@@ -70,30 +68,8 @@ fn are_there(files: &impl Files, paths: &Paths) -> [bool; 2] {
     [is_there(files, paths.sock), is_there(files, paths.control)]
 }
 
-/// What runs a node, and may end the test.
-pub(crate) trait Host: Threads
-    + Wait
-    + Clock
-    + Files
-    + Net<Listener = TcpListener, Stream = TcpStream>
-    + Abort
-    + Send
-    + Sync {}
-
-impl<R> Host for R
-where
-    R: Threads
-        + Wait
-        + Clock
-        + Files
-        + Net<Listener = TcpListener, Stream = TcpStream>
-        + Abort
-        + Send
-        + Sync,
-{}
-
 /// Runs the node a with a new log.
-pub(crate) fn run_a<R: Host>(
+pub(crate) fn run_a<R: Runtime + Abort>(
     rt: &R,
     alloc: Global,
     paths: &Paths,
@@ -103,7 +79,7 @@ pub(crate) fn run_a<R: Host>(
 }
 
 /// The same, with this observer.
-pub(crate) fn run_observed<R: Host, O: Observer + Sync>(
+pub(crate) fn run_observed<R: Runtime + Abort, O: Observer + Sync>(
     rt: &R,
     alloc: Global,
     paths: &Paths,
@@ -111,7 +87,12 @@ pub(crate) fn run_observed<R: Host, O: Observer + Sync>(
     observer: &O,
 ) -> Result<Ran, Fault> {
     let log = new_log(rt, alloc, b"a");
-    run_node(rt, alloc, settings(rt, 3), log, paths, pace, observer)
+    let config = NodeConfig {
+        settings: settings(rt, 3),
+        paths: *paths,
+        pace,
+    };
+    run_node(rt, alloc, config, log, observer)
 }
 
 /// Looks whether the sockets are there once the node listens.
@@ -160,7 +141,7 @@ fn is_kept(rt: &(impl Files + Abort), alloc: Global) -> bool {
 }
 
 /// A node is refused where there is a file at one of its paths: it is left as it was, and there is none at the other.
-fn leaves_taken<R: Host>(rt: &R, alloc: Global, sock: &str, control: &str, free: &str) {
+fn leaves_taken<R: Runtime + Abort>(rt: &R, alloc: Global, sock: &str, control: &str, free: &str) {
     let paths = paths_of(sock, control, &[]);
     got(rt, fs::write(rt, "taken", "kept"));
     let ran = run_a(rt, alloc, &paths, pace(1, 0));
@@ -176,7 +157,7 @@ fn a_path_that_is_taken_is_left(rt: HostRuntime) {
 }
 
 /// A node is refused where one of its paths is empty, and there is no file at the other.
-fn refuses_empty<R: Host>(rt: &R, alloc: Global, sock: &str, control: &str, other: &str) {
+fn refuses_empty<R: Runtime + Abort>(rt: &R, alloc: Global, sock: &str, control: &str, other: &str) {
     let paths = paths_of(sock, control, &[]);
     let ran = run_a(rt, alloc, &paths, pace(1, 0));
     let met = (ran, is_there(rt, other));
@@ -190,7 +171,7 @@ fn an_empty_path_is_refused(rt: HostRuntime) {
 }
 
 /// What the node did. Where it did not dial so often, connections stand for it, so that the player does not wait for them.
-fn run_and_reach<R: Host>(
+fn run_and_reach<R: Runtime + Abort>(
     rt: &R,
     alloc: Global,
     paths: &Paths,

@@ -1,5 +1,5 @@
 use Rattle.sb_run.specs.Together.{history_of}
-use Rattle.sb_run.proofs.Together.{gives_truth, together_true, given_true, story_begins}
+use Rattle.sb_run.proofs.Together.{gives_truth, together_true, given_true, history_begins}
 use Rattle.sb_run.proofs.laws.running_nodes_tell_truth.Goals as goal
 
 pub returns-clause-given : goal.returns-clause-given
@@ -33,4 +33,4 @@ returns-clause-later c = λ writes opening settings earlier all run opened turns
     let law = gives_truth c.running_nodes_keep_truth.ensures.honest c.nodes_hold.ensures.is c.answers_are_honest.ensures.is in
     let true_each = together_true law writes opening settings all opened turns run in
     c.running_nodes_keep_truth.ensures.later (opening run) (history_of run earlier) (history_of run all) (opened run).0
-    (λ event s. (true_each event s).0) (story_begins run earlier all begins)
+    (λ event s. (true_each event s).0) (history_begins run earlier all begins)

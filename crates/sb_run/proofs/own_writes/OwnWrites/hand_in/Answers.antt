@@ -2,7 +2,7 @@ use Rattle.std.proofs.Common.{◌≡◌, None, sym}
 use Rattle.sb_views.specs.Histories.{node_after}
 use Rattle.sb_views.proofs.Prefixes.{prefix_self}
 use Rattle.sb_directory.specs.Handling.{later-on, later-same}
-use Rattle.sb_run.proofs.Handing.{handed_from, event_knows, event_later, known_later}
+use Rattle.sb_run.proofs.Handing.{handed_from, event_called, event_later, known_later}
 use Rattle.sb_run.proofs.own_writes.OwnWrites.hand_in.Goals.{in-Some-owed+in_ok-take_own, in_default-owed}
 use Rattle.sb_run.proofs.own_writes.OwnWrites.hand_in.Goals as goal
 
@@ -12,7 +12,7 @@ returns-clause-free g c =
     let none : (node_after g.S.NodeTag.opening asked.last_call).conflict ≡ None = sym c.in_default.ensures.answer in
     elim c.match-self.branch [
       | in-Some-owed+in_ok-take_own w ↦
-          rw w.seat-is (asked.last_call, c.in_default.ensures.begins, event_knows _ _ asked w.take_own.new.seat w.in_ok-take_own.ensures.entered, none)
+          rw w.seat-is (asked.last_call, c.in_default.ensures.begins, event_called _ _ asked w.take_own.new.seat w.in_ok-take_own.ensures.entered, none)
       | in_default-owed w ↦ rw w.seat-is (asked.last_call, c.in_default.ensures.begins, prefix_self asked.last_call, none)
     ]
 
