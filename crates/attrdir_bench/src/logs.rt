@@ -31,28 +31,6 @@ fn put_in_memory(rt: &HostRuntime, puts: u64) -> Result<Measured, Problem> {
     Ok(Measured::new(spent_since(rt, start)?, puts))
 }
 
-/// What is measured of a log in a file, whatever store the database is over.
-trait Visit {
-    fn visit<S: Alter + Drop>(
-        self,
-        rt: &HostRuntime,
-        conn: Connection<S>,
-    ) -> Result<Measured, Problem>;
-}
-
-/// What is measured of the database in the file, which is made where it is not there. It is the one place that names the store:
-/// each function that does is dear to prove.
-fn visit_file<V: Visit + Drop>(
-    rt: &HostRuntime,
-    path: &str,
-    visitor: V,
-) -> Result<Measured, Problem> {
-    match Connection::open(rt, path) {
-        Ok(conn) => visitor.visit(rt, conn),
-        Err(_) => Err(Problem::Fault(Fault::StoreFailed)),
-    }
-}
-
 fn log_in<S: Alter + Drop>(rt: &HostRuntime, conn: Connection<S>) -> Result<SqlLog<S>, Fault> {
     match SqlLog::open(rt.alloc(), conn, me()?, cluster()?, VERSION_MOST) {
         Ok(log) => Ok(log),
@@ -61,23 +39,57 @@ fn log_in<S: Alter + Drop>(rt: &HostRuntime, conn: Connection<S>) -> Result<SqlL
 }
 
 /// Writes into a log, by the write: the time that passed, for each waits until the disk has it.
-#[derive(Clone, Copy)]
-struct Writing {
+fn put_in<S: Alter + Drop>(
+    rt: &HostRuntime,
+    conn: Connection<S>,
     puts: u64,
+) -> Result<Measured, Problem> {
+    let mut log = log_in(rt, conn)?;
+    let start = Instant::now(rt)?;
+    put_all(rt, &mut log, puts)?;
+    let spent = start.elapsed(rt)?;
+    log.close()?;
+    Ok(Measured::new(spent, puts))
 }
 
-impl Visit for Writing {
-    fn visit<S: Alter + Drop>(
-        self,
-        rt: &HostRuntime,
-        conn: Connection<S>,
-    ) -> Result<Measured, Problem> {
-        let mut log = log_in(rt, conn)?;
-        let start = Instant::now(rt)?;
-        put_all(rt, &mut log, self.puts)?;
-        let spent = start.elapsed(rt)?;
-        log.close()?;
-        Ok(Measured::new(spent, self.puts))
+/// The opening of a log, begun at `start`, by the key that it has: the time of the processor.
+fn open_in<S: Alter + Drop>(
+    rt: &HostRuntime,
+    conn: Connection<S>,
+    start: Duration,
+) -> Result<Measured, Problem> {
+    let mut log = log_in(rt, conn)?;
+    let spent = spent_since(rt, start)?;
+    let keys = log.load(rt.alloc())?.len() as u64;
+    log.close()?;
+    Ok(Measured::new(spent, keys))
+}
+
+/// What is measured of a log in a file: so many writes, or its opening, begun at this time.
+#[derive(Clone, Copy)]
+enum LogCall {
+    Put(u64),
+    Open(Duration),
+}
+
+/// Measures a log in a database, whatever store this is over.
+fn measure_in<S: Alter + Drop>(
+    rt: &HostRuntime,
+    conn: Connection<S>,
+    call: LogCall,
+) -> Result<Measured, Problem> {
+    match call {
+        LogCall::Put(puts) => put_in(rt, conn, puts),
+        LogCall::Open(start) => open_in(rt, conn, start),
+    }
+}
+
+/// Measures a log in the database in the file, which is made where it is not there. It is the one place that names the store: each
+/// function that does is dear to prove.
+fn measure_at(rt: &HostRuntime, path: &str, call: LogCall) -> Result<Measured, Problem> {
+    match Connection::open(rt, path) {
+        Ok(conn) => measure_in(rt, conn, call),
+        Err(_) => Err(Problem::Fault(Fault::StoreFailed)),
     }
 }
 
@@ -92,35 +104,15 @@ fn write_pages(rt: &HostRuntime, path: &str, pages: u64) -> Result<Measured, Pro
     Ok(Measured::new(start.elapsed(rt)?, pages))
 }
 
-/// The opening of a log, begun at `start`, by the key that it has: the time of the processor.
-#[derive(Clone, Copy)]
-struct Opening {
-    start: Duration,
-}
-
-impl Visit for Opening {
-    fn visit<S: Alter + Drop>(
-        self,
-        rt: &HostRuntime,
-        conn: Connection<S>,
-    ) -> Result<Measured, Problem> {
-        let mut log = log_in(rt, conn)?;
-        let spent = spent_since(rt, self.start)?;
-        let keys = log.load(rt.alloc())?.len() as u64;
-        log.close()?;
-        Ok(Measured::new(spent, keys))
-    }
-}
-
 /// Measures a log in a new file at the path, beside bare writes to another, which both stay.
 fn measure_file(rt: &HostRuntime, telling: Telling, path: &str, puts: u64) -> Result<(), Problem> {
     let bare = format!(in rt.alloc(); "{path}.bare")?;
     let written = write_pages(rt, bare.as_str(), puts);
     tell(rt, telling, written, "bare", "write")?;
-    let put = visit_file(rt, path, Writing { puts });
+    let put = measure_at(rt, path, LogCall::Put(puts));
     tell(rt, telling, put, "put-file", "write")?;
     let start = rt.thread_cpu_time()?;
-    let opened = visit_file(rt, path, Opening { start });
+    let opened = measure_at(rt, path, LogCall::Open(start));
     tell(rt, telling, opened, "open", "key")
 }
 
