@@ -157,7 +157,13 @@ fn a_path_that_is_taken_is_left(rt: HostRuntime) {
 }
 
 /// A node is refused where one of its paths is empty, and there is no file at the other.
-fn refuses_empty<R: Runtime + Abort>(rt: &R, alloc: Global, sock: &str, control: &str, other: &str) {
+fn refuses_empty<R: Runtime + Abort>(
+    rt: &R,
+    alloc: Global,
+    sock: &str,
+    control: &str,
+    other: &str,
+) {
     let paths = paths_of(sock, control, &[]);
     let ran = run_a(rt, alloc, &paths, pace(1, 0));
     let met = (ran, is_there(rt, other));

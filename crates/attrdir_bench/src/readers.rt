@@ -1,26 +1,27 @@
-//! A directory, measured.
+//! Readers of a directory beside a writer, measured, and how soon a write is shown.
 ghost use Rattle.std.specs.Prelude.{◌≡◌};
 
+use crate::plan::{Plan, Telling};
 use crate::problem::Problem;
-use crate::reading::{Read, go_through, look_up};
-use crate::report::{Beside, Figures, Measured};
-use crate::sample::{Asked, questions};
-use crate::sizes::Sizes;
+use crate::reading::{Asked, Read, go_through, look_up, questions};
+use crate::report::{Measured, tell};
+use crate::sample::{Kinds, ME, block_of, hear, new_node};
 use crate::writing::Writer;
 use sb_directory::{DirectoryTag, Directory, ReaderSeat};
 use sb_node::NodeCore;
 use sb_types::Fault;
 use sb_views::{NewHistory, NodeTag};
 use std::alloc::{AllocError, Global};
+use std::marker::Brand;
 use std::sync::Wait;
 use std::sync::atomic::{AtomicBool, Ordering};
 use std::sync::ledger::Blank;
 use std::thread;
 use std::thread::Threads;
-use std::time::{Clock, CpuClock, Duration, Instant};
+use std::time::{Clock, CpuClock, Instant};
 
 /// How many seats there are: three readers' and the writer's.
-pub(crate) const SEATS: usize = 4;
+const SEATS: usize = 4;
 
 /// The most readers that read at once.
 const READERS_MOST: usize = 3;
@@ -30,6 +31,49 @@ const READERS_MOST: usize = 3;
 struct Task<'a> {
     asked: &'a [Asked],
     rounds: u64,
+}
+
+/// What readers did beside a writer: the reads by the time that passed, the same by the time that each of their threads
+/// ran, and the writes meanwhile.
+#[derive(Clone, Copy, Debug)]
+struct Beside {
+    readers: u64,
+    passed: Measured,
+    ran: Measured,
+    writes: u64,
+}
+
+/// All that is measured.
+#[derive(Drop)]
+struct Figures {
+    shown: Measured,
+    listed: Measured,
+    beside: Vec<Beside>,
+}
+
+fn print_beside<R: Print>(rt: &R, telling: Telling, beside: Beside) -> Result<(), Problem> {
+    let readers = beside.readers;
+    match telling {
+        Telling::Times => {
+            println!(rt; "read-{readers} {} read/s", beside.passed.rate())?;
+            println!(rt; "read-{readers} {} ns/read", beside.ran.nanos())?;
+            println!(rt; "write-{readers} {} write", beside.writes)?;
+        }
+        Telling::Counts => println!(rt; "read-{readers} {} read", beside.passed.units())?,
+    }
+    Ok(())
+}
+
+impl Figures {
+    /// Prints a line for each figure: a name, a value and a unit.
+    fn print<R: Print>(&self, rt: &R, telling: Telling) -> Result<(), Problem> {
+        tell(rt, telling, Ok(self.shown), "shown", "write")?;
+        tell(rt, telling, Ok(self.listed), "prefix", "row")?;
+        for beside in &self.beside {
+            print_beside(rt, telling, *beside)?;
+        }
+        Ok(())
+    }
 }
 
 /// What is left after a measuring: the writer, the seats, and what was measured.
@@ -72,14 +116,10 @@ fn add_up<S: NodeTag>(
     read: Vec<Result<Read<S>, Problem>>,
     seats: &mut Vec<ReaderSeat<S>>,
 ) -> Result<Measured, Problem> {
-    let mut all = Measured {
-        spent: Duration::ZERO,
-        units: 0,
-    };
+    let mut all = Measured::NOTHING;
     for one in read {
         let Read { seat, found } = one?;
-        all.spent = all.spent.saturating_add(found.spent);
-        all.units = all.units.saturating_add(found.units);
+        all.add(found);
         seats.push(seat)?;
     }
     Ok(all)
@@ -129,13 +169,9 @@ fn measure_beside<S: DirectoryTag + Send + Sync, R: Threads + Wait + Clock + Cpu
     let mut seats = Vec::new(alloc);
     let ran = add_up(read?, &mut seats)?;
     let writes = writer.written().saturating_sub(before);
-    let passed = Measured {
-        spent,
-        units: ran.units,
-    };
     let beside = Beside {
         readers,
-        passed,
+        passed: Measured::new(spent, ran.units()),
         ran,
         writes,
     };
@@ -175,19 +211,19 @@ fn measure_from<S: DirectoryTag + Send + Sync, R: Threads + Wait + Clock + CpuCl
     alloc: Global,
     directory: &Directory<S, &R>,
     seats: Vec<ReaderSeat<S>>,
-    sizes: Sizes,
+    plan: Plan,
 ) -> Result<Figures, Problem> {
     let mut seats = seats;
-    let asked = questions(alloc, sizes)?;
+    let asked = questions(alloc, plan)?;
     let seat = seats.pop().ok_or(Fault::BadSetting)?;
     let mut writer = Writer::new(alloc, seat)?;
-    let shown = writer.time_writes(rt, directory, sizes.writes)?;
+    let shown = writer.time_writes(rt, directory, plan.writes())?;
     let seat = seats.pop().ok_or(Fault::BadSetting)?;
     let Read { seat, found } = go_through(rt, seat, &asked)?;
     seats.push(seat)?;
     let task = Task {
         asked: &asked,
-        rounds: sizes.rounds,
+        rounds: plan.rounds,
     };
     Ok(Figures {
         shown,
@@ -197,24 +233,45 @@ fn measure_from<S: DirectoryTag + Send + Sync, R: Threads + Wait + Clock + CpuCl
 }
 
 /// Makes a directory of this node, and measures it.
-pub(crate) fn measure<
-    S: DirectoryTag + Send + Sync,
-    R: Threads + Wait + Clock + CpuClock + Sync + Send,
->(
+fn measure_node<S: DirectoryTag + Send + Sync, R: Threads + Wait + Clock + CpuClock + Sync + Send>(
     rt: &R,
     alloc: Global,
-    opened: NewHistory,
+    new_history: NewHistory,
     blank: Blank,
-    core: NodeCore,
-    sizes: Sizes,
+    node: NodeCore,
+    plan: Plan,
 ) -> Result<Figures, Problem>
-    requires story { opened.seen.book ≡ S.history }
-    requires opening { S.opening ≡ core.node }
-    requires settings { S.settings ≡ core.settings }
+    requires history { new_history.seen.book ≡ S.history }
+    requires opening { S.opening ≡ node.node }
+    requires settings { S.settings ≡ node.settings }
     requires name { blank.name ≡ S.name }
     requires parts { blank.parts ≡ S.parts }
     requires all { (SEATS ≡ S.seats) × (SEATS ≡ S.parts) }
 {
-    let (directory, seats) = Directory::<S, &R>::make(rt, alloc, opened, blank, core, SEATS)?;
-    measure_from(rt, alloc, &directory, seats, sizes)
+    let (directory, seats) = Directory::<S, &R>::make(rt, alloc, new_history, blank, node, SEATS)?;
+    measure_from(rt, alloc, &directory, seats, plan)
+}
+
+/// A node that heard a block of each owner, and wrote nothing.
+fn full_node(alloc: Global, plan: Plan) -> Result<NodeCore, Fault> {
+    let mut node = new_node(alloc, ME)?;
+    for owner in 0..plan.owners {
+        hear(
+            alloc,
+            &mut node,
+            &block_of(alloc, owner, plan.keys, Kinds::Mixed)?,
+        )?;
+    }
+    Ok(node)
+}
+
+/// Measures a directory, and prints a line for each figure.
+pub(crate) fn measure<
+    R: Threads + Wait + Clock + CpuClock + Print + Alloc<A = Global> + Sync + Send,
+>(rt: &R, plan: Plan) -> Result<(), Problem> {
+    let alloc = rt.alloc();
+    let node = full_node(alloc, plan)?;
+    let blank = Blank::new(SEATS as u64);
+    let figures = measure_node::<Brand, R>(rt, alloc, NewHistory::new(), blank, node, plan)?;
+    figures.print(rt, plan.telling)
 }

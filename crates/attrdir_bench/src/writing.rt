@@ -1,10 +1,10 @@
 //! What the writer does.
 use crate::problem::Problem;
-use crate::report::Measured;
-use crate::sample::{commit, log};
+use crate::report::{Measured, spent_since};
+use crate::sample::{Kinds, key_at, new_log, value_at};
 use sb_directory::{DirectoryTag, Directory, ReaderSeat};
-use sb_log::{Committed, PlainLog};
-use sb_types::Fault;
+use sb_log::{Committed, PlainLog, WriteLog};
+use sb_types::{Fault, Slot};
 use sb_views::NodeTag;
 use std::alloc::Global;
 use std::sync::Wait;
@@ -17,6 +17,9 @@ const PAUSE: u64 = 1;
 
 /// The most writes beside readers.
 const WRITES_MOST: u64 = 1_000_000;
+
+/// How many keys the writes go to in turn.
+const OWN_KEYS: u64 = 99;
 
 /// A seat and the log whose writes are entered from it.
 #[derive(Drop)]
@@ -31,7 +34,7 @@ impl<S: DirectoryTag> Writer<S> {
     pub(crate) fn new(alloc: Global, seat: ReaderSeat<S>) -> Result<Writer<S>, Fault> {
         Ok(Writer {
             seat,
-            log: log(alloc)?,
+            log: new_log(alloc)?,
             written: 0,
             alloc,
         })
@@ -43,7 +46,9 @@ impl<S: DirectoryTag> Writer<S> {
     }
 
     fn commit(&mut self) -> Result<Committed, Fault> {
-        let committed = commit(self.alloc, &mut self.log, self.written)?;
+        let key = key_at(self.alloc, self.written % OWN_KEYS)?;
+        let slot = Slot::Set(value_at(self.alloc, Kinds::Mixed, self.written)?);
+        let committed = self.log.put(&key, &slot)?;
         self.written = self.written.saturating_add(1);
         Ok(committed)
     }
@@ -66,17 +71,12 @@ impl<S: DirectoryTag> Writer<S> {
         directory: &Directory<S, R>,
         writes: u64,
     ) -> Result<Measured, Problem> {
-        let mut shown = Measured {
-            spent: Duration::ZERO,
-            units: 0,
-        };
+        let mut shown = Measured::NOTHING;
         for _ in 0..writes {
             let committed = self.commit()?;
             let start = rt.thread_cpu_time()?;
             let receipt = directory.take_own(rt, &mut self.seat, &committed)?;
-            let spent = rt.thread_cpu_time()?.saturating_sub(start);
-            shown.spent = shown.spent.saturating_add(spent);
-            shown.units = shown.units.saturating_add(u64::from(receipt.shown));
+            shown.add(Measured::new(spent_since(rt, start)?, u64::from(receipt.shown)));
         }
         Ok(shown)
     }

@@ -1,10 +1,41 @@
 //! What a reader does.
+use crate::plan::Plan;
 use crate::problem::Problem;
-use crate::report::Measured;
-use crate::sample::Asked;
+use crate::report::{Measured, spent_since};
+use crate::sample::{KEYS_OF_PREFIX, key_at, owner_at};
 use sb_directory::ReaderSeat;
+use sb_types::{Fault, Key, Name, Prefix};
 use sb_views::{LiveRows, NodeTag};
+use std::alloc::Global;
 use std::time::CpuClock;
+
+/// A row that a reader asks for, and the prefix of the rows beside it.
+#[derive(Clone, Copy)]
+pub(crate) struct Asked {
+    owner: Name,
+    key: Key,
+    prefix: Prefix,
+}
+
+fn prefix_at(alloc: Global, index: u64) -> Result<Prefix, Fault> {
+    let group = index / KEYS_OF_PREFIX;
+    Prefix::read(format!(in alloc; "grp-{group:03}/")?.as_bytes())
+}
+
+/// What readers ask for, in a scattered order.
+pub(crate) fn questions(alloc: Global, plan: Plan) -> Result<Vec<Asked>, Fault> {
+    let mut questions = Vec::new(alloc);
+    for index in 0..plan.questions() {
+        let owner = index.wrapping_mul(7_919) % plan.owners.max(1);
+        let key = index.wrapping_mul(104_729) % plan.keys.max(1);
+        questions.push(Asked {
+            owner: owner_at(alloc, owner)?,
+            key: key_at(alloc, key)?,
+            prefix: prefix_at(alloc, key)?,
+        })?;
+    }
+    Ok(questions)
+}
 
 /// A reader that has read: its seat, and how many it found in the time that its thread ran.
 #[derive(Drop)]
@@ -78,12 +109,9 @@ pub(crate) fn look_up<S: NodeTag, R: CpuClock>(
     rounds: u64,
 ) -> Result<Read<S>, Problem> {
     let start = rt.thread_cpu_time()?;
-    let (seat, units) = get_all(seat, asked, rounds);
-    let spent = rt.thread_cpu_time()?.saturating_sub(start);
-    Ok(Read {
-        seat,
-        found: Measured { spent, units },
-    })
+    let (seat, found) = get_all(seat, asked, rounds);
+    let found = Measured::new(spent_since(rt, start)?, found);
+    Ok(Read { seat, found })
 }
 
 /// Goes through the rows of each of these prefixes once.
@@ -93,10 +121,7 @@ pub(crate) fn go_through<S: NodeTag, R: CpuClock>(
     asked: &[Asked],
 ) -> Result<Read<S>, Problem> {
     let start = rt.thread_cpu_time()?;
-    let (seat, units) = list_all(seat, asked);
-    let spent = rt.thread_cpu_time()?.saturating_sub(start);
-    Ok(Read {
-        seat,
-        found: Measured { spent, units },
-    })
+    let (seat, rows) = list_all(seat, asked);
+    let found = Measured::new(spent_since(rt, start)?, rows);
+    Ok(Read { seat, found })
 }
