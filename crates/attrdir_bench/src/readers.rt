@@ -7,7 +7,7 @@ use crate::reading::{Asked, Read, go_through, look_up, questions};
 use crate::report::{Measured, tell};
 use crate::sample::{Kinds, ME, block_of, hear, new_node};
 use crate::writing::Writer;
-use sb_directory::{DirectoryTag, Directory, ReaderSeat};
+use sb_directory::{Directory, DirectoryTag, ReaderSeat};
 use sb_node::NodeCore;
 use sb_types::Fault;
 use sb_views::{NewHistory, NodeTag};
@@ -152,7 +152,10 @@ fn run_beside<S: DirectoryTag + Send + Sync, R: Threads + Wait + Clock + CpuCloc
 }
 
 /// These readers beside the writer.
-fn measure_beside<S: DirectoryTag + Send + Sync, R: Threads + Wait + Clock + CpuClock + Sync + Send>(
+fn measure_beside<
+    S: DirectoryTag + Send + Sync,
+    R: Threads + Wait + Clock + CpuClock + Sync + Send,
+>(
     rt: &R,
     alloc: Global,
     directory: &Directory<S, &R>,
@@ -183,7 +186,10 @@ fn measure_beside<S: DirectoryTag + Send + Sync, R: Threads + Wait + Clock + Cpu
 }
 
 /// One reader, two and three beside the writer.
-fn measure_readers<S: DirectoryTag + Send + Sync, R: Threads + Wait + Clock + CpuClock + Sync + Send>(
+fn measure_readers<
+    S: DirectoryTag + Send + Sync,
+    R: Threads + Wait + Clock + CpuClock + Sync + Send,
+>(
     rt: &R,
     alloc: Global,
     directory: &Directory<S, &R>,

@@ -2,7 +2,7 @@
 use crate::problem::Problem;
 use crate::report::{Measured, spent_since};
 use crate::sample::{Kinds, key_at, new_log, value_at};
-use sb_directory::{DirectoryTag, Directory, ReaderSeat};
+use sb_directory::{Directory, DirectoryTag, ReaderSeat};
 use sb_log::{Committed, PlainLog, WriteLog};
 use sb_types::{Fault, Slot};
 use sb_views::NodeTag;
