@@ -1,12 +1,15 @@
-//! The examples that stand at the top of the crates of watches, of lines and of views.
-use crate::making::{key, name, prefix};
+//! The examples that stand at the top of the crates of watches, of lines, of views, of questions and of listings.
+use crate::making::{key, name, prefix, rows_of};
 use crate::reading::{Look, read};
 use crate::views::all_written;
 use crate::{got, same};
+use sb_codec::{Ask, Row};
 use sb_lines::log_run;
+use sb_listing::{changes, print_changes};
 use sb_log::{PlainLog, WriteLog};
-use sb_types::{Fault, Key, Name, Prefix, Slot, VERSION_MOST, Value};
-use sb_views::{Entered, NodeTag};
+use sb_query::{answer, print_rows};
+use sb_types::{BUDGET_LEAST, Fault, Key, Name, Prefix, Slot, VERSION_MOST, Value};
+use sb_views::{Entered, NodeTag, Snapshot};
 use sb_watch::{Filter, Hub, Note, Polled};
 use std::alloc::Global;
 use std::process::Abort;
@@ -69,8 +72,56 @@ pub(crate) fn rows_are_counted<S: NodeTag>(rt: &impl Abort, entered: &Entered<S>
     same(rt, &found, &(1, 4));
 }
 
+/// The lines of the first page of all rows under a prefix.
+fn lines_under(alloc: Global, snapshot: &Snapshot<'_>, prefix: Prefix) -> Result<Vec<u8>, Fault> {
+    let (owner, after) = (None, None);
+    let page = answer(
+        alloc,
+        snapshot,
+        &Ask {
+            owner,
+            prefix,
+            after,
+        },
+        BUDGET_LEAST,
+    )?;
+    let mut lines = Vec::new(alloc);
+    print_rows(alloc, &mut lines, &page).0?;
+    Ok(lines)
+}
+
+pub(crate) fn rows_are_printed(rt: &impl Abort, alloc: Global, snapshot: &Snapshot<'_>) {
+    let lines = got(rt, lines_under(alloc, snapshot, prefix(rt, b"net/")));
+    let wanted = b"a net/a 2 weight 2\nb net/a 1 weight 7\n";
+    same(rt, &lines.as_slice(), &wanted.as_slice());
+}
+
+/// The lines of what changed from one listing to the next.
+fn changed_lines(alloc: Global, earlier: &[Row], later: &[Row]) -> Result<Vec<u8>, Fault> {
+    let found = changes(alloc, earlier, later)?;
+    let mut lines = Vec::new(alloc);
+    print_changes(alloc, &mut lines, &found).0?;
+    Ok(lines)
+}
+
+#[test]
+fn example_of_sb_listing(rt: HostRuntime) {
+    let alloc = rt.alloc();
+    let earlier = rows_of(&rt, alloc, &[(b"a", b"w", 1, (b"weight", b"5"))]);
+    let later = rows_of(&rt, alloc, &[(b"b", b"up", 1, (b"flag", b"true"))]);
+    let lines = got(&rt, changed_lines(alloc, &earlier, &later));
+    let wanted = b"gone a w\nset b up 1 flag true\n";
+    same(&rt, &lines.as_slice(), &wanted.as_slice());
+}
+
 #[test]
 fn example_of_sb_views(rt: HostRuntime) {
     let holdings = all_written(&rt, rt.alloc());
     read(&rt, rt.alloc(), &holdings, Look::Count);
+}
+
+#[test]
+fn example_of_sb_query(rt: HostRuntime) {
+    let holdings = all_written(&rt, rt.alloc());
+    read(&rt, rt.alloc(), &holdings, Look::Print);
 }
