@@ -8,9 +8,7 @@ use sb_frames::Steps;
 use sb_node::NodeCore;
 use sb_session::{Ended, Session, dial, serve};
 use sb_testing::streams::{Hearing, Pieces};
-use sb_testing::wire::{
-    DELTA_A, DELTA_DESCENDING, HELLO_A, HELLO_AND_BYE_B, SAID_BY_A, SAID_BY_B,
-};
+use sb_testing::wire::{DELTA_A, DELTA_DESCENDING, HELLO_A, HELLO_AND_BYE_B, SAID_BY_A, SAID_BY_B};
 use sb_types::{Block, Delta, Entry, Fault, Name, Order, Slot, Value};
 use std::alloc::Global;
 use std::marker::Brand;

@@ -258,7 +258,14 @@ fn own_keys_have_a_limit(rt: HostRuntime) {
 fn fill_owners(rt: &impl Abort, alloc: Global, holdings: &mut Holdings, count: u64) {
     let first = (BlockEnd::Taken(1), 1, Some(1));
     for number in 1..count {
-        assert_takes(rt, alloc, holdings, &letters_of(number), (0, 1, 1, 1), first);
+        assert_takes(
+            rt,
+            alloc,
+            holdings,
+            &letters_of(number),
+            (0, 1, 1, 1),
+            first,
+        );
     }
 }
 

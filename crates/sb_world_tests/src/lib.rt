@@ -11,9 +11,9 @@ mod real;
 #[cfg(test)]
 mod scripts;
 #[cfg(test)]
-mod whole_way;
-#[cfg(test)]
 mod transcripts;
+#[cfg(test)]
+mod whole_way;
 #[cfg(test)]
 mod world;
 
