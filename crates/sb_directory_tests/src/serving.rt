@@ -2,13 +2,14 @@
 ghost use Rattle.std.specs.Prelude.{◌≡◌};
 
 use crate::making::{key, node_of};
-use crate::peers::{SAID_BY_B, Talked, talk};
+use crate::peers::{Talked, talk};
 use crate::seats::close;
 use crate::{got, same, same_at, there};
 use sb_directory::{Directory, DirectoryTag, ReaderSeat, SeatHandler};
 use sb_node::NodeCore;
 use sb_session::Ended;
 use sb_table::Table;
+use sb_testing::wire::SAID_BY_B;
 use sb_types::{Entry, Slot, Value};
 use sb_views::NewHistory;
 use std::alloc::Global;

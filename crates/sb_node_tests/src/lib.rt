@@ -47,19 +47,13 @@ fn holds(rt: &impl Abort, what: &str, holds: bool) {
 /// The answer; where there is none, the end of the test, which names the fault.
 #[cfg(test)]
 fn got<T, E: Debug + Drop>(rt: &impl Abort, answer: Result<T, E>) -> T {
-    match answer {
-        Ok(answer) => answer,
-        Err(fault) => panic!(rt; "error: {fault:?}"),
-    }
+    answer.expect(rt, "error")
 }
 
 /// What has to be there; where it is not, the end of the test.
 #[cfg(test)]
 fn there<T>(rt: &impl Abort, value: Option<T>) -> T {
-    match value {
-        Some(value) => value,
-        None => panic!(rt; "error: none"),
-    }
+    value.expect(rt, "error: none")
 }
 
 /// What is answered, a fault too; where memory ran out, the end of the test.
@@ -86,9 +80,7 @@ fn key(rt: &impl Abort, text: &[u8]) -> Key {
 /// A vector of one item.
 #[cfg(test)]
 fn one<T: Drop>(rt: &impl Abort, alloc: Global, item: T) -> Vec<T> {
-    let mut items = Vec::new(alloc);
-    push(rt, &mut items, item);
-    items
+    got(rt, vec![in alloc; item])
 }
 
 /// Adds an item to the vector.

@@ -1,7 +1,7 @@
 //! A directory with an owner that writes from its only seat.
 ghost use Rattle.std.specs.Prelude.{◌≡◌, ◌<◌};
 
-use crate::making::{key, name, new_log, weight};
+use crate::making::{key, name, new_log, new_node, weight};
 use crate::{got, there};
 use sb_directory::{Directory, DirectoryTag, EnteredSeat, ReaderSeat};
 use sb_frames::Steps;
@@ -25,14 +25,25 @@ pub(crate) struct Desk<S: DirectoryTag, H: Wait + Drop> {
     owner: OwnWrites<PlainLog>,
 }
 
-/// The desk of a node a with one seat.
-pub(crate) fn desk_of<S: DirectoryTag, R: Wait + Abort>(
+/// What is done at a desk.
+pub(crate) trait Play {
+    fn play<S: DirectoryTag, R: Wait + Abort>(rt: &R, alloc: Global, desk: &mut Desk<S, &R>);
+}
+
+/// This is done at the desk of a new node a with one seat.
+pub(crate) fn play_at_new<P: Play, R: Wait + Abort>(rt: &R, alloc: Global) {
+    let core = new_node(rt, alloc, 1);
+    play_at::<P, Brand, R>(rt, alloc, NewHistory::new(), Blank::new(1), core);
+}
+
+/// The same at the desk of a node that was just opened.
+fn play_at<P: Play, S: DirectoryTag, R: Wait + Abort>(
     rt: &R,
     alloc: Global,
     opened: NewHistory,
     blank: Blank,
     core: NodeCore,
-) -> Desk<S, &R>
+)
     requires story { opened.seen.book ≡ S.history }
     requires opening { S.opening ≡ core.node }
     requires settings { S.settings ≡ core.settings }
@@ -42,11 +53,12 @@ pub(crate) fn desk_of<S: DirectoryTag, R: Wait + Abort>(
 {
     let made = Directory::<S, &R>::make(rt, alloc, opened, blank, core, 1);
     let (directory, mut seats) = got(rt, made);
-    Desk {
+    let mut desk = Desk {
         directory,
         seat: seats.pop(),
         owner: OwnWrites::new(new_log(rt, alloc, b"a")),
-    }
+    };
+    P::play(rt, alloc, &mut desk);
 }
 
 impl<S: DirectoryTag, H: Wait + Drop> Desk<S, H> {

@@ -49,10 +49,7 @@ fn holds(rt: &impl Abort, what: &str, holds: bool) {
 /// The answer; where there is none, the end of the test, which names the fault.
 #[cfg(test)]
 fn got<T, E: Debug + Drop>(rt: &impl Abort, answer: Result<T, E>) -> T {
-    match answer {
-        Ok(answer) => answer,
-        Err(fault) => panic!(rt; "error: {fault:?}"),
-    }
+    answer.expect(rt, "error")
 }
 
 /// What is answered, a fault too; where memory ran out, the end of the test.
@@ -107,9 +104,7 @@ fn weighing(rt: &impl Abort, text: &[u8], version: u64, number: u64) -> Entry
 /// A vector of one item.
 #[cfg(test)]
 fn one<T: Drop>(rt: &impl Abort, alloc: Global, item: T) -> Vec<T> {
-    let mut items = Vec::new(alloc);
-    push(rt, &mut items, item);
-    items
+    got(rt, vec![in alloc; item])
 }
 
 /// Adds an item to the vector.

@@ -1,8 +1,9 @@
 //! What changed between listings and its lines, and rows as JSON.
-use crate::making::{ClosingWriter, Ended, RowParts, failed_behind, has_lines, rows_of, settled};
+use crate::making::{Ended, RowParts, failed_behind, has_lines, rows_of, settled};
 use crate::{got, same};
 use sb_codec::{Row, Rows};
 use sb_listing::{changes, print_changes, print_json_rows};
+use sb_testing::streams::Closing;
 use std::alloc::Global;
 use std::process::Abort;
 
@@ -182,10 +183,7 @@ fn a_page_is_printed_as_json(rt: HostRuntime) {
 fn changes_behind(rt: &impl Abort, alloc: Global, left: usize) -> Ended {
     let rows = rows_of(rt, alloc, &[A_V]);
     let found = got(rt, changes(alloc, &[], &rows));
-    settled(
-        rt,
-        print_changes(alloc, &mut ClosingWriter { left }, &found),
-    )
+    settled(rt, print_changes(alloc, &mut Closing::new(left), &found))
 }
 
 /// The same of that page as JSON.
@@ -193,7 +191,7 @@ fn json_behind(rt: &impl Abort, alloc: Global, left: usize) -> Ended {
     let page = page_of_kinds(rt, alloc);
     settled(
         rt,
-        print_json_rows(alloc, &mut ClosingWriter { left }, &page),
+        print_json_rows(alloc, &mut Closing::new(left), &page),
     )
 }
 

@@ -1,6 +1,6 @@
 //! Pages at exact budgets and behind places, and the lines of a page.
 use crate::making::{
-    ClosingWriter, Ended, apply, entry, failed_behind, has_lines, holdings_of_a, key, name,
+    Ended, apply, entry, failed_behind, has_lines, holdings_of_a, key, name,
     owner_of, prefix, rows_of, settled, weight,
 };
 use crate::reading::{Look, read};
@@ -8,6 +8,7 @@ use crate::{got, making, same, same_at};
 use sb_codec::{Ask, Row, Rows};
 use sb_holdings::Holdings;
 use sb_query::{answer, print_rows};
+use sb_testing::streams::Closing;
 use sb_types::{BUDGET_LEAST, BUDGET_MOST, Block, Entry, Key, Name, Value};
 use sb_views::Snapshot;
 use std::alloc::Global;
@@ -367,7 +368,7 @@ fn a_page_is_printed(rt: HostRuntime) {
 /// How the printing of three rows ends at a writer that closes behind so many bytes.
 fn ended_behind(rt: &impl Abort, alloc: Global, left: usize) -> Ended {
     let page = page_of_three(rt, alloc);
-    settled(rt, print_rows(alloc, &mut ClosingWriter { left }, &page))
+    settled(rt, print_rows(alloc, &mut Closing::new(left), &page))
 }
 
 #[test]

@@ -39,10 +39,7 @@ fn holds(rt: &impl Abort, what: &str, holds: bool) {
 /// The answer; where there is none, the end of the test, which names the fault.
 #[cfg(test)]
 fn got<T, E: Debug + Drop>(rt: &impl Abort, answer: Result<T, E>) -> T {
-    match answer {
-        Ok(answer) => answer,
-        Err(fault) => panic!(rt; "error: {fault:?}"),
-    }
+    answer.expect(rt, "error")
 }
 
 /// The name of this text.
