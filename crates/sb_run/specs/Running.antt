@@ -1,7 +1,6 @@
 -- With what a node opens, what it starts from, and why it does not run.
 use Rattle.std.specs.Prelude.{◌≡◌, ◌⊎◌, ◌+◌, ◌≤◌, ℕ, true, nat_eq, nat_lt, if◌then◌else◌, Option, Some, None, Err}
 use Rattle.std.specs.Cmp.Lexicographic.{pointwise}
-use Rattle.logbook.specs.Pages.{Book}
 use Rattle.sb_types.specs.declared.fault.Fault.{Fault}
 use Rattle.sb_types.specs.declared.fault.Fault.TheVariants.{NoMemory, BadSetting, ReadFailed, StoreFailed, WrongCluster}
 use Rattle.sb_types.specs.Records.{Settings, Table}
@@ -16,10 +15,10 @@ use Rattle.sb_run.specs.declared.node.OnLogFault.TheVariants.{Exit}
 abbrev pub IsOpenedFrom : Log → Node → Type 0
 IsOpenedFrom log node = (table : Table) × (node ≡ opened_node log.owner table) × (log.is_clean ≡ true → table ≡ log.content)
 
--- the tag has this history, this node as it was opened and its settings, and as many seats, and parts of the ledger, as these ask for
-abbrev pub IsTagOf : Book → Node → Settings → ℕ → ℕ → Book → Core → Type 0
-IsTagOf history opening settings seats parts new core =
-    (new ≡ history) × (opening ≡ core.node) × (settings ≡ core.settings) × (core.settings.seats ≡ seats) × (core.settings.seats ≡ parts)
+-- the tag has this node as it was opened and its settings, and as many seats, and parts of the ledger, as these ask for
+abbrev pub IsTagOf : Node → Settings → ℕ → ℕ → Core → Type 0
+IsTagOf opening settings seats parts core =
+    (opening ≡ core.node) × (settings ≡ core.settings) × (core.settings.seats ≡ seats) × (core.settings.seats ≡ parts)
 
 -- the node was opened from its log, and it has a seat for each worker and two more
 abbrev pub IsStarted : Log → Core → Type 0

@@ -14,6 +14,7 @@ use crate::timed::Timed;
 use sb_directory::ReaderSeat;
 use sb_frames::Steps;
 use sb_log::WriteLog;
+use sb_types::Fault;
 use std::marker::Brand;
 use std::net::Net;
 use std::os::unix::net::UnixStream;
@@ -21,35 +22,43 @@ use std::sync::Wait;
 use std::sync::ledger::{Blank, Ledger};
 use std::time::Clock;
 
-/// Serves one connection: a request and its answer, each whole within the node's `request`. Whether it ended with a fault, and
-/// the reads that it made, at most the node's `max_reads`.
+/// Serves one connection: a request and its answer, each whole within the node's `request`. Says whether it ended with a
+/// fault. It makes at most the node's `max_reads` reads.
 fn answer_one<L: WriteLog, S: RoundsTag, H: Wait + Drop, Q: Wait + Clock, K: Ledger>(
     node: &NodeContext<S, H, Q>,
     writes: &mut OwnWrites<L>,
     input: &UnixStream,
     output: &UnixStream,
     seat: ReaderSeat<S>,
-    blank: Blank,
-) -> (ReaderSeat<S>, bool, Steps<K>)
-    requires name { blank.name ≡ K.name }
-    requires parts { blank.parts ≡ K.parts }
-    requires some { 0 < blank.parts }
-    ensures reads { result.2 ≤ node.now.pace.max_reads }
+    steps: &mut Steps<K>,
+) -> (ReaderSeat<S>, bool)
+    ensures reads { steps.new ≤ steps.old + node.now.pace.max_reads }
 {
-    let mut steps = Steps::<K>::new(blank);
     let pace = &node.pace;
     let mut request = Timed::new(node.rt, input, pace.idle, pace.request);
     let mut reply = Timed::new(node.rt, output, pace.idle, pace.request);
     let serving = node.serving();
-    let (seat, ended, _) = serve_control(
-        &serving,
-        &mut request,
-        &mut reply,
-        writes,
-        seat,
-        &mut steps,
-    );
-    (seat, ended.is_err(), steps)
+    let (seat, ended, _) = serve_control(&serving, &mut request, &mut reply, writes, seat, steps);
+    (seat, ended.is_err())
+}
+
+/// Serves a connection that was accepted, or not, and says whether that ended with a fault. Its reads are the first of a ledger.
+fn serve_accepted<L: WriteLog, S: RoundsTag, H: Wait + Drop, Q: Wait + Clock, K: Ledger>(
+    node: &NodeContext<S, H, Q>,
+    writes: &mut OwnWrites<L>,
+    accepted: Result<(u64, UnixStream, UnixStream), Fault>,
+    seat: ReaderSeat<S>,
+    blank: Blank,
+) -> (ReaderSeat<S>, bool)
+    requires name { blank.name ≡ K.name }
+    requires parts { blank.parts ≡ K.parts }
+    requires some { 0 < blank.parts }
+{
+    let Ok((_, input, output)) = accepted else {
+        return (seat, true);
+    };
+    let mut steps = Steps::<K>::new(blank);
+    answer_one(node, writes, &input, &output, seat, &mut steps)
 }
 
 /// What comes of the control socket.
@@ -107,28 +116,22 @@ pub(crate) fn serve_control_socket<
     let (mut writes, mut current) = (writes, seat);
     let mut faults: u64 = 0;
     for _ in node.rt.forever() {
-        let failed = match acceptor.next() {
-            None => {
-                return ControlEnd {
-                    seat: current,
-                    faults,
-                    has_left: false,
-                };
-            }
-            Some(Err(_)) => true,
-            Some(Ok((_, input, output))) => {
-                let (seat, failed, _) = answer_one::<L, S, H, Q, Brand>(
-                    node,
-                    &mut writes,
-                    &input,
-                    &output,
-                    current,
-                    Blank::new(1),
-                );
-                current = seat;
-                failed
-            }
+        let Some(accepted) = acceptor.next() else {
+            return ControlEnd {
+                seat: current,
+                faults,
+                has_left: false,
+            };
         };
+        let blank = Blank::new(1);
+        let (seat, failed) = serve_accepted::<L, S, H, Q, Brand>(
+            node,
+            &mut writes,
+            accepted,
+            current,
+            blank,
+        );
+        current = seat;
         if failed {
             faults = faults.saturating_add(1);
         }

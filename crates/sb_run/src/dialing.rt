@@ -13,9 +13,7 @@ use sb_frames::Steps;
 use sb_session::{Ended, dial};
 use sb_types::{Fault, OWNERS_MOST};
 use std::io::{Read, Write};
-use std::marker::Brand;
 use std::net::Net;
-use std::os::unix::net::UnixStream;
 use std::sync::Wait;
 use std::sync::ledger::{Blank, Ledger};
 
@@ -40,24 +38,20 @@ pub(crate) fn digests_of_all<S: RoundsTag, H: Wait + Drop, Q: Wait>(
     Some(most)
 }
 
-/// A session over a connection, of so many exchanges of digests and deltas: how it ended, and the reads that it made, at most
-/// the node's `max_reads`. What it enters is news.
+/// A session over a connection, of so many exchanges of digests and deltas, and how it ended. It makes at most the node's
+/// `max_reads` reads. What it enters is news.
 fn talk<S: RoundsTag, H: Wait + Drop, Q: Wait, I: Read, O: Write, K: Ledger>(
     node: &NodeContext<S, H, Q>,
     input: &mut I,
     output: &mut O,
     seat: ReaderSeat<S>,
     exchanges: u64,
-    blank: Blank,
-) -> (ReaderSeat<S>, Result<Ended, Fault>, Steps<K>)
-    requires name { blank.name ≡ K.name }
-    requires parts { blank.parts ≡ K.parts }
-    requires some { 0 < blank.parts }
+    steps: &mut Steps<K>,
+) -> (ReaderSeat<S>, Result<Ended, Fault>)
     ensures later { IsLater seat result.0 }
     ensures greets { Greets S.settings.cluster S.opening.held.me (O.contents output.old) (O.contents output.new) }
-    ensures reads { result.2 ≤ node.now.pace.max_reads }
+    ensures reads { steps.new ≤ steps.old + node.now.pace.max_reads }
 {
-    let mut steps = Steps::<K>::new(blank);
     let served = SeatHandler::new(node.rt, node.directory, seat);
     let mut handler = GatedHandler::new(served, node.bell, 0);
     let (ended, _) = dial(
@@ -68,18 +62,23 @@ fn talk<S: RoundsTag, H: Wait + Drop, Q: Wait, I: Read, O: Write, K: Ledger>(
         &mut handler,
         exchanges,
         node.pace.max_reads,
-        &mut steps,
+        steps,
     );
-    (handler.into_inner().into_seat(), ended, steps)
+    (handler.into_inner().into_seat(), ended)
 }
 
 /// Dials the peer at a path, for so many exchanges, and how that ended: by `ReadFailed` also where the peer can't be reached.
-pub(crate) fn dial_peer<S: RoundsTag, H: Wait + Drop, Q: Wait + Net>(
+/// Its reads are the first of a ledger.
+pub(crate) fn dial_peer<S: RoundsTag, H: Wait + Drop, Q: Wait + Net, K: Ledger>(
     node: &NodeContext<S, H, Q>,
     path: &str,
     seat: ReaderSeat<S>,
     exchanges: u64,
+    blank: Blank,
 ) -> (ReaderSeat<S>, Result<Ended, Fault>)
+    requires name { blank.name ≡ K.name }
+    requires parts { blank.parts ≡ K.parts }
+    requires some { 0 < blank.parts }
     ensures { IsLater seat result.0 }
 {
     let Ok(stream) = connect(node.rt, path) else {
@@ -88,14 +87,7 @@ pub(crate) fn dial_peer<S: RoundsTag, H: Wait + Drop, Q: Wait + Net>(
     if limit(&stream, node.pace.dial_idle).is_err() {
         return (seat, Err(Fault::ReadFailed));
     }
+    let mut steps = Steps::<K>::new(blank);
     let (mut input, mut output) = (&stream, &stream);
-    let (seat, ended, _) = talk::<S, H, Q, &UnixStream, &UnixStream, Brand>(
-        node,
-        &mut input,
-        &mut output,
-        seat,
-        exchanges,
-        Blank::new(1),
-    );
-    (seat, ended)
+    talk(node, &mut input, &mut output, seat, exchanges, &mut steps)
 }

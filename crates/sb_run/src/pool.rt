@@ -51,24 +51,19 @@ struct Tally {
     faults: AtomicU64,
 }
 
-/// Serves the session of this number from a seat: whether it ended with a fault, and the reads that it made, at most
-/// `max_reads`.
+/// Serves the session of this number from a seat, with at most `max_reads` reads, and says whether it ended with a fault.
 fn serve_session<S: DirectoryTag, H: Wait + Drop, Q: Wait, I: Read, O: Write, G: Gate, K: Ledger>(
     serving: &Serving<S, H, Q>,
     gate: &G,
     number: u64,
     streams: &mut (I, O),
     seat: ReaderSeat<S>,
-    blank: Blank,
-) -> (ReaderSeat<S>, bool, Steps<K>)
-    requires name { blank.name ≡ K.name }
-    requires parts { blank.parts ≡ K.parts }
-    requires some { 0 < blank.parts }
+    steps: &mut Steps<K>,
+) -> (ReaderSeat<S>, bool)
     ensures kept { IsKept (IsShut (G.lets gate.now number)) seat result.0 }
     ensures greets { Greets S.settings.cluster S.opening.held.me (O.contents streams.old.1) (O.contents streams.new.1) }
-    ensures reads { result.2 ≤ serving.now.max_reads }
+    ensures reads { steps.new ≤ steps.old + serving.now.max_reads }
 {
-    let mut steps = Steps::<K>::new(blank);
     let served = SeatHandler::new(serving.rt, serving.directory, seat);
     let mut handler = GatedHandler::new(served, gate, number);
     let (ended, _) = serve(
@@ -78,9 +73,43 @@ fn serve_session<S: DirectoryTag, H: Wait + Drop, Q: Wait, I: Read, O: Write, G:
         session_of(serving.directory),
         &mut handler,
         serving.max_reads,
-        &mut steps,
+        steps,
     );
-    (handler.into_inner().into_seat(), ended.is_err(), steps)
+    (handler.into_inner().into_seat(), ended.is_err())
+}
+
+/// Serves a connection that was taken from the source, and counts it, and whether it ended with a fault. Its reads are the
+/// first of a ledger.
+fn serve_taken<
+    S: DirectoryTag,
+    H: Wait + Drop,
+    Q: Wait,
+    I: Read + Drop,
+    O: Write + Drop,
+    G: Gate,
+    K: Ledger,
+>(
+    serving: &Serving<S, H, Q>,
+    gate: &G,
+    tally: &Tally,
+    taken: (u64, I, O),
+    seat: ReaderSeat<S>,
+    blank: Blank,
+) -> ReaderSeat<S>
+    requires name { blank.name ≡ K.name }
+    requires parts { blank.parts ≡ K.parts }
+    requires some { 0 < blank.parts }
+    ensures { IsKept (IsShut (G.lets gate.now taken.0)) seat result }
+{
+    tally.sessions.fetch_add(1, Ordering::SeqCst);
+    let mut steps = Steps::<K>::new(blank);
+    let (number, input, output) = taken;
+    let mut streams = (input, output);
+    let (seat, failed) = serve_session(serving, gate, number, &mut streams, seat, &mut steps);
+    if failed {
+        tally.faults.fetch_add(1, Ordering::SeqCst);
+    }
+    seat
 }
 
 /// Serves connections from a seat until the source has no more.
@@ -101,21 +130,15 @@ fn work<S: DirectoryTag, H: Wait + Drop, Q: Wait, X: Source, G: Gate>(
             Some(Err(_)) => {
                 tally.faults.fetch_add(1, Ordering::SeqCst);
             }
-            Some(Ok((number, input, output))) => {
-                tally.sessions.fetch_add(1, Ordering::SeqCst);
-                let mut streams = (input, output);
-                let (seat, failed, _) = serve_session::<S, H, Q, X::In, X::Out, G, Brand>(
+            Some(Ok(taken)) => {
+                current = serve_taken::<S, H, Q, X::In, X::Out, G, Brand>(
                     serving,
                     gate,
-                    number,
-                    &mut streams,
+                    tally,
+                    taken,
                     current,
                     Blank::new(1),
                 );
-                current = seat;
-                if failed {
-                    tally.faults.fetch_add(1, Ordering::SeqCst);
-                }
             }
         }
     }

@@ -53,7 +53,8 @@ pub(crate) fn run_tagged<
     pace: Pace,
     observer: &O,
 ) -> Result<Ran, Fault>
-    requires tagged { IsTagOf S.history S.opening S.settings S.seats S.parts start.new_history.seen.book start.core }
+    requires history { start.new_history.seen.book ≡ S.history }
+    requires tagged { IsTagOf S.opening S.settings S.seats S.parts start.core }
     requires name { start.blank.name ≡ S.name }
     requires parts { start.blank.parts ≡ S.parts }
     requires started { IsStarted (L.seen start.writes.log) start.core }

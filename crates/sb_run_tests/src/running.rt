@@ -68,8 +68,13 @@ fn are_there(files: &impl Files, paths: &Paths) -> [bool; 2] {
     [is_there(files, paths.sock), is_there(files, paths.control)]
 }
 
+/// What runs a node, and may end the test.
+pub(crate) trait Host: Runtime + Abort {}
+
+impl<R: Runtime + Abort> Host for R {}
+
 /// Runs the node a with a new log.
-pub(crate) fn run_a<R: Runtime + Abort>(
+pub(crate) fn run_a<R: Host>(
     rt: &R,
     alloc: Global,
     paths: &Paths,
@@ -79,7 +84,7 @@ pub(crate) fn run_a<R: Runtime + Abort>(
 }
 
 /// The same, with this observer.
-pub(crate) fn run_observed<R: Runtime + Abort, O: Observer + Sync>(
+pub(crate) fn run_observed<R: Host, O: Observer + Sync>(
     rt: &R,
     alloc: Global,
     paths: &Paths,
@@ -141,7 +146,7 @@ fn is_kept(rt: &(impl Files + Abort), alloc: Global) -> bool {
 }
 
 /// A node is refused where there is a file at one of its paths: it is left as it was, and there is none at the other.
-fn leaves_taken<R: Runtime + Abort>(rt: &R, alloc: Global, sock: &str, control: &str, free: &str) {
+fn leaves_taken<R: Host>(rt: &R, alloc: Global, sock: &str, control: &str, free: &str) {
     let paths = paths_of(sock, control, &[]);
     got(rt, fs::write(rt, "taken", "kept"));
     let ran = run_a(rt, alloc, &paths, pace(1, 0));
@@ -157,13 +162,7 @@ fn a_path_that_is_taken_is_left(rt: HostRuntime) {
 }
 
 /// A node is refused where one of its paths is empty, and there is no file at the other.
-fn refuses_empty<R: Runtime + Abort>(
-    rt: &R,
-    alloc: Global,
-    sock: &str,
-    control: &str,
-    other: &str,
-) {
+fn refuses_empty<R: Host>(rt: &R, alloc: Global, sock: &str, control: &str, other: &str) {
     let paths = paths_of(sock, control, &[]);
     let ran = run_a(rt, alloc, &paths, pace(1, 0));
     let met = (ran, is_there(rt, other));
@@ -177,7 +176,7 @@ fn an_empty_path_is_refused(rt: HostRuntime) {
 }
 
 /// What the node did. Where it did not dial so often, connections stand for it, so that the player does not wait for them.
-fn run_and_reach<R: Runtime + Abort>(
+fn run_and_reach<R: Host>(
     rt: &R,
     alloc: Global,
     paths: &Paths,
