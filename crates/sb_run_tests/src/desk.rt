@@ -40,18 +40,18 @@ pub(crate) fn play_at_new<P: Play, R: Wait + Abort>(rt: &R, alloc: Global) {
 fn play_at<P: Play, S: DirectoryTag, R: Wait + Abort>(
     rt: &R,
     alloc: Global,
-    opened: NewHistory,
+    new_history: NewHistory,
     blank: Blank,
     core: NodeCore,
 )
-    requires story { opened.seen.book ≡ S.history }
+    requires history { new_history.seen.book ≡ S.history }
     requires opening { S.opening ≡ core.node }
     requires settings { S.settings ≡ core.settings }
     requires name { blank.name ≡ S.name }
     requires parts { blank.parts ≡ S.parts }
     requires seats { (1 ≡ S.seats) × (1 ≡ S.parts) }
 {
-    let made = Directory::<S, &R>::make(rt, alloc, opened, blank, core, 1);
+    let made = Directory::<S, &R>::make(rt, alloc, new_history, blank, core, 1);
     let (directory, mut seats) = got(rt, made);
     let mut desk = Desk {
         directory,

@@ -119,20 +119,20 @@ fn serve_from<S: DirectoryTag + Send + Sync, R: Threads + Wait + Clock + Abort +
 fn pool_of<S: DirectoryTag + Send + Sync, R: Threads + Wait + Clock + Abort + Send + Sync>(
     rt: &R,
     alloc: Global,
-    opened: NewHistory,
+    new_history: NewHistory,
     blank: Blank,
     core: NodeCore,
     workers: usize,
     turns: u64,
 ) -> Met
-    requires story { opened.seen.book ≡ S.history }
+    requires history { new_history.seen.book ≡ S.history }
     requires opening { S.opening ≡ core.node }
     requires settings { S.settings ≡ core.settings }
     requires name { blank.name ≡ S.name }
     requires parts { blank.parts ≡ S.parts }
     requires all { (workers ≡ S.seats) × (workers ≡ S.parts) }
 {
-    let made = Directory::<S, &R>::make(rt, alloc, opened, blank, core, workers);
+    let made = Directory::<S, &R>::make(rt, alloc, new_history, blank, core, workers);
     let (directory, seats) = got(rt, made);
     let pooled = serve_from(rt, alloc, &directory, seats, turns);
     close(rt, directory, pooled)
