@@ -8,10 +8,8 @@ use crate::rounds::{Rounds, RoundsTag};
 use crate::status::Status;
 use crossbeam_utils::sync::Parker;
 use sb_directory::ReaderSeat;
-use std::marker::Brand;
 use std::net::Net;
 use std::sync::Wait;
-use std::sync::ledger::Blank;
 use std::thread;
 use std::time::{Clock, Duration, Instant};
 
@@ -127,9 +125,7 @@ impl<'a, O: Observer> Dialer<'a, O> {
         let mut seat = seat;
         let exchanges = self.count_exchanges(node, &mut seat);
         let patience = moment_after(node.rt, node.pace.dial_idle);
-        let path = self.peers.path(index);
-        let blank = Blank::new(1);
-        let (seat, ended) = dial_peer::<S, H, Q, Brand>(node, path, seat, exchanges, blank);
+        let (seat, ended) = dial_peer(node, self.peers.path(index), seat, exchanges);
         if ended.is_err() {
             self.faults = self.faults.saturating_add(1);
         }

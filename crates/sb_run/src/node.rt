@@ -122,10 +122,10 @@ pub fn run_node<L: WriteLog + Drop, R: Runtime, O: Observer + Sync>(
     log: L,
     observer: &O,
 ) -> Result<Ran, Fault>
-    ensures refused { IfSome (spec.start_refusal config.settings (L.seen log)) (λ fault. result ≡ Err fault) }
-    ensures closed { spec.start_refusal config.settings (L.seen log) ≡ None → (L.seen log).is_open ≡ false → result ≡ Err Fault.Closed }
-    ensures fault { IfErr result (IsRunningFault config.settings (L.seen log) config.pace.on_log_fault) }
-    ensures rounds { IfOk result (λ ran. ran.rounds ≡ config.pace.rounds) }
+    ensures refused { IfSome (spec.start_refusal config.entry.settings (L.seen log)) (λ fault. result ≡ Err fault) }
+    ensures closed { spec.start_refusal config.entry.settings (L.seen log) ≡ None → (L.seen log).is_open ≡ false → result ≡ Err Fault.Closed }
+    ensures fault { IfErr result (IsRunningFault config.entry.settings (L.seen log) config.entry.pace.on_log_fault) }
+    ensures rounds { IfOk result (λ ran. ran.rounds ≡ config.entry.pace.rounds) }
 {
     let NodeConfig {
         settings,
