@@ -69,8 +69,8 @@ fn talk<S: RoundsTag, H: Wait + Drop, Q: Wait, I: Read, O: Write, K: Ledger>(
     (handler.into_inner().into_seat(), ended)
 }
 
-/// A session over the connection to a peer, which may be idle for the node's `dial_idle`, and how it ended: by `ReadFailed` also
-/// where that limit can't be set. Its reads are the first of a ledger.
+/// A session over the connection to a peer, which may be idle for the node's `dial_idle`, and how it ended: by `ReadFailed`
+/// also where that limit can't be set. Its reads are the first of a ledger.
 fn dial_stream<S: RoundsTag, H: Wait + Drop, Q: Wait, K: Ledger>(
     node: &NodeContext<S, H, Q>,
     stream: UnixStream,
