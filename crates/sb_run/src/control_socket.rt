@@ -42,7 +42,8 @@ fn answer_one<L: WriteLog, S: RoundsTag, H: Wait + Drop, Q: Wait + Clock, K: Led
     (seat, ended.is_err())
 }
 
-/// Serves a connection that was accepted, or not, and says whether that ended with a fault. Its reads are the first of a ledger.
+/// Serves a connection that was accepted, or not, and says whether that ended with a fault. Its reads are the first of a
+/// ledger.
 fn serve_accepted<L: WriteLog, S: RoundsTag, H: Wait + Drop, Q: Wait + Clock, K: Ledger>(
     node: &NodeContext<S, H, Q>,
     writes: &mut OwnWrites<L>,

@@ -1,17 +1,15 @@
 //! The thread that dials the peers of a node: in turn, with a pause after each round, and in bursts where there is news.
 
 use crate::context::NodeContext;
-use crate::dialing::{dial_peer, digests_of_all, reach_peer};
+use crate::dialing::{dial_peer, digests_of_all};
 use crate::observer::Observer;
 use crate::peers::Peers;
 use crate::rounds::{Rounds, RoundsTag};
 use crate::status::Status;
 use crossbeam_utils::sync::Parker;
 use sb_directory::ReaderSeat;
-use std::marker::Brand;
 use std::net::Net;
 use std::sync::Wait;
-use std::sync::ledger::Blank;
 use std::thread;
 use std::time::{Clock, Duration, Instant};
 
@@ -127,16 +125,12 @@ impl<'a, O: Observer> Dialer<'a, O> {
         let mut seat = seat;
         let exchanges = self.count_exchanges(node, &mut seat);
         let patience = moment_after(node.rt, node.pace.dial_idle);
-        let reached = reach_peer(node, self.peers.path(index));
-        let blank = Blank::new(1);
-        let (seat, ended) = dial_peer::<S, H, Q, Brand>(node, reached, seat, exchanges, blank);
+        let (seat, ended) = dial_peer(node, self.peers.path(index), seat, exchanges);
         if ended.is_err() {
             self.faults = self.faults.saturating_add(1);
         }
-        let has_waited = match patience {
-            Some(moment) => node.pace.dial_idle != 0 && is_past(node.rt, moment),
-            None => false,
-        };
+        let has_waited = node.pace.dial_idle != 0
+            && patience.is_some_and(|moment| is_past(node.rt, moment));
         if self
             .peers
             .note(index, self.rounds, &ended, has_waited, self.observer)

@@ -13,6 +13,7 @@ use sb_frames::Steps;
 use sb_session::{Ended, dial};
 use sb_types::{Fault, OWNERS_MOST};
 use std::io::{Read, Write};
+use std::marker::Brand;
 use std::net::Net;
 use std::os::unix::net::UnixStream;
 use std::sync::Wait;
@@ -68,26 +69,11 @@ fn talk<S: RoundsTag, H: Wait + Drop, Q: Wait, I: Read, O: Write, K: Ledger>(
     (handler.into_inner().into_seat(), ended)
 }
 
-/// Connects to the peer at a path, where no byte may rest for longer than the node's `dial_idle`. `ReadFailed` where it can't be
-/// reached.
-pub(crate) fn reach_peer<S: RoundsTag, H: Wait + Drop, Q: Net>(
+/// A session over the connection to a peer, which may be idle for the node's `dial_idle`, and how it ended: by `ReadFailed`
+/// also where that limit can't be set. Its reads are the first of a ledger.
+fn dial_stream<S: RoundsTag, H: Wait + Drop, Q: Wait, K: Ledger>(
     node: &NodeContext<S, H, Q>,
-    path: &str,
-) -> Result<UnixStream, Fault> {
-    let Ok(stream) = connect(node.rt, path) else {
-        return Err(Fault::ReadFailed);
-    };
-    match limit(&stream, node.pace.dial_idle) {
-        Ok(()) => Ok(stream),
-        Err(_) => Err(Fault::ReadFailed),
-    }
-}
-
-/// Dials a peer over a connection to it, for so many exchanges, and how that ended: by the fault, where the peer could not be
-/// reached. Its reads are the first of a ledger.
-pub(crate) fn dial_peer<S: RoundsTag, H: Wait + Drop, Q: Wait, K: Ledger>(
-    node: &NodeContext<S, H, Q>,
-    reached: Result<UnixStream, Fault>,
+    stream: UnixStream,
     seat: ReaderSeat<S>,
     exchanges: u64,
     blank: Blank,
@@ -97,11 +83,25 @@ pub(crate) fn dial_peer<S: RoundsTag, H: Wait + Drop, Q: Wait, K: Ledger>(
     requires some { 0 < blank.parts }
     ensures { IsLater seat result.0 }
 {
-    let stream = match reached {
-        Ok(stream) => stream,
-        Err(fault) => return (seat, Err(fault)),
-    };
+    if limit(&stream, node.pace.dial_idle).is_err() {
+        return (seat, Err(Fault::ReadFailed));
+    }
     let mut steps = Steps::<K>::new(blank);
     let (mut input, mut output) = (&stream, &stream);
     talk(node, &mut input, &mut output, seat, exchanges, &mut steps)
+}
+
+/// Dials the peer at a path, for so many exchanges, and how that ended: by `ReadFailed` also where the peer can't be reached.
+pub(crate) fn dial_peer<S: RoundsTag, H: Wait + Drop, Q: Wait + Net>(
+    node: &NodeContext<S, H, Q>,
+    path: &str,
+    seat: ReaderSeat<S>,
+    exchanges: u64,
+) -> (ReaderSeat<S>, Result<Ended, Fault>)
+    ensures { IsLater seat result.0 }
+{
+    let Ok(stream) = connect(node.rt, path) else {
+        return (seat, Err(Fault::ReadFailed));
+    };
+    dial_stream::<S, H, Q, Brand>(node, stream, seat, exchanges, Blank::new(1))
 }

@@ -78,7 +78,8 @@ impl<'a> Peer<'a> {
     }
 
     /// Takes down how its round of this number ended, and whether it kept the node waiting. Says whether that is news: it
-    /// ended otherwise than the round before, and not by a write that failed behind a refused Hello, which is the same refusal.
+    /// ended otherwise than the round before, and not by a write that failed behind a refused Hello, which is the same
+    /// refusal.
     fn note(&mut self, round: u64, ended: &Result<Ended, Fault>, has_waited: bool) -> bool
         ensures round { self.new.round ≡ round }
         ensures turns { self.new.turns_out ≡ spec.turns_after (has_waited && is_err ended.now) self.old.turns_out }
@@ -139,7 +140,8 @@ impl<'a> Peers<'a> {
         })
     }
 
-    /// Takes the next turn: the index of the peer whose turn it is, and whether it is passed over. None where there are no peers.
+    /// Takes the next turn: the index of the peer whose turn it is, and whether it is passed over. None where there are no
+    /// peers.
     fn take_turn(&mut self) -> Option<(usize, bool)>
         ensures none { result ≡ None → vec_len self.old.all ≡ 0 }
         ensures turn { IfSome result (λ taken. taken.0 ≡ spec.turn_of (vec_len self.old.all) self.old.turn) }

@@ -8,7 +8,7 @@ use crate::waking::silent_b;
 use crate::{got, same};
 use sb_log::{PlainLog, WriteLog};
 use sb_node::NodeCore;
-use sb_run::{Nobody, NodeConfig, run_node};
+use sb_run::{Nobody, NodeConfig, Paths, run_node};
 use sb_table::Table;
 use sb_testing::delta_of_write;
 use sb_testing::wire::{HELLO_A, HELLO_AND_BYE_B};
