@@ -80,7 +80,9 @@ fn key(rt: &impl Abort, text: &[u8]) -> Key {
 /// A vector of one item.
 #[cfg(test)]
 fn one<T: Drop>(rt: &impl Abort, alloc: Global, item: T) -> Vec<T> {
-    got(rt, vec![in alloc; item])
+    let mut items = Vec::new(alloc);
+    push(rt, &mut items, item);
+    items
 }
 
 /// Adds an item to the vector.

@@ -104,7 +104,9 @@ fn weighing(rt: &impl Abort, text: &[u8], version: u64, number: u64) -> Entry
 /// A vector of one item.
 #[cfg(test)]
 fn one<T: Drop>(rt: &impl Abort, alloc: Global, item: T) -> Vec<T> {
-    got(rt, vec![in alloc; item])
+    let mut items = Vec::new(alloc);
+    push(rt, &mut items, item);
+    items
 }
 
 /// Adds an item to the vector.
