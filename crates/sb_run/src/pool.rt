@@ -157,8 +157,8 @@ fn work_in_place<S: DirectoryTag, H: Wait + Drop, Q: Wait, X: Source, G: Gate>(
 {
     replace_with(
         seat,
-        (),
-        |seat, _| -> (ReaderSeat<S>, ())
+        serving,
+        |seat, serving| -> (ReaderSeat<S>, ())
             requires { IsSend X.In.row × IsSend X.Out.row }
             ensures { IsKept (AreShut (G.lets gate.entry.now)) seat result.0 }
         { work(serving, source, gate, tally, seat) },
