@@ -155,24 +155,13 @@ fn work_in_place<S: DirectoryTag, H: Wait + Drop, Q: Wait, X: Source, G: Gate>(
 )
     ensures { IsKept (AreShut (G.lets gate.now)) seat.old seat.new }
 {
-    // One by one: the clause of a closure is lost where it captures a struct that has a lifetime.
-    let (rt, alloc, max_reads) = (serving.rt, serving.alloc, serving.max_reads);
-    let directory = serving.directory;
     replace_with(
         seat,
         serving,
         |seat, serving| -> (ReaderSeat<S>, ())
             requires { IsSend X.In.row × IsSend X.Out.row }
             ensures { IsKept (AreShut (G.lets gate.entry.now)) seat result.0 }
-        {
-            let serving = Serving {
-                rt,
-                alloc,
-                directory,
-                max_reads,
-            };
-            work(&serving, source, gate, tally, seat)
-        },
+        { work(serving, source, gate, tally, seat) },
     );
 }
 
@@ -223,23 +212,13 @@ fn work_all<
         return;
     }
     let workers = seats.len();
-    let (rt, alloc, max_reads) = (serving.rt, serving.alloc, serving.max_reads);
-    let directory = serving.directory;
     thread::for_each_mut(
-        rt,
+        serving.rt,
         seats,
         workers,
         &|_, seat| -> ()
             requires { IsSend X.In.row × IsSend X.Out.row }
             ensures { IsKept (AreShut (G.lets gate.entry.now)) seat.entry.now seat.exit.now }
-        {
-            let serving = Serving {
-                rt,
-                alloc,
-                directory,
-                max_reads,
-            };
-            work_in_place(&serving, source, gate, tally, seat)
-        },
+        { work_in_place(serving, source, gate, tally, seat) },
     );
 }
