@@ -42,7 +42,7 @@ adds_goes log v e old len pre false is =
       rw is (ap length all),
     )
 
--- whatever the book is, the exchange adds the event to all that was seen, or finds that the story is longer
+-- whatever the book is, the exchange adds the event to all that was seen, or finds that the history is longer
 pub adds_moves : (v : List Event) (e : Event) (old : ℕ) → length v ≡ old
     → Moves IsKept shown moved 0 (v, (no_nib, None)) (λ n. either (n == old) (old + 1) n) (Adds (step 0 old (old + 1) e) (v, (no_nib, None)))
 adds_moves v e old len cs log kept pre away =

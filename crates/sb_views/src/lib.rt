@@ -4,14 +4,14 @@
 //! without waiting, and gets a snapshot: the view of the node after a prefix of its history, no shorter than any that it saw before.
 //!
 //! ```rust
-//! /// How many of an owner's live rows under a prefix a reader gets, and up to which version it has the owner.
-//! fn count_under<S: NodeTag>(entered: &Entered<S>, owner: &Name, prefix: Prefix) -> (usize, u64) {
+//! /// The version of what a reader gets under a key of an owner, and up to which version it has the owner.
+//! fn version_under<S: NodeTag>(entered: &Entered<S>, owner: &Name, key: &Key) -> (Option<u64>, u64) {
 //!     let snapshot = entered.snapshot();
-//!     let mut count = 0;
-//!     for _ in snapshot.rows(Some(*owner), prefix) {
-//!         count += 1;
-//!     }
-//!     (count, snapshot.upto(owner))
+//!     let version = match snapshot.get(owner, key) {
+//!         Some((_, version)) => Some(version),
+//!         None => None,
+//!     };
+//!     (version, snapshot.upto(owner))
 //! }
 //! ```
 #![tactic(auto)]

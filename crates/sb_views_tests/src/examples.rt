@@ -1,4 +1,4 @@
-//! The examples that stand at the top of the crates of watches, of lines, of questions and of listings.
+//! The examples that stand at the top of the crates of watches, of lines, of views, of questions and of listings.
 use crate::making::{key, name, prefix, rows_of};
 use crate::reading::{Look, read};
 use crate::views::all_written;
@@ -9,7 +9,7 @@ use sb_listing::{changes, print_changes};
 use sb_log::{PlainLog, WriteLog};
 use sb_query::{answer, print_rows};
 use sb_types::{BUDGET_LEAST, Fault, Key, Name, Prefix, Slot, VERSION_MOST, Value};
-use sb_views::Snapshot;
+use sb_views::{Entered, NodeTag, Snapshot};
 use sb_watch::{Filter, Hub, Note, Polled};
 use std::alloc::Global;
 use std::process::Abort;
@@ -57,6 +57,21 @@ fn example_of_sb_lines(rt: HostRuntime) {
     same(&rt, &lines.as_slice(), &wanted.as_slice());
 }
 
+/// The version of what a reader gets under a key of an owner, and up to which version it has the owner.
+fn version_under<S: NodeTag>(entered: &Entered<S>, owner: &Name, key: &Key) -> (Option<u64>, u64) {
+    let snapshot = entered.snapshot();
+    let version = match snapshot.get(owner, key) {
+        Some((_, version)) => Some(version),
+        None => None,
+    };
+    (version, snapshot.upto(owner))
+}
+
+pub(crate) fn key_is_looked_up<S: NodeTag>(rt: &impl Abort, entered: &Entered<S>) {
+    let found = version_under(entered, &name(rt, b"a"), &key(rt, b"net/a"));
+    same(rt, &found, &(Some(2), 4));
+}
+
 /// The lines of the first page of all rows under a prefix.
 fn lines_under(alloc: Global, snapshot: &Snapshot<'_>, prefix: Prefix) -> Result<Vec<u8>, Fault> {
     let (owner, after) = (None, None);
@@ -97,6 +112,12 @@ fn example_of_sb_listing(rt: HostRuntime) {
     let lines = got(&rt, changed_lines(alloc, &earlier, &later));
     let wanted = b"gone a w\nset b up 1 flag true\n";
     same(&rt, &lines.as_slice(), &wanted.as_slice());
+}
+
+#[test]
+fn example_of_sb_views(rt: HostRuntime) {
+    let holdings = all_written(&rt, rt.alloc());
+    read(&rt, rt.alloc(), &holdings, Look::Key);
 }
 
 #[test]

@@ -1,7 +1,7 @@
 //! A reader of a node whose views were just made, and what it is to find.
 ghost use Rattle.std.specs.Prelude.{◌≡◌};
 
-use crate::examples::rows_are_printed;
+use crate::examples::{key_is_looked_up, rows_are_printed};
 use crate::pages::{pages_follow, rows_are_answered};
 use crate::views::live_is_shown;
 use crate::{got, there};
@@ -21,6 +21,8 @@ pub(crate) enum Look {
     Pages,
     /// Pages that follow one another.
     Following,
+    /// What stands under one key.
+    Key,
     /// The rows under a prefix, which are printed.
     Print,
 }
@@ -56,6 +58,7 @@ fn look_at<S: NodeTag>(rt: &impl Abort, alloc: Global, entered: &Entered<S>, loo
         Look::Live => live_is_shown(rt, &snapshot),
         Look::Pages => rows_are_answered(rt, alloc, &snapshot),
         Look::Following => pages_follow(rt, alloc, &snapshot),
+        Look::Key => key_is_looked_up(rt, entered),
         Look::Print => rows_are_printed(rt, alloc, &snapshot),
     }
 }
