@@ -10,6 +10,7 @@ use sb_types::{
     BUDGET_LEAST, BUDGET_MOST, Fault, Name, RawSettings, Settings, VERSION_MOST, WORKERS_MOST,
 };
 use std::fs::{metadata, symlink_metadata};
+use std::net::{Net, TcpListener, TcpStream};
 use std::os::unix::fs::FileTypeExt;
 
 /// The most bytes of the path of a socket.
@@ -120,7 +121,7 @@ fn place_of<'a>(rt: &HostRuntime, fault: &Fault, given: &Given<'a>) -> Place<'a>
 }
 
 /// Runs a node over a log, and prints what it did. The faults of `run_node`; then `WriteFailed`.
-fn run<'a, L: WriteLog + Drop, R: Runtime>(
+fn run<'a, L: WriteLog + Drop, R: Runtime + Net<Listener = TcpListener, Stream = TcpStream>>(
     rt: &HostRuntime,
     runtime: &R,
     given: &Given<'a>,
@@ -165,7 +166,7 @@ fn run<'a, L: WriteLog + Drop, R: Runtime>(
 /// Runs a node. `BadName` of its name, then `BadSetting`, of too few seats too, then `ReadFailed` where the path of a peer is none
 /// of a socket, and `WriteFailed` where metrics would take the place of something else, before the log is opened; then the faults of
 /// `open_log` and of `run_node`, and `WriteFailed` of what is printed at the end.
-pub(crate) fn serve<'a, R: Runtime>(
+pub(crate) fn serve<'a, R: Runtime + Net<Listener = TcpListener, Stream = TcpStream>>(
     rt: &HostRuntime,
     runtime: &R,
     given: &Given<'a>,

@@ -13,6 +13,7 @@ use sb_types::{Fault, Settings};
 use sb_views::NewHistory;
 use std::alloc::Global;
 use std::marker::Brand;
+use std::net::{Net, TcpListener, TcpStream};
 use std::sync::ledger::Blank;
 
 /// Where a node listens, and whom it dials: the paths of Unix sockets.
@@ -115,13 +116,11 @@ fn start_refusal<L: WriteLog>(settings: &Settings, log: &L) -> Option<Fault>
 /// `NoMemory` where the thread of the pool, or the one that dials, can't be made; `StoreFailed` where the log failed and the
 /// node is to exit then. With each of these no file is left that was not there before. Where the thread of a worker can't be
 /// made, the node serves fewer peers at once.
-pub fn run_node<L: WriteLog + Drop, R: Runtime, O: Observer + Sync>(
-    rt: &R,
-    alloc: Global,
-    config: NodeConfig,
-    log: L,
-    observer: &O,
-) -> Result<Ran, Fault>
+pub fn run_node<
+    L: WriteLog + Drop,
+    R: Runtime + Net<Listener = TcpListener, Stream = TcpStream>,
+    O: Observer + Sync,
+>(rt: &R, alloc: Global, config: NodeConfig, log: L, observer: &O) -> Result<Ran, Fault>
     ensures refused { IfSome (spec.start_refusal config.entry.settings (L.seen log)) (λ fault. result ≡ Err fault) }
     ensures closed { spec.start_refusal config.entry.settings (L.seen log) ≡ None → (L.seen log).is_open ≡ false → result ≡ Err Fault.Closed }
     ensures fault { IfErr result (IsRunningFault config.entry.settings (L.seen log) config.entry.pace.on_log_fault) }

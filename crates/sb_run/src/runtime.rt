@@ -1,27 +1,12 @@
 //! What a running node asks of its runtime.
 
-use std::net::{Net, TcpListener, TcpStream};
 use std::rt::Files;
 use std::sync::Wait;
 use std::thread::Threads;
 use std::time::Clock;
 
-/// What a running node asks of its runtime: threads, locks, a clock, files and sockets. A runtime that has all of them is one.
-pub trait Runtime: Threads
-    + Wait
-    + Clock
-    + Files
-    + Net<Listener = TcpListener, Stream = TcpStream>
-    + Send
-    + Sync {}
+/// What a running node asks of its runtime, beside sockets: threads, locks, a clock and files. A runtime that has all of them is
+/// one. The sockets stand beside it in each signature, since a caller whose runtime is a type of its own has to see their types.
+pub trait Runtime: Threads + Wait + Clock + Files + Send + Sync {}
 
-impl<R> Runtime for R
-where
-    R: Threads
-        + Wait
-        + Clock
-        + Files
-        + Net<Listener = TcpListener, Stream = TcpStream>
-        + Send
-        + Sync,
-{}
+impl<R: Threads + Wait + Clock + Files + Send + Sync> Runtime for R {}

@@ -22,6 +22,7 @@ use sb_node::NodeCore;
 use sb_types::Fault;
 use sb_views::NewHistory;
 use std::alloc::Global;
+use std::net::{Net, TcpListener, TcpStream};
 use std::sync::Wait;
 use std::sync::ledger::Blank;
 
@@ -43,7 +44,7 @@ pub(crate) struct NodeStart<L: WriteLog> {
 pub(crate) fn run_tagged<
     S: RoundsTag + Send + Sync,
     L: WriteLog + Drop,
-    R: Runtime,
+    R: Runtime + Net<Listener = TcpListener, Stream = TcpStream>,
     O: Observer + Sync,
 >(
     rt: &R,

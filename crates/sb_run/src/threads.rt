@@ -16,7 +16,7 @@ use crate::seats::ThreadSeats;
 use sb_directory::{DirectoryTag, ReaderSeat};
 use sb_log::WriteLog;
 use sb_types::Fault;
-use std::net::Net;
+use std::net::{Net, TcpListener, TcpStream};
 use std::sync::Wait;
 use std::thread;
 use std::thread::{Promise, Threads};
@@ -86,7 +86,7 @@ pub(crate) fn run_threads<
     S: RoundsTag + Send + Sync,
     L: WriteLog + Drop,
     H: Wait + Drop + Send + Sync,
-    Q: Runtime,
+    Q: Runtime + Net<Listener = TcpListener, Stream = TcpStream>,
     O: Observer + Sync,
 >(
     node: &NodeContext<S, H, Q>,

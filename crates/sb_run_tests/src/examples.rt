@@ -6,13 +6,23 @@ use sb_log::PlainLog;
 use sb_run::{Nobody, NodeConfig, Paths, Ran, Runtime, run_node};
 use sb_types::{Fault, Name};
 use std::alloc::Global;
+use std::net::{Net, TcpListener, TcpStream};
 
 /// Runs the node `a` over a log in memory, until it has made its rounds.
-fn run_in_memory<R: Runtime>(rt: &R, alloc: Global, config: NodeConfig) -> Result<Ran, Fault> {
-    let settings = &config.settings;
+fn run_in_memory<R: Runtime + Net<Listener = TcpListener, Stream = TcpStream>>(
+    rt: &R,
+    alloc: Global,
+    config: NodeConfig,
+) -> Result<Ran, Fault> {
     let name = Name::read(b"a")?;
-    let log = PlainLog::new(alloc, name, settings.cluster(), settings.max_version());
-    run_node(rt, alloc, config, log, &Nobody)
+    let (cluster, most) = (config.settings.cluster(), config.settings.max_version());
+    run_node(
+        rt,
+        alloc,
+        config,
+        PlainLog::new(alloc, name, cluster, most),
+        &Nobody,
+    )
 }
 
 #[test]

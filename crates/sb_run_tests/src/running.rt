@@ -9,7 +9,7 @@ use sb_types::Fault;
 use std::alloc::Global;
 use std::fs::File;
 use std::io::{Read, Write};
-use std::net::{Net, Shutdown};
+use std::net::{Net, Shutdown, TcpListener, TcpStream};
 use std::os::unix::net::{UnixListener, UnixStream};
 use std::process::Abort;
 use std::rt::Files;
@@ -74,7 +74,7 @@ pub(crate) trait Host: Runtime + Abort {}
 impl<R: Runtime + Abort> Host for R {}
 
 /// Runs the node a with a new log.
-pub(crate) fn run_a<R: Host>(
+pub(crate) fn run_a<R: Host + Net<Listener = TcpListener, Stream = TcpStream>>(
     rt: &R,
     alloc: Global,
     paths: &Paths,
@@ -84,13 +84,10 @@ pub(crate) fn run_a<R: Host>(
 }
 
 /// The same, with this observer.
-pub(crate) fn run_observed<R: Host, O: Observer + Sync>(
-    rt: &R,
-    alloc: Global,
-    paths: &Paths,
-    pace: Pace,
-    observer: &O,
-) -> Result<Ran, Fault> {
+pub(crate) fn run_observed<
+    R: Host + Net<Listener = TcpListener, Stream = TcpStream>,
+    O: Observer + Sync,
+>(rt: &R, alloc: Global, paths: &Paths, pace: Pace, observer: &O) -> Result<Ran, Fault> {
     let log = new_log(rt, alloc, b"a");
     let config = NodeConfig {
         settings: settings(rt, 3),
@@ -146,7 +143,13 @@ fn is_kept(rt: &(impl Files + Abort), alloc: Global) -> bool {
 }
 
 /// A node is refused where there is a file at one of its paths: it is left as it was, and there is none at the other.
-fn leaves_taken<R: Host>(rt: &R, alloc: Global, sock: &str, control: &str, free: &str) {
+fn leaves_taken<R: Host + Net<Listener = TcpListener, Stream = TcpStream>>(
+    rt: &R,
+    alloc: Global,
+    sock: &str,
+    control: &str,
+    free: &str,
+) {
     let paths = paths_of(sock, control, &[]);
     got(rt, fs::write(rt, "taken", "kept"));
     let ran = run_a(rt, alloc, &paths, pace(1, 0));
@@ -162,7 +165,13 @@ fn a_path_that_is_taken_is_left(rt: HostRuntime) {
 }
 
 /// A node is refused where one of its paths is empty, and there is no file at the other.
-fn refuses_empty<R: Host>(rt: &R, alloc: Global, sock: &str, control: &str, other: &str) {
+fn refuses_empty<R: Host + Net<Listener = TcpListener, Stream = TcpStream>>(
+    rt: &R,
+    alloc: Global,
+    sock: &str,
+    control: &str,
+    other: &str,
+) {
     let paths = paths_of(sock, control, &[]);
     let ran = run_a(rt, alloc, &paths, pace(1, 0));
     let met = (ran, is_there(rt, other));
@@ -176,7 +185,7 @@ fn an_empty_path_is_refused(rt: HostRuntime) {
 }
 
 /// What the node did. Where it did not dial so often, connections stand for it, so that the player does not wait for them.
-fn run_and_reach<R: Host>(
+fn run_and_reach<R: Host + Net<Listener = TcpListener, Stream = TcpStream>>(
     rt: &R,
     alloc: Global,
     paths: &Paths,
