@@ -25,11 +25,15 @@
 #![tactic(auto)]
 
 mod after;
+mod floors;
 mod laws;
 mod prefixed;
+mod restore;
+mod swap;
 mod table;
 
 pub use after::After;
+pub use floors::{Shown, Stage};
 pub use laws::{
     by_key_sorts, entering_keeps_tables, what_is_entered_is_found, what_stands_is_found,
 };
