@@ -66,7 +66,7 @@ module _ (t : Table) (s : Stage) where
 one_run : (held : ℕ) (e : Entry) → held < e.version → IsRun held e.version (e ∷ [])
 one_run held e l = record { ascending = and_from _ _ (lt-ltb held e.version l) refl; most = omega arith; distinct = refl }
 
-kept-with_entry : (t : Table) (e : Entry) → IsKeptTable t → t.held < e.version → is_full_for e.key t.entries ≡ false → IsKeptTable (with_entry t e)
+pub kept-with_entry : (t : Table) (e : Entry) → IsKeptTable t → t.held < e.version → is_full_for e.key t.entries ≡ false → IsKeptTable (with_entry t e)
 kept-with_entry t e kept later room =
     let one = one_run t.held e later in
     record {
