@@ -511,7 +511,10 @@ fn example_of_a_floor(rt: HostRuntime) {
     let mut shown = Shown::new(rt.alloc());
     let [port, host] = [key(&rt, b"port"), key(&rt, b"host")];
     got(&rt, enter_shown(&mut shown, weighing(&rt, b"port", 1, 80)));
-    got(&rt, enter_shown(&mut shown, Entry::new(host, 2, Slot::Removed)));
+    got(
+        &rt,
+        enter_shown(&mut shown, Entry::new(host, 2, Slot::Removed)),
+    );
     got(&rt, raise(&mut shown, 3, 2));
     let counts = (shown.len(), shown.upto(), shown.floor());
     same(&rt, &counts, &(1, 3, 2));
@@ -678,13 +681,7 @@ fn assert_swapped(rt: &impl Abort, alloc: Global, shown: &Shown) {
 }
 
 fn assert_swapped_low(rt: &impl Abort, alloc: Global, shown: &Shown) {
-    let low = staged(
-        rt,
-        alloc,
-        2,
-        0,
-        &[(b'c', 3, Some(3)), (b'a', 6, Some(6))],
-    );
+    let low = staged(rt, alloc, 2, 0, &[(b'c', 3, Some(3)), (b'a', 6, Some(6))]);
     let new = got(rt, swapped(alloc, shown, &low));
     let wanted = [(b'c', 3, None), (b'a', 6, Some(6))];
     assert_holds(rt, alloc, &new, 6, 2, &wanted);

@@ -29,7 +29,7 @@ use std::marker::Model;
 /// assert!(rt; shown.get(&Key::read(b"host")?).is_none());
 /// ```
 ///
-/// The test `example_of_a_floor` runs these lines; its `push` first tests that the version is above all before.
+/// The test `example_of_a_floor` runs these lines; `push` and `raise` stand there behind tests of what they require.
 #[derive(Debug, Drop)]
 pub struct Shown {
     upto: u64,
