@@ -130,7 +130,7 @@ fn speak<W: Write, H: Handler>(
 fn ends_round(message: &Message) -> bool
     ensures { result ≡ ends_round message.now }
 {
-    matches!(message, Message::Digest(told) if !told.want())
+    matches!(message, Message::Digest(theirs) if !theirs.want())
 }
 
 /// The rounds that are left after a message.
