@@ -155,6 +155,7 @@ fn work_in_place<S: DirectoryTag, H: Wait + Drop, Q: Wait, X: Source, G: Gate>(
 )
     ensures { IsKept (AreShut (G.lets gate.now)) seat.old seat.new }
 {
+    // `serving` is handed in: the prover keeps no clause of a closure that captures a struct with a lifetime.
     replace_with(
         seat,
         serving,
