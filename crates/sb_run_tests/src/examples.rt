@@ -3,10 +3,13 @@ use crate::making::settings;
 use crate::running::pace;
 use crate::{got, same};
 use sb_log::PlainLog;
-use sb_run::{Nobody, NodeConfig, Paths, Ran, Runtime, run_node};
+use sb_run::{Nobody, Paths, Ran, Runtime, run_node};
 use sb_types::{Fault, Name};
 use std::alloc::Global;
 use std::net::{Net, TcpListener, TcpStream};
+
+/// What a node is to do whose paths the program names itself.
+type NodeConfig = sb_run::NodeConfig<'static>;
 
 /// Runs the node `a` over a log in memory, until it has made its rounds.
 fn run_in_memory<R: Runtime + Net<Listener = TcpListener, Stream = TcpStream>>(
