@@ -6,21 +6,22 @@
 //! asks by `ask_control`.
 //!
 //! ```rust
-//! /// Runs the node `a` over a log in memory, until it has made its rounds.
+//! /// Runs the node of this name over a log in memory, until it has made its rounds.
 //! fn run_in_memory<R: Runtime + Net<Listener = TcpListener, Stream = TcpStream>>(
 //!     rt: &R,
 //!     alloc: Global,
-//!     config: NodeConfig,
+//!     name: Name,
+//!     settings: Settings,
+//!     paths: &Paths,
+//!     pace: Pace,
 //! ) -> Result<Ran, Fault> {
-//!     let name = Name::read(b"a")?;
-//!     let (cluster, most) = (config.settings.cluster(), config.settings.max_version());
-//!     run_node(
-//!         rt,
-//!         alloc,
-//!         config,
-//!         PlainLog::new(alloc, name, cluster, most),
-//!         &Nobody,
-//!     )
+//!     let log = PlainLog::new(alloc, name, settings.cluster(), settings.max_version());
+//!     let config = NodeConfig {
+//!         settings,
+//!         paths: *paths,
+//!         pace,
+//!     };
+//!     run_node(rt, alloc, config, log, &Nobody)
 //! }
 //! ```
 #![tactic(auto)]
