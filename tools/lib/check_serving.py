@@ -239,7 +239,7 @@ def read_from_all(check, pieces, max_reads, ends_well):
             want(f"whether {pieces} pieces are answered at {path.name}", kind in slowly(stream, asked, pieces), ends_well)
     status, printed, said = node.ended()
     want(f"the end after {pieces} pieces", (status, printed), (0, f"rounds 1 faults {0 if ends_well else 3} events 0\n"))
-    level, end = ("info", "answers") if ends_well else ("warning", "fault 29: the turns that were allowed are spent")
+    level, end = ("info", "answers") if ends_well else ("warning", "fault 29: the reads, calls or events that were allowed are spent")
     want(f"what is said of a peer of {pieces} pieces", said[1:-1], [f"attrdir: {level} peer {peer.path}: {end}"])
 
 

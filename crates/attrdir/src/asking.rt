@@ -16,8 +16,8 @@ use std::os::unix::net::UnixStream;
 use std::sync::ledger::{Blank, Ledger};
 use std::time::Duration;
 
-/// How many reads one answer may take.
-const MAX_READS: u64 = 65_536;
+/// How many reads one answer, or one session, may take.
+pub(crate) const READS_OF_ONE: u64 = 65_536;
 
 /// How many seconds no byte may move before a request is given up.
 const LONGEST_SILENCE: u64 = 60;
@@ -47,7 +47,7 @@ fn exchange<K: Ledger>(
         &mut reader,
         &mut writer,
         request,
-        MAX_READS,
+        READS_OF_ONE,
         &mut steps,
     );
     answer

@@ -19,7 +19,7 @@ use std::alloc::Global;
 use std::{env, io};
 
 /// How many reads a script may take.
-const MAX_READS: u64 = 1_000_000;
+const READS_OF_A_SCRIPT: u64 = 1_000_000;
 
 /// The exit status of a command line that is wrong.
 pub(crate) const USAGE_STATUS: u8 = 2;
@@ -75,7 +75,13 @@ pub(crate) fn words(rt: &HostRuntime) -> Result<Option<Vec<String>>, Fault> {
 /// Plays the script on standard input, and answers the exit status.
 fn play(rt: &HostRuntime, detail: Detail) -> Result<u8, Fault> {
     let mut output = Output::new(rt.alloc(), rt.stdout())?;
-    let ending = sim_run_uncounted(rt.alloc(), rt.stdin(), &mut output, MAX_READS, detail)?;
+    let ending = sim_run_uncounted(
+        rt.alloc(),
+        rt.stdin(),
+        &mut output,
+        READS_OF_A_SCRIPT,
+        detail,
+    )?;
     Ok(ending.status())
 }
 

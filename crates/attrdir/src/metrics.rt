@@ -173,7 +173,7 @@ impl Metrics<'_, '_> {
     /// How many owners the node holds, itself counted, which it holds also where it wrote nothing.
     pub(crate) fn owners(&self) -> usize {
         let mut count: usize = 1;
-        for (owner, _) in self.status.snapshot.sheets() {
+        for (owner, _) in self.status.snapshot.owners() {
             if owner.bytes() != self.name.as_bytes() {
                 count = count.saturating_add(1);
             }
@@ -225,12 +225,12 @@ impl Metrics<'_, '_> {
     /// What it holds of each owner.
     fn write_owners<W: fmt::Write>(&self, f: &mut fmt::Formatter<W>) -> fmt::Result {
         write_head(f, &HELD_VERSION)?;
-        for (owner, sheet) in self.status.snapshot.sheets() {
-            self.write_of_owner(f, &HELD_VERSION, owner, sheet.upto())?;
+        for (owner, view) in self.status.snapshot.owners() {
+            self.write_of_owner(f, &HELD_VERSION, owner, view.upto())?;
         }
         write_head(f, &ROWS)?;
-        for (owner, sheet) in self.status.snapshot.sheets() {
-            self.write_of_owner(f, &ROWS, owner, sheet.len() as u64)?;
+        for (owner, view) in self.status.snapshot.owners() {
+            self.write_of_owner(f, &ROWS, owner, view.len() as u64)?;
         }
         Ok(())
     }

@@ -2,7 +2,7 @@
 ghost use Rattle.std.specs.Prelude.{◌≡◌, ◌<◌, IfErr};
 ghost use Rattle.sb_session.specs.Handlers.{IsRefusal};
 
-use crate::asking::limit;
+use crate::asking::{READS_OF_ONE, limit};
 use crate::failure::{Failure, Place};
 use sb_codec::{Bye, Message};
 use sb_digest::{Digest, Pair};
@@ -15,9 +15,6 @@ use std::io::{Read, Write};
 use std::marker::Brand;
 use std::os::unix::net::UnixStream;
 use std::sync::ledger::{Blank, Ledger};
-
-/// How many reads a session may take.
-const MAX_READS: u64 = 65_536;
 
 /// The least name of all.
 const LEAST_NAME: &[u8] = b"-";
@@ -155,7 +152,7 @@ fn hear_all<R: Read, W: Write, L: Ledger>(
     steps: &mut Steps<L>,
 ) -> Result<(), Fault> {
     let alloc = heard.alloc;
-    let (mut session, mut left, mut frames) = (session, MAX_READS, Frames::new(alloc));
+    let (mut session, mut left, mut frames) = (session, READS_OF_ONE, Frames::new(alloc));
     send(alloc, writer, &session.hello())?;
     let _ = hear(reader, &mut session, heard, &mut frames, &mut left, steps)?;
     for _ in 0..OWNERS_MOST {

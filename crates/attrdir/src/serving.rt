@@ -5,17 +5,13 @@ use crate::log_file::open_log;
 use crate::metrics_file::{MetricsFile, may_replace, writes_over};
 use crate::words::name_of;
 use sb_log::WriteLog;
-use sb_run::{Pace, Paths, Ran, run_node};
+use sb_run::{NodeConfig, Pace, Paths, Ran, Runtime, run_node};
 use sb_types::{
     BUDGET_LEAST, BUDGET_MOST, Fault, Name, RawSettings, Settings, VERSION_MOST, WORKERS_MOST,
 };
 use std::fs::{metadata, symlink_metadata};
 use std::net::{Net, TcpListener, TcpStream};
 use std::os::unix::fs::FileTypeExt;
-use std::rt::Files;
-use std::sync::Wait;
-use std::thread::Threads;
-use std::time::Clock;
 
 /// The most bytes of the path of a socket.
 const SOCKET_PATH_MOST: usize = 107;
@@ -125,17 +121,7 @@ fn place_of<'a>(rt: &HostRuntime, fault: &Fault, given: &Given<'a>) -> Place<'a>
 }
 
 /// Runs a node over a log, and prints what it did. The faults of `run_node`; then `WriteFailed`.
-fn run<
-    'a,
-    L: WriteLog + Drop,
-    R: Threads
-        + Wait
-        + Clock
-        + Files
-        + Net<Listener = TcpListener, Stream = TcpStream>
-        + Send
-        + Sync,
->(
+fn run<'a, L: WriteLog + Drop, R: Runtime + Net<Listener = TcpListener, Stream = TcpStream>>(
     rt: &HostRuntime,
     runtime: &R,
     given: &Given<'a>,
@@ -161,15 +147,12 @@ fn run<
         metrics,
         shortage: Shortage::new(),
     };
-    let ran = run_node(
-        runtime,
-        rt.alloc(),
+    let config = NodeConfig {
         settings,
-        log,
-        &paths,
-        given.pace,
-        &console,
-    );
+        paths,
+        pace: given.pace,
+    };
+    let ran = run_node(runtime, rt.alloc(), config, log, &console);
     console.remove_metrics();
     match ran {
         Ok(ran) => {
@@ -183,16 +166,11 @@ fn run<
 /// Runs a node. `BadName` of its name, then `BadSetting`, of too few seats too, then `ReadFailed` where the path of a peer is none
 /// of a socket, and `WriteFailed` where metrics would take the place of something else, before the log is opened; then the faults of
 /// `open_log` and of `run_node`, and `WriteFailed` of what is printed at the end.
-pub(crate) fn serve<
-    'a,
-    R: Threads
-        + Wait
-        + Clock
-        + Files
-        + Net<Listener = TcpListener, Stream = TcpStream>
-        + Send
-        + Sync,
->(rt: &HostRuntime, runtime: &R, given: &Given<'a>) -> Result<(), Failure<'a>> {
+pub(crate) fn serve<'a, R: Runtime + Net<Listener = TcpListener, Stream = TcpStream>>(
+    rt: &HostRuntime,
+    runtime: &R,
+    given: &Given<'a>,
+) -> Result<(), Failure<'a>> {
     let name = name_of("--name", given.name)?;
     let settings = match Settings::check(given.settings) {
         Ok(settings) => settings,

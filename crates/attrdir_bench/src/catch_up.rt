@@ -1,41 +1,27 @@
 //! A node that holds nothing catches up with a peer, over two pipes in memory.
-use crate::layers::taken;
+use crate::calls::taken;
+use crate::plan::Plan;
 use crate::problem::Problem;
-use crate::report::Measured;
-use crate::sample::Sizes;
+use crate::report::{Measured, spent_since};
+use crate::sample::{ME, hear, new_node};
 use sb_codec::Message;
 use sb_digest::Digest;
 use sb_frames::{Frames, send_from};
 use sb_holdings::Report;
 use sb_node::NodeCore;
 use sb_session::{Replies, Session};
-use sb_table::Table;
-use sb_types::{BUDGET_MOST, Block, Delta, Entry, Fault, Name, Order, RawSettings, Settings};
+use sb_types::{Block, Delta, Fault};
 use std::alloc::Global;
 use std::time::CpuClock;
-
-/// How many entries a delta has by which the peer is filled.
-const ENTRIES_AT_ONCE: usize = 1_000;
 
 /// How long the catching up took by the entry, and what went over the pipes: how many frames, their bytes, and the
 /// bytes of the entries in them.
 #[derive(Clone, Copy, Debug)]
 pub(crate) struct CaughtUp {
     pub(crate) entries: Measured,
-    pub(crate) frames: Measured,
-    pub(crate) bytes: Measured,
-    pub(crate) content: Measured,
-}
-
-impl CaughtUp {
-    fn new() -> CaughtUp {
-        CaughtUp {
-            entries: Measured::new(),
-            frames: Measured::new(),
-            bytes: Measured::new(),
-            content: Measured::new(),
-        }
-    }
+    pub(crate) frames: u64,
+    pub(crate) bytes: u64,
+    pub(crate) content: u64,
 }
 
 /// One end: its session, what it has read, and the buffer of the frames that it sends.
@@ -120,36 +106,13 @@ impl End {
     }
 }
 
-fn node(alloc: Global, name: &[u8]) -> Result<NodeCore, Fault> {
-    let settings = Settings::check(RawSettings {
-        cluster: b"bench",
-        budget: BUDGET_MOST,
-        order: Order::Breadth,
-        max_version: 1,
-        seats: 2,
-        workers: 1,
-    })?;
-    NodeCore::open(alloc, settings, Name::read(name)?, Table::new(alloc))
-}
-
-fn delta_of(alloc: Global, owner: Name, after: u64, entries: &[Entry]) -> Result<Delta, Fault> {
-    let mut copies = Vec::with_capacity(alloc, entries.len())?;
-    for entry in entries {
-        copies.push(entry.copy(alloc)?)?;
-    }
-    Delta::new(vec![in alloc; Block::new(owner, after, copies)?]?)
-}
-
-/// A node that holds these blocks.
-fn full_core(alloc: Global, blocks: &[Block]) -> Result<NodeCore, Fault> {
-    let mut core = node(alloc, b"peer")?;
+/// A node that heard these blocks.
+fn full_node(alloc: Global, blocks: &[Block]) -> Result<NodeCore, Fault> {
+    let mut node = new_node(alloc, b"peer")?;
     for block in blocks {
-        for entries in block.entries().chunks(ENTRIES_AT_ONCE) {
-            let after = core.upto(block.owner());
-            core.apply(&delta_of(alloc, *block.owner(), after, entries)?)?;
-        }
+        hear(alloc, &mut node, block)?;
     }
-    Ok(core)
+    Ok(node)
 }
 
 /// How many entries the blocks have, and how many bytes these have.
@@ -212,7 +175,7 @@ impl Talk {
 /// A fresh node asks until a round brings it nothing more of so many entries, and answers how many entries, frames and
 /// bytes went over.
 fn catch_up(alloc: Global, full: &mut NodeCore, all: u64) -> Result<(u64, u64, u64), Fault> {
-    let mut core = node(alloc, b"node")?;
+    let mut core = new_node(alloc, ME)?;
     let mut talk = Talk::new(alloc, &core, full);
     talk.greet()?;
     for _ in 0..=all {
@@ -224,23 +187,24 @@ fn catch_up(alloc: Global, full: &mut NodeCore, all: u64) -> Result<(u64, u64, u
 }
 
 /// A node that holds nothing caught up with one that holds these blocks, in one session.
-pub(crate) fn measure(
-    rt: &HostRuntime,
-    sizes: Sizes,
-    blocks: &[Block],
-) -> Result<CaughtUp, Problem> {
+pub(crate) fn measure(rt: &HostRuntime, plan: Plan, blocks: &[Block]) -> Result<CaughtUp, Problem> {
     let alloc = rt.alloc();
-    let mut full = full_core(alloc, blocks)?;
+    let mut full = full_node(alloc, blocks)?;
     let (all, content) = content_of(blocks);
-    let mut caught = CaughtUp::new();
-    for _ in 0..sizes.rounds {
-        let start = rt.process_cpu_time()?;
+    let mut caught = CaughtUp {
+        entries: Measured::NOTHING,
+        frames: 0,
+        bytes: 0,
+        content: content.saturating_mul(plan.rounds),
+    };
+    for _ in 0..plan.rounds {
+        let start = rt.thread_cpu_time()?;
         let (entries, frames, bytes) = catch_up(alloc, &mut full, all)?;
-        caught.entries.stop(rt, start)?;
-        caught.entries.count(entries);
-        caught.frames.count(frames);
-        caught.bytes.count(bytes);
-        caught.content.count(content);
+        caught
+            .entries
+            .add(Measured::new(spent_since(rt, start)?, entries));
+        caught.frames = caught.frames.saturating_add(frames);
+        caught.bytes = caught.bytes.saturating_add(bytes);
     }
     Ok(caught)
 }

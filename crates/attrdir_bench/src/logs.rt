@@ -1,9 +1,10 @@
 //! The owner's log, measured: writes in memory and in a file, and the opening of a file.
+use crate::plan::{Plan, Telling};
 use crate::problem::Problem;
-use crate::report::{Measured, Telling, tell};
-use crate::sample::key_at;
-use sb_log::{PlainLog, SqlLog, WriteLog};
-use sb_types::{Fault, KEYS_MOST, Name, Slot, VERSION_MOST, Value};
+use crate::report::{Measured, spent_since, tell};
+use crate::sample::{cluster, key_at, me, new_log};
+use sb_log::{SqlLog, WriteLog};
+use sb_types::{Fault, KEYS_MOST, Slot, VERSION_MOST, Value};
 use sqlite::{Alter, Connection};
 use std::fs;
 use std::io::Write;
@@ -11,14 +12,6 @@ use std::time::{CpuClock, Duration, Instant};
 
 /// The bytes of a page, which a bare write is compared with.
 const PAGE: [u8; 4096] = [0; 4096];
-
-fn owner() -> Result<Name, Fault> {
-    Name::read(b"node")
-}
-
-fn cluster() -> Result<Name, Fault> {
-    Name::read(b"bench")
-}
 
 /// Writes weights under the keys in turn.
 fn put_all<L: WriteLog>(rt: &HostRuntime, log: &mut L, puts: u64) -> Result<(), Fault> {
@@ -31,121 +24,105 @@ fn put_all<L: WriteLog>(rt: &HostRuntime, log: &mut L, puts: u64) -> Result<(), 
 }
 
 /// Writes into a log in memory, by the write: the time of the processor.
-pub(crate) fn put_in_memory(rt: &HostRuntime, puts: u64) -> Result<Measured, Problem> {
-    let mut measured = Measured::new();
-    let mut log = PlainLog::new(rt.alloc(), owner()?, cluster()?, VERSION_MOST);
-    let start = rt.process_cpu_time()?;
+fn put_in_memory(rt: &HostRuntime, puts: u64) -> Result<Measured, Problem> {
+    let mut log = new_log(rt.alloc())?;
+    let start = rt.thread_cpu_time()?;
     put_all(rt, &mut log, puts)?;
-    measured.stop(rt, start)?;
-    measured.count(puts);
-    Ok(measured)
-}
-
-/// What is measured of a log in a file, whatever store the database is over.
-trait Visit {
-    fn visit<S: Alter + Drop>(
-        self,
-        rt: &HostRuntime,
-        conn: Connection<S>,
-    ) -> Result<Measured, Problem>;
-}
-
-/// What is measured of the database in the file, which is made where it is not there. It is the one place that names the store:
-/// each function that does is dear to prove.
-fn visit_file<V: Visit + Drop>(
-    rt: &HostRuntime,
-    path: &str,
-    visitor: V,
-) -> Result<Measured, Problem> {
-    match Connection::open(rt, path) {
-        Ok(conn) => visitor.visit(rt, conn),
-        Err(_) => Err(Problem::Fault(Fault::StoreFailed)),
-    }
+    Ok(Measured::new(spent_since(rt, start)?, puts))
 }
 
 fn log_in<S: Alter + Drop>(rt: &HostRuntime, conn: Connection<S>) -> Result<SqlLog<S>, Fault> {
-    match SqlLog::open(rt.alloc(), conn, owner()?, cluster()?, VERSION_MOST) {
+    match SqlLog::open(rt.alloc(), conn, me()?, cluster()?, VERSION_MOST) {
         Ok(log) => Ok(log),
         Err((fault, _)) => Err(fault),
     }
 }
 
 /// Writes into a log, by the write: the time that passed, for each waits until the disk has it.
-#[derive(Clone, Copy)]
-struct Writing {
+fn put_in<S: Alter + Drop>(
+    rt: &HostRuntime,
+    conn: Connection<S>,
     puts: u64,
+) -> Result<Measured, Problem> {
+    let mut log = log_in(rt, conn)?;
+    let start = Instant::now(rt)?;
+    put_all(rt, &mut log, puts)?;
+    let spent = start.elapsed(rt)?;
+    log.close()?;
+    Ok(Measured::new(spent, puts))
 }
 
-impl Visit for Writing {
-    fn visit<S: Alter + Drop>(
-        self,
-        rt: &HostRuntime,
-        conn: Connection<S>,
-    ) -> Result<Measured, Problem> {
-        let mut measured = Measured::new();
-        let mut log = log_in(rt, conn)?;
-        let start = Instant::now(rt)?;
-        put_all(rt, &mut log, self.puts)?;
-        measured.add(start.elapsed(rt)?);
-        measured.count(self.puts);
-        log.close()?;
-        Ok(measured)
+/// The opening of a log, begun at `start`, by the key that it has: the time of the processor.
+fn open_in<S: Alter + Drop>(
+    rt: &HostRuntime,
+    conn: Connection<S>,
+    start: Duration,
+) -> Result<Measured, Problem> {
+    let mut log = log_in(rt, conn)?;
+    let spent = spent_since(rt, start)?;
+    let keys = log.load(rt.alloc())?.len() as u64;
+    log.close()?;
+    Ok(Measured::new(spent, keys))
+}
+
+/// What is measured of a log in a file: so many writes, or its opening, begun at this time.
+#[derive(Clone, Copy)]
+enum LogCall {
+    Put(u64),
+    Open(Duration),
+}
+
+/// Measures a log in a database, whatever store this is over.
+fn measure_in<S: Alter + Drop>(
+    rt: &HostRuntime,
+    conn: Connection<S>,
+    call: LogCall,
+) -> Result<Measured, Problem> {
+    match call {
+        LogCall::Put(puts) => put_in(rt, conn, puts),
+        LogCall::Open(start) => open_in(rt, conn, start),
+    }
+}
+
+/// Measures a log in the database in the file, which is made where it is not there. It is the one place that names the store: each
+/// function that does is dear to prove.
+fn measure_at(rt: &HostRuntime, path: &str, call: LogCall) -> Result<Measured, Problem> {
+    match Connection::open(rt, path) {
+        Ok(conn) => measure_in(rt, conn, call),
+        Err(_) => Err(Problem::Fault(Fault::StoreFailed)),
     }
 }
 
 /// Pages written to a file, each of which waits until the disk has it: the time that passed.
 fn write_pages(rt: &HostRuntime, path: &str, pages: u64) -> Result<Measured, Problem> {
-    let mut measured = Measured::new();
     let mut file = fs::File::create(rt, path)?;
     let start = Instant::now(rt)?;
     for _ in 0..pages {
         file.write_all(&PAGE)?;
         file.sync_data()?;
     }
-    measured.add(start.elapsed(rt)?);
-    measured.count(pages);
-    Ok(measured)
-}
-
-/// The opening of a log, begun at `start`, by the key that it has: the time of the processor.
-#[derive(Clone, Copy)]
-struct Opening {
-    start: Duration,
-}
-
-impl Visit for Opening {
-    fn visit<S: Alter + Drop>(
-        self,
-        rt: &HostRuntime,
-        conn: Connection<S>,
-    ) -> Result<Measured, Problem> {
-        let mut measured = Measured::new();
-        let mut log = log_in(rt, conn)?;
-        measured.stop(rt, self.start)?;
-        measured.count(log.load(rt.alloc())?.len() as u64);
-        log.close()?;
-        Ok(measured)
-    }
+    Ok(Measured::new(start.elapsed(rt)?, pages))
 }
 
 /// Measures a log in a new file at the path, beside bare writes to another, which both stay.
-pub(crate) fn measure_file(
-    rt: &HostRuntime,
-    telling: Telling,
-    path: &str,
-    puts: u64,
-) -> Result<(), Problem> {
+fn measure_file(rt: &HostRuntime, telling: Telling, path: &str, puts: u64) -> Result<(), Problem> {
     let bare = format!(in rt.alloc(); "{path}.bare")?;
-    tell(
-        rt,
-        telling,
-        write_pages(rt, bare.as_str(), puts),
-        "bare",
-        "write",
-    )?;
-    let put = visit_file(rt, path, Writing { puts });
+    let written = write_pages(rt, bare.as_str(), puts);
+    tell(rt, telling, written, "bare", "write")?;
+    let put = measure_at(rt, path, LogCall::Put(puts));
     tell(rt, telling, put, "put-file", "write")?;
-    let start = rt.process_cpu_time()?;
-    let opened = visit_file(rt, path, Opening { start });
+    let start = rt.thread_cpu_time()?;
+    let opened = measure_at(rt, path, LogCall::Open(start));
     tell(rt, telling, opened, "open", "key")
+}
+
+/// How a log takes writes, each of the keys once a round, and how it opens where a file is given.
+pub(crate) fn measure(rt: &HostRuntime, plan: Plan, path: Option<&str>) -> Result<(), Problem> {
+    let puts = plan.keys.saturating_mul(plan.rounds);
+    let put = put_in_memory(rt, puts);
+    tell(rt, plan.telling, put, "put", "write")?;
+    match path {
+        Some(path) => measure_file(rt, plan.telling, path, puts),
+        None => Ok(()),
+    }
 }

@@ -1,22 +1,33 @@
-//! How long each layer of the directory takes.
+//! How long each layer of the directory takes, and how fast threads read it beside a writer.
 #![tactic(auto)]
 
+mod calls;
 mod catch_up;
 mod command_line;
 mod layers;
 mod logs;
 mod memory;
+mod plan;
 mod problem;
+mod readers;
+mod reading;
 mod report;
 mod sample;
+mod writing;
 
+use crate::command_line::{Next, follow};
 use std::process::ExitCode;
 
 /// The exit status of a run that failed.
 const FAILED_STATUS: u8 = 1;
 
 fn main(rt: HostRuntime) -> ExitCode {
-    match command_line::run(&rt) {
+    let ended = match follow(&rt) {
+        Ok(Next::Ended(status)) => Ok(status),
+        Ok(Next::Readers(plan)) => readers::measure(&rt, plan).map(|()| 0),
+        Err(problem) => Err(problem),
+    };
+    match ended {
         Ok(status) => ExitCode::from(status),
         Err(problem) => {
             let _ = eprintln!(rt; "error: {problem}");

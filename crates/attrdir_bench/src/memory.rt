@@ -1,7 +1,11 @@
 //! How much memory a node takes.
+use crate::plan::{Plan, Telling};
 use crate::problem::Problem;
-use crate::report::Telling;
-use crate::sample::{Sizes, lone_node};
+use crate::report::tell_count;
+use crate::sample::{Kinds, block_of, no_holdings};
+use sb_holdings::Holdings;
+use sb_types::Fault;
+use std::alloc::Global;
 use std::fs;
 
 /// The bytes of a page of memory.
@@ -21,16 +25,24 @@ fn resident(rt: &HostRuntime) -> Result<u64, Problem> {
     Ok(second_number(line.as_str()).saturating_mul(PAGE))
 }
 
+/// What a node holds of a block of each owner, with no block beside it.
+fn lone_holdings(alloc: Global, plan: Plan) -> Result<Holdings, Fault> {
+    let mut holdings = no_holdings(alloc)?;
+    for owner in 0..plan.owners {
+        holdings.apply_block(&block_of(alloc, owner, plan.keys, Kinds::Short)?);
+    }
+    Ok(holdings)
+}
+
 /// Prints the resident bytes of each entry that a node holds, with nothing beside it. It has to come first: what was measured before
 /// leaves memory that is resident and free.
-pub(crate) fn hold(rt: &HostRuntime, sizes: Sizes, telling: Telling) -> Result<(), Problem> {
-    let entries = sizes.owners.saturating_mul(sizes.keys);
+pub(crate) fn hold(rt: &HostRuntime, plan: Plan) -> Result<(), Problem> {
+    let entries = plan.owners.saturating_mul(plan.keys);
     let before = resident(rt)?;
-    let _node = lone_node(rt.alloc(), sizes)?;
+    let _holdings = lone_holdings(rt.alloc(), plan)?;
     let bytes = resident(rt)?.saturating_sub(before);
-    match telling {
-        Telling::Times => println!(rt; "hold {} byte/entry", bytes / entries.max(1))?,
-        Telling::Counts => println!(rt; "hold {entries} entry")?,
+    match plan.telling {
+        Telling::Times => tell_count(rt, "hold", bytes / entries.max(1), "byte/entry"),
+        Telling::Counts => tell_count(rt, "hold", entries, "entry"),
     }
-    Ok(())
 }

@@ -1,6 +1,6 @@
 //! Why a run fails.
 use sb_types::Fault;
-use std::alloc::AllocError;
+use std::alloc::{AllocError, AllocFailed};
 use std::io;
 use thiserror::Error;
 
@@ -13,4 +13,10 @@ pub(crate) enum Problem {
     Memory(#[from] AllocError),
     #[error("{0}")]
     System(#[from] io::Error),
+}
+
+impl<T: Drop> From<AllocFailed<T>> for Problem {
+    fn from(_: AllocFailed<T>) -> Problem {
+        Problem::Memory(AllocError)
+    }
 }

@@ -1,14 +1,14 @@
-//! What is measured of a layer, and its line.
+//! What is measured, and its line.
+use crate::plan::Telling;
 use crate::problem::Problem;
 use std::io;
 use std::time::{CpuClock, Duration};
 
-/// What the lines tell: the time that each unit took, or how many units there were, which is the same in
-/// every run.
-#[derive(Clone, Copy, Debug, PartialEq, Eq)]
-pub(crate) enum Telling {
-    Times,
-    Counts,
+const NANOS_IN_SECOND: u128 = 1_000_000_000;
+
+/// The processor time of this thread since `start`.
+pub(crate) fn spent_since<R: CpuClock>(rt: &R, start: Duration) -> io::Result<Duration> {
+    Ok(rt.thread_cpu_time()?.saturating_sub(start))
 }
 
 /// How long something took, and of how many units.
@@ -20,56 +20,58 @@ pub(crate) struct Measured {
 
 impl Measured {
     /// Nothing yet.
-    pub(crate) fn new() -> Measured {
-        Measured {
-            spent: Duration::ZERO,
-            units: 0,
-        }
+    pub(crate) const NOTHING: Measured = Measured {
+        spent: Duration::ZERO,
+        units: 0,
+    };
+
+    pub(crate) fn new(spent: Duration, units: u64) -> Measured {
+        Measured { spent, units }
     }
 
-    /// Adds the processor time since `start`.
-    pub(crate) fn stop(&mut self, rt: &HostRuntime, start: Duration) -> io::Result<()> {
-        let spent = rt.process_cpu_time()?.saturating_sub(start);
-        self.add(spent);
-        Ok(())
+    /// How many units there were.
+    pub(crate) fn units(&self) -> u64 {
+        self.units
     }
 
-    /// Adds a time.
-    pub(crate) fn add(&mut self, spent: Duration) {
-        self.spent = self.spent.saturating_add(spent);
+    /// Adds what was measured beside it.
+    pub(crate) fn add(&mut self, other: Measured) {
+        self.spent = self.spent.saturating_add(other.spent);
+        self.units = self.units.saturating_add(other.units);
     }
 
-    /// Adds units that were done.
-    pub(crate) fn count(&mut self, units: u64) {
-        self.units = self.units.saturating_add(units);
+    /// The time of a unit.
+    pub(crate) fn nanos(&self) -> u128 {
+        self.spent.as_nanos() / u128::from(self.units.max(1))
     }
 
-    /// Prints a line of the name, the value and the unit.
-    pub(crate) fn print(
-        &self,
-        rt: &HostRuntime,
-        telling: Telling,
-        name: &str,
-        unit: &str,
-    ) -> io::Result<()> {
-        match telling {
-            Telling::Times => {
-                let nanos = self.spent.as_nanos() / u128::from(self.units.max(1));
-                println!(rt; "{name} {nanos} ns/{unit}")
-            }
-            Telling::Counts => println!(rt; "{name} {} {unit}", self.units),
-        }
+    /// The units of a second.
+    pub(crate) fn rate(&self) -> u128 {
+        u128::from(self.units).saturating_mul(NANOS_IN_SECOND) / self.spent.as_nanos().max(1)
     }
 }
 
+/// Prints a line of how many units there were.
+pub(crate) fn tell_count<R: Print>(
+    rt: &R,
+    name: &str,
+    count: u64,
+    unit: &str,
+) -> Result<(), Problem> {
+    Ok(println!(rt; "{name} {count} {unit}")?)
+}
+
 /// Prints a line of what was measured, unless that failed.
-pub(crate) fn tell(
-    rt: &HostRuntime,
+pub(crate) fn tell<R: Print>(
+    rt: &R,
     telling: Telling,
     measured: Result<Measured, Problem>,
     name: &str,
     unit: &str,
 ) -> Result<(), Problem> {
-    measured?.print(rt, telling, name, unit)?;
-    Ok(())
+    let measured = measured?;
+    match telling {
+        Telling::Times => Ok(println!(rt; "{name} {} ns/{unit}", measured.nanos())?),
+        Telling::Counts => tell_count(rt, name, measured.units, unit),
+    }
 }

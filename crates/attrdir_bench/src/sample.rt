@@ -1,33 +1,52 @@
-//! Owners and entries to measure with.
+//! Owners, entries and nodes to measure with.
 use sb_holdings::Holdings;
+use sb_log::PlainLog;
+use sb_node::NodeCore;
 use sb_table::Table;
-use sb_types::{Block, Entry, Fault, Key, Name, Slot, Value};
+use sb_types::{
+    BUDGET_MOST, Block, Delta, Entry, Fault, Key, Name, Order, RawSettings, Settings, Slot,
+    VERSION_MOST, Value,
+};
 use std::alloc::Global;
 
-/// How many owners are measured with, how many keys each has, and how often each layer is run.
-#[derive(Clone, Copy, Debug)]
-pub(crate) struct Sizes {
-    pub(crate) owners: u64,
-    pub(crate) keys: u64,
-    pub(crate) rounds: u64,
+const CLUSTER: &[u8] = b"bench";
+
+/// The node that is measured.
+pub(crate) const ME: &[u8] = b"node";
+
+/// How many keys stand under a prefix.
+pub(crate) const KEYS_OF_PREFIX: u64 = 16;
+
+/// How many entries a delta has by which a node is filled.
+const ENTRIES_AT_ONCE: usize = 1_000;
+
+/// The name of the node that is measured.
+pub(crate) fn me() -> Result<Name, Fault> {
+    Name::read(ME)
+}
+
+/// The name of its cluster.
+pub(crate) fn cluster() -> Result<Name, Fault> {
+    Name::read(CLUSTER)
 }
 
 /// Nine bytes.
-fn owner_at(alloc: Global, index: u64) -> Result<Name, Fault> {
+pub(crate) fn owner_at(alloc: Global, index: u64) -> Result<Name, Fault> {
     Name::read(format!(in alloc; "node-{index:04}")?.as_bytes())
 }
 
-/// Sixteen bytes, in groups of sixteen keys.
+/// Sixteen bytes, in groups of the keys under a prefix.
 pub(crate) fn key_at(alloc: Global, index: u64) -> Result<Key, Fault> {
-    let (group, place) = (index / 16, index % 16);
+    let (group, place) = (index / KEYS_OF_PREFIX, index % KEYS_OF_PREFIX);
     Key::read(format!(in alloc; "grp-{group:03}/attr-{place:02}x")?.as_bytes())
 }
 
-/// What is written: no text, or texts alone.
+/// What is written: no text, texts alone, or half and half.
 #[derive(Clone, Copy, Debug, PartialEq, Eq)]
 pub(crate) enum Kinds {
     Short,
     Texts,
+    Mixed,
 }
 
 /// A text of 40 bytes.
@@ -51,10 +70,12 @@ fn short_at(alloc: Global, index: u64) -> Result<Value, Fault> {
     }
 }
 
-fn value_at(alloc: Global, kinds: Kinds, index: u64) -> Result<Value, Fault> {
+/// A value of these kinds.
+pub(crate) fn value_at(alloc: Global, kinds: Kinds, index: u64) -> Result<Value, Fault> {
     match kinds {
         Kinds::Short => short_at(alloc, index),
-        Kinds::Texts => text_at(alloc, index),
+        Kinds::Mixed if index % 2 == 0 => short_at(alloc, index / 2),
+        _ => text_at(alloc, index),
     }
 }
 
@@ -68,7 +89,7 @@ fn scattered(owner: u64, turn: u64, keys: u64) -> u64 {
 }
 
 /// An owner's first writes, one under each of its keys.
-fn block_of(alloc: Global, owner: u64, keys: u64, kinds: Kinds) -> Result<Block, Fault> {
+pub(crate) fn block_of(alloc: Global, owner: u64, keys: u64, kinds: Kinds) -> Result<Block, Fault> {
     let mut entries = Vec::new(alloc);
     for turn in 0..keys {
         let key = key_at(alloc, scattered(owner, turn, keys))?;
@@ -79,33 +100,64 @@ fn block_of(alloc: Global, owner: u64, keys: u64, kinds: Kinds) -> Result<Block,
 }
 
 /// A block of each owner.
-pub(crate) fn blocks(alloc: Global, sizes: Sizes, kinds: Kinds) -> Result<Vec<Block>, Fault> {
+pub(crate) fn blocks(
+    alloc: Global,
+    owners: u64,
+    keys: u64,
+    kinds: Kinds,
+) -> Result<Vec<Block>, Fault> {
     let mut blocks = Vec::new(alloc);
-    for owner in 0..sizes.owners {
-        blocks.push(block_of(alloc, owner, sizes.keys, kinds)?)?;
+    for owner in 0..owners {
+        blocks.push(block_of(alloc, owner, keys, kinds)?)?;
     }
     Ok(blocks)
 }
 
-/// A node that has written nothing and holds nothing.
-pub(crate) fn fresh_node(alloc: Global) -> Result<Holdings, Fault> {
-    Holdings::new(alloc, Name::read(b"node")?, Table::new(alloc))
+/// What a node holds that has written nothing and heard nothing.
+pub(crate) fn no_holdings(alloc: Global) -> Result<Holdings, Fault> {
+    Holdings::new(alloc, me()?, Table::new(alloc))
 }
 
-/// A node that holds these blocks.
-pub(crate) fn full_node(alloc: Global, blocks: &[Block]) -> Result<Holdings, Fault> {
-    let mut holdings = fresh_node(alloc)?;
+/// What a node holds of these blocks.
+pub(crate) fn holdings_of(alloc: Global, blocks: &[Block]) -> Result<Holdings, Fault> {
+    let mut holdings = no_holdings(alloc)?;
     for block in blocks {
         holdings.apply_block(block);
     }
     Ok(holdings)
 }
 
-/// A node that holds a block of each owner, with no block beside it.
-pub(crate) fn lone_node(alloc: Global, sizes: Sizes) -> Result<Holdings, Fault> {
-    let mut holdings = fresh_node(alloc)?;
-    for owner in 0..sizes.owners {
-        holdings.apply_block(&block_of(alloc, owner, sizes.keys, Kinds::Short)?);
+/// A node of this name that has written nothing and heard nothing.
+pub(crate) fn new_node(alloc: Global, name: &[u8]) -> Result<NodeCore, Fault> {
+    let settings = Settings::check(RawSettings {
+        cluster: CLUSTER,
+        budget: BUDGET_MOST,
+        order: Order::Breadth,
+        max_version: VERSION_MOST,
+        seats: 4,
+        workers: 1,
+    })?;
+    NodeCore::open(alloc, settings, Name::read(name)?, Table::new(alloc))
+}
+
+fn delta_of(alloc: Global, owner: Name, after: u64, entries: &[Entry]) -> Result<Delta, Fault> {
+    let mut copies = Vec::with_capacity(alloc, entries.len())?;
+    for entry in entries {
+        copies.push(entry.copy(alloc)?)?;
     }
-    Ok(holdings)
+    Delta::new(vec![in alloc; Block::new(owner, after, copies)?]?)
+}
+
+/// Has a node hear a block, in deltas that are not too long.
+pub(crate) fn hear(alloc: Global, node: &mut NodeCore, block: &Block) -> Result<(), Fault> {
+    for entries in block.entries().chunks(ENTRIES_AT_ONCE) {
+        let after = node.upto(block.owner());
+        node.apply(&delta_of(alloc, *block.owner(), after, entries)?)?;
+    }
+    Ok(())
+}
+
+/// The log in memory of the node that is measured.
+pub(crate) fn new_log(alloc: Global) -> Result<PlainLog, Fault> {
+    Ok(PlainLog::new(alloc, me()?, cluster()?, VERSION_MOST))
 }

@@ -1,4 +1,20 @@
 //! The order that sends of every owner the first entry, then of every owner the second, and so on.
+//!
+//! `Breadth` is one of the two orders of `sb_budget`. No owner waits for another to be sent whole, so a peer soon holds a part
+//! of each. A node takes it where its settings say so.
+//!
+//! ```rust
+//! /// The owner and the version of each entry that an empty peer lacks, in the order of breadth.
+//! fn ordered_by_breadth(alloc: Global, holdings: &Holdings) -> Result<Vec<(Name, u64)>, Fault> {
+//!     let nothing = Digest::new(false, None, None, Vec::new(alloc))?;
+//!     let offered = available(alloc, holdings, &nothing)?;
+//!     let mut versions = Vec::new(alloc);
+//!     for item in Breadth.arrange(alloc, offered)?.iter() {
+//!         versions.push((item.owner, item.entry.version()))?;
+//!     }
+//!     Ok(versions)
+//! }
+//! ```
 #![tactic(auto)]
 
 ghost use Rattle.std.specs.Prelude.{◌≡◌, ◌≤◌, ◌<◌, length, IfOk, IfErr, IsOk, IsPermutation, IsSorted};

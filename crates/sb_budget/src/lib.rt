@@ -1,4 +1,25 @@
 //! What a node offers a peer, the orders in which it is sent, and the part that fits a budget.
+//!
+//! `available` gives what a peer lacks, by its digest, and `cut` makes the longest delta of it that fits a budget. A
+//! `DeltaOrder` says what is sent first. The crate stands on `sb_holdings` and `sb_digest`; `sb_breadth` and `sb_depth` are the
+//! two orders.
+//!
+//! ```rust
+//! /// The holdings of the node `a`, which made one write.
+//! fn one_write(alloc: Global) -> Result<Holdings, Fault> {
+//!     let mut table = Table::new(alloc);
+//!     let key = Key::read(b"web/up")?;
+//!     table.push(Entry::new(key, 1, Slot::Set(Value::flag(true))))?;
+//!     Holdings::new(alloc, Name::read(b"a")?, table)
+//! }
+//!
+//! /// The delta for an empty peer, within the least budget.
+//! fn first_delta(alloc: Global, holdings: &Holdings) -> Result<Delta, Fault> {
+//!     let nothing = Digest::new(false, None, None, Vec::new(alloc))?;
+//!     let offered = available(alloc, holdings, &nothing)?;
+//!     cut(alloc, offered, BUDGET_LEAST)
+//! }
+//! ```
 #![tactic(auto)]
 
 mod availability;

@@ -2,6 +2,6 @@
 use Rattle.std.specs.Prelude.{◌≡◌, ℕ, List, ◌++◌}
 
 -- the bytes stand in front, and whatever was written stands behind them
-pub record Stands (bytes all : List ℕ) : Type 0 where
+pub record StandsFirst (bytes all : List ℕ) : Type 0 where
   pub behind : List ℕ
   pub laid : all ≡ bytes ++ behind

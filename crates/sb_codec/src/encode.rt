@@ -5,7 +5,7 @@ ghost use Rattle.sb_types.specs.Text.{is_name};
 ghost use Rattle.sb_codec.specs.Limits.{is_optional};
 ghost use Rattle.sb_codec.specs.Spelling.{flag, list, optional, pair};
 ghost use Rattle.sb_codec.specs.Messages.{Spells, IsSole, spelling, is_message};
-ghost use Rattle.sb_codec.specs.Standing.{Stands};
+ghost use Rattle.sb_codec.specs.Standing.{StandsFirst};
 
 use crate::lengths::payload_length;
 use crate::message::{Ask, Bye, Done, Hello, Message, Refused, Rows};
@@ -23,7 +23,7 @@ use std::alloc::{AllocError, Global};
 #[tactic(auto, using(crate::proofs::Standings::stands_on), unfolding(crate::specs::Messages::spelling, crate::specs::Spelling::hello))]
 fn write_hello(out: &mut Vec<u8>, hello: &Hello) -> Result<(), AllocError>
     ensures written { OnOk result (out.new.items ≡ out.old.items ++ spelling (Message.Hello hello.now)) }
-    ensures stands { Stands out.old.items out.new.items }
+    ensures stands { StandsFirst out.old.items out.new.items }
     ensures limits { OnOk result (is_message (Message.Hello hello.now) ≡ true) }
 {
     write_byte(out, KIND_HELLO)?;
@@ -35,7 +35,7 @@ fn write_hello(out: &mut Vec<u8>, hello: &Hello) -> Result<(), AllocError>
 #[tactic(auto, using(crate::proofs::Standings::stands_on))]
 fn write_flagged(out: &mut Vec<u8>, kind: u8, set: bool) -> Result<(), AllocError>
     ensures written { OnOk result (out.new.items ≡ out.old.items ++ kind ∷ flag set) }
-    ensures stands { Stands out.old.items out.new.items }
+    ensures stands { StandsFirst out.old.items out.new.items }
 {
     write_byte(out, kind)?;
     write_flag(out, set)
@@ -45,7 +45,7 @@ fn write_flagged(out: &mut Vec<u8>, kind: u8, set: bool) -> Result<(), AllocErro
 #[tactic(auto, using(crate::proofs::Standings::stands_on))]
 fn write_range(out: &mut Vec<u8>, from: Option<Name>, until: Option<Name>) -> Result<(), AllocError>
     ensures written { OnOk result (out.new.items ≡ out.old.items ++ (optional from ++ optional until)) }
-    ensures stands { Stands out.old.items out.new.items }
+    ensures stands { StandsFirst out.old.items out.new.items }
     ensures names { OnOk result ((is_optional is_name from ≡ true) × (is_optional is_name until ≡ true)) }
 {
     write_optional_name(out, from)?;
@@ -55,7 +55,7 @@ fn write_range(out: &mut Vec<u8>, from: Option<Name>, until: Option<Name>) -> Re
 /// The pairs of a digest.
 fn write_pairs(out: &mut Vec<u8>, digest: &Digest) -> Result<(), AllocError>
     ensures written { OnOk result (out.new.items ≡ out.old.items ++ list pair digest.now.pairs) }
-    ensures stands { Stands out.old.items out.new.items }
+    ensures stands { StandsFirst out.old.items out.new.items }
 {
     write_list(out, digest.pairs())
 }
@@ -63,7 +63,7 @@ fn write_pairs(out: &mut Vec<u8>, digest: &Digest) -> Result<(), AllocError>
 #[tactic(auto, using(crate::proofs::Standings::stands_on), unfolding(crate::specs::Messages::spelling, crate::specs::Spelling::digest))]
 fn write_digest(out: &mut Vec<u8>, digest: &Digest) -> Result<(), AllocError>
     ensures written { OnOk result (out.new.items ≡ out.old.items ++ spelling (Message.Digest digest.now)) }
-    ensures stands { Stands out.old.items out.new.items }
+    ensures stands { StandsFirst out.old.items out.new.items }
     ensures limits { OnOk result (is_message (Message.Digest digest.now) ≡ true) }
 {
     write_flagged(out, KIND_DIGEST, digest.want())?;
@@ -74,7 +74,7 @@ fn write_digest(out: &mut Vec<u8>, digest: &Digest) -> Result<(), AllocError>
 #[tactic(auto, using(crate::proofs::Standings::stands_on), unfolding(crate::specs::Messages::spelling))]
 fn write_delta(out: &mut Vec<u8>, delta: &Delta) -> Result<(), AllocError>
     ensures written { OnOk result (out.new.items ≡ out.old.items ++ spelling (Message.Delta delta.now)) }
-    ensures stands { Stands out.old.items out.new.items }
+    ensures stands { StandsFirst out.old.items out.new.items }
     ensures limits { OnOk result (is_message (Message.Delta delta.now) ≡ true) }
 {
     write_byte(out, KIND_DELTA)?;
@@ -84,7 +84,7 @@ fn write_delta(out: &mut Vec<u8>, delta: &Delta) -> Result<(), AllocError>
 #[tactic(auto, unfolding(crate::specs::Messages::spelling))]
 fn write_bye(out: &mut Vec<u8>, bye: &Bye) -> Result<(), AllocError>
     ensures written { OnOk result (out.new.items ≡ out.old.items ++ spelling (Message.Bye bye.now)) }
-    ensures stands { Stands out.old.items out.new.items }
+    ensures stands { StandsFirst out.old.items out.new.items }
     ensures limits { OnOk result (is_message (Message.Bye bye.now) ≡ true) }
 {
     write_bytes(out, &[KIND_BYE, bye.reason()])
@@ -94,7 +94,7 @@ fn write_bye(out: &mut Vec<u8>, bye: &Bye) -> Result<(), AllocError>
 #[tactic(auto, using(crate::proofs::Standings::stands_on))]
 fn write_named(out: &mut Vec<u8>, kind: u8, name: Option<Name>) -> Result<(), AllocError>
     ensures written { OnOk result (out.new.items ≡ out.old.items ++ kind ∷ optional name) }
-    ensures stands { Stands out.old.items out.new.items }
+    ensures stands { StandsFirst out.old.items out.new.items }
     ensures name { OnOk result (is_optional is_name name ≡ true) }
 {
     write_byte(out, kind)?;
@@ -104,7 +104,7 @@ fn write_named(out: &mut Vec<u8>, kind: u8, name: Option<Name>) -> Result<(), Al
 #[tactic(auto, using(crate::proofs::Standings::stands_on), unfolding(crate::specs::Messages::spelling, crate::specs::Spelling::ask))]
 fn write_ask(out: &mut Vec<u8>, ask: &Ask) -> Result<(), AllocError>
     ensures written { OnOk result (out.new.items ≡ out.old.items ++ spelling (Message.Ask ask.now)) }
-    ensures stands { Stands out.old.items out.new.items }
+    ensures stands { StandsFirst out.old.items out.new.items }
     ensures limits { OnOk result (is_message (Message.Ask ask.now) ≡ true) }
 {
     write_named(out, KIND_ASK, ask.owner)?;
@@ -115,7 +115,7 @@ fn write_ask(out: &mut Vec<u8>, ask: &Ask) -> Result<(), AllocError>
 #[tactic(auto, using(crate::proofs::Standings::stands_on), unfolding(crate::specs::Messages::spelling, crate::specs::Spelling::page))]
 fn write_rows(out: &mut Vec<u8>, rows: &Rows) -> Result<(), AllocError>
     ensures written { OnOk result (out.new.items ≡ out.old.items ++ spelling (Message.Rows rows.now)) }
-    ensures stands { Stands out.old.items out.new.items }
+    ensures stands { StandsFirst out.old.items out.new.items }
     ensures limits { OnOk result (is_message (Message.Rows rows.now) ≡ true) }
 {
     write_flagged(out, KIND_ROWS, rows.more())?;
@@ -125,7 +125,7 @@ fn write_rows(out: &mut Vec<u8>, rows: &Rows) -> Result<(), AllocError>
 #[tactic(auto, using(crate::proofs::Standings::stands_on), unfolding(crate::specs::Messages::spelling, crate::specs::Spelling::write))]
 fn write_put(out: &mut Vec<u8>, write: &Write) -> Result<(), AllocError>
     ensures written { OnOk result (out.new.items ≡ out.old.items ++ spelling (Message.Put write.now)) }
-    ensures stands { Stands out.old.items out.new.items }
+    ensures stands { StandsFirst out.old.items out.new.items }
     ensures limits { OnOk result (is_message (Message.Put write.now) ≡ true) }
 {
     write_byte(out, KIND_PUT)?;
@@ -136,7 +136,7 @@ fn write_put(out: &mut Vec<u8>, write: &Write) -> Result<(), AllocError>
 #[tactic(auto, using(crate::proofs::Standings::stands_on), unfolding(crate::specs::Messages::spelling))]
 fn write_done(out: &mut Vec<u8>, done: &Done) -> Result<(), AllocError>
     ensures written { OnOk result (out.new.items ≡ out.old.items ++ spelling (Message.Done done.now)) }
-    ensures stands { Stands out.old.items out.new.items }
+    ensures stands { StandsFirst out.old.items out.new.items }
     ensures limits { OnOk result (is_message (Message.Done done.now) ≡ true) }
 {
     write_byte(out, KIND_DONE)?;
@@ -146,7 +146,7 @@ fn write_done(out: &mut Vec<u8>, done: &Done) -> Result<(), AllocError>
 #[tactic(auto, unfolding(crate::specs::Messages::spelling))]
 fn write_refused(out: &mut Vec<u8>, refused: &Refused) -> Result<(), AllocError>
     ensures written { OnOk result (out.new.items ≡ out.old.items ++ spelling (Message.Refused refused.now)) }
-    ensures stands { Stands out.old.items out.new.items }
+    ensures stands { StandsFirst out.old.items out.new.items }
     ensures limits { OnOk result (is_message (Message.Refused refused.now) ≡ true) }
 {
     write_bytes(out, &[KIND_REFUSED, refused.number()])
@@ -154,7 +154,7 @@ fn write_refused(out: &mut Vec<u8>, refused: &Refused) -> Result<(), AllocError>
 
 fn write_message(out: &mut Vec<u8>, message: &Message) -> Result<(), AllocError>
     ensures written { OnOk result (out.new.items ≡ out.old.items ++ spelling message.now) }
-    ensures stands { Stands out.old.items out.new.items }
+    ensures stands { StandsFirst out.old.items out.new.items }
     ensures limits { OnOk result (is_message message.now ≡ true) }
 {
     match message {

@@ -13,7 +13,7 @@ pub(crate) trait ListItem: Drop {
     ghost use Rattle.std.specs.Prelude.{◌≡◌, ℕ, ◌<◌, List, [], ◌++◌, length, Some, OnOk};
     ghost use Rattle.sb_codec.specs.Refusal.{Reads};
     ghost use Rattle.sb_codec.specs.Fields.{Field};
-    ghost use Rattle.sb_codec.specs.Standing.{Stands};
+    ghost use Rattle.sb_codec.specs.Standing.{StandsFirst};
 
     ghost spelling: { Self → List ℕ };
 
@@ -31,7 +31,7 @@ pub(crate) trait ListItem: Drop {
     /// Writes it behind what was written.
     fn write(&self, out: &mut Vec<u8>) -> Result<(), AllocError>
         ensures written { OnOk result (out.new.items ≡ out.old.items ++ spelling self.now) }
-        ensures stands { Stands out.old.items out.new.items };
+        ensures stands { StandsFirst out.old.items out.new.items };
 
     ghost least: { 0 < LEAST };
 

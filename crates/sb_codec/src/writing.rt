@@ -6,7 +6,7 @@ ghost use Rattle.sb_types.specs.Text.{is_name};
 ghost use Rattle.sb_types.specs.Value.{is_value};
 ghost use Rattle.sb_types.specs.Limits.{is_slot};
 ghost use Rattle.sb_codec.specs.Limits.{is_optional, is_place};
-ghost use Rattle.sb_codec.specs.Standing.{Stands};
+ghost use Rattle.sb_codec.specs.Standing.{StandsFirst};
 ghost use Rattle.sb_codec.specs.Spelling.{number, text, long_text, list, flag, value, slot, entry, block, optional, pair, place, row};
 
 use crate::list_item::ListItem;
@@ -22,7 +22,7 @@ use std::alloc::AllocError;
 #[tactic(auto, using(crate::proofs::Standings::stands_behind, crate::proofs::Standings::stands_still))]
 pub(crate) fn write_byte(out: &mut Vec<u8>, byte: u8) -> Result<(), AllocError>
     ensures written { OnOk result (out.new.items ≡ out.old.items ++ byte ∷ []) }
-    ensures stands { Stands out.old.items out.new.items }
+    ensures stands { StandsFirst out.old.items out.new.items }
 {
     Ok(out.push(byte)?)
 }
@@ -30,7 +30,7 @@ pub(crate) fn write_byte(out: &mut Vec<u8>, byte: u8) -> Result<(), AllocError>
 #[tactic(auto, using(crate::proofs::Standings::stands_behind, crate::proofs::Standings::stands_still))]
 pub(crate) fn write_bytes(out: &mut Vec<u8>, bytes: &[u8]) -> Result<(), AllocError>
     ensures written { OnOk result (out.new.items ≡ out.old.items ++ bytes.now) }
-    ensures stands { Stands out.old.items out.new.items }
+    ensures stands { StandsFirst out.old.items out.new.items }
 {
     out.extend_from_slice(bytes)
 }
@@ -38,7 +38,7 @@ pub(crate) fn write_bytes(out: &mut Vec<u8>, bytes: &[u8]) -> Result<(), AllocEr
 #[tactic(auto, unfolding(crate::specs::Spelling::number))]
 fn write_u16(out: &mut Vec<u8>, count: u16) -> Result<(), AllocError>
     ensures written { OnOk result (out.new.items ≡ out.old.items ++ number w16 count) }
-    ensures stands { Stands out.old.items out.new.items }
+    ensures stands { StandsFirst out.old.items out.new.items }
 {
     write_bytes(out, &count.to_be_bytes())
 }
@@ -46,7 +46,7 @@ fn write_u16(out: &mut Vec<u8>, count: u16) -> Result<(), AllocError>
 #[tactic(auto, unfolding(crate::specs::Spelling::number))]
 pub(crate) fn write_u64(out: &mut Vec<u8>, n: u64) -> Result<(), AllocError>
     ensures written { OnOk result (out.new.items ≡ out.old.items ++ number w64 n) }
-    ensures stands { Stands out.old.items out.new.items }
+    ensures stands { StandsFirst out.old.items out.new.items }
 {
     write_bytes(out, &n.to_be_bytes())
 }
@@ -55,7 +55,7 @@ pub(crate) fn write_u64(out: &mut Vec<u8>, n: u64) -> Result<(), AllocError>
 pub(crate) fn write_text(out: &mut Vec<u8>, bytes: &[u8]) -> Result<(), AllocError>
     requires { length bytes.now < 256 }
     ensures written { OnOk result (out.new.items ≡ out.old.items ++ text bytes.now) }
-    ensures stands { Stands out.old.items out.new.items }
+    ensures stands { StandsFirst out.old.items out.new.items }
 {
     write_byte(out, bytes.len() as u8)?;
     write_bytes(out, bytes)
@@ -65,7 +65,7 @@ pub(crate) fn write_text(out: &mut Vec<u8>, bytes: &[u8]) -> Result<(), AllocErr
 fn write_long_text(out: &mut Vec<u8>, bytes: &[u8]) -> Result<(), AllocError>
     requires { length bytes.now < 2 ^ 16 }
     ensures written { OnOk result (out.new.items ≡ out.old.items ++ long_text bytes.now) }
-    ensures stands { Stands out.old.items out.new.items }
+    ensures stands { StandsFirst out.old.items out.new.items }
 {
     write_u16(out, bytes.len() as u16)?;
     write_bytes(out, bytes)
@@ -73,7 +73,7 @@ fn write_long_text(out: &mut Vec<u8>, bytes: &[u8]) -> Result<(), AllocError>
 
 pub(crate) fn write_flag(out: &mut Vec<u8>, set: bool) -> Result<(), AllocError>
     ensures written { OnOk result (out.new.items ≡ out.old.items ++ flag set) }
-    ensures stands { Stands out.old.items out.new.items }
+    ensures stands { StandsFirst out.old.items out.new.items }
 {
     write_byte(out, u8::from(set))
 }
@@ -81,7 +81,7 @@ pub(crate) fn write_flag(out: &mut Vec<u8>, set: bool) -> Result<(), AllocError>
 #[tactic(auto, using(crate::proofs::Standings::stands_on))]
 fn write_value(out: &mut Vec<u8>, written: &Value) -> Result<(), AllocError>
     ensures written { OnOk result (out.new.items ≡ out.old.items ++ value written.now) }
-    ensures stands { Stands out.old.items out.new.items }
+    ensures stands { StandsFirst out.old.items out.new.items }
     ensures value { is_value written.now ≡ true }
 {
     match written.view() {
@@ -107,7 +107,7 @@ fn write_value(out: &mut Vec<u8>, written: &Value) -> Result<(), AllocError>
 #[tactic(auto, unfolding(crate::specs::Spelling::slot))]
 pub(crate) fn write_slot(out: &mut Vec<u8>, value: &Slot) -> Result<(), AllocError>
     ensures written { OnOk result (out.new.items ≡ out.old.items ++ slot value.now) }
-    ensures stands { Stands out.old.items out.new.items }
+    ensures stands { StandsFirst out.old.items out.new.items }
     ensures slot { is_slot value.now ≡ true }
 {
     match value {
@@ -120,7 +120,7 @@ pub(crate) fn write_slot(out: &mut Vec<u8>, value: &Slot) -> Result<(), AllocErr
 #[tactic(auto, using(crate::proofs::Standings::stands_on), unfolding(crate::specs::Spelling::entry))]
 pub(crate) fn write_entry(out: &mut Vec<u8>, written: &Entry) -> Result<(), AllocError>
     ensures written { OnOk result (out.new.items ≡ out.old.items ++ entry written.now) }
-    ensures stands { Stands out.old.items out.new.items }
+    ensures stands { StandsFirst out.old.items out.new.items }
 {
     write_text(out, written.key().bytes())?;
     write_u64(out, written.version())?;
@@ -130,7 +130,7 @@ pub(crate) fn write_entry(out: &mut Vec<u8>, written: &Entry) -> Result<(), Allo
 #[tactic(auto, using(crate::proofs::Standings::stands_on), unfolding(crate::specs::Spelling::block))]
 pub(crate) fn write_block(out: &mut Vec<u8>, written: &Block) -> Result<(), AllocError>
     ensures written { OnOk result (out.new.items ≡ out.old.items ++ block written.now) }
-    ensures stands { Stands out.old.items out.new.items }
+    ensures stands { StandsFirst out.old.items out.new.items }
 {
     write_text(out, written.owner().bytes())?;
     write_u64(out, written.after())?;
@@ -141,7 +141,7 @@ pub(crate) fn write_block(out: &mut Vec<u8>, written: &Block) -> Result<(), Allo
 pub(crate) fn write_list<T: ListItem>(out: &mut Vec<u8>, items: &[T]) -> Result<(), AllocError>
     requires { length items.now < 65536 }
     ensures written { OnOk result (out.new.items ≡ out.old.items ++ list T.spelling items.now) }
-    ensures stands { Stands out.old.items out.new.items }
+    ensures stands { StandsFirst out.old.items out.new.items }
 {
     write_u16(out, items.len() as u16)?;
     for item in items {
@@ -152,7 +152,7 @@ pub(crate) fn write_list<T: ListItem>(out: &mut Vec<u8>, items: &[T]) -> Result<
 
 pub(crate) fn write_optional_name(out: &mut Vec<u8>, name: Option<Name>) -> Result<(), AllocError>
     ensures written { OnOk result (out.new.items ≡ out.old.items ++ optional name) }
-    ensures stands { Stands out.old.items out.new.items }
+    ensures stands { StandsFirst out.old.items out.new.items }
     ensures name { is_optional is_name name ≡ true }
 {
     match name {
@@ -164,7 +164,7 @@ pub(crate) fn write_optional_name(out: &mut Vec<u8>, name: Option<Name>) -> Resu
 #[tactic(auto, using(crate::proofs::Standings::stands_on))]
 pub(crate) fn write_place(out: &mut Vec<u8>, after: Option<(Name, Key)>) -> Result<(), AllocError>
     ensures written { OnOk result (out.new.items ≡ out.old.items ++ place after) }
-    ensures stands { Stands out.old.items out.new.items }
+    ensures stands { StandsFirst out.old.items out.new.items }
     ensures place { is_optional is_place after ≡ true }
 {
     let Some((owner, key)) = after else {
@@ -177,7 +177,7 @@ pub(crate) fn write_place(out: &mut Vec<u8>, after: Option<(Name, Key)>) -> Resu
 #[tactic(auto, using(crate::proofs::Standings::stands_on), unfolding(crate::specs::Spelling::pair))]
 pub(crate) fn write_pair(out: &mut Vec<u8>, written: &Pair) -> Result<(), AllocError>
     ensures written { OnOk result (out.new.items ≡ out.old.items ++ pair written.now) }
-    ensures stands { Stands out.old.items out.new.items }
+    ensures stands { StandsFirst out.old.items out.new.items }
 {
     write_text(out, written.owner.bytes())?;
     write_u64(out, written.upto)
@@ -187,7 +187,7 @@ pub(crate) fn write_pair(out: &mut Vec<u8>, written: &Pair) -> Result<(), AllocE
 #[tactic(auto, using(crate::proofs::Standings::stands_on))]
 fn write_under_key(out: &mut Vec<u8>, written: &Row) -> Result<(), AllocError>
     ensures written { OnOk result (out.new.items ≡ out.old.items ++ (text written.now.key ++ (number w64 written.now.version ++ value written.now.value))) }
-    ensures stands { Stands out.old.items out.new.items }
+    ensures stands { StandsFirst out.old.items out.new.items }
 {
     write_text(out, written.key().bytes())?;
     write_u64(out, written.version())?;
@@ -197,7 +197,7 @@ fn write_under_key(out: &mut Vec<u8>, written: &Row) -> Result<(), AllocError>
 #[tactic(auto, using(crate::proofs::Standings::stands_on), unfolding(crate::specs::Spelling::row))]
 pub(crate) fn write_row(out: &mut Vec<u8>, written: &Row) -> Result<(), AllocError>
     ensures written { OnOk result (out.new.items ≡ out.old.items ++ row written.now) }
-    ensures stands { Stands out.old.items out.new.items }
+    ensures stands { StandsFirst out.old.items out.new.items }
 {
     write_text(out, written.owner().bytes())?;
     write_under_key(out, written)

@@ -1,4 +1,20 @@
 //! The order that sends one owner whole before the next, the owner with most to send first.
+//!
+//! `Depth` is one of the two orders of `sb_budget`. A peer soon holds an owner whole, and the other owners wait. A node takes
+//! it where its settings say so.
+//!
+//! ```rust
+//! /// The owner and the version of each entry that an empty peer lacks, in the order of depth.
+//! fn ordered_by_depth(alloc: Global, holdings: &Holdings) -> Result<Vec<(Name, u64)>, Fault> {
+//!     let nothing = Digest::new(false, None, None, Vec::new(alloc))?;
+//!     let offered = available(alloc, holdings, &nothing)?;
+//!     let mut versions = Vec::new(alloc);
+//!     for item in Depth.arrange(alloc, offered)?.iter() {
+//!         versions.push((item.owner, item.entry.version()))?;
+//!     }
+//!     Ok(versions)
+//! }
+//! ```
 #![tactic(auto)]
 
 ghost use Rattle.std.specs.Prelude.{◌≡◌, ◌≤◌, ◌<◌, length, IfOk, IfErr, IsOk, IsPermutation, IsSorted};

@@ -1,4 +1,4 @@
--- What a seat knows of a delta that its call entered.
+-- The last call of a seat, where it entered a delta.
 use Rattle.std.proofs.Common.{◌≡◌, List, [], ◌∷◌, ◌++◌, Result, Ok, Err, IfOk, OnOk}
 use Rattle.sb_types.specs.declared.fault.Fault.{Fault}
 use Rattle.sb_types.specs.Records.{Block}
@@ -6,13 +6,13 @@ use Rattle.sb_holdings.specs.Nodes.{Node}
 use Rattle.sb_holdings.specs.Treats.{Treats}
 use Rattle.sb_views.specs.declared.event.Event.{Event}
 use Rattle.sb_views.specs.declared.event.Event.TheVariants as events
-use Rattle.sb_views.specs.Stories.{node_after}
+use Rattle.sb_views.specs.Histories.{node_after}
 use Rattle.sb_directory.specs.declared.receipt.Applied.{Applied}
 use Rattle.sb_directory.specs.Seats.{Seat, Begins, IsEntered, delta_due_after}
 
-pub delta-entered : (opening : Node) (blocks : List Block) (story : List Event) (old new : Seat) (result : Result Applied Fault) → Begins story old
-    → OnOk result (delta_due_after story ≡ Ok tt) → IfOk result (λ applied. new.known ≡ story ++ events.Applied blocks applied.ends ∷ [])
-    → IfOk result (λ applied. Treats (node_after opening story) blocks applied.ends)
-    → IfOk result (λ applied. (entered : IsEntered delta_due_after (events.Applied blocks applied.ends) old new) × Treats (node_after opening entered.story) blocks applied.ends)
-delta-entered opening blocks story old new (Ok applied) begins due known treats = (record { story = story; begins = begins; may = due; known = known }, treats)
-delta-entered opening blocks story old new (Err fault) begins due known treats = tt
+pub delta-entered : (opening : Node) (blocks : List Block) (history : List Event) (old new : Seat) (result : Result Applied Fault) → Begins history old
+    → OnOk result (delta_due_after history ≡ Ok tt) → IfOk result (λ applied. new.last_call ≡ history ++ events.Applied blocks applied.ends ∷ [])
+    → IfOk result (λ applied. Treats (node_after opening history) blocks applied.ends)
+    → IfOk result (λ applied. (entered : IsEntered delta_due_after (events.Applied blocks applied.ends) old new) × Treats (node_after opening entered.history) blocks applied.ends)
+delta-entered opening blocks history old new (Ok applied) begins due last_call treats = (record { history = history; begins = begins; may = due; last_call = last_call }, treats)
+delta-entered opening blocks history old new (Err fault) begins due last_call treats = tt

@@ -1,4 +1,4 @@
--- What lies under the lock stays a replay of its story.
+-- A viewed node stays a replay of its history.
 use Rattle.std.proofs.Common.{◌≡◌, ℕ, ◌+◌, ◌≤◌, ◌<◌, ◌^◌, ◌==◌, Bool, true, false, cond, not, List, [], ◌∷◌, ◌++◌, map, flat_map, Result, Ok, Err, le-leb, leb-true, eqb-true, refl, sym, ap, subst, ◌∙◌, arith, append-nil}
 use Rattle.std.proofs.lemmas.Grind.{flat_map-append}
 use Rattle.std.specs.FinMap.{contains_key}
@@ -24,34 +24,34 @@ use Rattle.sb_watch.proofs.KeptNotes.{weaker_keeps}
 use Rattle.sb_views.specs.declared.event.Event.{Event}
 use Rattle.sb_views.specs.declared.event.Event.TheVariants.{TookOwn, Applied}
 use Rattle.sb_views.specs.Growing.{AreGrown}
-use Rattle.sb_views.specs.Pages.{table_with_all}
-use Rattle.sb_views.specs.Stories.{steps_of, node_after}
-use Rattle.sb_views.proofs.Fronts.{prefix_trans}
+use Rattle.sb_views.specs.NodeViews.{table_with_all}
+use Rattle.sb_views.specs.Histories.{node_events_of, node_after}
+use Rattle.sb_views.proofs.Prefixes.{prefix_trans}
 use Rattle.sb_views.proofs.Grown.{grown-held}
 use Rattle.sb_views.proofs.Growing.{grown-on, own-grown, delta-grown}
 use Rattle.sb_views.proofs.Leading.{own-leads}
 use Rattle.sb_directory.specs.Behind.{Behind, with_owner, HasOwners, AreSince}
 use Rattle.sb_directory.specs.Notes.{note_of, with_notes, entered_of, versions_of, is_held}
-use Rattle.sb_directory.specs.Locks.{Locked, IsLocked, after_own, after_delta, with_shown, with_hub}
+use Rattle.sb_directory.specs.ViewedNodes.{ViewedNode, IsViewedNode, after_own, after_delta, with_published, with_hub}
 use Rattle.sb_directory.proofs.Lacking.{add-has, added-since, own-since, delta-since}
-use Rattle.sb_directory.proofs.Noting.{told-held, since-held}
+use Rattle.sb_directory.proofs.Noting.{noted-held, since-held}
 
--- ---- the story
+-- ---- the history
 
-pub node-own : (opening : Node) (story : List Event) (e : Entry) → node_after opening (story ++ TookOwn e ∷ []) ≡ node_after_event (node_after opening story) (Wrote e)
-node-own opening story e =
-    ap (replay_node opening) (flat_map-append steps_of story (TookOwn e ∷ [])) ∙ replay_node-append opening (flat_map steps_of story) (Wrote e ∷ [])
+pub node-own : (opening : Node) (history : List Event) (e : Entry) → node_after opening (history ++ TookOwn e ∷ []) ≡ node_after_event (node_after opening history) (Wrote e)
+node-own opening history e =
+    ap (replay_node opening) (flat_map-append node_events_of history (TookOwn e ∷ [])) ∙ replay_node-append opening (flat_map node_events_of history) (Wrote e ∷ [])
 
-pub node-delta : (opening : Node) (story : List Event) (blocks : List Block) (ends : List BlockEnd)
-    → node_after opening (story ++ Applied blocks ends ∷ []) ≡ replay_node (node_after opening story) (took_each blocks ends)
-node-delta opening story blocks ends =
-    ap (replay_node opening) (flat_map-append steps_of story (Applied blocks ends ∷ []) ∙ ap (λ (xs : List NodeEvent). flat_map steps_of story ++ xs) (append-nil (took_each blocks ends)))
-    ∙ replay_node-append opening (flat_map steps_of story) (took_each blocks ends)
+pub node-delta : (opening : Node) (history : List Event) (blocks : List Block) (ends : List BlockEnd)
+    → node_after opening (history ++ Applied blocks ends ∷ []) ≡ replay_node (node_after opening history) (took_each blocks ends)
+node-delta opening history blocks ends =
+    ap (replay_node opening) (flat_map-append node_events_of history (Applied blocks ends ∷ []) ∙ ap (λ (xs : List NodeEvent). flat_map node_events_of history ++ xs) (append-nil (took_each blocks ends)))
+    ∙ replay_node-append opening (flat_map node_events_of history) (took_each blocks ends)
 
-pub begins-longer : (ready story : List Event) (event : Event) → IsPrefix ready story → IsPrefix ready (story ++ event ∷ [])
-begins-longer ready story event begins = prefix_trans ready story (story ++ event ∷ []) begins (event ∷ [], refl)
+pub begins-longer : (queued history : List Event) (event : Event) → IsPrefix queued history → IsPrefix queued (history ++ event ∷ [])
+begins-longer queued history event begins = prefix_trans queued history (history ++ event ∷ []) begins (event ∷ [], refl)
 
--- ---- what watches are told of
+-- ---- what is noted in watches
 
 raised : (note : Note) (old new : Held) → AreGrown old new → IsHoldings new → is_held old note ≡ true → is_held new note ≡ true
 raised note old new grown is held =
@@ -65,15 +65,15 @@ notes-raised old new hub grown is notes =
 
 -- ---- what is lacked, before more comes
 
--- with what is lacked known otherwise
-pub noted : (opening : Node) (ready : List Event) (behind more : Behind) (l : Locked) → IsLocked opening ready behind l
-    → AreSince (node_after opening ready).held l.core.node.held more → IsLocked opening ready more l
-noted opening ready behind more l is since = record { node = is.node; begins = is.begins; grown = is.grown; since = since; notes = is.notes }
+-- with what is lacked noted otherwise
+pub noted : (opening : Node) (queued : List Event) (behind more : Behind) (l : ViewedNode) → IsViewedNode opening queued behind l
+    → AreSince (node_after opening queued).held l.core.node.held more → IsViewedNode opening queued more l
+noted opening queued behind more l is since = record { node = is.node; begins = is.begins; grown = is.grown; since = since; notes = is.notes }
 
-pub added-locked : (opening : Node) (ready : List Event) (behind more : Behind) (l : Locked) (owner : List ℕ) (version : ℕ) → IsLocked opening ready behind l
-    → more ≡ with_owner behind owner version → version ≡ (shown_of l.core.node.held owner).held → IsLocked opening ready more l
-added-locked opening ready behind more l owner version is step at =
-    noted opening ready behind more l is (added-since behind owner version (node_after opening ready).held l.core.node.held more step at is.since)
+pub added-locked : (opening : Node) (queued : List Event) (behind more : Behind) (l : ViewedNode) (owner : List ℕ) (version : ℕ) → IsViewedNode opening queued behind l
+    → more ≡ with_owner behind owner version → version ≡ (shown_of l.core.node.held owner).held → IsViewedNode opening queued more l
+added-locked opening queued behind more l owner version is step at =
+    noted opening queued behind more l is (added-since behind owner version (node_after opening queued).held l.core.node.held more step at is.since)
 
 pub added-there : (behind more : Behind) (owner me : List ℕ) (version : ℕ) → more ≡ with_owner behind owner version → owner ≡ me → contains_key more me ≡ true
 added-there behind more owner me version step same =
@@ -97,59 +97,59 @@ own-held held e next =
 own-noted : (held : Held) (e : Entry) → e.version ≡ (shown_of held held.me).held + 1 → is_held (written held e) (note_of (held.me, e)) ≡ true
 own-noted held e next = le-leb e.version (shown_of (written held e) held.me).held (omega (arith, own-held held e next))
 
-module _ (opening : Node) (ready : List Event) (behind : Behind) (old : Locked) (is : IsLocked opening ready behind old) (holds : IsHoldings old.core.node.held) where
+module _ (opening : Node) (queued : List Event) (behind : Behind) (old : ViewedNode) (is : IsViewedNode opening queued behind old) (holds : IsHoldings old.core.node.held) where
   module _ (e : Entry) (turn : own_answer old.core.node.held e ≡ Ok tt) (entry : is_entry e ≡ true) (few : (shown_of old.core.node.held old.core.node.held.me).held < 2 ^ 64)
       (after : IsHoldings (written old.core.node.held e)) (has : contains_key behind old.core.node.held.me ≡ true) where
     next : e.version ≡ (shown_of old.core.node.held old.core.node.held.me).held + 1
     next = entry-next e _ entry few (own-turn old.core.node.held e turn)
 
-    pub own-locked : (shown : List Event) → IsLocked opening ready behind (after_own old e shown)
-    own-locked shown = record {
-      node = ap (λ (n : Node). node_after_event n (Wrote e)) is.node ∙ sym (node-own opening old.story e);
-      begins = begins-longer ready old.story (TookOwn e) is.begins;
-      grown = grown-on (node_after opening ready).held old.core.node.held (written old.core.node.held e) holds is.grown (own-grown old.core.node.held e holds);
-      since = own-since behind (node_after opening ready).held old.core.node.held e has is.since;
-      notes = told-held (written old.core.node.held e) old.hub ((old.core.node.held.me, e) ∷ [])
+    pub own-locked : (published : List Event) → IsViewedNode opening queued behind (after_own old e published)
+    own-locked published = record {
+      node = ap (λ (n : Node). node_after_event n (Wrote e)) is.node ∙ sym (node-own opening old.history e);
+      begins = begins-longer queued old.history (TookOwn e) is.begins;
+      grown = grown-on (node_after opening queued).held old.core.node.held (written old.core.node.held e) holds is.grown (own-grown old.core.node.held e holds);
+      since = own-since behind (node_after opening queued).held old.core.node.held e has is.since;
+      notes = noted-held (written old.core.node.held e) old.hub ((old.core.node.held.me, e) ∷ [])
           (notes-raised old.core.node.held (written old.core.node.held e) old.hub (own-grown old.core.node.held e holds) after is.notes)
           (own-noted old.core.node.held e next, tt);
     }
 
-    -- so it is wherever the core, the story and the watches are these
-    pub own-there : (core : Core) (front : List Event) (hub : Hub) (shown : List Event) → core ≡ with_node old.core (node_after_event old.core.node (Wrote e))
-        → front ≡ old.story ++ TookOwn e ∷ [] → hub ≡ with_notes old.hub ((old.core.node.held.me, e) ∷ [])
-        → IsLocked opening ready behind (record { core = core; hub = hub; story = front; shown = shown })
-    own-there core front hub shown taken longer told =
-        subst (IsLocked opening ready behind) (λ i. record { core = sym taken i; hub = sym told i; story = sym longer i; shown = shown }) (own-locked shown)
+    -- so it is wherever the core, the history and the watches are these
+    pub own-there : (core : Core) (history : List Event) (hub : Hub) (published : List Event) → core ≡ with_node old.core (node_after_event old.core.node (Wrote e))
+        → history ≡ old.history ++ TookOwn e ∷ [] → hub ≡ with_notes old.hub ((old.core.node.held.me, e) ∷ [])
+        → IsViewedNode opening queued behind (record { core = core; hub = hub; history = history; published = published })
+    own-there core history hub published taken longer seen =
+        subst (IsViewedNode opening queued behind) (λ i. record { core = sym taken i; hub = sym seen i; history = sym longer i; published = published }) (own-locked published)
 
   module _ (blocks : List Block) (ends : List BlockEnd) (delta : is_delta blocks ≡ true) (treats : Treats old.core.node blocks ends)
       (after : IsHoldings (replay_node old.core.node (took_each blocks ends)).held) (has : HasOwners behind blocks) where
-    pub delta-locked : (shown : List Event) → IsLocked opening ready behind (after_delta old blocks ends shown)
-    delta-locked shown =
+    pub delta-locked : (published : List Event) → IsViewedNode opening queued behind (after_delta old blocks ends published)
+    delta-locked published =
         let new = replay_node old.core.node (took_each blocks ends) in
         let grown = delta-grown old.core.node blocks ends holds delta treats in
         record {
-          node = ap (λ (n : Node). replay_node n (took_each blocks ends)) is.node ∙ sym (node-delta opening old.story blocks ends);
-          begins = begins-longer ready old.story (Applied blocks ends) is.begins;
-          grown = grown-on (node_after opening ready).held old.core.node.held new.held holds is.grown grown;
-          since = delta-since behind (node_after opening ready).held old.core.node blocks ends has is.since;
-          notes = told-held new.held old.hub (entered_of blocks old.core.node.held new.held)
+          node = ap (λ (n : Node). replay_node n (took_each blocks ends)) is.node ∙ sym (node-delta opening old.history blocks ends);
+          begins = begins-longer queued old.history (Applied blocks ends) is.begins;
+          grown = grown-on (node_after opening queued).held old.core.node.held new.held holds is.grown grown;
+          since = delta-since behind (node_after opening queued).held old.core.node blocks ends has is.since;
+          notes = noted-held new.held old.hub (entered_of blocks old.core.node.held new.held)
               (notes-raised old.core.node.held new.held old.hub grown after is.notes)
               (since-held new.held (versions_of old.core.node.held blocks) after);
         }
 
-    pub delta-there : (core : Core) (front : List Event) (hub : Hub) (shown : List Event) → core ≡ with_node old.core (replay_node old.core.node (took_each blocks ends))
-        → front ≡ old.story ++ Applied blocks ends ∷ []
+    pub delta-there : (core : Core) (history : List Event) (hub : Hub) (published : List Event) → core ≡ with_node old.core (replay_node old.core.node (took_each blocks ends))
+        → history ≡ old.history ++ Applied blocks ends ∷ []
         → hub ≡ with_notes old.hub (entered_of blocks old.core.node.held (replay_node old.core.node (took_each blocks ends)).held)
-        → IsLocked opening ready behind (record { core = core; hub = hub; story = front; shown = shown })
-    delta-there core front hub shown taken longer told =
-        subst (IsLocked opening ready behind) (λ i. record { core = sym taken i; hub = sym told i; story = sym longer i; shown = shown }) (delta-locked shown)
+        → IsViewedNode opening queued behind (record { core = core; hub = hub; history = history; published = published })
+    delta-there core history hub published taken longer seen =
+        subst (IsViewedNode opening queued behind) (λ i. record { core = sym taken i; hub = sym seen i; history = sym longer i; published = published }) (delta-locked published)
 
 -- ---- what changes nothing of the node
 
-pub moved : (opening : Node) (ready later : List Event) (behind left : Behind) (l : Locked) (shown : List Event) → IsLocked opening ready behind l → IsPrefix later l.story
-    → AreGrown (node_after opening later).held l.core.node.held → AreSince (node_after opening later).held l.core.node.held left → IsLocked opening later left (with_shown l shown)
-moved opening ready later behind left l shown is begins grown since = record { node = is.node; begins = begins; grown = grown; since = since; notes = is.notes }
+pub moved : (opening : Node) (queued later : List Event) (behind left : Behind) (l : ViewedNode) (published : List Event) → IsViewedNode opening queued behind l → IsPrefix later l.history
+    → AreGrown (node_after opening later).held l.core.node.held → AreSince (node_after opening later).held l.core.node.held left → IsViewedNode opening later left (with_published l published)
+moved opening queued later behind left l published is begins grown since = record { node = is.node; begins = begins; grown = grown; since = since; notes = is.notes }
 
-pub hub-locked : (opening : Node) (ready : List Event) (behind : Behind) (l : Locked) (hub : Hub) → IsLocked opening ready behind l → AllNotes (is_held l.core.node.held) hub
-    → IsLocked opening ready behind (with_hub l hub)
-hub-locked opening ready behind l hub is notes = record { node = is.node; begins = is.begins; grown = is.grown; since = is.since; notes = notes }
+pub hub-locked : (opening : Node) (queued : List Event) (behind : Behind) (l : ViewedNode) (hub : Hub) → IsViewedNode opening queued behind l → AllNotes (is_held l.core.node.held) hub
+    → IsViewedNode opening queued behind (with_hub l hub)
+hub-locked opening queued behind l hub is notes = record { node = is.node; begins = is.begins; grown = is.grown; since = is.since; notes = notes }

@@ -23,7 +23,7 @@ use Rattle.sb_holdings.specs.Taken.{holder_after_block}
 use Rattle.sb_holdings.specs.Treats.{took_each}
 use Rattle.sb_holdings.proofs.Nodes.{Put, put_with}
 use Rattle.sb_views.specs.Growing.{AreGrown}
-use Rattle.sb_views.specs.Pages.{Leads, of_owner, table_with_all}
+use Rattle.sb_views.specs.NodeViews.{Leads, of_owner, table_with_all}
 use Rattle.sb_views.proofs.Beginning.{of_owner-above}
 use Rattle.sb_views.proofs.ByText.{by_text}
 use Rattle.sb_views.proofs.Following.{new-leads}

@@ -1,4 +1,4 @@
--- Watches that are told entry by entry, and owner by owner.
+-- Entries noted in watches one by one, and owner by owner.
 use Rattle.std.proofs.Common.{◌≡◌, ℕ, ◌≤◌, true, List, [], ◌∷◌, ◌++◌, map, Option, Some, None, unwrap_or, inl, inr, refl, sym, ap, ◌∙◌, append_assoc, append-nil, le-leb}
 use Rattle.std.specs.List.{AllByRecursion}
 use Rattle.std.specs.Option.{option_map}
@@ -96,15 +96,15 @@ pub listing-ends : (held : Held) (all : List Block) (versions : List (List ℕ �
 listing-ends held all versions rest done is =
     sym (append-nil versions) ∙ sym (ap (λ (bs : List Block). versions ++ map (mark_of held) bs) done) ∙ is.left
 
--- ---- what watches are told of is held
+-- ---- what is noted in watches is held
 
 abbrev pub AreHeld : Held → List (List ℕ × Entry) → Type 0
 AreHeld held ps = AllByRecursion (λ p. is_held held (note_of p) ≡ true) ps
 
-pub told-held : (held : Held) (hub : Hub) (ps : List (List ℕ × Entry)) → AllNotes (is_held held) hub → AreHeld held ps → AllNotes (is_held held) (with_notes hub ps)
-told-held held hub [] notes all = notes
-told-held held hub (p ∷ ps) notes all =
-    told-held held (with_push hub (note_of p)) ps (pushed_keeps (λ note. is_held held note ≡ true) hub (note_of p) notes all.0) all.1
+pub noted-held : (held : Held) (hub : Hub) (ps : List (List ℕ × Entry)) → AllNotes (is_held held) hub → AreHeld held ps → AllNotes (is_held held) (with_notes hub ps)
+noted-held held hub [] notes all = notes
+noted-held held hub (p ∷ ps) notes all =
+    noted-held held (with_push hub (note_of p)) ps (pushed_keeps (λ note. is_held held note ≡ true) hub (note_of p) notes all.0) all.1
 
 both-held : (held : Held) (xs ys : List (List ℕ × Entry)) → AreHeld held xs → AreHeld held ys → AreHeld held (xs ++ ys)
 both-held held [] ys xa ya = ya

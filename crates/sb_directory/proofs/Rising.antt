@@ -21,7 +21,7 @@ use Rattle.sb_holdings.specs.Held.{Held, nothing, holder_of, shown_of, with_owne
 use Rattle.sb_holdings.specs.Nodes.{Node, NodeEvent, Wrote, Took, held_by, node_after_event, replay_node}
 use Rattle.sb_holdings.proofs.Nodes.{Put, put_with, same_test, replay_node-append}
 use Rattle.sb_views.specs.declared.event.Event.{Event}
-use Rattle.sb_views.specs.Stories.{steps_of, node_after}
+use Rattle.sb_views.specs.Histories.{node_events_of, node_after}
 
 -- ---- versions
 
@@ -147,10 +147,10 @@ replay-rises : (node : Node) (events : List NodeEvent) (q : List ℕ) → (held_
 replay-rises node [] q = omega arith
 replay-rises node (event ∷ events) q = omega (arith, event-rises node event q, replay-rises (node_after_event node event) events q)
 
-pub story-rises : (opening : Node) (told later : List Event) (owner : List ℕ) → IsPrefix told later
-    → (shown_of (node_after opening told).held owner).held ≤ (shown_of (node_after opening later).held owner).held
-story-rises opening told later owner begins =
-    let all : node_after opening later ≡ replay_node (node_after opening told) (flat_map steps_of begins.0) =
-    ap (node_after opening) (sym begins.1) ∙ ap (replay_node opening) (flat_map-append steps_of told begins.0) ∙ replay_node-append opening (flat_map steps_of told) (flat_map steps_of begins.0) in
-    subst (λ (n : Node). (shown_of (node_after opening told).held owner).held ≤ (shown_of n.held owner).held) (sym all)
-    (replay-rises (node_after opening told) (flat_map steps_of begins.0) owner)
+pub history-rises : (opening : Node) (seen later : List Event) (owner : List ℕ) → IsPrefix seen later
+    → (shown_of (node_after opening seen).held owner).held ≤ (shown_of (node_after opening later).held owner).held
+history-rises opening seen later owner begins =
+    let all : node_after opening later ≡ replay_node (node_after opening seen) (flat_map node_events_of begins.0) =
+    ap (node_after opening) (sym begins.1) ∙ ap (replay_node opening) (flat_map-append node_events_of seen begins.0) ∙ replay_node-append opening (flat_map node_events_of seen) (flat_map node_events_of begins.0) in
+    subst (λ (n : Node). (shown_of (node_after opening seen).held owner).held ≤ (shown_of n.held owner).held) (sym all)
+    (replay-rises (node_after opening seen) (flat_map node_events_of begins.0) owner)

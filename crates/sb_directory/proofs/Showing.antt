@@ -1,10 +1,10 @@
--- What readers are shown, where a seat is told of it.
+-- What is published, where a call says that its seat has seen it.
 use Rattle.std.proofs.Common.{◌≡◌, Bool, true, false, inl, inr, refl}
 use Rattle.std.proofs.lemmas.Bool.{false≢true}
-use Rattle.sb_directory.specs.Locks.{Locked, Shows}
-use Rattle.sb_directory.specs.Seats.{ShowsWhereSaid}
+use Rattle.sb_directory.specs.ViewedNodes.{ViewedNode, Publishes}
+use Rattle.sb_directory.specs.Seats.{PublishesWhereSaid}
 
-pub said-shows : (shown said : Bool) (old new : Locked) → (said ≡ true → shown ≡ true) → Shows shown old new → ShowsWhereSaid said old new
+pub said-shows : (shown said : Bool) (old new : ViewedNode) → (said ≡ true → shown ≡ true) → Publishes shown old new → PublishesWhereSaid said old new
 said-shows true true old new so shows = shows
 said-shows true false old new so shows = inl shows
 said-shows false true old new so shows = absurd (false≢true (so refl))

@@ -1,6 +1,6 @@
 pub mod Behind
 pub mod Notes
-pub mod Locks
+pub mod ViewedNodes
 pub mod Seats
 pub mod Serving
-pub mod Served
+pub mod Handling

@@ -1,4 +1,4 @@
--- What watches are told.
+-- What is noted in watches.
 use Rattle.std.specs.Prelude.{ℕ, Bool, nat_le, List, [], ◌∷◌, map}
 use Rattle.sb_types.specs.Records.{Entry, Block}
 use Rattle.sb_holdings.specs.Held.{Held, shown_of}
@@ -11,7 +11,7 @@ use Rattle.sb_directory.specs.Behind.{entries_since}
 abbrev pub note_of : List ℕ × Entry → Note
 note_of p = record { owner = p.0; key = p.1.key; version = p.1.version }
 
--- each entry is told of once, in their order
+-- each entry is noted once, in their order
 abbrev pub with_notes : Hub → List (List ℕ × Entry) → Hub
 with_notes hub [] = hub
 with_notes hub (p ∷ ps) = with_notes (with_push hub (note_of p)) ps
@@ -24,6 +24,6 @@ versions_of held blocks = map (λ b. (b.owner, (shown_of held b.owner).held)) bl
 abbrev pub entered_of : List Block → Held → Held → List (List ℕ × Entry)
 entered_of blocks old new = entries_since (versions_of old blocks) new
 
--- the version that is told of is held
+-- the version of the note is held
 abbrev pub is_held : Held → Note → Bool
 is_held held note = nat_le note.version (shown_of held note.owner).held

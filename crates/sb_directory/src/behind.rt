@@ -4,7 +4,6 @@ ghost use Rattle.std.specs.FinMap.{empty, entries, contains_key};
 ghost use Rattle.sb_holdings.specs.Held.{Held};
 ghost use Rattle.sb_directory.specs.Behind as spec;
 
-use crate::telling::lose;
 use sb_holdings::Holdings;
 use sb_types::{Block, Fault, Name};
 use std::alloc::Global;
@@ -57,11 +56,11 @@ impl Behind {
         }
         match self.versions.insert(owner, version) {
             Ok(earlier) => {
-                lose(earlier);
+                drop(earlier);
                 Ok(())
             }
             Err(refused) => {
-                lose(refused);
+                drop(refused);
                 Err(Fault::NoMemory)
             }
         }

@@ -6,7 +6,7 @@ ghost use Rattle.sb_holdings.specs.Held.{shown_of};
 ghost use Rattle.sb_holdings.specs.Treats.{Treats};
 ghost use Rattle.sb_session.specs.Handlers.{tells, gives, IsRefusal};
 ghost use Rattle.sb_node.specs.Cores.{own_keys};
-ghost use Rattle.sb_views.specs.Stories.{node_after};
+ghost use Rattle.sb_views.specs.Histories.{node_after};
 ghost use Rattle.sb_views.specs.declared.event.Event.{Event};
 ghost use Rattle.sb_views.specs.declared.event.Event.TheVariants as events;
 ghost use Rattle.sb_watch.specs.declared.note.Polled.TheVariants as answers;
@@ -20,13 +20,13 @@ use crate::locked::Locked;
 use crate::receipt::{Applied, Closing, Receipt};
 use crate::seat::ReaderSeat;
 use crate::shares::seat_all;
-use crate::site::Configured;
-use crate::under::Under;
+use crate::tag::DirectoryTag;
+use crate::viewed_node::ViewedNode;
 use sb_digest::Digest;
 use sb_log::Committed;
 use sb_node::NodeCore;
 use sb_types::{Delta, Fault, Name, SEATS_MOST, Settings};
-use sb_views::Opened;
+use sb_views::NewHistory;
 use sb_watch::{Filter, Polled, WatchId};
 use std::alloc::Global;
 use std::marker::PhantomData;
@@ -35,7 +35,7 @@ use std::sync::{Mutex, Wait};
 
 /// What never changes: how many seats there are, and the settings and the name of the node.
 #[derive(Drop)]
-struct Fixed<S: Configured> {
+struct Identity<S: DirectoryTag> {
     seats: usize,
     settings: Settings,
     name: Name,
@@ -45,29 +45,31 @@ struct Fixed<S: Configured> {
     ghost named: { name ≡ S.opening.held.me },
 }
 
-/// A node that threads share, each from a seat of its own. Each call but `settings` and `name` takes the one lock, so that
-/// its answer is that of the node after the events up to then. These begin with those that the seat was told or has seen and with those
-/// that it knew, and from then on the seat knows them. Of two seats' lists one begins the other, since each is a `Front` of the one story;
-/// and once the directory is closed, the story has as many events as the calls of all seats made.
+/// A node that threads share, each from a seat of its own. Each call but `settings` and `name` takes the one lock, which guards
+/// the node, its watches and the writing of its views; reading from a seat that has entered takes none. A call from a seat is
+/// answered as the node is after its history up to then. That begins with what the seat has seen and with its last call, and is
+/// the seat's last call from then on. Of the histories of two seats one begins the other, since each is a `HistoryPrefix` of the
+/// one history; and once the directory is closed, that has as many events as the calls of all seats made.
 #[derive(Drop)]
-pub struct Directory<S: Configured, R: Wait + Drop> {
-    under: Mutex<Under<S, R>>,
-    fixed: Fixed<S>,
+pub struct Directory<S: DirectoryTag, R: Wait + Drop> {
+    locked: Mutex<Locked<S, R>>,
+    identity: Identity<S>,
 }
 
-impl<S: Configured, R: Wait + Drop> Directory<S, R> {
-    /// A directory of a node as it was opened, and its seats, which have seen nothing. It keeps `rt` to wait for readers
-    /// that read when it shows what happened. `BadSetting` where there are not 1 to 64 seats; `NoMemory`. Each drops
-    /// what was given.
+impl<S: DirectoryTag, R: Wait + Drop> Directory<S, R> {
+    /// A directory of a node as it was opened, and its seats, which have seen nothing. `history` is a `NewHistory::new()` and
+    /// `blank` a `Blank::new(seats)`: by these proofs tell the node's events, and count them by seat. It keeps `rt` to wait for
+    /// readers that still read when it publishes. `BadSetting` where there are not 1 to 64 seats; `NoMemory`. Each drops what was
+    /// given.
     pub fn make(
         rt: R,
         alloc: Global,
-        opened: Opened,
+        history: NewHistory,
         blank: Blank,
         core: NodeCore,
         seats: usize,
     ) -> Result<(Directory<S, R>, Vec<ReaderSeat<S>>), Fault>
-        requires story { opened.seen.book ≡ S.story }
+        requires history { history.seen.book ≡ S.history }
         requires opening { S.opening ≡ core.node }
         requires settings { S.settings ≡ core.settings }
         requires name { blank.name ≡ S.name }
@@ -80,61 +82,63 @@ impl<S: Configured, R: Wait + Drop> Directory<S, R> {
         if seats < 1 || seats as u64 > SEATS_MOST {
             return Err(Fault::BadSetting);
         }
-        let fixed = Fixed {
+        let identity = Identity {
             seats,
             settings: core.settings(),
             name: *core.name(),
             of: PhantomData,
         };
-        let (story, start) = opened.named::<S>();
-        let (locked, readers) = Locked::open(alloc, rt, story, start, core, seats)?;
+        let (head, start) = history.named::<S>();
+        let (node, readers) = ViewedNode::open(alloc, rt, head, start, core, seats)?;
         let (book, mut rest) = blank.open::<S>();
         let made = seat_all(alloc, readers, &mut rest)?;
-        let under = Mutex::new(Under::new(locked, book, rest));
-        Ok((Directory { under, fixed }, made))
+        let locked = Mutex::new(Locked::new(node, book, rest));
+        Ok((Directory { locked, identity }, made))
     }
 
     /// The settings of the node. It takes no lock.
     pub fn settings(&self) -> &Settings
         ensures { result.now ≡ S.settings }
     {
-        &self.fixed.settings
+        &self.identity.settings
     }
 
     /// The name of the node. It takes no lock.
     pub fn name(&self) -> &Name
         ensures { result.now ≡ S.opening.held.me }
     {
-        &self.fixed.name
+        &self.identity.name
     }
 
-    /// Enters a committed write of the node's own, tells watches of it, and shows readers all that happened; gives its
-    /// version, and whether the seat saw it. Where it did not, the next call that shows makes up for it. `WrongOwner`,
-    /// `OwnerConflict`, `OutOfTurn` and `TableFull` as of the node; `TurnsSpent` after 2^64 - 1 events; `NoMemory`. Each
-    /// leaves everything as it was, but that the seat knows what had happened.
+    /// Enters a committed write of the node's own, notes it in watches, and publishes all that happened; gives its version,
+    /// and whether the seat has seen it. Where it has not, the next call that publishes makes up for it. `WrongOwner` where the
+    /// write is another's; `OwnerConflict` where a block told of a version under the own name that the node never gave;
+    /// `OutOfTurn` where the write has another version than the next; `TableFull` where its key is new beside 4,096 others,
+    /// removed ones counted; `TurnsSpent` after 2^64 - 1 events; `NoMemory`. Each leaves everything as it was, but for the seat's
+    /// last call.
     pub fn take_own<Q: Wait>(
         &self,
         rt: &Q,
         seat: &mut ReaderSeat<S>,
         committed: &Committed,
     ) -> Result<Receipt, Fault>
-        ensures entered { IfOk result (λ _. spec.IsEntered (λ story. spec.own_due_after S.opening story committed.now)
+        ensures entered { IfOk result (λ _. spec.IsEntered (λ history. spec.own_due_after S.opening history committed.now)
             (events.TookOwn committed.now.entry) seat.old seat.new) }
-        ensures shown { IfOk result (λ receipt. receipt.shown ≡ true → seat.new.told ≡ seat.new.known) }
-        ensures refused { IfErr result (spec.Refuses (spec.own_due_after S.opening seat.new.known committed.now)) }
-        ensures knew { OnErr result (spec.Begins seat.new.known seat.old) }
-        ensures seat { OnErr result (seat.new ≡ spec.with_known seat.old seat.new.known) }
+        ensures shown { IfOk result (λ receipt. receipt.shown ≡ true → seat.new.seen ≡ seat.new.last_call) }
+        ensures refused { IfErr result (spec.Refuses (spec.own_due_after S.opening seat.new.last_call committed.now)) }
+        ensures begins { OnErr result (spec.Begins seat.new.last_call seat.old) }
+        ensures seat { OnErr result (seat.new ≡ spec.with_last_call seat.old seat.new.last_call) }
         ensures count { OnOk result (seat.new.events ≡ seat.old.events + 1) }
-        ensures grows { IsPrefix seat.old.told seat.new.told }
+        ensures grows { IsPrefix seat.old.seen seat.new.seen }
         ensures version { IfOk result (λ receipt. receipt.version ≡ committed.now.entry.version) }
     {
-        self.under.lock(rt).take_own(rt, seat, committed)
+        self.locked.lock(rt).take_own(rt, seat, committed)
     }
 
-    /// Takes each block of a delta in turn, tells watches of each entry that it entered, and shows readers all that
-    /// happened; gives how the blocks ended, and whether the seat saw it. Where it did not, the next call that shows
-    /// makes up for it. `TurnsSpent` after 2^64 - 1 events; `NoMemory` where there is no room for the ends, or to note of which
-    /// owners watches and readers are to be told. Each leaves everything as it was, but that the seat knows what had happened.
+    /// Takes each block of a delta in turn, notes each entry that it entered in watches, and publishes all that happened;
+    /// gives how the blocks ended, and whether the seat has seen it. Where it has not, the next call that publishes makes up
+    /// for it. `TurnsSpent` after 2^64 - 1 events; `NoMemory` where there is no room for the ends, or to note of which owners
+    /// watches and views lack writes. Each leaves everything as it was, but for the seat's last call.
     pub fn apply<Q: Wait>(
         &self,
         rt: &Q,
@@ -142,20 +146,20 @@ impl<S: Configured, R: Wait + Drop> Directory<S, R> {
         delta: &Delta,
     ) -> Result<Applied, Fault>
         ensures entered { IfOk result (λ applied. (entered : spec.IsEntered spec.delta_due_after (events.Applied delta.now applied.ends) seat.old seat.new)
-            × Treats (node_after S.opening entered.story) delta.now applied.ends) }
-        ensures shown { IfOk result (λ applied. applied.shown ≡ true → seat.new.told ≡ seat.new.known) }
-        ensures refused { IfErr result (spec.Refuses (spec.delta_due_after seat.new.known)) }
+            × Treats (node_after S.opening entered.history) delta.now applied.ends) }
+        ensures shown { IfOk result (λ applied. applied.shown ≡ true → seat.new.seen ≡ seat.new.last_call) }
+        ensures refused { IfErr result (spec.Refuses (spec.delta_due_after seat.new.last_call)) }
         ensures fault { IfErr result IsRefusal }
-        ensures knew { OnErr result (spec.Begins seat.new.known seat.old) }
-        ensures seat { OnErr result (seat.new ≡ spec.with_known seat.old seat.new.known) }
+        ensures begins { OnErr result (spec.Begins seat.new.last_call seat.old) }
+        ensures seat { OnErr result (seat.new ≡ spec.with_last_call seat.old seat.new.last_call) }
         ensures count { OnOk result (seat.new.events ≡ seat.old.events + 1) }
-        ensures grows { IsPrefix seat.old.told seat.new.told }
+        ensures grows { IsPrefix seat.old.seen seat.new.seen }
     {
-        self.under.lock(rt).apply(rt, seat, delta)
+        self.locked.lock(rt).apply(rt, seat, delta)
     }
 
     /// The digest of the owners from a name on, or of all, as of the node; `want` says whether a digest is wanted in
-    /// answer. `NoMemory`.
+    /// answer. `NoMemory`. Either way it is noted as the seat's last call.
     pub fn digest<Q: Wait>(
         &self,
         rt: &Q,
@@ -163,78 +167,82 @@ impl<S: Configured, R: Wait + Drop> Directory<S, R> {
         from: Option<Name>,
         want: bool,
     ) -> Result<Digest, Fault>
-        ensures answer { AnswersAfter S.opening S.settings seat.new.known (tells from want result) }
-        ensures knew { spec.Begins seat.new.known seat.old }
-        ensures seat { seat.new ≡ spec.with_known seat.old seat.new.known }
+        ensures answer { AnswersAfter S.opening S.settings seat.new.last_call (tells from want result) }
+        ensures begins { spec.Begins seat.new.last_call seat.old }
+        ensures seat { seat.new ≡ spec.with_last_call seat.old seat.new.last_call }
         ensures memory { IfErr result (λ fault. fault ≡ Fault.NoMemory) }
     {
-        self.under.lock(rt).digest(rt, seat, from, want)
+        self.locked.lock(rt).core_for(rt, seat).digest(from, want)
     }
 
-    /// What a peer that sent this digest lacks, as of the node. `NoMemory`.
+    /// What a peer that sent this digest lacks, as of the node. `NoMemory`. Either way it is noted as the seat's last call.
     pub fn deltas<Q: Wait>(
         &self,
         rt: &Q,
         seat: &mut ReaderSeat<S>,
         digest: &Digest,
     ) -> Result<Delta, Fault>
-        ensures answer { AnswersAfter S.opening S.settings seat.new.known (gives digest.now result) }
-        ensures knew { spec.Begins seat.new.known seat.old }
-        ensures seat { seat.new ≡ spec.with_known seat.old seat.new.known }
+        ensures answer { AnswersAfter S.opening S.settings seat.new.last_call (gives digest.now result) }
+        ensures begins { spec.Begins seat.new.last_call seat.old }
+        ensures seat { seat.new ≡ spec.with_last_call seat.old seat.new.last_call }
         ensures memory { IfErr result (λ fault. fault ≡ Fault.NoMemory) }
     {
-        self.under.lock(rt).deltas(rt, seat, digest)
+        self.locked.lock(rt).core_for(rt, seat).deltas(digest)
     }
 
-    /// The greatest version under the own name that a block told of and the node never wrote; none where no block did.
+    /// The greatest version under the own name that a block told of and the node never wrote; none where no block did. It is
+    /// noted as the seat's last call.
     pub fn conflict<Q: Wait>(&self, rt: &Q, seat: &mut ReaderSeat<S>) -> Option<u64>
-        ensures answer { result ≡ (node_after S.opening seat.new.known).conflict }
-        ensures knew { spec.Begins seat.new.known seat.old }
-        ensures seat { seat.new ≡ spec.with_known seat.old seat.new.known }
+        ensures answer { result ≡ (node_after S.opening seat.new.last_call).conflict }
+        ensures begins { spec.Begins seat.new.last_call seat.old }
+        ensures seat { seat.new ≡ spec.with_last_call seat.old seat.new.last_call }
     {
-        self.under.lock(rt).conflict(rt, seat)
+        self.locked.lock(rt).core_for(rt, seat).conflict()
     }
 
-    /// How many keys the node's own table has, removed ones counted.
+    /// How many keys the node's own table has, removed ones counted. It is noted as the seat's last call.
     pub fn keys<Q: Wait>(&self, rt: &Q, seat: &mut ReaderSeat<S>) -> usize
-        ensures answer { result ≡ own_keys (node_after S.opening seat.new.known) }
-        ensures knew { spec.Begins seat.new.known seat.old }
-        ensures seat { seat.new ≡ spec.with_known seat.old seat.new.known }
+        ensures answer { result ≡ own_keys (node_after S.opening seat.new.last_call) }
+        ensures begins { spec.Begins seat.new.last_call seat.old }
+        ensures seat { seat.new ≡ spec.with_last_call seat.old seat.new.last_call }
     {
-        self.under.lock(rt).keys(rt, seat)
+        self.locked.lock(rt).core_for(rt, seat).keys()
     }
 
-    /// Adds a watch with room for 1 to 1,024 notes, and gives its id. `BadSetting`, `WatchesFull` and `NoMemory` as of
-    /// the watches. Each leaves everything as it was.
+    /// Adds a watch with room for 1 to 1,024 notes, and gives its id, by which any seat may poll it. `BadSetting` where the room
+    /// is outside these; `WatchesFull` where 64 watches stand, or all ids were used; `NoMemory`. Each leaves everything as it
+    /// was. The command `attrdir watch` uses none: it asks for pages.
     pub fn watch<Q: Wait>(&self, rt: &Q, filter: Filter, capacity: usize) -> Result<WatchId, Fault>
         ensures { (hub : Hub) × Gives result (next_id hub capacity) × ((fault : Fault) → next_id hub capacity ≡ Err fault → result ≡ Err fault) }
     {
-        self.under.lock(rt).watch(filter, capacity)
+        self.locked.lock(rt).watch(filter, capacity)
     }
 
     /// Drops a watch with its notes. `NoWatch` where no watch with the id stands, which changes nothing.
     pub fn unwatch<Q: Wait>(&self, rt: &Q, id: WatchId) -> Result<(), Fault>
         ensures { (hub : Hub) × (result ≡ (if has_watch hub id then Ok tt else Err Fault.NoWatch)) }
     {
-        self.under.lock(rt).unwatch(id)
+        self.locked.lock(rt).unwatch(id)
     }
 
-    /// Shows readers all that happened, and says whether the seat saw it: then it was told at least as many events as its own calls
-    /// made. Where there is no memory to show it, what is shown stays; where the seat may not see it, it is shown all the same.
+    /// Publishes all that happened, and says whether the seat has seen it: then it has seen at least as many events as its own
+    /// calls made. Where there is no memory to publish it, what is published stays; where the seat cannot enter, it is published
+    /// all the same. Either way it is noted as the seat's last call.
     pub fn refresh<Q: Wait>(&self, rt: &Q, seat: &mut ReaderSeat<S>) -> bool
-        ensures told { result ≡ true → seat.new.told ≡ seat.new.known }
-        ensures knew { spec.Begins seat.new.known seat.old }
-        ensures made { result ≡ true → seat.new.events ≤ length seat.new.told }
-        ensures grows { IsPrefix seat.old.told seat.new.told }
+        ensures seen { result ≡ true → seat.new.seen ≡ seat.new.last_call }
+        ensures begins { spec.Begins seat.new.last_call seat.old }
+        ensures made { result ≡ true → seat.new.events ≤ length seat.new.seen }
+        ensures grows { IsPrefix seat.old.seen seat.new.seen }
         ensures count { seat.new.events ≡ seat.old.events }
     {
-        self.under.lock(rt).refresh(rt, seat)
+        self.locked.lock(rt).refresh(rt, seat)
     }
 
-    /// Shows readers all that happened, and gives what the watch answers once the seat saw it: how many notes it lost,
-    /// where it lost any since it last said so; then its notes, the oldest first; then that none is left. `NoWatch` where
-    /// no watch with the id stands, before anything is shown: then the seat only knows what had happened. `NoMemory` where
-    /// there is none to show what happened, or the seat may not see it, and then the note is still to come.
+    /// Publishes all that happened, lets the seat see it, and gives the watch's next answer, one a call: `Lagged` with how many
+    /// notes it lost since it last said so, where it lost any; else `Note` with its oldest note, which it then no longer has;
+    /// else `Empty`. `NoWatch` where no watch with
+    /// the id stands, before anything is published: it is noted as the seat's last call, and nothing else changes. `NoMemory`
+    /// where there is none to publish what happened, or the seat cannot enter, and then the note is still to come.
     pub fn poll<Q: Wait>(
         &self,
         rt: &Q,
@@ -242,19 +250,19 @@ impl<S: Configured, R: Wait + Drop> Directory<S, R> {
         id: WatchId,
     ) -> Result<Polled, Fault>
         ensures answer { (hub : Hub) × Gives result (answer_at hub id) × IfErr (answer_at hub id) (λ fault. result ≡ Err fault) }
-        ensures seat { result ≡ Err Fault.NoWatch → seat.new ≡ spec.with_known seat.old seat.new.known }
-        ensures held { (note : Note) → result ≡ Ok (answers.Note note) → note.version ≤ (shown_of (node_after S.opening seat.new.told).held note.owner).held }
-        ensures told { OnOk result (seat.new.told ≡ seat.new.known) }
-        ensures knew { spec.Begins seat.new.known seat.old }
-        ensures made { OnOk result (seat.new.events ≤ length seat.new.told) }
-        ensures grows { IsPrefix seat.old.told seat.new.told }
+        ensures seat { result ≡ Err Fault.NoWatch → seat.new ≡ spec.with_last_call seat.old seat.new.last_call }
+        ensures held { (note : Note) → result ≡ Ok (answers.Note note) → note.version ≤ (shown_of (node_after S.opening seat.new.seen).held note.owner).held }
+        ensures seen { OnOk result (seat.new.seen ≡ seat.new.last_call) }
+        ensures begins { spec.Begins seat.new.last_call seat.old }
+        ensures made { OnOk result (seat.new.events ≤ length seat.new.seen) }
+        ensures grows { IsPrefix seat.old.seen seat.new.seen }
         ensures count { seat.new.events ≡ seat.old.events }
     {
-        self.under.lock(rt).poll(rt, seat, id)
+        self.locked.lock(rt).poll(rt, seat, id)
     }
 
     /// Ends a directory, and gives its node, whose settings are as they were, with the number of events. `BadSetting` where
-    /// these are not all of its seats: then directory and seats come back.
+    /// these are not all of its seats: then directory and seats come back as they were.
     pub fn close<Q: Wait>(
         self,
         rt: &Q,
@@ -267,13 +275,13 @@ impl<S: Configured, R: Wait + Drop> Directory<S, R> {
         ensures refused { IfErr result (λ back. (back.0 ≡ Fault.BadSetting) × (back.2.items ≡ seats.items)) }
         ensures all { MatchResult result (λ _. length seats.items ≡ S.seats) (λ _. length seats.items ≢ S.seats) }
     {
-        if seats.len() != self.fixed.seats {
+        if seats.len() != self.identity.seats {
             return Err((Fault::BadSetting, self, seats));
         }
         let Self {
-            under,
-            fixed: _fixed,
+            locked,
+            identity: _identity,
         } = self;
-        Ok(under.into_inner().close(rt, seats))
+        Ok(locked.into_inner().close(rt, seats))
     }
 }

@@ -1,265 +1,258 @@
-//! What lies under the lock: a node with its story, its views and its watches.
-ghost use Rattle.std.specs.Prelude.{◌≡◌, ◌≢◌, ◌<◌, ◌≤◌, ◌^◌, [], length, replicate, Ok, Err, if◌then◌else◌, OnOk, OnErr, IfOk, IfErr};
+//! What the lock guards: the viewed node, and the book that counts the events of all seats.
+ghost use Rattle.std.specs.Prelude.{◌≡◌, ◌≤◌, ◌+◌, ◌++◌, ◌∷◌, [], true, false, length, if◌then◌else◌, Ok, Err, MatchResult, IfOk, IfErr, OnOk, OnErr};
+ghost use mathlib.Core.List.{IsPrefix};
 ghost use Rattle.sb_types.specs.Faults.{Gives};
 ghost use Rattle.sb_holdings.specs.Held.{shown_of};
 ghost use Rattle.sb_holdings.specs.Treats.{Treats};
-ghost use Rattle.sb_digest.specs.Builders.{IsLongestFront};
-ghost use Rattle.sb_digest.specs.Pairs.{pairs_from};
-ghost use Rattle.sb_budget.specs.Available.{available_for};
-ghost use Rattle.sb_node.specs.Answers.{IsDelta, IsAnswer};
-ghost use Rattle.sb_node.specs.Cores.{own_keys};
 ghost use Rattle.sb_session.specs.Handlers.{IsRefusal};
-ghost use Rattle.sb_watch.specs.declared.note.Note.{Note};
+ghost use Rattle.sb_views.specs.Histories.{node_after};
+ghost use Rattle.sb_views.specs.declared.event.Event.TheVariants as events;
 ghost use Rattle.sb_watch.specs.declared.note.Polled.TheVariants as answers;
-ghost use Rattle.sb_watch.specs.Hubs.{new_hub, next_id, has_watch, answer_at, with_watch, with_answer, without_watch};
-ghost use Rattle.sb_views.specs.Stories.{node_after};
-ghost use Rattle.sb_directory.specs.Locks as spec;
+ghost use Rattle.sb_watch.specs.declared.note.Note.{Note};
+ghost use Rattle.sb_watch.specs.Hubs.{next_id, has_watch, answer_at, with_watch, with_answer, without_watch};
+ghost use Rattle.sb_directory.specs.ViewedNodes as nodes;
+ghost use Rattle.sb_directory.specs.Seats as spec;
 
-use crate::behind::Behind;
-use crate::notes::{tell, tell_since, versions_of};
-use crate::telling::{add_applied, add_own};
-use crate::views::Views;
-use sb_digest::Digest;
-use sb_holdings::Report;
+use crate::receipt::{Applied, Closing, Receipt};
+use crate::seat::ReaderSeat;
+use crate::shares::join_all;
+use crate::tag::DirectoryTag;
+use crate::viewed_node::ViewedNode;
 use sb_log::Committed;
 use sb_node::NodeCore;
-use sb_types::{Delta, Fault, Name};
-use sb_views::{Front, Reader, Site, Story};
-use sb_watch::{Filter, Hub, Polled, WatchId};
-use std::alloc::Global;
+use sb_types::{Delta, Fault};
+use sb_views::NodeTag;
+use sb_watch::{Filter, Polled, WatchId};
 use std::marker::Model;
 use std::sync::Wait;
+use std::sync::ledger::{Book, Share};
 
-/// A node with its story, its views and its watches. Contracts see it as the core, the watches, all that happened to
-/// the node since it was opened, and the beginning of that which readers are shown.
+/// The viewed node, with the book that counts the events of all seats. Contracts see it as the viewed node.
 #[derive(Drop)]
-pub struct Locked<S: Site, R: Wait + Drop> {
-    core: NodeCore,
-    hub: Hub,
-    story: Story<S>,
-    front: Front<S>,
-    views: Views<S, R>,
-    behind: Behind,
-    alloc: Global,
+pub(crate) struct Locked<S: DirectoryTag, R: Wait + Drop> {
+    node: ViewedNode<S, R>,
+    book: Book<S>,
+    // What is left of the ledger once each seat has its part.
+    rest: Share<S>,
 }
 
-impl<S: Site, R: Wait + Drop> Model for Locked<S, R> {
+impl<S: DirectoryTag, R: Wait + Drop> Model for Locked<S, R> {
+    ghost use Rattle.std.specs.Prelude.{◌≡◌, length};
     ghost use Rattle.std.specs.Coded.{codes};
     ghost use Rattle.std.specs.FinMap.{code};
-    ghost use Rattle.sb_directory.specs.Locks as spec;
+    ghost use Rattle.sb_directory.specs.ViewedNodes as nodes;
 
-    ghost Value = { spec.Locked };
+    ghost Value = { nodes.ViewedNode };
 
     ghost coded = { Prim.hlevel (codes, code) };
 
-    ghost view = { λ l. record { core = l.core; hub = l.hub; story = l.front; shown = l.views.shown } };
+    ghost view = { λ l. l.node };
 
-    ghost invariant = { λ l. spec.IsLocked S.opening l.views.ready l.behind (record { core = l.core; hub = l.hub; story = l.front; shown = l.views.shown }) };
+    ghost invariant = { λ l. (l.book.total ≡ length l.node.history) × (l.node.core.settings ≡ S.settings) × (l.rest.parts ≡ 0) × (l.rest.amount ≡ 0) };
 }
 
-impl<S: Site, R: Wait + Drop> Locked<S, R> {
-    /// A node as it is opened, with so many readers that have seen nothing. `NoMemory`.
-    pub fn open(
-        alloc: Global,
-        rt: R,
-        story: Story<S>,
-        start: Front<S>,
-        core: NodeCore,
-        seats: usize,
-    ) -> Result<(Locked<S, R>, Vec<Reader<S>>), Fault>
-        requires opening { S.opening ≡ core.node }
-        requires start { start ≡ [] }
-        requires seats { (0 < seats) × (seats < 2 ^ 32) }
-        ensures locked { IfOk result (λ l. l.0 ≡ record { core = core; hub = new_hub; story = []; shown = [] }) }
-        ensures readers { IfOk result (λ l. l.1.items ≡ replicate seats []) }
-        ensures memory { IfErr result (λ fault. fault ≡ Fault.NoMemory) }
+/// Counts the event that a call of this seat made, with which its last call ends, and lets the seat see what is published, where
+/// that has the event; says whether it has seen it.
+fn count_event<S: NodeTag, R: Wait + Drop>(
+    node: &ViewedNode<S, R>,
+    book: &mut Book<S>,
+    seat: &mut ReaderSeat<S>,
+    shown: bool,
+) -> bool
+    ensures total { book.new.total ≡ book.old.total + 1 }
+    ensures count { seat.new.events ≡ seat.old.events + 1 }
+    ensures last_call { seat.new.last_call ≡ node.now.history }
+    ensures grows { IsPrefix seat.old.seen seat.new.seen }
+    ensures said { result ≡ true → shown ≡ true }
+    ensures seen { result ≡ true → seat.new.seen ≡ node.now.history }
+{
+    seat.count(book);
+    seat.set_last_call(node.history());
+    if !shown {
+        return false;
+    }
+    seat.look(node.history())
+}
+
+impl<S: DirectoryTag, R: Wait + Drop> Locked<S, R> {
+    /// A node as it was opened, with the book of a ledger of which each seat has one part.
+    pub(crate) fn new(node: ViewedNode<S, R>, book: Book<S>, rest: Share<S>) -> Locked<S, R>
+        requires history { node.history ≡ [] }
+        requires settings { node.core.settings ≡ S.settings }
+        requires total { book.total ≡ 0 }
+        requires parts { rest.parts ≡ 0 }
+        requires amount { rest.amount ≡ 0 }
+        ensures { result ≡ node }
     {
-        let (views, readers) = Views::open(alloc, rt, &start, &core, seats)?;
-        let locked = Locked {
-            core,
-            hub: Hub::new(alloc),
-            story,
-            front: start,
-            views,
-            behind: Behind::new(alloc),
-            alloc,
-        };
-        Ok((locked, readers))
+        Locked { node, book, rest }
     }
 
-    /// Enters a committed write of the node's own, tells watches of it, and shows readers all that happened; says
-    /// whether there was memory to show it. Where there was none, the next call that shows makes up for it.
-    /// `WrongOwner`, `OwnerConflict`, `OutOfTurn` and `TableFull` as of the node; `TurnsSpent` after 2^64 - 1 events;
-    /// `NoMemory`. Each leaves everything as it was.
-    pub fn take_own<Q: Wait>(&mut self, rt: &Q, committed: &Committed) -> Result<bool, Fault>
-        ensures answer { IfErr result (λ fault. fault ≢ Fault.NoMemory → spec.own_due self.old committed.now ≡ Err fault) }
-        ensures refused { IfErr (spec.own_due self.old committed.now) (λ fault. result ≡ Err fault) }
-        ensures due { OnOk result (spec.own_due self.old committed.now ≡ Ok tt) }
-        ensures taken { IfOk result (λ shown. self.new ≡ spec.after_own self.old committed.now.entry self.new.shown) }
-        ensures shown { IfOk result (λ shown. spec.Shows shown self.old self.new) }
+    /// Enters a committed write, for a seat.
+    pub(crate) fn take_own<Q: Wait>(
+        &mut self,
+        rt: &Q,
+        seat: &mut ReaderSeat<S>,
+        committed: &Committed,
+    ) -> Result<Receipt, Fault>
+        ensures taken { IfOk result (λ _. self.new ≡ nodes.after_own self.old committed.now.entry self.new.published) }
+        ensures shown { IfOk result (λ receipt. spec.PublishesWhereSaid receipt.shown self.old self.new) }
         ensures err { OnErr result (self.new ≡ self.old) }
+        ensures due { OnOk result (spec.own_due_after S.opening self.old.history committed.now ≡ Ok tt) }
+        ensures last_call { OnOk result (seat.new.last_call ≡ self.old.history ++ events.TookOwn committed.now.entry ∷ []) }
+        ensures seen { IfOk result (λ receipt. receipt.shown ≡ true → seat.new.seen ≡ seat.new.last_call) }
+        ensures count { OnOk result (seat.new.events ≡ seat.old.events + 1) }
+        ensures refused { IfErr result (spec.Refuses (spec.own_due_after S.opening self.old.history committed.now)) }
+        ensures seat { OnErr result (seat.new ≡ spec.with_last_call seat.old self.old.history) }
+        ensures begins { spec.Begins self.old.history seat.old }
+        ensures grows { IsPrefix seat.old.seen seat.new.seen }
+        ensures version { IfOk result (λ receipt. receipt.version ≡ committed.now.entry.version) }
     {
-        if let Some(fault) = self.core.refusal(committed) {
-            return Err(fault);
-        }
-        if self.front.len() == u64::MAX {
-            return Err(Fault::TurnsSpent);
-        }
-        let me = *self.core.name();
-        let entry = committed.entry();
-        self.behind.add(me, self.core.upto(&me))?;
-        self.core.take_own(committed)?;
-        add_own(rt, &self.story, &mut self.front, entry);
-        tell(&mut self.hub, &me, entry);
-        Ok(self.views.show(&self.core, &self.front, &mut self.behind))
-    }
-
-    /// Takes each block of a delta in turn, tells watches of each entry that it entered, and shows readers all that
-    /// happened; gives how the blocks ended, and says whether there was memory to show it. Where there was none, the
-    /// next call that shows makes up for it. `TurnsSpent` after 2^64 - 1 events; `NoMemory` where there is no room for
-    /// the ends, or to note of which owners watches and readers are to be told. Each leaves everything as it was.
-    pub fn apply<Q: Wait>(&mut self, rt: &Q, delta: &Delta) -> Result<(Report, bool), Fault>
-        ensures answer { IfErr result (λ fault. fault ≢ Fault.NoMemory → spec.delta_due self.old ≡ Err fault) }
-        ensures refused { IfErr (spec.delta_due self.old) (λ fault. result ≡ Err fault) }
-        ensures fault { IfErr result IsRefusal }
-        ensures due { OnOk result (spec.delta_due self.old ≡ Ok tt) }
-        ensures ends { IfOk result (λ r. Treats self.old.core.node delta.now r.0) }
-        ensures taken { IfOk result (λ r. self.new ≡ spec.after_delta self.old delta.now r.0 self.new.shown) }
-        ensures shown { IfOk result (λ r. spec.Shows r.1 self.old self.new) }
-        ensures err { OnErr result (self.new ≡ self.old) }
-    {
-        if self.front.len() == u64::MAX {
-            return Err(Fault::TurnsSpent);
-        }
-        let blocks = delta.blocks();
-        let versions = versions_of(self.alloc, self.core.holdings(), blocks)?;
-        self.behind.add_owners(self.core.holdings(), blocks)?;
-        let ends = self.core.apply(delta)?;
-        add_applied(rt, &self.story, &mut self.front, delta, &ends);
-        tell_since(&mut self.hub, self.core.holdings(), versions);
-        let shown = self.views.show(&self.core, &self.front, &mut self.behind);
-        Ok((ends, shown))
-    }
-
-    /// The digest of the owners from a name on, or of all, as of the node; `want` says whether it asks for one in answer.
-    /// `NoMemory`.
-    pub fn digest(&self, from: Option<Name>, want: bool) -> Result<Digest, Fault>
-        ensures longest { IfOk result (IsLongestFront self.now.core.settings.budget want from (pairs_from from self.now.core.node.held)) }
-        ensures goes { IfOk result (λ digest. 0 < length (pairs_from from self.now.core.node.held) → 0 < length digest.pairs) }
-        ensures memory { IfErr result (λ fault. fault ≡ Fault.NoMemory) }
-    {
-        self.core.digest(from, want)
-    }
-
-    /// What a peer that sent this digest lacks, as of the node. `NoMemory`.
-    pub fn deltas(&self, digest: &Digest) -> Result<Delta, Fault>
-        ensures delta { IfOk result (IsDelta self.now.core.settings self.now.core.node.held digest.now) }
-        ensures answer { IfOk result (IsAnswer self.now.core.settings.budget self.now.core.node.held digest.now) }
-        ensures goes { IfOk result (λ delta. 0 < length (available_for self.now.core.node.held digest.now) → 0 < length delta) }
-        ensures memory { IfErr result (λ fault. fault ≡ Fault.NoMemory) }
-    {
-        self.core.deltas(digest)
-    }
-
-    /// The greatest version under the own name that a block told of and the node never wrote; none where no block did.
-    pub fn conflict(&self) -> Option<u64>
-        ensures { result ≡ self.now.core.node.conflict }
-    {
-        self.core.conflict()
-    }
-
-    /// How many keys the node's own table has, removed ones counted.
-    pub fn keys(&self) -> usize
-        ensures { result ≡ own_keys self.now.core.node }
-    {
-        self.core.keys()
-    }
-
-    /// Adds a watch with room for 1 to 1,024 notes, and gives its id. `BadSetting`, `WatchesFull` and `NoMemory` as of
-    /// the watches. Each leaves everything as it was.
-    pub fn watch(&mut self, filter: Filter, capacity: usize) -> Result<WatchId, Fault>
-        ensures answer { Gives result (next_id self.old.hub capacity) }
-        ensures refused { (fault : Fault) → next_id self.old.hub capacity ≡ Err fault → result ≡ Err fault }
-        ensures ok { OnOk result (self.new ≡ spec.with_hub self.old (with_watch self.old.hub filter capacity)) }
-        ensures err { OnErr result (self.new ≡ self.old) }
-    {
-        match self.hub.add(filter, capacity) {
-            Ok(id) => Ok(id),
+        seat.call_at(rt, self.node.history());
+        match self.node.take_own(rt, committed) {
+            Ok(shown) => {
+                let shown = count_event(&self.node, &mut self.book, seat, shown);
+                Ok(Receipt {
+                    version: committed.entry().version(),
+                    shown,
+                })
+            }
             Err(fault) => Err(fault),
         }
     }
 
-    /// Whether a watch with the id stands.
-    pub fn has_watch(&self, id: WatchId) -> bool
-        ensures { result ≡ has_watch self.now.hub id }
+    /// Takes the blocks of a delta, for a seat.
+    pub(crate) fn apply<Q: Wait>(
+        &mut self,
+        rt: &Q,
+        seat: &mut ReaderSeat<S>,
+        delta: &Delta,
+    ) -> Result<Applied, Fault>
+        ensures taken { IfOk result (λ applied. self.new ≡ nodes.after_delta self.old delta.now applied.ends self.new.published) }
+        ensures shown { IfOk result (λ applied. spec.PublishesWhereSaid applied.shown self.old self.new) }
+        ensures err { OnErr result (self.new ≡ self.old) }
+        ensures due { OnOk result (spec.delta_due_after self.old.history ≡ Ok tt) }
+        ensures ends { IfOk result (λ applied. Treats (node_after S.opening self.old.history) delta.now applied.ends) }
+        ensures last_call { IfOk result (λ applied. seat.new.last_call ≡ self.old.history ++ events.Applied delta.now applied.ends ∷ []) }
+        ensures seen { IfOk result (λ applied. applied.shown ≡ true → seat.new.seen ≡ seat.new.last_call) }
+        ensures count { OnOk result (seat.new.events ≡ seat.old.events + 1) }
+        ensures refused { IfErr result (spec.Refuses (spec.delta_due_after self.old.history)) }
+        ensures fault { IfErr result IsRefusal }
+        ensures seat { OnErr result (seat.new ≡ spec.with_last_call seat.old self.old.history) }
+        ensures begins { spec.Begins self.old.history seat.old }
+        ensures grows { IsPrefix seat.old.seen seat.new.seen }
     {
-        self.hub.has(id)
+        seat.call_at(rt, self.node.history());
+        match self.node.apply(rt, delta) {
+            Ok((ends, shown)) => {
+                let shown = count_event(&self.node, &mut self.book, seat, shown);
+                Ok(Applied { ends, shown })
+            }
+            Err(fault) => Err(fault),
+        }
     }
 
-    /// Drops a watch with its notes. `NoWatch` where no watch with the id stands, which changes nothing.
-    pub fn unwatch(&mut self, id: WatchId) -> Result<(), Fault>
-        ensures answer { result ≡ (if has_watch self.old.hub id then Ok tt else Err Fault.NoWatch) }
-        ensures left { self.new ≡ spec.with_hub self.old (without_watch self.old.hub id) }
+    /// Notes a call of a seat, and lends the node that it asks.
+    pub(crate) fn core_for<Q: Wait>(&self, rt: &Q, seat: &mut ReaderSeat<S>) -> &NodeCore
+        ensures node { result.now.node ≡ node_after S.opening self.now.history }
+        ensures settings { result.now.settings ≡ S.settings }
+        ensures begins { spec.Begins self.now.history seat.old }
+        ensures last_call { seat.new ≡ spec.with_last_call seat.old self.now.history }
     {
-        self.hub.drop_watch(id)
+        seat.call_at(rt, self.node.history());
+        self.node.core()
     }
 
-    /// Shows readers all that happened, and says whether there was memory for it. Where there was none, what is shown
-    /// stays.
-    pub fn refresh(&mut self) -> bool
-        ensures left { self.new ≡ spec.with_shown self.old self.new.shown }
-        ensures shown { spec.Shows result self.old self.new }
-    {
-        self.views.show(&self.core, &self.front, &mut self.behind)
-    }
-
-    /// Shows readers all that happened, and gives what the watch answers, so that a note is handed out once its write
-    /// is shown. `NoWatch` where no watch with the id stands; `NoMemory` where there is none to show what happened.
-    /// Each leaves everything as it was.
-    pub fn poll(&mut self, id: WatchId) -> Result<Polled, Fault>
-        ensures answer { Gives result (answer_at self.old.hub id) }
-        ensures refused { IfErr (answer_at self.old.hub id) (λ fault. result ≡ Err fault) }
-        ensures ok { OnOk result (self.new ≡ spec.with_shown (spec.with_hub self.old (with_answer self.old.hub id)) self.old.story) }
-        ensures held { (note : Note) → result ≡ Ok (answers.Note note) → note.version ≤ (shown_of self.old.core.node.held note.owner).held }
+    /// Adds a watch.
+    pub(crate) fn watch(&mut self, filter: Filter, capacity: usize) -> Result<WatchId, Fault>
+        ensures answer { Gives result (next_id self.old.hub capacity) }
+        ensures refused { (fault : Fault) → next_id self.old.hub capacity ≡ Err fault → result ≡ Err fault }
+        ensures ok { OnOk result (self.new ≡ nodes.with_hub self.old (with_watch self.old.hub filter capacity)) }
         ensures err { OnErr result (self.new ≡ self.old) }
     {
-        if !self.hub.has(id) {
+        self.node.watch(filter, capacity)
+    }
+
+    /// Drops a watch with its notes.
+    pub(crate) fn unwatch(&mut self, id: WatchId) -> Result<(), Fault>
+        ensures answer { result ≡ (if has_watch self.old.hub id then Ok tt else Err Fault.NoWatch) }
+        ensures left { self.new ≡ nodes.with_hub self.old (without_watch self.old.hub id) }
+    {
+        self.node.unwatch(id)
+    }
+
+    /// Publishes all that happened, and lets the seat see it; says whether it did.
+    pub(crate) fn refresh<Q: Wait>(&mut self, rt: &Q, seat: &mut ReaderSeat<S>) -> bool
+        ensures left { self.new ≡ nodes.with_published self.old self.new.published }
+        ensures shown { spec.PublishesWhereSaid result self.old self.new }
+        ensures begins { spec.Begins self.old.history seat.old }
+        ensures last_call { seat.new.last_call ≡ self.old.history }
+        ensures grows { IsPrefix seat.old.seen seat.new.seen }
+        ensures count { seat.new.events ≡ seat.old.events }
+        ensures seen { result ≡ true → seat.new.seen ≡ self.new.history }
+        ensures made { result ≡ true → seat.new.events ≤ length seat.new.seen }
+    {
+        seat.call_at(rt, self.node.history());
+        if !self.node.refresh() {
+            return false;
+        }
+        seat.audit(&mut self.book);
+        seat.look(self.node.history())
+    }
+
+    /// Publishes all that happened, lets the seat see it, and gives what the watch answers.
+    pub(crate) fn poll<Q: Wait>(
+        &mut self,
+        rt: &Q,
+        seat: &mut ReaderSeat<S>,
+        id: WatchId,
+    ) -> Result<Polled, Fault>
+        ensures answer { Gives result (answer_at self.old.hub id) }
+        ensures refused { IfErr (answer_at self.old.hub id) (λ fault. result ≡ Err fault) }
+        ensures held { (note : Note) → result ≡ Ok (answers.Note note) → note.version ≤ (shown_of (node_after S.opening seat.new.seen).held note.owner).held }
+        ensures ok { OnOk result (self.new ≡ nodes.with_published (nodes.with_hub self.old (with_answer self.old.hub id)) self.old.history) }
+        ensures err { OnErr result (self.new ≡ nodes.with_published self.old self.new.published) }
+        ensures shown { OnErr result (spec.PublishesWhereSaid false self.old self.new) }
+        ensures none { result ≡ Err Fault.NoWatch → self.new ≡ self.old }
+        ensures seat { result ≡ Err Fault.NoWatch → seat.new ≡ spec.with_last_call seat.old seat.new.last_call }
+        ensures begins { spec.Begins self.old.history seat.old }
+        ensures last_call { seat.new.last_call ≡ self.old.history }
+        ensures grows { IsPrefix seat.old.seen seat.new.seen }
+        ensures count { seat.new.events ≡ seat.old.events }
+        ensures seen { OnOk result (seat.new.seen ≡ self.new.history) }
+        ensures made { OnOk result (seat.new.events ≤ length seat.new.seen) }
+    {
+        seat.call_at(rt, self.node.history());
+        if !self.node.has_watch(id) {
             return Err(Fault::NoWatch);
         }
-        if !self.views.show(&self.core, &self.front, &mut self.behind) {
+        if !self.refresh(rt, seat) {
             return Err(Fault::NoMemory);
         }
-        self.hub.take(id)
+        // Does nothing: the call tells the prover that the node is what its history made of it.
+        let _history = self.node.history();
+        self.node.poll(id)
     }
 
-    /// The events that happened.
-    pub fn front(&self) -> &Front<S>
-        ensures front { result.now ≡ self.now.story }
-        ensures node { self.now.core.node ≡ node_after S.opening self.now.story }
-    {
-        &self.front
-    }
-
-    /// The events that are shown.
-    pub fn shown(&self) -> &Front<S>
-        ensures { result.now ≡ self.now.shown }
-    {
-        self.views.shown()
-    }
-
-    /// The node; readers that still read see what they read, and no other enters.
-    pub fn into_core(self) -> NodeCore
-        ensures { result ≡ self.core }
+    /// The node and how many events there were, where these are all seats.
+    pub(crate) fn close<Q: Wait>(self, rt: &Q, seats: Vec<ReaderSeat<S>>) -> Closing
+        requires all { length seats.items ≡ S.parts }
+        ensures node { result.core.node ≡ node_after S.opening self.history }
+        ensures settings { result.core.settings ≡ S.settings }
+        ensures events { result.events ≡ length self.history }
+        ensures made { result.events ≡ spec.events_of_all seats.items }
+        ensures begin { spec.AllBegin self.history seats.items }
     {
         let Self {
-            core,
-            hub: _hub,
-            story: _story,
-            front: _front,
-            views: _views,
-            behind: _behind,
-            alloc: _,
+            node,
+            mut book,
+            rest,
         } = self;
-        core
+        let mut all = join_all(rt, node.history(), rest, seats);
+        book.audit(&mut all);
+        let events = node.history().len();
+        Closing {
+            core: node.into_core(),
+            events,
+        }
     }
 }

@@ -1,4 +1,4 @@
-//! Telling watches of what was entered.
+//! Noting in watches what was entered.
 ghost use Rattle.std.specs.Prelude.{◌≡◌, ◌∷◌, [], IfOk, IfErr};
 ghost use Rattle.sb_directory.specs.Notes as spec;
 ghost use Rattle.sb_directory.specs.Behind.{owned_above, entries_since};
@@ -9,8 +9,8 @@ use sb_types::{Block, Entry, Fault, Name};
 use sb_watch::{Hub, Note};
 use std::alloc::Global;
 
-/// Tells watches of a write.
-pub(crate) fn tell(hub: &mut Hub, owner: &Name, entry: &Entry)
+/// Notes a write in watches.
+pub(crate) fn push_note(hub: &mut Hub, owner: &Name, entry: &Entry)
     ensures { hub.new ≡ spec.with_notes hub.old ((owner.now, entry.now) ∷ []) }
 {
     hub.push(&Note {
@@ -20,22 +20,22 @@ pub(crate) fn tell(hub: &mut Hub, owner: &Name, entry: &Entry)
     });
 }
 
-/// Tells watches of an owner's writes above a version.
-fn tell_above(hub: &mut Hub, owner: &Name, table: &Table, version: u64)
+/// Notes an owner's writes above a version in watches.
+fn push_notes_above(hub: &mut Hub, owner: &Name, table: &Table, version: u64)
     ensures { hub.new ≡ spec.with_notes hub.old (owned_above version owner.now table.now) }
 {
     for entry in table.after(version) {
-        tell(hub, owner, entry);
+        push_note(hub, owner, entry);
     }
 }
 
-/// Tells watches of what is held of these owners above these versions.
-pub(crate) fn tell_since(hub: &mut Hub, holdings: &Holdings, versions: Vec<(Name, u64)>)
+/// Notes in watches what is held of these owners above these versions.
+pub(crate) fn push_notes_since(hub: &mut Hub, holdings: &Holdings, versions: Vec<(Name, u64)>)
     ensures { hub.new ≡ spec.with_notes hub.old (entries_since versions.items holdings.now) }
 {
     for (owner, version) in versions {
         if let Some(table) = holdings.table(&owner) {
-            tell_above(hub, &owner, table, version);
+            push_notes_above(hub, &owner, table, version);
         }
     }
 }

@@ -2,21 +2,24 @@
 use sb_holdings::Report;
 use sb_node::NodeCore;
 
-/// A write was entered under this version; whether the seat saw it.
+/// A write was entered, under this version, and stands. `shown` is true where the seat has seen it. It is false where there was no
+/// memory to publish it, or the seat could not enter: then it is seen once a `take_own`, `apply`, `refresh` or `poll` from any seat
+/// has published it, and the seat enters.
 #[derive(Clone, Copy, PartialEq, Eq, Debug)]
 pub struct Receipt {
     pub version: u64,
     pub shown: bool,
 }
 
-/// How the blocks of a delta ended; whether the seat saw what was taken of them.
+/// How the blocks of a delta ended, in their order. `shown` is true where the seat has seen what was taken of them; where it is
+/// false that stands all the same, as of a [`Receipt`].
 #[derive(Drop)]
 pub struct Applied {
     pub ends: Report,
     pub shown: bool,
 }
 
-/// The node of a directory that was closed, and how many events there were since it was opened.
+/// The node of a directory that was closed, and how many events its history has.
 #[derive(Drop)]
 pub struct Closing {
     pub core: NodeCore,

@@ -1,106 +1,107 @@
 //! Seats: the places from which threads use a directory.
 ghost use Rattle.std.specs.Prelude.{◌≡◌, ◌≤◌, ◌+◌, MatchBool, MatchResult};
 ghost use mathlib.Core.List.{IsPrefix};
-ghost use Rattle.sb_views.specs.Stories.{node_after};
-ghost use Rattle.sb_views.specs.Views.{IsView};
+ghost use Rattle.sb_views.specs.Histories.{node_after};
+ghost use Rattle.sb_views.specs.Publishing.{IsView};
 ghost use Rattle.sb_directory.specs.Seats as spec;
 
 use core::mem::replace_with;
-use sb_views::{Entered, Front, Reader, Site, Snapshot};
+use sb_views::{Entered, HistoryPrefix, NodeTag, Reader, Snapshot};
 use std::marker::Model;
 use std::sync::Wait;
 use std::sync::ledger::{Book, Share};
 
-/// A seat. Contracts see it as two beginnings of the story, that which it was told or has seen, and all that had happened when its
-/// last call was answered; and as the number of events that its calls made.
+/// A seat: one thread's place at a directory. The thread reads from it, without the lock, and passes it to the calls that take the
+/// lock. Contracts see it as two prefixes of the history and a number: `seen`, whose view its reader entered last or was let see
+/// by a call; `last_call`, the history as it was when its last call was answered; `events`, how many its calls made.
 #[derive(Drop)]
-pub struct ReaderSeat<S: Site> {
+pub struct ReaderSeat<S: NodeTag> {
     reader: Reader<S>,
-    known: Front<S>,
+    last_call: HistoryPrefix<S>,
     share: Share<S>,
 }
 
-impl<S: Site> Model for ReaderSeat<S> {
+impl<S: NodeTag> Model for ReaderSeat<S> {
     ghost use Rattle.std.specs.Prelude.{◌≡◌};
     ghost use Rattle.sb_directory.specs.Seats as spec;
 
     ghost Value = { spec.Seat };
 
-    ghost view = { λ s. record { told = s.reader; known = s.known; events = s.share.amount } };
+    ghost view = { λ s. record { seen = s.reader; last_call = s.last_call; events = s.share.amount } };
 
     ghost invariant = { λ s. s.share.parts ≡ 1 };
 }
 
-/// A seat whose reader reads. Contracts see it as they see the seat.
+/// A seat that has entered: it reads a snapshot, and makes no call until it leaves. Contracts see it as they see the seat.
 #[derive(Drop)]
-pub struct EnteredSeat<S: Site> {
+pub struct EnteredSeat<S: NodeTag> {
     entered: Entered<S>,
-    known: Front<S>,
+    last_call: HistoryPrefix<S>,
     share: Share<S>,
 }
 
-impl<S: Site> Model for EnteredSeat<S> {
+impl<S: NodeTag> Model for EnteredSeat<S> {
     ghost use Rattle.std.specs.Prelude.{◌≡◌};
     ghost use Rattle.sb_directory.specs.Seats as spec;
 
     ghost Value = { spec.Seat };
 
-    ghost view = { λ s. record { told = s.entered; known = s.known; events = s.share.amount } };
+    ghost view = { λ s. record { seen = s.entered; last_call = s.last_call; events = s.share.amount } };
 
     ghost invariant = { λ s. s.share.parts ≡ 1 };
 }
 
-impl<S: Site> ReaderSeat<S> {
-    /// A seat for a reader, with one part of the ledger. It knows what the reader was told.
+impl<S: NodeTag> ReaderSeat<S> {
+    /// The seat of a reader, with one part of the ledger. It made no call: its last call is what its reader has seen.
     pub(crate) fn new(reader: Reader<S>, share: Share<S>) -> ReaderSeat<S>
         requires { share.parts ≡ 1 }
-        ensures { result ≡ record { told = reader; known = reader; events = share.amount } }
+        ensures { result ≡ record { seen = reader; last_call = reader; events = share.amount } }
     {
-        let known = reader.told().again();
+        let last_call = reader.seen().copy();
         ReaderSeat {
             reader,
-            known,
+            last_call,
             share,
         }
     }
 
-    /// Takes what is published, which stays as it is until the seat leaves. It takes no memory, and no lock: for that a call
-    /// needs a `Wait`, and this one has none. So it waits for nobody. Where it is refused, as when the directory is gone, the
-    /// seat comes back unchanged.
+    /// Enters the snapshot that is published, which does not change until the seat leaves. It takes no memory, and no lock: for
+    /// that a call needs a `Wait`, and this one has none. So it waits for nobody. Where it is refused, as when the directory is
+    /// gone, the seat comes back unchanged.
     pub fn enter(self) -> Result<EnteredSeat<S>, ReaderSeat<S>>
-        ensures { MatchResult result (λ entered. IsPrefix self.told entered.told × (entered.known ≡ self.known) × (entered.events ≡ self.events))
+        ensures { MatchResult result (λ entered. IsPrefix self.seen entered.seen × (entered.last_call ≡ self.last_call) × (entered.events ≡ self.events))
             (λ seat. seat ≡ self) }
     {
         let ReaderSeat {
             reader,
-            known,
+            last_call,
             share,
         } = self;
         match reader.enter() {
             Ok(entered) => Ok(EnteredSeat {
                 entered,
-                known,
+                last_call,
                 share,
             }),
             Err(reader) => Err(ReaderSeat {
                 reader,
-                known,
+                last_call,
                 share,
             }),
         }
     }
 
-    /// The events that it was told or has seen.
-    pub fn told(&self) -> &Front<S>
-        ensures { result.now ≡ self.now.told }
+    /// The events that it has seen.
+    pub fn seen(&self) -> &HistoryPrefix<S>
+        ensures { result.now ≡ self.now.seen }
     {
-        self.reader.told()
+        self.reader.seen()
     }
 
     // Enters and leaves at once, where that is not refused.
-    fn looked(self) -> (ReaderSeat<S>, ())
-        ensures grows { IsPrefix self.told result.0.told }
-        ensures known { result.0.known ≡ self.known }
+    fn entered_and_left(self) -> (ReaderSeat<S>, ())
+        ensures grows { IsPrefix self.seen result.0.seen }
+        ensures last_call { result.0.last_call ≡ self.last_call }
         ensures events { result.0.events ≡ self.events }
     {
         match self.enter() {
@@ -109,35 +110,35 @@ impl<S: Site> ReaderSeat<S> {
         }
     }
 
-    /// Sees what is published, and says whether that is the view of these events.
-    pub(crate) fn look(&mut self, front: &Front<S>) -> bool
-        ensures told { MatchBool result (self.new.told ≡ front.now) (Unit {0}) }
-        ensures grows { IsPrefix self.old.told self.new.told }
-        ensures known { self.new.known ≡ self.old.known }
+    /// Lets the seat see what is published, and says whether that is the view after this history.
+    pub(crate) fn look(&mut self, history: &HistoryPrefix<S>) -> bool
+        ensures seen { MatchBool result (self.new.seen ≡ history.now) (Unit {0}) }
+        ensures grows { IsPrefix self.old.seen self.new.seen }
+        ensures last_call { self.new.last_call ≡ self.old.last_call }
         ensures events { self.new.events ≡ self.old.events }
     {
-        replace_with(self, (), |seat, _| seat.looked());
-        front.is_same(self.reader.told())
+        replace_with(self, (), |seat, _| seat.entered_and_left());
+        history.is_same(self.reader.seen())
     }
 
-    /// Knows all that happened up to here. What it was told and knew begins that, which no run has found otherwise: where it did
-    /// not, this would not return.
-    pub(crate) fn know<Q: Wait>(&mut self, rt: &Q, front: &Front<S>)
-        ensures begins { spec.Begins front.now self.old }
-        ensures known { self.new ≡ spec.with_known self.old front.now }
+    /// Notes a call that is answered after this history, which begins with what the seat has seen and with its last call. Where
+    /// it did not, which no run has found, this does not return.
+    pub(crate) fn call_at<Q: Wait>(&mut self, rt: &Q, history: &HistoryPrefix<S>)
+        ensures begins { spec.Begins history.now self.old }
+        ensures last_call { self.new ≡ spec.with_last_call self.old history.now }
     {
-        if !self.reader.told().begins(front) || !self.known.begins(front) {
+        if !self.reader.seen().is_prefix_of(history) || !self.last_call.is_prefix_of(history) {
             for _ in rt.forever() {}
             unreachable!();
         }
-        self.learn(front);
+        self.set_last_call(history);
     }
 
-    /// Knows all that happened up to here.
-    pub(crate) fn learn(&mut self, front: &Front<S>)
-        ensures { self.new ≡ spec.with_known self.old front.now }
+    /// Notes that its last call was answered after this history.
+    pub(crate) fn set_last_call(&mut self, history: &HistoryPrefix<S>)
+        ensures { self.new ≡ spec.with_last_call self.old history.now }
     {
-        self.known = front.again();
+        self.last_call = history.copy();
     }
 
     /// Its part of the ledger, with the number of events that its calls made.
@@ -147,13 +148,13 @@ impl<S: Site> ReaderSeat<S> {
     {
         let ReaderSeat {
             reader: _reader,
-            known: _known,
+            last_call: _last_call,
             share,
         } = self;
         share
     }
 
-    /// Tells that there are at least as many events as its calls made.
+    /// Shows the prover that there are at least as many events as its calls made.
     pub(crate) fn audit(&mut self, book: &mut Book<S>)
         ensures made { self.old.events ≤ book.old.total }
         ensures total { book.new.total ≡ book.old.total }
@@ -162,42 +163,42 @@ impl<S: Site> ReaderSeat<S> {
         book.audit(&mut self.share);
     }
 
-    /// Counts an event that a call of it made.
+    /// Counts an event that its call made.
     pub(crate) fn count(&mut self, book: &mut Book<S>)
         ensures total { book.new.total ≡ book.old.total + 1 }
-        ensures seat { self.new ≡ record { told = self.old.told; known = self.old.known; events = self.old.events + 1 } }
+        ensures seat { self.new ≡ record { seen = self.old.seen; last_call = self.old.last_call; events = self.old.events + 1 } }
     {
         book.add(&mut self.share, 1);
     }
 }
 
-impl<S: Site> EnteredSeat<S> {
-    /// What is read: the view of the node after the events that this seat has seen.
+impl<S: NodeTag> EnteredSeat<S> {
+    /// What it reads: the view of the node after the events that it has seen.
     pub fn snapshot(&self) -> Snapshot<'_>
-        ensures { IsView (node_after S.opening self.now.told) result }
+        ensures { IsView (node_after S.opening self.now.seen) result }
     {
         self.entered.snapshot()
     }
 
     /// The events that it has seen.
-    pub fn told(&self) -> &Front<S>
-        ensures { result.now ≡ self.now.told }
+    pub fn seen(&self) -> &HistoryPrefix<S>
+        ensures { result.now ≡ self.now.seen }
     {
-        self.entered.told()
+        self.entered.seen()
     }
 
-    /// Reads no longer.
+    /// Leaves the snapshot.
     pub fn leave(self) -> ReaderSeat<S>
         ensures { result ≡ self }
     {
         let EnteredSeat {
             entered,
-            known,
+            last_call,
             share,
         } = self;
         ReaderSeat {
             reader: entered.leave(),
-            known,
+            last_call,
             share,
         }
     }

@@ -4,14 +4,14 @@ ghost use Rattle.sb_directory.specs.Seats as spec;
 
 use crate::seat::ReaderSeat;
 use sb_types::Fault;
-use sb_views::{Front, Reader, Site};
+use sb_views::{HistoryPrefix, NodeTag, Reader};
 use std::alloc::Global;
 use std::sync::Wait;
 use std::sync::ledger::Share;
 
 /// Gives each of these readers a seat, with one part of what is left. `NoMemory`.
 #[tactic(auto, using(crate::proofs::Sharing::seating_goes_on, crate::proofs::Sharing::seating_ends))]
-pub(crate) fn seat_all<S: Site>(
+pub(crate) fn seat_all<S: NodeTag>(
     alloc: Global,
     readers: Vec<Reader<S>>,
     rest: &mut Share<S>,
@@ -31,11 +31,11 @@ pub(crate) fn seat_all<S: Site>(
     Ok(seats)
 }
 
-/// Joins the parts of these seats, and tells that what they were told and knew begins the story up to here.
+/// Joins the parts of these seats. The history up to here begins with what each of them has seen, and with its last call.
 #[tactic(auto, using(crate::proofs::Sharing::joining_goes_on, crate::proofs::Sharing::joining_ends))]
-pub(crate) fn join_all<S: Site, Q: Wait>(
+pub(crate) fn join_all<S: NodeTag, Q: Wait>(
     rt: &Q,
-    front: &Front<S>,
+    history: &HistoryPrefix<S>,
     rest: Share<S>,
     seats: Vec<ReaderSeat<S>>,
 ) -> Share<S>
@@ -43,11 +43,11 @@ pub(crate) fn join_all<S: Site, Q: Wait>(
     requires amount { rest.amount ≡ 0 }
     ensures parts { result.parts ≡ length seats.items }
     ensures amount { result.amount ≡ spec.events_of_all seats.items }
-    ensures told { spec.AllBegin front.now seats.items }
+    ensures seen { spec.AllBegin history.now seats.items }
 {
     let mut all = rest;
     for mut seat in seats {
-        seat.know(rt, front);
+        seat.call_at(rt, history);
         all.merge(seat.into_share());
     }
     all

@@ -3,122 +3,131 @@ ghost use Rattle.std.specs.Prelude.{◌≡◌, ◌<◌, ◌^◌, [], replicate, 
 ghost use mathlib.Core.List.{IsPrefix};
 ghost use Rattle.sb_holdings.specs.Plain.{IsHoldings};
 ghost use Rattle.sb_views.specs.Growing.{AreGrown};
-ghost use Rattle.sb_views.specs.Stories.{node_after};
+ghost use Rattle.sb_views.specs.Histories.{node_after};
 ghost use Rattle.sb_directory.specs.Behind.{AreSince};
 
 use crate::behind::Behind;
 use crate::pending::pending;
-use crate::telling::lose;
 use sb_node::NodeCore;
 use sb_types::Fault;
-use sb_views::{Front, Reader, Site, ViewWriter, views};
+use sb_views::{HistoryPrefix, NodeTag, Reader, ViewWriter, views};
 use std::alloc::Global;
 use std::marker::Model;
 use std::sync::Wait;
 
-/// The writer of the views of a node. Contracts see it as two beginnings of the story: the events that are shown, and
-/// those that will be once all that is pending is published.
+/// The writer of the views of a node. Contracts see it as two prefixes of the history: what is published, and what will be once
+/// all that is queued is published.
 #[derive(Drop)]
-pub(crate) struct Views<S: Site, R: Wait + Drop> {
+pub(crate) struct Views<S: NodeTag, R: Wait + Drop> {
     writer: ViewWriter<S, R>,
-    shown: Front<S>,
-    ready: Front<S>,
+    published: HistoryPrefix<S>,
+    queued: HistoryPrefix<S>,
     alloc: Global,
 }
 
-impl<S: Site, R: Wait + Drop> Model for Views<S, R> {
+impl<S: NodeTag, R: Wait + Drop> Model for Views<S, R> {
     ghost use Rattle.std.specs.Prelude.{◌≡◌};
-    ghost use Rattle.sb_views.specs.Views as spec;
+    ghost use Rattle.sb_views.specs.Publishing as spec;
 
     ghost Value = { spec.Views };
 
     ghost view = { λ v. v.writer };
 
-    ghost invariant = { λ v. v.writer ≡ record { shown = v.shown; ready = v.ready } };
+    ghost invariant = { λ v. v.writer ≡ record { published = v.published; queued = v.queued } };
 }
 
-impl<S: Site, R: Wait + Drop> Views<S, R> {
+impl<S: NodeTag, R: Wait + Drop> Views<S, R> {
     /// The views of a node as it is opened, for so many readers, which have seen nothing. `NoMemory`.
     pub(crate) fn open(
         alloc: Global,
         rt: R,
-        start: &Front<S>,
+        start: &HistoryPrefix<S>,
         core: &NodeCore,
         seats: usize,
     ) -> Result<(Views<S, R>, Vec<Reader<S>>), Fault>
         requires opening { S.opening ≡ core.now.node }
         requires start { start.now ≡ [] }
         requires seats { (0 < seats) × (seats < 2 ^ 32) }
-        ensures views { IfOk result (λ v. v.0 ≡ record { shown = []; ready = [] }) }
+        ensures views { IfOk result (λ v. v.0 ≡ record { published = []; queued = [] }) }
         ensures readers { IfOk result (λ v. v.1.items ≡ replicate seats []) }
         ensures memory { IfErr result (λ fault. fault ≡ Fault.NoMemory) }
     {
         let holdings = core.holdings();
-        let (writer, readers) = views::<S, R>(alloc, rt, start.again(), holdings, seats)?;
+        let (writer, readers) = views::<S, R>(alloc, rt, start.copy(), holdings, seats)?;
         let views = Views {
             writer,
-            shown: start.again(),
-            ready: start.again(),
+            published: start.copy(),
+            queued: start.copy(),
             alloc,
         };
         Ok((views, readers))
     }
 
-    /// Appends all that is lacked. `NoMemory`, which changes nothing.
-    fn append(&mut self, core: &NodeCore, front: &Front<S>, behind: &Behind) -> Result<(), Fault>
-        requires node { core.now.node ≡ node_after S.opening front.now }
-        requires begins { IsPrefix self.old.ready front.now }
-        requires grown { AreGrown (node_after S.opening self.old.ready).held core.now.node.held }
-        requires since { AreSince (node_after S.opening self.old.ready).held core.now.node.held behind.now }
-        ensures ok { OnOk result (self.new ≡ record { shown = self.old.shown; ready = front.now }) }
+    /// Queues all that the views lack. `NoMemory`, which changes nothing.
+    fn append(
+        &mut self,
+        core: &NodeCore,
+        history: &HistoryPrefix<S>,
+        behind: &Behind,
+    ) -> Result<(), Fault>
+        requires node { core.now.node ≡ node_after S.opening history.now }
+        requires begins { IsPrefix self.old.queued history.now }
+        requires grown { AreGrown (node_after S.opening self.old.queued).held core.now.node.held }
+        requires since { AreSince (node_after S.opening self.old.queued).held core.now.node.held behind.now }
+        ensures ok { OnOk result (self.new ≡ record { published = self.old.published; queued = history.now }) }
         ensures err { OnErr result (self.new ≡ self.old) }
         ensures memory { IfErr result (λ fault. fault ≡ Fault.NoMemory) }
         ensures holdings { IsHoldings core.now.node.held }
     {
         let holdings = core.holdings();
         let batch = pending(self.alloc, holdings, behind)?;
-        match self.writer.append(batch, front) {
+        match self.writer.append(batch, history) {
             Ok(()) => {
-                self.ready = front.again();
+                self.queued = history.copy();
                 Ok(())
             }
             Err(batch) => {
-                lose(batch);
+                drop(batch);
                 Err(Fault::NoMemory)
             }
         }
     }
 
-    /// Shows all that is pending. `NoMemory`, which changes nothing.
+    /// Publishes all that is queued. `NoMemory`, which changes nothing.
     fn publish(&mut self) -> Result<(), Fault>
-        ensures end { MatchResult result (λ _. self.new ≡ record { shown = self.old.ready; ready = self.old.ready }) (λ _. self.new ≡ self.old) }
+        ensures end { MatchResult result (λ _. self.new ≡ record { published = self.old.queued; queued = self.old.queued }) (λ _. self.new ≡ self.old) }
         ensures memory { IfErr result (λ fault. fault ≡ Fault.NoMemory) }
     {
         match self.writer.publish() {
             Ok(()) => {
-                self.shown = self.ready.again();
+                self.published = self.queued.copy();
                 Ok(())
             }
             Err(fault) => Err(fault),
         }
     }
 
-    /// Shows readers the node as it stands, after these events, and says whether there was memory for it. Where there
-    /// was none, what is shown stays, and what could not be appended is appended by the next call.
-    pub(crate) fn show(&mut self, core: &NodeCore, front: &Front<S>, behind: &mut Behind) -> bool
-        requires node { core.now.node ≡ node_after S.opening front.now }
-        requires begins { IsPrefix self.old.ready front.now }
-        requires grown { AreGrown (node_after S.opening self.old.ready).held core.now.node.held }
-        requires since { AreSince (node_after S.opening self.old.ready).held core.now.node.held behind.old }
-        ensures shown { MatchBool result (self.new.shown ≡ front.now) (self.new.shown ≡ self.old.shown) }
-        ensures begins { IsPrefix self.new.ready front.now }
-        ensures grown { AreGrown (node_after S.opening self.new.ready).held core.now.node.held }
-        ensures since { AreSince (node_after S.opening self.new.ready).held core.now.node.held behind.new }
+    /// Publishes the view of the node as it is after this history, and says whether there was memory for it. Where there
+    /// was none, what is published stays, and what could not be queued is queued by the next call.
+    pub(crate) fn show(
+        &mut self,
+        core: &NodeCore,
+        history: &HistoryPrefix<S>,
+        behind: &mut Behind,
+    ) -> bool
+        requires node { core.now.node ≡ node_after S.opening history.now }
+        requires begins { IsPrefix self.old.queued history.now }
+        requires grown { AreGrown (node_after S.opening self.old.queued).held core.now.node.held }
+        requires since { AreSince (node_after S.opening self.old.queued).held core.now.node.held behind.old }
+        ensures shown { MatchBool result (self.new.published ≡ history.now) (self.new.published ≡ self.old.published) }
+        ensures begins { IsPrefix self.new.queued history.now }
+        ensures grown { AreGrown (node_after S.opening self.new.queued).held core.now.node.held }
+        ensures since { AreSince (node_after S.opening self.new.queued).held core.now.node.held behind.new }
     {
-        if self.shown.is_same(front) {
+        if self.published.is_same(history) {
             return true;
         }
-        if !self.bring(core, front, behind) {
+        if !self.catch_up(core, history, behind) {
             return false;
         }
         match self.publish() {
@@ -127,20 +136,20 @@ impl<S: Site, R: Wait + Drop> Views<S, R> {
         }
     }
 
-    /// Appends what is not appended, and says whether nothing is left.
-    fn bring(&mut self, core: &NodeCore, front: &Front<S>, behind: &mut Behind) -> bool
-        requires node { core.now.node ≡ node_after S.opening front.now }
-        requires begins { IsPrefix self.old.ready front.now }
-        requires grown { AreGrown (node_after S.opening self.old.ready).held core.now.node.held }
-        requires since { AreSince (node_after S.opening self.old.ready).held core.now.node.held behind.old }
-        ensures ready { MatchBool result (self.new ≡ record { shown = self.old.shown; ready = front.now }) (self.new ≡ self.old) }
-        ensures grown { AreGrown (node_after S.opening self.new.ready).held core.now.node.held }
-        ensures since { AreSince (node_after S.opening self.new.ready).held core.now.node.held behind.new }
+    /// Queues what is not queued, and says whether the views lack nothing then.
+    fn catch_up(&mut self, core: &NodeCore, history: &HistoryPrefix<S>, behind: &mut Behind) -> bool
+        requires node { core.now.node ≡ node_after S.opening history.now }
+        requires begins { IsPrefix self.old.queued history.now }
+        requires grown { AreGrown (node_after S.opening self.old.queued).held core.now.node.held }
+        requires since { AreSince (node_after S.opening self.old.queued).held core.now.node.held behind.old }
+        ensures queued { MatchBool result (self.new ≡ record { published = self.old.published; queued = history.now }) (self.new ≡ self.old) }
+        ensures grown { AreGrown (node_after S.opening self.new.queued).held core.now.node.held }
+        ensures since { AreSince (node_after S.opening self.new.queued).held core.now.node.held behind.new }
     {
-        if self.ready.is_same(front) {
+        if self.queued.is_same(history) {
             return true;
         }
-        match self.append(core, front, behind) {
+        match self.append(core, history, behind) {
             Ok(()) => {
                 behind.clear();
                 true
@@ -149,10 +158,10 @@ impl<S: Site, R: Wait + Drop> Views<S, R> {
         }
     }
 
-    /// The events that are shown.
-    pub(crate) fn shown(&self) -> &Front<S>
-        ensures { result.now ≡ self.now.shown }
+    /// The events that are published.
+    pub(crate) fn published(&self) -> &HistoryPrefix<S>
+        ensures { result.now ≡ self.now.published }
     {
-        &self.shown
+        &self.published
     }
 }

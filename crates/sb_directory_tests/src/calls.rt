@@ -1,5 +1,5 @@
-//! A node, behind its lock and from a seat of its directory: what its calls answer, and what readers are shown of it.
-use crate::course::{Course, Run, run_locked, run_new, run_new_seated, run_seated};
+//! A node, by itself and from a seat of its directory: what its calls answer, and what readers see of it.
+use crate::course::{Course, Run, run_bare, run_new, run_new_seated, run_seated};
 use crate::desk::{Answer, Call, Case, noted};
 use crate::got;
 use crate::making::{full_table, node_of, written_log};
@@ -50,9 +50,9 @@ fn watches_tell_what_is_shown(rt: HostRuntime) {
     answers(&rt, rt.alloc(), &cases);
 }
 
-/// What a watch of everything is told of own writes, and of those of others, which come to it once.
+/// Own writes, and those of others, are noted once in a watch of everything.
 #[test]
-fn watches_are_told_once(rt: HostRuntime) {
+fn writes_are_noted_once(rt: HostRuntime) {
     let own = noted(&rt, b"a", b"x", 1);
     let first = noted(&rt, b"b", b"y", 1);
     let second = noted(&rt, b"b", b"z", 2);
@@ -163,7 +163,7 @@ fn a_full_table_takes_no_new_key(rt: HostRuntime) {
         course: Course::Calls(&cases),
         alloc,
     };
-    run_locked(&rt, node_of(&rt, alloc, b"a", full_table(&rt, alloc)), run);
+    run_bare(&rt, node_of(&rt, alloc, b"a", full_table(&rt, alloc)), run);
 }
 
 /// A node that is opened with one write, as from a copy of its log, where b has a second one; the log's next write is not taken.

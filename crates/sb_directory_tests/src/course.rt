@@ -3,13 +3,13 @@ ghost use Rattle.std.specs.Prelude.{◌≡◌};
 
 use crate::desk::{Answer, Call, Case, Desk, play};
 use crate::making::{log_of, new_node};
-use crate::reached::{Reach, locked_of, seated_of};
-use sb_directory::Configured;
+use crate::reached::{Reach, bare_of, seated_of};
+use sb_directory::DirectoryTag;
 use sb_holdings::BlockEnd;
 use sb_log::PlainLog;
 use sb_node::NodeCore;
 use sb_types::Fault;
-use sb_views::Opened;
+use sb_views::NewHistory;
 use std::alloc::Global;
 use std::marker::Brand;
 use std::process::Abort;
@@ -35,7 +35,7 @@ pub(crate) enum Course<'a> {
 }
 
 /// A write of which some allocation may be refused, and what makes up for it.
-fn write_late<S: Configured, H: Wait + Drop, R: Wait + Abort>(rt: &R, desk: &mut Desk<S, H>) {
+fn write_late<S: DirectoryTag, H: Wait + Drop, R: Wait + Abort>(rt: &R, desk: &mut Desk<S, H>) {
     match desk.perform(rt, Call::Take) {
         // Everything is as it was, and the same write is taken then.
         Answer::Refused(Fault::NoMemory) => play(
@@ -50,7 +50,10 @@ fn write_late<S: Configured, H: Wait + Drop, R: Wait + Abort>(rt: &R, desk: &mut
 }
 
 /// A delta of which some allocation may be refused, and what makes up for it: how many events that makes.
-fn take_late<S: Configured, H: Wait + Drop, R: Wait + Abort>(rt: &R, desk: &mut Desk<S, H>) -> u64 {
+fn take_late<S: DirectoryTag, H: Wait + Drop, R: Wait + Abort>(
+    rt: &R,
+    desk: &mut Desk<S, H>,
+) -> u64 {
     match desk.perform(rt, TAKE_OF_B) {
         // Everything is as it was.
         Answer::Refused(Fault::NoMemory) => {
@@ -76,7 +79,7 @@ fn take_late<S: Configured, H: Wait + Drop, R: Wait + Abort>(rt: &R, desk: &mut 
 }
 
 /// The desk of a node that did nothing yet is watched, writes, and then answers these calls so.
-fn play_late<S: Configured, H: Wait + Drop, R: Wait + Abort>(
+fn play_late<S: DirectoryTag, H: Wait + Drop, R: Wait + Abort>(
     rt: &R,
     desk: &mut Desk<S, H>,
     cases: &[Case],
@@ -91,7 +94,7 @@ fn play_late<S: Configured, H: Wait + Drop, R: Wait + Abort>(
 }
 
 /// A desk takes a delta, and shows it at last.
-fn show_late<S: Configured, H: Wait + Drop, R: Wait + Abort>(rt: &R, desk: &mut Desk<S, H>) {
+fn show_late<S: DirectoryTag, H: Wait + Drop, R: Wait + Abort>(rt: &R, desk: &mut Desk<S, H>) {
     let events = take_late(rt, desk);
     let after = [
         (Call::Refresh, Answer::Shown),
@@ -108,7 +111,7 @@ pub(crate) struct Run<'a> {
     pub(crate) alloc: Global,
 }
 
-fn go<S: Configured, H: Wait + Drop, R: Wait + Abort>(rt: &R, node: Reach<S, H>, run: Run<'_>) {
+fn go<S: DirectoryTag, H: Wait + Drop, R: Wait + Abort>(rt: &R, node: Reach<S, H>, run: Run<'_>) {
     let mut desk = Desk::new(node, run.log, run.alloc);
     match run.course {
         Course::Calls(cases) => play(rt, &mut desk, cases),
@@ -117,40 +120,45 @@ fn go<S: Configured, H: Wait + Drop, R: Wait + Abort>(rt: &R, node: Reach<S, H>,
     }
 }
 
-fn go_locked<S: Configured, R: Wait + Abort>(rt: &R, opened: Opened, core: NodeCore, run: Run<'_>)
-    requires story { opened.seen.book ≡ S.story }
+fn go_bare<S: DirectoryTag, R: Wait + Abort>(
+    rt: &R,
+    history: NewHistory,
+    core: NodeCore,
+    run: Run<'_>,
+)
+    requires history { history.seen.book ≡ S.history }
     requires opening { S.opening ≡ core.node }
 {
-    let node = locked_of::<S, R>(rt, opened, core, run.alloc);
+    let node = bare_of::<S, R>(rt, history, core, run.alloc);
     go(rt, node, run);
 }
 
-fn go_seated<S: Configured, R: Wait + Abort>(
+fn go_seated<S: DirectoryTag, R: Wait + Abort>(
     rt: &R,
-    opened: Opened,
+    history: NewHistory,
     blank: Blank,
     core: NodeCore,
     run: Run<'_>,
 )
-    requires story { opened.seen.book ≡ S.story }
+    requires history { history.seen.book ≡ S.history }
     requires opening { S.opening ≡ core.node }
     requires settings { S.settings ≡ core.settings }
     requires name { blank.name ≡ S.name }
     requires parts { blank.parts ≡ S.parts }
     requires all { (1 ≡ S.seats) × (1 ≡ S.parts) }
 {
-    let node = seated_of::<S, R>(rt, opened, blank, core, run.alloc);
+    let node = seated_of::<S, R>(rt, history, blank, core, run.alloc);
     go(rt, node, run);
 }
 
-/// This node goes through this, behind its lock.
-pub(crate) fn run_locked<R: Wait + Abort>(rt: &R, core: NodeCore, run: Run<'_>) {
-    go_locked::<Brand, _>(rt, Opened::new(), core, run);
+/// This node goes through this, by itself.
+pub(crate) fn run_bare<R: Wait + Abort>(rt: &R, core: NodeCore, run: Run<'_>) {
+    go_bare::<Brand, _>(rt, NewHistory::new(), core, run);
 }
 
 /// This node goes through this, from the one seat of its directory.
 pub(crate) fn run_seated<R: Wait + Abort>(rt: &R, core: NodeCore, run: Run<'_>) {
-    go_seated::<Brand, _>(rt, Opened::new(), Blank::new(1), core, run);
+    go_seated::<Brand, _>(rt, NewHistory::new(), Blank::new(1), core, run);
 }
 
 /// A course of a node that wrote nothing.
@@ -162,10 +170,10 @@ pub(crate) fn new_run<'a>(rt: &impl Abort, alloc: Global, course: Course<'a>) ->
     }
 }
 
-/// A new node goes through this, behind its lock.
+/// A new node goes through this, by itself.
 pub(crate) fn run_new<R: Wait + Abort>(rt: &R, alloc: Global, course: Course<'_>) {
     let run = new_run(rt, alloc, course);
-    run_locked(rt, new_node(rt, alloc), run);
+    run_bare(rt, new_node(rt, alloc), run);
 }
 
 /// A new node goes through this, from the one seat of its directory.

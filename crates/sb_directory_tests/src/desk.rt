@@ -4,7 +4,7 @@ use crate::making::{commit, delta_of, first_of, key, name, node_of, prefix};
 use crate::reached::Reach;
 use crate::{got, same_at, there};
 use sb_digest::Digest;
-use sb_directory::Configured;
+use sb_directory::DirectoryTag;
 use sb_holdings::{BlockEnd, Report};
 use sb_log::{Committed, PlainLog};
 use sb_table::Table;
@@ -69,7 +69,7 @@ pub(crate) enum Answer {
 
 /// A node with its log, the write that was committed last, and its watches.
 #[derive(Drop)]
-pub(crate) struct Desk<S: Configured, H: Wait + Drop> {
+pub(crate) struct Desk<S: DirectoryTag, H: Wait + Drop> {
     node: Reach<S, H>,
     log: PlainLog,
     committed: Option<Committed>,
@@ -133,7 +133,7 @@ fn delta_of_peer(rt: &impl Abort, alloc: Global, digest: &Digest) -> Delta {
     got(rt, peer.deltas(digest))
 }
 
-impl<S: Configured, H: Wait + Drop> Desk<S, H> {
+impl<S: DirectoryTag, H: Wait + Drop> Desk<S, H> {
     /// The desk of a node that was just opened.
     pub(crate) fn new(node: Reach<S, H>, log: PlainLog, alloc: Global) -> Desk<S, H> {
         Desk {
@@ -293,7 +293,7 @@ fn has_memory(rt: &impl Abort, answer: Answer) {
 pub(crate) type Case = (Call, Answer);
 
 /// These calls are answered so, one after the other.
-pub(crate) fn play<S: Configured, H: Wait + Drop, R: Wait + Abort>(
+pub(crate) fn play<S: DirectoryTag, H: Wait + Drop, R: Wait + Abort>(
     rt: &R,
     desk: &mut Desk<S, H>,
     cases: &[Case],

@@ -9,6 +9,8 @@ mod course;
 #[cfg(test)]
 mod desk;
 #[cfg(test)]
+mod examples;
+#[cfg(test)]
 mod making;
 #[cfg(test)]
 mod memory;
@@ -31,19 +33,13 @@ use std::process::Abort;
 /// The answer; where there is none, the end of the test, which names the fault.
 #[cfg(test)]
 fn got<T, E: Debug + Drop>(rt: &impl Abort, answer: Result<T, E>) -> T {
-    match answer {
-        Ok(answer) => answer,
-        Err(fault) => panic!(rt; "error: {fault:?}"),
-    }
+    answer.expect(rt, "error")
 }
 
 /// What has to be there; where it is not, the end of the test.
 #[cfg(test)]
 fn there<T>(rt: &impl Abort, value: Option<T>) -> T {
-    match value {
-        Some(value) => value,
-        None => panic!(rt; "error: none"),
-    }
+    value.expect(rt, "error: none")
 }
 
 /// Ends the test where the two differ. As a function it costs the prover a fifth of the macro.

@@ -3,7 +3,8 @@ use crate::got;
 use sb_log::{Committed, PlainLog, WriteLog};
 use sb_node::NodeCore;
 use sb_table::Table;
-use sb_types::{Block, Delta, Entry, Key, Name, Order, Prefix, RawSettings, Settings, Slot, Value};
+use sb_testing::{SETTINGS, delta_of_block, delta_of_write, letters_of};
+use sb_types::{Block, Delta, Entry, Key, Name, Prefix, RawSettings, Settings, Slot, Value};
 use std::alloc::Global;
 use std::process::Abort;
 
@@ -33,12 +34,8 @@ fn weight(rt: &impl Abort, weight: u64) -> Slot {
 /// The settings of a node of the cluster c1.
 fn settings(rt: &impl Abort) -> Settings {
     let raw = RawSettings {
-        cluster: b"c1",
-        budget: 1_024,
-        order: Order::Breadth,
         max_version: VERSIONS,
-        seats: 2,
-        workers: 1,
+        ..SETTINGS
     };
     got(rt, Settings::check(raw))
 }
@@ -73,18 +70,6 @@ fn entry_behind(rt: &impl Abort, version: u64, text: &[u8]) -> Entry {
     Entry::new(key(rt, text), version.saturating_add(1), weight(rt, 7))
 }
 
-/// A delta of one block, with these entries from the version behind `after` on.
-fn delta_with(
-    rt: &impl Abort,
-    alloc: Global,
-    owner: &[u8],
-    after: u64,
-    entries: Vec<Entry>,
-) -> Delta {
-    let block = got(rt, Block::new(name(rt, owner), after, entries));
-    got(rt, Delta::new(got(rt, vec![in alloc; block])))
-}
-
 /// A delta of one block: what an owner wrote under these letters, from the version behind `after` on.
 pub(crate) fn delta_of(
     rt: &impl Abort,
@@ -99,7 +84,8 @@ pub(crate) fn delta_of(
         got(rt, entries.push(entry_behind(rt, version, &[*letter])));
         version = version.saturating_add(1);
     }
-    delta_with(rt, alloc, owner, after, entries)
+    let block = got(rt, Block::new(name(rt, owner), after, entries));
+    got(rt, delta_of_block(alloc, block))
 }
 
 /// A delta of one write: what an owner wrote under this key, behind the version `after`.
@@ -110,19 +96,8 @@ pub(crate) fn delta_under(
     after: u64,
     text: &[u8],
 ) -> Delta {
-    let entries = got(rt, vec![in alloc; entry_behind(rt, after, text)]);
-    delta_with(rt, alloc, owner, after, entries)
-}
-
-/// The text of a number, in four letters.
-fn letters_of(number: u64) -> [u8; 4] {
-    let mut text = [b'a'; 4];
-    let mut rest = number;
-    for letter in text.iter_mut() {
-        *letter = b'a' + (rest % 26) as u8;
-        rest /= 26;
-    }
-    text
+    let entry = entry_behind(rt, after, text);
+    got(rt, delta_of_write(alloc, name(rt, owner), entry))
 }
 
 /// The table of an owner that has all of the 4,096 keys that it may have.

@@ -5,61 +5,18 @@ use crate::got;
 use crate::making::name;
 use sb_frames::Steps;
 use sb_session::{Ended, Handler, Session, serve};
+use sb_testing::streams::{Hearing, Pieces};
+use sb_testing::wire::{SAID_BY_A, SAID_BY_B};
 use std::alloc::Global;
-use std::io::{self, Read, Write};
 use std::marker::Brand;
 use std::process::Abort;
 use std::sync::ledger::{Blank, Ledger};
 
-/// Hello and the digest of a node a of the cluster c1 that holds only itself with nothing written, and its Bye.
-const SAID_BY_A: &[u8] = b"\xa7\x02\x00\x00\x00\x06\x01\x02c1\x01a\
-    \xa7\x02\x00\x00\x00\x10\x02\x01\x00\x00\x00\x01\x01a\x00\x00\x00\x00\x00\x00\x00\x00\
-    \xa7\x02\x00\x00\x00\x02\x04\x01";
-
-/// Hello of a node b, the delta of the flag true that it wrote under w as its version 1, and its digest.
-pub(crate) const SAID_BY_B: &[u8] = b"\xa7\x02\x00\x00\x00\x06\x01\x02c1\x01b\
-    \xa7\x02\x00\x00\x00\x1b\x03\x00\x01\x01b\x00\x00\x00\x00\x00\x00\x00\x00\
-    \x00\x01\x01w\x00\x00\x00\x00\x00\x00\x00\x01\x03\x01\
-    \xa7\x02\x00\x00\x00\x10\x02\x00\x00\x00\x00\x01\x01b\x00\x00\x00\x00\x00\x00\x00\x01";
-
-/// What a peer says, a few bytes in each read.
-#[derive(Drop)]
-struct Saying<'a> {
-    bytes: &'a [u8],
-    piece: usize,
-}
-
-impl Read for Saying<'_> {
-    fn read(&mut self, buf: &mut [u8]) -> io::Result<usize> {
-        let count = self.piece.min(buf.len()).min(self.bytes.len());
-        let (front, rest) = self.bytes.split_at(count);
-        buf[..count].copy_from_slice(front);
-        self.bytes = rest;
-        Ok(count)
-    }
-}
-
-/// What a peer hears, which has room for all of it.
-#[derive(Drop)]
-struct Hearing {
-    bytes: Vec<u8>,
-}
-
-impl Write for Hearing {
-    fn write(&mut self, buf: &[u8]) -> io::Result<usize> {
-        self.bytes.extend_from_slice(buf)?;
-        Ok(buf.len())
-    }
-
-    fn flush(&mut self) -> io::Result<()> {
-        Ok(())
-    }
-}
-
-/// A peer that heard nothing.
+/// A peer that heard nothing, and has room for all that it is to hear.
 fn new_hearing(rt: &impl Abort, alloc: Global) -> Hearing {
     Hearing {
         bytes: got(rt, Vec::with_capacity(alloc, 128)),
+        room: usize::MAX,
     }
 }
 
@@ -83,10 +40,7 @@ fn talk_on<L: Ledger, H: Handler>(
     requires some { 0 < blank.parts }
 {
     let mut steps = Steps::<L>::new(blank);
-    let mut reader = Saying {
-        bytes: SAID_BY_A,
-        piece,
-    };
+    let mut reader = Pieces::new(SAID_BY_A, piece, false);
     let mut writer = new_hearing(rt, alloc);
     let (ended, _) = serve(
         alloc,

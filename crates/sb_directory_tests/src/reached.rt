@@ -1,15 +1,15 @@
-//! How calls reach a node: behind its lock, or from a seat of its directory.
+//! How calls reach a node: a viewed node itself, or from a seat of its directory.
 ghost use Rattle.std.specs.Prelude.{◌≡◌};
 
 use crate::making::name;
 use crate::{got, same, there};
 use sb_digest::Digest;
-use sb_directory::{Configured, Directory, Locked, ReaderSeat};
+use sb_directory::{Directory, DirectoryTag, ReaderSeat, ViewedNode};
 use sb_holdings::Report;
 use sb_log::Committed;
 use sb_node::NodeCore;
 use sb_types::{Delta, Fault};
-use sb_views::{Opened, Reader, Site, Snapshot};
+use sb_views::{NewHistory, NodeTag, Reader, Snapshot};
 use sb_watch::{Filter, Polled, WatchId};
 use std::alloc::Global;
 use std::process::Abort;
@@ -27,65 +27,68 @@ fn uptos(rt: &impl Abort, snapshot: &Snapshot<'_>) -> [u64; 2] {
     ]
 }
 
-/// A node behind its lock, and its one reader, which is away only while it reads.
+/// A viewed node, and its one reader, which is away only while it reads.
 #[derive(Drop)]
-pub(crate) struct Bare<S: Site, H: Wait + Drop> {
-    locked: Locked<S, H>,
+pub(crate) struct Bare<S: NodeTag, H: Wait + Drop> {
+    node: ViewedNode<S, H>,
     reader: Option<Reader<S>>,
 }
 
-/// A node that was just opened.
-pub(crate) fn locked_of<S: Configured, R: Wait + Abort>(
+/// A viewed node that was just opened.
+pub(crate) fn bare_of<S: DirectoryTag, R: Wait + Abort>(
     rt: &R,
-    opened: Opened,
+    history: NewHistory,
     core: NodeCore,
     alloc: Global,
 ) -> Reach<S, &R>
-    requires story { opened.seen.book ≡ S.story }
+    requires history { history.seen.book ≡ S.history }
     requires opening { S.opening ≡ core.node }
 {
-    let (story, start) = opened.named::<S>();
-    let (locked, mut readers) = got(rt, Locked::<S, &R>::open(alloc, rt, story, start, core, 1));
+    let (head, start) = history.named::<S>();
+    let (node, mut readers) = got(
+        rt,
+        ViewedNode::<S, &R>::open(alloc, rt, head, start, core, 1),
+    );
     let bare = Bare {
-        locked,
+        node,
         reader: readers.pop(),
     };
-    Reach::Locked(bare)
+    Reach::Bare(bare)
 }
 
-fn read_once<S: Site>(rt: &impl Abort, reader: Reader<S>) -> (Reader<S>, Seen) {
+fn read_once<S: NodeTag>(rt: &impl Abort, reader: Reader<S>) -> (Reader<S>, Seen) {
     match reader.enter() {
         Ok(entered) => {
-            let seen = (entered.told().len(), uptos(rt, &entered.snapshot()));
+            let seen = (entered.seen().len(), uptos(rt, &entered.snapshot()));
             (entered.leave(), seen)
         }
         Err(_) => panic!(rt; "error: not entered"),
     }
 }
 
-impl<S: Site, H: Wait + Drop> Bare<S, H> {
+impl<S: NodeTag, H: Wait + Drop> Bare<S, H> {
     fn take_own<Q: Wait + Abort>(&mut self, rt: &Q, write: &Committed) -> Result<bool, Fault> {
-        self.locked.take_own(rt, write)
+        self.node.take_own(rt, write)
     }
 
     fn apply<Q: Wait + Abort>(&mut self, rt: &Q, delta: &Delta) -> Result<(Report, bool), Fault> {
-        self.locked.apply(rt, delta)
+        self.node.apply(rt, delta)
     }
 
     fn digest<Q: Wait + Abort>(&mut self, _rt: &Q, want: bool) -> Result<Digest, Fault> {
-        self.locked.digest(None, want)
+        self.node.core().digest(None, want)
     }
 
     fn deltas<Q: Wait + Abort>(&mut self, _rt: &Q, digest: &Digest) -> Result<Delta, Fault> {
-        self.locked.deltas(digest)
+        self.node.core().deltas(digest)
     }
 
     fn conflict<Q: Wait + Abort>(&mut self, _rt: &Q) -> Option<u64> {
-        self.locked.conflict()
+        self.node.core().conflict()
     }
 
     fn keys<Q: Wait + Abort>(&mut self, _rt: &Q) -> usize {
-        self.locked.keys()
+        self.node.core().keys()
     }
 
     fn watch<Q: Wait + Abort>(
@@ -94,19 +97,19 @@ impl<S: Site, H: Wait + Drop> Bare<S, H> {
         filter: Filter,
         capacity: usize,
     ) -> Result<WatchId, Fault> {
-        self.locked.watch(filter, capacity)
+        self.node.watch(filter, capacity)
     }
 
     fn unwatch<Q: Wait + Abort>(&mut self, _rt: &Q, id: WatchId) -> Result<(), Fault> {
-        self.locked.unwatch(id)
+        self.node.unwatch(id)
     }
 
     fn poll<Q: Wait + Abort>(&mut self, _rt: &Q, id: WatchId) -> Result<Polled, Fault> {
-        self.locked.poll(id)
+        self.node.poll(id)
     }
 
     fn refresh<Q: Wait + Abort>(&mut self, _rt: &Q) -> bool {
-        self.locked.refresh()
+        self.node.refresh()
     }
 
     fn read<Q: Abort>(&mut self, rt: &Q) -> Seen {
@@ -118,27 +121,27 @@ impl<S: Site, H: Wait + Drop> Bare<S, H> {
 
 /// The directory of a node, and its one seat, which is away only while it reads.
 #[derive(Drop)]
-pub(crate) struct Seated<S: Configured, H: Wait + Drop> {
+pub(crate) struct Seated<S: DirectoryTag, H: Wait + Drop> {
     directory: Directory<S, H>,
     seat: Option<ReaderSeat<S>>,
 }
 
 /// The directory of a node that was just opened.
-pub(crate) fn seated_of<S: Configured, R: Wait + Abort>(
+pub(crate) fn seated_of<S: DirectoryTag, R: Wait + Abort>(
     rt: &R,
-    opened: Opened,
+    history: NewHistory,
     blank: Blank,
     core: NodeCore,
     alloc: Global,
 ) -> Reach<S, &R>
-    requires story { opened.seen.book ≡ S.story }
+    requires history { history.seen.book ≡ S.history }
     requires opening { S.opening ≡ core.node }
     requires settings { S.settings ≡ core.settings }
     requires name { blank.name ≡ S.name }
     requires parts { blank.parts ≡ S.parts }
     requires all { (1 ≡ S.seats) × (1 ≡ S.parts) }
 {
-    let made = Directory::<S, &R>::make(rt, alloc, opened, blank, core, 1);
+    let made = Directory::<S, &R>::make(rt, alloc, history, blank, core, 1);
     let (directory, mut seats) = got(rt, made);
     let seated = Seated {
         directory,
@@ -147,17 +150,17 @@ pub(crate) fn seated_of<S: Configured, R: Wait + Abort>(
     Reach::Seated(seated)
 }
 
-fn read_seated<S: Site>(rt: &impl Abort, seat: ReaderSeat<S>) -> (ReaderSeat<S>, Seen) {
+fn read_seated<S: NodeTag>(rt: &impl Abort, seat: ReaderSeat<S>) -> (ReaderSeat<S>, Seen) {
     match seat.enter() {
         Ok(entered) => {
-            let seen = (entered.told().len(), uptos(rt, &entered.snapshot()));
+            let seen = (entered.seen().len(), uptos(rt, &entered.snapshot()));
             (entered.leave(), seen)
         }
         Err(_) => panic!(rt; "error: not entered"),
     }
 }
 
-impl<S: Configured, H: Wait + Drop> Seated<S, H> {
+impl<S: DirectoryTag, H: Wait + Drop> Seated<S, H> {
     fn take_own<Q: Wait + Abort>(&mut self, rt: &Q, write: &Committed) -> Result<bool, Fault> {
         let seat = there(rt, self.seat.as_mut());
         let receipt = self.directory.take_own(rt, seat, write)?;
@@ -223,20 +226,20 @@ impl<S: Configured, H: Wait + Drop> Seated<S, H> {
 
 /// A way to reach a node.
 #[derive(Drop)]
-pub(crate) enum Reach<S: Configured, H: Wait + Drop> {
-    Locked(Bare<S, H>),
+pub(crate) enum Reach<S: DirectoryTag, H: Wait + Drop> {
+    Bare(Bare<S, H>),
     Seated(Seated<S, H>),
 }
 
-/// The calls of a node, each of which answers as the node's own does; those that enter a write say whether it is shown.
-impl<S: Configured, H: Wait + Drop> Reach<S, H> {
+/// The calls of a node, each of which answers as the node's own does; those that enter a write say whether it is published.
+impl<S: DirectoryTag, H: Wait + Drop> Reach<S, H> {
     pub(crate) fn take_own<Q: Wait + Abort>(
         &mut self,
         rt: &Q,
         write: &Committed,
     ) -> Result<bool, Fault> {
         match self {
-            Reach::Locked(bare) => bare.take_own(rt, write),
+            Reach::Bare(bare) => bare.take_own(rt, write),
             Reach::Seated(seated) => seated.take_own(rt, write),
         }
     }
@@ -247,14 +250,14 @@ impl<S: Configured, H: Wait + Drop> Reach<S, H> {
         delta: &Delta,
     ) -> Result<(Report, bool), Fault> {
         match self {
-            Reach::Locked(bare) => bare.apply(rt, delta),
+            Reach::Bare(bare) => bare.apply(rt, delta),
             Reach::Seated(seated) => seated.apply(rt, delta),
         }
     }
 
     pub(crate) fn digest<Q: Wait + Abort>(&mut self, rt: &Q, want: bool) -> Result<Digest, Fault> {
         match self {
-            Reach::Locked(bare) => bare.digest(rt, want),
+            Reach::Bare(bare) => bare.digest(rt, want),
             Reach::Seated(seated) => seated.digest(rt, want),
         }
     }
@@ -265,21 +268,21 @@ impl<S: Configured, H: Wait + Drop> Reach<S, H> {
         digest: &Digest,
     ) -> Result<Delta, Fault> {
         match self {
-            Reach::Locked(bare) => bare.deltas(rt, digest),
+            Reach::Bare(bare) => bare.deltas(rt, digest),
             Reach::Seated(seated) => seated.deltas(rt, digest),
         }
     }
 
     pub(crate) fn conflict<Q: Wait + Abort>(&mut self, rt: &Q) -> Option<u64> {
         match self {
-            Reach::Locked(bare) => bare.conflict(rt),
+            Reach::Bare(bare) => bare.conflict(rt),
             Reach::Seated(seated) => seated.conflict(rt),
         }
     }
 
     pub(crate) fn keys<Q: Wait + Abort>(&mut self, rt: &Q) -> usize {
         match self {
-            Reach::Locked(bare) => bare.keys(rt),
+            Reach::Bare(bare) => bare.keys(rt),
             Reach::Seated(seated) => seated.keys(rt),
         }
     }
@@ -291,28 +294,28 @@ impl<S: Configured, H: Wait + Drop> Reach<S, H> {
         capacity: usize,
     ) -> Result<WatchId, Fault> {
         match self {
-            Reach::Locked(bare) => bare.watch(rt, filter, capacity),
+            Reach::Bare(bare) => bare.watch(rt, filter, capacity),
             Reach::Seated(seated) => seated.watch(rt, filter, capacity),
         }
     }
 
     pub(crate) fn unwatch<Q: Wait + Abort>(&mut self, rt: &Q, id: WatchId) -> Result<(), Fault> {
         match self {
-            Reach::Locked(bare) => bare.unwatch(rt, id),
+            Reach::Bare(bare) => bare.unwatch(rt, id),
             Reach::Seated(seated) => seated.unwatch(rt, id),
         }
     }
 
     pub(crate) fn poll<Q: Wait + Abort>(&mut self, rt: &Q, id: WatchId) -> Result<Polled, Fault> {
         match self {
-            Reach::Locked(bare) => bare.poll(rt, id),
+            Reach::Bare(bare) => bare.poll(rt, id),
             Reach::Seated(seated) => seated.poll(rt, id),
         }
     }
 
     pub(crate) fn refresh<Q: Wait + Abort>(&mut self, rt: &Q) -> bool {
         match self {
-            Reach::Locked(bare) => bare.refresh(rt),
+            Reach::Bare(bare) => bare.refresh(rt),
             Reach::Seated(seated) => seated.refresh(rt),
         }
     }
@@ -320,7 +323,7 @@ impl<S: Configured, H: Wait + Drop> Reach<S, H> {
     /// The reader enters, and leaves.
     pub(crate) fn read<Q: Abort>(&mut self, rt: &Q) -> Seen {
         match self {
-            Reach::Locked(bare) => bare.read(rt),
+            Reach::Bare(bare) => bare.read(rt),
             Reach::Seated(seated) => seated.read(rt),
         }
     }

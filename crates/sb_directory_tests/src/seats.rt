@@ -3,10 +3,10 @@ ghost use Rattle.std.specs.Prelude.{◌≡◌};
 
 use crate::making::{first_of, name, new_node};
 use crate::{got, same, same_at, there};
-use sb_directory::{Closing, Configured, Directory, ReaderSeat};
+use sb_directory::{Closing, Directory, DirectoryTag, ReaderSeat};
 use sb_node::NodeCore;
 use sb_types::Fault;
-use sb_views::Opened;
+use sb_views::NewHistory;
 use std::alloc::Global;
 use std::marker::Brand;
 use std::process::Abort;
@@ -14,22 +14,22 @@ use std::sync::Wait;
 use std::sync::ledger::Blank;
 
 /// How many seats a directory has that is asked for so many.
-fn made<S: Configured, R: Wait>(
+fn made<S: DirectoryTag, R: Wait>(
     rt: &R,
     alloc: Global,
-    opened: Opened,
+    history: NewHistory,
     blank: Blank,
     core: NodeCore,
     seats: usize,
 ) -> Result<usize, Fault>
-    requires story { opened.seen.book ≡ S.story }
+    requires history { history.seen.book ≡ S.history }
     requires opening { S.opening ≡ core.node }
     requires settings { S.settings ≡ core.settings }
     requires name { blank.name ≡ S.name }
     requires parts { blank.parts ≡ S.parts }
     requires all { (seats ≡ S.seats) × (seats ≡ S.parts) }
 {
-    match Directory::<S, &R>::make(rt, alloc, opened, blank, core, seats) {
+    match Directory::<S, &R>::make(rt, alloc, history, blank, core, seats) {
         Ok((_directory, made)) => Ok(made.len()),
         Err(fault) => Err(fault),
     }
@@ -41,7 +41,7 @@ fn make_new<R: Wait + Abort>(rt: &R, alloc: Global, seats: usize) -> Result<usiz
     made::<Brand, _>(
         rt,
         alloc,
-        Opened::new(),
+        NewHistory::new(),
         Blank::new(seats as u64),
         core,
         seats,
@@ -68,7 +68,7 @@ fn a_directory_has_1_to_64_seats(rt: HostRuntime) {
 }
 
 /// Ends a directory with all of its seats.
-pub(crate) fn close<S: Configured, H: Wait + Drop, R: Wait + Abort>(
+pub(crate) fn close<S: DirectoryTag, H: Wait + Drop, R: Wait + Abort>(
     rt: &R,
     directory: Directory<S, H>,
     seats: Vec<ReaderSeat<S>>,
@@ -82,7 +82,7 @@ pub(crate) fn close<S: Configured, H: Wait + Drop, R: Wait + Abort>(
 }
 
 /// What comes back from a directory that is not closed, as these are not all of its seats: the number of the fault, and both.
-fn refused<S: Configured, H: Wait + Drop, R: Wait + Abort>(
+fn refused<S: DirectoryTag, H: Wait + Drop, R: Wait + Abort>(
     rt: &R,
     directory: Directory<S, H>,
     seats: Vec<ReaderSeat<S>>,
@@ -100,7 +100,7 @@ fn refused<S: Configured, H: Wait + Drop, R: Wait + Abort>(
 type Closed = (u8, usize, u64, u64);
 
 /// Closes a directory with one of its two seats, and then with both.
-fn close_twice<S: Configured, H: Wait + Drop, R: Wait + Abort>(
+fn close_twice<S: DirectoryTag, H: Wait + Drop, R: Wait + Abort>(
     rt: &R,
     directory: Directory<S, H>,
     seats: Vec<ReaderSeat<S>>,
@@ -121,7 +121,7 @@ fn close_twice<S: Configured, H: Wait + Drop, R: Wait + Abort>(
 }
 
 /// The version of a write of the node's own, from a seat that sees it.
-fn write<S: Configured, H: Wait + Drop, R: Wait + Abort>(
+fn write<S: DirectoryTag, H: Wait + Drop, R: Wait + Abort>(
     rt: &R,
     alloc: Global,
     directory: &Directory<S, H>,
@@ -142,21 +142,21 @@ pub(crate) fn all_shown(rt: &impl Abort, shown: bool) {
 
 /// The version of a write from one of two seats, how many keys it finds then, and how the directory closes with the other alone,
 /// and with both.
-fn write_and_close<S: Configured, R: Wait + Abort>(
+fn write_and_close<S: DirectoryTag, R: Wait + Abort>(
     rt: &R,
     alloc: Global,
-    opened: Opened,
+    history: NewHistory,
     blank: Blank,
     core: NodeCore,
 ) -> (u64, usize, Closed)
-    requires story { opened.seen.book ≡ S.story }
+    requires history { history.seen.book ≡ S.history }
     requires opening { S.opening ≡ core.node }
     requires settings { S.settings ≡ core.settings }
     requires name { blank.name ≡ S.name }
     requires parts { blank.parts ≡ S.parts }
     requires all { (2 ≡ S.seats) × (2 ≡ S.parts) }
 {
-    let made = Directory::<S, &R>::make(rt, alloc, opened, blank, core, 2);
+    let made = Directory::<S, &R>::make(rt, alloc, history, blank, core, 2);
     let (directory, mut seats) = got(rt, made);
     let mut kept = there(rt, seats.pop());
     let version = write(rt, alloc, &directory, &mut kept);
@@ -168,6 +168,6 @@ fn write_and_close<S: Configured, R: Wait + Abort>(
 fn a_directory_is_closed_with_all_seats(rt: HostRuntime) {
     let alloc = rt.alloc();
     let core = new_node(&rt, alloc);
-    let closed = write_and_close::<Brand, _>(&rt, alloc, Opened::new(), Blank::new(2), core);
+    let closed = write_and_close::<Brand, _>(&rt, alloc, NewHistory::new(), Blank::new(2), core);
     same(&rt, &closed, &(1, 1, (5, 1, 1, 1)));
 }

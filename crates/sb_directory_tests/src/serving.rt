@@ -2,15 +2,16 @@
 ghost use Rattle.std.specs.Prelude.{◌≡◌};
 
 use crate::making::{key, node_of};
-use crate::peers::{SAID_BY_B, Talked, talk};
+use crate::peers::{Talked, talk};
 use crate::seats::close;
 use crate::{got, same, same_at, there};
-use sb_directory::{Configured, Directory, ReaderSeat, Served};
+use sb_directory::{Directory, DirectoryTag, ReaderSeat, SeatHandler};
 use sb_node::NodeCore;
 use sb_session::Ended;
 use sb_table::Table;
+use sb_testing::wire::SAID_BY_B;
 use sb_types::{Entry, Slot, Value};
-use sb_views::Opened;
+use sb_views::NewHistory;
 use std::alloc::Global;
 use std::marker::Brand;
 use std::process::Abort;
@@ -18,14 +19,14 @@ use std::sync::Wait;
 use std::sync::ledger::Blank;
 
 /// A session of a node b from its seat, with a peer whose bytes come in such pieces.
-fn serve_from<S: Configured, H: Wait + Drop, R: Wait + Abort>(
+fn serve_from<S: DirectoryTag, H: Wait + Drop, R: Wait + Abort>(
     rt: &R,
     alloc: Global,
     directory: &Directory<S, H>,
     seats: &mut Vec<ReaderSeat<S>>,
     piece: usize,
 ) -> Talked {
-    let mut served = Served::new(rt, directory, there(rt, seats.pop()));
+    let mut served = SeatHandler::new(rt, directory, there(rt, seats.pop()));
     let talked = talk(rt, &mut served, alloc, piece);
     got(rt, seats.push(served.into_seat()));
     talked
@@ -33,22 +34,22 @@ fn serve_from<S: Configured, H: Wait + Drop, R: Wait + Abort>(
 
 /// How a session ended with a peer a, and whether b said just its Hello, its delta and its digest; and how many events there
 /// were.
-fn serve_one<S: Configured, R: Wait + Abort>(
+fn serve_one<S: DirectoryTag, R: Wait + Abort>(
     rt: &R,
     alloc: Global,
-    opened: Opened,
+    history: NewHistory,
     blank: Blank,
     core: NodeCore,
     piece: usize,
 ) -> (Talked, u64)
-    requires story { opened.seen.book ≡ S.story }
+    requires history { history.seen.book ≡ S.history }
     requires opening { S.opening ≡ core.node }
     requires settings { S.settings ≡ core.settings }
     requires name { blank.name ≡ S.name }
     requires parts { blank.parts ≡ S.parts }
     requires all { (1 ≡ S.seats) × (1 ≡ S.parts) }
 {
-    let made = Directory::<S, &R>::make(rt, alloc, opened, blank, core, 1);
+    let made = Directory::<S, &R>::make(rt, alloc, history, blank, core, 1);
     let (directory, mut seats) = got(rt, made);
     let talked = serve_from(rt, alloc, &directory, &mut seats, piece);
     (talked, close(rt, directory, seats).events)
@@ -65,7 +66,7 @@ fn flagged(rt: &impl Abort, alloc: Global) -> Table {
 /// A new directory of a node b that wrote the flag true under w serves a peer whose bytes come in such pieces.
 fn serve_new<R: Wait + Abort>(rt: &R, alloc: Global, piece: usize) {
     let core = node_of(rt, alloc, b"b", flagged(rt, alloc));
-    let talked = serve_one::<Brand, _>(rt, alloc, Opened::new(), Blank::new(1), core, piece);
+    let talked = serve_one::<Brand, _>(rt, alloc, NewHistory::new(), Blank::new(1), core, piece);
     same_at(rt, &piece, &talked, &((Ended::Bye(1), true), 0));
 }
 

@@ -4,12 +4,12 @@ ghost use Rattle.std.specs.Prelude.{◌≡◌};
 use crate::making::{commit, delta_under, log_of, name, new_node, prefix};
 use crate::seats::{all_shown, close};
 use crate::{got, same, there};
-use sb_directory::{Applied, Configured, Directory, ReaderSeat};
+use sb_directory::{Applied, Directory, DirectoryTag, ReaderSeat};
 use sb_holdings::BlockEnd;
 use sb_log::PlainLog;
 use sb_node::NodeCore;
 use sb_types::{Name, Prefix};
-use sb_views::{Opened, Snapshot};
+use sb_views::{NewHistory, Snapshot};
 use std::alloc::Global;
 use std::marker::Brand;
 use std::process::Abort;
@@ -69,7 +69,7 @@ impl Seen {
 }
 
 /// What a reader sees that enters in each of so many turns.
-fn read_along<S: Configured>(
+fn read_along<S: DirectoryTag>(
     mut seat: ReaderSeat<S>,
     all: Prefix,
     turns: u64,
@@ -99,7 +99,7 @@ fn is_taken(rt: &impl Abort, applied: &Applied) {
 }
 
 /// The write of b behind this version is taken, and shown at once.
-fn take_of_b<S: Configured, H: Wait + Drop, R: Wait + Abort>(
+fn take_of_b<S: DirectoryTag, H: Wait + Drop, R: Wait + Abort>(
     rt: &R,
     alloc: Global,
     directory: &Directory<S, H>,
@@ -111,7 +111,7 @@ fn take_of_b<S: Configured, H: Wait + Drop, R: Wait + Abort>(
 }
 
 /// The next write of the node a is taken, and shown at once.
-fn take_own<S: Configured, H: Wait + Drop, R: Wait + Abort>(
+fn take_own<S: DirectoryTag, H: Wait + Drop, R: Wait + Abort>(
     rt: &R,
     directory: &Directory<S, H>,
     seat: &mut ReaderSeat<S>,
@@ -123,7 +123,7 @@ fn take_own<S: Configured, H: Wait + Drop, R: Wait + Abort>(
 }
 
 /// Writes of the node a and of b, in turn, each shown at once.
-fn write_along<S: Configured, H: Wait + Drop, R: Wait + Abort>(
+fn write_along<S: DirectoryTag, H: Wait + Drop, R: Wait + Abort>(
     rt: &R,
     alloc: Global,
     directory: &Directory<S, H>,
@@ -138,7 +138,7 @@ fn write_along<S: Configured, H: Wait + Drop, R: Wait + Abort>(
 }
 
 /// What a reader sees in a thread of its own beside a writer in another, and at last.
-fn run_both<S: Configured + Send + Sync, R: Wait + Threads + Abort + Sync + Send>(
+fn run_both<S: DirectoryTag + Send + Sync, R: Wait + Threads + Abort + Sync + Send>(
     rt: &R,
     alloc: Global,
     directory: &Directory<S, &R>,
@@ -157,7 +157,7 @@ fn run_both<S: Configured + Send + Sync, R: Wait + Threads + Abort + Sync + Send
 }
 
 /// The same, from the two seats of a directory.
-fn run_from<S: Configured + Send + Sync, R: Wait + Threads + Abort + Sync + Send>(
+fn run_from<S: DirectoryTag + Send + Sync, R: Wait + Threads + Abort + Sync + Send>(
     rt: &R,
     alloc: Global,
     directory: &Directory<S, &R>,
@@ -174,21 +174,21 @@ fn run_from<S: Configured + Send + Sync, R: Wait + Threads + Abort + Sync + Send
 /// Up to which versions the reader was shown a and b at last; whether all that it saw was right; how many events there were.
 type Beside = ([u64; 2], bool, u64);
 
-fn read_beside<S: Configured + Send + Sync, R: Wait + Threads + Abort + Sync + Send>(
+fn read_beside<S: DirectoryTag + Send + Sync, R: Wait + Threads + Abort + Sync + Send>(
     rt: &R,
     alloc: Global,
-    opened: Opened,
+    history: NewHistory,
     blank: Blank,
     core: NodeCore,
 ) -> Beside
-    requires story { opened.seen.book ≡ S.story }
+    requires history { history.seen.book ≡ S.history }
     requires opening { S.opening ≡ core.node }
     requires settings { S.settings ≡ core.settings }
     requires name { blank.name ≡ S.name }
     requires parts { blank.parts ≡ S.parts }
     requires all { (2 ≡ S.seats) × (2 ≡ S.parts) }
 {
-    let made = Directory::<S, &R>::make(rt, alloc, opened, blank, core, 2);
+    let made = Directory::<S, &R>::make(rt, alloc, history, blank, core, 2);
     let (directory, mut seats) = got(rt, made);
     let [a, b] = run_from(rt, alloc, &directory, &mut seats);
     let closing = close(rt, directory, seats);
@@ -199,6 +199,6 @@ fn read_beside<S: Configured + Send + Sync, R: Wait + Threads + Abort + Sync + S
 fn a_reader_beside_a_writer(rt: HostRuntime) {
     let alloc = rt.alloc();
     let core = new_node(&rt, alloc);
-    let found = read_beside::<Brand, _>(&rt, alloc, Opened::new(), Blank::new(2), core);
+    let found = read_beside::<Brand, _>(&rt, alloc, NewHistory::new(), Blank::new(2), core);
     same(&rt, &found, &([WRITES, WRITES], true, 2 * WRITES));
 }

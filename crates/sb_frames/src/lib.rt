@@ -1,4 +1,23 @@
 //! The frames that carry messages: sent whole, and read out of a stream that comes in any pieces.
+//!
+//! `send` writes a message as one frame, and `Frames` gives the messages of a stream, in whatever pieces its bytes come. After
+//! a faulty frame the stream is closed. The crate stands on `sb_codec`; sessions and control sockets talk through it.
+//!
+//! ```rust
+//! /// The frame of the message that ends a session whose rounds are done.
+//! fn bye_frame(alloc: Global) -> Result<Vec<u8>, Fault> {
+//!     frame_of(alloc, &Message::Bye(Bye::new(REASON_ROUNDS_DONE)?))
+//! }
+//!
+//! /// Whether a message has come with the first piece of a stream, and whether one has with the second.
+//! fn have_come(alloc: Global, first: &[u8], second: &[u8]) -> Result<[bool; 2], Fault> {
+//!     let mut frames = Frames::new(alloc);
+//!     frames.feed(first)?;
+//!     let is_early = frames.next()?.is_some();
+//!     frames.feed(second)?;
+//!     Ok([is_early, frames.next()?.is_some()])
+//! }
+//! ```
 #![tactic(auto)]
 
 mod frames;

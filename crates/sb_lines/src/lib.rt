@@ -1,4 +1,20 @@
 //! What a log holds, in lines for a reader.
+//!
+//! `log_run` prints a line for each key of a log, in the order of the keys, and then the last version. The crate stands on
+//! `sb_log` and prints any `WriteLog`, in memory or in a database. The program prints a log file by it.
+//!
+//! ```rust
+//! /// The lines of a log of `a` with one write.
+//! fn lines_of_log(alloc: Global) -> Result<Vec<u8>, Fault> {
+//!     let (owner, cluster) = (Name::read(b"a")?, Name::read(b"c1")?);
+//!     let mut log = PlainLog::new(alloc, owner, cluster, VERSION_MOST);
+//!     let _committed = log.put(&Key::read(b"web/up")?, &Slot::Set(Value::flag(true)))?;
+//!     let mut lines = Vec::new(alloc);
+//!     let (printed, _) = log_run(alloc, &mut log, &mut lines);
+//!     printed?;
+//!     Ok(lines)
+//! }
+//! ```
 #![tactic(auto)]
 
 mod log_lines;

@@ -1,47 +1,28 @@
 //! What a log holds, in lines.
-ghost use Rattle.std.specs.Prelude.{◌≡◌, ◌∷◌, ◌++◌, [], decimal, true, OnOk, IfOk, IfErr};
+ghost use Rattle.std.specs.Prelude.{◌≡◌, ◌++◌, true, OnOk, IfOk, IfErr};
 ghost use Rattle.std.specs.Io.KnownBytes.{Appends};
 ghost use Rattle.sb_frames.specs.Sending.{OnlyWhereFailed};
 ghost use Rattle.sb_lines.specs.Printed.{slot_text, entry_line, printed, PrintsLog};
 
-use itoa::Buffer;
 use sb_frames::{LastWrite, write_counted};
 use sb_log::WriteLog;
+use sb_printing::{add_number, add_value, add_word};
 use sb_table::Table;
 use sb_types::{Entry, Fault, Name, Prefix, Slot};
 use std::alloc::Global;
 use std::io::Write;
-
-/// Adds a word and the byte behind it.
-fn add_word(out: &mut Vec<u8>, word: &[u8], end: u8) -> Result<(), Fault>
-    ensures added { OnOk result (out.new.items ≡ out.old.items ++ (word.now ++ end ∷ [])) }
-    ensures fault { IfErr result (λ fault. fault ≡ Fault.NoMemory) }
-{
-    out.extend_from_slice(word)?;
-    out.push(end)?;
-    Ok(())
-}
-
-/// Adds a number in decimal digits and the byte behind it.
-fn add_number(out: &mut Vec<u8>, number: u64, end: u8) -> Result<(), Fault>
-    ensures added { OnOk result (out.new.items ≡ out.old.items ++ (decimal number ++ end ∷ [])) }
-    ensures fault { IfErr result (λ fault. fault ≡ Fault.NoMemory) }
-{
-    add_word(out, Buffer::new().format(number).as_bytes(), end)
-}
 
 /// Adds the words of what stands under a key.
 fn add_slot(out: &mut Vec<u8>, slot: &Slot) -> Result<(), Fault>
     ensures added { OnOk result (out.new.items ≡ out.old.items ++ slot_text slot.now) }
     ensures fault { IfErr result (λ fault. fault ≡ Fault.NoMemory) }
 {
-    let added = match slot {
-        Slot::Set(value) => write!(out, "{value}"),
-        Slot::Removed => out.write_all(b"removed -"),
-    };
-    match added {
-        Ok(()) => Ok(()),
-        Err(_) => Err(Fault::NoMemory),
+    match slot {
+        Slot::Set(value) => add_value(out, value),
+        Slot::Removed => {
+            out.extend_from_slice(b"removed -")?;
+            Ok(())
+        }
     }
 }
 

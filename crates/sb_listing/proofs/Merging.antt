@@ -7,8 +7,8 @@ use Rattle.sb_listing.specs.declared.changing.Change as rust
 use Rattle.sb_listing.specs.Changes.{Change, Set, Gone, place_order, told_at, passing}
 use Rattle.sb_listing.specs.Seen.{seen}
 
-pub seen-push : (told : List rust.Change) (c : rust.Change) (rest : List Change) → map seen (told ++ c ∷ []) ++ rest ≡ map seen told ++ (seen c ∷ rest)
-seen-push told c rest = ap (λ (cs : List Change). cs ++ rest) (map-append seen told (c ∷ [])) ∙ append_assoc (map seen told) (seen c ∷ []) rest
+pub seen-push : (found : List rust.Change) (c : rust.Change) (rest : List Change) → map seen (found ++ c ∷ []) ++ rest ≡ map seen found ++ (seen c ∷ rest)
+seen-push found c rest = ap (λ (cs : List Change). cs ++ rest) (map-append seen found (c ∷ [])) ∙ append_assoc (map seen found) (seen c ∷ []) rest
 
 module _ (x y : Row) (xs : List Row) (next : List Row → List Change) where
   pub passing-less : place_order x y ≡ Less → passing y next (x ∷ xs) ≡ Gone x ∷ passing y next xs

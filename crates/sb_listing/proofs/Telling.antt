@@ -107,12 +107,12 @@ module _ (y : Row) (ys : List Row) (next : List Row → List Change) (up : AllBy
     set-at-y : set_rows (next xs) ≡ filter (is_new (x ∷ xs)) ys
     set-at-y = (tells xs ascending.1).0 ∙ news-same x xs ys at-x
 
-    told-y : (b : Bool) → is_same x y ≡ b → Tells (x ∷ xs) (y ∷ ys) (cond b [] (Set y ∷ []) ++ next xs)
-    told-y true is =
+    found-y : (b : Bool) → is_same x y ≡ b → Tells (x ∷ xs) (y ∷ ys) (cond b [] (Set y ∷ []) ++ next xs)
+    found-y true is =
         let kept = and_from (is_at x y) (is_same x y) (ap is_eq same) is in
         let old : is_new (x ∷ xs) y ≡ false = not_from_true (has_row y (x ∷ xs)) (or_left (is_kept x y) (has_row y xs) kept) in
         (set-at-y ∙ sym (passed-first (is_new (x ∷ xs)) y ys old), gone-at-y)
-    told-y false is =
+    found-y false is =
         let other = and_right (is_at x y) (is_same x y) is in
         let new : is_new (x ∷ xs) y ≡ true = not_from_false (has_row y (x ∷ xs)) (or_from (is_kept x y) (has_row y xs) other (none-kept y xs at-y)) in
         (ap (λ (zs : List Row). y ∷ zs) set-at-y ∙ sym (kept-first (is_new (x ∷ xs)) y ys new), gone-at-y)
@@ -120,7 +120,7 @@ module _ (y : Row) (ys : List Row) (next : List Row → List Change) (up : AllBy
   ordered : (x : Row) (xs : List Row) → AreAscending (x ∷ xs) → Tells xs (y ∷ ys) (passing y next xs) → (o : Ordering) → place_order x y ≡ o
       → Tells (x ∷ xs) (y ∷ ys) (match_ordering o (Gone x ∷ passing y next xs) (told_at x y ++ next xs) (Set y ∷ next (x ∷ xs)))
   ordered x xs ascending inner Less is = before-y x xs is ascending.0 inner
-  ordered x xs ascending inner Equal is = told-y x xs ascending is (is_same x y) refl
+  ordered x xs ascending inner Equal is = found-y x xs ascending is (is_same x y) refl
   ordered x xs ascending inner Greater is =
       let before = forth x y is in
       behind-y (x ∷ xs) ascending (before, weaker (Before x) (Before y) (λ z later. order.trans y x z before later) xs ascending.0)

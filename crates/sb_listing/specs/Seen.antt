@@ -15,8 +15,8 @@ abbrev pub change_line : Change → List ℕ
 change_line (Set row) = codes "set" ++ 32 ∷ row_line row
 change_line (Gone row) = codes "gone" ++ 32 ∷ (row.owner ++ 32 ∷ (row.key ++ 10 ∷ []))
 
-abbrev pub told_line : rust.Change → List ℕ
-told_line change = change_line (seen change)
+abbrev pub printed_line : rust.Change → List ℕ
+printed_line change = change_line (seen change)
 
-abbrev pub told_lines : List rust.Change → List ℕ
-told_lines changes = flat_map told_line changes
+abbrev pub printed_lines : List rust.Change → List ℕ
+printed_lines changes = flat_map printed_line changes

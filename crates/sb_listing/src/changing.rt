@@ -57,45 +57,45 @@ fn is_same(one: &Row, other: &Row) -> bool
 }
 
 /// Tells the rows of an earlier listing up to the place of a row of the later one, and that row, and gives the rows behind it.
-fn tell<'a>(
-    told: &mut Vec<Change<'a>>,
+fn pass_row<'a>(
+    found: &mut Vec<Change<'a>>,
     earlier: &'a [Row],
     row: &'a Row,
 ) -> Result<&'a [Row], Fault>
-    ensures told { IfOk result (λ rest. (next : List records.Row → List spec.Change) →
-        map seen told.new.items ++ next rest.now ≡ map seen told.old.items ++ spec.passing row.now next earlier.now) }
+    ensures found { IfOk result (λ rest. (next : List records.Row → List spec.Change) →
+        map seen found.new.items ++ next rest.now ≡ map seen found.old.items ++ spec.passing row.now next earlier.now) }
     ensures memory { IfErr result (λ fault. fault ≡ Fault.NoMemory) }
 {
     let mut rest = earlier;
     while let Some((one, others)) = rest.split_first() {
         match place_order(one, row) {
             Ordering::Less => {
-                told.push(Change::Gone(one))?;
+                found.push(Change::Gone(one))?;
                 rest = others;
             }
             Ordering::Equal => {
                 if !is_same(one, row) {
-                    told.push(Change::Set(row))?;
+                    found.push(Change::Set(row))?;
                 }
                 return Ok(others);
             }
             Ordering::Greater => {
-                told.push(Change::Set(row))?;
+                found.push(Change::Set(row))?;
                 return Ok(rest);
             }
         }
     }
-    told.push(Change::Set(row))?;
+    found.push(Change::Set(row))?;
     Ok(rest)
 }
 
 /// Tells that these rows are gone.
-fn tell_gone<'a>(told: &mut Vec<Change<'a>>, rows: &'a [Row]) -> Result<(), Fault>
-    ensures told { OnOk result (map seen told.new.items ≡ map seen told.old.items ++ map spec.Gone rows.now) }
+fn add_gone<'a>(found: &mut Vec<Change<'a>>, rows: &'a [Row]) -> Result<(), Fault>
+    ensures found { OnOk result (map seen found.new.items ≡ map seen found.old.items ++ map spec.Gone rows.now) }
     ensures memory { IfErr result (λ fault. fault ≡ Fault.NoMemory) }
 {
     for row in rows {
-        told.push(Change::Gone(row))?;
+        found.push(Change::Gone(row))?;
     }
     Ok(())
 }
@@ -107,14 +107,14 @@ pub fn changes<'a>(
     earlier: &'a [Row],
     later: &'a [Row],
 ) -> Result<Vec<Change<'a>>, Fault>
-    ensures told { IfOk result (λ told. map seen told.items ≡ spec.merged earlier.now later.now) }
+    ensures found { IfOk result (λ found. map seen found.items ≡ spec.merged earlier.now later.now) }
     ensures memory { IfErr result (λ fault. fault ≡ Fault.NoMemory) }
 {
-    let mut told = Vec::new(alloc);
+    let mut found = Vec::new(alloc);
     let mut rest = earlier;
     for row in later {
-        rest = tell(&mut told, rest, row)?;
+        rest = pass_row(&mut found, rest, row)?;
     }
-    tell_gone(&mut told, rest)?;
-    Ok(told)
+    add_gone(&mut found, rest)?;
+    Ok(found)
 }

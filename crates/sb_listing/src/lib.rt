@@ -1,5 +1,17 @@
 //! Listings, which are all rows that a caller asked a node for: what changed from one to the next, the lines of changes, and rows
 //! as JSON.
+//!
+//! Two listings are compared in one walk, since both ascend by owner and key. `attrdir watch` prints what comes of it.
+//!
+//! ```rust
+//! /// The lines of what changed from one listing to the next.
+//! fn changed_lines(alloc: Global, earlier: &[Row], later: &[Row]) -> Result<Vec<u8>, Fault> {
+//!     let found = changes(alloc, earlier, later)?;
+//!     let mut lines = Vec::new(alloc);
+//!     print_changes(alloc, &mut lines, &found).0?;
+//!     Ok(lines)
+//! }
+//! ```
 #![tactic(auto)]
 
 mod changing;

@@ -1,62 +1,18 @@
 //! The lines of changes.
-ghost use Rattle.std.specs.Prelude.{◌≡◌, ◌∷◌, ◌++◌, [], decimal, OnOk, IfOk, IfErr};
-ghost use Rattle.sb_types.specs.Value.{line_of};
+ghost use Rattle.std.specs.Prelude.{◌≡◌, ◌++◌, OnOk, IfOk, IfErr};
 ghost use Rattle.sb_frames.specs.Sending.{Sends, OnlyWhereFailed};
-ghost use Rattle.sb_query.specs.Printed.{row_line};
-ghost use Rattle.sb_listing.specs.Seen.{told_line, told_lines};
+ghost use Rattle.sb_listing.specs.Seen.{printed_line, printed_lines};
 
 use crate::changing::Change;
-use itoa::Buffer;
-use sb_codec::Row;
 use sb_frames::{LastWrite, write_counted};
-use sb_types::{Fault, Value};
+use sb_printing::add_word;
+use sb_query::add_row;
+use sb_types::Fault;
 use std::alloc::Global;
 use std::io::Write;
 
-/// Adds a word and the byte behind it.
-fn add_word(out: &mut Vec<u8>, word: &[u8], end: u8) -> Result<(), Fault>
-    ensures added { OnOk result (out.new.items ≡ out.old.items ++ (word.now ++ end ∷ [])) }
-    ensures fault { IfErr result (λ fault. fault ≡ Fault.NoMemory) }
-{
-    out.extend_from_slice(word)?;
-    out.push(end)?;
-    Ok(())
-}
-
-/// Adds a number in decimal digits and the byte behind it.
-fn add_number(out: &mut Vec<u8>, number: u64, end: u8) -> Result<(), Fault>
-    ensures added { OnOk result (out.new.items ≡ out.old.items ++ (decimal number ++ end ∷ [])) }
-    ensures fault { IfErr result (λ fault. fault ≡ Fault.NoMemory) }
-{
-    add_word(out, Buffer::new().format(number).as_bytes(), end)
-}
-
-/// Adds the two words of a value.
-fn add_value(out: &mut Vec<u8>, value: &Value) -> Result<(), Fault>
-    ensures added { OnOk result (out.new.items ≡ out.old.items ++ line_of value.now) }
-    ensures fault { IfErr result (λ fault. fault ≡ Fault.NoMemory) }
-{
-    match write!(out, "{value}") {
-        Ok(()) => Ok(()),
-        Err(_) => Err(Fault::NoMemory),
-    }
-}
-
-/// Adds the line of a row, as `get` prints it.
-fn add_row(out: &mut Vec<u8>, row: &Row) -> Result<(), Fault>
-    ensures added { OnOk result (out.new.items ≡ out.old.items ++ row_line row.now) }
-    ensures fault { IfErr result (λ fault. fault ≡ Fault.NoMemory) }
-{
-    add_word(out, row.owner().bytes(), b' ')?;
-    add_word(out, row.key().bytes(), b' ')?;
-    add_number(out, row.version(), b' ')?;
-    add_value(out, row.value())?;
-    out.push(b'\n')?;
-    Ok(())
-}
-
 fn add_change(out: &mut Vec<u8>, change: &Change<'_>) -> Result<(), Fault>
-    ensures added { OnOk result (out.new.items ≡ out.old.items ++ told_line change.now) }
+    ensures added { OnOk result (out.new.items ≡ out.old.items ++ printed_line change.now) }
     ensures memory { IfErr result (λ fault. fault ≡ Fault.NoMemory) }
 {
     match change {
@@ -74,7 +30,7 @@ fn add_change(out: &mut Vec<u8>, change: &Change<'_>) -> Result<(), Fault>
 
 /// The lines of these changes.
 fn lines_of(alloc: Global, changes: &[Change<'_>]) -> Result<Vec<u8>, Fault>
-    ensures lines { IfOk result (λ lines. lines.items ≡ told_lines changes.now) }
+    ensures lines { IfOk result (λ lines. lines.items ≡ printed_lines changes.now) }
     ensures memory { IfErr result (λ fault. fault ≡ Fault.NoMemory) }
 {
     let mut out = Vec::new(alloc);
@@ -91,7 +47,7 @@ pub fn print_changes<W: Write>(
     writer: &mut W,
     changes: &[Change<'_>],
 ) -> (Result<(), Fault>, LastWrite)
-    ensures prints { Sends (W.contents writer.old) (W.contents writer.new) (told_lines changes.now) result.0 }
+    ensures prints { Sends (W.contents writer.old) (W.contents writer.new) (printed_lines changes.now) result.0 }
     // A write that did not fail, or that was made before the call, is no reason to stop.
     ensures failed { OnlyWhereFailed result.0 result.1 }
 {

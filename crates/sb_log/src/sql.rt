@@ -16,7 +16,7 @@ use crate::log::WriteLog;
 use crate::opening::open_tables;
 use crate::statements::{read_table, write_entry};
 use sb_table::Table;
-use sb_types::{Entry, Fault, Key, Name, Slot, VERSION_MOST};
+use sb_types::{Fault, Key, Name, Slot, VERSION_MOST};
 use sqlite::{Alter, Connection};
 use std::alloc::Global;
 use std::marker::Model;
@@ -122,7 +122,7 @@ impl<S: Alter + Drop> WriteLog for SqlLog<S> {
         match write_entry(&mut self.conn, &entry) {
             Ok(()) => Ok(Committed::new(self.owner, entry)),
             Err(fault) => {
-                let_go(entry);
+                drop(entry);
                 self.is_open = false;
                 Err(fault)
             }
@@ -156,6 +156,3 @@ impl<S: Alter + Drop> WriteLog for SqlLog<S> {
         Ok(())
     }
 }
-
-/// Drops an entry.
-fn let_go(_entry: Entry) {}

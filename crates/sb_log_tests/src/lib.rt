@@ -9,6 +9,8 @@ mod database;
 #[cfg(test)]
 mod disks;
 #[cfg(test)]
+mod examples;
+#[cfg(test)]
 mod faulty;
 #[cfg(test)]
 mod lasting;
@@ -31,10 +33,7 @@ use std::process::Abort;
 /// The answer; where there is none, the end of the test, which names the fault.
 #[cfg(test)]
 fn got<T, E: Debug + Drop>(rt: &impl Abort, answer: Result<T, E>) -> T {
-    match answer {
-        Ok(answer) => answer,
-        Err(fault) => panic!(rt; "error: {fault:?}"),
-    }
+    answer.expect(rt, "error")
 }
 
 /// Ends the test where the two differ. As a function it costs the prover a fifth of the macro.

@@ -21,47 +21,47 @@ use Rattle.sb_node.specs.Talks.{taken_of, IsReply, AreEnds}
 told_nothing : (old new : Core) (from : Option (List ℕ)) (want : Bool) (answer : Result digests.Digest Fault) → Steps old (tells from want answer) new → new ≡ old
 told_nothing old new from want answer step = enters_nothing old new (tells from want answer) refl step
 
-gave_nothing : (old new : Core) (told : digests.Digest) (answer : Result (List Block) Fault) → Steps old (gives told answer) new → new ≡ old
-gave_nothing old new told answer step = enters_nothing old new (gives told answer) refl step
+gave_nothing : (old new : Core) (theirs : digests.Digest) (answer : Result (List Block) Fault) → Steps old (gives theirs answer) new → new ≡ old
+gave_nothing old new theirs answer step = enters_nothing old new (gives theirs answer) refl step
 
 -- ---- a digest
 
-either_left : (s : Session) (core : Core) (told : digests.Digest) (fault : Fault) (new : Core) → RefusesEither Steps s core told fault new → new ≡ core
-either_left s core told fault new refuses =
-    ⊎_elim (gave_nothing core new told (Err fault))
-    (λ r. told_nothing r.1 new s.cursor false (Err fault) r.3 ∙ gave_nothing core r.1 told (Ok r.0) r.2) refuses
+either_left : (s : Session) (core : Core) (theirs : digests.Digest) (fault : Fault) (new : Core) → RefusesEither Steps s core theirs fault new → new ≡ core
+either_left s core theirs fault new refuses =
+    ⊎_elim (gave_nothing core new theirs (Err fault))
+    (λ r. told_nothing r.1 new s.cursor false (Err fault) r.3 ∙ gave_nothing core r.1 theirs (Ok r.0) r.2) refuses
 
-digest_left : (s : Session) (core : Core) (told : digests.Digest) (want : Bool) (result : Result Replies Fault) (t : Session) (new : Core)
-    → AnswersDigest Steps s core told want result t new → new ≡ core
-digest_left s core told true (Ok (replies.Exchanged blocks digest)) t new a =
-    told_nothing a.1.0 new s.cursor false (Ok digest) a.1.2 ∙ gave_nothing core a.1.0 told (Ok blocks) a.1.1
-digest_left s core told true (Ok replies.Greeted) t new a = absurd a
-digest_left s core told true (Ok (replies.Answered blocks)) t new a = absurd a
-digest_left s core told true (Ok (replies.Applied ends)) t new a = absurd a
-digest_left s core told true (Ok (replies.Ended reason)) t new a = absurd a
-digest_left s core told true (Err fault) t new a = either_left s core told fault new a.1
-digest_left s core told false (Ok (replies.Answered blocks)) t new a = gave_nothing core new told (Ok blocks) a.1
-digest_left s core told false (Ok replies.Greeted) t new a = absurd a
-digest_left s core told false (Ok (replies.Exchanged blocks digest)) t new a = absurd a
-digest_left s core told false (Ok (replies.Applied ends)) t new a = absurd a
-digest_left s core told false (Ok (replies.Ended reason)) t new a = absurd a
-digest_left s core told false (Err fault) t new a = gave_nothing core new told (Err fault) a.1
+digest_left : (s : Session) (core : Core) (theirs : digests.Digest) (want : Bool) (result : Result Replies Fault) (t : Session) (new : Core)
+    → AnswersDigest Steps s core theirs want result t new → new ≡ core
+digest_left s core theirs true (Ok (replies.Exchanged blocks digest)) t new a =
+    told_nothing a.1.0 new s.cursor false (Ok digest) a.1.2 ∙ gave_nothing core a.1.0 theirs (Ok blocks) a.1.1
+digest_left s core theirs true (Ok replies.Greeted) t new a = absurd a
+digest_left s core theirs true (Ok (replies.Answered blocks)) t new a = absurd a
+digest_left s core theirs true (Ok (replies.Applied ends)) t new a = absurd a
+digest_left s core theirs true (Ok (replies.Ended reason)) t new a = absurd a
+digest_left s core theirs true (Err fault) t new a = either_left s core theirs fault new a.1
+digest_left s core theirs false (Ok (replies.Answered blocks)) t new a = gave_nothing core new theirs (Ok blocks) a.1
+digest_left s core theirs false (Ok replies.Greeted) t new a = absurd a
+digest_left s core theirs false (Ok (replies.Exchanged blocks digest)) t new a = absurd a
+digest_left s core theirs false (Ok (replies.Applied ends)) t new a = absurd a
+digest_left s core theirs false (Ok (replies.Ended reason)) t new a = absurd a
+digest_left s core theirs false (Err fault) t new a = gave_nothing core new theirs (Err fault) a.1
 
-digest_replied : (s : Session) (core : Core) (told : digests.Digest) (want : Bool) (answer : Replies) (t : Session) (new : Core)
-    → told.want ≡ want → AnswersDigest Steps s core told want (Ok answer) t new → IsReply core s told answer
-digest_replied s core told true (replies.Exchanged blocks digest) t new is a =
-    let same : a.1.0 ≡ core = gave_nothing core a.1.0 told (Ok blocks) a.1.1 in
+digest_replied : (s : Session) (core : Core) (theirs : digests.Digest) (want : Bool) (answer : Replies) (t : Session) (new : Core)
+    → theirs.want ≡ want → AnswersDigest Steps s core theirs want (Ok answer) t new → IsReply core s theirs answer
+digest_replied s core theirs true (replies.Exchanged blocks digest) t new is a =
+    let same : a.1.0 ≡ core = gave_nothing core a.1.0 theirs (Ok blocks) a.1.1 in
     let step : Steps core (tells s.cursor false (Ok digest)) new = subst (λ (c : Core). Steps c (tells s.cursor false (Ok digest)) new) same a.1.2 in
     (is, a.1.1.answers.0, a.1.1.answers.1, step.answers)
-digest_replied s core told true replies.Greeted t new is a = absurd a
-digest_replied s core told true (replies.Answered blocks) t new is a = absurd a
-digest_replied s core told true (replies.Applied ends) t new is a = absurd a
-digest_replied s core told true (replies.Ended reason) t new is a = absurd a
-digest_replied s core told false (replies.Answered blocks) t new is a = (is, a.1.answers.0, a.1.answers.1)
-digest_replied s core told false replies.Greeted t new is a = absurd a
-digest_replied s core told false (replies.Exchanged blocks digest) t new is a = absurd a
-digest_replied s core told false (replies.Applied ends) t new is a = absurd a
-digest_replied s core told false (replies.Ended reason) t new is a = absurd a
+digest_replied s core theirs true replies.Greeted t new is a = absurd a
+digest_replied s core theirs true (replies.Answered blocks) t new is a = absurd a
+digest_replied s core theirs true (replies.Applied ends) t new is a = absurd a
+digest_replied s core theirs true (replies.Ended reason) t new is a = absurd a
+digest_replied s core theirs false (replies.Answered blocks) t new is a = (is, a.1.answers.0, a.1.answers.1)
+digest_replied s core theirs false replies.Greeted t new is a = absurd a
+digest_replied s core theirs false (replies.Exchanged blocks digest) t new is a = absurd a
+digest_replied s core theirs false (replies.Applied ends) t new is a = absurd a
+digest_replied s core theirs false (replies.Ended reason) t new is a = absurd a
 
 -- ---- a delta
 
@@ -86,7 +86,7 @@ delta_ended s core blocks (replies.Ended reason) t new a = absurd a
 taken_up : (s : Session) (core : Core) (m : Message) (answer : Replies) (t : Session) (new : Core) → TakesUp Steps s core m (Ok answer) t new
     → new ≡ with_node core (replay_calls core.node (taken_of m answer))
 taken_up s core (kinds.Hello hello) answer t new a = a.2
-taken_up s core (kinds.Digest told) answer t new a = digest_left s core told told.want (Ok answer) t new a
+taken_up s core (kinds.Digest theirs) answer t new a = digest_left s core theirs theirs.want (Ok answer) t new a
 taken_up s core (kinds.Delta blocks) answer t new a = delta_taken s core blocks answer t new a
 taken_up s core (kinds.Bye reason) answer t new a = a.2
 taken_up s core (kinds.Ask asked) answer t new a = absurd a
@@ -97,7 +97,7 @@ taken_up s core (kinds.Refused fault) answer t new a = absurd a
 
 not_up : (s : Session) (core : Core) (m : Message) (fault : Fault) (t : Session) (new : Core) → TakesUp Steps s core m (Err fault) t new → new ≡ core
 not_up s core (kinds.Hello hello) fault t new a = a.2
-not_up s core (kinds.Digest told) fault t new a = digest_left s core told told.want (Err fault) t new a
+not_up s core (kinds.Digest theirs) fault t new a = digest_left s core theirs theirs.want (Err fault) t new a
 not_up s core (kinds.Delta blocks) fault t new a = enters_nothing core new (applies blocks (Err fault)) refl a.1
 not_up s core (kinds.Bye reason) fault t new a = a.2
 not_up s core (kinds.Ask asked) fault t new a = absurd a
@@ -123,10 +123,10 @@ taken s core m answer t new a = taken_up s core m answer t new (up_unless (refus
 pub refused : (s : Session) (core : Core) (m : Message) (fault : Fault) (t : Session) (new : Core) → Takes Steps s core m (Err fault) t new → new ≡ core
 refused s core m fault t new a = refused_unless (refusal_of s m) s core m fault t new a
 
-pub replied : (s : Session) (core : Core) (told : digests.Digest) (answer : Replies) (t : Session) (new : Core)
-    → Takes Steps s core (kinds.Digest told) (Ok answer) t new → IsReply core s told answer
-replied s core told answer t new a =
-    digest_replied s core told told.want answer t new refl (up_unless (refusal_of s (kinds.Digest told)) s core (kinds.Digest told) answer t new a)
+pub replied : (s : Session) (core : Core) (theirs : digests.Digest) (answer : Replies) (t : Session) (new : Core)
+    → Takes Steps s core (kinds.Digest theirs) (Ok answer) t new → IsReply core s theirs answer
+replied s core theirs answer t new a =
+    digest_replied s core theirs theirs.want answer t new refl (up_unless (refusal_of s (kinds.Digest theirs)) s core (kinds.Digest theirs) answer t new a)
 
 pub ended : (s : Session) (core : Core) (blocks : List Block) (answer : Replies) (t : Session) (new : Core)
     → Takes Steps s core (kinds.Delta blocks) (Ok answer) t new → AreBlocks blocks × AreEnds core blocks answer

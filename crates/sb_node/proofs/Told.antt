@@ -94,7 +94,7 @@ applied_is blocks (replies.Ended reason) are = no_calls
 pub calls_are : (s : Session) (core : Core) (m : Message) (answer : Replies) (t : Session) (new : Core) → Takes Steps s core m (Ok answer) t new → AreCalls (taken_of m answer)
 calls_are s core (kinds.Delta blocks) answer t new a = applied_is blocks answer (ended s core blocks answer t new a).0
 calls_are s core (kinds.Hello hello) answer t new a = no_calls
-calls_are s core (kinds.Digest told) answer t new a = no_calls
+calls_are s core (kinds.Digest theirs) answer t new a = no_calls
 calls_are s core (kinds.Bye reason) answer t new a = no_calls
 calls_are s core (kinds.Ask asked) answer t new a = no_calls
 calls_are s core (kinds.Rows rows) answer t new a = no_calls
@@ -112,7 +112,7 @@ applied_true writes me blocks (replies.Ended reason) are = none_true writes me
 pub calls_true : (writes : List ℕ → List Write) (me : List ℕ) (m : Message) (answer : Replies) → TrueMessage writes m → AreTrue writes me (taken_of m answer)
 calls_true writes me (kinds.Delta blocks) answer are = applied_true writes me blocks answer are
 calls_true writes me (kinds.Hello hello) answer are = none_true writes me
-calls_true writes me (kinds.Digest told) answer are = none_true writes me
+calls_true writes me (kinds.Digest theirs) answer are = none_true writes me
 calls_true writes me (kinds.Bye reason) answer are = none_true writes me
 calls_true writes me (kinds.Ask asked) answer are = none_true writes me
 calls_true writes me (kinds.Rows rows) answer are = none_true writes me
@@ -135,15 +135,15 @@ pub record Kept (writes : List ℕ → List Write) (core : Core) (said : List Me
   pub each : AreTrueMessages writes said
 
 module _ (laws : Laws) (writes : List ℕ → List Write) where
-  reply_true : (s : Session) (core : Core) (told : digests.Digest) (answer : Replies) → IsNode core.node → NodeHolds writes core.node → IsReply core s told answer
+  reply_true : (s : Session) (core : Core) (theirs : digests.Digest) (answer : Replies) → IsNode core.node → NodeHolds writes core.node → IsReply core s theirs answer
       → AreTrueMessages writes (messages_of answer)
-  reply_true s core told (replies.Answered blocks) is holds reply =
-      one_said writes (kinds.Delta blocks) (λ b stands. laws.honest writes core.node core.settings.budget told blocks b is holds reply.2 stands)
-  reply_true s core told (replies.Exchanged blocks digest) is holds reply =
-      two_said writes (kinds.Delta blocks) (kinds.Digest digest) (λ b stands. laws.honest writes core.node core.settings.budget told blocks b is holds reply.2 stands) tt
-  reply_true s core told replies.Greeted is holds reply = absurd reply
-  reply_true s core told (replies.Applied ends) is holds reply = absurd reply
-  reply_true s core told (replies.Ended reason) is holds reply = absurd reply
+  reply_true s core theirs (replies.Answered blocks) is holds reply =
+      one_said writes (kinds.Delta blocks) (λ b stands. laws.honest writes core.node core.settings.budget theirs blocks b is holds reply.2 stands)
+  reply_true s core theirs (replies.Exchanged blocks digest) is holds reply =
+      two_said writes (kinds.Delta blocks) (kinds.Digest digest) (λ b stands. laws.honest writes core.node core.settings.budget theirs blocks b is holds reply.2 stands) tt
+  reply_true s core theirs replies.Greeted is holds reply = absurd reply
+  reply_true s core theirs (replies.Applied ends) is holds reply = absurd reply
+  reply_true s core theirs (replies.Ended reason) is holds reply = absurd reply
 
   ends_said : (core : Core) (blocks : List Block) (answer : Replies) → AreEnds core blocks answer → AreTrueMessages writes (messages_of answer)
   ends_said core blocks (replies.Applied ends) fit = none_said writes
@@ -165,7 +165,7 @@ module _ (laws : Laws) (writes : List ℕ → List Write) where
   pub heard_said : (s : Session) (core : Core) (m : Message) (answer : Replies) (t : Session) (new : Core) → IsNode core.node → NodeHolds writes core.node
       → Takes Steps s core m (Ok answer) t new → AreTrueMessages writes (messages_of answer)
   heard_said s core (kinds.Hello hello) answer t new is holds a = greeted_said answer (Ok answer) refl (up_unless (refusal_of s (kinds.Hello hello)) s core (kinds.Hello hello) answer t new a).0
-  heard_said s core (kinds.Digest told) answer t new is holds a = reply_true s core told answer is holds (replied s core told answer t new a)
+  heard_said s core (kinds.Digest theirs) answer t new is holds a = reply_true s core theirs answer is holds (replied s core theirs answer t new a)
   heard_said s core (kinds.Delta blocks) answer t new is holds a = ends_said core blocks answer (ended s core blocks answer t new a).1
   heard_said s core (kinds.Bye reason) answer t new is holds a = ended_said answer reason (Ok answer) refl (up_unless (refusal_of s (kinds.Bye reason)) s core (kinds.Bye reason) answer t new a).0
   heard_said s core (kinds.Ask asked) answer t new is holds a = absurd (up_unless (refusal_of s (kinds.Ask asked)) s core (kinds.Ask asked) answer t new a)

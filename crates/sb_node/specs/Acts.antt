@@ -12,7 +12,7 @@ use Rattle.sb_node.specs.Steps.{entered_by, Steps, IsReplay}
 
 nothing_entered : (act : Act) → may_enter act ≡ false → entered_by act ≡ []
 nothing_entered (tells from want answer) e = refl
-nothing_entered (gives told answer) e = refl
+nothing_entered (gives theirs answer) e = refl
 nothing_entered (applies blocks (Ok ends)) e = absurd cc
 nothing_entered (applies blocks (Err fault)) e = refl
 

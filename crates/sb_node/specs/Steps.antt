@@ -12,7 +12,7 @@ use Rattle.sb_holdings.specs.Treats.{Treats}
 -- what a call enters: the delta that it applied
 abbrev pub entered_by : Act → List Call
 entered_by (tells from want answer) = []
-entered_by (gives told answer) = []
+entered_by (gives theirs answer) = []
 entered_by (applies blocks (Ok ends)) = Applied blocks ends ∷ []
 entered_by (applies blocks (Err fault)) = []
 
@@ -20,8 +20,8 @@ entered_by (applies blocks (Err fault)) = []
 abbrev pub Answers : Core → Act → Type 0
 Answers core (tells from want (Ok digest)) = IsLongestFront core.settings.budget want from (pairs_from from core.node.held) digest
 Answers core (tells from want (Err fault)) = fault ≡ NoMemory
-Answers core (gives told (Ok blocks)) = IsDelta core.settings core.node.held told blocks × IsAnswer core.settings.budget core.node.held told blocks
-Answers core (gives told (Err fault)) = fault ≡ NoMemory
+Answers core (gives theirs (Ok blocks)) = IsDelta core.settings core.node.held theirs blocks × IsAnswer core.settings.budget core.node.held theirs blocks
+Answers core (gives theirs (Err fault)) = fault ≡ NoMemory
 Answers core (applies blocks (Ok ends)) = Treats core.node blocks ends
 Answers core (applies blocks (Err fault)) = fault ≡ NoMemory
 

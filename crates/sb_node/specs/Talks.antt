@@ -28,7 +28,7 @@ applied_with blocks (Ended reason) = []
 abbrev pub taken_of : Message → Replies → List calls.Call
 taken_of (Delta blocks) replies = applied_with blocks replies
 taken_of (Hello hello) replies = []
-taken_of (Digest told) replies = []
+taken_of (Digest theirs) replies = []
 taken_of (Bye reason) replies = []
 taken_of (Ask asked) replies = []
 taken_of (Rows rows) replies = []
@@ -38,14 +38,14 @@ taken_of (Refused fault) replies = []
 
 -- the answer to a digest, and the own digest from where the session stands if one is wanted
 abbrev pub IsReply : Core → Session → digests.Digest → Replies → Type 0
-IsReply core s told (Answered blocks) =
-    (told.want ≡ false) × IsDelta core.settings core.node.held told blocks × IsAnswer core.settings.budget core.node.held told blocks
-IsReply core s told (Exchanged blocks digest) =
-    (told.want ≡ true) × IsDelta core.settings core.node.held told blocks × IsAnswer core.settings.budget core.node.held told blocks
+IsReply core s theirs (Answered blocks) =
+    (theirs.want ≡ false) × IsDelta core.settings core.node.held theirs blocks × IsAnswer core.settings.budget core.node.held theirs blocks
+IsReply core s theirs (Exchanged blocks digest) =
+    (theirs.want ≡ true) × IsDelta core.settings core.node.held theirs blocks × IsAnswer core.settings.budget core.node.held theirs blocks
     × IsLongestFront core.settings.budget false s.cursor (pairs_from s.cursor core.node.held) digest
-IsReply core s told Greeted = ⊥
-IsReply core s told (Applied ends) = ⊥
-IsReply core s told (Ended reason) = ⊥
+IsReply core s theirs Greeted = ⊥
+IsReply core s theirs (Applied ends) = ⊥
+IsReply core s theirs (Ended reason) = ⊥
 
 -- the ends that fit
 abbrev pub AreEnds : Core → List Block → Replies → Type 0
@@ -59,7 +59,7 @@ AreEnds core blocks (Ended reason) = ⊥
 abbrev pub TrueMessage : (List ℕ → List Write) → Message → Type 0
 TrueMessage writes (Delta blocks) = calls.AreHonest writes blocks
 TrueMessage writes (Hello hello) = Unit {0}
-TrueMessage writes (Digest told) = Unit {0}
+TrueMessage writes (Digest theirs) = Unit {0}
 TrueMessage writes (Bye reason) = Unit {0}
 TrueMessage writes (Ask asked) = Unit {0}
 TrueMessage writes (Rows rows) = Unit {0}

@@ -25,8 +25,8 @@ impl Handler for NodeCore {
         NodeCore::digest(self, from, want)
     }
 
-    fn deltas(&mut self, told: &Digest) -> Result<Delta, Fault> {
-        NodeCore::deltas(self, told)
+    fn deltas(&mut self, theirs: &Digest) -> Result<Delta, Fault> {
+        NodeCore::deltas(self, theirs)
     }
 
     fn apply(&mut self, delta: &Delta) -> Result<Report, Fault> {

@@ -70,8 +70,8 @@ pub fn sessions_are_replays()
         Takes Steps s core message (Err fault) t new → new ≡ core }
     ensures asked { (s : Session) (core : Core) (answer : Result Message Fault) (t : Session) (new : Core) →
         Asks Steps s core answer t new → new ≡ core }
-    ensures replies { (s : Session) (core : Core) (told : Digest) (replies : Replies) (t : Session) (new : Core) →
-        Takes Steps s core (kinds.Digest told) (Ok replies) t new → IsReply core s told replies }
+    ensures replies { (s : Session) (core : Core) (theirs : Digest) (replies : Replies) (t : Session) (new : Core) →
+        Takes Steps s core (kinds.Digest theirs) (Ok replies) t new → IsReply core s theirs replies }
     ensures ends { (s : Session) (core : Core) (blocks : List Block) (replies : Replies) (t : Session) (new : Core) →
         Takes Steps s core (kinds.Delta blocks) (Ok replies) t new → AreBlocks blocks × AreEnds core blocks replies }
 {}

@@ -1,21 +1,18 @@
 //! What is offered and cut at exact budgets, also of all keys that an owner may have.
 ghost use Rattle.std.specs.Prelude.{◌≡◌, ◌≤◌, ◌<◌, IfOk, OnOk};
 
-use crate::making::{apply, items, letters_of, longest, nothing, tells};
+use crate::making::{apply, items, longest, nothing, tells};
 use crate::{got, key, name, one, push, same, same_at, there};
 use sb_budget::{Offered, available, cut};
 use sb_digest::{Digest, Pair};
 use sb_holdings::{BlockEnd, Holdings};
 use sb_table::Table;
+use sb_testing::{LONGEST_KEY, LONGEST_NAME, letters_of};
 use sb_types::{
     BUDGET_LEAST, BUDGET_MOST, Block, Delta, Entry, Fault, HEADER_LENGTH, Key, Name, Slot, Value,
 };
 use std::alloc::Global;
 use std::process::Abort;
-
-const LONGEST_NAME: &[u8] = b"abcdefghijklmnopqrstuvwxyz-01234";
-
-const LONGEST_KEY: &[u8] = b"abcdefghijklmnopqrstuvwxyz012345.bcdefghijklmnopqrstuvwxyz_/-789";
 
 /// A text of 512 bytes under a key.
 fn longest_value(rt: &impl Abort, alloc: Global, text: &[u8], version: u64) -> Entry

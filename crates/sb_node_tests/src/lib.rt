@@ -7,6 +7,8 @@ mod both_ways;
 #[cfg(test)]
 mod budget;
 #[cfg(test)]
+mod examples;
+#[cfg(test)]
 mod making;
 #[cfg(test)]
 mod node;
@@ -45,19 +47,13 @@ fn holds(rt: &impl Abort, what: &str, holds: bool) {
 /// The answer; where there is none, the end of the test, which names the fault.
 #[cfg(test)]
 fn got<T, E: Debug + Drop>(rt: &impl Abort, answer: Result<T, E>) -> T {
-    match answer {
-        Ok(answer) => answer,
-        Err(fault) => panic!(rt; "error: {fault:?}"),
-    }
+    answer.expect(rt, "error")
 }
 
 /// What has to be there; where it is not, the end of the test.
 #[cfg(test)]
 fn there<T>(rt: &impl Abort, value: Option<T>) -> T {
-    match value {
-        Some(value) => value,
-        None => panic!(rt; "error: none"),
-    }
+    value.expect(rt, "error: none")
 }
 
 /// What is answered, a fault too; where memory ran out, the end of the test.

@@ -10,17 +10,6 @@ use sb_types::{Block, Delta, Entry, Fault, HEADER_LENGTH, Name, Slot, Value};
 use std::alloc::Global;
 use std::process::Abort;
 
-/// The text of a number, in four letters.
-pub(crate) fn letters_of(number: u64) -> [u8; 4] {
-    let mut text = [b'a'; 4];
-    let mut rest = number;
-    for letter in text.iter_mut() {
-        *letter = b'a' + (rest % 26) as u8;
-        rest /= 26;
-    }
-    text
-}
-
 /// The owner's first writes: a flag under each of these letters.
 pub(crate) fn block_of(rt: &impl Abort, alloc: Global, owner: Name, letters: &[u8]) -> Block {
     let mut entries = Vec::new(alloc);

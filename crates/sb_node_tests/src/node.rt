@@ -2,11 +2,12 @@
 ghost use Rattle.std.specs.Prelude.{◌≤◌};
 
 use crate::making::{longest, nothing};
-use crate::{got, holds, key, name, one, push, same, same_at, settled};
+use crate::{got, holds, key, name, push, same, same_at, settled};
 use sb_holdings::{BlockEnd, Report};
 use sb_log::{Committed, PlainLog, WriteLog};
 use sb_node::NodeCore;
 use sb_table::Table;
+use sb_testing::{SETTINGS, delta_of_block};
 use sb_types::{
     Block, Delta, Entry, Fault, HEADER_LENGTH, Name, Order, RawSettings, Settings, Slot, Value,
 };
@@ -14,15 +15,12 @@ use std::alloc::Global;
 use std::process::Abort;
 
 fn settings(rt: &impl Abort, budget: u64, order: Order) -> Settings {
-    let settings = Settings::check(RawSettings {
-        cluster: b"c1",
+    let raw = RawSettings {
         budget,
         order,
-        max_version: 100,
-        seats: 2,
-        workers: 1,
-    });
-    got(rt, settings)
+        ..SETTINGS
+    };
+    got(rt, Settings::check(raw))
 }
 
 /// A new node of a name.
@@ -135,7 +133,7 @@ fn take(rt: &impl Abort, core: &mut NodeCore, delta: &Delta, ends: &[BlockEnd]) 
 
 /// A delta of one block.
 fn delta_of(rt: &impl Abort, alloc: Global, block: Block) -> Delta {
-    got(rt, Delta::new(one(rt, alloc, block)))
+    got(rt, delta_of_block(alloc, block))
 }
 
 /// Whether a delta of one block ends so.

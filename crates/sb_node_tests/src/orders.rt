@@ -2,15 +2,14 @@
 ghost use Rattle.std.specs.Prelude.{◌≤◌};
 ghost use Rattle.sb_budget.specs.Cut.{CanCut};
 
-use crate::making::{
-    apply, arranged, block_of, entries_in, items, letters_of, longest, nothing, tells,
-};
+use crate::making::{apply, arranged, block_of, entries_in, items, longest, nothing, tells};
 use crate::{got, key, name, push, same, same_at};
 use sb_breadth::Breadth;
 use sb_budget::{DeltaOrder, Offered, cut};
 use sb_depth::Depth;
 use sb_holdings::Holdings;
 use sb_table::Table;
+use sb_testing::letters_of;
 use sb_types::{BUDGET_LEAST, BUDGET_MOST, Block, Delta, Entry, HEADER_LENGTH, Name, Order};
 use std::alloc::Global;
 use std::process::Abort;

@@ -7,23 +7,13 @@ use sb_codec::Message;
 use sb_frames::Steps;
 use sb_node::NodeCore;
 use sb_session::{Ended, Session, dial, serve};
+use sb_testing::streams::{Hearing, Pieces};
+use sb_testing::wire::{DELTA_A, DELTA_DESCENDING, HELLO_A, HELLO_AND_BYE_B, SAID_BY_A, SAID_BY_B};
 use sb_types::{Block, Delta, Entry, Fault, Name, Order, Slot, Value};
 use std::alloc::Global;
-use std::io::{self, ErrorKind, Read, Write};
 use std::marker::Brand;
 use std::process::Abort;
 use std::sync::ledger::{Blank, Ledger};
-
-/// Hello and the digest of a node a of the cluster c1 that holds only itself with nothing written, and its Bye.
-const SAID_BY_A: &[u8] = b"\xa7\x02\x00\x00\x00\x06\x01\x02c1\x01a\
-    \xa7\x02\x00\x00\x00\x10\x02\x01\x00\x00\x00\x01\x01a\x00\x00\x00\x00\x00\x00\x00\x00\
-    \xa7\x02\x00\x00\x00\x02\x04\x01";
-
-/// Hello of a node b, the delta of the flag true that it wrote under w as its version 1, and its digest.
-const SAID_BY_B: &[u8] = b"\xa7\x02\x00\x00\x00\x06\x01\x02c1\x01b\
-    \xa7\x02\x00\x00\x00\x1b\x03\x00\x01\x01b\x00\x00\x00\x00\x00\x00\x00\x00\
-    \x00\x01\x01w\x00\x00\x00\x00\x00\x00\x00\x01\x03\x01\
-    \xa7\x02\x00\x00\x00\x10\x02\x00\x00\x00\x00\x01\x01b\x00\x00\x00\x00\x00\x00\x00\x01";
 
 /// Hello and the digest of a, a delta of no block, and Bye.
 const DIALED_BY_A: &[u8] = b"\xa7\x02\x00\x00\x00\x06\x01\x02c1\x01a\
@@ -31,67 +21,8 @@ const DIALED_BY_A: &[u8] = b"\xa7\x02\x00\x00\x00\x06\x01\x02c1\x01a\
     \xa7\x02\x00\x00\x00\x03\x03\x00\x00\
     \xa7\x02\x00\x00\x00\x02\x04\x01";
 
-/// Hello of b, and Bye.
-const DIALED_BY_B: &[u8] = b"\xa7\x02\x00\x00\x00\x06\x01\x02c1\x01b\
-    \xa7\x02\x00\x00\x00\x02\x04\x01";
-
-/// Hello of a.
-const HELLO_A: &[u8] = b"\xa7\x02\x00\x00\x00\x06\x01\x02c1\x01a";
-
 /// One block of a, after 0, with the weight 5 under w as version 1.
-const FRAME: &[u8] = b"\xa7\x02\x00\x00\x00\x22\x03\x00\x01\x01a\x00\x00\x00\x00\x00\x00\x00\x00\
-    \x00\x01\x01w\x00\x00\x00\x00\x00\x00\x00\x01\x02\x00\x00\x00\x00\x00\x00\x00\x05";
-
-/// A block of b, and then one of a.
-const DESCENDING: &[u8] = b"\xa7\x02\x00\x00\x00\x41\x03\x00\x02\
-    \x01b\x00\x00\x00\x00\x00\x00\x00\x00\
-    \x00\x01\x01w\x00\x00\x00\x00\x00\x00\x00\x01\x02\x00\x00\x00\x00\x00\x00\x00\x05\
-    \x01a\x00\x00\x00\x00\x00\x00\x00\x00\
-    \x00\x01\x01w\x00\x00\x00\x00\x00\x00\x00\x01\x02\x00\x00\x00\x00\x00\x00\x00\x05";
-
-/// What a peer says, a few bytes in each read; whether reading fails then.
-#[derive(Drop)]
-struct Saying<'a> {
-    bytes: &'a [u8],
-    piece: usize,
-    breaks: bool,
-}
-
-impl Read for Saying<'_> {
-    fn read(&mut self, buf: &mut [u8]) -> io::Result<usize> {
-        if self.bytes.is_empty() && self.breaks {
-            return Err(ErrorKind::ConnectionReset.into());
-        }
-        let count = self.piece.min(buf.len()).min(self.bytes.len());
-        let (front, rest) = self.bytes.split_at(count);
-        buf[..count].copy_from_slice(front);
-        self.bytes = rest;
-        Ok(count)
-    }
-}
-
-/// What a peer hears, up to so many bytes.
-#[derive(Drop)]
-struct Hearing {
-    bytes: Vec<u8>,
-    room: usize,
-}
-
-impl Write for Hearing {
-    fn write(&mut self, buf: &[u8]) -> io::Result<usize> {
-        let room = self.room.saturating_sub(self.bytes.len());
-        if room == 0 {
-            return Err(ErrorKind::BrokenPipe.into());
-        }
-        let taken = buf.get(..room).unwrap_or(buf);
-        self.bytes.extend_from_slice(taken)?;
-        Ok(taken.len())
-    }
-
-    fn flush(&mut self) -> io::Result<()> {
-        Ok(())
-    }
-}
+const FRAME: &[u8] = &DELTA_A;
 
 /// What a talk has to go on: what the peer says, in which pieces, whether reading fails then, how many reads may be
 /// made, how many bytes the peer hears, and the rounds of one that dials.
@@ -130,11 +61,7 @@ fn talk_on<L: Ledger>(
     requires some { 0 < blank.parts }
 {
     let mut steps = Steps::<L>::new(blank);
-    let mut reader = Saying {
-        bytes: terms.said,
-        piece: terms.piece,
-        breaks: terms.breaks,
-    };
+    let mut reader = Pieces::new(terms.said, terms.piece, terms.breaks);
     let (ended, _) = match terms.rounds {
         None => serve(
             alloc,
@@ -170,10 +97,7 @@ fn talk(
     said: &[u8],
 ) -> Talked {
     let session = Session::new(name(rt, b"c1"), *core.name());
-    let mut writer = Hearing {
-        bytes: Vec::new(alloc),
-        room: terms.room,
-    };
+    let mut writer = Hearing::new(alloc, terms.room);
     let ended = talk_on::<Brand>(core, alloc, session, &mut writer, terms, Blank::new(1));
     (settled(rt, ended), writer.bytes.as_slice() == said)
 }
@@ -218,7 +142,7 @@ fn two_nodes_talk(rt: HostRuntime) {
     serve_pieces(&rt, alloc, 1);
     serve_pieces(&rt, alloc, 7);
     serve_pieces(&rt, alloc, 42);
-    let told = talk_of_b(&rt, alloc, peer_terms(b"", Some(0)), DIALED_BY_B);
+    let told = talk_of_b(&rt, alloc, peer_terms(b"", Some(0)), HELLO_AND_BYE_B);
     same(&rt, &told, &(Ok(Ended::RoundsDone), true));
     let asked = talk_of_a(&rt, alloc);
     same(&rt, &asked, &((Ok(Ended::RoundsDone), true), 1));
@@ -306,7 +230,7 @@ fn faulty_frames_enter_nothing(rt: HostRuntime) {
     refuse(&rt, alloc, b"\xa7\x02\x00\x00\xff\xfb", Fault::BadLength);
     let unknown = b"\xa7\x02\x00\x00\x00\x01\x55";
     refuse(&rt, alloc, unknown, Fault::UnknownKind(0x55));
-    refuse(&rt, alloc, DESCENDING, Fault::Malformed(3));
+    refuse(&rt, alloc, DELTA_DESCENDING, Fault::Malformed(3));
 }
 
 /// The flag true under k, the first write of an owner.

@@ -8,8 +8,8 @@ use Rattle.std.specs.List.{list_all}
 use Rattle.sb_codec.specs.Records.{Row, rows_of}
 use Rattle.sb_codec.specs.Limits.{is_row}
 use Rattle.sb_codec.specs.Lengths.{row_length}
-use Rattle.sb_views.specs.Rows as views
-use Rattle.sb_query.specs.Pages.{row_told, rows_frame_length, IsLongestPage}
+use Rattle.sb_views.specs.LiveRows as live
+use Rattle.sb_query.specs.Pages.{message_row, rows_frame_length, IsLongestPage}
 
 -- what a refused subtraction tells
 pub room-short : (r : Option ℕ) (cost room size : ℕ) → SomeIff r (cost ≤ room) (room - cost) → ((x : ℕ) → r ≡ Some x → ⊥) → cost ≡ size → room < size
@@ -72,24 +72,24 @@ some-rows [] long = absurd (omega arith)
 some-rows (r ∷ rs) long = omega arith
 
 -- what was gathered, and what is left to read
-pub record IsGathering (budget : ℕ) (asked : List views.Row) (rows : List Row) (room : ℕ) (rest : List views.Row) : Type 0 where
-  pub made : rows ++ map row_told rest ≡ map row_told asked
+pub record IsGathering (budget : ℕ) (asked : List live.LiveRow) (rows : List Row) (room : ℕ) (rest : List live.LiveRow) : Type 0 where
+  pub made : rows ++ map message_row rest ≡ map message_row asked
   pub frame : rows_frame_length rows + room ≡ budget
   pub each : list_all is_row rows ≡ true
 
-module _ (budget : ℕ) (asked : List views.Row) where
-  pub gathering-begins : (rows : List Row) (room : ℕ) (rest : List views.Row) → rows ≡ [] → 10 + room ≡ budget → rest ≡ asked → IsGathering budget asked rows room rest
+module _ (budget : ℕ) (asked : List live.LiveRow) where
+  pub gathering-begins : (rows : List Row) (room : ℕ) (rest : List live.LiveRow) → rows ≡ [] → 10 + room ≡ budget → rest ≡ asked → IsGathering budget asked rows room rest
   gathering-begins rows room rest none size all = record {
-    made = ap₂ (λ (xs : List Row) (ys : List views.Row). xs ++ map row_told ys) none all;
+    made = ap₂ (λ (xs : List Row) (ys : List live.LiveRow). xs ++ map message_row ys) none all;
     frame = ap (λ (xs : List Row). rows_frame_length xs + room) none ∙ size;
     each = ap (list_all is_row) none;
   }
 
-  module _ (rows : List Row) (room : ℕ) (old : List views.Row) (is : IsGathering budget asked rows room old) where
+  module _ (rows : List Row) (room : ℕ) (old : List live.LiveRow) (is : IsGathering budget asked rows room old) where
     -- the next row, told
-    module _ (row : views.Row) (rest : List views.Row) (next : old ≡ row ∷ rest) (copy : Row) (told : copy ≡ row_told row) where
-      with-next : rows ++ copy ∷ map row_told rest ≡ map row_told asked
-      with-next = ap (λ (r : Row). rows ++ r ∷ map row_told rest) told ∙ ap (λ (l : List views.Row). rows ++ map row_told l) (sym next) ∙ is.made
+    module _ (row : live.LiveRow) (rest : List live.LiveRow) (next : old ≡ row ∷ rest) (copy : Row) (told : copy ≡ message_row row) where
+      with-next : rows ++ copy ∷ map message_row rest ≡ map message_row asked
+      with-next = ap (λ (r : Row). rows ++ r ∷ map message_row rest) told ∙ ap (λ (l : List live.LiveRow). rows ++ map message_row l) (sym next) ∙ is.made
 
       pub gathering-more : (new : List Row) (left : ℕ) → new ≡ rows ++ copy ∷ [] → row_length copy + left ≡ room → is_row copy ≡ true → IsGathering budget asked new left rest
       gathering-more new left pushed size good =
@@ -98,23 +98,23 @@ module _ (budget : ℕ) (asked : List views.Row) where
           let one : sum_by row_length (copy ∷ []) ≡ row_length copy = omega (arith, sum_by-cons row_length copy []) in
           let frame = is.frame in
           record {
-            made = ap (λ (xs : List Row). xs ++ map row_told rest) pushed ∙ append_assoc rows (copy ∷ []) (map row_told rest) ∙ with-next;
+            made = ap (λ (xs : List Row). xs ++ map message_row rest) pushed ∙ append_assoc rows (copy ∷ []) (map message_row rest) ∙ with-next;
             frame = omega arith;
             each = ap (list_all is_row) pushed ∙ all-more rows copy is.each good;
           }
 
-      pub gathering-cut : room < row_length copy → IsLongestPage budget (map row_told asked) (rows_of true rows)
-      gathering-cut short = page-cut budget room rows copy (map row_told rest) (map row_told asked) with-next is.frame short
+      pub gathering-cut : room < row_length copy → IsLongestPage budget (map message_row asked) (rows_of true rows)
+      gathering-cut short = page-cut budget room rows copy (map message_row rest) (map message_row asked) with-next is.frame short
 
       -- a frame of the least budget has room for any row
       pub gathering-some : 1024 ≤ budget → row_length copy ≤ 621 → room < row_length copy → 0 < length rows
       gathering-some least most short = let frame = is.frame in some-rows rows (omega arith)
 
-    pub gathering-whole : old ≡ [] → IsLongestPage budget (map row_told asked) (rows_of false rows)
+    pub gathering-whole : old ≡ [] → IsLongestPage budget (map message_row asked) (rows_of false rows)
     gathering-whole none =
-        page-whole budget room rows (map row_told asked) (sym (append-nil rows) ∙ ap (λ (l : List views.Row). rows ++ map row_told l) (sym none) ∙ is.made) is.frame
+        page-whole budget room rows (map message_row asked) (sym (append-nil rows) ∙ ap (λ (l : List live.LiveRow). rows ++ map message_row l) (sym none) ∙ is.made) is.frame
 
-    pub whole-some : old ≡ [] → 0 < length (map row_told asked) → 0 < length rows
+    pub whole-some : old ≡ [] → 0 < length (map message_row asked) → 0 < length rows
     whole-some none some =
-        let all : rows ≡ map row_told asked = sym (append-nil rows) ∙ ap (λ (l : List views.Row). rows ++ map row_told l) (sym none) ∙ is.made in
+        let all : rows ≡ map message_row asked = sym (append-nil rows) ∙ ap (λ (l : List live.LiveRow). rows ++ map message_row l) (sym none) ∙ is.made in
         subst (λ (xs : List Row). 0 < length xs) (sym all) some

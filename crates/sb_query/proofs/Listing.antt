@@ -11,8 +11,8 @@ use Rattle.sb_types.specs.declared.limits.TheConstants.{PAYLOAD_MOST}
 use Rattle.sb_codec.specs.Lengths.{rows_length}
 use Rattle.sb_codec.specs.declared.message.ask.Ask.{Ask}
 use Rattle.sb_codec.specs.Records.{Row, Rows}
-use Rattle.sb_views.specs.Pages.{Page}
-use Rattle.sb_views.specs.Rows.{is_behind}
+use Rattle.sb_views.specs.NodeViews.{NodeView}
+use Rattle.sb_views.specs.LiveRows.{is_behind}
 use Rattle.sb_query.specs.Pages.{live_row, asked_rows, IsLongestPage}
 use Rattle.sb_query.specs.Paging.{Act, asks, Turns, AsksBehind, Leads, Lists, IsPlaceBehind, are_rows_behind, ends_or_has_rows, goes_on}
 use Rattle.sb_query.proofs.Following.{pages-follow}
@@ -77,7 +77,7 @@ module _ {S : Type 0} (step : S → Act → S → Type 0) where
   leads-further old asked n mid ask new (Some place) (pages, leads, count) (page, turns, behind) some =
       (pages ++ page ∷ [], leads-on old asked pages mid ask page new _ leads turns (behind-is ask page place behind), length-append pages (page ∷ []) ∙ ap (λ (k : ℕ). k + 1) count)
 
-  module _ (view : Page) (answers : (old new : S) (ask : Ask) (page : Rows) → step old (asks ask page) new → (budget : ℕ) × IsLongestPage budget (asked_rows ask view) page) where
+  module _ (view : NodeView) (answers : (old new : S) (ask : Ask) (page : Rows) → step old (asks ask page) new → (budget : ℕ) × IsLongestPage budget (asked_rows ask view) page) where
     -- a page and what is asked for behind it are what was asked for
     page-then : (old new : S) (ask : Ask) (page : Rows) (behind : Ask) → Turns step old ask page new → AsksBehind ask page behind → asked_rows ask view ≡ page.rows ++ asked_rows behind view
     page-then old new ask page behind turns asked =

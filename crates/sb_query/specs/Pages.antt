@@ -4,20 +4,20 @@ use Rattle.sb_types.specs.declared.format.TheConstants.{HEADER_LENGTH}
 use Rattle.sb_codec.specs.declared.message.ask.Ask.{Ask}
 use Rattle.sb_codec.specs.Records.{Row, Rows, row_of}
 use Rattle.sb_codec.specs.Lengths.{rows_length}
-use Rattle.sb_views.specs.Pages.{Page}
-use Rattle.sb_views.specs.Rows as views
+use Rattle.sb_views.specs.NodeViews.{NodeView}
+use Rattle.sb_views.specs.LiveRows as live
 
 -- a live row, as an answer tells it
-abbrev pub row_told : views.Row → Row
-row_told row = row_of row.owner row.key row.version row.value
+abbrev pub message_row : live.LiveRow → Row
+message_row row = row_of row.owner row.key row.version row.value
 
 -- a row that an answer tells, as a live row
-abbrev pub live_row : Row → views.Row
+abbrev pub live_row : Row → live.LiveRow
 live_row row = record { owner = row.owner; key = row.key; value = row.value; version = row.version }
 
 -- the live rows that are asked for: of the owner or of all, under the prefix, behind the place
-abbrev pub asked_rows : Ask → Page → List Row
-asked_rows ask page = map row_told (views.rows_behind ask.after ask.owner ask.prefix page)
+abbrev pub asked_rows : Ask → NodeView → List Row
+asked_rows ask page = map message_row (live.rows_behind ask.after ask.owner ask.prefix page)
 
 -- the same question for what stands behind the row
 abbrev pub asking_behind : Row → Ask → Ask

@@ -3,8 +3,8 @@ ghost use Rattle.std.specs.Prelude.{◌≡◌, ◌≤◌, ◌<◌, true, length,
 ghost use Rattle.std.specs.List.{list_all};
 ghost use Rattle.sb_codec.specs.Records.{rows_of};
 ghost use Rattle.sb_codec.specs.Limits.{is_row};
-ghost use Rattle.sb_views.specs.Rows.{row_lent};
-ghost use Rattle.sb_query.specs.Pages.{row_told, asked_rows, IsLongestPage};
+ghost use Rattle.sb_views.specs.LiveRows.{row_lent};
+ghost use Rattle.sb_query.specs.Pages.{message_row, asked_rows, IsLongestPage};
 
 use sb_codec::{Ask, Row, Rows};
 use sb_types::{BUDGET_LEAST, BUDGET_MOST, BYTE_LENGTH, COUNT_LENGTH, Fault, HEADER_LENGTH};
@@ -15,8 +15,8 @@ use std::alloc::Global;
 const EMPTY_FRAME: u64 = HEADER_LENGTH + BYTE_LENGTH + BYTE_LENGTH + COUNT_LENGTH;
 
 /// The row, copied. `NoMemory`.
-fn copy_of(alloc: Global, row: sb_views::Row<'_>) -> Result<Row, Fault>
-    ensures told { IfOk result (λ copy. copy ≡ row_told (row_lent row.entry)) }
+fn copy_of(alloc: Global, row: sb_views::LiveRow<'_>) -> Result<Row, Fault>
+    ensures told { IfOk result (λ copy. copy ≡ message_row (row_lent row.entry)) }
     ensures memory { IfErr result (λ fault. fault ≡ Fault.NoMemory) }
 {
     let value = row.live.value().copy(alloc)?;
@@ -24,11 +24,15 @@ fn copy_of(alloc: Global, row: sb_views::Row<'_>) -> Result<Row, Fault>
 }
 
 /// Whether rows are left, and the longest front of the rows whose page has a frame within the budget.
-fn gather(alloc: Global, asked: sb_views::Rows<'_>, budget: u64) -> Result<(bool, Vec<Row>), Fault>
+fn gather(
+    alloc: Global,
+    asked: sb_views::LiveRows<'_>,
+    budget: u64,
+) -> Result<(bool, Vec<Row>), Fault>
     requires least { BUDGET_LEAST ≤ budget }
     requires most { budget ≤ BUDGET_MOST }
-    ensures front { IfOk result (λ found. IsLongestPage budget (map row_told asked.entry) (rows_of found.0 found.1.items)) }
-    ensures some { IfOk result (λ found. 0 < length (map row_told asked.entry) → 0 < length found.1.items) }
+    ensures front { IfOk result (λ found. IsLongestPage budget (map message_row asked.entry) (rows_of found.0 found.1.items)) }
+    ensures some { IfOk result (λ found. 0 < length (map message_row asked.entry) → 0 < length found.1.items) }
     ensures each { IfOk result (λ found. list_all is_row found.1.items ≡ true) }
     ensures memory { IfErr result (λ fault. fault ≡ Fault.NoMemory) }
 {

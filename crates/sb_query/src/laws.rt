@@ -4,7 +4,7 @@ ghost use Rattle.std.specs.List.{flat_map};
 ghost use Rattle.sb_codec.specs.declared.message.ask.Ask as ask;
 ghost use Rattle.sb_codec.specs.Records.{Row};
 ghost use Rattle.sb_codec.specs.Records as records;
-ghost use Rattle.sb_views.specs.Pages.{Page};
+ghost use Rattle.sb_views.specs.NodeViews.{NodeView};
 ghost use Rattle.sb_query.specs.Pages.{asked_rows, asking_behind, IsLongestPage};
 ghost use Rattle.sb_query.specs.Paging.{asks, Lists};
 
@@ -13,13 +13,13 @@ use crate::paging::Pager;
 /// Who asks again behind the last row of a page is asked for what the page left: no row is passed over, and none comes
 /// twice.
 pub fn pages_follow()
-    ensures { (question : ask.Ask) (view : Page) (front : List Row) (last : Row) (rest : List Row) →
+    ensures { (question : ask.Ask) (view : NodeView) (front : List Row) (last : Row) (rest : List Row) →
         asked_rows question view ≡ front ++ last ∷ rest → asked_rows (asking_behind last question) view ≡ rest }
 {}
 
 /// Where each page is the answer to its question from one view, all pages have just the rows that are asked for: each once.
 pub fn listings_are_whole<P: Pager>()
-    ensures { (view : Page) → ((old new : P) (question : ask.Ask) (page : records.Rows) → P.step old (asks question page) new
+    ensures { (view : NodeView) → ((old new : P) (question : ask.Ask) (page : records.Rows) → P.step old (asks question page) new
         → (budget : ℕ) × IsLongestPage budget (asked_rows question view) page)
         → (old new : P) (question : ask.Ask) (pages : List records.Rows) (last : records.Rows) → Lists P.step old question pages last new
         → flat_map (λ p. p.rows) pages ++ last.rows ≡ asked_rows question view }

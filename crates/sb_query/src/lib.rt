@@ -1,4 +1,27 @@
 //! Questions for rows: the page that answers one, what an answer tells, and the lines of a page.
+//!
+//! A question names an owner or none, a prefix, and the place behind which its rows stand. Its answer is the longest page within a
+//! budget; who wants all rows asks for page after page.
+//!
+//! ```rust
+//! /// The lines of the first page of all rows under a prefix.
+//! fn lines_under(alloc: Global, snapshot: &Snapshot<'_>, prefix: Prefix) -> Result<Vec<u8>, Fault> {
+//!     let (owner, after) = (None, None);
+//!     let page = answer(
+//!         alloc,
+//!         snapshot,
+//!         &Ask {
+//!             owner,
+//!             prefix,
+//!             after,
+//!         },
+//!         BUDGET_LEAST,
+//!     )?;
+//!     let mut lines = Vec::new(alloc);
+//!     print_rows(alloc, &mut lines, &page).0?;
+//!     Ok(lines)
+//! }
+//! ```
 #![tactic(auto)]
 
 mod answering;
@@ -11,4 +34,4 @@ pub use answering::answer;
 pub use answers::{NoAnswer, page_in, version_in};
 pub use laws::{listings_are_whole, pages_follow};
 pub use paging::{Pager, PagingFault, ask_all, goes_on};
-pub use printing::print_rows;
+pub use printing::{add_row, print_rows};

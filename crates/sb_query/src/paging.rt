@@ -1,7 +1,7 @@
 //! All rows that are asked for, page after page.
 ghost use Rattle.std.specs.Prelude.{◌≡◌, true, List, OnOk, IfOk, IfErr};
 ghost use Rattle.sb_codec.specs.Records as records;
-ghost use Rattle.sb_views.specs.Rows as views;
+ghost use Rattle.sb_views.specs.LiveRows as live;
 ghost use Rattle.sb_query.specs.Pages.{live_row};
 ghost use Rattle.sb_query.specs.Paging as paging;
 ghost use Rattle.sb_query.specs.Paging.{asks, takes, ends_or_has_rows, IsPlaceBehind, Turns, TurnsAside, Lists, GoesAstray};
@@ -42,7 +42,7 @@ pub enum PagingFault<E> {
 
 /// Whether a row lies behind a place.
 fn is_behind(row: &Row, after: Option<(Name, Key)>) -> bool
-    ensures { result ≡ views.is_behind after (live_row row.now) }
+    ensures { result ≡ live.is_behind after (live_row row.now) }
 {
     match after {
         None => true,

@@ -1,46 +1,17 @@
 //! The lines of a page.
-ghost use Rattle.std.specs.Prelude.{◌≡◌, ◌∷◌, ◌++◌, [], decimal, OnOk, IfOk, IfErr};
-ghost use Rattle.sb_types.specs.Value.{line_of};
+ghost use Rattle.std.specs.Prelude.{◌≡◌, ◌++◌, OnOk, IfOk, IfErr};
 ghost use Rattle.sb_frames.specs.Sending.{Sends, OnlyWhereFailed};
 ghost use Rattle.sb_query.specs.Printed.{row_line, printed_rows};
 
-use itoa::Buffer;
 use sb_codec::{Row, Rows};
 use sb_frames::{LastWrite, write_counted};
-use sb_types::{Fault, Value};
+use sb_printing::{add_number, add_value, add_word};
+use sb_types::Fault;
 use std::alloc::Global;
 use std::io::Write;
 
-/// Adds a word and the byte behind it.
-fn add_word(out: &mut Vec<u8>, word: &[u8], end: u8) -> Result<(), Fault>
-    ensures added { OnOk result (out.new.items ≡ out.old.items ++ (word.now ++ end ∷ [])) }
-    ensures fault { IfErr result (λ fault. fault ≡ Fault.NoMemory) }
-{
-    out.extend_from_slice(word)?;
-    out.push(end)?;
-    Ok(())
-}
-
-/// Adds a number in decimal digits and the byte behind it.
-fn add_number(out: &mut Vec<u8>, number: u64, end: u8) -> Result<(), Fault>
-    ensures added { OnOk result (out.new.items ≡ out.old.items ++ (decimal number ++ end ∷ [])) }
-    ensures fault { IfErr result (λ fault. fault ≡ Fault.NoMemory) }
-{
-    add_word(out, Buffer::new().format(number).as_bytes(), end)
-}
-
-/// Adds the two words of a value.
-fn add_value(out: &mut Vec<u8>, value: &Value) -> Result<(), Fault>
-    ensures added { OnOk result (out.new.items ≡ out.old.items ++ line_of value.now) }
-    ensures fault { IfErr result (λ fault. fault ≡ Fault.NoMemory) }
-{
-    match write!(out, "{value}") {
-        Ok(()) => Ok(()),
-        Err(_) => Err(Fault::NoMemory),
-    }
-}
-
-fn add_row(out: &mut Vec<u8>, row: &Row) -> Result<(), Fault>
+/// Adds the line `owner key version kind value` of a row. `NoMemory`, with a part of it added or nothing.
+pub fn add_row(out: &mut Vec<u8>, row: &Row) -> Result<(), Fault>
     ensures added { OnOk result (out.new.items ≡ out.old.items ++ row_line row.now) }
     ensures fault { IfErr result (λ fault. fault ≡ Fault.NoMemory) }
 {

@@ -2,8 +2,8 @@
 use Rattle.std.proofs.Common.{◌≡◌, ℕ, sym, subst}
 use Rattle.sb_directory.specs.Seats.{Seat}
 use Rattle.sb_directory.specs.Serving.{IsStill, IsLater}
-use Rattle.sb_directory.specs.Served.{still-same, still-on, later-same, later-on}
-use Rattle.sb_run.specs.declared.gate.Step.{Step}
+use Rattle.sb_directory.specs.Handling.{still-same, still-on, later-same, later-on}
+use Rattle.sb_run.specs.declared.gate.GatePoint.{GatePoint}
 use Rattle.sb_run.specs.Gates.{IsShut, AreShut}
 use Rattle.sb_run.specs.Pools.{IsKept}
 
@@ -11,7 +11,7 @@ pub kept_same : (shut : Type 0) (seat : Seat) → IsKept shut seat seat
 kept_same shut seat = record { later = later-same seat; still = λ _. still-same seat }
 
 -- a gate that is shut for every session is shut for the next
-pub kept_on : (lets : ℕ → Step → Type 0) (session : ℕ) (old mid new : Seat)
+pub kept_on : (lets : ℕ → GatePoint → Type 0) (session : ℕ) (old mid new : Seat)
     → IsKept (AreShut lets) old mid → IsKept (IsShut (lets session)) mid new → IsKept (AreShut lets) old new
 kept_on lets session old mid new first next = record {
   later = later-on old mid new first.later next.later;
@@ -19,7 +19,7 @@ kept_on lets session old mid new first next = record {
 }
 
 -- what a session behind a gate keeps of a seat
-pub kept_behind : {G : Type 0} (lets : G → ℕ → Step → Type 0) (gate held : G) (session named : ℕ) (old before after new : Seat)
+pub kept_behind : {G : Type 0} (lets : G → ℕ → GatePoint → Type 0) (gate held : G) (session named : ℕ) (old before after new : Seat)
     → held ≡ gate → named ≡ session → before ≡ old → new ≡ after
     → IsLater before after → (IsShut (lets held named) → IsStill before after) → IsKept (IsShut (lets gate session)) old new
 kept_behind lets gate held session named old before after new by of from to later still =

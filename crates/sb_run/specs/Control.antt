@@ -15,15 +15,15 @@ use Rattle.sb_frames.specs.Frames.{frame}
 use Rattle.sb_frames.specs.Sending.{Sends}
 use Rattle.sb_log.specs.Records.{Committed, Log}
 use Rattle.sb_views.specs.declared.event.Event.{Event}
-use Rattle.sb_views.specs.Pages.{Page}
-use Rattle.sb_views.specs.Stories.{node_after}
-use Rattle.sb_views.specs.Views.{IsView}
+use Rattle.sb_views.specs.NodeViews.{NodeView}
+use Rattle.sb_views.specs.Histories.{node_after}
+use Rattle.sb_views.specs.Publishing.{IsView}
 use Rattle.sb_query.specs.Pages.{asked_rows, IsLongestPage}
 use Rattle.sb_directory.specs.Seats.{Seat}
 use Rattle.sb_directory.specs.Serving.{IsLater}
-use Rattle.sb_run.specs.declared.owner.Stored.{Stored}
-use Rattle.sb_run.specs.Owners.{version_of, count_owed, count_shared, IsUndisputed, IsHandedIn, IsStored, IsRefused}
-use Rattle.sb_run.specs.Hearing.{Hears}
+use Rattle.sb_run.specs.declared.own_writes.Stored.{Stored}
+use Rattle.sb_run.specs.OwnWriting.{version_of, count_owed, count_shared, IsUndisputed, IsHandedIn, IsStored, IsRefused}
+use Rattle.sb_run.specs.OneMessage.{ReceivesOne}
 
 -- what the owner's `put` leaves with this answer
 pub record IsPut {L : Type 0} (seen : L → Log) (opening : Node) (old : L) (owed : Option Committed) (before : Seat) (key : List ℕ) (slot : Slot)
@@ -46,14 +46,14 @@ IsPutReply seen opening old owed before key slot new owes after reply =
 
 -- the longest page within the budget of what is asked of the node after these events; or there was no memory for it
 abbrev pub IsLookedUp : Node → ℕ → List Event → asking.Ask → Message → Type 0
-IsLookedUp opening budget told ask reply =
-    ((view : Page) × IsView (node_after opening told) view × ((page : Rows) × IsLongestPage budget (asked_rows ask view) page × (reply ≡ kinds.Rows page)))
+IsLookedUp opening budget seen ask reply =
+    ((view : NodeView) × IsView (node_after opening seen) view × ((page : Rows) × IsLongestPage budget (asked_rows ask view) page × (reply ≡ kinds.Rows page)))
     ⊎ (reply ≡ kinds.Refused (number_of NoMemory))
 
 -- the seat sees what it reads; or it may not enter
 abbrev pub IsPageReply : Node → ℕ → Seat → asking.Ask → Seat → Message → Type 0
 IsPageReply opening budget before ask after reply =
-    (IsPrefix before.told after.told × (after.known ≡ before.known) × (after.events ≡ before.events) × IsLookedUp opening budget after.told ask reply)
+    (IsPrefix before.seen after.seen × (after.last_call ≡ before.last_call) × (after.events ≡ before.events) × IsLookedUp opening budget after.seen ask reply)
     ⊎ ((after ≡ before) × (reply ≡ kinds.Refused (number_of Closed)))
 
 -- any other message is none that is answered here
@@ -74,9 +74,9 @@ Answers seen opening budget old owed before (kinds.Rows x) new owes after reply 
 Answers seen opening budget old owed before (kinds.Done x) new owes after reply = (new ≡ old) × (owes ≡ owed) × (after ≡ before) × IsUnknown reply
 Answers seen opening budget old owed before (kinds.Refused x) new owes after reply = (new ≡ old) × (owes ≡ owed) × (after ≡ before) × IsUnknown reply
 
--- where no request is heard all stays the same and nothing is put out; else one answer is put out, or its first bytes
+-- where no request is received all stays the same and nothing is written; else one answer is written, or its first bytes
 abbrev pub Controls : Type 0 → (Message → Message → Type 0) → Option (List ℕ) → Option (List ℕ) → Option (List ℕ) → Option (List ℕ)
     → ℕ → ℕ → Result (Unit {0}) Fault → Type 0
 Controls same answers from to old new before left result =
-    ((fault : Fault) × Hears from to before left (Err fault) × (result ≡ Err fault) × same × Keeps old new)
-    ⊎ ((request : Message) × Hears from to before left (Ok request) × ((reply : Message) × answers request reply × Sends old new (frame reply) result))
+    ((fault : Fault) × ReceivesOne from to before left (Err fault) × (result ≡ Err fault) × same × Keeps old new)
+    ⊎ ((request : Message) × ReceivesOne from to before left (Ok request) × ((reply : Message) × answers request reply × Sends old new (frame reply) result))

@@ -2,36 +2,36 @@
 use Rattle.std.proofs.Common.{◌≡◌, ◌⊎◌, ℕ, refl, false, Ok, Err}
 use Rattle.sb_types.specs.declared.fault.Fault.TheVariants.{TurnsSpent}
 use Rattle.sb_session.specs.Handlers.{Act, tells, gives, applies, may_enter}
-use Rattle.sb_run.specs.declared.gate.Step.{Step}
-use Rattle.sb_run.specs.declared.gate.Step.TheVariants.{BeforeApply, AfterAnswer}
+use Rattle.sb_run.specs.declared.gate.GatePoint.{GatePoint}
+use Rattle.sb_run.specs.declared.gate.GatePoint.TheVariants.{BeforeApply, AfterAnswer}
 
 -- the gate lets the session apply no delta
-abbrev pub IsShut : (Step → Type 0) → Type 0
+abbrev pub IsShut : (GatePoint → Type 0) → Type 0
 IsShut lets = lets BeforeApply → ⊥
 
 -- it lets no session apply a delta
-abbrev pub AreShut : (ℕ → Step → Type 0) → Type 0
+abbrev pub AreShut : (ℕ → GatePoint → Type 0) → Type 0
 AreShut lets = (session : ℕ) → IsShut (lets session)
 
 -- it lets the session apply this delta, or go on after this answer
-abbrev pub IsLet : (Step → Type 0) → Act → Type 0
+abbrev pub IsLet : (GatePoint → Type 0) → Act → Type 0
 IsLet lets (tells from want answer) = Unit {0}
 IsLet lets (gives digest (Ok blocks)) = lets AfterAnswer
 IsLet lets (gives digest (Err fault)) = Unit {0}
 IsLet lets (applies blocks answer) = lets BeforeApply
 
 -- it turned the session away behind an answer, or before this delta was applied, and so no more turns are granted
-abbrev pub IsTurned : (Step → Type 0) → Act → Type 0
+abbrev pub IsTurned : (GatePoint → Type 0) → Act → Type 0
 IsTurned turns (tells from want answer) = ⊥
 IsTurned turns (gives digest answer) = (answer ≡ Err TurnsSpent) × turns AfterAnswer
 IsTurned turns (applies blocks answer) = (answer ≡ Err TurnsSpent) × turns BeforeApply
 
 -- a step of the handler itself, where the gate lets it be; or the gate turns the session away, and nothing is entered
-abbrev pub GatedStep : {H : Type 0} → (Step → Type 0) → (Step → Type 0) → (H → Act → H → Type 0) → (H → H → Type 0) → (H → H → Type 0) → H → Act → H → Type 0
+abbrev pub GatedStep : {H : Type 0} → (GatePoint → Type 0) → (GatePoint → Type 0) → (H → Act → H → Type 0) → (H → H → Type 0) → (H → H → Type 0) → H → Act → H → Type 0
 GatedStep lets turns step stays grows old act new = (IsLet lets act × step old act new) ⊎ (IsTurned turns act × (stays old new × grows old new))
 
 -- behind a gate that lets the session apply no delta nothing is entered
-pub let-enters : (lets : Step → Type 0) (act : Act) → IsLet lets act → IsShut lets → may_enter act ≡ false
+pub let-enters : (lets : GatePoint → Type 0) (act : Act) → IsLet lets act → IsShut lets → may_enter act ≡ false
 let-enters lets (tells from want answer) is shut = refl
 let-enters lets (gives digest answer) is shut = refl
 let-enters lets (applies blocks (Ok ends)) is shut = absurd (shut is)

@@ -1,5 +1,5 @@
-pub mod Owners
-pub mod Hearing
+pub mod OwnWriting
+pub mod OneMessage
 pub mod Control
 pub mod Gates
 pub mod Hellos

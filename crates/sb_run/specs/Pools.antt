@@ -3,7 +3,7 @@ use Rattle.std.specs.Prelude.{◌≡◌, ℕ, ◌<◌, List, length, slice_index
 use Rattle.sb_directory.specs.Seats.{Seat}
 use Rattle.sb_directory.specs.Serving.{IsStill, IsLater}
 
--- the seat was told and knows no less, and made no fewer events; where the gate is shut it made none, and was told nothing more
+-- what the seat has seen and its last call only grow, and so does the number of events that it made; where the gate is shut it made none, and has seen no more
 pub record IsKept (shut : Type 0) (old new : Seat) : Type 0 where
   pub later : IsLater old new
   pub still : shut → IsStill old new

@@ -1,5 +1,5 @@
--- With what a node opens, and why it does not run.
-use Rattle.std.specs.Prelude.{◌≡◌, ◌⊎◌, ◌+◌, ℕ, true, nat_eq, nat_lt, if◌then◌else◌, Option, Some, None, Err}
+-- With what a node opens, what it starts from, and why it does not run.
+use Rattle.std.specs.Prelude.{◌≡◌, ◌⊎◌, ◌+◌, ◌≤◌, ℕ, true, nat_eq, nat_lt, if◌then◌else◌, Option, Some, None, Err}
 use Rattle.std.specs.Cmp.Lexicographic.{pointwise}
 use Rattle.sb_types.specs.declared.fault.Fault.{Fault}
 use Rattle.sb_types.specs.declared.fault.Fault.TheVariants.{NoMemory, BadSetting, ReadFailed, StoreFailed, WrongCluster}
@@ -7,6 +7,7 @@ use Rattle.sb_types.specs.Records.{Settings, Table}
 use Rattle.sb_holdings.specs.Nodes.{Node, opened_node}
 use Rattle.sb_log.specs.Records.{Log}
 use Rattle.sb_log.specs.Puts.{Loads}
+use Rattle.sb_node.specs.Cores.{Core}
 use Rattle.sb_run.specs.declared.node.OnLogFault.{OnLogFault}
 use Rattle.sb_run.specs.declared.node.OnLogFault.TheVariants.{Exit}
 
@@ -14,9 +15,18 @@ use Rattle.sb_run.specs.declared.node.OnLogFault.TheVariants.{Exit}
 abbrev pub IsOpenedFrom : Log → Node → Type 0
 IsOpenedFrom log node = (table : Table) × (node ≡ opened_node log.owner table) × (log.is_clean ≡ true → table ≡ log.content)
 
+-- the tag has this node as it was opened and its settings, and as many seats, and parts of the ledger, as these ask for
+abbrev pub IsTagOf : Node → Settings → ℕ → ℕ → Core → Type 0
+IsTagOf opening settings seats parts core =
+    (opening ≡ core.node) × (settings ≡ core.settings) × (core.settings.seats ≡ seats) × (core.settings.seats ≡ parts)
+
+-- the node was opened from its log, and it has a seat for each worker and two more
+abbrev pub IsStarted : Log → Core → Type 0
+IsStarted log core = IsOpenedFrom log core.node × (core.settings.workers + 2 ≤ core.settings.seats)
+
 -- why a node does not run, before its log is read: the first reason that holds
-abbrev pub refusal : Settings → Log → Option Fault
-refusal settings log =
+abbrev pub start_refusal : Settings → Log → Option Fault
+start_refusal settings log =
     if nat_lt settings.seats (settings.workers + 2) then Some BadSetting
     else (if pointwise nat_eq log.cluster settings.cluster then None else Some WrongCluster)
 
@@ -31,4 +41,4 @@ IsStartFault None log on_log_fault fault =
     ((new : Log) × Loads log (Err fault) new) ⊎ ((log.is_open ≡ true) × (IsEndFault on_log_fault fault ⊎ (fault ≡ ReadFailed)))
 
 abbrev pub IsRunningFault : Settings → Log → OnLogFault → Fault → Type 0
-IsRunningFault settings log on_log_fault fault = IsStartFault (refusal settings log) log on_log_fault fault
+IsRunningFault settings log on_log_fault fault = IsStartFault (start_refusal settings log) log on_log_fault fault

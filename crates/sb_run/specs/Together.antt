@@ -1,4 +1,4 @@
--- Runs of nodes that tell each other, and what happens to them all, in one order.
+-- Runs of nodes that give each other deltas, and what happens to them all, in one order.
 use Rattle.std.specs.Prelude.{◌≡◌, ℕ, ◌==◌, if◌then◌else◌, List, [], ◌∷◌, ◌++◌, Ok}
 use Rattle.std.specs.List.{flat_map}
 use mathlib.Core.List.{IsPrefix}
@@ -13,33 +13,33 @@ use Rattle.sb_views.specs.declared.event.Event.TheVariants.{TookOwn, Applied}
 use Rattle.sb_directory.specs.Serving.{AnswersAfter}
 
 -- an event of one of the runs, each of which has a number
-pub record Happened : Type 0 where
+pub record RunEvent : Type 0 where
   pub run : ℕ
   pub event : Event
 
 -- the event, if it is of this run
-abbrev pub in_run : ℕ → Happened → List Event
+abbrev pub in_run : ℕ → RunEvent → List Event
 in_run run h = if h.run == run then h.event ∷ [] else []
 
--- all that happened in this run: its story
-abbrev pub story_of : ℕ → List Happened → List Event
-story_of run all = flat_map (in_run run) all
+-- all that happened in this run: its history
+abbrev pub history_of : ℕ → List RunEvent → List Event
+history_of run all = flat_map (in_run run) all
 
 -- each run opened with what is true of the writes, as it does with what its log holds
 abbrev pub AreOpened : (List ℕ → List Write) → (ℕ → Node) → Type 0
 AreOpened writes opening = (run : ℕ) → IsNode (opening run) × NodeHolds writes (opening run)
 
 -- when all this had happened, some run could give this delta in answer to some digest
-abbrev pub CanGive : (ℕ → Node) → (ℕ → Settings) → List Happened → List Block → Type 0
+abbrev pub CanGive : (ℕ → Node) → (ℕ → Settings) → List RunEvent → List Block → Type 0
 CanGive opening settings all blocks =
-    (run : ℕ) × (digest : Digest) × AnswersAfter (opening run) (settings run) (story_of run all) (gives digest (Ok blocks))
+    (run : ℕ) × (digest : Digest) × AnswersAfter (opening run) (settings run) (history_of run all) (gives digest (Ok blocks))
 
 -- after all this a run may take a write of its owner, and a delta that some run could give by then: late, again, in any order, or never
-abbrev pub MayHappen : (List ℕ → List Write) → (ℕ → Node) → (ℕ → Settings) → List Happened → ℕ → Event → Type 0
+abbrev pub MayHappen : (List ℕ → List Write) → (ℕ → Node) → (ℕ → Settings) → List RunEvent → ℕ → Event → Type 0
 MayHappen writes opening settings all run (TookOwn e) = Written (writes (opening run).held.me) e
-MayHappen writes opening settings all run (Applied blocks ends) = (earlier : List Happened) × IsPrefix earlier all × CanGive opening settings earlier blocks
+MayHappen writes opening settings all run (Applied blocks ends) = (earlier : List RunEvent) × IsPrefix earlier all × CanGive opening settings earlier blocks
 
 -- each of these events came when it could
-abbrev pub HappenInTurn : (List ℕ → List Write) → (ℕ → Node) → (ℕ → Settings) → List Happened → Type 0
+abbrev pub HappenInTurn : (List ℕ → List Write) → (ℕ → Node) → (ℕ → Settings) → List RunEvent → Type 0
 HappenInTurn writes opening settings all =
-    (earlier : List Happened) (h : Happened) (later : List Happened) → earlier ++ h ∷ later ≡ all → MayHappen writes opening settings earlier h.run h.event
+    (earlier : List RunEvent) (h : RunEvent) (later : List RunEvent) → earlier ++ h ∷ later ≡ all → MayHappen writes opening settings earlier h.run h.event

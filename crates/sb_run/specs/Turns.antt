@@ -28,7 +28,7 @@ was_refused Done = false
 was_refused Early = false
 was_refused (Failed number) = is_between 22 25 number
 
--- the turn of one of so many: behind the last comes the first
+-- whose turn it is of so many: behind the last comes the first
 abbrev pub turn_of : ℕ → ℕ → ℕ
 turn_of count turn = if nat_lt turn count then turn else 0
 

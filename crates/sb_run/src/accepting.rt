@@ -1,32 +1,35 @@
-//! The connections that come to a socket of the node.
+//! Accepts the connections at a socket of the node.
 
 use crate::counts::Counts;
-use crate::ending::Ending;
+use crate::ending::EndFlag;
 use crate::pool::Source;
-use crate::sockets::{Door, limit};
+use crate::sockets::{BoundSocket, limit};
 use sb_types::Fault;
 use std::os::unix::net::UnixStream;
 use std::sync::atomic::{AtomicU64, Ordering};
 use std::time::{Clock, Duration};
 use std::{io, thread};
 
-/// How long an accept that failed waits before the next, in milliseconds: out of descriptors, each fails at once.
-const RESPITE: u64 = 20;
+/// How long the next accept waits after one that failed, in milliseconds: without free descriptors each fails at once.
+const ACCEPT_PAUSE: u64 = 20;
 
-/// The connections that come to a socket, until the node is to end.
+/// Accepts connections at a socket, until the node is to end.
 #[derive(Drop)]
 pub(crate) struct Acceptor<'a, R> {
     rt: &'a R,
-    door: &'a Door<'a>,
-    ending: &'a Ending,
+    socket: &'a BoundSocket<'a>,
+    ending: &'a EndFlag,
     idle: u64,
     accepted: AtomicU64,
-    /// What counts the connections too, where they are those of peers.
+    /// Counts the connections too, where they are those of peers.
     counts: Option<&'a Counts>,
 }
 
-/// A connection that was accepted, as a reader and a writer, with a limit on how long it may be idle.
-fn both_ways(accepted: io::Result<UnixStream>, idle: u64) -> io::Result<(UnixStream, UnixStream)> {
+/// A connection that was accepted, as a reader and a writer. Each fails once it was idle for so many milliseconds.
+fn reader_and_writer(
+    accepted: io::Result<UnixStream>,
+    idle: u64,
+) -> io::Result<(UnixStream, UnixStream)> {
     let stream = accepted?;
     limit(&stream, idle)?;
     let other = stream.try_clone()?;
@@ -34,18 +37,18 @@ fn both_ways(accepted: io::Result<UnixStream>, idle: u64) -> io::Result<(UnixStr
 }
 
 impl<'a, R> Acceptor<'a, R> {
-    /// What accepts at a socket. A connection that is idle for so many milliseconds fails; 0 for no limit. Those of peers are
-    /// counted here too.
+    /// Accepts at a socket. A connection fails once it was idle for so many milliseconds; 0 for no limit. `counts` is there
+    /// where the connections are those of peers.
     pub(crate) fn new(
         rt: &'a R,
-        door: &'a Door<'a>,
-        ending: &'a Ending,
+        socket: &'a BoundSocket<'a>,
+        ending: &'a EndFlag,
         idle: u64,
         counts: Option<&'a Counts>,
     ) -> Acceptor<'a, R> {
         Acceptor {
             rt,
-            door,
+            socket,
             ending,
             idle,
             accepted: AtomicU64::new(0),
@@ -60,11 +63,11 @@ impl<R: Clock> Source for Acceptor<'_, R> {
     type Out = UnixStream;
 
     fn next(&self) -> Option<Result<(u64, UnixStream, UnixStream), Fault>> {
-        let accepted = self.door.accept();
-        if self.ending.has_come() {
+        let accepted = self.socket.accept();
+        if self.ending.is_raised() {
             return None;
         }
-        match both_ways(accepted, self.idle) {
+        match reader_and_writer(accepted, self.idle) {
             Ok((input, output)) => {
                 let before = self.accepted.fetch_add(1, Ordering::SeqCst);
                 if let Some(counts) = self.counts {
@@ -73,7 +76,7 @@ impl<R: Clock> Source for Acceptor<'_, R> {
                 Some(Ok((before.saturating_add(1), input, output)))
             }
             Err(_) => {
-                thread::sleep(self.rt, Duration::from_millis(RESPITE));
+                thread::sleep(self.rt, Duration::from_millis(ACCEPT_PAUSE));
                 Some(Err(Fault::ReadFailed))
             }
         }

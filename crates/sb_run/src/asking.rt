@@ -1,9 +1,9 @@
 //! The asking side of a control socket.
 ghost use Rattle.std.specs.Prelude.{◌≡◌, ◌+◌, ℕ};
 ghost use Rattle.sb_frames.specs.Sending.{OnlyWhereFailed};
-ghost use Rattle.sb_run.specs.Hearing.{Asks};
+ghost use Rattle.sb_run.specs.OneMessage.{Asks};
 
-use crate::hearing::hear;
+use crate::one_message::receive_one;
 use sb_codec::Message;
 use sb_frames::{LastWrite, Steps, send_telling};
 use sb_types::Fault;
@@ -11,10 +11,11 @@ use std::alloc::Global;
 use std::io::{Read, Write};
 use std::sync::ledger::Ledger;
 
-/// Sends one request and gives its answer, with at most `max_reads` reads, and tells what the last write of the call
-/// answered. `WriteFailed`, with how many bytes of the
-/// request are out; `BadMark`, `BadVersion`, `BadLength`, `UnknownKind` or `Malformed` of the answer; `ReadFailed`;
-/// `Truncated` where no whole answer comes; `TurnsSpent` where one more read is needed; `NoMemory`.
+/// Sends one request and gives the message that answers it, a `Refused` as any other, with at most `max_reads` reads; and
+/// says what the last write to the stream answered.
+/// `WriteFailed`, with how many bytes of the request are out; `BadMark`, `BadVersion`, `BadLength`, `UnknownKind` or
+/// `Malformed` of the answer; `ReadFailed`; `Truncated` where no whole answer comes; `TurnsSpent` where one more read is
+/// needed; `NoMemory`.
 pub fn ask_control<R: Read, W: Write, K: Ledger>(
     alloc: Global,
     reader: &mut R,
@@ -31,7 +32,7 @@ pub fn ask_control<R: Read, W: Write, K: Ledger>(
 {
     let (sent, last) = send_telling(alloc, writer, request);
     match sent {
-        Ok(()) => (hear(alloc, reader, max_reads, steps), last),
+        Ok(()) => (receive_one(alloc, reader, max_reads, steps), last),
         Err(fault) => (Err(fault), last),
     }
 }

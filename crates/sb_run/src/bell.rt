@@ -1,7 +1,7 @@
 //! The bell that wakes the thread that dials.
 ghost use Rattle.std.specs.Prelude.{◌≡◌, IfErr};
 
-use crate::gate::{Gate, Step};
+use crate::gate::{Gate, GatePoint};
 use crossbeam_utils::sync::{Parker, Unparker};
 use sb_types::{Delta, Fault};
 use std::alloc::Global;
@@ -18,7 +18,7 @@ pub(crate) struct Bell {
 }
 
 impl Bell {
-    /// A bell, and where the thread waits that it wakes. `NoMemory`.
+    /// A bell, and the place where the thread waits that it wakes. `NoMemory`.
     pub(crate) fn new(alloc: Global) -> Result<(Bell, Parker), Fault>
         ensures { IfErr result (λ fault. fault ≡ Fault.NoMemory) }
     {
@@ -32,7 +32,7 @@ impl Bell {
         Ok((bell, parker))
     }
 
-    /// Tells of news, of an owner of whom nothing was held or of another.
+    /// Says that there is news, and whether it is of an owner of whom nothing was held.
     pub(crate) fn ring(&self, is_new_owner: bool) {
         if is_new_owner {
             self.has_new_owner.store(true, Ordering::SeqCst);
@@ -58,12 +58,12 @@ impl Bell {
 }
 
 impl Gate for Bell {
-    ghost lets = { λ gate session step. Unit {0} };
+    ghost lets = { λ gate session point. Unit {0} };
 
     // It turns nobody away.
-    ghost turns = { λ gate session step. ⊥ };
+    ghost turns = { λ gate session point. ⊥ };
 
-    fn pass(&self, _session: u64, _step: Step) -> bool {
+    fn pass(&self, _session: u64, _point: GatePoint) -> bool {
         true
     }
 

@@ -7,10 +7,11 @@ ghost use Rattle.sb_codec.specs.declared.message.Message.TheVariants as kinds;
 ghost use Rattle.sb_log.specs.Puts.{IsSettled};
 ghost use Rattle.sb_run.specs.Control.{IsPutReply, IsPageReply, IsLookedUp, Answers, Controls};
 
-use crate::hearing::hear;
-use crate::owner::Owner;
+use crate::one_message::receive_one;
+use crate::own_writes::OwnWrites;
+use crate::serving::Serving;
 use sb_codec::{Ask, Done, Message, Refused};
-use sb_directory::{Configured, Directory, EnteredSeat, ReaderSeat};
+use sb_directory::{DirectoryTag, EnteredSeat, ReaderSeat};
 use sb_frames::{LastWrite, Steps, send_telling};
 use sb_log::WriteLog;
 use sb_query::answer;
@@ -18,7 +19,7 @@ use sb_types::{
     Fault, KIND_BYE, KIND_DELTA, KIND_DIGEST, KIND_DONE, KIND_HELLO, KIND_REFUSED, KIND_ROWS, Key,
     Settings, Slot,
 };
-use sb_views::Site;
+use sb_views::NodeTag;
 use std::alloc::Global;
 use std::io::{Read, Write};
 use std::sync::Wait;
@@ -26,7 +27,7 @@ use std::sync::ledger::Ledger;
 
 /// The answer that names a fault.
 #[tactic(auto, using(crate::proofs::Numbers::are_numbers))]
-fn refusal(fault: Fault) -> Message
+fn refused_by(fault: Fault) -> Message
     ensures { result ≡ kinds.Refused (number_of fault) }
 {
     let Ok(refused) = Refused::new(fault.number()) else {
@@ -47,23 +48,23 @@ fn done(version: u64) -> Message
 }
 
 /// The page that answers an Ask, or its refusal.
-fn look_up<S: Site>(
+fn look_up<S: NodeTag>(
     alloc: Global,
     settings: &Settings,
     entered: &EnteredSeat<S>,
     ask: &Ask,
 ) -> Message
-    ensures { IsLookedUp S.opening settings.now.budget entered.now.told ask.now result }
+    ensures { IsLookedUp S.opening settings.now.budget entered.now.seen ask.now result }
 {
     let snapshot = entered.snapshot();
     match answer(alloc, &snapshot, ask, settings.budget()) {
         Ok(page) => Message::Rows(page),
-        Err(fault) => refusal(fault),
+        Err(fault) => refused_by(fault),
     }
 }
 
 /// Answers an Ask by a page of what the seat reads.
-fn reply_to_ask<S: Site>(
+fn reply_to_ask<S: NodeTag>(
     alloc: Global,
     settings: &Settings,
     seat: ReaderSeat<S>,
@@ -76,98 +77,95 @@ fn reply_to_ask<S: Site>(
             let reply = look_up(alloc, settings, &entered, ask);
             (entered.leave(), reply)
         }
-        Err(seat) => (seat, refusal(Fault::Closed)),
+        Err(seat) => (seat, refused_by(Fault::Closed)),
     }
 }
 
-/// Answers a Put: the log takes the write before the directory is told of it.
-fn reply_to_put<L: WriteLog, S: Configured, H: Wait + Drop, Q: Wait>(
-    rt: &Q,
-    directory: &Directory<S, H>,
-    owner: &mut Owner<L>,
+/// Answers a Put: the log takes the write before the directory does.
+fn reply_to_put<L: WriteLog, S: DirectoryTag, H: Wait + Drop, Q: Wait>(
+    serving: &Serving<S, H, Q>,
+    writes: &mut OwnWrites<L>,
     seat: &mut ReaderSeat<S>,
     key: &Key,
     slot: &Slot,
 ) -> Message
-    ensures put { IsPutReply L.seen S.opening owner.old.log owner.old.owed seat.old key.now slot.now owner.new.log owner.new.owed seat.new result }
-    ensures settled { IsSettled (L.seen owner.old.log) (L.leaves owner.old.log) → IsSettled (L.seen owner.new.log) (L.leaves owner.new.log) }
+    ensures put { IsPutReply L.seen S.opening writes.old.log writes.old.owed seat.old key.now slot.now writes.new.log writes.new.owed seat.new result }
+    ensures settled { IsSettled (L.seen writes.old.log) (L.leaves writes.old.log) → IsSettled (L.seen writes.new.log) (L.leaves writes.new.log) }
 {
-    match owner.put(rt, directory, seat, key, slot) {
+    match writes.put(serving.rt, serving.directory, seat, key, slot) {
         Ok(stored) => done(stored.version()),
-        Err(met) => refusal(met),
+        Err(met) => refused_by(met),
     }
 }
 
 /// The answer to a request.
-fn reply_to<L: WriteLog, S: Configured, H: Wait + Drop, Q: Wait>(
-    rt: &Q,
-    alloc: Global,
-    directory: &Directory<S, H>,
-    owner: &mut Owner<L>,
+fn reply_to<L: WriteLog, S: DirectoryTag, H: Wait + Drop, Q: Wait>(
+    serving: &Serving<S, H, Q>,
+    writes: &mut OwnWrites<L>,
     seat: ReaderSeat<S>,
     request: &Message,
 ) -> (ReaderSeat<S>, Message)
-    ensures answers { Answers L.seen S.opening S.settings.budget owner.old.log owner.old.owed seat request.now
-        owner.new.log owner.new.owed result.0 result.1 }
-    ensures settled { IsSettled (L.seen owner.old.log) (L.leaves owner.old.log) → IsSettled (L.seen owner.new.log) (L.leaves owner.new.log) }
+    ensures answers { Answers L.seen S.opening S.settings.budget writes.old.log writes.old.owed seat request.now
+        writes.new.log writes.new.owed result.0 result.1 }
+    ensures settled { IsSettled (L.seen writes.old.log) (L.leaves writes.old.log) → IsSettled (L.seen writes.new.log) (L.leaves writes.new.log) }
 {
     match request {
-        Message::Ask(ask) => reply_to_ask(alloc, directory.settings(), seat, ask),
+        Message::Ask(ask) => {
+            reply_to_ask(serving.alloc, serving.directory.settings(), seat, ask)
+        }
         Message::Put(write) => {
             let mut seat = seat;
-            let reply = reply_to_put(rt, directory, owner, &mut seat, &write.key, &write.slot);
+            let reply = reply_to_put(serving, writes, &mut seat, &write.key, &write.slot);
             (seat, reply)
         }
-        Message::Hello(_) => (seat, refusal(Fault::UnknownKind(KIND_HELLO))),
-        Message::Digest(_) => (seat, refusal(Fault::UnknownKind(KIND_DIGEST))),
-        Message::Delta(_) => (seat, refusal(Fault::UnknownKind(KIND_DELTA))),
-        Message::Bye(_) => (seat, refusal(Fault::UnknownKind(KIND_BYE))),
-        Message::Rows(_) => (seat, refusal(Fault::UnknownKind(KIND_ROWS))),
-        Message::Done(_) => (seat, refusal(Fault::UnknownKind(KIND_DONE))),
-        Message::Refused(_) => (seat, refusal(Fault::UnknownKind(KIND_REFUSED))),
+        Message::Hello(_) => (seat, refused_by(Fault::UnknownKind(KIND_HELLO))),
+        Message::Digest(_) => (seat, refused_by(Fault::UnknownKind(KIND_DIGEST))),
+        Message::Delta(_) => (seat, refused_by(Fault::UnknownKind(KIND_DELTA))),
+        Message::Bye(_) => (seat, refused_by(Fault::UnknownKind(KIND_BYE))),
+        Message::Rows(_) => (seat, refused_by(Fault::UnknownKind(KIND_ROWS))),
+        Message::Done(_) => (seat, refused_by(Fault::UnknownKind(KIND_DONE))),
+        Message::Refused(_) => (seat, refused_by(Fault::UnknownKind(KIND_REFUSED))),
     }
 }
 
 /// Reads one request, with at most `max_reads` reads, and writes one answer: to an Ask its page, to a Put the version
-/// under which the log took the write in this call, and to either the fault that it met; to any other message the
-/// fault `UnknownKind`. The seat comes back, and it tells what the last write of the call answered.
+/// under which the log took the write in this call, also where the directory refused it, and to either the fault that it
+/// met; to any other message the fault `UnknownKind`. It gives the seat back, and says what the last write to the stream
+/// answered.
 ///
 /// `BadMark`, `BadVersion`, `BadLength`, `UnknownKind` or `Malformed` of the request; `ReadFailed`; `Truncated` at an
 /// end before or inside it; `TurnsSpent` where one more read is needed; `NoMemory`. Each of these is before anything
-/// is answered, and leaves all as it was. Then `WriteFailed`, with how many bytes of the answer are out, and
-/// `NoMemory`, with none: what the request did stands.
+/// is answered, and leaves all as it was. `WriteFailed`, with how many bytes of the answer are out, and a `NoMemory` of
+/// sending it, with none, come after the request was done, and that stands: so after `NoMemory` a Put may have been kept.
 pub fn serve_control<
     R: Read,
     W: Write,
     L: WriteLog,
-    S: Configured,
+    S: DirectoryTag,
     H: Wait + Drop,
     Q: Wait,
     K: Ledger,
 >(
-    rt: &Q,
-    alloc: Global,
+    serving: &Serving<S, H, Q>,
     reader: &mut R,
     writer: &mut W,
-    directory: &Directory<S, H>,
-    owner: &mut Owner<L>,
+    writes: &mut OwnWrites<L>,
     seat: ReaderSeat<S>,
-    max_reads: u64,
     steps: &mut Steps<K>,
 ) -> (ReaderSeat<S>, Result<(), Fault>, LastWrite)
     ensures controls { (left : ℕ)
-        × Controls ((owner.new.log ≡ owner.old.log) × (owner.new.owed ≡ owner.old.owed) × (result.0 ≡ seat))
-        (λ request reply. Answers L.seen S.opening S.settings.budget owner.old.log owner.old.owed seat request owner.new.log owner.new.owed result.0 reply)
-        (R.remaining reader.old) (R.remaining reader.new) (W.contents writer.old) (W.contents writer.new) max_reads left result.1
-        × (steps.new + left ≡ steps.old + max_reads) }
+        × Controls ((writes.new.log ≡ writes.old.log) × (writes.new.owed ≡ writes.old.owed) × (result.0 ≡ seat))
+        (λ request reply. Answers L.seen S.opening S.settings.budget writes.old.log writes.old.owed seat request writes.new.log writes.new.owed result.0 reply)
+        (R.remaining reader.old) (R.remaining reader.new) (W.contents writer.old) (W.contents writer.new) serving.now.max_reads left result.1
+        × (steps.new + left ≡ steps.old + serving.now.max_reads) }
     // A write that did not fail, or that was made before the call, is no reason to stop.
     ensures failed { OnlyWhereFailed result.1 result.2 }
-    ensures settled { IsSettled (L.seen owner.old.log) (L.leaves owner.old.log) → IsSettled (L.seen owner.new.log) (L.leaves owner.new.log) }
+    ensures settled { IsSettled (L.seen writes.old.log) (L.leaves writes.old.log) → IsSettled (L.seen writes.new.log) (L.leaves writes.new.log) }
 {
-    match hear(alloc, reader, max_reads, steps) {
+    match receive_one(serving.alloc, reader, serving.max_reads, steps) {
         Ok(request) => {
-            let (seat, reply) = reply_to(rt, alloc, directory, owner, seat, &request);
-            let (sent, last) = send_telling(alloc, writer, &reply);
+            let (seat, reply) = reply_to(serving, writes, seat, &request);
+            let (sent, last) = send_telling(serving.alloc, writer, &reply);
             (seat, sent, last)
         }
         Err(fault) => (seat, Err(fault), LastWrite::new()),

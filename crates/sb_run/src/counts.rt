@@ -10,7 +10,7 @@ pub(crate) struct Counts {
 }
 
 impl Counts {
-    /// Nothing happened yet.
+    /// Nothing is counted yet.
     pub(crate) fn new() -> Counts {
         Counts {
             sessions: AtomicU64::new(0),

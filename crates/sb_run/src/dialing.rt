@@ -3,12 +3,12 @@ ghost use Rattle.std.specs.Prelude.{◌≡◌, ◌+◌, ◌<◌, ◌≤◌};
 ghost use Rattle.sb_directory.specs.Serving.{IsStill, IsLater};
 ghost use Rattle.sb_run.specs.Hellos.{Greets};
 
-use crate::gate::Gated;
+use crate::context::NodeContext;
+use crate::gate::GatedHandler;
 use crate::greeting::session_of;
-use crate::rounds::Paced;
-use crate::shared::Shared;
+use crate::rounds::RoundsTag;
 use crate::sockets::{connect, limit};
-use sb_directory::{ReaderSeat, Served};
+use sb_directory::{ReaderSeat, SeatHandler};
 use sb_frames::Steps;
 use sb_session::{Ended, dial};
 use sb_types::{Fault, OWNERS_MOST};
@@ -20,8 +20,8 @@ use std::sync::Wait;
 use std::sync::ledger::{Blank, Ledger};
 
 /// How many digests it takes to tell of all owners that the node holds, at least 1; none where memory is wanting.
-pub(crate) fn digests_of_all<S: Paced, H: Wait + Drop, Q: Wait>(
-    node: &Shared<S, H, Q>,
+pub(crate) fn digests_of_all<S: RoundsTag, H: Wait + Drop, Q: Wait>(
+    node: &NodeContext<S, H, Q>,
     seat: &mut ReaderSeat<S>,
 ) -> Option<u64>
     ensures { IsStill seat.old seat.new }
@@ -42,8 +42,8 @@ pub(crate) fn digests_of_all<S: Paced, H: Wait + Drop, Q: Wait>(
 
 /// A session over a connection, of so many exchanges of digests and deltas, and how it ended. It makes at most the node's
 /// `max_reads` reads. What it enters is news.
-fn talk_within<S: Paced, H: Wait + Drop, Q: Wait, I: Read, O: Write, K: Ledger>(
-    node: &Shared<S, H, Q>,
+fn talk<S: RoundsTag, H: Wait + Drop, Q: Wait, I: Read, O: Write, K: Ledger>(
+    node: &NodeContext<S, H, Q>,
     input: &mut I,
     output: &mut O,
     seat: ReaderSeat<S>,
@@ -54,8 +54,8 @@ fn talk_within<S: Paced, H: Wait + Drop, Q: Wait, I: Read, O: Write, K: Ledger>(
     ensures greets { Greets S.settings.cluster S.opening.held.me (O.contents output.old) (O.contents output.new) }
     ensures reads { steps.new ≤ steps.old + node.now.pace.max_reads }
 {
-    let served = Served::new(node.rt, node.directory, seat);
-    let mut handler = Gated::new(served, node.bell, 0);
+    let served = SeatHandler::new(node.rt, node.directory, seat);
+    let mut handler = GatedHandler::new(served, node.bell, 0);
     let (ended, _) = dial(
         node.alloc,
         input,
@@ -69,9 +69,10 @@ fn talk_within<S: Paced, H: Wait + Drop, Q: Wait, I: Read, O: Write, K: Ledger>(
     (handler.into_inner().into_seat(), ended)
 }
 
-/// The same, where nothing was read before.
-fn talk<S: Paced, H: Wait + Drop, Q: Wait, K: Ledger>(
-    node: &Shared<S, H, Q>,
+/// A session over the connection to a peer, which may be idle for the node's `dial_idle`, and how it ended: by `ReadFailed`
+/// also where that limit can't be set. Its reads are the first of a ledger.
+fn dial_stream<S: RoundsTag, H: Wait + Drop, Q: Wait, K: Ledger>(
+    node: &NodeContext<S, H, Q>,
     stream: UnixStream,
     seat: ReaderSeat<S>,
     exchanges: u64,
@@ -82,14 +83,17 @@ fn talk<S: Paced, H: Wait + Drop, Q: Wait, K: Ledger>(
     requires some { 0 < blank.parts }
     ensures { IsLater seat result.0 }
 {
+    if limit(&stream, node.pace.dial_idle).is_err() {
+        return (seat, Err(Fault::ReadFailed));
+    }
     let mut steps = Steps::<K>::new(blank);
     let (mut input, mut output) = (&stream, &stream);
-    talk_within(node, &mut input, &mut output, seat, exchanges, &mut steps)
+    talk(node, &mut input, &mut output, seat, exchanges, &mut steps)
 }
 
 /// Dials the peer at a path, for so many exchanges, and how that ended: by `ReadFailed` also where the peer can't be reached.
-pub(crate) fn dial_peer<S: Paced, H: Wait + Drop, Q: Wait + Net>(
-    node: &Shared<S, H, Q>,
+pub(crate) fn dial_peer<S: RoundsTag, H: Wait + Drop, Q: Wait + Net>(
+    node: &NodeContext<S, H, Q>,
     path: &str,
     seat: ReaderSeat<S>,
     exchanges: u64,
@@ -99,8 +103,5 @@ pub(crate) fn dial_peer<S: Paced, H: Wait + Drop, Q: Wait + Net>(
     let Ok(stream) = connect(node.rt, path) else {
         return (seat, Err(Fault::ReadFailed));
     };
-    if limit(&stream, node.pace.dial_idle).is_err() {
-        return (seat, Err(Fault::ReadFailed));
-    }
-    talk::<S, H, Q, Brand>(node, stream, seat, exchanges, Blank::new(1))
+    dial_stream::<S, H, Q, Brand>(node, stream, seat, exchanges, Blank::new(1))
 }

@@ -1,32 +1,32 @@
 //! The end of a node that runs.
 
-use crate::sockets::Doors;
+use crate::sockets::BoundSockets;
 use std::net::Net;
 use std::sync::atomic::{AtomicBool, Ordering};
 
-/// Whether the node is to end. What accepts asks it behind each connection.
+/// Whether the node is to end. Whoever accepts asks it behind each connection.
 #[derive(Drop)]
-pub(crate) struct Ending {
+pub(crate) struct EndFlag {
     flag: AtomicBool,
 }
 
-impl Ending {
+impl EndFlag {
     /// It is not to end yet.
-    pub(crate) fn new() -> Ending {
-        Ending {
+    pub(crate) fn new() -> EndFlag {
+        EndFlag {
             flag: AtomicBool::new(false),
         }
     }
 
     /// Whether the node is to end.
-    pub(crate) fn has_come(&self) -> bool {
+    pub(crate) fn is_raised(&self) -> bool {
         self.flag.load(Ordering::SeqCst)
     }
 
-    /// Ends the node: each worker that accepts, and the calling thread at the control socket.
-    pub(crate) fn come<R: Net>(&self, rt: &R, doors: &Doors, workers: u64) {
+    /// Ends the node: wakes each worker that accepts, and the calling thread at the control socket.
+    pub(crate) fn raise<R: Net>(&self, rt: &R, sockets: &BoundSockets, workers: u64) {
         self.flag.store(true, Ordering::SeqCst);
-        doors.sock.wake(rt, workers);
-        doors.control.wake(rt, 1);
+        sockets.sock.wake(rt, workers);
+        sockets.control.wake(rt, 1);
     }
 }

@@ -1,4 +1,4 @@
-//! Gates: what a session of a pool passes before it applies a delta and after it answers a digest.
+//! Gates: a session of a pool passes one before it applies a delta, and before it sends the delta that answers a digest.
 ghost use Rattle.std.specs.Prelude.{◌≡◌, ◌⊎◌, MatchBool};
 
 use sb_digest::Digest;
@@ -6,31 +6,31 @@ use sb_holdings::{BlockEnd, Report};
 use sb_session::Handler;
 use sb_types::{Delta, Fault, Name};
 
-/// Where a session stands.
+/// Where a session asks its gate.
 #[derive(Clone, Copy, Debug, PartialEq, Eq)]
-pub enum Step {
+pub enum GatePoint {
     /// It is about to apply a delta.
     BeforeApply,
-    /// It has made the answer to a digest.
+    /// It has made the delta that answers a digest, and not sent it.
     AfterAnswer,
 }
 
-/// Which steps sessions may take. It is asked outside of any lock, and may take its time.
+/// Says which sessions may go on. They ask it outside of any lock, and it may take its time.
 pub trait Gate {
     ghost use Rattle.std.specs.Prelude.{ℕ};
-    ghost use Rattle.sb_run.specs.declared.gate.Step.{Step};
+    ghost use Rattle.sb_run.specs.declared.gate.GatePoint.{GatePoint};
 
-    /// What is known where it lets the session of this number take the step: nothing need be.
-    ghost lets: { Self → ℕ → Step → Type 0 };
+    /// What holds where it lets the session of this number go on at this point: nothing need.
+    ghost lets: { Self → ℕ → GatePoint → Type 0 };
 
-    /// What is known where it turns the session away: nothing need be.
-    ghost turns: { Self → ℕ → Step → Type 0 };
+    /// What holds where it turns the session away: nothing need.
+    ghost turns: { Self → ℕ → GatePoint → Type 0 };
 
     /// Whether the session may go on. Where it may not, it ends with `TurnsSpent`.
-    fn pass(&self, session: u64, step: Step) -> bool
-        ensures { MatchBool result (lets self.now session step) (turns self.now session step) };
+    fn pass(&self, session: u64, point: GatePoint) -> bool
+        ensures { MatchBool result (lets self.now session point) (turns self.now session point) };
 
-    /// It is told of each delta of which something was entered, behind that.
+    /// Sessions call it behind each delta of which something was entered.
     fn entered(&self, _delta: &Delta) {}
 }
 
@@ -39,12 +39,12 @@ pub trait Gate {
 pub struct Open;
 
 impl Gate for Open {
-    ghost lets = { λ gate session step. Unit {0} };
+    ghost lets = { λ gate session point. Unit {0} };
 
     // It turns nobody away.
-    ghost turns = { λ gate session step. ⊥ };
+    ghost turns = { λ gate session point. ⊥ };
 
-    fn pass(&self, _session: u64, _step: Step) -> bool {
+    fn pass(&self, _session: u64, _point: GatePoint) -> bool {
         true
     }
 }
@@ -60,19 +60,19 @@ fn has_entered(end: &BlockEnd) -> bool {
 
 /// A handler behind a gate, for the session of this number.
 #[derive(Drop)]
-pub(crate) struct Gated<'a, H, G> {
+pub(crate) struct GatedHandler<'a, H, G> {
     inner: H,
     gate: &'a G,
     session: u64,
 }
 
-impl<'a, H: Handler, G: Gate> Gated<'a, H, G> {
-    pub(crate) fn new(inner: H, gate: &'a G, session: u64) -> Gated<'a, H, G>
+impl<'a, H: Handler, G: Gate> GatedHandler<'a, H, G> {
+    pub(crate) fn new(inner: H, gate: &'a G, session: u64) -> GatedHandler<'a, H, G>
         ensures inner { result.inner ≡ inner }
         ensures gate { result.gate.now ≡ gate.now }
         ensures session { result.session ≡ session }
     {
-        Gated {
+        GatedHandler {
             inner,
             gate,
             session,
@@ -82,7 +82,7 @@ impl<'a, H: Handler, G: Gate> Gated<'a, H, G> {
     pub(crate) fn into_inner(self) -> H
         ensures { result ≡ self.entry.inner }
     {
-        let Gated {
+        let GatedHandler {
             inner,
             gate: _,
             session: _,
@@ -91,9 +91,9 @@ impl<'a, H: Handler, G: Gate> Gated<'a, H, G> {
     }
 }
 
-impl<H: Handler, G: Gate> Handler for Gated<'_, H, G> {
+impl<H: Handler, G: Gate> Handler for GatedHandler<'_, H, G> {
     ghost use Rattle.std.proofs.Common.{◌≡◌, refl, ◌∙◌, ⊎_elim, subst, sym};
-    ghost use Rattle.sb_run.specs.declared.gate.Step.TheVariants.{BeforeApply};
+    ghost use Rattle.sb_run.specs.declared.gate.GatePoint.TheVariants.{BeforeApply};
     ghost use Rattle.sb_run.specs.Gates.{GatedStep, IsShut, let-enters};
 
     ghost step = { λ old act new. (new.gate.now ≡ old.gate.now) × (new.session ≡ old.session)
@@ -109,16 +109,16 @@ impl<H: Handler, G: Gate> Handler for Gated<'_, H, G> {
         self.inner.digest(from, want)
     }
 
-    fn deltas(&mut self, told: &Digest) -> Result<Delta, Fault> {
-        let delta = self.inner.deltas(told)?;
-        if !self.gate.pass(self.session, Step::AfterAnswer) {
+    fn deltas(&mut self, theirs: &Digest) -> Result<Delta, Fault> {
+        let delta = self.inner.deltas(theirs)?;
+        if !self.gate.pass(self.session, GatePoint::AfterAnswer) {
             return Err(Fault::TurnsSpent);
         }
         Ok(delta)
     }
 
     fn apply(&mut self, delta: &Delta) -> Result<Report, Fault> {
-        if !self.gate.pass(self.session, Step::BeforeApply) {
+        if !self.gate.pass(self.session, GatePoint::BeforeApply) {
             return Err(Fault::TurnsSpent);
         }
         let report = self.inner.apply(delta)?;

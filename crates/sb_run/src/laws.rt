@@ -1,4 +1,4 @@
-//! What follows from the definitions alone. The function does nothing: each clause is a law.
+//! What follows from the definitions alone. The functions do nothing: each clause is a law.
 ghost use Rattle.std.specs.Prelude.{◌≡◌, ℕ, ◌≤◌, Bool, true, List, length, Option, Some, Ok};
 ghost use Rattle.std.specs.List.{flat_map};
 ghost use mathlib.Core.List.{IsPrefix};
@@ -13,49 +13,49 @@ ghost use Rattle.sb_holdings.specs.Nodes.{Node, AreNodeEvents, AllTrueAt, IsNode
 ghost use Rattle.sb_digest.specs.Digests.{Digest, covers, held_in};
 ghost use Rattle.sb_session.specs.Handlers.{tells, gives};
 ghost use Rattle.sb_views.specs.declared.event.Event.{Event};
-ghost use Rattle.sb_views.specs.Pages.{Page, upto_of, row_of};
-ghost use Rattle.sb_views.specs.Stories.{steps_of, node_after};
-ghost use Rattle.sb_views.specs.Views.{IsView};
+ghost use Rattle.sb_views.specs.NodeViews.{NodeView, upto_of, row_of};
+ghost use Rattle.sb_views.specs.Histories.{node_events_of, node_after};
+ghost use Rattle.sb_views.specs.Publishing.{IsView};
 ghost use Rattle.sb_directory.specs.Serving.{AnswersAfter};
-ghost use Rattle.sb_run.specs.Together.{Happened, story_of, AreOpened, CanGive, HappenInTurn};
+ghost use Rattle.sb_run.specs.Together.{RunEvent, history_of, AreOpened, CanGive, HappenInTurn};
 
 use sb_digest::digests_are_true;
 use sb_holdings::{nodes_hold, reads_are_true, runs_join};
 use sb_node::answers_are_honest;
 use sb_views::views_show_what_is_held;
 
-/// What one running node gives is true and exact where what it was told is true. Said of all lists of writes, one for each
-/// owner, of each opening node that holds only what is true of them, and of each story whose own writes are the owner's and
-/// whose blocks are honest, whatever their ends: what a view of the node after the story has under an owner and a key was
-/// written by that owner under that version (`given`); a write whose key was not written again, at or below the version
-/// that the view shows of its owner, is what the view has under its key, or nothing for a removal (`exact`); each block of a
-/// delta that the node gives after the story is honest (`honest`); and a digest that it tells says of each owner that it
-/// covers how far the node holds it (`told`), which is no further than was written (`reached`). After more events, true or
-/// not, no version is lower (`later`).
+/// What one running node gives is true and exact where what it was given is true. Said of all lists of writes, one for each
+/// owner, of each opening node that holds only what is true of them, and of each history whose own writes are the owner's
+/// and whose blocks are honest, whatever their ends: what a view of the node after the history has under an owner and a key
+/// was written by that owner under that version (`given`); a write whose key was not written again, at or below the version
+/// that the view shows of its owner, is what the view has under its key, or nothing for a removal (`exact`); each block of
+/// a delta that the node gives after the history is honest (`honest`); and a digest that it tells says of each owner that
+/// it covers how far the node holds it (`digests`), which is no further than was written (`reached`). After more events,
+/// true or not, no version is lower (`later`).
 ///
-/// That the events are true is a premise: it is what peers give whose sessions hear only what is true
+/// That the events are true is a premise: it is what peers give whose sessions receive only what is true
 /// (`sessions_keep_truth` of `sb_node`). A node that opens with what its log holds is such an opening node
 /// (`opened_nodes_hold` and `holdings_make_nodes` of `sb_holdings`). `running_nodes_tell_truth` speaks of many nodes.
 pub fn running_nodes_keep_truth()
-    ensures given { (writes : List ℕ → List Write) (opening : Node) (story : List Event) (page : Page) (owner key : List ℕ) (value : Value) (version : ℕ) →
-        IsNode opening → NodeHolds writes opening → AreNodeEvents (flat_map steps_of story) → AllTrueAt writes opening.held.me (flat_map steps_of story) →
-        IsView (node_after opening story) page → row_of page owner key ≡ Some (value, version) →
+    ensures given { (writes : List ℕ → List Write) (opening : Node) (history : List Event) (page : NodeView) (owner key : List ℕ) (value : Value) (version : ℕ) →
+        IsNode opening → NodeHolds writes opening → AreNodeEvents (flat_map node_events_of history) → AllTrueAt writes opening.held.me (flat_map node_events_of history) →
+        IsView (node_after opening history) page → row_of page owner key ≡ Some (value, version) →
         Written (writes owner) (record { key = key; version = version; slot = Set value }) }
-    ensures exact { (writes : List ℕ → List Write) (opening : Node) (story : List Event) (page : Page) (owner : List ℕ) (e : Entry) →
-        IsNode opening → NodeHolds writes opening → AreNodeEvents (flat_map steps_of story) → AllTrueAt writes opening.held.me (flat_map steps_of story) →
-        IsView (node_after opening story) page → Written (writes owner) e → (Superseded (writes owner) e → ⊥) → e.version ≤ upto_of page owner →
+    ensures exact { (writes : List ℕ → List Write) (opening : Node) (history : List Event) (page : NodeView) (owner : List ℕ) (e : Entry) →
+        IsNode opening → NodeHolds writes opening → AreNodeEvents (flat_map node_events_of history) → AllTrueAt writes opening.held.me (flat_map node_events_of history) →
+        IsView (node_after opening history) page → Written (writes owner) e → (Superseded (writes owner) e → ⊥) → e.version ≤ upto_of page owner →
         row_of page owner e.key ≡ shown_slot e.version e.slot }
-    ensures honest { (writes : List ℕ → List Write) (opening : Node) (settings : Settings) (story : List Event) (digest : Digest) (blocks : List Block) (b : Block) →
-        IsNode opening → NodeHolds writes opening → AreNodeEvents (flat_map steps_of story) → AllTrueAt writes opening.held.me (flat_map steps_of story) →
-        AnswersAfter opening settings story (gives digest (Ok blocks)) → Stands blocks b → Honest (writes b.owner) b }
-    ensures told { (opening : Node) (settings : Settings) (story : List Event) (from : Option (List ℕ)) (want : Bool) (digest : Digest) (owner : List ℕ) →
-        AnswersAfter opening settings story (tells from want (Ok digest)) → covers digest owner ≡ true →
-        held_in digest owner ≡ (shown_of (node_after opening story).held owner).held }
-    ensures reached { (writes : List ℕ → List Write) (opening : Node) (settings : Settings) (story : List Event) (from : Option (List ℕ)) (want : Bool) (digest : Digest) (owner : List ℕ) →
-        IsNode opening → NodeHolds writes opening → AreNodeEvents (flat_map steps_of story) → AllTrueAt writes opening.held.me (flat_map steps_of story) →
-        AnswersAfter opening settings story (tells from want (Ok digest)) → covers digest owner ≡ true → held_in digest owner ≤ length (writes owner) }
-    ensures later { (opening : Node) (story more : List Event) →
-        IsNode opening → AreNodeEvents (flat_map steps_of more) → IsPrefix story more → NodeLater (node_after opening story) (node_after opening more) }
+    ensures honest { (writes : List ℕ → List Write) (opening : Node) (settings : Settings) (history : List Event) (digest : Digest) (blocks : List Block) (b : Block) →
+        IsNode opening → NodeHolds writes opening → AreNodeEvents (flat_map node_events_of history) → AllTrueAt writes opening.held.me (flat_map node_events_of history) →
+        AnswersAfter opening settings history (gives digest (Ok blocks)) → Stands blocks b → Honest (writes b.owner) b }
+    ensures digests { (opening : Node) (settings : Settings) (history : List Event) (from : Option (List ℕ)) (want : Bool) (digest : Digest) (owner : List ℕ) →
+        AnswersAfter opening settings history (tells from want (Ok digest)) → covers digest owner ≡ true →
+        held_in digest owner ≡ (shown_of (node_after opening history).held owner).held }
+    ensures reached { (writes : List ℕ → List Write) (opening : Node) (settings : Settings) (history : List Event) (from : Option (List ℕ)) (want : Bool) (digest : Digest) (owner : List ℕ) →
+        IsNode opening → NodeHolds writes opening → AreNodeEvents (flat_map node_events_of history) → AllTrueAt writes opening.held.me (flat_map node_events_of history) →
+        AnswersAfter opening settings history (tells from want (Ok digest)) → covers digest owner ≡ true → held_in digest owner ≤ length (writes owner) }
+    ensures later { (opening : Node) (history more : List Event) →
+        IsNode opening → AreNodeEvents (flat_map node_events_of more) → IsPrefix history more → NodeLater (node_after opening history) (node_after opening more) }
 {
     nodes_hold();
     runs_join();
@@ -65,39 +65,40 @@ pub fn running_nodes_keep_truth()
     digests_are_true();
 }
 
-/// What running nodes give is true and exact where they are told nothing but what one of them gave. Said of all lists of writes, one for
-/// each owner, of any number of runs, each of a node that opened with what is true of the writes, be it after a crash, and of all that
-/// happens to them in one order (`HappenInTurn`): a run takes writes of its owner, and deltas that some run could give by then, which come
-/// late, again, in any order, or never. Then in each run, what a view has under an owner and a key was written by that owner under that version
-/// (`given`); a write whose key was not written again, at or below the version that the view shows of its owner, is what the view has
-/// under its key, or nothing for a removal (`exact`); each block of a delta that is given is honest (`honest`); a digest that is told
-/// reaches no further than was written (`reached`); and no version is lower than it was in this run (`later`). All that happens is any
-/// list, so this holds at each moment.
+/// What running nodes give is true and exact where they are given nothing but what one of them gave. Said of all lists of
+/// writes, one for each owner, of any number of runs, each of a node that opened with what is true of the writes, be it
+/// after a crash, and of all that happens to them in one order (`HappenInTurn`): a run takes writes of its owner, and
+/// deltas that some run could give by then, which come late, again, in any order, or never. Then in each run, what a view
+/// has under an owner and a key was written by that owner under that version (`given`); a write whose key was not written
+/// again, at or below the version that the view shows of its owner, is what the view has under its key, or nothing for a
+/// removal (`exact`); each block of a delta that is given is honest (`honest`); a digest that is told reaches no further
+/// than was written (`reached`); and no version is lower than it was in this run (`later`). All that happens is any list,
+/// so this holds at each moment.
 ///
-/// Premises are that no two nodes that live at once have one name; that no log forgets a write that a delta told of; and that no
-/// other delta comes: that whoever dials or is dialed runs this program, that what is read from a socket was written to it, and that the
-/// workers and the dialing thread hand on just what they read. That what a run is handed becomes its events, and what it gives is an
-/// answer after them, is what the contracts of `Directory` say.
+/// Premises are that no two nodes that live at once have one name; that no log forgets a write that a delta told of; and
+/// that no other delta comes: that whoever dials or is dialed runs this program, that what is read from a socket was
+/// written to it, and that the workers and the dialing thread hand on just what they read. That what a run is handed
+/// becomes its events, and what it gives is an answer after them, is what the contracts of `Directory` say.
 pub fn running_nodes_tell_truth()
-    ensures given { (writes : List ℕ → List Write) (opening : ℕ → Node) (settings : ℕ → Settings) (all : List Happened) (run : ℕ)
-        (page : Page) (owner key : List ℕ) (value : Value) (version : ℕ) →
+    ensures given { (writes : List ℕ → List Write) (opening : ℕ → Node) (settings : ℕ → Settings) (all : List RunEvent) (run : ℕ)
+        (page : NodeView) (owner key : List ℕ) (value : Value) (version : ℕ) →
         AreOpened writes opening → HappenInTurn writes opening settings all →
-        IsView (node_after (opening run) (story_of run all)) page → row_of page owner key ≡ Some (value, version) →
+        IsView (node_after (opening run) (history_of run all)) page → row_of page owner key ≡ Some (value, version) →
         Written (writes owner) (record { key = key; version = version; slot = Set value }) }
-    ensures exact { (writes : List ℕ → List Write) (opening : ℕ → Node) (settings : ℕ → Settings) (all : List Happened) (run : ℕ)
-        (page : Page) (owner : List ℕ) (e : Entry) →
+    ensures exact { (writes : List ℕ → List Write) (opening : ℕ → Node) (settings : ℕ → Settings) (all : List RunEvent) (run : ℕ)
+        (page : NodeView) (owner : List ℕ) (e : Entry) →
         AreOpened writes opening → HappenInTurn writes opening settings all →
-        IsView (node_after (opening run) (story_of run all)) page → Written (writes owner) e → (Superseded (writes owner) e → ⊥) → e.version ≤ upto_of page owner →
+        IsView (node_after (opening run) (history_of run all)) page → Written (writes owner) e → (Superseded (writes owner) e → ⊥) → e.version ≤ upto_of page owner →
         row_of page owner e.key ≡ shown_slot e.version e.slot }
-    ensures honest { (writes : List ℕ → List Write) (opening : ℕ → Node) (settings : ℕ → Settings) (all : List Happened) (blocks : List Block) (b : Block) →
+    ensures honest { (writes : List ℕ → List Write) (opening : ℕ → Node) (settings : ℕ → Settings) (all : List RunEvent) (blocks : List Block) (b : Block) →
         AreOpened writes opening → HappenInTurn writes opening settings all → CanGive opening settings all blocks → Stands blocks b → Honest (writes b.owner) b }
-    ensures reached { (writes : List ℕ → List Write) (opening : ℕ → Node) (settings : ℕ → Settings) (all : List Happened) (run : ℕ)
+    ensures reached { (writes : List ℕ → List Write) (opening : ℕ → Node) (settings : ℕ → Settings) (all : List RunEvent) (run : ℕ)
         (from : Option (List ℕ)) (want : Bool) (digest : Digest) (owner : List ℕ) →
         AreOpened writes opening → HappenInTurn writes opening settings all →
-        AnswersAfter (opening run) (settings run) (story_of run all) (tells from want (Ok digest)) → covers digest owner ≡ true → held_in digest owner ≤ length (writes owner) }
-    ensures later { (writes : List ℕ → List Write) (opening : ℕ → Node) (settings : ℕ → Settings) (earlier all : List Happened) (run : ℕ) →
+        AnswersAfter (opening run) (settings run) (history_of run all) (tells from want (Ok digest)) → covers digest owner ≡ true → held_in digest owner ≤ length (writes owner) }
+    ensures later { (writes : List ℕ → List Write) (opening : ℕ → Node) (settings : ℕ → Settings) (earlier all : List RunEvent) (run : ℕ) →
         AreOpened writes opening → HappenInTurn writes opening settings all → IsPrefix earlier all →
-        NodeLater (node_after (opening run) (story_of run earlier)) (node_after (opening run) (story_of run all)) }
+        NodeLater (node_after (opening run) (history_of run earlier)) (node_after (opening run) (history_of run all)) }
 {
     running_nodes_keep_truth();
     nodes_hold();

@@ -1,41 +1,69 @@
-//! The running node: writes that are kept before they are shared, the control socket, workers for peers, and the threads and
-//! sockets of all that.
+//! The running node: it serves its peers and its clients over sockets, and dials its peers.
+//!
+//! `run_node` runs the node that owns a log: workers serve the peers that connect, one thread dials the peers in turn and
+//! where there is news, and the calling thread answers clients at the control socket. Each write of a client is in the
+//! log before the directory takes it. Who has connections of their own serves them by `serve_pool` and `serve_control`, and
+//! asks by `ask_control`.
+//!
+//! ```rust
+//! /// Runs the node of this name over a log in memory, until it has made its rounds.
+//! fn run_in_memory<R: Runtime + Net<Listener = TcpListener, Stream = TcpStream>>(
+//!     rt: &R,
+//!     alloc: Global,
+//!     name: Name,
+//!     settings: Settings,
+//!     paths: &Paths,
+//!     pace: Pace,
+//! ) -> Result<Ran, Fault> {
+//!     let log = PlainLog::new(alloc, name, settings.cluster(), settings.max_version());
+//!     let config = NodeConfig {
+//!         settings,
+//!         paths: *paths,
+//!         pace,
+//!     };
+//!     run_node(rt, alloc, config, log, &Nobody)
+//! }
+//! ```
 #![tactic(auto)]
 
 mod accepting;
 mod asking;
-mod attending;
 mod bell;
+mod context;
 mod control;
+mod control_socket;
 mod counts;
 mod dialer;
 mod dialing;
 mod ending;
 mod gate;
 mod greeting;
-mod hearing;
 mod laws;
 mod node;
 mod observer;
-mod owner;
+mod one_message;
+mod own_writes;
 mod peers;
 mod pool;
 mod rounds;
+mod runtime;
 mod seats;
-mod shared;
-mod site;
+mod serving;
 mod sockets;
 mod status;
+mod tagged;
 mod threads;
 mod timed;
 
 pub use asking::ask_control;
 pub use control::serve_control;
-pub use gate::{Gate, Open, Step};
+pub use gate::{Gate, GatePoint, Open};
 pub use laws::{running_nodes_keep_truth, running_nodes_tell_truth};
-pub use node::{OnLogFault, Pace, Paths, Ran, run_node};
+pub use node::{NodeConfig, OnLogFault, Pace, Paths, Ran, run_node};
 pub use observer::{Nobody, Observer};
-pub use owner::{Owner, Stored};
+pub use own_writes::{OwnWrites, Stored};
 pub use peers::{LastRound, Peer};
 pub use pool::{Pooled, Source, serve_pool};
+pub use runtime::Runtime;
+pub use serving::Serving;
 pub use status::Status;

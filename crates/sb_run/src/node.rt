@@ -1,30 +1,27 @@
-//! A node that runs: it serves its peers and its owner, and dials its peers.
+//! A node that runs: it serves its peers and its clients, and dials its peers.
 ghost use Rattle.std.specs.Prelude.{◌≡◌, false, None, Err, IfOk, IfErr, IfSome};
 ghost use Rattle.sb_run.specs.Running as spec;
 ghost use Rattle.sb_run.specs.Running.{IsRunningFault};
 
 use crate::observer::Observer;
-use crate::owner::Owner;
-use crate::site::run_site;
+use crate::own_writes::OwnWrites;
+use crate::runtime::Runtime;
+use crate::tagged::{NodeStart, run_tagged};
 use sb_log::WriteLog;
 use sb_node::NodeCore;
 use sb_types::{Fault, Settings};
-use sb_views::Opened;
+use sb_views::NewHistory;
 use std::alloc::Global;
 use std::marker::Brand;
 use std::net::{Net, TcpListener, TcpStream};
-use std::rt::Files;
-use std::sync::Wait;
 use std::sync::ledger::Blank;
-use std::thread::Threads;
-use std::time::Clock;
 
 /// Where a node listens, and whom it dials: the paths of Unix sockets.
 #[derive(Clone, Copy, Debug)]
 pub struct Paths<'a> {
     /// Where its peers connect.
     pub sock: &'a str,
-    /// Where its owner connects.
+    /// Where its clients connect: who writes its rows, or asks for rows of any owner.
     pub control: &'a str,
     /// Where its peers listen.
     pub peers: &'a [&'a str],
@@ -46,7 +43,7 @@ pub struct Pace {
     pub rounds: u64,
     /// How long it waits after each round in turn, in milliseconds.
     pub pause: u64,
-    /// How many peers it dials at once where it has something new to pass on; 0 for none.
+    /// How many peers it dials one after another, without a pause, where it has something new to pass on; 0 for none.
     pub fanout: u64,
     /// How long a connection may move no byte, in milliseconds; 0 for no limit.
     pub idle: u64,
@@ -61,7 +58,15 @@ pub struct Pace {
     pub on_log_fault: OnLogFault,
 }
 
-/// What a node did that ran.
+/// What a node is to do: its settings, its sockets and its pace.
+#[derive(Clone, Copy, Debug)]
+pub struct NodeConfig<'a> {
+    pub settings: Settings,
+    pub paths: Paths<'a>,
+    pub pace: Pace,
+}
+
+/// What a node did.
 #[derive(Clone, Copy, Debug, PartialEq, Eq)]
 pub struct Ran {
     /// How many rounds it made.
@@ -69,13 +74,13 @@ pub struct Ran {
     /// How many connections ended with a fault, rounds in which the peer could not be reached and connections that could
     /// not be accepted among them.
     pub faults: u64,
-    /// How many events its directory saw: writes of its own, and deltas of its peers.
+    /// How many events its history has: writes of its own, and deltas of its peers.
     pub events: u64,
 }
 
 /// Why a node does not run, before its log is read: the first reason that holds.
-fn refusal<L: WriteLog>(settings: &Settings, log: &L) -> Option<Fault>
-    ensures { result ≡ spec.refusal settings.now (L.seen log.now) }
+fn start_refusal<L: WriteLog>(settings: &Settings, log: &L) -> Option<Fault>
+    ensures { result ≡ spec.start_refusal settings.now (L.seen log.now) }
 {
     if settings.seats() < settings.workers() + 2 {
         return Some(Fault::BadSetting);
@@ -87,18 +92,18 @@ fn refusal<L: WriteLog>(settings: &Settings, log: &L) -> Option<Fault>
     None
 }
 
-/// Runs the node that owns a log. It binds both sockets, each at a path where no file is or a socket at which nobody listens,
-/// and tells the observer. Then it serves peers on `sock`, as many at once as there are workers, and its owner on `control`,
-/// one connection after another; and it dials its peers in turn, one a round, with a pause after each, for as many exchanges of
-/// digests and deltas as it takes to tell of all owners that it holds: one, where the budget has room for a digest of all. A
-/// peer that let a round wait for `dial_idle` milliseconds is passed over in its next seven turns, unless nobody else is left.
-/// It tells the observer of a round where the one before with that peer ended otherwise. After the last round it ends, once
-/// the connections that are open have ended, and removes what is at the paths of both sockets, also where another put it
-/// there since.
+/// Runs the node that owns a log. It binds both sockets, each at a path where no file is or a socket at which nobody
+/// listens, and tells the observer. Workers serve peers on `sock`, as many at once as there are workers. The calling thread
+/// serves clients on `control`, one connection after another. One more thread dials the peers in turn, one a round, with a
+/// pause after each. A round has as many exchanges of digests and deltas as it takes to tell of all owners that the node
+/// holds: one, where the budget has room for a digest of all. A peer that let a round wait for `dial_idle` milliseconds is
+/// passed over in its next seven turns, unless nobody else is left. The observer is told of a round that ended otherwise
+/// than the one before with that peer. After the last round the node ends, once the connections that are open have ended,
+/// and removes what is at the paths of both sockets, also where another put it there since.
 ///
-/// Where its owner wrote, or a peer told of something new, it dials the next `fanout` peers at once, without a pause, but for
-/// those whose last round had a fault; news that comes within ten milliseconds goes together. These are rounds too. With no
-/// pause there is no need of them.
+/// Where a client wrote, or a peer told of something new, the node dials the next `fanout` peers one after another, without a
+/// pause, but for those whose last round had a fault. News that comes within ten milliseconds goes together. These are rounds too.
+/// With no pause there is no need of them.
 ///
 /// A connection ends with a fault where its peer breaks the rules of a session or of the control socket, where it takes
 /// more than `max_reads` reads, where no byte moved for `idle` milliseconds, or for `dial_idle` where the node has dialed, or
@@ -109,48 +114,35 @@ fn refusal<L: WriteLog>(settings: &Settings, log: &L) -> Option<Fault>
 /// `BadSetting` where there are fewer seats than two beside one for each worker; `WrongCluster` where the log is of another
 /// cluster than the settings'; the faults of the log's `load`; `NoMemory`; `ReadFailed` where a socket can't be bound;
 /// `NoMemory` where the thread of the pool, or the one that dials, can't be made; `StoreFailed` where the log failed and the
-/// node is to exit then. With each of these no file is left that was not there before. Where the thread of a worker can't be made, the node serves fewer peers at once.
+/// node is to exit then. With each of these no file is left that was not there before. Where the thread of a worker can't be
+/// made, the node serves fewer peers at once.
 pub fn run_node<
     L: WriteLog + Drop,
-    R: Threads
-        + Wait
-        + Clock
-        + Files
-        + Net<Listener = TcpListener, Stream = TcpStream>
-        + Send
-        + Sync,
+    R: Runtime + Net<Listener = TcpListener, Stream = TcpStream>,
     O: Observer + Sync,
->(
-    rt: &R,
-    alloc: Global,
-    settings: Settings,
-    log: L,
-    paths: &Paths,
-    pace: Pace,
-    observer: &O,
-) -> Result<Ran, Fault>
-    ensures refused { IfSome (spec.refusal settings (L.seen log)) (λ fault. result ≡ Err fault) }
-    ensures closed { spec.refusal settings (L.seen log) ≡ None → (L.seen log).is_open ≡ false → result ≡ Err Fault.Closed }
-    ensures fault { IfErr result (IsRunningFault settings (L.seen log) pace.on_log_fault) }
-    ensures rounds { IfOk result (λ ran. ran.rounds ≡ pace.rounds) }
+>(rt: &R, alloc: Global, config: NodeConfig, log: L, observer: &O) -> Result<Ran, Fault>
+    ensures refused { IfSome (spec.start_refusal config.entry.settings (L.seen log)) (λ fault. result ≡ Err fault) }
+    ensures closed { spec.start_refusal config.entry.settings (L.seen log) ≡ None → (L.seen log).is_open ≡ false → result ≡ Err Fault.Closed }
+    ensures fault { IfErr result (IsRunningFault config.entry.settings (L.seen log) config.entry.pace.on_log_fault) }
+    ensures rounds { IfOk result (λ ran. ran.rounds ≡ config.entry.pace.rounds) }
 {
-    if let Some(fault) = refusal(&settings, &log) {
+    let NodeConfig {
+        settings,
+        paths,
+        pace,
+    } = config;
+    if let Some(fault) = start_refusal(&settings, &log) {
         return Err(fault);
     }
     let mut log = log;
     let me = *log.owner();
     let table = log.load(alloc)?;
     let core = NodeCore::open(alloc, settings, me, table)?;
-    let blank = Blank::new(settings.seats());
-    run_site::<Brand, L, R, O>(
-        rt,
-        alloc,
-        Opened::new(),
-        blank,
+    let start = NodeStart {
+        new_history: NewHistory::new(),
+        blank: Blank::new(settings.seats()),
         core,
-        Owner::new(log),
-        paths,
-        pace,
-        observer,
-    )
+        writes: OwnWrites::new(log),
+    };
+    run_tagged::<Brand, L, R, O>(rt, alloc, start, &paths, pace, observer)
 }

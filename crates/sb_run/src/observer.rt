@@ -1,15 +1,16 @@
-//! Who is told of what a running node meets.
+//! The observer of a running node.
 
 use crate::status::Status;
 use sb_session::Ended;
 use sb_types::Fault;
 
-/// Who is told of what a running node meets, by the thread that met it, which waits until the call is back.
+/// Is told what a running node meets. The thread that met it makes the call, and waits until that is back.
 pub trait Observer {
     /// Both sockets are bound, and nothing is served or dialed yet. It is told once.
     fn listening(&self);
 
-    /// How a round with the peer at this path ended: `ReadFailed` also where the peer could not be reached. Each peer's first
+    /// How a round with the peer at this path ended: `RoundsDone` where all exchanges of digests of this one round were made;
+    /// `ReadFailed` also where the peer could not be reached. Each peer's first
     /// round is told, and then each that ended otherwise than its round before, be it by another fault; but `WriteFailed` is
     /// not told behind a refusal of the peer's Hello, since it is the same one.
     fn dialed(&self, peer: &str, ended: &Result<Ended, Fault>);
@@ -25,15 +26,15 @@ pub trait Observer {
         false
     }
 
-    /// How the node is, where it wants to know: behind a round that ended otherwise than that peer's before, and behind each that
-    /// ends a second or more after it was told last.
+    /// How the node is, where it wants to know: behind a round that ended otherwise than the one before with that peer, and
+    /// behind each that ends a second or more after it was told last.
     fn status(&self, _status: &Status<'_>) {}
 
     /// At this path lay the socket of a node that no longer runs, and it was removed. It is told before `listening`.
     fn socket_removed(&self, _path: &str) {}
 }
 
-/// Nobody.
+/// Nobody, who does nothing with what is told.
 #[derive(Clone, Copy, Debug)]
 pub struct Nobody;
 

@@ -67,7 +67,7 @@ impl<'a> Peer<'a> {
         self.path
     }
 
-    /// How the last round with it ended.
+    /// How the last round with it ended; but where that was `WriteFailed` behind a refusal of its Hello, still that refusal.
     pub fn last(&self) -> LastRound {
         self.last
     }
@@ -77,8 +77,9 @@ impl<'a> Peer<'a> {
         self.round
     }
 
-    /// Takes down how its round of this number ended, and whether it kept the node waiting; whether that is news: it ended
-    /// otherwise than the round before, and not by a write that failed behind a refused Hello, which is the same refusal.
+    /// Takes down how its round of this number ended, and whether it kept the node waiting. Says whether that is news: it
+    /// ended otherwise than the round before, and not by a write that failed behind a refused Hello, which is the same
+    /// refusal.
     fn note(&mut self, round: u64, ended: &Result<Ended, Fault>, has_waited: bool) -> bool
         ensures round { self.new.round ≡ round }
         ensures turns { self.new.turns_out ≡ spec.turns_after (has_waited && is_err ended.now) self.old.turns_out }
@@ -101,7 +102,7 @@ impl<'a> Peer<'a> {
     }
 }
 
-/// The turn of one of so many: behind the last comes the first.
+/// Whose turn it is of so many: behind the last comes the first.
 fn turn_of(count: usize, turn: usize) -> usize
     ensures { result ≡ spec.turn_of count turn }
 {
@@ -139,7 +140,7 @@ impl<'a> Peers<'a> {
         })
     }
 
-    /// Takes the next turn: where the peer lies whose turn it is, and whether it is passed over in it. None where there are no
+    /// Takes the next turn: the index of the peer whose turn it is, and whether it is passed over. None where there are no
     /// peers.
     fn take_turn(&mut self) -> Option<(usize, bool)>
         ensures none { result ≡ None → vec_len self.old.all ≡ 0 }
@@ -157,8 +158,8 @@ impl<'a> Peers<'a> {
         Some((turn, is_out))
     }
 
-    /// Where the peer lies whose turn it is; behind the last comes the first. One that kept the node waiting is passed over in
-    /// seven of its turns. Nobody where there are no peers.
+    /// The index of the peer whose turn it is; behind the last comes the first. One that kept the node waiting is passed over
+    /// in seven of its turns. None where there are no peers.
     pub(crate) fn next_in_turn(&mut self) -> Option<usize>
         ensures first { IfSome (slice_get self.old.all.items (spec.turn_of (vec_len self.old.all) self.old.turn))
             (λ peer. peer.turns_out ≡ 0 → result ≡ Some (spec.turn_of (vec_len self.old.all) self.old.turn)) }
@@ -169,7 +170,7 @@ impl<'a> Peers<'a> {
         if is_out { self.pass_over() } else { Some(turn) }
     }
 
-    /// Where the next peer lies that is not passed over, behind one that is.
+    /// The index of the next peer that is not passed over, behind one that is.
     fn pass_over(&mut self) -> Option<usize>
         ensures within { IfSome result (λ index. index < vec_len self.new.all) }
         ensures next { IfSome result (λ index. self.new.turn ≡ index + 1) }
@@ -184,8 +185,8 @@ impl<'a> Peers<'a> {
         None
     }
 
-    /// Takes the next turn of a burst: where the peer lies whose turn it is, and whether its last round had a fault. None where
-    /// there are no peers.
+    /// Takes the next turn of a burst: the index of the peer whose turn it is, and whether its last round had a fault. None
+    /// where there are no peers.
     fn take_burst_turn(&mut self) -> Option<(usize, bool)>
         ensures none { result ≡ None → vec_len self.old.all ≡ 0 }
         ensures turn { IfSome result (λ taken. taken.0 ≡ spec.turn_of (vec_len self.old.all) self.old.burst_turn) }
@@ -200,7 +201,7 @@ impl<'a> Peers<'a> {
         Some((turn, peer.last.has_failed()))
     }
 
-    /// Where the next peer lies whose last round had no fault; nobody where each had.
+    /// The index of the next peer whose last round had no fault; none where each had one.
     pub(crate) fn next_in_burst(&mut self) -> Option<usize>
         ensures first { IfSome (slice_get self.old.all.items (spec.turn_of (vec_len self.old.all) self.old.burst_turn))
             (λ peer. spec.has_failed peer.last ≡ false → result ≡ Some (spec.turn_of (vec_len self.old.all) self.old.burst_turn)) }
@@ -216,7 +217,7 @@ impl<'a> Peers<'a> {
         }
     }
 
-    /// Where the next peer lies whose last round had no fault, behind one whose had.
+    /// The index of the next peer whose last round had no fault, behind one whose last round had one.
     fn pass_over_in_burst(&mut self) -> Option<usize>
         ensures fit { IfSome result (λ index. IfSome (slice_get self.new.all.items index) (λ peer. spec.has_failed peer.last ≡ false)) }
         ensures within { IfSome result (λ index. index < vec_len self.new.all) }
@@ -232,7 +233,7 @@ impl<'a> Peers<'a> {
     }
 
     /// How many peers had no fault in their last round.
-    pub(crate) fn count_fit(&self) -> u64 {
+    pub(crate) fn count_without_fault(&self) -> u64 {
         let mut count: u64 = 0;
         for peer in &self.all {
             if !peer.last.has_failed() {
@@ -255,8 +256,8 @@ impl<'a> Peers<'a> {
         &self.all
     }
 
-    /// Takes down how the round of this number with a peer ended, and whether it kept the node waiting, and tells the observer
-    /// where that is news, and says whether it is.
+    /// Takes down how the round of this number with a peer ended, and whether that kept the node waiting. Tells the observer
+    /// where it is news, and says whether it is.
     pub(crate) fn note<O: Observer>(
         &mut self,
         index: usize,

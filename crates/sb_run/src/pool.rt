@@ -5,14 +5,14 @@ ghost use Rattle.sb_run.specs.Gates.{IsShut, AreShut};
 ghost use Rattle.sb_run.specs.Hellos.{Greets};
 ghost use Rattle.sb_run.specs.Pools.{IsKept, AreKept};
 
-use crate::gate::{Gate, Gated};
+use crate::gate::{Gate, GatedHandler};
 use crate::greeting::session_of;
+use crate::serving::Serving;
 use core::mem::replace_with;
-use sb_directory::{Configured, Directory, ReaderSeat, Served};
+use sb_directory::{DirectoryTag, ReaderSeat, SeatHandler};
 use sb_frames::Steps;
 use sb_session::serve;
 use sb_types::Fault;
-use std::alloc::Global;
 use std::io::{Read, Write};
 use std::marker::Brand;
 use std::sync::Wait;
@@ -35,7 +35,7 @@ pub trait Source {
 
 /// What the workers of a pool did.
 #[derive(Drop)]
-pub struct Pooled<S: Configured> {
+pub struct Pooled<S: DirectoryTag> {
     /// How many connections were taken.
     pub sessions: u64,
     /// How many of them ended with a fault, and how many could not be had.
@@ -51,146 +51,137 @@ struct Tally {
     faults: AtomicU64,
 }
 
-/// Serves one connection from a seat, with at most `max_reads` reads, and says whether it ended with a fault.
-fn meet_within<S: Configured, H: Wait + Drop, Q: Wait, I: Read, O: Write, G: Gate, K: Ledger>(
-    rt: &Q,
-    alloc: Global,
-    directory: &Directory<S, H>,
+/// Serves the session of this number from a seat, with at most `max_reads` reads, and says whether it ended with a fault.
+fn serve_session<S: DirectoryTag, H: Wait + Drop, Q: Wait, I: Read, O: Write, G: Gate, K: Ledger>(
+    serving: &Serving<S, H, Q>,
     gate: &G,
-    max_reads: u64,
     number: u64,
-    input: &mut I,
-    output: &mut O,
+    streams: &mut (I, O),
     seat: ReaderSeat<S>,
     steps: &mut Steps<K>,
 ) -> (ReaderSeat<S>, bool)
     ensures kept { IsKept (IsShut (G.lets gate.now number)) seat result.0 }
-    ensures greets { Greets S.settings.cluster S.opening.held.me (O.contents output.old) (O.contents output.new) }
-    ensures reads { steps.new ≤ steps.old + max_reads }
+    ensures greets { Greets S.settings.cluster S.opening.held.me (O.contents streams.old.1) (O.contents streams.new.1) }
+    ensures reads { steps.new ≤ steps.old + serving.now.max_reads }
 {
-    let mut handler = Gated::new(Served::new(rt, directory, seat), gate, number);
+    let served = SeatHandler::new(serving.rt, serving.directory, seat);
+    let mut handler = GatedHandler::new(served, gate, number);
     let (ended, _) = serve(
-        alloc,
-        input,
-        output,
-        session_of(directory),
+        serving.alloc,
+        &mut streams.0,
+        &mut streams.1,
+        session_of(serving.directory),
         &mut handler,
-        max_reads,
+        serving.max_reads,
         steps,
     );
     (handler.into_inner().into_seat(), ended.is_err())
 }
 
-/// The same, where nothing was read before.
-fn meet<S: Configured, H: Wait + Drop, Q: Wait, I: Read, O: Write, G: Gate, K: Ledger>(
-    rt: &Q,
-    alloc: Global,
-    directory: &Directory<S, H>,
+/// Serves a connection that was taken from the source, and counts it, and whether it ended with a fault. Its reads are the
+/// first of a ledger.
+fn serve_taken<
+    S: DirectoryTag,
+    H: Wait + Drop,
+    Q: Wait,
+    I: Read + Drop,
+    O: Write + Drop,
+    G: Gate,
+    K: Ledger,
+>(
+    serving: &Serving<S, H, Q>,
     gate: &G,
-    max_reads: u64,
-    number: u64,
-    input: &mut I,
-    output: &mut O,
+    tally: &Tally,
+    taken: (u64, I, O),
     seat: ReaderSeat<S>,
     blank: Blank,
-) -> (ReaderSeat<S>, bool)
+) -> ReaderSeat<S>
     requires name { blank.name ≡ K.name }
     requires parts { blank.parts ≡ K.parts }
     requires some { 0 < blank.parts }
-    ensures { IsKept (IsShut (G.lets gate.now number)) seat result.0 }
+    ensures { IsKept (IsShut (G.lets gate.now taken.0)) seat result }
 {
+    tally.sessions.fetch_add(1, Ordering::SeqCst);
     let mut steps = Steps::<K>::new(blank);
-    meet_within(
-        rt, alloc, directory, gate, max_reads, number, input, output, seat, &mut steps,
-    )
+    let (number, input, output) = taken;
+    let mut streams = (input, output);
+    let (seat, failed) = serve_session(serving, gate, number, &mut streams, seat, &mut steps);
+    if failed {
+        tally.faults.fetch_add(1, Ordering::SeqCst);
+    }
+    seat
 }
 
 /// Serves connections from a seat until the source has no more.
 #[tactic(auto, using(crate::proofs::Pooling::kept_same, crate::proofs::Pooling::kept_on))]
-fn tend<S: Configured, H: Wait + Drop, Q: Wait, X: Source, G: Gate>(
-    rt: &Q,
-    alloc: Global,
-    directory: &Directory<S, H>,
+fn work<S: DirectoryTag, H: Wait + Drop, Q: Wait, X: Source, G: Gate>(
+    serving: &Serving<S, H, Q>,
     source: &X,
     gate: &G,
-    max_reads: u64,
     tally: &Tally,
     seat: ReaderSeat<S>,
 ) -> (ReaderSeat<S>, ())
     ensures { IsKept (AreShut (G.lets gate.now)) seat result.0 }
 {
-    let mut sitting = seat;
-    for _ in rt.forever() {
+    let mut current = seat;
+    for _ in serving.rt.forever() {
         match source.next() {
-            None => return (sitting, ()),
+            None => return (current, ()),
             Some(Err(_)) => {
                 tally.faults.fetch_add(1, Ordering::SeqCst);
             }
-            Some(Ok((number, mut input, mut output))) => {
-                tally.sessions.fetch_add(1, Ordering::SeqCst);
-                let (seat, failed) = meet::<S, H, Q, X::In, X::Out, G, Brand>(
-                    rt,
-                    alloc,
-                    directory,
+            Some(Ok(taken)) => {
+                current = serve_taken::<S, H, Q, X::In, X::Out, G, Brand>(
+                    serving,
                     gate,
-                    max_reads,
-                    number,
-                    &mut input,
-                    &mut output,
-                    sitting,
+                    tally,
+                    taken,
+                    current,
                     Blank::new(1),
                 );
-                sitting = seat;
-                if failed {
-                    tally.faults.fetch_add(1, Ordering::SeqCst);
-                }
             }
         }
     }
     unreachable!()
 }
 
-/// The same from a seat that stays in its place.
-fn tend_in_place<S: Configured, H: Wait + Drop, Q: Wait, X: Source, G: Gate>(
-    rt: &Q,
-    alloc: Global,
-    directory: &Directory<S, H>,
+/// Serves connections from a seat that stays in its place.
+fn work_in_place<S: DirectoryTag, H: Wait + Drop, Q: Wait, X: Source, G: Gate>(
+    serving: &Serving<S, H, Q>,
     source: &X,
     gate: &G,
-    max_reads: u64,
     tally: &Tally,
     seat: &mut ReaderSeat<S>,
 )
     ensures { IsKept (AreShut (G.lets gate.now)) seat.old seat.new }
 {
+    // `serving` is handed in: the prover keeps no clause of a closure that captures a struct with a lifetime.
     replace_with(
         seat,
-        (),
-        |seat, _| -> (ReaderSeat<S>, ())
+        serving,
+        |seat, serving| -> (ReaderSeat<S>, ())
             requires { IsSend X.In.row × IsSend X.Out.row }
             ensures { IsKept (AreShut (G.lets gate.entry.now)) seat result.0 }
-        { tend(rt, alloc, directory, source, gate, max_reads, tally, seat) },
+        { work(serving, source, gate, tally, seat) },
     );
 }
 
 /// Serves the connections of a source until it has no more, with a worker for each seat, each in a thread of its own. The
-/// caller is one of them, and runs those whose thread can't be made. A session is of the directory's node, under its name and
-/// of its cluster. One that the gate turns away ends with `TurnsSpent`; each makes at most `max_reads` reads. The seats come
-/// back in their order; where the gate lets no session apply a delta, none made an event or was told of one. It never refuses.
+/// caller is one of the workers, and does the work of those whose thread can't be made. A session is of the directory's node,
+/// under its name and of its cluster. One that the gate turns away ends with `TurnsSpent`; each makes at most `max_reads`
+/// reads. The seats come back in their order. Where the gate lets no session apply a delta, none of them made an event or has
+/// seen more. It never refuses.
 pub fn serve_pool<
-    S: Configured + Send + Sync,
+    S: DirectoryTag + Send + Sync,
     H: Wait + Drop + Send + Sync,
     Q: Threads + Wait + Sync,
     X: Source + Sync,
     G: Gate + Sync,
 >(
-    rt: &Q,
-    alloc: Global,
-    directory: &Directory<S, H>,
+    serving: &Serving<S, H, Q>,
     seats: Vec<ReaderSeat<S>>,
     source: &X,
     gate: &G,
-    max_reads: u64,
 ) -> Result<Pooled<S>, (Fault, Vec<ReaderSeat<S>>)>
     ensures ok { IsOk result }
     ensures kept { IfOk result (λ pooled. AreKept (AreShut (G.lets gate.now)) seats.items pooled.seats.items) }
@@ -200,9 +191,7 @@ pub fn serve_pool<
         faults: AtomicU64::new(0),
     };
     let mut seats = seats;
-    tend_all(
-        rt, alloc, directory, source, gate, max_reads, &tally, &mut seats,
-    );
+    work_all(serving, source, gate, &tally, &mut seats);
     Ok(Pooled {
         sessions: tally.sessions.load(Ordering::SeqCst),
         faults: tally.faults.load(Ordering::SeqCst),
@@ -210,22 +199,14 @@ pub fn serve_pool<
     })
 }
 
-fn tend_all<
-    S: Configured + Send + Sync,
+/// Lets a worker serve connections from each seat, until the source has no more.
+fn work_all<
+    S: DirectoryTag + Send + Sync,
     H: Wait + Drop + Send + Sync,
     Q: Threads + Wait + Sync,
     X: Source + Sync,
     G: Gate + Sync,
->(
-    rt: &Q,
-    alloc: Global,
-    directory: &Directory<S, H>,
-    source: &X,
-    gate: &G,
-    max_reads: u64,
-    tally: &Tally,
-    seats: &mut [ReaderSeat<S>],
-)
+>(serving: &Serving<S, H, Q>, source: &X, gate: &G, tally: &Tally, seats: &mut [ReaderSeat<S>])
     ensures { AreKept (AreShut (G.lets gate.now)) seats.old seats.new }
 {
     if seats.is_empty() {
@@ -233,12 +214,12 @@ fn tend_all<
     }
     let workers = seats.len();
     thread::for_each_mut(
-        rt,
+        serving.rt,
         seats,
         workers,
         &|_, seat| -> ()
             requires { IsSend X.In.row × IsSend X.Out.row }
             ensures { IsKept (AreShut (G.lets gate.entry.now)) seat.entry.now seat.exit.now }
-        { tend_in_place(rt, alloc, directory, source, gate, max_reads, tally, seat) },
+        { work_in_place(serving, source, gate, tally, seat) },
     );
 }

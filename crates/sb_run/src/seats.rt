@@ -1,22 +1,22 @@
 //! The seats of a running node.
 ghost use Rattle.std.specs.Prelude.{◌≡◌, ◌+◌, ◌≤◌, length, vec_len, vec_capacity, IfOk, IfErr};
 
-use sb_directory::{Configured, ReaderSeat};
+use sb_directory::{DirectoryTag, ReaderSeat};
 use sb_types::Fault;
 
-/// Who sits where: a seat for each worker, one for the thread that dials, and one for the calling thread.
+/// The seats of a node's threads: one for each worker, one for the thread that dials, and one for the calling thread.
 #[derive(Drop)]
-pub(crate) struct Crew<S: Configured> {
+pub(crate) struct ThreadSeats<S: DirectoryTag> {
     pub(crate) workers: Vec<ReaderSeat<S>>,
     pub(crate) dialing: ReaderSeat<S>,
     pub(crate) control: ReaderSeat<S>,
 }
 
-/// Parts the seats for so many workers; gives those to spare too, with room for all. `NoMemory`.
-pub(crate) fn part<S: Configured>(
+/// Gives so many workers, and both other threads, a seat each; gives those to spare too, with room for all. `NoMemory`.
+pub(crate) fn part_seats<S: DirectoryTag>(
     seats: Vec<ReaderSeat<S>>,
     workers: usize,
-) -> Result<(Crew<S>, Vec<ReaderSeat<S>>), Fault>
+) -> Result<(ThreadSeats<S>, Vec<ReaderSeat<S>>), Fault>
     requires { workers + 2 ≤ vec_len seats }
     ensures workers { IfOk result (λ parted. vec_len parted.0.workers ≡ workers) }
     ensures spare { IfOk result (λ parted. vec_len parted.1 + (workers + 2) ≡ vec_len seats) }
@@ -32,24 +32,27 @@ pub(crate) fn part<S: Configured>(
     let Some(control) = spare.pop() else {
         unreachable!();
     };
-    let crew = Crew {
+    let thread_seats = ThreadSeats {
         workers: front,
         dialing,
         control,
     };
-    Ok((crew, spare))
+    Ok((thread_seats, spare))
 }
 
-/// All seats again, those to spare first.
-pub(crate) fn gather<S: Configured>(crew: Crew<S>, spare: Vec<ReaderSeat<S>>) -> Vec<ReaderSeat<S>>
-    requires { vec_len spare + (vec_len crew.workers + 2) ≤ vec_capacity spare }
-    ensures { vec_len result ≡ vec_len spare + (vec_len crew.workers + 2) }
+/// All seats, those to spare first.
+pub(crate) fn gather_seats<S: DirectoryTag>(
+    thread_seats: ThreadSeats<S>,
+    spare: Vec<ReaderSeat<S>>,
+) -> Vec<ReaderSeat<S>>
+    requires { vec_len spare + (vec_len thread_seats.workers + 2) ≤ vec_capacity spare }
+    ensures { vec_len result ≡ vec_len spare + (vec_len thread_seats.workers + 2) }
 {
-    let Crew {
+    let ThreadSeats {
         mut workers,
         dialing,
         control,
-    } = crew;
+    } = thread_seats;
     let mut all = spare;
     all.push_reserved(control);
     all.push_reserved(dialing);

@@ -15,20 +15,21 @@ use std::time::Duration;
 
 /// A socket that is bound at a path.
 #[derive(Drop)]
-pub(crate) struct Door<'a> {
+pub(crate) struct BoundSocket<'a> {
     path: &'a str,
     listener: UnixListener,
     /// The socket itself once more, which is shut to wake those that accept on it.
     latch: UnixStream,
 }
 
-/// The sockets of a node: for its peers, and for its owner.
+/// The sockets of a node: for its peers, and for its clients.
 #[derive(Drop)]
-pub(crate) struct Doors<'a> {
-    pub(crate) sock: Door<'a>,
-    pub(crate) control: Door<'a>,
+pub(crate) struct BoundSockets<'a> {
+    pub(crate) sock: BoundSocket<'a>,
+    pub(crate) control: BoundSocket<'a>,
 }
 
+/// The socket of a listener once more.
 fn latch_of(listener: &UnixListener) -> io::Result<UnixStream> {
     Ok(UnixStream::from(OwnedFd::from(listener.try_clone()?)))
 }
@@ -40,14 +41,14 @@ fn is_left_behind<R: Files + Net>(rt: &R, path: &str) -> bool {
         && connect(rt, path).is_err_and(|error| error.kind() == io::ErrorKind::ConnectionRefused)
 }
 
-impl<'a> Door<'a> {
+impl<'a> BoundSocket<'a> {
     /// Binds a socket at a path where no file is, and makes one. A socket at which nobody listens any more is removed before,
     /// and the observer is told. `ReadFailed`, also of an empty path, which leaves what was there.
     fn bind<R: Files + Net, O: Observer>(
         rt: &R,
         path: &'a str,
         observer: &O,
-    ) -> Result<Door<'a>, Fault>
+    ) -> Result<BoundSocket<'a>, Fault>
         ensures { IfErr result (λ fault. fault ≡ Fault.ReadFailed) }
     {
         // The system would give such a socket a name of its own, to which no path leads.
@@ -61,7 +62,7 @@ impl<'a> Door<'a> {
             return Err(Fault::ReadFailed);
         };
         match latch_of(&listener) {
-            Ok(latch) => Ok(Door {
+            Ok(latch) => Ok(BoundSocket {
                 path,
                 listener,
                 latch,
@@ -94,7 +95,7 @@ impl<'a> Door<'a> {
     }
 }
 
-impl<'a> Doors<'a> {
+impl<'a> BoundSockets<'a> {
     /// Binds both sockets, and tells the observer of each that was left behind. `ReadFailed` where one can't be bound; then
     /// there is no file that was not there.
     pub(crate) fn bind<R: Files + Net, O: Observer>(
@@ -102,12 +103,12 @@ impl<'a> Doors<'a> {
         sock: &'a str,
         control: &'a str,
         observer: &O,
-    ) -> Result<Doors<'a>, Fault>
+    ) -> Result<BoundSockets<'a>, Fault>
         ensures { IfErr result (λ fault. fault ≡ Fault.ReadFailed) }
     {
-        let sock = Door::bind(rt, sock, observer)?;
-        match Door::bind(rt, control, observer) {
-            Ok(control) => Ok(Doors { sock, control }),
+        let sock = BoundSocket::bind(rt, sock, observer)?;
+        match BoundSocket::bind(rt, control, observer) {
+            Ok(control) => Ok(BoundSockets { sock, control }),
             Err(fault) => {
                 sock.remove(rt);
                 Err(fault)

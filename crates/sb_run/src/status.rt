@@ -18,7 +18,7 @@ pub struct Status<'a> {
     pub is_log_open: bool,
     /// The version under its name that another node wrote; none where no such was seen.
     pub conflict: Option<u64>,
-    /// What its readers are shown, owner by owner.
+    /// What the dialing thread's seat sees of it.
     pub snapshot: Snapshot<'a>,
     /// Whom it dials.
     pub peers: &'a [Peer<'a>],

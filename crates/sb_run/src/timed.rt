@@ -1,4 +1,4 @@
-//! Connections that have to be through within a time.
+//! Connections with a limit on how long a request or its answer takes.
 
 ghost use Rattle.std.specs.Prelude.{◌≡◌, ◌≢◌, ◌⊎◌, ◌*◌, ◌≤◌, None, Some, Ok, IfOk, IfSome};
 ghost use Rattle.std.specs.Duration.{as_nanos};
@@ -8,8 +8,8 @@ use std::io::{Read, Write};
 use std::os::unix::net::UnixStream;
 use std::time::{Clock, Duration, Instant};
 
-/// One way of a connection, which has to be through within a time that begins with its first read or write. Once that is over
-/// each read and each write fails.
+/// One way of a connection, with a limit on its time, which begins with the first read or write. Once it is over each read and
+/// each write fails.
 #[derive(Drop)]
 pub(crate) struct Timed<'a, Q> {
     clock: &'a Q,
@@ -22,7 +22,7 @@ pub(crate) struct Timed<'a, Q> {
 }
 
 impl<'a, Q: Clock> Timed<'a, Q> {
-    /// This way of the connection, which may be idle for so many milliseconds, and take so many for all of it; 0 for no limit.
+    /// This way of the connection, which may be idle for so many milliseconds, and may take so many in all; 0 for no limit.
     pub(crate) fn new(clock: &'a Q, stream: &'a UnixStream, idle: u64, whole: u64) -> Timed<'a, Q> {
         Timed {
             clock,
@@ -33,7 +33,7 @@ impl<'a, Q: Clock> Timed<'a, Q> {
         }
     }
 
-    /// So long, but no longer than no byte may move.
+    /// This time, but no more than no byte may move.
     fn at_most_idle(&self, left: Duration) -> Duration
         ensures left { as_nanos result ≤ as_nanos left }
         ensures idle { self.now.idle ≢ 0 → as_nanos result ≤ self.now.idle * 1_000_000 }

@@ -7,6 +7,7 @@ use sb_codec::{Ask, Message};
 use sb_frames::Steps;
 use sb_query::print_rows;
 use sb_run::ask_control;
+use sb_testing::wire::{ASK, DONE, PUT};
 use sb_types::{Fault, Prefix};
 use std::alloc::Global;
 use std::io;
@@ -14,17 +15,8 @@ use std::marker::Brand;
 use std::process::Abort;
 use std::sync::ledger::{Blank, Ledger};
 
-/// A Put of the weight 5 under w.
-const PUT: &[u8] = b"\xa7\x02\x00\x00\x00\x0c\x12\x01w\x02\x00\x00\x00\x00\x00\x00\x00\x05";
-
-/// Done, with the version 1.
-const DONE: &[u8] = b"\xa7\x02\x00\x00\x00\x09\x13\x00\x00\x00\x00\x00\x00\x00\x01";
-
-/// An Ask for all rows.
-const ASK: &[u8] = b"\xa7\x02\x00\x00\x00\x05\x10\x00\x00\x00\x00";
-
 /// The row of the weight 5 that a wrote under w, and no more.
-const ROWS: &[u8] =
+pub(crate) const ROWS: &[u8] =
     b"\xa7\x02\x00\x00\x00\x19\x11\x00\x00\x01\x01a\x01w\x00\x00\x00\x00\x00\x00\x00\x01\x02\x00\x00\x00\x00\x00\x00\x00\x05";
 
 /// A write that takes so many bytes, and then none.
@@ -105,7 +97,7 @@ fn version_of(answer: Message) -> Option<u64> {
 
 #[test]
 fn a_put_is_answered_by_its_version(rt: HostRuntime) {
-    let answer = answer_to(&rt, rt.alloc(), DONE, put_of_w(&rt), PUT);
+    let answer = answer_to(&rt, rt.alloc(), &DONE, put_of_w(&rt), PUT);
     same(&rt, &version_of(answer), &Some(1));
 }
 
@@ -159,14 +151,14 @@ fn no_whole_answer_is_a_fault(rt: HostRuntime) {
     let unknown = b"\xa7\x02\x00\x00\x00\x01\x55";
     ends_with(&rt, alloc, b"", 1, Fault::Truncated);
     ends_with(&rt, alloc, &DONE[..14], 2, Fault::Truncated);
-    ends_with(&rt, alloc, DONE, 0, Fault::TurnsSpent);
+    ends_with(&rt, alloc, &DONE, 0, Fault::TurnsSpent);
     ends_with(&rt, alloc, b"\xa6", 1, Fault::BadMark);
     ends_with(&rt, alloc, unknown, 1, Fault::UnknownKind(0x55));
 }
 
 /// A put to a writer that takes so many bytes ends with a fault that counts them.
 fn counts_sent(rt: &impl Abort, alloc: Global, left: usize) {
-    let met = fault_of(rt, alloc, DONE, &mut ShortWriter { left }, 1);
+    let met = fault_of(rt, alloc, &DONE, &mut ShortWriter { left }, 1);
     same(rt, &met, &Fault::WriteFailed(left as u64));
 }
 

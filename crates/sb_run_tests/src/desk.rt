@@ -1,15 +1,15 @@
 //! A directory with an owner that writes from its only seat.
 ghost use Rattle.std.specs.Prelude.{◌≡◌, ◌<◌};
 
-use crate::making::{key, name, new_log, weight};
+use crate::making::{key, name, new_log, new_node, weight};
 use crate::{got, there};
-use sb_directory::{Configured, Directory, EnteredSeat, ReaderSeat};
+use sb_directory::{Directory, DirectoryTag, EnteredSeat, ReaderSeat};
 use sb_frames::Steps;
 use sb_log::PlainLog;
 use sb_node::NodeCore;
-use sb_run::{Owner, Stored, serve_control};
+use sb_run::{OwnWrites, Serving, Stored, serve_control};
 use sb_types::{Delta, Fault};
-use sb_views::Opened;
+use sb_views::NewHistory;
 use std::alloc::Global;
 use std::io;
 use std::marker::Brand;
@@ -19,37 +19,49 @@ use std::sync::ledger::{Blank, Ledger};
 
 /// A directory, its seat, which is away while it enters or serves, and an owner with a new log.
 #[derive(Drop)]
-pub(crate) struct Desk<S: Configured, H: Wait + Drop> {
+pub(crate) struct Desk<S: DirectoryTag, H: Wait + Drop> {
     directory: Directory<S, H>,
     seat: Option<ReaderSeat<S>>,
-    owner: Owner<PlainLog>,
+    owner: OwnWrites<PlainLog>,
 }
 
-/// The desk of a node a with one seat.
-pub(crate) fn desk_of<S: Configured, R: Wait + Abort>(
+/// What is done at a desk.
+pub(crate) trait Play {
+    fn play<S: DirectoryTag, R: Wait + Abort>(rt: &R, alloc: Global, desk: &mut Desk<S, &R>);
+}
+
+/// This is done at the desk of a new node a with one seat.
+pub(crate) fn play_at_new<P: Play, R: Wait + Abort>(rt: &R, alloc: Global) {
+    let core = new_node(rt, alloc, 1);
+    play_at::<P, Brand, R>(rt, alloc, NewHistory::new(), Blank::new(1), core);
+}
+
+/// The same at the desk of a node that was just opened.
+fn play_at<P: Play, S: DirectoryTag, R: Wait + Abort>(
     rt: &R,
     alloc: Global,
-    opened: Opened,
+    new_history: NewHistory,
     blank: Blank,
     core: NodeCore,
-) -> Desk<S, &R>
-    requires story { opened.seen.book ≡ S.story }
+)
+    requires history { new_history.seen.book ≡ S.history }
     requires opening { S.opening ≡ core.node }
     requires settings { S.settings ≡ core.settings }
     requires name { blank.name ≡ S.name }
     requires parts { blank.parts ≡ S.parts }
     requires seats { (1 ≡ S.seats) × (1 ≡ S.parts) }
 {
-    let made = Directory::<S, &R>::make(rt, alloc, opened, blank, core, 1);
+    let made = Directory::<S, &R>::make(rt, alloc, new_history, blank, core, 1);
     let (directory, mut seats) = got(rt, made);
-    Desk {
+    let mut desk = Desk {
         directory,
         seat: seats.pop(),
-        owner: Owner::new(new_log(rt, alloc, b"a")),
-    }
+        owner: OwnWrites::new(new_log(rt, alloc, b"a")),
+    };
+    P::play(rt, alloc, &mut desk);
 }
 
-impl<S: Configured, H: Wait + Drop> Desk<S, H> {
+impl<S: DirectoryTag, H: Wait + Drop> Desk<S, H> {
     /// Puts the weight 5 under a key.
     pub(crate) fn put<Q: Wait + Abort>(&mut self, rt: &Q, text: &[u8]) -> Result<Stored, Fault> {
         let seat = there(rt, self.seat.as_mut());
@@ -96,15 +108,18 @@ impl<S: Configured, H: Wait + Drop> Desk<S, H> {
         max_reads: u64,
     ) -> Result<(), Fault> {
         let seat = there(rt, self.seat.take());
-        let (seat, ended) = serve_from::<S, H, Q, R, W, Brand>(
+        let serving = Serving {
             rt,
             alloc,
-            &self.directory,
+            directory: &self.directory,
+            max_reads,
+        };
+        let (seat, ended) = serve_from::<S, H, Q, R, W, Brand>(
+            &serving,
             &mut self.owner,
             seat,
             reader,
             writer,
-            max_reads,
             Blank::new(1),
         );
         self.seat = Some(seat);
@@ -113,7 +128,7 @@ impl<S: Configured, H: Wait + Drop> Desk<S, H> {
 }
 
 /// How far a reader sees the writes of a.
-fn upto_of_a<S: Configured>(rt: &impl Abort, seat: ReaderSeat<S>) -> (ReaderSeat<S>, u64) {
+fn upto_of_a<S: DirectoryTag>(rt: &impl Abort, seat: ReaderSeat<S>) -> (ReaderSeat<S>, u64) {
     match seat.enter() {
         Ok(entered) => {
             let upto = seen_of_a(rt, &entered);
@@ -123,19 +138,23 @@ fn upto_of_a<S: Configured>(rt: &impl Abort, seat: ReaderSeat<S>) -> (ReaderSeat
     }
 }
 
-fn seen_of_a<S: Configured>(rt: &impl Abort, entered: &EnteredSeat<S>) -> u64 {
+fn seen_of_a<S: DirectoryTag>(rt: &impl Abort, entered: &EnteredSeat<S>) -> u64 {
     entered.snapshot().upto(&name(rt, b"a"))
 }
 
-fn serve_from<S: Configured, H: Wait + Drop, Q: Wait + Abort, R: io::Read, W: io::Write, K: Ledger>(
-    rt: &Q,
-    alloc: Global,
-    directory: &Directory<S, H>,
-    owner: &mut Owner<PlainLog>,
+fn serve_from<
+    S: DirectoryTag,
+    H: Wait + Drop,
+    Q: Wait + Abort,
+    R: io::Read,
+    W: io::Write,
+    K: Ledger,
+>(
+    serving: &Serving<S, H, Q>,
+    owner: &mut OwnWrites<PlainLog>,
     seat: ReaderSeat<S>,
     reader: &mut R,
     writer: &mut W,
-    max_reads: u64,
     blank: Blank,
 ) -> (ReaderSeat<S>, Result<(), Fault>)
     requires name { blank.name ≡ K.name }
@@ -143,8 +162,6 @@ fn serve_from<S: Configured, H: Wait + Drop, Q: Wait + Abort, R: io::Read, W: io
     requires some { 0 < blank.parts }
 {
     let mut steps = Steps::<K>::new(blank);
-    let (seat, ended, _) = serve_control(
-        rt, alloc, reader, writer, directory, owner, seat, max_reads, &mut steps,
-    );
+    let (seat, ended, _) = serve_control(serving, reader, writer, owner, seat, &mut steps);
     (seat, ended)
 }

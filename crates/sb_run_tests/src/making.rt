@@ -4,7 +4,8 @@ use sb_codec::Message;
 use sb_log::PlainLog;
 use sb_node::NodeCore;
 use sb_table::Table;
-use sb_types::{BUDGET_LEAST, Key, Name, Order, RawSettings, Settings, Slot, Value, Write};
+use sb_testing::SETTINGS;
+use sb_types::{BUDGET_LEAST, Key, Name, RawSettings, Settings, Slot, Value, Write};
 use std::alloc::Global;
 use std::process::Abort;
 
@@ -24,12 +25,10 @@ pub(crate) fn weight(rt: &impl Abort, weight: u64) -> Slot {
 /// Settings of the cluster c1, with such a budget, so many seats and so many workers.
 pub(crate) fn settings_with(rt: &impl Abort, budget: u64, seats: u64, workers: u64) -> Settings {
     let raw = RawSettings {
-        cluster: b"c1",
         budget,
-        order: Order::Breadth,
-        max_version: 100,
         seats,
         workers,
+        ..SETTINGS
     };
     got(rt, Settings::check(raw))
 }

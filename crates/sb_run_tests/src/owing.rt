@@ -1,27 +1,14 @@
 //! Writes for which the directory has no room: the log keeps them, and they enter before the next. With ample memory there are none;
 //! `tools/sweep` refuses what they ask for.
-ghost use Rattle.std.specs.Prelude.{◌≡◌};
-
-use crate::desk::{Desk, desk_of};
-use crate::making::new_node;
-use crate::owning::PUT;
+use crate::desk::{Desk, Play, play_at_new};
 use crate::same;
-use sb_directory::Configured;
-use sb_node::NodeCore;
+use sb_directory::DirectoryTag;
 use sb_run::Stored;
+use sb_testing::wire::{DONE, PUT, REFUSED};
 use sb_types::Fault;
-use sb_views::Opened;
 use std::alloc::Global;
-use std::marker::Brand;
 use std::process::Abort;
 use std::sync::Wait;
-use std::sync::ledger::Blank;
-
-/// Done, with the version 0.
-const DONE: [u8; 15] = *b"\xa7\x02\x00\x00\x00\x09\x13\x00\x00\x00\x00\x00\x00\x00\x00";
-
-/// Refused, with the number of want of memory.
-const REFUSED: &[u8] = b"\xa7\x02\x00\x00\x00\x02\x14\x01";
 
 /// The last version of the log, and that of the directory.
 #[derive(Clone, Copy)]
@@ -61,38 +48,27 @@ impl Versions {
 
 #[test]
 fn an_owed_write_enters_before_the_next(rt: HostRuntime) {
-    let core = new_node(&rt, rt.alloc(), 1);
-    put_each::<Brand, _>(&rt, rt.alloc(), Opened::new(), Blank::new(1), core);
+    play_at_new::<PutEach, _>(&rt, rt.alloc());
 }
 
 /// Puts under some keys, one after the other, to a new directory.
-fn put_each<S: Configured, R: Wait + Abort>(
-    rt: &R,
-    alloc: Global,
-    opened: Opened,
-    blank: Blank,
-    core: NodeCore,
-)
-    requires story { opened.seen.book ≡ S.story }
-    requires opening { S.opening ≡ core.node }
-    requires settings { S.settings ≡ core.settings }
-    requires name { blank.name ≡ S.name }
-    requires parts { blank.parts ≡ S.parts }
-    requires seats { (1 ≡ S.seats) × (1 ≡ S.parts) }
-{
-    let mut desk = desk_of::<S, R>(rt, alloc, opened, blank, core);
-    let none = Versions {
-        kept: 0,
-        entered: 0,
-    };
-    let first = put_next(rt, &mut desk, b"x", none);
-    let second = put_next(rt, &mut desk, b"y", first);
-    let third = put_next(rt, &mut desk, b"x", second);
-    put_next(rt, &mut desk, b"z", third);
+struct PutEach;
+
+impl Play for PutEach {
+    fn play<S: DirectoryTag, R: Wait + Abort>(rt: &R, _alloc: Global, desk: &mut Desk<S, &R>) {
+        let none = Versions {
+            kept: 0,
+            entered: 0,
+        };
+        let first = put_next(rt, desk, b"x", none);
+        let second = put_next(rt, desk, b"y", first);
+        let third = put_next(rt, desk, b"x", second);
+        put_next(rt, desk, b"z", third);
+    }
 }
 
 /// Puts under a key, where the log and the directory are at these versions; those after it.
-fn put_next<S: Configured, R: Wait + Abort>(
+fn put_next<S: DirectoryTag, R: Wait + Abort>(
     rt: &R,
     desk: &mut Desk<S, &R>,
     text: &[u8],
@@ -108,33 +84,23 @@ fn put_next<S: Configured, R: Wait + Abort>(
 
 #[test]
 fn an_owed_write_is_answered_by_its_version(rt: HostRuntime) {
-    let core = new_node(&rt, rt.alloc(), 1);
-    request_each::<Brand, _>(&rt, rt.alloc(), Opened::new(), Blank::new(1), core);
+    play_at_new::<RequestEach, _>(&rt, rt.alloc());
 }
 
-fn request_each<S: Configured, R: Wait + Abort>(
-    rt: &R,
-    alloc: Global,
-    opened: Opened,
-    blank: Blank,
-    core: NodeCore,
-)
-    requires story { opened.seen.book ≡ S.story }
-    requires opening { S.opening ≡ core.node }
-    requires settings { S.settings ≡ core.settings }
-    requires name { blank.name ≡ S.name }
-    requires parts { blank.parts ≡ S.parts }
-    requires seats { (1 ≡ S.seats) × (1 ≡ S.parts) }
-{
-    let mut desk = desk_of::<S, R>(rt, alloc, opened, blank, core);
-    let first = request_next(rt, alloc, &mut desk, 0);
-    let second = request_next(rt, alloc, &mut desk, first);
-    let third = request_next(rt, alloc, &mut desk, second);
-    request_next(rt, alloc, &mut desk, third);
+/// Asks for some puts, one after the other.
+struct RequestEach;
+
+impl Play for RequestEach {
+    fn play<S: DirectoryTag, R: Wait + Abort>(rt: &R, alloc: Global, desk: &mut Desk<S, &R>) {
+        let first = request_next(rt, alloc, desk, 0);
+        let second = request_next(rt, alloc, desk, first);
+        let third = request_next(rt, alloc, desk, second);
+        request_next(rt, alloc, desk, third);
+    }
 }
 
 /// Asks for a put, where this version was told last; the version that is told last then.
-fn request_next<S: Configured, R: Wait + Abort>(
+fn request_next<S: DirectoryTag, R: Wait + Abort>(
     rt: &R,
     alloc: Global,
     desk: &mut Desk<S, &R>,

@@ -8,6 +8,7 @@ use sb_log::{PlainLog, WriteLog};
 use sb_node::NodeCore;
 use sb_session::{Ended, Session, dial, serve};
 use sb_table::Table;
+use sb_testing::wire::{DONE, PUT};
 use sb_types::{Fault, Slot, Value};
 use std::alloc::Global;
 use std::io::{Read, Write};
@@ -16,11 +17,6 @@ use std::net::Net;
 use std::os::unix::net::{UnixListener, UnixStream};
 use std::process::Abort;
 use std::sync::ledger::{Blank, Ledger};
-
-/// A Put of the weight 5 under w, and its answer: Done, with the version 1.
-const PUT: &[u8] = b"\xa7\x02\x00\x00\x00\x0c\x12\x01w\x02\x00\x00\x00\x00\x00\x00\x00\x05";
-
-const DONE: [u8; 15] = *b"\xa7\x02\x00\x00\x00\x09\x13\x00\x00\x00\x00\x00\x00\x00\x01";
 
 /// A table of one write, the flag true under this key.
 fn table_with(rt: &impl Abort, alloc: Global, me: &[u8], text: &[u8]) -> Table {

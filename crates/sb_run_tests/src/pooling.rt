@@ -3,11 +3,11 @@ ghost use Rattle.std.specs.Prelude.{◌≡◌};
 
 use crate::making::new_node;
 use crate::{got, same};
-use sb_directory::{Configured, Directory, ReaderSeat};
+use sb_directory::{Directory, DirectoryTag, ReaderSeat};
 use sb_node::NodeCore;
-use sb_run::{Gate, Pooled, Source, Step, serve_pool};
+use sb_run::{Gate, GatePoint, Pooled, Serving, Source, serve_pool};
 use sb_types::Fault;
-use sb_views::Opened;
+use sb_views::NewHistory;
 use std::alloc::Global;
 use std::marker::Brand;
 use std::process::Abort;
@@ -64,9 +64,9 @@ impl<R: Clock> Gate for Holding<'_, R> {
 
     ghost turns = { λ gate session step. Unit {0} };
 
-    fn pass(&self, session: u64, step: Step) -> bool {
+    fn pass(&self, session: u64, step: GatePoint) -> bool {
         match (session, step) {
-            (1, Step::BeforeApply) => {
+            (1, GatePoint::BeforeApply) => {
                 for _ in 0..self.turns {
                     if self.has_answered.load(Ordering::SeqCst) {
                         return true;
@@ -75,7 +75,7 @@ impl<R: Clock> Gate for Holding<'_, R> {
                 }
                 false
             }
-            (2, Step::AfterAnswer) => {
+            (2, GatePoint::AfterAnswer) => {
                 self.has_answered.store(true, Ordering::SeqCst);
                 true
             }
@@ -88,7 +88,7 @@ impl<R: Clock> Gate for Holding<'_, R> {
 type Met = (u64, u64, u64);
 
 /// Serves both peers from these seats, at a gate that holds for at most so many turns.
-fn serve_from<S: Configured + Send + Sync, R: Threads + Wait + Clock + Abort + Send + Sync>(
+fn serve_from<S: DirectoryTag + Send + Sync, R: Threads + Wait + Clock + Abort + Send + Sync>(
     rt: &R,
     alloc: Global,
     directory: &Directory<S, &R>,
@@ -104,36 +104,42 @@ fn serve_from<S: Configured + Send + Sync, R: Threads + Wait + Clock + Abort + S
         has_answered: AtomicBool::new(false),
         turns,
     };
-    match serve_pool(rt, alloc, directory, seats, &peers, &gate, 99) {
+    let serving = Serving {
+        rt,
+        alloc,
+        directory,
+        max_reads: 99,
+    };
+    match serve_pool(&serving, seats, &peers, &gate) {
         Ok(pooled) => pooled,
         Err((fault, _)) => panic!(rt; "error: {fault:?}"),
     }
 }
 
-fn pool_of<S: Configured + Send + Sync, R: Threads + Wait + Clock + Abort + Send + Sync>(
+fn pool_of<S: DirectoryTag + Send + Sync, R: Threads + Wait + Clock + Abort + Send + Sync>(
     rt: &R,
     alloc: Global,
-    opened: Opened,
+    new_history: NewHistory,
     blank: Blank,
     core: NodeCore,
     workers: usize,
     turns: u64,
 ) -> Met
-    requires story { opened.seen.book ≡ S.story }
+    requires history { new_history.seen.book ≡ S.history }
     requires opening { S.opening ≡ core.node }
     requires settings { S.settings ≡ core.settings }
     requires name { blank.name ≡ S.name }
     requires parts { blank.parts ≡ S.parts }
     requires all { (workers ≡ S.seats) × (workers ≡ S.parts) }
 {
-    let made = Directory::<S, &R>::make(rt, alloc, opened, blank, core, workers);
+    let made = Directory::<S, &R>::make(rt, alloc, new_history, blank, core, workers);
     let (directory, seats) = got(rt, made);
     let pooled = serve_from(rt, alloc, &directory, seats, turns);
     close(rt, directory, pooled)
 }
 
 /// What the workers met, where the directory takes all seats back.
-fn close<S: Configured, R: Wait + Abort>(
+fn close<S: DirectoryTag, R: Wait + Abort>(
     rt: &R,
     directory: Directory<S, &R>,
     pooled: Pooled<S>,
@@ -156,7 +162,7 @@ fn pool_new<R: Threads + Wait + Clock + Abort + Send + Sync>(
     let core = new_node(rt, alloc, 2);
     let blank = Blank::new(u64::from(workers));
     let workers = usize::from(workers);
-    pool_of::<Brand, _>(rt, alloc, Opened::new(), blank, core, workers, turns)
+    pool_of::<Brand, _>(rt, alloc, NewHistory::new(), blank, core, workers, turns)
 }
 
 #[test]

@@ -3,9 +3,10 @@
 use crate::making::{name, new_log, settings};
 use crate::peers::{hears_only, next_of, node_with, put_is_done, reach, talk};
 use crate::{got, holds, same};
-use sb_run::{Nobody, Observer, OnLogFault, Pace, Paths, Ran, run_node};
+use sb_log::PlainLog;
+use sb_run::{Nobody, NodeConfig, Observer, OnLogFault, Pace, Paths, Ran, Runtime, run_node};
 use sb_session::Ended;
-use sb_types::Fault;
+use sb_types::{Fault, Settings};
 use std::alloc::Global;
 use std::fs::File;
 use std::io::{Read, Write};
@@ -15,8 +16,6 @@ use std::process::Abort;
 use std::rt::Files;
 use std::sync::atomic::{AtomicBool, Ordering};
 use std::sync::{Mutex, Wait};
-use std::thread::Threads;
-use std::time::Clock;
 use std::{fs, io, thread};
 
 /// The length of the Hello that a says.
@@ -43,6 +42,24 @@ pub(crate) fn pace(rounds: u64, idle: u64) -> Pace {
     }
 }
 
+/// Where a node has its sockets, and where its peers listen.
+pub(crate) fn paths_of<'a>(sock: &'a str, control: &'a str, peers: &'a [&'a str]) -> Paths<'a> {
+    Paths {
+        sock,
+        control,
+        peers,
+    }
+}
+
+/// What a node did that made so many rounds, with so many faults and events.
+pub(crate) fn ran_of(rounds: u64, faults: u64, events: u64) -> Ran {
+    Ran {
+        rounds,
+        faults,
+        events,
+    }
+}
+
 pub(crate) fn is_there(files: &impl Files, path: &str) -> bool {
     fs::metadata(files, path).is_ok()
 }
@@ -52,34 +69,50 @@ fn are_there(files: &impl Files, paths: &Paths) -> [bool; 2] {
     [is_there(files, paths.sock), is_there(files, paths.control)]
 }
 
+/// What runs a node, and may end the test.
+pub(crate) trait Host: Runtime + Abort {}
+
+impl<R: Runtime + Abort> Host for R {}
+
 /// Runs the node a with a new log.
-fn run_a<
-    R: Threads
-        + Wait
-        + Clock
-        + Files
-        + Net<Listener = TcpListener, Stream = TcpStream>
-        + Abort
-        + Send
-        + Sync,
->(rt: &R, alloc: Global, paths: &Paths, pace: Pace) -> Result<Ran, Fault> {
+pub(crate) fn run_a<R: Host + Net<Listener = TcpListener, Stream = TcpStream>>(
+    rt: &R,
+    alloc: Global,
+    paths: &Paths,
+    pace: Pace,
+) -> Result<Ran, Fault> {
     run_observed(rt, alloc, paths, pace, &Nobody)
 }
 
 /// The same, with this observer.
 pub(crate) fn run_observed<
-    R: Threads
-        + Wait
-        + Clock
-        + Files
-        + Net<Listener = TcpListener, Stream = TcpStream>
-        + Abort
-        + Send
-        + Sync,
+    R: Host + Net<Listener = TcpListener, Stream = TcpStream>,
     O: Observer + Sync,
 >(rt: &R, alloc: Global, paths: &Paths, pace: Pace, observer: &O) -> Result<Ran, Fault> {
     let log = new_log(rt, alloc, b"a");
-    run_node(rt, alloc, settings(rt, 3), log, paths, pace, observer)
+    let config = NodeConfig {
+        settings: settings(rt, 3),
+        paths: *paths,
+        pace,
+    };
+    run_node(rt, alloc, config, log, observer)
+}
+
+/// Runs the node of this log.
+pub(crate) fn run_log<R: Host + Net<Listener = TcpListener, Stream = TcpStream>>(
+    rt: &R,
+    alloc: Global,
+    settings: Settings,
+    paths: &Paths,
+    pace: Pace,
+    log: PlainLog,
+) -> Result<Ran, Fault> {
+    let config = NodeConfig {
+        settings,
+        paths: *paths,
+        pace,
+    };
+    run_node(rt, alloc, config, log, &Nobody)
 }
 
 /// Looks whether the sockets are there once the node listens.
@@ -103,22 +136,14 @@ impl Observer for Looker<'_> {
 
 #[test]
 fn rounds_without_peers(rt: HostRuntime) {
-    let paths = Paths {
-        sock: "quiet.sock",
-        control: "quiet.control",
-        peers: &[],
-    };
+    let paths = paths_of("quiet.sock", "quiet.control", &[]);
     let looker = Looker {
         rt: &rt,
         paths: &paths,
         saw_both: AtomicBool::new(false),
     };
     let ran = run_observed(&rt, rt.alloc(), &paths, pace(3, 0), &looker);
-    let whole = Ran {
-        rounds: 3,
-        faults: 0,
-        events: 0,
-    };
+    let whole = ran_of(3, 0, 0);
     same(&rt, &got(&rt, ran), &whole);
     let met = (
         looker.saw_both.load(Ordering::SeqCst),
@@ -136,21 +161,14 @@ fn is_kept(rt: &(impl Files + Abort), alloc: Global) -> bool {
 }
 
 /// A node is refused where there is a file at one of its paths: it is left as it was, and there is none at the other.
-fn leaves_taken<
-    R: Threads
-        + Wait
-        + Clock
-        + Files
-        + Net<Listener = TcpListener, Stream = TcpStream>
-        + Abort
-        + Send
-        + Sync,
->(rt: &R, alloc: Global, sock: &str, control: &str, free: &str) {
-    let paths = Paths {
-        sock,
-        control,
-        peers: &[],
-    };
+fn leaves_taken<R: Host + Net<Listener = TcpListener, Stream = TcpStream>>(
+    rt: &R,
+    alloc: Global,
+    sock: &str,
+    control: &str,
+    free: &str,
+) {
+    let paths = paths_of(sock, control, &[]);
     got(rt, fs::write(rt, "taken", "kept"));
     let ran = run_a(rt, alloc, &paths, pace(1, 0));
     let is_made = is_there(rt, free);
@@ -165,21 +183,14 @@ fn a_path_that_is_taken_is_left(rt: HostRuntime) {
 }
 
 /// A node is refused where one of its paths is empty, and there is no file at the other.
-fn refuses_empty<
-    R: Threads
-        + Wait
-        + Clock
-        + Files
-        + Net<Listener = TcpListener, Stream = TcpStream>
-        + Abort
-        + Send
-        + Sync,
->(rt: &R, alloc: Global, sock: &str, control: &str, other: &str) {
-    let paths = Paths {
-        sock,
-        control,
-        peers: &[],
-    };
+fn refuses_empty<R: Host + Net<Listener = TcpListener, Stream = TcpStream>>(
+    rt: &R,
+    alloc: Global,
+    sock: &str,
+    control: &str,
+    other: &str,
+) {
+    let paths = paths_of(sock, control, &[]);
     let ran = run_a(rt, alloc, &paths, pace(1, 0));
     let met = (ran, is_there(rt, other));
     same(rt, &met, &(Err(Fault::ReadFailed), false));
@@ -192,16 +203,14 @@ fn an_empty_path_is_refused(rt: HostRuntime) {
 }
 
 /// What the node did. Where it did not dial so often, connections stand for it, so that the player does not wait for them.
-fn run_and_reach<
-    R: Threads
-        + Wait
-        + Clock
-        + Files
-        + Net<Listener = TcpListener, Stream = TcpStream>
-        + Abort
-        + Send
-        + Sync,
->(rt: &R, alloc: Global, paths: &Paths, pace: Pace, peer: &str, times: u64) -> Ran {
+fn run_and_reach<R: Host + Net<Listener = TcpListener, Stream = TcpStream>>(
+    rt: &R,
+    alloc: Global,
+    paths: &Paths,
+    pace: Pace,
+    peer: &str,
+    times: u64,
+) -> Ran {
     let ran = run_a(rt, alloc, paths, pace);
     for _ in 0..times {
         let _ = UnixStream::connect(rt, peer);
@@ -248,11 +257,11 @@ fn play<R: Net + Abort>(rt: &R, alloc: Global, listener: &UnixListener, paths: &
 
 #[test]
 fn a_node_beside_its_owner_and_its_peers(rt: HostRuntime) {
-    let paths = Paths {
-        sock: "beside.sock",
-        control: "beside.control",
-        peers: &["beside.nobody", "beside.peer"],
-    };
+    let paths = paths_of(
+        "beside.sock",
+        "beside.control",
+        &["beside.nobody", "beside.peer"],
+    );
     let alloc = rt.alloc();
     let listener = got(&rt, UnixListener::bind(&rt, "beside.peer"));
     let (ran, seen) = thread::join(
@@ -267,11 +276,7 @@ fn a_node_beside_its_owner_and_its_peers(rt: HostRuntime) {
         held: [1, 1, 1],
     };
     same(&rt, &seen, &all);
-    let whole = Ran {
-        rounds: 2,
-        faults: 1,
-        events: 4,
-    };
+    let whole = ran_of(2, 1, 4);
     same(&rt, &ran, &whole);
 }
 
@@ -306,11 +311,7 @@ fn stay_silent<R: Net + Abort>(
 
 #[test]
 fn a_connection_that_says_nothing_ends(rt: HostRuntime) {
-    let paths = Paths {
-        sock: "idle.sock",
-        control: "idle.control",
-        peers: &["idle.peer"],
-    };
+    let paths = paths_of("idle.sock", "idle.control", &["idle.peer"]);
     let alloc = rt.alloc();
     let listener = got(&rt, UnixListener::bind(&rt, "idle.peer"));
     let (ran, heard) = thread::join(
@@ -320,11 +321,7 @@ fn a_connection_that_says_nothing_ends(rt: HostRuntime) {
     );
     got(&rt, fs::remove_file(&rt, "idle.peer"));
     same(&rt, &heard, &(true, true, Ended::Bye(1), 1));
-    let whole = Ran {
-        rounds: 2,
-        faults: 3,
-        events: 2,
-    };
+    let whole = ran_of(2, 3, 2);
     same(&rt, &ran, &whole);
 }
 
@@ -392,11 +389,7 @@ fn was_told<R: Wait>(keeper: &Keeper<R>, rounds: &[(Option<u8>, Result<Ended, Fa
 
 #[test]
 fn an_observer_is_told_of_each_change_of_a_peer_once(rt: HostRuntime) {
-    let paths = Paths {
-        sock: "told.sock",
-        control: "told.control",
-        peers: &["told.nobody", "told.b"],
-    };
+    let paths = paths_of("told.sock", "told.control", &["told.nobody", "told.b"]);
     let alloc = rt.alloc();
     let keeper = new_keeper(&rt, alloc);
     let listener = got(&rt, UnixListener::bind(&rt, "told.b"));
@@ -421,11 +414,7 @@ fn an_observer_is_told_of_each_change_of_a_peer_once(rt: HostRuntime) {
 
 #[test]
 fn an_observer_is_told_of_another_node_under_the_name_once(rt: HostRuntime) {
-    let paths = Paths {
-        sock: "named.sock",
-        control: "named.control",
-        peers: &["named.b"],
-    };
+    let paths = paths_of("named.sock", "named.control", &["named.b"]);
     let alloc = rt.alloc();
     let keeper = new_keeper(&rt, alloc);
     let listener = got(&rt, UnixListener::bind(&rt, "named.b"));

@@ -3,27 +3,22 @@ ghost use Rattle.std.specs.Prelude.{◌≤◌};
 
 use crate::making::{key, name, new_log, node_of, settings, settings_with, weight};
 use crate::peers::{hears_only, next_of, put_is_done_as, reach, talk};
-use crate::running::pace;
+use crate::running::{pace, paths_of, ran_of, run_a, run_log};
 use crate::waking::silent_b;
 use crate::{got, same};
 use sb_log::{PlainLog, WriteLog};
 use sb_node::NodeCore;
-use sb_run::{Nobody, Paths, Ran, run_node};
+use sb_run::Paths;
 use sb_table::Table;
-use sb_types::{Block, Delta, Entry, Name};
+use sb_testing::delta_of_write;
+use sb_testing::wire::{HELLO_A, HELLO_AND_BYE_B};
+use sb_types::{Delta, Entry, Name};
 use std::alloc::Global;
 use std::io::{Read, Write};
 use std::net::Net;
 use std::os::unix::net::{UnixListener, UnixStream};
 use std::process::Abort;
 use std::{fs, thread};
-
-/// The Hello of the node a of the cluster c1.
-const HELLO_OF_A: [u8; 12] = *b"\xa7\x02\x00\x00\x00\x06\x01\x02c1\x01a";
-
-/// The Hello of the node b of the cluster c1, and its Bye.
-const HELLO_AND_BYE: &[u8] =
-    b"\xa7\x02\x00\x00\x00\x06\x01\x02c1\x01b\xa7\x02\x00\x00\x00\x02\x04\x01";
 
 /// A log of a, which wrote twice.
 fn log_of_two(rt: &impl Abort, alloc: Global) -> PlainLog {
@@ -52,33 +47,24 @@ fn hear_twice<R: Net + Abort>(
 
 #[test]
 fn a_node_opens_with_what_its_log_has(rt: HostRuntime) {
-    let paths = Paths {
-        sock: "kept.sock",
-        control: "kept.control",
-        peers: &["kept.b"],
-    };
+    let paths = paths_of("kept.sock", "kept.control", &["kept.b"]);
     let alloc = rt.alloc();
     let listener = got(&rt, UnixListener::bind(&rt, "kept.b"));
     let (ran, heard) = thread::join(
         &rt,
-        || run_node(
+        || run_log(
             &rt,
             alloc,
             settings(&rt, 3),
-            log_of_two(&rt, alloc),
             &paths,
             pace(2, 0),
-            &Nobody,
+            log_of_two(&rt, alloc),
         ),
         || hear_twice(&rt, alloc, &listener, &paths),
     );
     got(&rt, fs::remove_file(&rt, "kept.b"));
     same(&rt, &heard, &(2, true, 3));
-    let whole = Ran {
-        rounds: 2,
-        faults: 0,
-        events: 3,
-    };
+    let whole = ran_of(2, 0, 3);
     same(&rt, &got(&rt, ran), &whole);
 }
 
@@ -87,13 +73,13 @@ fn be_greeted(rt: &impl Abort, stream: &UnixStream) {
     let mut reader = stream;
     let mut heard = [0u8; 12];
     got(rt, reader.read_exact(&mut heard));
-    same(rt, &heard, &HELLO_OF_A);
+    same(rt, &heard.as_slice(), &HELLO_A);
 }
 
 /// Says Hello and Bye; whether nothing more comes then.
 fn leave(rt: &impl Abort, stream: &UnixStream) -> bool {
     let mut writer = stream;
-    got(rt, writer.write_all(HELLO_AND_BYE));
+    got(rt, writer.write_all(HELLO_AND_BYE_B));
     hears_only(rt, stream, 0)
 }
 
@@ -109,25 +95,20 @@ fn crowd<R: Net + Abort>(rt: &R, sock: &str) -> [bool; 3] {
 /// With fewer workers the third would be greeted only once another was silent for ten seconds, and was given up with a fault.
 #[test]
 fn as_many_peers_are_served_at_once_as_there_are_workers(rt: HostRuntime) {
-    let paths = Paths {
-        sock: "crowd.sock",
-        control: "crowd.control",
-        peers: &["crowd.b"],
-    };
+    let paths = paths_of("crowd.sock", "crowd.control", &["crowd.b"]);
     let alloc = rt.alloc();
     let listener = got(&rt, UnixListener::bind(&rt, "crowd.b"));
     let mut pace = pace(1, 10_000);
     pace.dial_idle = 0;
     let (ran, left) = thread::join(
         &rt,
-        || run_node(
+        || run_log(
             &rt,
             alloc,
             settings_with(&rt, 1_024, 5, 3),
-            new_log(&rt, alloc, b"a"),
             &paths,
             pace,
-            &Nobody,
+            new_log(&rt, alloc, b"a"),
         ),
         || {
             let dialed = next_of(&rt, &listener);
@@ -138,11 +119,7 @@ fn as_many_peers_are_served_at_once_as_there_are_workers(rt: HostRuntime) {
     );
     got(&rt, fs::remove_file(&rt, "crowd.b"));
     same(&rt, &left, &[true, true, true]);
-    let whole = Ran {
-        rounds: 1,
-        faults: 0,
-        events: 1,
-    };
+    let whole = ran_of(1, 0, 1);
     same(&rt, &got(&rt, ran), &whole);
 }
 
@@ -159,12 +136,7 @@ fn delta_of(rt: &impl Abort, alloc: Global, letter: u8, version: u64) -> Delta
     requires { 1 ≤ version }
 {
     let entry = Entry::new(key(rt, b"w"), version, weight(rt, 5));
-    let entries = got(rt, vec![in alloc; entry]);
-    let block = got(
-        rt,
-        Block::new(owner(rt, letter), version.saturating_sub(1), entries),
-    );
-    got(rt, Delta::new(got(rt, vec![in alloc; block])))
+    got(rt, delta_of_write(alloc, owner(rt, letter), entry))
 }
 
 /// A node that holds the first write of 25 owners.
@@ -203,32 +175,16 @@ fn ask_for_the_last<R: Net + Abort>(
 /// The second and the third round have two exchanges, and so two deltas come in each; two come of c, and one in the first round.
 #[test]
 fn owners_behind_the_first_digest_are_asked_for(rt: HostRuntime) {
-    let paths = Paths {
-        sock: "owners.sock",
-        control: "owners.control",
-        peers: &["owners.b"],
-    };
+    let paths = paths_of("owners.sock", "owners.control", &["owners.b"]);
     let alloc = rt.alloc();
     let listener = got(&rt, UnixListener::bind(&rt, "owners.b"));
     let (ran, last) = thread::join(
         &rt,
-        || run_node(
-            &rt,
-            alloc,
-            settings(&rt, 3),
-            new_log(&rt, alloc, b"a"),
-            &paths,
-            pace(3, 0),
-            &Nobody,
-        ),
+        || run_a(&rt, alloc, &paths, pace(3, 0)),
         || ask_for_the_last(&rt, alloc, &listener, paths.sock),
     );
     got(&rt, fs::remove_file(&rt, "owners.b"));
     same(&rt, &last, &2);
-    let whole = Ran {
-        rounds: 3,
-        faults: 0,
-        events: 7,
-    };
+    let whole = ran_of(3, 0, 7);
     same(&rt, &got(&rt, ran), &whole);
 }

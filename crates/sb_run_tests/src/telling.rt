@@ -2,7 +2,7 @@
 
 use crate::making::name;
 use crate::peers::{next_of, node_with, put_is_done, reach, talk};
-use crate::running::{WRITTEN_AS_A, answer_by, pace, run_observed};
+use crate::running::{WRITTEN_AS_A, answer_by, pace, paths_of, run_observed};
 use crate::{got, holds, same};
 use sb_run::{LastRound, Observer, Paths, Status};
 use sb_session::Ended;
@@ -75,7 +75,7 @@ fn shown_to(rt: &impl Abort, status: &Status<'_>) -> Shown {
         snapshot.upto(&name(rt, b"b")),
         snapshot.upto(&name(rt, b"c")),
     ];
-    (snapshot.sheets().count(), upto)
+    (snapshot.owners().count(), upto)
 }
 
 impl<R: Wait + Abort> Observer for Listener<'_, R> {
@@ -124,11 +124,7 @@ fn write_and_play<R: Net + Abort>(
 
 #[test]
 fn a_node_tells_how_it_is(rt: HostRuntime) {
-    let paths = Paths {
-        sock: "tell.sock",
-        control: "tell.control",
-        peers: &["tell.nobody", "tell.b"],
-    };
+    let paths = paths_of("tell.sock", "tell.control", &["tell.nobody", "tell.b"]);
     let alloc = rt.alloc();
     let observer = new_listener(&rt, 2);
     let listener = got(&rt, UnixListener::bind(&rt, "tell.b"));
@@ -147,11 +143,7 @@ fn a_node_tells_how_it_is(rt: HostRuntime) {
 
 #[test]
 fn a_node_tells_of_another_under_its_name(rt: HostRuntime) {
-    let paths = Paths {
-        sock: "same.sock",
-        control: "same.control",
-        peers: &["same.b", "same.nobody"],
-    };
+    let paths = paths_of("same.sock", "same.control", &["same.b", "same.nobody"]);
     let alloc = rt.alloc();
     let observer = new_listener(&rt, 1);
     let listener = got(&rt, UnixListener::bind(&rt, "same.b"));

@@ -2,10 +2,10 @@
 
 use crate::making::{name, node_of, settings};
 use crate::peers::{next_of, node_with, put_is_done, reach, talk};
-use crate::running::{is_there, pace, run_observed};
+use crate::running::{is_there, pace, paths_of, run_a, run_observed};
 use crate::{got, holds, same};
 use sb_node::NodeCore;
-use sb_run::{Nobody, Observer, Paths};
+use sb_run::{Observer, Paths};
 use sb_session::Ended;
 use sb_table::Table;
 use sb_types::Fault;
@@ -57,18 +57,14 @@ fn hear_as_b<R: Net + Clock + Abort>(
 
 #[test]
 fn news_is_passed_on_at_once(rt: HostRuntime) {
-    let paths = Paths {
-        sock: "wake.sock",
-        control: "wake.control",
-        peers: &["wake.b"],
-    };
+    let paths = paths_of("wake.sock", "wake.control", &["wake.b"]);
     let alloc = rt.alloc();
     let listener = got(&rt, UnixListener::bind(&rt, "wake.b"));
     let mut pace = pace(3, 0);
     pace.pause = 5_000;
     let (ran, heard) = thread::join(
         &rt,
-        || run_observed(&rt, alloc, &paths, pace, &Nobody),
+        || run_a(&rt, alloc, &paths, pace),
         || hear_as_b(&rt, alloc, &listener, &paths),
     );
     got(&rt, fs::remove_file(&rt, "wake.b"));
@@ -79,11 +75,7 @@ fn news_is_passed_on_at_once(rt: HostRuntime) {
 
 #[test]
 fn a_peer_that_keeps_it_waiting_is_passed_over_in_seven_turns(rt: HostRuntime) {
-    let paths = Paths {
-        sock: "over.sock",
-        control: "over.control",
-        peers: &["over.silent", "over.b"],
-    };
+    let paths = paths_of("over.sock", "over.control", &["over.silent", "over.b"]);
     let alloc = rt.alloc();
     let silent = got(&rt, UnixListener::bind(&rt, "over.silent"));
     let listener = got(&rt, UnixListener::bind(&rt, "over.b"));
@@ -91,7 +83,7 @@ fn a_peer_that_keeps_it_waiting_is_passed_over_in_seven_turns(rt: HostRuntime) {
     pace.dial_idle = 300;
     let (ran, ()) = thread::join(
         &rt,
-        || run_observed(&rt, alloc, &paths, pace, &Nobody),
+        || run_a(&rt, alloc, &paths, pace),
         || {
             let mut of_b = silent_b(&rt, alloc);
             for _ in 0..8 {
@@ -109,11 +101,7 @@ fn a_peer_that_keeps_it_waiting_is_passed_over_in_seven_turns(rt: HostRuntime) {
 
 #[test]
 fn a_request_has_to_be_whole_in_time(rt: HostRuntime) {
-    let paths = Paths {
-        sock: "whole.sock",
-        control: "whole.control",
-        peers: &["whole.b"],
-    };
+    let paths = paths_of("whole.sock", "whole.control", &["whole.b"]);
     let alloc = rt.alloc();
     let listener = got(&rt, UnixListener::bind(&rt, "whole.b"));
     let mut pace = pace(1, 0);
@@ -121,7 +109,7 @@ fn a_request_has_to_be_whole_in_time(rt: HostRuntime) {
     pace.request = 300;
     let (ran, done) = thread::join(
         &rt,
-        || run_observed(&rt, alloc, &paths, pace, &Nobody),
+        || run_a(&rt, alloc, &paths, pace),
         || {
             let dialed = next_of(&rt, &listener);
             drop(dialed);
@@ -158,11 +146,7 @@ impl Observer for Counter {
 
 #[test]
 fn a_socket_that_was_left_is_removed_and_one_in_use_is_not(rt: HostRuntime) {
-    let paths = Paths {
-        sock: "left.sock",
-        control: "left.control",
-        peers: &[],
-    };
+    let paths = paths_of("left.sock", "left.control", &[]);
     let alloc = rt.alloc();
     let counter = Counter {
         removed: AtomicU64::new(0),

@@ -257,15 +257,15 @@ taken_up : {H : Type 0} (step : H → Act → H → Type 0) (o : Option Fault) (
 taken_up step (Some fault) s h m answer s' h' takes = absurd cc (takes.0)
 taken_up step None s h m answer s' h' takes = takes
 
-never_by_digest : {H : Type 0} (step : H → Act → H → Type 0) (s : Session) (h : H) (told : digests.Digest) (want : Bool) (reason : ℕ) (s' : Session) (h' : H)
-    → AnswersDigest step s h told want (Ok (replies.Ended reason)) s' h' → ⊥
-never_by_digest step s h told true reason s' h' e = e
-never_by_digest step s h told false reason s' h' e = e
+never_by_digest : {H : Type 0} (step : H → Act → H → Type 0) (s : Session) (h : H) (theirs : digests.Digest) (want : Bool) (reason : ℕ) (s' : Session) (h' : H)
+    → AnswersDigest step s h theirs want (Ok (replies.Ended reason)) s' h' → ⊥
+never_by_digest step s h theirs true reason s' h' e = e
+never_by_digest step s h theirs false reason s' h' e = e
 
 ended_by : {H : Type 0} (step : H → Act → H → Type 0) (s : Session) (h : H) (m : Message) (reason : ℕ) (s' : Session) (h' : H)
     → TakesUp step s h m (Ok (replies.Ended reason)) s' h' → m ≡ kinds.Bye reason
 ended_by step s h (kinds.Hello hello) reason s' h' takes = absurd cc (takes.0)
-ended_by step s h (kinds.Digest told) reason s' h' takes = absurd (never_by_digest step s h told told.want reason s' h' takes)
+ended_by step s h (kinds.Digest theirs) reason s' h' takes = absurd (never_by_digest step s h theirs theirs.want reason s' h' takes)
 ended_by step s h (kinds.Delta blocks) reason s' h' takes = absurd takes
 ended_by step s h (kinds.Bye said) reason s' h' takes = cc (takes.0)
 ended_by step s h (kinds.Ask asked) reason s' h' takes = absurd takes

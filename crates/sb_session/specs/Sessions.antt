@@ -61,7 +61,7 @@ kind_refusal Closed kind = Some faults.Closed
 -- why a message is refused, before a handler is asked anything; nothing where it is not
 abbrev pub refusal_of : Session → Message → Option Fault
 refusal_of s (kinds.Hello hello) = hello_refusal s.phase s hello
-refusal_of s (kinds.Digest told) = turn_refusal s.phase
+refusal_of s (kinds.Digest theirs) = turn_refusal s.phase
 refusal_of s (kinds.Delta blocks) = turn_refusal s.phase
 refusal_of s (kinds.Bye reason) = turn_refusal s.phase
 refusal_of s (kinds.Ask asked) = kind_refusal s.phase KIND_ASK

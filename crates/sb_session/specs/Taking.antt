@@ -43,26 +43,26 @@ bye_of (Ended reason) = Some reason
 
 -- a digest that wants none in answer: the delta for it, or the handler's refusal
 abbrev pub Answers : {H : Type 0} → (H → Act → H → Type 0) → Session → H → digests.Digest → Result Replies Fault → Session → H → Type 0
-Answers step s h told (Ok (Answered blocks)) s' h' = (s' ≡ s) × step h (gives told (Ok blocks)) h'
-Answers step s h told (Err fault) s' h' = (s' ≡ s) × step h (gives told (Err fault)) h'
-Answers step s h told (Ok _) s' h' = ⊥
+Answers step s h theirs (Ok (Answered blocks)) s' h' = (s' ≡ s) × step h (gives theirs (Ok blocks)) h'
+Answers step s h theirs (Err fault) s' h' = (s' ≡ s) × step h (gives theirs (Err fault)) h'
+Answers step s h theirs (Ok _) s' h' = ⊥
 
 -- one of the two calls was refused
 abbrev pub RefusesEither : {H : Type 0} → (H → Act → H → Type 0) → Session → H → digests.Digest → Fault → H → Type 0
-RefusesEither {H} step s h told fault h' =
-    step h (gives told (Err fault)) h'
-    ⊎ ((blocks : List Block) × (mid : H) × step h (gives told (Ok blocks)) mid × step mid (tells s.cursor false (Err fault)) h')
+RefusesEither {H} step s h theirs fault h' =
+    step h (gives theirs (Err fault)) h'
+    ⊎ ((blocks : List Block) × (mid : H) × step h (gives theirs (Ok blocks)) mid × step mid (tells s.cursor false (Err fault)) h')
 
 -- a digest that wants one in answer: the delta for it and the own next digest, or the handler's refusal of either
 abbrev pub Exchanges : {H : Type 0} → (H → Act → H → Type 0) → Session → H → digests.Digest → Result Replies Fault → Session → H → Type 0
-Exchanges {H} step s h told (Ok (Exchanged blocks digest)) s' h' =
-    (s' ≡ with_cursor s digest.until) × ((mid : H) × step h (gives told (Ok blocks)) mid × step mid (tells s.cursor false (Ok digest)) h')
-Exchanges step s h told (Err fault) s' h' = (s' ≡ s) × RefusesEither step s h told fault h'
-Exchanges step s h told (Ok _) s' h' = ⊥
+Exchanges {H} step s h theirs (Ok (Exchanged blocks digest)) s' h' =
+    (s' ≡ with_cursor s digest.until) × ((mid : H) × step h (gives theirs (Ok blocks)) mid × step mid (tells s.cursor false (Ok digest)) h')
+Exchanges step s h theirs (Err fault) s' h' = (s' ≡ s) × RefusesEither step s h theirs fault h'
+Exchanges step s h theirs (Ok _) s' h' = ⊥
 
 abbrev pub AnswersDigest : {H : Type 0} → (H → Act → H → Type 0) → Session → H → digests.Digest → Bool → Result Replies Fault → Session → H → Type 0
-AnswersDigest step s h told true result s' h' = Exchanges step s h told result s' h'
-AnswersDigest step s h told false result s' h' = Answers step s h told result s' h'
+AnswersDigest step s h theirs true result s' h' = Exchanges step s h theirs result s' h'
+AnswersDigest step s h theirs false result s' h' = Answers step s h theirs result s' h'
 
 -- a delta is applied, or the handler's refusal
 abbrev pub Applies : {H : Type 0} → (H → Act → H → Type 0) → Session → H → List Block → Result Replies Fault → Session → H → Type 0
@@ -78,7 +78,7 @@ Greets None s result s' = (result ≡ Ok Greeted) × (s' ≡ in_phase phases.Gre
 -- a message that is not refused
 abbrev pub TakesUp : {H : Type 0} → (H → Act → H → Type 0) → Session → H → Message → Result Replies Fault → Session → H → Type 0
 TakesUp step s h (Hello hello) result s' h' = (result ≡ Ok Greeted) × (s' ≡ in_phase phases.Greeted s) × (h' ≡ h)
-TakesUp step s h (Digest told) result s' h' = AnswersDigest step s h told told.want result s' h'
+TakesUp step s h (Digest theirs) result s' h' = AnswersDigest step s h theirs theirs.want result s' h'
 TakesUp step s h (Delta blocks) result s' h' = Applies step s h blocks result s' h'
 TakesUp step s h (Bye reason) result s' h' = (result ≡ Ok (Ended reason)) × (s' ≡ in_phase phases.Closed s) × (h' ≡ h)
 TakesUp step s h (Ask asked) result s' h' = ⊥

@@ -31,7 +31,7 @@ party_of speaks rounds s h = record { speaks = speaks; rounds = rounds; session 
 -- a digest that wants none in answer ends a round
 abbrev pub ends_round : Message → Bool
 ends_round (kinds.Hello hello) = false
-ends_round (kinds.Digest told) = not told.want
+ends_round (kinds.Digest theirs) = not theirs.want
 ends_round (kinds.Delta blocks) = false
 ends_round (kinds.Bye reason) = false
 ends_round (kinds.Ask asked) = false

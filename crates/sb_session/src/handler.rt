@@ -24,8 +24,8 @@ pub trait Handler {
         ensures fault { IfErr result IsRefusal };
 
     /// The writes that the sender of a digest lacks.
-    fn deltas(&mut self, told: &Digest) -> Result<Delta, Fault>
-        ensures step { step self.old (gives told.now result) self.new }
+    fn deltas(&mut self, theirs: &Digest) -> Result<Delta, Fault>
+        ensures step { step self.old (gives theirs.now result) self.new }
         ensures fault { IfErr result IsRefusal };
 
     /// Takes a delta, and says how each of its blocks ended.

@@ -1,4 +1,19 @@
 //! The rules by which two nodes that talk take each other's messages, and answer them.
+//!
+//! A `Session` takes the messages of a peer and says what to send: a delta for a digest, and an own digest where one is wanted.
+//! `dial` and `serve` run a whole session over a reader and a writer. What a node holds stands behind the trait `Handler`,
+//! which `sb_node` implements.
+//!
+//! ```rust
+//! /// Whether the node `a` is greeted by the Hello of `b`, a node of the same cluster.
+//! fn greet<H: Handler>(handler: &mut H) -> Result<bool, Fault> {
+//!     let cluster = Name::read(b"c1")?;
+//!     let mut session = Session::new(cluster, Name::read(b"a")?);
+//!     let peer = Session::new(cluster, Name::read(b"b")?);
+//!     let replies = session.take(peer.hello(), handler)?;
+//!     Ok(matches!(replies, Replies::Greeted))
+//! }
+//! ```
 #![tactic(auto)]
 
 mod handler;

@@ -101,7 +101,7 @@ impl Session {
             (Phase::Waiting, Message::Hello(hello)) => self.greet(&hello),
             (Phase::Waiting, _) => self.refuse(Fault::NoHello),
             (Phase::Greeted, Message::Hello(_)) => self.refuse(Fault::SecondHello),
-            (Phase::Greeted, Message::Digest(told)) => self.answer(&told, handler),
+            (Phase::Greeted, Message::Digest(theirs)) => self.answer(&theirs, handler),
             (Phase::Greeted, Message::Delta(delta)) => Ok(Replies::Applied(handler.apply(&delta)?)),
             (Phase::Greeted, Message::Bye(bye)) => {
                 self.phase = Phase::Closed;
@@ -136,14 +136,14 @@ impl Session {
 
     /// The delta for a digest and, where it wants one, the own next digest. Both are made before either
     /// is sent.
-    fn answer<H: Handler>(&mut self, told: &Digest, handler: &mut H) -> Result<Replies, Fault>
-        ensures answers { AnswersDigest H.step self.old handler.old told.now told.now.want result self.new handler.new }
+    fn answer<H: Handler>(&mut self, theirs: &Digest, handler: &mut H) -> Result<Replies, Fault>
+        ensures answers { AnswersDigest H.step self.old handler.old theirs.now theirs.now.want result self.new handler.new }
         ensures fault { IfErr result (λ fault. is_session_fault fault ≡ true) }
         ensures stays { H.stays handler.old handler.new }
         ensures grows { H.grows handler.old handler.new }
     {
-        let delta = handler.deltas(told)?;
-        if !told.want() {
+        let delta = handler.deltas(theirs)?;
+        if !theirs.want() {
             return Ok(Replies::Answered(delta));
         }
         let digest = handler.digest(self.cursor, false)?;

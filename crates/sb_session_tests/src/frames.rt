@@ -1,25 +1,17 @@
 //! Frames by hand, in any pieces and through any writer.
 
-use crate::wire::{BYE, DIGEST_A, HELLO_A, greatest_frame, joined};
+use crate::wire::{greatest_frame, joined};
 use crate::{got, name, same, same_at};
 use sb_codec::{Bye, Hello, Message};
 use sb_frames::{Frames, send, send_telling};
+use sb_testing::wire::{BYE, DELTA_A, DELTA_DESCENDING, DIGEST_A, HELLO_A};
 use sb_types::{Block, Delta, Entry, Fault, Key, Slot, Value};
 use std::alloc::Global;
 use std::io::{self, ErrorKind, Write};
 use std::process::Abort;
 
 /// One block of the owner a, after 0, with the weight 5 under w as version 1.
-pub(crate) const FRAME: &[u8] =
-    b"\xa7\x02\x00\x00\x00\x22\x03\x00\x01\x01a\x00\x00\x00\x00\x00\x00\x00\x00\
-    \x00\x01\x01w\x00\x00\x00\x00\x00\x00\x00\x01\x02\x00\x00\x00\x00\x00\x00\x00\x05";
-
-/// A block of b, and then one of a.
-const DESCENDING: &[u8] = b"\xa7\x02\x00\x00\x00\x41\x03\x00\x02\
-    \x01b\x00\x00\x00\x00\x00\x00\x00\x00\
-    \x00\x01\x01w\x00\x00\x00\x00\x00\x00\x00\x01\x02\x00\x00\x00\x00\x00\x00\x00\x05\
-    \x01a\x00\x00\x00\x00\x00\x00\x00\x00\
-    \x00\x01\x01w\x00\x00\x00\x00\x00\x00\x00\x01\x02\x00\x00\x00\x00\x00\x00\x00\x05";
+pub(crate) const FRAME: &[u8] = &DELTA_A;
 
 /// Hello of a node of a cluster whose name has 33 bytes.
 const LONG_CLUSTER: &[u8] = b"\xa7\x02\x00\x00\x00\x25\x01\
@@ -321,7 +313,7 @@ fn faulty_frames_close(rt: HostRuntime) {
     closes(&rt, alloc, b"\xa7\x02\x00\x00\x00\x00", Fault::BadLength);
     closes(&rt, alloc, b"\xa7\x02\x00\x00\xff\xfb", Fault::BadLength);
     closes(&rt, alloc, unknown, Fault::UnknownKind(0x55));
-    closes(&rt, alloc, DESCENDING, Fault::Malformed(3));
+    closes(&rt, alloc, DELTA_DESCENDING, Fault::Malformed(3));
     closes(&rt, alloc, LONG_CLUSTER, Fault::Malformed(1));
 }
 

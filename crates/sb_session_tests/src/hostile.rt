@@ -2,12 +2,13 @@
 ghost use Rattle.std.specs.Prelude.{◌<◌};
 
 use crate::frames::{FRAME, feed, taken};
-use crate::wire::{BYE, HELLO_A, add};
+use crate::wire::add;
 use crate::{got, same, same_at};
 use rand_core::utils::NextWord;
 use rand_pcg::Pcg32;
 use sb_codec::Message;
 use sb_frames::{Frames, frame_of};
+use sb_testing::wire::{BYE, HELLO_A, PUT};
 use sb_types::Fault;
 use std::alloc::Global;
 use std::process::Abort;
@@ -33,9 +34,6 @@ const ASK: &[u8] = b"\xa7\x02\x00\x00\x00\x0c\x10\x01a\x02w/\x01a\x03w/x";
 const ROWS: &[u8] = b"\xa7\x02\x00\x00\x00\x2a\x11\x01\x00\x02\
     \x01a\x01w\x00\x00\x00\x00\x00\x00\x00\x01\x02\x00\x00\x00\x00\x00\x00\x00\x05\
     \x01b\x01k\x00\x00\x00\x00\x00\x00\x00\x02\x01\x03p:1";
-
-/// The weight 5 under w.
-const PUT: &[u8] = b"\xa7\x02\x00\x00\x00\x0c\x12\x01w\x02\x00\x00\x00\x00\x00\x00\x00\x05";
 
 /// The write has version 7.
 const DONE: &[u8] = b"\xa7\x02\x00\x00\x00\x09\x13\x00\x00\x00\x00\x00\x00\x00\x07";

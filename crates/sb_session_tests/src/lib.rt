@@ -3,6 +3,8 @@
 #![tactic(auto)]
 
 #[cfg(test)]
+mod examples;
+#[cfg(test)]
 mod frames;
 #[cfg(test)]
 mod hostile;
@@ -37,10 +39,7 @@ fn same_at<N: Debug, T: PartialEq + Debug>(rt: &impl Abort, at: &N, found: &T, w
 /// The answer; where there is none, the end of the test, which names the fault.
 #[cfg(test)]
 fn got<T, E: Debug + Drop>(rt: &impl Abort, answer: Result<T, E>) -> T {
-    match answer {
-        Ok(answer) => answer,
-        Err(fault) => panic!(rt; "error: {fault:?}"),
-    }
+    answer.expect(rt, "error")
 }
 
 /// The name of this text.

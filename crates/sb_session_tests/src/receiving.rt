@@ -2,10 +2,11 @@
 ghost use Rattle.std.specs.Prelude.{◌≡◌, ◌<◌};
 
 use crate::frames::FRAME;
-use crate::wire::{Pieces, greatest_frame};
+use crate::wire::greatest_frame;
 use crate::{got, same, same_at};
 use sb_codec::Message;
 use sb_frames::{Frames, Steps, receive};
+use sb_testing::streams::Pieces;
 use sb_types::Fault;
 use std::alloc::Global;
 use std::marker::Brand;
@@ -75,13 +76,7 @@ fn received(
 
 /// A reader that gives all at once.
 fn whole(bytes: &[u8]) -> Pieces<'_> {
-    Pieces {
-        bytes,
-        piece: 4_096,
-        breaks: false,
-        interruptions: 0,
-        interrupted: 0,
-    }
+    Pieces::new(bytes, 4_096, false)
 }
 
 /// A reader that gives so many bytes a read, before each of which so many reads are interrupted.

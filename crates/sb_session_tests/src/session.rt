@@ -2,7 +2,6 @@
 ghost use Rattle.std.specs.Prelude.{IfErr};
 ghost use Rattle.sb_session.specs.Handlers.{IsRefusal};
 
-use crate::wire::{BYE, DELTA_B, DELTA_NONE, DIGEST_A, DIGEST_B, HELLO_A, HELLO_B};
 use crate::{got, name, same, same_at};
 use sb_codec::Message;
 use sb_digest::{Digest, build};
@@ -10,6 +9,9 @@ use sb_frames::{Frames, frame_of};
 use sb_holdings::{BlockEnd, Holdings, Report};
 use sb_session::{Handler, Replies, Session};
 use sb_table::Table;
+use sb_testing::wire::{
+    ASK, BYE, DELTA_B, DELTA_NONE, DIGEST_A, DIGEST_B, DONE, HELLO_A, HELLO_B, PUT, REFUSED,
+};
 use sb_types::{BUDGET_LEAST, Block, Delta, Entry, Fault, Key, Name, Slot, Value};
 use std::alloc::Global;
 use std::process::Abort;
@@ -17,17 +19,8 @@ use std::process::Abort;
 /// Hello of a node a of the cluster c2.
 pub(crate) const HELLO_C2: &[u8] = b"\xa7\x02\x00\x00\x00\x06\x01\x02c2\x01a";
 
-/// An Ask, Rows, a Put, a Done and a Refused, which have no place in a session.
-pub(crate) const ASK: &[u8] = b"\xa7\x02\x00\x00\x00\x05\x10\x00\x00\x00\x00";
-
+/// Rows, of which there are none.
 pub(crate) const ROWS: &[u8] = b"\xa7\x02\x00\x00\x00\x04\x11\x00\x00\x00";
-
-pub(crate) const PUT: &[u8] = b"\xa7\x02\x00\x00\x00\x0c\x12\x01w\x02\
-    \x00\x00\x00\x00\x00\x00\x00\x05";
-
-pub(crate) const DONE: &[u8] = b"\xa7\x02\x00\x00\x00\x09\x13\x00\x00\x00\x00\x00\x00\x00\x01";
-
-pub(crate) const REFUSED: &[u8] = b"\xa7\x02\x00\x00\x00\x02\x14\x01";
 
 /// What a node holds, told and taken up without an order and a budget of deltas, in so many calls.
 #[derive(Drop)]
@@ -83,11 +76,11 @@ impl Node {
         self.holdings.upto(&name(rt, owner))
     }
 
-    fn lacking(&self, told: &Digest) -> Result<Delta, Fault> {
+    fn lacking(&self, theirs: &Digest) -> Result<Delta, Fault> {
         let mut blocks = Vec::new(self.alloc);
         for (owner, table) in self.holdings.tables_from(None) {
-            let number = told.number(owner);
-            if !told.covers(owner) || table.upto() <= number {
+            let number = theirs.number(owner);
+            if !theirs.covers(owner) || table.upto() <= number {
                 continue;
             }
             blocks.push(block_above(self.alloc, *owner, table, number)?)?;
@@ -126,9 +119,9 @@ impl Handler for Node {
         granted(build(self.alloc, &self.holdings, from, want, BUDGET_LEAST))
     }
 
-    fn deltas(&mut self, told: &Digest) -> Result<Delta, Fault> {
+    fn deltas(&mut self, theirs: &Digest) -> Result<Delta, Fault> {
         self.grant()?;
-        granted(self.lacking(told))
+        granted(self.lacking(theirs))
     }
 
     fn apply(&mut self, delta: &Delta) -> Result<Report, Fault> {
@@ -334,7 +327,7 @@ fn messages_out_of_place_close(rt: HostRuntime) {
     has_no_place(&rt, alloc, ASK, 0x10);
     has_no_place(&rt, alloc, ROWS, 0x11);
     has_no_place(&rt, alloc, PUT, 0x12);
-    has_no_place(&rt, alloc, DONE, 0x13);
+    has_no_place(&rt, alloc, &DONE, 0x13);
     has_no_place(&rt, alloc, REFUSED, 0x14);
 }
 

@@ -1,14 +1,15 @@
 //! Whole sessions over readers and writers that break off, fail and give their bytes in pieces.
 ghost use Rattle.std.specs.Prelude.{◌≡◌, ◌<◌};
 
-use crate::session::{ASK, DONE, HELLO_C2, Node, PUT, REFUSED, ROWS};
-use crate::wire::{
-    BYE, DELTA_B, DELTA_NONE, DIGEST_A, DIGEST_B, HELLO_A, HELLO_B, Pieces, add, greatest_frame,
-    joined,
-};
+use crate::session::{HELLO_C2, Node, ROWS};
+use crate::wire::{add, greatest_frame, joined};
 use crate::{got, name, same, same_at};
 use sb_frames::{LastWrite, Steps};
 use sb_session::{Ended, Session, dial, serve};
+use sb_testing::streams::Pieces;
+use sb_testing::wire::{
+    ASK, BYE, DELTA_B, DELTA_NONE, DIGEST_A, DIGEST_B, DONE, HELLO_A, HELLO_B, PUT, REFUSED,
+};
 use sb_types::Fault;
 use std::alloc::Global;
 use std::io::{self, ErrorKind, Write};
@@ -115,13 +116,9 @@ fn dialing(bytes: &[u8], rounds: u64) -> Terms<'_> {
 
 /// The reader of a talk.
 fn reader_of<'a>(terms: &Terms<'a>) -> Pieces<'a> {
-    Pieces {
-        bytes: terms.bytes,
-        piece: terms.piece,
-        breaks: terms.breaks,
-        interruptions: terms.interruptions,
-        interrupted: 0,
-    }
+    let mut reader = Pieces::new(terms.bytes, terms.piece, terms.breaks);
+    reader.interruptions = terms.interruptions;
+    reader
 }
 
 fn talk_on<L: Ledger>(
@@ -568,7 +565,7 @@ fn end_behind(rt: &impl Abort, alloc: Global, greeting: &[u8]) {
     ends_behind(rt, alloc, greeting, ASK, 0x10);
     ends_behind(rt, alloc, greeting, ROWS, 0x11);
     ends_behind(rt, alloc, greeting, PUT, 0x12);
-    ends_behind(rt, alloc, greeting, DONE, 0x13);
+    ends_behind(rt, alloc, greeting, &DONE, 0x13);
     ends_behind(rt, alloc, greeting, REFUSED, 0x14);
 }
 

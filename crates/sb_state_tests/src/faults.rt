@@ -104,7 +104,7 @@ const FAULTS: &[(Fault, u8, &str)] = &[
     (
         Fault::TurnsSpent,
         29,
-        "the turns that were allowed are spent",
+        "the reads, calls or events that were allowed are spent",
     ),
     (
         Fault::FloorTooHigh,

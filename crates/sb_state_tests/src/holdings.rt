@@ -4,6 +4,7 @@ ghost use Rattle.std.specs.Prelude.{◌≤◌};
 use crate::{entry, got, holds, key, name, one, push, same, same_at, settled, weighing};
 use sb_holdings::{BlockEnd, Holdings, Report};
 use sb_table::Table;
+use sb_testing::letters_of;
 use sb_types::{Block, Entry, Fault, Name, Slot, Value};
 use std::alloc::Global;
 use std::process::Abort;
@@ -25,20 +26,9 @@ fn weight_at(holdings: &Holdings, owner: &Name, key: &[u8]) -> Shown {
     crate::table::shown(holdings.table(owner)?, key)
 }
 
-/// The text of a number, in four letters.
-fn text_of(number: u64) -> [u8; 4] {
-    let mut text = [b'a'; 4];
-    let mut rest = number;
-    for letter in text.iter_mut() {
-        *letter = b'a' + (rest % 26) as u8;
-        rest /= 26;
-    }
-    text
-}
-
 /// A write of a version under the key of a number.
 fn numbered(rt: &impl Abort, version: u64, key: u64) -> Entry {
-    write(rt, &text_of(key), version, true)
+    write(rt, &letters_of(key), version, true)
 }
 
 /// What a block begins after, the first of its versions, how many they are, and the number of its first key: each key is
@@ -260,7 +250,7 @@ fn own_keys_have_a_limit(rt: HostRuntime) {
     write_own(&rt, &mut holdings, 4_096);
     let full = Err(Fault::TableFull);
     assert_own(&rt, &mut holdings, (b"w", 4_097, true), full, None);
-    let (first, gone) = (text_of(1), Some((4_097, None)));
+    let (first, gone) = (letters_of(1), Some((4_097, None)));
     assert_own(&rt, &mut holdings, (&first, 4_097, false), Ok(()), gone);
 }
 
@@ -268,7 +258,14 @@ fn own_keys_have_a_limit(rt: HostRuntime) {
 fn fill_owners(rt: &impl Abort, alloc: Global, holdings: &mut Holdings, count: u64) {
     let first = (BlockEnd::Taken(1), 1, Some(1));
     for number in 1..count {
-        assert_takes(rt, alloc, holdings, &text_of(number), (0, 1, 1, 1), first);
+        assert_takes(
+            rt,
+            alloc,
+            holdings,
+            &letters_of(number),
+            (0, 1, 1, 1),
+            first,
+        );
     }
 }
 
@@ -279,7 +276,7 @@ fn assert_no_room(rt: &impl Abort, alloc: Global, held: &mut Holdings) {
     assert_takes(rt, alloc, held, b"zz", (0, 1, 1, 1), full);
     assert_takes(rt, alloc, held, b"zz", (2, 3, 1, 3), gap);
     same(rt, &held.owners().count(), &1_024);
-    assert_takes(rt, alloc, held, &text_of(1), (1, 2, 1, 2), second);
+    assert_takes(rt, alloc, held, &letters_of(1), (1, 2, 1, 2), second);
 }
 
 #[test]
@@ -323,7 +320,7 @@ fn assert_filled(rt: &impl Abort, alloc: Global, held: &mut Holdings) {
 
 /// The key of a number shows this version.
 fn assert_version(rt: &impl Abort, holdings: &Holdings, number: u64, version: u64) {
-    let shown = weight_at(holdings, &name(rt, b"a"), &text_of(number));
+    let shown = weight_at(holdings, &name(rt, b"a"), &letters_of(number));
     same_at(rt, &number, &shown, &Some((version, Some(version))));
 }
 
@@ -467,7 +464,7 @@ fn is_pushed_or_left(rt: &impl Abort, holdings: &mut Holdings, key: &[u8]) -> bo
 fn are_pushed_or_left(rt: &impl Abort, holdings: &mut Holdings) -> bool {
     let mut are_right = true;
     for number in 1..10 {
-        are_right &= is_pushed_or_left(rt, holdings, &text_of(number));
+        are_right &= is_pushed_or_left(rt, holdings, &letters_of(number));
     }
     are_right
 }

@@ -9,6 +9,8 @@ mod codec;
 #[cfg(test)]
 mod digest;
 #[cfg(test)]
+mod examples;
+#[cfg(test)]
 mod faults;
 #[cfg(test)]
 mod holdings;
@@ -47,10 +49,7 @@ fn holds(rt: &impl Abort, what: &str, holds: bool) {
 /// The answer; where there is none, the end of the test, which names the fault.
 #[cfg(test)]
 fn got<T, E: Debug + Drop>(rt: &impl Abort, answer: Result<T, E>) -> T {
-    match answer {
-        Ok(answer) => answer,
-        Err(fault) => panic!(rt; "error: {fault:?}"),
-    }
+    answer.expect(rt, "error")
 }
 
 /// What is answered, a fault too; where memory ran out, the end of the test.

@@ -2,16 +2,13 @@
 ghost use Rattle.std.specs.Prelude.{◌≤◌};
 
 use crate::{entry, got, holds, key, name, one, push, refusal, same, same_at, settled, weighing};
+use sb_testing::{LONGEST_KEY, LONGEST_NAME, delta_of_block};
 use sb_types::{
     Block, Delta, Entry, Fault, Key, Name, Order, Prefix, RawSettings, Settings, Slot, Value,
     ValueRef,
 };
 use std::alloc::Global;
 use std::process::Abort;
-
-const MAX_32: &[u8] = b"abcdefghijklmnopqrstuvwxyz-01234";
-
-const MAX_64: &[u8] = b"abcdefghijklmnopqrstuvwxyz012345.bcdefghijklmnopqrstuvwxyz_/-789";
 
 fn is_read_as_name(text: &[u8]) -> Result<bool, Fault> {
     Ok(Name::read(text)?.bytes() == text)
@@ -51,8 +48,8 @@ fn assert_read(rt: &impl Abort, text: &[u8], wanted: Reads) {
 #[test]
 fn texts_within_their_limits(rt: HostRuntime) {
     assert_read(&rt, b"a", ALL);
-    assert_read(&rt, MAX_32, ALL);
-    assert_read(&rt, MAX_64, NO_NAME);
+    assert_read(&rt, LONGEST_NAME, ALL);
+    assert_read(&rt, LONGEST_KEY, NO_NAME);
     assert_read(&rt, b"", A_PREFIX);
     assert_read(&rt, b"abcdefghijklmnopqrstuvwxyz-012345", NO_NAME);
     assert_read(&rt, b"a.b", NO_NAME);
@@ -502,7 +499,7 @@ fn addresses(rt: &impl Abort, alloc: Global, last: usize) -> Vec<Entry> {
 fn long_delta(rt: &impl Abort, alloc: Global, last: usize) -> Result<Delta, Fault> {
     let entries = addresses(rt, alloc, last);
     let block = got(rt, Block::new(name(rt, b"a"), 0, entries));
-    Delta::new(one(rt, alloc, block))
+    delta_of_block(alloc, block)
 }
 
 #[test]

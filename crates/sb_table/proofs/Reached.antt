@@ -72,22 +72,6 @@ AllByRecursion-map : {P Q : List ℕ × ℕ → Type 0} → ((at : List ℕ × �
 AllByRecursion-map f [] all = tt
 AllByRecursion-map f (at ∷ others) all = (f at all.0, AllByRecursion-map f others all.1)
 
--- where the keys from a start on begin
-pub start-read : (text key : List ℕ) → Ok key ≡ (if is_key text then Ok text else Err BadKey) → key ≡ text
-start-read text key is = grind arith
-
-pub start-empty : (text : List ℕ) (fault : Fault) → is_prefix text ≡ true → Err fault ≡ (if is_key text then Ok text else Err BadKey) → text ≡ []
-start-empty [] fault whole is = refl
-start-empty (b ∷ bs) fault whole is =
-    let parts = and_parts (nat_le (length (b ∷ bs)) KEY_MOST) (list_all is_key_byte (b ∷ bs)) whole in
-    let key : is_key (b ∷ bs) ≡ true = and_from (is_between 1 KEY_MOST (length (b ∷ bs))) (list_all is_key_byte (b ∷ bs)) (and_from (nat_le 1 (length (b ∷ bs))) (nat_le (length (b ∷ bs)) KEY_MOST) (le-leb 1 (length (b ∷ bs)) (omega arith)) parts.0) parts.1 in
-    let both : Err fault ≡ Ok (b ∷ bs) = is ∙ ap (λ (t : Bool). if t then Ok (b ∷ bs) else Err BadKey) key in
-    absurd (cc)
-
-pub from-empty : (q : List ℕ) → true ≡ is_le (by_text [] q)
-from-empty [] = refl
-from-empty (b ∷ bs) = refl
-
 module _ (prefix : List ℕ) (es : List Entry) (up : are_ascending 0 es ≡ true) (apart : are_distinct es ≡ true) where
   -- what is left of these keys, those behind the last
   pub record IsRest (last : Option (List ℕ)) (vs : List (List ℕ × ℕ)) : Type 0 where

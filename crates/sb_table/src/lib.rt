@@ -1,4 +1,27 @@
 //! One owner's table: what it last wrote under each key, in the order of the versions.
+//!
+//! A table takes one write after the other, each of a later version, and keeps the last one of each key, a removal too. It
+//! gives the entry of a key, the entries above a version, and those under a prefix. The crate stands on `sb_types`; holdings
+//! and logs keep writes in tables.
+//!
+//! ```rust
+//! /// Enters a write whose version is above all that the table has.
+//! fn enter(table: &mut Table, entry: Entry) -> Result<(), Fault> {
+//!     let version = entry.version();
+//!     if version <= table.upto() {
+//!         return Err(Fault::OutOfTurn(version));
+//!     }
+//!     table.push(entry)
+//! }
+//!
+//! /// A table whose owner set a key and then removed it.
+//! fn set_and_removed(alloc: Global, key: Key) -> Result<Table, Fault> {
+//!     let mut table = Table::new(alloc);
+//!     enter(&mut table, Entry::new(key, 1, Slot::Set(Value::flag(true))))?;
+//!     enter(&mut table, Entry::new(key, 2, Slot::Removed))?;
+//!     Ok(table)
+//! }
+//! ```
 #![tactic(auto)]
 
 mod after;

@@ -2,10 +2,7 @@
 
 ghost use Rattle.std.specs.Prelude.{◌≡◌, ◌<◌, ◌≤◌, ◌==◌, ℕ, List, true, [], if◌then◌else◌, Ok, Err, OnOk, OnErr, IfErr, ◌∷◌, length, drop};
 ghost use Rattle.std.specs.Option.{option_map};
-ghost use Rattle.std.specs.Ordering.{nat_cmp, is_le};
-ghost use Rattle.std.specs.Cmp.Lexicographic.{slice_cmp};
 ghost use Rattle.std.specs.Map.{values_of};
-ghost use Rattle.std.specs.BTreeMap.Range.{is_from_start};
 ghost use Rattle.sb_types.specs.Faults.{Gives};
 ghost use Rattle.sb_types.specs.Runs.{above, are_ascending, entered, entry_at, last_version};
 ghost use Rattle.sb_table.specs.Plain.{IsPlainTable, plain_table, with_entry, is_full_for, version_and_slot};
@@ -153,18 +150,8 @@ impl Table {
         ensures entries { result ≡ by_key (under prefix.now self.now.entries) }
         ensures table { IsPlainTable self.now }
     {
-        let from_start = (start_of(prefix), Bound::Unbounded);
+        let from_start = (prefix.start(), Bound::Unbounded);
         Prefixed::new(&self.entries, self.versions.range(from_start), *prefix)
-    }
-}
-
-/// Where the keys start that do not come before the prefix.
-fn start_of(prefix: &Prefix) -> Bound<Key>
-    ensures { (key : List ℕ) → is_from_start (slice_cmp nat_cmp) result key ≡ is_le (slice_cmp nat_cmp prefix.now key) }
-{
-    match Key::read(prefix.bytes()) {
-        Ok(key) => Bound::Included(key),
-        Err(_) => Bound::Unbounded,
     }
 }
 

@@ -10,3 +10,4 @@ pub mod Spelling
 pub mod Characters
 pub mod Utf8
 pub mod TextReading
+pub mod Starts

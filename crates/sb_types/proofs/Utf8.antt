@@ -1,5 +1,5 @@
 -- Which texts are UTF-8.
-use Rattle.std.proofs.Common.{◌≡◌, ℕ, ◌<◌, ◌≤◌, Bool, true, false, List, refl, sym, ap, arith, Bor, Result, Ok, Err}
+use Rattle.std.proofs.Common.{◌≡◌, ℕ, ◌<◌, ◌≤◌, Bool, true, false, List, refl, sym, arith, Bor, Result, Ok, Err}
 use Rattle.std.specs.Prelude.{MatchResult, nat_le, is_ok}
 use Rattle.std.specs.Result.{result_unwrap_or}
 use Rattle.std.specs.Str.{IsUtf8, is_utf8}

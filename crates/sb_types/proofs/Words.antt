@@ -1,5 +1,5 @@
 -- The words of values, and the line that they make.
-use Rattle.std.proofs.Common.{◌≡◌, ℕ, ◌<◌, ◌^◌, Bool, true, false, not, ◌&&◌, ◌%◌, ◌/◌, ◌+◌, ◌≤◌, List, [], ◌∷◌, ◌++◌, length, get_or, refl, sym, ap, ap₂, ◌∙◌, arith, true≢false}
+use Rattle.std.proofs.Common.{◌≡◌, ℕ, ◌<◌, ◌^◌, Bool, true, false, not, ◌&&◌, ◌%◌, ◌+◌, ◌≤◌, List, [], ◌∷◌, ◌++◌, length, get_or, refl, sym, ap, ap₂, ◌∙◌, arith, true≢false}
 use Rattle.std.specs.Prelude.{codes, decimal, nat_lt, ◌==◌}
 use Rattle.std.specs.Str.Parse.{digits_value}
 use Rattle.std.proofs.lemmas.Bool.{and_parts, ltb-true}
@@ -8,7 +8,7 @@ use Rattle.std.proofs.lemmas.Fmt.{decimal_is_IsNumeral, decimal_by_steps}
 use Rattle.std.proofs.lemmas.List.Folds.{list_all-append}
 use Rattle.std.specs.List.{list_all}
 use Rattle.sb_types.specs.Value.{Value, Addr, Weight, Flag, Text, is_value, is_word, flag_word, words_of, line_of}
-use Rattle.sb_types.specs.Text.{is_addr, is_addr_byte}
+use Rattle.sb_types.specs.Text.{is_addr_byte}
 use Rattle.sb_types.specs.Spelling.{is_control, is_one_line, printed_text}
 use Rattle.sb_types.proofs.Spelling.{texts_apart, one_line}
 

@@ -67,7 +67,7 @@ pub enum Fault {
     WatchesFull,
     #[error("the stream ends inside a frame")]
     Truncated,
-    #[error("the turns that were allowed are spent")]
+    #[error("the reads, calls or events that were allowed are spent")]
     TurnsSpent,
     #[error("the floor would be above the last version")]
     FloorTooHigh,

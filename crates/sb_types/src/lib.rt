@@ -1,6 +1,16 @@
 //! The values of the directory: names, keys, values, entries, blocks, deltas, settings and faults.
 //!
-//! Each type keeps its limits, and contracts see it as plain data: the records of `specs/`.
+//! Each type keeps its limits, so that what exists is within them, and nothing behind has to test it again. Contracts see each
+//! value as plain data: the records of `specs/`.
+//!
+//! ```rust
+//! /// What an owner wrote under a key, with the version of the write.
+//! fn entry_of_words(alloc: Global) -> Result<Entry, Fault> {
+//!     let key = Key::read(b"web/weight")?;
+//!     let value = Value::from_words(alloc, b"weight", b"5")?;
+//!     Ok(Entry::new(key, 1, Slot::Set(value)))
+//! }
+//! ```
 #![tactic(auto)]
 
 mod block;

@@ -1,13 +1,17 @@
 //! Names, keys and prefixes.
 
-ghost use Rattle.std.specs.Prelude.{◌≡◌, true, if◌then◌else◌, Ok, Err};
+ghost use Rattle.std.specs.Prelude.{◌≡◌, ℕ, List, true, if◌then◌else◌, Ok, Err};
 ghost use Rattle.std.specs.List.{list_all};
+ghost use Rattle.std.specs.Ordering.{nat_cmp, is_le};
+ghost use Rattle.std.specs.Cmp.Lexicographic.{slice_cmp};
+ghost use Rattle.std.specs.BTreeMap.Range.{is_from_start};
 ghost use Rattle.sb_types.specs.Text.{is_name_byte, is_key_byte, is_name, is_key, is_prefix};
 
 use crate::fault::Fault;
 use crate::inline::InlineText;
 use crate::limits::{KEY_MOST, NAME_MOST};
 use std::marker::Model;
+use std::ops::Bound;
 
 fn test_name_byte(byte: u8) -> bool
     ensures { result ≡ is_name_byte byte }
@@ -163,5 +167,15 @@ impl Prefix {
         ensures prefix { is_prefix self.now ≡ true }
     {
         self.text.bytes()
+    }
+
+    /// Where the keys begin that do not come before it, for a range of a map by key.
+    pub fn start(&self) -> Bound<Key>
+        ensures { (key : List ℕ) → is_from_start (slice_cmp nat_cmp) result key ≡ is_le (slice_cmp nat_cmp self.now key) }
+    {
+        match Key::read(self.bytes()) {
+            Ok(key) => Bound::Included(key),
+            Err(_) => Bound::Unbounded,
+        }
     }
 }

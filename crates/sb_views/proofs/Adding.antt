@@ -7,7 +7,7 @@ use prog.Atomic.{either}
 use Rattle.logbook.specs.Pages.{Cell, cell, keeps, no_nib, step, Moves, Goes}
 use Rattle.sb_views.specs.declared.event.Event.{Event}
 use Rattle.sb_views.specs.Rules.{IsKept, Adds}
-use Rattle.sb_views.proofs.Fronts.{prefix_whole}
+use Rattle.sb_views.proofs.Prefixes.{prefix_whole}
 
 abbrev pub shown : List Event → List Event
 shown log = []
@@ -42,7 +42,7 @@ adds_goes log v e old len pre false is =
       rw is (ap length all),
     )
 
--- whatever the book is, the exchange adds the event to all that was seen, or finds that the story is longer
+-- whatever the book is, the exchange adds the event to all that was seen, or finds that the history is longer
 pub adds_moves : (v : List Event) (e : Event) (old : ℕ) → length v ≡ old
     → Moves IsKept shown moved 0 (v, (no_nib, None)) (λ n. either (n == old) (old + 1) n) (Adds (step 0 old (old + 1) e) (v, (no_nib, None)))
 adds_moves v e old len cs log kept pre away =

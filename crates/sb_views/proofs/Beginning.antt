@@ -16,20 +16,20 @@ use Rattle.sb_table.specs.Plain.{IsPlainTable, plain_table, with_entry}
 use Rattle.sb_table.proofs.Copying.{IsCopying, copying-begins, copying-goes_on, copying-ends}
 use Rattle.sb_holdings.specs.Held.{Held, nothing, shown_of}
 use Rattle.sb_holdings.specs.Plain.{IsPlainHolder, IsHoldings, is_from, tables_from}
-use Rattle.sb_views.specs.Pages.{Sheet, Page, page_with, no_sheet, sheet_of, IsPage, page_with_all, of_owner, table_with_all, owned, all_owned}
+use Rattle.sb_views.specs.NodeViews.{OwnerView, NodeView, view_with, no_view, owner_view_of, ShowsTables, view_with_all, of_owner, table_with_all, owned, all_owned}
 use Rattle.sb_views.proofs.ByText.{by_text}
-use Rattle.sb_views.proofs.Showing.{same_tables, page-with-all}
+use Rattle.sb_views.proofs.Showing.{same_tables, view-with-all}
 
 -- ---- nothing
 
-no-sheet : (o : List ℕ) → sheet_of empty o ≡ no_sheet
-no-sheet o = ap (λ (found : Option Sheet). unwrap_or found no_sheet) (get-empty by_text o)
+no-owner_view : (o : List ℕ) → owner_view_of empty o ≡ no_view
+no-owner_view o = ap (λ (found : Option OwnerView). unwrap_or found no_view) (get-empty by_text o)
 
-empty-page : IsPage (λ o. plain_table []) empty
-empty-page =
+empty-view : ShowsTables (λ o. plain_table []) empty
+empty-view =
     record {
-      upto = λ o. ap (λ (s : Sheet). s.upto) (no-sheet o);
-      row = λ o key. ap (λ (s : Sheet). get s.rows key) (no-sheet o) ∙ get-empty by_text key;
+      upto = λ o. ap (λ (s : OwnerView). s.upto) (no-owner_view o);
+      row = λ o key. ap (λ (s : OwnerView). get s.rows key) (no-owner_view o) ∙ get-empty by_text key;
     }
 
 plain-nothing : IsPlainTable (plain_table [])
@@ -136,51 +136,51 @@ module _ (held : Held) (is : IsHoldings held) where
       ap (table_with_all (plain_table [])) (of_owner-above held (λ owner. 0) o)
       ∙ all_in_turn (shown_of held o) (plain-holder (get held.owners o) (is.each o))
 
-  pub first-page : IsPage (shown_of held) (page_with_all empty (all_owned held))
-  first-page =
-      same_tables (λ o. table_with_all (plain_table []) (of_owner o (all_owned held))) (shown_of held) (page_with_all empty (all_owned held)) shown-all
-      (page-with-all (λ o. plain_table []) empty (all_owned held) empty-page)
+  pub first-view : ShowsTables (shown_of held) (view_with_all empty (all_owned held))
+  first-view =
+      same_tables (λ o. table_with_all (plain_table []) (of_owner o (all_owned held))) (shown_of held) (view_with_all empty (all_owned held)) shown-all
+      (view-with-all (λ o. plain_table []) empty (all_owned held) empty-view)
 
 -- ---- entering all of it, step by step
 
-pub record IsEntering (owner : List ℕ) (from : Page) (all : List Entry) (page : Page) (rest : List Entry) : Type 0 where
-  pub left : page_with_all page (map (λ e. (owner, e)) rest) ≡ page_with_all from (map (λ e. (owner, e)) all)
+pub record IsEntering (owner : List ℕ) (from : NodeView) (all : List Entry) (view : NodeView) (rest : List Entry) : Type 0 where
+  pub left : view_with_all view (map (λ e. (owner, e)) rest) ≡ view_with_all from (map (λ e. (owner, e)) all)
 
-pub entering-begins : (owner : List ℕ) (from : Page) (all rest : List Entry) → rest ≡ all → IsEntering owner from all from rest
-entering-begins owner from all rest is = record { left = ap (λ (es : List Entry). page_with_all from (map (λ e. (owner, e)) es)) is }
+pub entering-begins : (owner : List ℕ) (from : NodeView) (all rest : List Entry) → rest ≡ all → IsEntering owner from all from rest
+entering-begins owner from all rest is = record { left = ap (λ (es : List Entry). view_with_all from (map (λ e. (owner, e)) es)) is }
 
-pub entering-goes_on : (owner : List ℕ) (from : Page) (all : List Entry) (page new : Page) (e : Entry) (rest : List Entry)
-    → IsEntering owner from all page (e ∷ rest) → new ≡ page_with page owner e → IsEntering owner from all new rest
-entering-goes_on owner from all page new e rest is step =
-    record { left = ap (λ (p : Page). page_with_all p (map (λ x. (owner, x)) rest)) step ∙ is.left }
+pub entering-goes_on : (owner : List ℕ) (from : NodeView) (all : List Entry) (view new : NodeView) (e : Entry) (rest : List Entry)
+    → IsEntering owner from all view (e ∷ rest) → new ≡ view_with view owner e → IsEntering owner from all new rest
+entering-goes_on owner from all view new e rest is step =
+    record { left = ap (λ (p : NodeView). view_with_all p (map (λ x. (owner, x)) rest)) step ∙ is.left }
 
-pub entering-ends : (owner : List ℕ) (from : Page) (all : List Entry) (page : Page) (rest : List Entry)
-    → rest ≡ [] → IsEntering owner from all page rest → page ≡ page_with_all from (map (λ e. (owner, e)) all)
-entering-ends owner from all page rest done is =
-    sym (ap (λ (es : List Entry). page_with_all page (map (λ e. (owner, e)) es)) done) ∙ is.left
+pub entering-ends : (owner : List ℕ) (from : NodeView) (all : List Entry) (view : NodeView) (rest : List Entry)
+    → rest ≡ [] → IsEntering owner from all view rest → view ≡ view_with_all from (map (λ e. (owner, e)) all)
+entering-ends owner from all view rest done is =
+    sym (ap (λ (es : List Entry). view_with_all view (map (λ e. (owner, e)) es)) done) ∙ is.left
 
-with-append : (page : Page) (xs ys : List (List ℕ × Entry)) → page_with_all page (xs ++ ys) ≡ page_with_all (page_with_all page xs) ys
-with-append page [] ys = refl
-with-append page (x ∷ xs) ys = with-append (page_with page x.0 x.1) xs ys
+with-append : (view : NodeView) (xs ys : List (List ℕ × Entry)) → view_with_all view (xs ++ ys) ≡ view_with_all (view_with_all view xs) ys
+with-append view [] ys = refl
+with-append view (x ∷ xs) ys = with-append (view_with view x.0 x.1) xs ys
 
-pub record IsFilling (held : Held) (page : Page) (rest : List (List ℕ × Table)) : Type 0 where
-  pub left : page_with_all page (flat_map (λ (p : List ℕ × Table). owned p.0 p.1) rest) ≡ page_with_all empty (all_owned held)
+pub record IsFilling (held : Held) (view : NodeView) (rest : List (List ℕ × Table)) : Type 0 where
+  pub left : view_with_all view (flat_map (λ (p : List ℕ × Table). owned p.0 p.1) rest) ≡ view_with_all empty (all_owned held)
 
-pub filling-begins : (held : Held) (page : Page) (rest : List (List ℕ × Table)) → page ≡ empty → rest ≡ tables_from None held → IsFilling held page rest
-filling-begins held page rest none is =
+pub filling-begins : (held : Held) (view : NodeView) (rest : List (List ℕ × Table)) → view ≡ empty → rest ≡ tables_from None held → IsFilling held view rest
+filling-begins held view rest none is =
     record {
-      left = ap (λ (p : Page). page_with_all p (flat_map (λ (q : List ℕ × Table). owned q.0 q.1) rest)) none
-          ∙ ap (λ (ts : List (List ℕ × Table)). page_with_all empty (flat_map (λ (q : List ℕ × Table). owned q.0 q.1) ts)) is;
+      left = ap (λ (p : NodeView). view_with_all p (flat_map (λ (q : List ℕ × Table). owned q.0 q.1) rest)) none
+          ∙ ap (λ (ts : List (List ℕ × Table)). view_with_all empty (flat_map (λ (q : List ℕ × Table). owned q.0 q.1) ts)) is;
     }
 
-pub filling-goes_on : (held : Held) (page new : Page) (owner : List ℕ) (t : Table) (rest : List (List ℕ × Table))
-    → IsFilling held page ((owner, t) ∷ rest) → new ≡ page_with_all page (owned owner t) → IsFilling held new rest
-filling-goes_on held page new owner t rest is step =
+pub filling-goes_on : (held : Held) (view new : NodeView) (owner : List ℕ) (t : Table) (rest : List (List ℕ × Table))
+    → IsFilling held view ((owner, t) ∷ rest) → new ≡ view_with_all view (owned owner t) → IsFilling held new rest
+filling-goes_on held view new owner t rest is step =
     record {
-      left = ap (λ (p : Page). page_with_all p (flat_map (λ (q : List ℕ × Table). owned q.0 q.1) rest)) step
-          ∙ sym (with-append page (owned owner t) (flat_map (λ (q : List ℕ × Table). owned q.0 q.1) rest)) ∙ is.left;
+      left = ap (λ (p : NodeView). view_with_all p (flat_map (λ (q : List ℕ × Table). owned q.0 q.1) rest)) step
+          ∙ sym (with-append view (owned owner t) (flat_map (λ (q : List ℕ × Table). owned q.0 q.1) rest)) ∙ is.left;
     }
 
-pub filling-ends : (held : Held) (page : Page) (rest : List (List ℕ × Table)) → rest ≡ [] → IsFilling held page rest → page ≡ page_with_all empty (all_owned held)
-filling-ends held page rest done is =
-    sym (ap (λ (ts : List (List ℕ × Table)). page_with_all page (flat_map (λ (q : List ℕ × Table). owned q.0 q.1) ts)) done) ∙ is.left
+pub filling-ends : (held : Held) (view : NodeView) (rest : List (List ℕ × Table)) → rest ≡ [] → IsFilling held view rest → view ≡ view_with_all empty (all_owned held)
+filling-ends held view rest done is =
+    sym (ap (λ (ts : List (List ℕ × Table)). view_with_all view (flat_map (λ (q : List ℕ × Table). owned q.0 q.1) ts)) done) ∙ is.left

@@ -9,7 +9,7 @@ use Rattle.sb_holdings.specs.Plain.{with_entries, IsHoldings}
 use Rattle.sb_holdings.proofs.Changed.{shown-plain}
 use Rattle.sb_holdings.proofs.Entering.{one_by_one}
 use Rattle.sb_holdings.proofs.Order.{distinct_kept}
-use Rattle.sb_views.specs.Pages.{of_owner, table_with_all, Leads}
+use Rattle.sb_views.specs.NodeViews.{of_owner, table_with_all, Leads}
 use Rattle.sb_views.specs.Growing.{AreGrown, new_entries}
 use Rattle.sb_views.proofs.Beginning.{of_owner-above}
 

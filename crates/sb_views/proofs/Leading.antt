@@ -13,8 +13,8 @@ use Rattle.sb_holdings.specs.Shown.{own}
 use Rattle.sb_holdings.specs.Nodes.{Node}
 use Rattle.sb_views.specs.declared.event.Event.{Event}
 use Rattle.sb_views.specs.declared.event.Event.TheVariants.{TookOwn}
-use Rattle.sb_views.specs.Stories.{node_after}
-use Rattle.sb_views.specs.Pages.{Leads, of_owner, table_with_all}
+use Rattle.sb_views.specs.Histories.{node_after}
+use Rattle.sb_views.specs.NodeViews.{Leads, of_owner, table_with_all}
 use Rattle.sb_views.proofs.ByText.{by_text}
 use Rattle.sb_views.proofs.Showing.{tied}
 
@@ -44,12 +44,12 @@ module _ (held : Held) (e : Entry) (next : e.version ≡ (shown_of held held.me)
   own-leads owner = shown-written owner ∙ lead-case owner (pointwise nat_eq held.me owner) refl
 
 -- the first own write of a node leads from the node as it was opened
-pub first-leads : (opening : Node) (held : Held) (e : Entry) (ready upto : List Event) (batch : List (List ℕ × Entry)) → opening.held ≡ held
-    → e.version ≡ (shown_of held held.me).held + 1 → ready ≡ [] → upto ≡ TookOwn e ∷ [] → batch ≡ (held.me, e) ∷ []
-    → Leads (node_after opening ready).held (node_after opening upto).held batch
-first-leads opening held e ready upto batch same next none one alone =
+pub first-leads : (opening : Node) (held : Held) (e : Entry) (queued upto : List Event) (batch : List (List ℕ × Entry)) → opening.held ≡ held
+    → e.version ≡ (shown_of held held.me).held + 1 → queued ≡ [] → upto ≡ TookOwn e ∷ [] → batch ≡ (held.me, e) ∷ []
+    → Leads (node_after opening queued).held (node_after opening upto).held batch
+first-leads opening held e queued upto batch same next none one alone =
     let leads : Leads opening.held (written opening.held e) ((held.me, e) ∷ []) =
     subst (λ (h : Held). Leads h (written h e) ((held.me, e) ∷ [])) (sym same) (own-leads held e next) in
-    subst (λ (b : List (List ℕ × Entry)). Leads (node_after opening ready).held (node_after opening upto).held b) (sym alone)
+    subst (λ (b : List (List ℕ × Entry)). Leads (node_after opening queued).held (node_after opening upto).held b) (sym alone)
     (subst (λ (l : List Event). Leads (node_after opening l).held (node_after opening upto).held ((held.me, e) ∷ [])) (sym none)
     (subst (λ (l : List Event). Leads opening.held (node_after opening l).held ((held.me, e) ∷ [])) (sym one) leads))

@@ -1,11 +1,11 @@
-pub mod Fronts
+pub mod Prefixes
 pub mod Adding
 pub mod ByText
 pub mod Turning
 pub mod Showing
 pub mod Appending
 pub mod Beginning
-pub mod Sheets
+pub mod Owners
 pub mod Leading
 pub mod Grown
 pub mod Growing

@@ -9,7 +9,7 @@ use Rattle.std.specs.Ordering.{is_lt, is_le}
 use Rattle.std.specs.declared.cmp.Ordering.TheVariants.{Less}
 use Rattle.sb_types.specs.Value.{Value}
 use Rattle.sb_types.proofs.Texts.{text_lt-back, starts-behind, starts-between}
-use Rattle.sb_views.specs.Rows.{Row, row_at, reached, is_behind}
+use Rattle.sb_views.specs.LiveRows.{LiveRow, row_at, reached, is_behind}
 use Rattle.sb_views.proofs.ByText.{by_text, Ascend}
 
 module _ (owner prefix : List ℕ) where
@@ -34,7 +34,7 @@ module _ (owner prefix : List ℕ) where
         → reached owner prefix (filter (λ q. test q.0) ps) ≡ map (row_at owner) (filter begins ps)
         → (t b : Bool) → test p.0 ≡ t → begins p ≡ b
         → reached owner prefix (filter (λ q. test q.0) (p ∷ ps)) ≡ map (row_at owner) (filter begins (p ∷ ps))
-    reached-case p ps behind rest true true is starts = rw (is, starts) (ap (λ (rows : List Row). row_at owner p ∷ rows) rest)
+    reached-case p ps behind rest true true is starts = rw (is, starts) (ap (λ (rows : List LiveRow). row_at owner p ∷ rows) rest)
     reached-case p ps behind rest true false is starts =
         rw (is, starts) (ap (map (row_at owner)) (sym (none-later p.0 (sym (from p.0) ∙ is) starts ps behind)))
     reached-case p ps behind rest false true is starts =
@@ -49,7 +49,7 @@ module _ (owner prefix : List ℕ) where
 
   module _ (key : List ℕ) (test : List ℕ → Bool) (from : (k : List ℕ) → test k ≡ true → is_le (by_text prefix k) ≡ true)
       (behind : (k : List ℕ) → starts_with nat_eq k prefix ≡ true → test k ≡ is_lt (by_text key k)) where
-    abbrev left : List (List ℕ × (Value × ℕ)) → List Row
+    abbrev left : List (List ℕ × (Value × ℕ)) → List LiveRow
     left es = filter (λ row. is_behind (Some (owner, key)) row) (map (row_at owner) (filter begins es))
 
     -- of the owner itself those stand behind the place that stand behind its key
@@ -62,7 +62,7 @@ module _ (owner prefix : List ℕ) where
         → reached owner prefix (filter (λ q. test q.0) (p ∷ ps)) ≡ left (p ∷ ps)
     behind-case p ps later rest true true is starts =
         let stands : is_behind (Some (owner, key)) (row_at owner p) ≡ true = own-behind p ∙ sym (behind p.0 starts) ∙ is in
-        rw (is, starts, stands) (ap (λ (rows : List Row). row_at owner p ∷ rows) rest)
+        rw (is, starts, stands) (ap (λ (rows : List LiveRow). row_at owner p ∷ rows) rest)
     behind-case p ps later rest true false is starts =
         rw (is, starts) (ap (λ (qs : List (List ℕ × (Value × ℕ))). filter (λ row. is_behind (Some (owner, key)) row) (map (row_at owner) qs)) (sym (none-later p.0 (from p.0 is) starts ps later)))
     behind-case p ps later rest false true is starts =

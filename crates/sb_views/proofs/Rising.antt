@@ -12,12 +12,12 @@ use Rattle.std.specs.declared.cmp.Ordering.TheVariants.{Less, Equal, Greater}
 use Rattle.std.specs.FinMap.{entries, entries_sorted, is_sorted}
 use Rattle.std.specs.FinMap.Entries.{below_all}
 use Rattle.sb_types.specs.Value.{Value}
-use Rattle.sb_views.specs.Pages.{Sheet, Page}
-use Rattle.sb_views.specs.Rows.{Row, row_at, rows_under, rows_of_sheets, rows_in, rows_behind, is_wanted, is_behind, place_of, AreAscending}
+use Rattle.sb_views.specs.NodeViews.{OwnerView, NodeView}
+use Rattle.sb_views.specs.LiveRows.{LiveRow, row_at, rows_under, rows_of_owners, rows_in, rows_behind, is_wanted, is_behind, place_of, AreAscending}
 use Rattle.sb_views.proofs.ByText.{by_text, Ascend}
 
 -- the second row stands behind the first
-abbrev pub Before : Row → Row → Type 0
+abbrev pub Before : LiveRow → LiveRow → Type 0
 Before x y = is_behind (Some (place_of x)) y ≡ true
 
 both-parts : (a b : Bool) → T (a && b) → T a × T b
@@ -40,19 +40,19 @@ module _ {X : Type 0} where
   rising (p ∷ ps) t = let parts = both-parts (below_all by_text p.0 ps) (is_sorted by_text ps) t in (below-all p.0 ps parts.0, rising ps parts.1)
 
 -- each row stands behind those before it, by recursion
-abbrev pub IsUp : List Row → Type 0
+abbrev pub IsUp : List LiveRow → Type 0
 IsUp [] = Unit {0}
 IsUp (x ∷ xs) = AllByRecursion (Before x) xs × IsUp xs
 
-pub ascending-up : (xs : List Row) → IsUp xs → AreAscending xs
+pub ascending-up : (xs : List LiveRow) → IsUp xs → AreAscending xs
 ascending-up [] up = λ i j d less within. absurd (omega arith)
 ascending-up (x ∷ xs) up = AllPairs-cons Before x xs (All-from_recursion (Before x) xs up.0) (ascending-up xs up.1)
 
-both-all : (P : Row → Type 0) (xs ys : List Row) → AllByRecursion P xs → AllByRecursion P ys → AllByRecursion P (xs ++ ys)
+both-all : (P : LiveRow → Type 0) (xs ys : List LiveRow) → AllByRecursion P xs → AllByRecursion P ys → AllByRecursion P (xs ++ ys)
 both-all P [] ys all others = others
 both-all P (x ∷ xs) ys all others = (all.0, both-all P xs ys all.1 others)
 
-both-up : (xs ys : List Row) → IsUp xs → IsUp ys → AllByRecursion (λ x. AllByRecursion (Before x) ys) xs → IsUp (xs ++ ys)
+both-up : (xs ys : List LiveRow) → IsUp xs → IsUp ys → AllByRecursion (λ x. AllByRecursion (Before x) ys) xs → IsUp (xs ++ ys)
 both-up [] ys up others apart = others
 both-up (x ∷ xs) ys up others apart = (both-all (Before x) xs ys up.0 apart.0, both-up xs ys up.1 others apart.1)
 
@@ -88,43 +88,43 @@ module _ (owner : List ℕ) where
       go false rest = rest
 
   -- rows of an owner behind that of the row
-  other-before : (x : Row) → by_text x.owner owner ≡ Less → (q : List ℕ × (Value × ℕ)) → Before x (row_at owner q)
+  other-before : (x : LiveRow) → by_text x.owner owner ≡ Less → (q : List ℕ × (Value × ℕ)) → Before x (row_at owner q)
   other-before x less q = rw less refl
 
-  other-all : (x : Row) → by_text x.owner owner ≡ Less → (qs : List (List ℕ × (Value × ℕ))) → AllByRecursion (Before x) (map (row_at owner) qs)
+  other-all : (x : LiveRow) → by_text x.owner owner ≡ Less → (qs : List (List ℕ × (Value × ℕ))) → AllByRecursion (Before x) (map (row_at owner) qs)
   other-all x less [] = tt
   other-all x less (q ∷ qs) = (other-before x less q, other-all x less qs)
 
 module _ (prefix : List ℕ) (f : List ℕ → Bool) where
-  abbrev rows-of : List (List ℕ × Sheet) → List Row
-  rows-of es = rows_of_sheets prefix (filter (λ p. f p.0) es)
+  abbrev rows-of : List (List ℕ × OwnerView) → List LiveRow
+  rows-of es = rows_of_owners prefix (filter (λ p. f p.0) es)
 
-  later-all : (x : Row) (es : List (List ℕ × Sheet)) → AllByRecursion (λ n. by_text x.owner n ≡ Less) (keys_of es) → AllByRecursion (Before x) (rows-of es)
+  later-all : (x : LiveRow) (es : List (List ℕ × OwnerView)) → AllByRecursion (λ n. by_text x.owner n ≡ Less) (keys_of es) → AllByRecursion (Before x) (rows-of es)
   later-all x [] all = tt
   later-all x (p ∷ ps) all = go (f p.0) (later-all x ps all.1)
     where
-      go : (b : Bool) → AllByRecursion (Before x) (rows-of ps) → AllByRecursion (Before x) (rows_of_sheets prefix (cond b (p ∷ filter (λ q. f q.0) ps) (filter (λ q. f q.0) ps)))
+      go : (b : Bool) → AllByRecursion (Before x) (rows-of ps) → AllByRecursion (Before x) (rows_of_owners prefix (cond b (p ∷ filter (λ q. f q.0) ps) (filter (λ q. f q.0) ps)))
       go true rest = both-all (Before x) (rows_under prefix p.0 p.1) (rows-of ps) (other-all p.0 x all.0 (filter (λ q. starts_with nat_eq q.0 prefix) (entries p.1.rows))) rest
       go false rest = rest
 
-  each-later : (n : List ℕ) (qs : List (List ℕ × (Value × ℕ))) (es : List (List ℕ × Sheet)) → AllByRecursion (λ m. by_text n m ≡ Less) (keys_of es)
+  each-later : (n : List ℕ) (qs : List (List ℕ × (Value × ℕ))) (es : List (List ℕ × OwnerView)) → AllByRecursion (λ m. by_text n m ≡ Less) (keys_of es)
       → AllByRecursion (λ x. AllByRecursion (Before x) (rows-of es)) (map (row_at n) qs)
   each-later n [] es all = tt
   each-later n (q ∷ qs) es all = (later-all (row_at n q) es all, each-later n qs es all)
 
-  rows-up : (es : List (List ℕ × Sheet)) → Ascend es → IsUp (rows-of es)
+  rows-up : (es : List (List ℕ × OwnerView)) → Ascend es → IsUp (rows-of es)
   unfolding IsStrictlySortedBy
   rows-up [] up = tt
   rows-up (p ∷ ps) up = go (f p.0) (rows-up ps up.1)
     where
-      go : (b : Bool) → IsUp (rows-of ps) → IsUp (rows_of_sheets prefix (cond b (p ∷ filter (λ q. f q.0) ps) (filter (λ q. f q.0) ps)))
+      go : (b : Bool) → IsUp (rows-of ps) → IsUp (rows_of_owners prefix (cond b (p ∷ filter (λ q. f q.0) ps) (filter (λ q. f q.0) ps)))
       go true rest =
           let under = filter (λ (q : List ℕ × (Value × ℕ)). starts_with nat_eq q.0 prefix) (entries p.1.rows) in
           both-up (rows_under prefix p.0 p.1) (rows-of ps) (own-up p.0 (λ q. starts_with nat_eq q.0 prefix) (entries p.1.rows) (rising (entries p.1.rows) (entries_sorted p.1.rows))) rest
           (each-later p.0 under ps up.0)
       go false rest = rest
 
-pub ascending : (place : Option (List ℕ × List ℕ)) (wanted : Option (List ℕ)) (prefix : List ℕ) (page : Page) → AreAscending (rows_behind place wanted prefix page)
-ascending place wanted prefix page =
-    AllPairs-filter Before (is_behind place) (rows_in wanted prefix page)
-    (ascending-up (rows_in wanted prefix page) (rows-up prefix (is_wanted wanted) (entries page) (rising (entries page) (entries_sorted page))))
+pub ascending : (place : Option (List ℕ × List ℕ)) (wanted : Option (List ℕ)) (prefix : List ℕ) (view : NodeView) → AreAscending (rows_behind place wanted prefix view)
+ascending place wanted prefix view =
+    AllPairs-filter Before (is_behind place) (rows_in wanted prefix view)
+    (ascending-up (rows_in wanted prefix view) (rows-up prefix (is_wanted wanted) (entries view) (rising (entries view) (entries_sorted view))))

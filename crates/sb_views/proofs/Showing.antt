@@ -13,7 +13,7 @@ use Rattle.sb_types.specs.Runs.{entered, entry_at, shown_slot, shown_by_entry, s
 use Rattle.sb_types.proofs.Texts.{same_text, text_same}
 use Rattle.sb_table.specs.Plain.{with_entry}
 use Rattle.sb_table.proofs.Lookup.{entry_at-entered_same, entry_at-entered_other}
-use Rattle.sb_views.specs.Pages.{Sheet, Page, no_sheet, sheet_of, IsPage, rows_with, sheet_with, page_with, page_with_all, of_owner, table_with_all}
+use Rattle.sb_views.specs.NodeViews.{OwnerView, NodeView, no_view, owner_view_of, ShowsTables, rows_with, owner_view_with, view_with, view_with_all, of_owner, table_with_all}
 use Rattle.sb_views.proofs.ByText.{by_text}
 
 -- ---- the rows of one owner
@@ -39,41 +39,41 @@ module _ (rows : FinMap by_text (Value × ℕ)) (es : List Entry) (e : Entry) (s
 abbrev pub tables_with : (List ℕ → Table) → List ℕ → Entry → List ℕ → Table
 tables_with tables owner e o = cond (pointwise nat_eq owner o) (with_entry (tables o) e) (tables o)
 
-sheet-cond : (b : Bool) (s : Sheet) (o : Option Sheet) → unwrap_or (cond b (Some s) o) no_sheet ≡ cond b s (unwrap_or o no_sheet)
-sheet-cond true s o = refl
-sheet-cond false s o = refl
+owner_view-cond : (b : Bool) (s : OwnerView) (o : Option OwnerView) → unwrap_or (cond b (Some s) o) no_view ≡ cond b s (unwrap_or o no_view)
+owner_view-cond true s o = refl
+owner_view-cond false s o = refl
 
 pub tied : (owner o : List ℕ) → eq_by_cmp by_text o owner ≡ pointwise nat_eq owner o
 tied owner o = (eq_by_cmp_equiv nat_list_cmp_total).symm o owner ∙ sym (texts_ties owner o)
 
-sheet-with : (page : Page) (owner : List ℕ) (e : Entry) (o : List ℕ) → sheet_of (page_with page owner e) o ≡ cond (pointwise nat_eq owner o) (sheet_with (sheet_of page owner) e) (sheet_of page o)
-sheet-with page owner e o =
-    ap (λ (found : Option Sheet). unwrap_or found no_sheet) (get-insert nat_list_cmp_total page owner (sheet_with (sheet_of page owner) e) o)
-    ∙ sheet-cond (eq_by_cmp by_text o owner) (sheet_with (sheet_of page owner) e) (get page o)
-    ∙ ap (λ (b : Bool). cond b (sheet_with (sheet_of page owner) e) (sheet_of page o)) (tied owner o)
+owner_view-with : (view : NodeView) (owner : List ℕ) (e : Entry) (o : List ℕ) → owner_view_of (view_with view owner e) o ≡ cond (pointwise nat_eq owner o) (owner_view_with (owner_view_of view owner) e) (owner_view_of view o)
+owner_view-with view owner e o =
+    ap (λ (found : Option OwnerView). unwrap_or found no_view) (get-insert nat_list_cmp_total view owner (owner_view_with (owner_view_of view owner) e) o)
+    ∙ owner_view-cond (eq_by_cmp by_text o owner) (owner_view_with (owner_view_of view owner) e) (get view o)
+    ∙ ap (λ (b : Bool). cond b (owner_view_with (owner_view_of view owner) e) (owner_view_of view o)) (tied owner o)
 
-module _ (tables : List ℕ → Table) (page : Page) (is : IsPage tables page) (owner : List ℕ) (e : Entry) where
+module _ (tables : List ℕ → Table) (view : NodeView) (is : ShowsTables tables view) (owner : List ℕ) (e : Entry) where
   upto-case : (o : List ℕ) (b : Bool) → pointwise nat_eq owner o ≡ b
-      → (cond b (sheet_with (sheet_of page owner) e) (sheet_of page o)).upto ≡ (cond b (with_entry (tables o) e) (tables o)).held
+      → (cond b (owner_view_with (owner_view_of view owner) e) (owner_view_of view o)).upto ≡ (cond b (with_entry (tables o) e) (tables o)).held
   upto-case o true same = refl
   upto-case o false same = is.upto o
 
-  row-sheet : (o key : List ℕ) (b : Bool) → pointwise nat_eq owner o ≡ b
-      → get (cond b (sheet_with (sheet_of page owner) e) (sheet_of page o)).rows key ≡ shown_at key (cond b (with_entry (tables o) e) (tables o)).entries
-  row-sheet o key true same =
-      row-with (sheet_of page owner).rows (tables owner).entries e (is.row owner) key
+  row-owner_view : (o key : List ℕ) (b : Bool) → pointwise nat_eq owner o ≡ b
+      → get (cond b (owner_view_with (owner_view_of view owner) e) (owner_view_of view o)).rows key ≡ shown_at key (cond b (with_entry (tables o) e) (tables o)).entries
+  row-owner_view o key true same =
+      row-with (owner_view_of view owner).rows (tables owner).entries e (is.row owner) key
       ∙ ap (λ (p : List ℕ). shown_at key (with_entry (tables p) e).entries) (same_text owner o same)
-  row-sheet o key false same = is.row o key
+  row-owner_view o key false same = is.row o key
 
-  pub page-with : IsPage (tables_with tables owner e) (page_with page owner e)
-  page-with =
+  pub view-with : ShowsTables (tables_with tables owner e) (view_with view owner e)
+  view-with =
       record {
-        upto = λ o. ap (λ (s : Sheet). s.upto) (sheet-with page owner e o) ∙ upto-case o (pointwise nat_eq owner o) refl;
-        row = λ o key. ap (λ (s : Sheet). get s.rows key) (sheet-with page owner e o) ∙ row-sheet o key (pointwise nat_eq owner o) refl;
+        upto = λ o. ap (λ (s : OwnerView). s.upto) (owner_view-with view owner e o) ∙ upto-case o (pointwise nat_eq owner o) refl;
+        row = λ o key. ap (λ (s : OwnerView). get s.rows key) (owner_view-with view owner e o) ∙ row-owner_view o key (pointwise nat_eq owner o) refl;
       }
 
-pub same_tables : (t u : List ℕ → Table) (page : Page) → ((o : List ℕ) → t o ≡ u o) → IsPage t page → IsPage u page
-same_tables t u page e is =
+pub same_tables : (t u : List ℕ → Table) (view : NodeView) → ((o : List ℕ) → t o ≡ u o) → ShowsTables t view → ShowsTables u view
+same_tables t u view e is =
     record { upto = λ o. is.upto o ∙ ap (λ (table : Table). table.held) (e o); row = λ o key. is.row o key ∙ ap (λ (table : Table). shown_at key table.entries) (e o) }
 
 abbrev batched : (List ℕ → Table) → List (List ℕ × Entry) → List ℕ → Table
@@ -85,9 +85,9 @@ next-case : (t : Table) (p : List ℕ × Entry) (b : Bool) (others : List (List 
 next-case t p true others = refl
 next-case t p false others = refl
 
-pub page-with-all : (tables : List ℕ → Table) (page : Page) (batch : List (List ℕ × Entry)) → IsPage tables page → IsPage (batched tables batch) (page_with_all page batch)
-page-with-all tables page [] is = is
-page-with-all tables page (p ∷ ps) is =
-    same_tables (batched (tables_with tables p.0 p.1) ps) (batched tables (p ∷ ps)) (page_with_all page (p ∷ ps))
+pub view-with-all : (tables : List ℕ → Table) (view : NodeView) (batch : List (List ℕ × Entry)) → ShowsTables tables view → ShowsTables (batched tables batch) (view_with_all view batch)
+view-with-all tables view [] is = is
+view-with-all tables view (p ∷ ps) is =
+    same_tables (batched (tables_with tables p.0 p.1) ps) (batched tables (p ∷ ps)) (view_with_all view (p ∷ ps))
     (λ o. next-case (tables o) p (pointwise nat_eq p.0 o) (filter (λ q. pointwise nat_eq q.0 o) ps))
-    (page-with-all (tables_with tables p.0 p.1) (page_with page p.0 p.1) ps (page-with tables page is p.0 p.1))
+    (view-with-all (tables_with tables p.0 p.1) (view_with view p.0 p.1) ps (view-with tables view is p.0 p.1))

@@ -5,19 +5,19 @@ use Rattle.logbook.specs.Pages.{Book}
 use Rattle.sb_holdings.specs.Held.{Held, shown_of}
 use Rattle.sb_holdings.specs.Nodes.{Node}
 use Rattle.sb_holdings.specs.Plain.{IsHoldings}
-use Rattle.sb_views.specs.Stories.{Mark}
-use Rattle.sb_views.specs.Pages.{Page, IsPage, page_with_all, all_owned}
-use Rattle.sb_views.specs.Copies.{Copy}
-use Rattle.sb_views.specs.Views.{IsView, IsTold}
-use Rattle.sb_views.proofs.Beginning.{first-page}
+use Rattle.sb_views.specs.Histories.{Position}
+use Rattle.sb_views.specs.NodeViews.{NodeView, ShowsTables, view_with_all, all_owned}
+use Rattle.sb_views.specs.Copies.{ViewCopy}
+use Rattle.sb_views.specs.Publishing.{IsView, IsCopyOf}
+use Rattle.sb_views.proofs.Beginning.{first-view}
 
-abbrev copy_of : Mark → Page → Copy
-copy_of mark page = record { mark = mark; page = page }
+abbrev copy_of : Position → NodeView → ViewCopy
+copy_of position view = record { position = position; view = view }
 
-pub told-first : (story : Book) (opening : Node) (held : Held) (mark : Mark) (page : Page) → IsHoldings held → opening.held ≡ held
-    → mark ≡ record { book = story; events = [] } → page ≡ page_with_all empty (all_owned held) → IsTold story opening (copy_of mark page)
-told-first story opening held mark page is same at first =
-    let shows : IsView opening (page_with_all empty (all_owned held)) =
-    subst (λ (h : Held). IsPage (shown_of h) (page_with_all empty (all_owned held))) (sym same) (first-page held is) in
-    let view : IsView opening page = subst (IsView opening) (sym first) shows in
-    subst (λ (m : Mark). IsTold story opening (copy_of m page)) (sym at) (record { book = refl; view = view })
+pub is_copy-first : (history : Book) (opening : Node) (held : Held) (position : Position) (view : NodeView) → IsHoldings held → opening.held ≡ held
+    → position ≡ record { book = history; events = [] } → view ≡ view_with_all empty (all_owned held) → IsCopyOf history opening (copy_of position view)
+is_copy-first history opening held position view is same at first =
+    let shows : IsView opening (view_with_all empty (all_owned held)) =
+    subst (λ (h : Held). ShowsTables (shown_of h) (view_with_all empty (all_owned held))) (sym same) (first-view held is) in
+    let viewed : IsView opening view = subst (IsView opening) (sym first) shows in
+    subst (λ (m : Position). IsCopyOf history opening (copy_of m view)) (sym at) (record { book = refl; view = viewed })

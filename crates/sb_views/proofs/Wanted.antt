@@ -10,8 +10,8 @@ use Rattle.std.specs.Cmp.Lexicographic.{pointwise, texts_ties}
 use Rattle.std.specs.BTreeMap.Range.{range_contains}
 use Rattle.std.specs.FinMap.{entries-from_sorted}
 use Rattle.sb_types.proofs.Texts.{same_text}
-use Rattle.sb_views.specs.Pages.{Sheet, Page, page_of}
-use Rattle.sb_views.specs.Rows.{is_wanted, rows_of_sheets, rows_in}
+use Rattle.sb_views.specs.NodeViews.{OwnerView, NodeView, view_of}
+use Rattle.sb_views.specs.LiveRows.{is_wanted, rows_of_owners, rows_in}
 use Rattle.sb_views.proofs.ByText.{by_text, Ascend, sorted}
 
 between-case : (r : Ordering) → (is_le r && not (is_lt r)) ≡ is_eq r
@@ -20,17 +20,17 @@ between-case Equal = refl
 between-case Greater = refl
 
 -- between a name and itself is that name alone
-pub one-between : (owner : List ℕ) (es : List (List ℕ × Sheet))
-    → filter (λ (p : List ℕ × Sheet). range_contains by_text (Included owner) (Included owner) p.0) es ≡ filter (λ (p : List ℕ × Sheet). is_wanted (Some owner) p.0) es
+pub one-between : (owner : List ℕ) (es : List (List ℕ × OwnerView))
+    → filter (λ (p : List ℕ × OwnerView). range_contains by_text (Included owner) (Included owner) p.0) es ≡ filter (λ (p : List ℕ × OwnerView). is_wanted (Some owner) p.0) es
 one-between owner es =
-    filter_agree (λ (p : List ℕ × Sheet). range_contains by_text (Included owner) (Included owner) p.0) (λ (p : List ℕ × Sheet). is_wanted (Some owner) p.0)
+    filter_agree (λ (p : List ℕ × OwnerView). range_contains by_text (Included owner) (Included owner) p.0) (λ (p : List ℕ × OwnerView). is_wanted (Some owner) p.0)
     (λ p. between-case (by_text owner p.0) ∙ sym (texts_ties owner p.0)) es
 
-pub rows-wanted : (wanted : Option (List ℕ)) (prefix : List ℕ) (es part : List (List ℕ × Sheet)) (page : Page) → Ascend es → page_of es ≡ page
-    → part ≡ filter (λ (p : List ℕ × Sheet). is_wanted wanted p.0) es → rows_of_sheets prefix part ≡ rows_in wanted prefix page
-rows-wanted wanted prefix es part page up view e =
-    ap (rows_of_sheets prefix) (e ∙ ap (filter (λ (p : List ℕ × Sheet). is_wanted wanted p.0)) (sym (entries-from_sorted by_text es (sorted es up))))
-    ∙ ap (rows_in wanted prefix) view
+pub rows-wanted : (wanted : Option (List ℕ)) (prefix : List ℕ) (es part : List (List ℕ × OwnerView)) (view : NodeView) → Ascend es → view_of es ≡ view
+    → part ≡ filter (λ (p : List ℕ × OwnerView). is_wanted wanted p.0) es → rows_of_owners prefix part ≡ rows_in wanted prefix view
+rows-wanted wanted prefix es part view up viewed e =
+    ap (rows_of_owners prefix) (e ∙ ap (filter (λ (p : List ℕ × OwnerView). is_wanted wanted p.0)) (sym (entries-from_sorted by_text es (sorted es up))))
+    ∙ ap (rows_in wanted prefix) viewed
 
 -- of the wanted name alone, where it is behind the owner's
 pub one-behind : (owner name : List ℕ) → is_lt (by_text owner name) ≡ true → (q : List ℕ)

@@ -1,8 +1,8 @@
--- One copy of what readers are shown.
-use Rattle.sb_views.specs.Stories.{Mark}
-use Rattle.sb_views.specs.Pages.{Page}
+-- One copy of the view.
+use Rattle.sb_views.specs.Histories.{Position}
+use Rattle.sb_views.specs.NodeViews.{NodeView}
 
--- a page, and the beginning of the story of which it is the view
-pub record Copy : Type 0 where
-  pub mark : Mark
-  pub page : Page
+-- a view, and the prefix of the history whose view it is
+pub record ViewCopy : Type 0 where
+  pub position : Position
+  pub view : NodeView

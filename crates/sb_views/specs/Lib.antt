@@ -1,8 +1,8 @@
-pub mod Stories
+pub mod Histories
 pub mod Rules
-pub mod Pages
+pub mod NodeViews
 pub mod Growing
 pub mod Copies
-pub mod Rows
-pub mod Ops
-pub mod Views
+pub mod LiveRows
+pub mod Operations
+pub mod Publishing

@@ -1,9 +1,8 @@
 //! Entries of owners, as they are to be shown.
 ghost use Rattle.std.specs.Prelude.{◌≡◌, ◌++◌, ◌∷◌, [], true, OnOk, OnErr, IfErr};
-ghost use Rattle.sb_views.specs.Ops.{entries_of, are_entries};
+ghost use Rattle.sb_views.specs.Operations.{entries_of, are_entries};
 
-use crate::sheet::lose;
-use crate::shown::Op;
+use crate::view_copy::Operation;
 use sb_types::{Entry, Fault, Name};
 use std::alloc::Global;
 use std::collections::VecDeque;
@@ -12,13 +11,13 @@ use std::marker::Model;
 /// Entries, each with its owner, in the order in which they are to be shown.
 #[derive(Drop)]
 pub struct Batch {
-    entries: VecDeque<Op>,
+    entries: VecDeque<Operation>,
 }
 
 impl Model for Batch {
     ghost use Rattle.std.specs.Prelude.{◌≡◌, ℕ, List, true};
     ghost use Rattle.sb_types.specs.Records as records;
-    ghost use Rattle.sb_views.specs.Ops.{entries_of, are_entries};
+    ghost use Rattle.sb_views.specs.Operations.{entries_of, are_entries};
 
     ghost Value = { List (List ℕ × records.Entry) };
 
@@ -27,8 +26,8 @@ impl Model for Batch {
     ghost invariant = { λ b. are_entries b.entries.items ≡ true };
 }
 
-/// Puts a step behind the others. Where memory is wanting nothing changes.
-fn push_step(steps: &mut VecDeque<Op>, step: Op) -> Result<(), Fault>
+/// Puts an operation behind the others. Where memory is wanting nothing changes.
+fn push_operation(steps: &mut VecDeque<Operation>, step: Operation) -> Result<(), Fault>
     ensures ok { OnOk result (steps.new.items ≡ steps.old.items ++ step ∷ []) }
     ensures err { OnErr result (steps.new.items ≡ steps.old.items) }
     ensures memory { IfErr result (λ fault. fault ≡ Fault.NoMemory) }
@@ -36,7 +35,7 @@ fn push_step(steps: &mut VecDeque<Op>, step: Op) -> Result<(), Fault>
     match steps.push_back(step) {
         Ok(()) => Ok(()),
         Err(refused) => {
-            lose(refused);
+            drop(refused);
             Err(Fault::NoMemory)
         }
     }
@@ -58,11 +57,11 @@ impl Batch {
         ensures err { OnErr result (self.new ≡ self.old) }
         ensures memory { IfErr result (λ fault. fault ≡ Fault.NoMemory) }
     {
-        push_step(&mut self.entries, Op::Enter(owner, entry))
+        push_operation(&mut self.entries, Operation::Enter(owner, entry))
     }
 
-    /// The entries as steps of a copy.
-    pub(crate) fn into_steps(self) -> VecDeque<Op>
+    /// The entries as operations on a copy.
+    pub(crate) fn into_operations(self) -> VecDeque<Operation>
         ensures entries { entries_of result.items ≡ self }
         ensures alone { are_entries result.items ≡ true }
     {
@@ -70,8 +69,8 @@ impl Batch {
         entries
     }
 
-    /// The batch of these steps.
-    pub(crate) fn from_steps(entries: VecDeque<Op>) -> Batch
+    /// The batch of these operations.
+    pub(crate) fn from_operations(entries: VecDeque<Operation>) -> Batch
         requires { are_entries entries.items ≡ true }
         ensures { result ≡ entries_of entries.items }
     {

@@ -10,3 +10,10 @@ pub enum Event {
     TookOwn(Entry),
     Applied(Delta, Report),
 }
+
+/// The parts of an event, lent, as it is added to a history.
+#[derive(Clone, Copy)]
+pub enum EventRef<'a> {
+    TookOwn(&'a Entry),
+    Applied(&'a Delta, &'a Report),
+}

@@ -9,27 +9,27 @@ ghost use Rattle.sb_holdings.specs.Nodes.{Node, replay_node};
 ghost use Rattle.sb_holdings.specs.Plain.{IsHoldings};
 ghost use Rattle.sb_holdings.specs.Treats.{Treats, took_each};
 ghost use Rattle.sb_views.specs.Growing.{AreGrown, new_entries};
-ghost use Rattle.sb_views.specs.Pages as pages;
-ghost use Rattle.sb_views.specs.Rows as rows;
-ghost use Rattle.sb_views.specs.Views.{IsView};
+ghost use Rattle.sb_views.specs.NodeViews as node_views;
+ghost use Rattle.sb_views.specs.LiveRows as rows;
+ghost use Rattle.sb_views.specs.Publishing.{IsView};
 
 /// What a view shows of an owner and of a key is what the node holds: the version, and the value with the version of
 /// its write, or nothing where the key was removed or never written.
 pub fn views_show_what_is_held()
-    ensures upto { (node : Node) (page : pages.Page) (owner : List ℕ) → IsView node page → pages.upto_of page owner ≡ (shown_of node.held owner).held }
-    ensures row { (node : Node) (page : pages.Page) (owner key : List ℕ) →
-        IsView node page → pages.row_of page owner key ≡ shown_at key (shown_of node.held owner).entries }
+    ensures upto { (node : Node) (view : node_views.NodeView) (owner : List ℕ) → IsView node view → node_views.upto_of view owner ≡ (shown_of node.held owner).held }
+    ensures row { (node : Node) (view : node_views.NodeView) (owner key : List ℕ) →
+        IsView node view → node_views.row_of view owner key ≡ shown_at key (shown_of node.held owner).entries }
 {}
 
 /// A node's own write leads on by itself: with it entered, the tables are those after the write.
 pub fn own_writes_lead()
-    ensures { (held : Held) (e : records.Entry) → e.version ≡ (shown_of held held.me).held + 1 → pages.Leads held (written held e) ((held.me, e) ∷ []) }
+    ensures { (held : Held) (e : records.Entry) → e.version ≡ (shown_of held held.me).held + 1 → node_views.Leads held (written held e) ((held.me, e) ∷ []) }
 {}
 
 /// Rows come in ascending order: each stands behind those before it, by owner and then by key.
 pub fn rows_ascend()
-    ensures { (place : Option (List ℕ × List ℕ)) (wanted : Option (List ℕ)) (prefix : List ℕ) (page : pages.Page) →
-        rows.AreAscending (rows.rows_behind place wanted prefix page) }
+    ensures { (place : Option (List ℕ × List ℕ)) (wanted : Option (List ℕ)) (prefix : List ℕ) (view : node_views.NodeView) →
+        rows.AreAscending (rows.rows_behind place wanted prefix view) }
 {}
 
 /// Tables grow: after any own writes and deltas, however their blocks end, the table of each owner is the earlier one
@@ -44,5 +44,5 @@ pub fn tables_grow()
 
 /// What is new of tables that grew leads on: with it entered, owner by owner, the earlier tables are the later ones.
 pub fn new_entries_lead()
-    ensures { (old new : Held) → IsHoldings new → AreGrown old new → pages.Leads old new (new_entries old new) }
+    ensures { (old new : Held) → IsHoldings new → AreGrown old new → node_views.Leads old new (new_entries old new) }
 {}

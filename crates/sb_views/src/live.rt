@@ -6,12 +6,12 @@ use std::marker::Model;
 
 /// A value that stands under a key, with the version of its write, which is at least 1.
 #[derive(Drop)]
-pub struct Live {
+pub struct LiveValue {
     value: Value,
     version: u64,
 }
 
-impl Model for Live {
+impl Model for LiveValue {
     ghost use Rattle.std.specs.Prelude.{ℕ, ◌≤◌};
     ghost use Rattle.sb_types.specs.Value as values;
 
@@ -22,12 +22,12 @@ impl Model for Live {
     ghost invariant = { λ l. 1 ≤ l.version };
 }
 
-impl Live {
-    pub(crate) fn new(value: Value, version: u64) -> Live
+impl LiveValue {
+    pub(crate) fn new(value: Value, version: u64) -> LiveValue
         requires { 1 ≤ version }
         ensures { result ≡ (value, version) }
     {
-        Live { value, version }
+        LiveValue { value, version }
     }
 
     /// What was written.

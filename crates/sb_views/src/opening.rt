@@ -1,13 +1,13 @@
-//! The first page, and the making of views.
+//! The view of a node as it is opened, and the making of its writer and its readers.
 ghost use Rattle.std.specs.Prelude.{◌≡◌, ◌<◌, ◌^◌, [], replicate, IfOk, IfErr, OnOk};
 ghost use Rattle.std.specs.FinMap.{empty};
-ghost use Rattle.sb_views.specs.Pages as pages;
+ghost use Rattle.sb_views.specs.NodeViews as node_views;
 ghost use Rattle.sb_holdings.specs.Plain.{IsHoldings};
 
-use crate::page::Page;
+use crate::history::{HistoryPrefix, NodeTag};
+use crate::node_view::NodeView;
 use crate::reader::Reader;
-use crate::shown::Shown;
-use crate::story::{Front, Site};
+use crate::view_copy::ViewCopy;
 use crate::writer::ViewWriter;
 use sb_holdings::Holdings;
 use sb_table::Table;
@@ -16,51 +16,51 @@ use std::alloc::{AllocError, Global};
 use std::sync::Wait;
 
 /// Shows all entries of an owner.
-fn enter_table(page: &mut Page, owner: &Name, table: &Table) -> Result<(), AllocError>
-    ensures { OnOk result (page.new ≡ pages.page_with_all page.old (pages.owned owner.now table.now)) }
+fn enter_table(view: &mut NodeView, owner: &Name, table: &Table) -> Result<(), AllocError>
+    ensures { OnOk result (view.new ≡ node_views.view_with_all view.old (node_views.owned owner.now table.now)) }
 {
     for entry in table.after(0) {
-        page.enter(owner, entry)?;
+        view.enter(owner, entry)?;
     }
     Ok(())
 }
 
-/// The page of all that is held.
-fn page_of(alloc: Global, holdings: &Holdings) -> Result<Page, AllocError>
-    ensures page { IfOk result (λ page. page ≡ pages.page_with_all empty (pages.all_owned holdings.now)) }
+/// The view of all that is held.
+fn view_of(alloc: Global, holdings: &Holdings) -> Result<NodeView, AllocError>
+    ensures view { IfOk result (λ view. view ≡ node_views.view_with_all empty (node_views.all_owned holdings.now)) }
     ensures holdings { IsHoldings holdings.now }
 {
-    let mut page = Page::new(alloc);
+    let mut view = NodeView::new(alloc);
     for (owner, table) in holdings.tables_from(None) {
-        enter_table(&mut page, owner, table)?;
+        enter_table(&mut view, owner, table)?;
     }
-    Ok(page)
+    Ok(view)
 }
 
 /// The views of a node as it is opened, for so many readers: what is held is published, and every reader has seen
-/// nothing of the story. `NoMemory`.
-pub fn views<S: Site, R: Wait + Drop>(
+/// nothing of the history. `NoMemory`.
+pub fn views<S: NodeTag, R: Wait + Drop>(
     alloc: Global,
     rt: R,
-    start: Front<S>,
+    start: HistoryPrefix<S>,
     holdings: &Holdings,
     seats: usize,
 ) -> Result<(ViewWriter<S, R>, Vec<Reader<S>>), Fault>
     requires opening { S.opening.held ≡ holdings.now }
     requires start { start ≡ [] }
     requires seats { (0 < seats) × (seats < 2 ^ 32) }
-    ensures writer { IfOk result (λ v. v.0 ≡ record { shown = []; ready = [] }) }
+    ensures writer { IfOk result (λ v. v.0 ≡ record { published = []; queued = [] }) }
     ensures readers { IfOk result (λ v. v.1.items ≡ replicate seats []) }
     ensures memory { IfErr result (λ fault. fault ≡ Fault.NoMemory) }
 {
-    let Ok(first) = page_of(alloc, holdings) else {
+    let Ok(first) = view_of(alloc, holdings) else {
         return Err(Fault::NoMemory);
     };
-    let Ok(second) = page_of(alloc, holdings) else {
+    let Ok(second) = view_of(alloc, holdings) else {
         return Err(Fault::NoMemory);
     };
-    let first = Shown::new(first, start.mark().again());
-    let second = Shown::new(second, start.mark().again());
+    let first = ViewCopy::new(first, start.position().copy());
+    let second = ViewCopy::new(second, start.position().copy());
     let writer = ViewWriter::new(alloc, rt, start, first, second, seats)?;
     let readers = writer.readers(alloc, seats)?;
     Ok((writer, readers))

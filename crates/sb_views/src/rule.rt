@@ -1,38 +1,38 @@
-//! The rule of views: what is published is the view of a beginning of the story, no shorter than any reader saw.
+//! The rule of views: what is published is the view of a prefix of the history, no shorter than any reader saw.
 
-use crate::shown::Shown;
-use crate::story::Site;
+use crate::history::NodeTag;
+use crate::view_copy::ViewCopy;
 use crossbeam_utils::rule::{Outcome, Protocol};
 use std::marker::PhantomData;
 
 /// A reader's own view, in the rule, is how many events it saw.
-pub struct Shows<S> {
+pub struct ViewRule<S> {
     of: PhantomData<S>,
 }
 
-impl<S: Site> Protocol<Shown, u64> for Shows<S> {
-    ghost use Rattle.sb_views.specs.Views as spec;
+impl<S: NodeTag> Protocol<ViewCopy, u64> for ViewRule<S> {
+    ghost use Rattle.sb_views.specs.Publishing as spec;
 
-    ghost holds = { λ copy seen. spec.IsPublished S.story S.opening copy seen };
+    ghost holds = { λ copy seen. spec.IsPublished S.history S.opening copy seen };
 
     ghost first = { 0 };
 }
 
-/// Of publishing nothing is told.
-pub(crate) struct Publishes;
+/// A publish promises nothing by itself.
+pub(crate) struct PublishOutcome;
 
-impl Outcome<Shown, u64> for Publishes {
+impl Outcome<ViewCopy, u64> for PublishOutcome {
     ghost then = { λ v x y w. Unit {0} };
 }
 
 /// Whoever enters sees no fewer events than before, and the view of them.
-pub(crate) struct Enters<S> {
+pub(crate) struct EnterOutcome<S> {
     of: PhantomData<S>,
 }
 
-impl<S: Site> Outcome<Shown, u64> for Enters<S> {
+impl<S: NodeTag> Outcome<ViewCopy, u64> for EnterOutcome<S> {
     ghost use Rattle.std.specs.Prelude.{◌≡◌, ◌≤◌, length};
-    ghost use Rattle.sb_views.specs.Views as spec;
+    ghost use Rattle.sb_views.specs.Publishing as spec;
 
-    ghost then = { λ v x y w. (v ≤ length x.mark.events) × (w ≡ length x.mark.events) × spec.IsTold S.story S.opening x };
+    ghost then = { λ v x y w. (v ≤ length x.position.events) × (w ≡ length x.position.events) × spec.IsCopyOf S.history S.opening x };
 }

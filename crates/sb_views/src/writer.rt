@@ -1,15 +1,15 @@
 //! The writer of views.
 ghost use Rattle.std.specs.Prelude.{◌≡◌, ◌++◌, ◌∷◌, ◌<◌, ◌^◌, drop, replicate, [], IfOk, IfErr, OnOk, MatchResult};
 ghost use mathlib.Core.List.{IsPrefix};
-ghost use Rattle.sb_views.specs.Pages.{Leads};
-ghost use Rattle.sb_views.specs.Stories.{node_after};
-ghost use Rattle.sb_views.specs.Views as spec;
+ghost use Rattle.sb_views.specs.NodeViews.{Leads};
+ghost use Rattle.sb_views.specs.Histories.{node_after};
+ghost use Rattle.sb_views.specs.Publishing as spec;
 
 use crate::batch::Batch;
+use crate::history::{HistoryPrefix, NodeTag, Position};
 use crate::reader::Reader;
-use crate::rule::{Publishes, Shows};
-use crate::shown::{Op, Shown};
-use crate::story::{Front, Mark, Site};
+use crate::rule::{PublishOutcome, ViewRule};
+use crate::view_copy::{Operation, ViewCopy};
 use core::mem::replace_with;
 use left_right::writer::Writer;
 use sb_types::Fault;
@@ -18,86 +18,86 @@ use std::collections::VecDeque;
 use std::marker::Model;
 use std::sync::Wait;
 
-/// Publishes what readers are shown. Contracts see it as two beginnings of the story: the events that are shown, and
-/// those that will be once all that is pending is published.
-pub struct ViewWriter<S: Site, R: Wait + Drop> {
-    writer: Writer<Shown, Op, u64, Shows<S>>,
+/// The one writer of the views of a node. Contracts see it as two prefixes of the history: `published`, whose view readers get when
+/// they enter, and `queued`, whose view they get once all that is queued is published.
+pub struct ViewWriter<S: NodeTag, R: Wait + Drop> {
+    writer: Writer<ViewCopy, Operation, u64, ViewRule<S>>,
     // What is appended and not yet handed to the writer, so that no reader meets a part of a batch.
-    queue: VecDeque<Op>,
-    ready: Front<S>,
+    queue: VecDeque<Operation>,
+    queued: HistoryPrefix<S>,
     rt: R,
 }
 
-impl<S: Site, R: Wait + Drop> Model for ViewWriter<S, R> {
+impl<S: NodeTag, R: Wait + Drop> Model for ViewWriter<S, R> {
     ghost use Rattle.std.specs.Prelude.{◌++◌, drop, fold};
-    ghost use Rattle.sb_views.specs.Ops.{after_op};
-    ghost use Rattle.sb_views.specs.Views as spec;
+    ghost use Rattle.sb_views.specs.Operations.{after_operation};
+    ghost use Rattle.sb_views.specs.Publishing as spec;
 
     ghost Value = { spec.Views };
 
-    ghost view = { λ w. record { shown = w.writer.desk.shown.value.mark.events; ready = w.ready } };
+    ghost view = { λ w. record { published = w.writer.desk.shown.value.position.events; queued = w.queued } };
 
-    ghost invariant = { λ w. spec.IsReady S.story S.opening w.ready w.writer.desk.shown.value
-        (fold after_op w.writer.desk.shown.value (drop w.writer.behind w.writer.log.items ++ w.queue.items)) };
+    ghost invariant = { λ w. spec.IsQueued S.history S.opening w.queued w.writer.desk.shown.value
+        (fold after_operation w.writer.desk.shown.value (drop w.writer.behind w.writer.log.items ++ w.queue.items)) };
 }
 
 /// Hands all that is queued to the writer, or as much as there is memory for.
-fn hand_over<S: Site>(
-    writer: &mut Writer<Shown, Op, u64, Shows<S>>,
-    queue: &mut VecDeque<Op>,
+fn hand_over<S: NodeTag>(
+    writer: &mut Writer<ViewCopy, Operation, u64, ViewRule<S>>,
+    queue: &mut VecDeque<Operation>,
 ) -> Result<(), AllocError>
     ensures desk { writer.new.desk ≡ writer.old.desk }
     ensures pending { drop writer.new.behind writer.new.log.items ++ queue.new.items ≡ drop writer.old.behind writer.old.log.items ++ queue.old.items }
     ensures all { OnOk result (queue.new.items ≡ []) }
 {
-    while let Some(op) = queue.pop_front() {
-        if let Err(op) = writer.append(op) {
-            queue.push_front_reserved(op);
+    while let Some(operation) = queue.pop_front() {
+        if let Err(operation) = writer.append(operation) {
+            queue.push_front_reserved(operation);
             return Err(AllocError);
         }
     }
     Ok(())
 }
 
-/// Queues steps and then a mark, or nothing where there is no memory for all.
+/// Queues operations and then how far they lead, or nothing where there is no memory for all.
 fn queue_all(
-    queue: &mut VecDeque<Op>,
-    steps: &mut VecDeque<Op>,
-    mark: &Mark,
+    queue: &mut VecDeque<Operation>,
+    steps: &mut VecDeque<Operation>,
+    position: &Position,
 ) -> Result<(), AllocError>
-    ensures { MatchResult result (λ _. queue.new.items ≡ queue.old.items ++ (steps.old.items ++ Op.Reach mark.now ∷ []))
+    ensures { MatchResult result (λ _. queue.new.items ≡ queue.old.items ++ (steps.old.items ++ Operation.Reach position.now ∷ []))
         (λ _. (queue.new.items ≡ queue.old.items) × (steps.new.items ≡ steps.old.items)) }
 {
-    let steps_and_mark = steps.len().checked_add(1).ok_or(AllocError)?;
-    queue.reserve(steps_and_mark)?;
+    let operations_and_position = steps.len().checked_add(1).ok_or(AllocError)?;
+    queue.reserve(operations_and_position)?;
     queue.append(steps)?;
-    queue.push_back_reserved(Op::Reach(mark.again()));
+    queue.push_back_reserved(Operation::Reach(position.copy()));
     Ok(())
 }
 
-impl<S: Site, R: Wait + Drop> ViewWriter<S, R> {
+impl<S: NodeTag, R: Wait + Drop> ViewWriter<S, R> {
     /// A writer of two equal copies, with room for so many readers. `NoMemory`.
     pub(crate) fn new(
         alloc: Global,
         rt: R,
-        start: Front<S>,
-        first: Shown,
-        second: Shown,
+        start: HistoryPrefix<S>,
+        first: ViewCopy,
+        second: ViewCopy,
         seats: usize,
     ) -> Result<ViewWriter<S, R>, Fault>
         requires start { start ≡ [] }
         requires seats { (0 < seats) × (seats < 2 ^ 32) }
         requires alike { first ≡ second }
-        requires told { spec.IsTold S.story S.opening first }
-        requires nothing { first.mark.events ≡ [] }
-        ensures writer { IfOk result (λ writer. writer ≡ record { shown = []; ready = [] }) }
+        requires is_copy { spec.IsCopyOf S.history S.opening first }
+        requires nothing { first.position.events ≡ [] }
+        ensures writer { IfOk result (λ writer. writer ≡ record { published = []; queued = [] }) }
         ensures memory { IfErr result (λ fault. fault ≡ Fault.NoMemory) }
     {
         match Writer::new(alloc, first, second, seats) {
             Ok(writer) => Ok(ViewWriter {
                 writer,
                 queue: VecDeque::new(alloc),
-                ready: start,
+                queued: start,
                 rt,
             }),
             Err(_) => Err(Fault::NoMemory),
@@ -106,7 +106,7 @@ impl<S: Site, R: Wait + Drop> ViewWriter<S, R> {
 
     /// Readers that have seen nothing, each in a place of its own. `NoMemory`.
     pub(crate) fn readers(&self, alloc: Global, seats: usize) -> Result<Vec<Reader<S>>, Fault>
-        requires { self.now.ready ≡ [] }
+        requires { self.now.queued ≡ [] }
         ensures readers { IfOk result (λ readers. readers.items ≡ replicate seats []) }
         ensures memory { IfErr result (λ fault. fault ≡ Fault.NoMemory) }
     {
@@ -119,50 +119,50 @@ impl<S: Site, R: Wait + Drop> ViewWriter<S, R> {
     }
 
     fn reader(&self) -> Result<Reader<S>, Fault>
-        requires { self.now.ready ≡ [] }
+        requires { self.now.queued ≡ [] }
         ensures reader { IfOk result (λ reader. reader ≡ []) }
         ensures memory { IfErr result (λ fault. fault ≡ Fault.NoMemory) }
     {
         match self.writer.factory().reader() {
-            Ok(reader) => Ok(Reader::new(reader, self.ready.again())),
+            Ok(reader) => Ok(Reader::new(reader, self.queued.copy())),
             Err(_) => Err(Fault::NoMemory),
         }
     }
 
-    /// Appends a batch, which leads from what is ready to the view of the events up to `upto`. Readers see nothing of
+    /// Queues a batch, which leads from the view of what is queued to that of the events up to `upto`. Readers see nothing of
     /// it until it is published. Where memory is wanting the batch comes back and nothing changes.
-    pub fn append(&mut self, batch: Batch, upto: &Front<S>) -> Result<(), Batch>
-        requires begins { IsPrefix self.old.ready upto.now }
-        requires leads { Leads (node_after S.opening self.old.ready).held (node_after S.opening upto.now).held batch }
-        ensures { MatchResult result (λ _. self.new ≡ record { shown = self.old.shown; ready = upto.now }) (λ back. (back ≡ batch) × (self.new ≡ self.old)) }
+    pub fn append(&mut self, batch: Batch, upto: &HistoryPrefix<S>) -> Result<(), Batch>
+        requires begins { IsPrefix self.old.queued upto.now }
+        requires leads { Leads (node_after S.opening self.old.queued).held (node_after S.opening upto.now).held batch }
+        ensures { MatchResult result (λ _. self.new ≡ record { published = self.old.published; queued = upto.now }) (λ back. (back ≡ batch) × (self.new ≡ self.old)) }
     {
-        let mut steps = batch.into_steps();
-        match queue_all(&mut self.queue, &mut steps, upto.mark()) {
+        let mut steps = batch.into_operations();
+        match queue_all(&mut self.queue, &mut steps, upto.position()) {
             Ok(()) => {
-                self.ready = upto.again();
+                self.queued = upto.copy();
                 Ok(())
             }
-            Err(_) => Err(Batch::from_steps(steps)),
+            Err(_) => Err(Batch::from_operations(steps)),
         }
     }
 
     fn published(self) -> (ViewWriter<S, R>, Result<(), AllocError>)
-        ensures { MatchResult result.1 (λ _. result.0 ≡ record { shown = self.ready; ready = self.ready }) (λ _. result.0 ≡ self) }
+        ensures { MatchResult result.1 (λ _. result.0 ≡ record { published = self.queued; queued = self.queued }) (λ _. result.0 ≡ self) }
     {
         let ViewWriter {
             mut writer,
             mut queue,
-            ready,
+            queued,
             rt,
         } = self;
         match hand_over(&mut writer, &mut queue) {
             Ok(()) => {
-                let (writer, end) = writer.publish_as::<Publishes, R>(&rt);
+                let (writer, end) = writer.publish_as::<PublishOutcome, R>(&rt);
                 (
                     ViewWriter {
                         writer,
                         queue,
-                        ready,
+                        queued,
                         rt,
                     },
                     end,
@@ -172,7 +172,7 @@ impl<S: Site, R: Wait + Drop> ViewWriter<S, R> {
                 ViewWriter {
                     writer,
                     queue,
-                    ready,
+                    queued,
                     rt,
                 },
                 Err(fault),
@@ -180,10 +180,10 @@ impl<S: Site, R: Wait + Drop> ViewWriter<S, R> {
         }
     }
 
-    /// Shows readers all that is pending. It waits for those that still read what was published before the last time.
-    /// `NoMemory`, where neither what is shown nor what is pending changes.
+    /// Publishes all that is queued. It waits for those that still read what was published before the last time.
+    /// `NoMemory`, where neither what is published nor what is queued changes.
     pub fn publish(&mut self) -> Result<(), Fault>
-        ensures end { MatchResult result (λ _. self.new ≡ record { shown = self.old.ready; ready = self.old.ready }) (λ _. self.new ≡ self.old) }
+        ensures end { MatchResult result (λ _. self.new ≡ record { published = self.old.queued; queued = self.old.queued }) (λ _. self.new ≡ self.old) }
         ensures memory { IfErr result (λ fault. fault ≡ Fault.NoMemory) }
     {
         match replace_with(self, (), |writer, _| writer.published()) {
@@ -193,12 +193,12 @@ impl<S: Site, R: Wait + Drop> ViewWriter<S, R> {
     }
 }
 
-impl<S: Site, R: Wait + Drop> Drop for ViewWriter<S, R> {
+impl<S: NodeTag, R: Wait + Drop> Drop for ViewWriter<S, R> {
     fn drop(self) {
         let Self {
             writer,
             queue: _queue,
-            ready: _ready,
+            queued: _ready,
             rt,
         } = self;
         drop(writer.take(&rt));

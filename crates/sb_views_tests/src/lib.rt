@@ -1,9 +1,11 @@
-//! The tests of views, pages, listings, watches and lines. They stand in a crate of their own, since a crate with tests is proved
-//! twice: with them and without.
+//! The tests of views, pages, listings, watches, lines and the words of lines. They stand in a crate of their own, since a crate
+//! with tests is proved twice: with them and without.
 #![tactic(auto)]
 
 #[cfg(test)]
 mod answers;
+#[cfg(test)]
+mod examples;
 #[cfg(test)]
 mod lines;
 #[cfg(test)]
@@ -12,6 +14,8 @@ mod listings;
 mod making;
 #[cfg(test)]
 mod pages;
+#[cfg(test)]
+mod printing;
 #[cfg(test)]
 mod reading;
 #[cfg(test)]
@@ -27,19 +31,13 @@ use std::process::Abort;
 /// The answer; where there is none, the end of the test, which names the fault.
 #[cfg(test)]
 fn got<T, E: Debug + Drop>(rt: &impl Abort, answer: Result<T, E>) -> T {
-    match answer {
-        Ok(answer) => answer,
-        Err(fault) => panic!(rt; "error: {fault:?}"),
-    }
+    answer.expect(rt, "error")
 }
 
-/// What is there; where there is nothing, the end of the test.
+/// What has to be there; where it is not, the end of the test.
 #[cfg(test)]
-fn there<T>(rt: &impl Abort, option: Option<T>) -> T {
-    match option {
-        Some(it) => it,
-        None => panic!(rt; "error: none"),
-    }
+fn there<T>(rt: &impl Abort, value: Option<T>) -> T {
+    value.expect(rt, "error: none")
 }
 
 /// Ends the test where the two differ. As a function it costs the prover a fifth of the macro.

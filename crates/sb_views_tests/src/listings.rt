@@ -1,71 +1,78 @@
 //! What changed between listings and its lines, and rows as JSON.
-use crate::making::{ClosingWriter, Ended, Told, failed_behind, has_lines, rows_of, settled};
+use crate::making::{Ended, RowParts, failed_behind, has_lines, rows_of, settled};
 use crate::{got, same};
 use sb_codec::{Row, Rows};
 use sb_listing::{changes, print_changes, print_json_rows};
+use sb_testing::streams::Closing;
 use std::alloc::Global;
 use std::process::Abort;
 
-const A_V: Told = (b"a", b"v", 1, (b"addr", b"h:80"));
+const A_V: RowParts = (b"a", b"v", 1, (b"addr", b"h:80"));
 
-const A_W: Told = (b"a", b"w", 2, (b"weight", b"5"));
+const A_W: RowParts = (b"a", b"w", 2, (b"weight", b"5"));
 
-const A_W_LATER: Told = (b"a", b"w", 9, (b"weight", b"5"));
+const A_W_LATER: RowParts = (b"a", b"w", 9, (b"weight", b"5"));
 
-const A_W_OTHER: Told = (b"a", b"w", 2, (b"weight", b"6"));
+const A_W_OTHER: RowParts = (b"a", b"w", 2, (b"weight", b"6"));
 
-const A_W_FLAG: Told = (b"a", b"w", 2, (b"flag", b"true"));
+const A_W_FLAG: RowParts = (b"a", b"w", 2, (b"flag", b"true"));
 
-const A_W_NOT: Told = (b"a", b"w", 2, (b"flag", b"false"));
+const A_W_NOT: RowParts = (b"a", b"w", 2, (b"flag", b"false"));
 
-const AA_A: Told = (b"aa", b"a", 1, (b"flag", b"true"));
+const AA_A: RowParts = (b"aa", b"a", 1, (b"flag", b"true"));
 
-const B_A: Told = (b"b", b"a", 3, (b"addr", b"h:80"));
+const B_A: RowParts = (b"b", b"a", 3, (b"addr", b"h:80"));
 
-const B_A_OTHER: Told = (b"b", b"a", 3, (b"addr", b"h:81"));
+const B_A_OTHER: RowParts = (b"b", b"a", 3, (b"addr", b"h:81"));
 
-const A_T: Told = (b"a", b"t", 4, (b"text", b"two words"));
+const A_T: RowParts = (b"a", b"t", 4, (b"text", b"two words"));
 
-const A_T_OTHER: Told = (b"a", b"t", 4, (b"text", b"two words "));
+const A_T_OTHER: RowParts = (b"a", b"t", 4, (b"text", b"two words "));
 
 // Listings that are compared with others.
-fn a_to_b() -> [Told; 3] {
+fn a_to_b() -> [RowParts; 3] {
     [A_V, A_W, B_A]
 }
 
-fn a_and_aa() -> [Told; 2] {
+fn a_and_aa() -> [RowParts; 2] {
     [A_V, AA_A]
 }
 
-fn a_other_to_b() -> [Told; 3] {
+fn a_other_to_b() -> [RowParts; 3] {
     [A_W_OTHER, AA_A, B_A]
 }
 
-fn a_and_b() -> [Told; 2] {
+fn a_and_b() -> [RowParts; 2] {
     [A_W, B_A]
 }
 
 /// The lines of what changed from one of these to the other are these.
 fn rows_change_to(rt: &impl Abort, alloc: Global, earlier: &[Row], later: &[Row], wanted: &[u8]) {
-    let told = got(rt, changes(alloc, earlier, later));
+    let found = got(rt, changes(alloc, earlier, later));
     let mut lines = Vec::new(alloc);
-    let printed = print_changes(alloc, &mut lines, &told);
+    let printed = print_changes(alloc, &mut lines, &found);
     has_lines(rt, printed, &lines, wanted);
 }
 
 /// The same of listings.
-fn lines_are(rt: &impl Abort, alloc: Global, earlier: &[Told], later: &[Told], wanted: &[u8]) {
+fn lines_are(
+    rt: &impl Abort,
+    alloc: Global,
+    earlier: &[RowParts],
+    later: &[RowParts],
+    wanted: &[u8],
+) {
     let (earlier, later) = (rows_of(rt, alloc, earlier), rows_of(rt, alloc, later));
     rows_change_to(rt, alloc, &earlier, &later, wanted);
 }
 
 /// The same of listings of one row each.
-fn line_is(rt: &impl Abort, alloc: Global, earlier: Told, later: Told, wanted: &[u8]) {
+fn line_is(rt: &impl Abort, alloc: Global, earlier: RowParts, later: RowParts, wanted: &[u8]) {
     lines_are(rt, alloc, &[earlier], &[later], wanted);
 }
 
 /// The line of a weight of which a later row stands in its place.
-fn weight_becomes(rt: &impl Abort, alloc: Global, later: Told, wanted: &[u8]) {
+fn weight_becomes(rt: &impl Abort, alloc: Global, later: RowParts, wanted: &[u8]) {
     line_is(rt, alloc, A_W, later, wanted);
 }
 
@@ -133,7 +140,7 @@ fn what_changed_is_printed(rt: HostRuntime) {
 
 // An address with a quote and a backslash, the greatest weight, a flag, and a text with a quote, three bytes that are escaped in
 // lines, a letter outside ASCII and a space at its end.
-const KINDS: [Told; 4] = [
+const KINDS: [RowParts; 4] = [
     (b"a", b"v", 1, (b"addr", b"\"\\/~h")),
     (b"a", b"w-._/0", 2, (b"weight", b"9223372036854775807")),
     (b"b-1", b"up", 3, (b"flag", b"true")),
@@ -175,17 +182,14 @@ fn a_page_is_printed_as_json(rt: HostRuntime) {
 /// How the printing of a change ends at a writer that closes behind so many bytes.
 fn changes_behind(rt: &impl Abort, alloc: Global, left: usize) -> Ended {
     let rows = rows_of(rt, alloc, &[A_V]);
-    let told = got(rt, changes(alloc, &[], &rows));
-    settled(rt, print_changes(alloc, &mut ClosingWriter { left }, &told))
+    let found = got(rt, changes(alloc, &[], &rows));
+    settled(rt, print_changes(alloc, &mut Closing::new(left), &found))
 }
 
 /// The same of that page as JSON.
 fn json_behind(rt: &impl Abort, alloc: Global, left: usize) -> Ended {
     let page = page_of_kinds(rt, alloc);
-    settled(
-        rt,
-        print_json_rows(alloc, &mut ClosingWriter { left }, &page),
-    )
+    settled(rt, print_json_rows(alloc, &mut Closing::new(left), &page))
 }
 
 /// Both fail behind so many bytes.

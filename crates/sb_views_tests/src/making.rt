@@ -1,4 +1,4 @@
-//! Names, entries, holdings and a writer for the tests.
+//! Names, entries and holdings for the tests, and how a printing ends.
 use crate::{got, same};
 use sb_codec::Row;
 use sb_frames::LastWrite;
@@ -6,8 +6,6 @@ use sb_holdings::{BlockEnd, Holdings};
 use sb_table::Table;
 use sb_types::{Block, Entry, Fault, Key, Name, Prefix, Slot, Value};
 use std::alloc::Global;
-use std::io;
-use std::io::{ErrorKind, Write};
 use std::process::Abort;
 
 pub(crate) fn name(rt: &impl Abort, text: &[u8]) -> Name {
@@ -50,15 +48,15 @@ pub(crate) fn entry(rt: &impl Abort, text: &[u8], version: u64, value: Option<Va
 pub(crate) type Words = (&'static [u8], &'static [u8]);
 
 // An owner, a key, a version, and a value.
-pub(crate) type Told = (&'static [u8], &'static [u8], u64, Words);
+pub(crate) type RowParts = (&'static [u8], &'static [u8], u64, Words);
 
 /// The value of these words.
 pub(crate) fn value_of(rt: &impl Abort, alloc: Global, words: Words) -> Value {
     got(rt, Value::from_words(alloc, words.0, words.1))
 }
 
-fn row_of(rt: &impl Abort, alloc: Global, told: Told) -> Row {
-    let (owner, text, version, words) = told;
+fn row_of(rt: &impl Abort, alloc: Global, parts: RowParts) -> Row {
+    let (owner, text, version, words) = parts;
     let (owner, key) = (name(rt, owner), key(rt, text));
     got(
         rt,
@@ -66,9 +64,9 @@ fn row_of(rt: &impl Abort, alloc: Global, told: Told) -> Row {
     )
 }
 
-pub(crate) fn rows_of(rt: &impl Abort, alloc: Global, told: &[Told]) -> Vec<Row> {
+pub(crate) fn rows_of(rt: &impl Abort, alloc: Global, parts: &[RowParts]) -> Vec<Row> {
     let mut rows = Vec::new(alloc);
-    for one in told {
+    for one in parts {
         got(rt, rows.push(row_of(rt, alloc, *one)));
     }
     rows
@@ -121,25 +119,4 @@ pub(crate) fn has_lines(
 /// A printing ended at the write that failed behind so many bytes.
 pub(crate) fn failed_behind(rt: &impl Abort, ended: Ended, left: usize) {
     same(rt, &ended, &(Err(Fault::WriteFailed(left as u64)), true));
-}
-
-/// A writer that takes so many bytes, and then closes.
-#[derive(Drop)]
-pub(crate) struct ClosingWriter {
-    pub(crate) left: usize,
-}
-
-impl Write for ClosingWriter {
-    fn write(&mut self, bytes: &[u8]) -> io::Result<usize> {
-        if self.left == 0 {
-            return Err(io::Error::from(ErrorKind::BrokenPipe));
-        }
-        let taken = bytes.len().min(self.left);
-        self.left -= taken;
-        Ok(taken)
-    }
-
-    fn flush(&mut self) -> io::Result<()> {
-        Ok(())
-    }
 }

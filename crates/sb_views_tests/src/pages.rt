@@ -1,13 +1,14 @@
 //! Pages at exact budgets and behind places, and the lines of a page.
 use crate::making::{
-    ClosingWriter, Ended, apply, entry, failed_behind, has_lines, holdings_of_a, key, name,
-    owner_of, prefix, rows_of, settled, weight,
+    Ended, apply, entry, failed_behind, has_lines, holdings_of_a, key, name, owner_of, prefix,
+    rows_of, settled, weight,
 };
 use crate::reading::{Look, read};
 use crate::{got, making, same, same_at};
 use sb_codec::{Ask, Row, Rows};
 use sb_holdings::Holdings;
 use sb_query::{answer, print_rows};
+use sb_testing::streams::Closing;
 use sb_types::{BUDGET_LEAST, BUDGET_MOST, Block, Entry, Key, Name, Value};
 use sb_views::Snapshot;
 use std::alloc::Global;
@@ -22,10 +23,10 @@ const NET_A: Place = (b"a", b"net/a");
 const LAST_OF_A: Place = (b"a", b"w");
 
 // An owner, a key and a version.
-type Told = (&'static [u8], &'static [u8], u64);
+type RowParts = (&'static [u8], &'static [u8], u64);
 
 // The live rows, which take 519, 25, 515, 18 and 515 bytes; a removed x as well.
-const ROWS: [Told; 5] = [
+const ROWS: [RowParts; 5] = [
     (b"a", b"net/a", 1),
     (b"a", b"net/b", 2),
     (b"a", b"w", 3),
@@ -98,8 +99,8 @@ fn page_of(
     got(rt, answer(alloc, snapshot, ask, budget))
 }
 
-fn is_told(row: &Row, told: Told) -> bool {
-    row.owner().bytes() == told.0 && row.key().bytes() == told.1 && row.version() == told.2
+fn is_row(row: &Row, parts: RowParts) -> bool {
+    row.owner().bytes() == parts.0 && row.key().bytes() == parts.1 && row.version() == parts.2
 }
 
 #[test]
@@ -108,11 +109,11 @@ fn pages_answer_what_is_asked(rt: HostRuntime) {
     read(&rt, rt.alloc(), &holdings, Look::Pages);
 }
 
-/// Whether just these rows are told, in order.
-fn are_told(rows: &[Row], wanted: &[usize]) -> bool {
+/// Whether just these rows are found, in order.
+fn are_rows(rows: &[Row], wanted: &[usize]) -> bool {
     for (row, at) in rows.iter().zip(wanted) {
         match ROWS.get(*at) {
-            Some(told) if is_told(row, *told) => {}
+            Some(parts) if is_row(row, *parts) => {}
             _ => return false,
         }
     }
@@ -120,9 +121,9 @@ fn are_told(rows: &[Row], wanted: &[usize]) -> bool {
 }
 
 /// Of a page: whether more follow, how many rows it has, and whether these are they.
-fn told_of(page: &Rows, wanted: &[usize]) -> (bool, usize, bool) {
+fn parts_of(page: &Rows, wanted: &[usize]) -> (bool, usize, bool) {
     let rows = page.rows();
-    (page.more(), rows.len(), are_told(rows, wanted))
+    (page.more(), rows.len(), are_rows(rows, wanted))
 }
 
 /// Which rows a page is to have, and whether more are to follow.
@@ -138,8 +139,8 @@ fn page_is(
     wanted: Wanted,
 ) {
     let (rows, more) = wanted;
-    let told = told_of(&page_of(rt, alloc, snapshot, ask, budget), rows);
-    same_at(rt, &(ask, budget), &told, &(more, rows.len(), true));
+    let found = parts_of(&page_of(rt, alloc, snapshot, ask, budget), rows);
+    same_at(rt, &(ask, budget), &found, &(more, rows.len(), true));
 }
 
 /// The first page within a budget.
@@ -253,7 +254,7 @@ fn pages_of_one(rt: &impl Abort, alloc: Global, snapshot: &Snapshot<'_>) {
 }
 
 /// Each page that is asked has its rows.
-pub(crate) fn rows_are_told(rt: &impl Abort, alloc: Global, snapshot: &Snapshot<'_>) {
+pub(crate) fn rows_are_answered(rt: &impl Abort, alloc: Global, snapshot: &Snapshot<'_>) {
     first_pages(rt, alloc, snapshot);
     pages_within_a(rt, alloc, snapshot);
     pages_behind_a(rt, alloc, snapshot);
@@ -308,17 +309,17 @@ fn turn(
 pub(crate) fn pages_follow(rt: &impl Abort, alloc: Global, snapshot: &Snapshot<'_>) {
     let mut ask = ask_of(rt, b"", b"", NOWHERE);
     for number in 1..6u64 {
-        let told = turn(rt, alloc, snapshot, &mut ask);
-        same_at(rt, &number, &told, &(63, number < 5, number * 63 - 62));
+        let found = turn(rt, alloc, snapshot, &mut ask);
+        same_at(rt, &number, &found, &(63, number < 5, number * 63 - 62));
     }
     same(rt, &turn(rt, alloc, snapshot, &mut ask), &(0, false, 0));
 }
 
 // A text, whose line is as it is spelled.
-const A_TEXT: making::Told = (b"a", b"t", 1, (b"text", b" two\\0awords "));
+const A_TEXT: making::RowParts = (b"a", b"t", 1, (b"text", b" two\\0awords "));
 
 // A weight, an address and a flag: lines of 19, 16 and 16 bytes.
-const THREE: [making::Told; 3] = [
+const THREE: [making::RowParts; 3] = [
     (b"a", b"net/a", 1, (b"weight", b"5")),
     (b"b", b"y", 2, (b"addr", b"h:80")),
     (b"b", b"z", 3, (b"flag", b"true")),
@@ -367,7 +368,7 @@ fn a_page_is_printed(rt: HostRuntime) {
 /// How the printing of three rows ends at a writer that closes behind so many bytes.
 fn ended_behind(rt: &impl Abort, alloc: Global, left: usize) -> Ended {
     let page = page_of_three(rt, alloc);
-    settled(rt, print_rows(alloc, &mut ClosingWriter { left }, &page))
+    settled(rt, print_rows(alloc, &mut Closing::new(left), &page))
 }
 
 #[test]

@@ -1,11 +1,12 @@
 //! A reader of a node whose views were just made, and what it is to find.
 ghost use Rattle.std.specs.Prelude.{◌≡◌};
 
-use crate::pages::{pages_follow, rows_are_told};
+use crate::examples::{key_is_looked_up, rows_are_printed};
+use crate::pages::{pages_follow, rows_are_answered};
 use crate::views::live_is_shown;
 use crate::{got, there};
 use sb_holdings::Holdings;
-use sb_views::{Entered, Opened, Reader, Site, views};
+use sb_views::{Entered, NewHistory, NodeTag, Reader, views};
 use std::alloc::Global;
 use std::marker::Brand;
 use std::process::Abort;
@@ -20,38 +21,44 @@ pub(crate) enum Look {
     Pages,
     /// Pages that follow one another.
     Following,
+    /// What stands under one key.
+    Key,
+    /// The rows under a prefix, which are printed.
+    Print,
 }
 
 /// Makes the views of what is held, and has a reader look at them.
 pub(crate) fn read<R: Wait + Abort>(rt: &R, alloc: Global, holdings: &Holdings, look: Look) {
-    read_on::<Brand, _>(rt, alloc, Opened::new(), holdings, look);
+    read_on::<Brand, _>(rt, alloc, NewHistory::new(), holdings, look);
 }
 
-fn read_on<S: Site, R: Wait + Abort>(
+fn read_on<S: NodeTag, R: Wait + Abort>(
     rt: &R,
     alloc: Global,
-    opened: Opened,
+    new_history: NewHistory,
     holdings: &Holdings,
     look: Look,
 )
-    requires story { opened.seen.book ≡ S.story }
+    requires history { new_history.seen.book ≡ S.history }
     requires opening { S.opening.held ≡ holdings.now }
 {
-    let (_story, start) = opened.named::<S>();
+    let (_head, start) = new_history.named::<S>();
     let (_writer, mut readers) = got(rt, views::<S, &R>(alloc, rt, start, holdings, 1));
     look_at(rt, alloc, &entered(rt, there(rt, readers.pop())), look);
 }
 
 /// A reader that entered.
-pub(crate) fn entered<S: Site>(rt: &impl Abort, reader: Reader<S>) -> Entered<S> {
+pub(crate) fn entered<S: NodeTag>(rt: &impl Abort, reader: Reader<S>) -> Entered<S> {
     there(rt, reader.enter().ok())
 }
 
-fn look_at<S: Site>(rt: &impl Abort, alloc: Global, entered: &Entered<S>, look: Look) {
+fn look_at<S: NodeTag>(rt: &impl Abort, alloc: Global, entered: &Entered<S>, look: Look) {
     let snapshot = entered.snapshot();
     match look {
         Look::Live => live_is_shown(rt, &snapshot),
-        Look::Pages => rows_are_told(rt, alloc, &snapshot),
+        Look::Pages => rows_are_answered(rt, alloc, &snapshot),
         Look::Following => pages_follow(rt, alloc, &snapshot),
+        Look::Key => key_is_looked_up(rt, entered),
+        Look::Print => rows_are_printed(rt, alloc, &snapshot),
     }
 }

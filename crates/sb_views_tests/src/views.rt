@@ -9,7 +9,8 @@ use crate::{got, holds, same, there};
 use sb_holdings::{BlockEnd, Holdings, Report};
 use sb_types::{Block, Delta, Entry, Key, Name, Value, ValueRef};
 use sb_views::{
-    Batch, Front, Opened, Reader, Row, Rows, Sheet, Site, Snapshot, Story, ViewWriter, views,
+    Batch, EventRef, HistoryHead, HistoryPrefix, LiveRow, LiveRows, NewHistory, NodeTag, OwnerView,
+    Reader, Snapshot, ViewWriter, views,
 };
 use std::alloc::Global;
 use std::marker::Brand;
@@ -84,7 +85,7 @@ fn before_removal(rt: &impl Abort, alloc: Global) -> Holdings {
 }
 
 /// What it holds behind the removal.
-fn all_written(rt: &impl Abort, alloc: Global) -> Holdings {
+pub(crate) fn all_written(rt: &impl Abort, alloc: Global) -> Holdings {
     let mut holdings = before_removal(rt, alloc);
     enter(rt, &mut holdings, NET_B_REMOVED);
     holdings
@@ -135,23 +136,23 @@ fn keys_are_shown(rt: &impl Abort, snapshot: &Snapshot<'_>) {
 }
 
 // The owner, the key and the version of a row.
-type Told = (&'static [u8], &'static [u8], u64);
+type RowParts = (&'static [u8], &'static [u8], u64);
 
-const A_NET_A: Told = (b"a", b"net/a", 2);
+const A_NET_A: RowParts = (b"a", b"net/a", 2);
 
-const A_W: Told = (b"a", b"w", 3);
+const A_W: RowParts = (b"a", b"w", 3);
 
-const B_NET_A: Told = (b"b", b"net/a", 1);
+const B_NET_A: RowParts = (b"b", b"net/a", 1);
 
 // The rows of all, those under net/, and those of a.
-const OF_ALL: [Told; 3] = [A_NET_A, A_W, B_NET_A];
+const OF_ALL: [RowParts; 3] = [A_NET_A, A_W, B_NET_A];
 
-const UNDER_NET: [Told; 2] = [A_NET_A, B_NET_A];
+const UNDER_NET: [RowParts; 2] = [A_NET_A, B_NET_A];
 
-const OF_A: [Told; 2] = [A_NET_A, A_W];
+const OF_A: [RowParts; 2] = [A_NET_A, A_W];
 
-fn is_told(row: Option<Row<'_>>, told: Told) -> bool {
-    let (owner, key, version) = told;
+fn is_row(row: Option<LiveRow<'_>>, wanted: RowParts) -> bool {
+    let (owner, key, version) = wanted;
     match row {
         Some(row) => {
             row.owner.bytes() == owner && row.key.bytes() == key && row.live.version() == version
@@ -161,9 +162,9 @@ fn is_told(row: Option<Row<'_>>, told: Told) -> bool {
 }
 
 /// Whether just these rows come.
-fn are_told(mut rows: Rows<'_>, wanted: &[Told]) -> bool {
-    for told in wanted {
-        if !is_told(rows.next(), *told) {
+fn are_rows(mut rows: LiveRows<'_>, wanted: &[RowParts]) -> bool {
+    for row in wanted {
+        if !is_row(rows.next(), *row) {
             return false;
         }
     }
@@ -171,9 +172,15 @@ fn are_told(mut rows: Rows<'_>, wanted: &[Told]) -> bool {
 }
 
 /// Just these rows of an owner come under a prefix, in order; of all owners where none is named.
-fn rows_are(rt: &impl Abort, snapshot: &Snapshot<'_>, owner: &[u8], under: &[u8], wanted: &[Told]) {
+fn rows_are(
+    rt: &impl Abort,
+    snapshot: &Snapshot<'_>,
+    owner: &[u8],
+    under: &[u8],
+    wanted: &[RowParts],
+) {
     let rows = snapshot.rows(owner_of(rt, owner), prefix(rt, under));
-    holds(rt, "its rows come in order", are_told(rows, wanted));
+    holds(rt, "its rows come in order", are_rows(rows, wanted));
 }
 
 /// The rows of each that is asked.
@@ -186,34 +193,34 @@ fn rows_come_in_order(rt: &impl Abort, snapshot: &Snapshot<'_>) {
 }
 
 // An owner, up to which version it is held, and how many rows it has.
-type ToldSheet = (&'static [u8], u64, usize);
+type OwnerParts = (&'static [u8], u64, usize);
 
-const SHEET_OF_A: ToldSheet = (b"a", 4, 2);
+const OWNER_A: OwnerParts = (b"a", 4, 2);
 
-const SHEET_OF_B: ToldSheet = (b"b", 1, 1);
+const OWNER_B: OwnerParts = (b"b", 1, 1);
 
-fn is_sheet(found: Option<(&Name, &Sheet)>, told: ToldSheet) -> bool {
-    let (name, upto, count) = told;
+fn is_owner(found: Option<(&Name, &OwnerView)>, wanted: OwnerParts) -> bool {
+    let (name, upto, count) = wanted;
     match found {
-        Some((owner, sheet)) => {
-            owner.bytes() == name && sheet.upto() == upto && sheet.len() == count
+        Some((owner, view)) => {
+            owner.bytes() == name && view.upto() == upto && view.len() == count
         }
         None => false,
     }
 }
 
-/// The sheet of each owner of whom something is held comes once, in order.
-fn sheets_come_in_order(rt: &impl Abort, snapshot: &Snapshot<'_>) {
-    let mut sheets = snapshot.sheets();
-    holds(rt, "the sheet of a", is_sheet(sheets.next(), SHEET_OF_A));
-    holds(rt, "the sheet of b", is_sheet(sheets.next(), SHEET_OF_B));
-    holds(rt, "no other sheet", sheets.next().is_none());
+/// The view of each owner of whom something is held comes once, in order.
+fn owners_come_in_order(rt: &impl Abort, snapshot: &Snapshot<'_>) {
+    let mut owners = snapshot.owners();
+    holds(rt, "the view of a", is_owner(owners.next(), OWNER_A));
+    holds(rt, "the view of b", is_owner(owners.next(), OWNER_B));
+    holds(rt, "no other view", owners.next().is_none());
 }
 
 pub(crate) fn live_is_shown(rt: &impl Abort, snapshot: &Snapshot<'_>) {
     keys_are_shown(rt, snapshot);
     rows_come_in_order(rt, snapshot);
-    sheets_come_in_order(rt, snapshot);
+    owners_come_in_order(rt, snapshot);
 }
 
 #[test]
@@ -251,47 +258,47 @@ fn publish_behind<R: Wait + Abort>(
     if held == u64::MAX || entry.version() != held + 1 {
         panic!(rt; "error: the write behind those");
     }
-    publish_one::<Brand, _>(rt, alloc, Opened::new(), holdings, entry)
+    publish_one::<Brand, _>(rt, alloc, NewHistory::new(), holdings, entry)
 }
 
-fn publish_one<S: Site, R: Wait + Abort>(
+fn publish_one<S: NodeTag, R: Wait + Abort>(
     rt: &R,
     alloc: Global,
-    opened: Opened,
+    new_history: NewHistory,
     holdings: &Holdings,
     entry: Entry,
 ) -> [Seen; 2]
-    requires story { opened.seen.book ≡ S.story }
+    requires history { new_history.seen.book ≡ S.history }
     requires opening { S.opening.held ≡ holdings.now }
     requires next { entry.version ≡ (shown_of holdings.now holdings.now.me).held + 1 }
 {
     let key = *entry.key();
-    let (story, start) = opened.named::<S>();
-    let (mut writer, mut readers) = match views::<S, &R>(alloc, rt, start.again(), holdings, 2) {
+    let (head, start) = new_history.named::<S>();
+    let (mut writer, mut readers) = match views::<S, &R>(alloc, rt, start.copy(), holdings, 2) {
         Ok(made) => made,
         Err(fault) => panic!(rt; "error: {fault:?}"),
     };
-    append_own(rt, alloc, &story, start, &mut writer, holdings, entry);
+    append_own(rt, alloc, &head, start, &mut writer, holdings, entry);
     let reader = there(rt, readers.pop());
     look_around(rt, &mut writer, reader, holdings.me(), &key)
 }
 
-/// Appends the first event of a story, an own write.
-fn append_own<S: Site, R: Wait + Abort>(
+/// Adds the first event of a history, an own write.
+fn append_own<S: NodeTag, R: Wait + Abort>(
     rt: &R,
     alloc: Global,
-    story: &Story<S>,
-    mut upto: Front<S>,
+    head: &HistoryHead<S>,
+    mut upto: HistoryPrefix<S>,
     writer: &mut ViewWriter<S, &R>,
     holdings: &Holdings,
     entry: Entry,
 )
     requires start { upto ≡ [] }
-    requires ready { writer.old.ready ≡ [] }
+    requires queued { writer.old.queued ≡ [] }
     requires opening { S.opening.held ≡ holdings.now }
     requires next { entry.version ≡ (shown_of holdings.now holdings.now.me).held + 1 }
 {
-    let added = upto.add_own(story, &entry);
+    let added = upto.add(head, EventRef::TookOwn(&entry));
     let mut batch = Batch::new(alloc);
     match batch.push(*holdings.me(), entry) {
         Ok(()) => {}
@@ -306,7 +313,7 @@ fn append_own<S: Site, R: Wait + Abort>(
 }
 
 /// What a reader sees before all is published, and then.
-fn look_around<S: Site, R: Wait + Abort>(
+fn look_around<S: NodeTag, R: Wait + Abort>(
     rt: &R,
     writer: &mut ViewWriter<S, &R>,
     reader: Reader<S>,
@@ -319,7 +326,7 @@ fn look_around<S: Site, R: Wait + Abort>(
     [before, after]
 }
 
-fn look_once<S: Site>(
+fn look_once<S: NodeTag>(
     rt: &impl Abort,
     reader: Reader<S>,
     owner: &Name,
@@ -327,14 +334,14 @@ fn look_once<S: Site>(
 ) -> (Reader<S>, Seen) {
     let entered = entered(rt, reader);
     let shown = shown_under(&entered.snapshot(), owner, key);
-    let told = entered.told().len();
-    (entered.leave(), (shown, told))
+    let events = entered.seen().len();
+    (entered.leave(), (shown, events))
 }
 
 #[test]
 fn events_are_added_behind_others(rt: HostRuntime) {
     let events = events_to_add(&rt, rt.alloc());
-    let (added, counts) = add_events::<Brand>(Opened::new(), &events);
+    let (added, counts) = add_events::<Brand>(NewHistory::new(), &events);
     same(&rt, &added, &[(true, false), (false, true), (true, false)]);
     same(&rt, &counts, &(0, 1, 2));
 }
@@ -361,41 +368,45 @@ fn events_to_add(rt: &impl Abort, alloc: Global) -> Events {
     }
 }
 
-/// Whether an event was added, and then whether the front is that of another.
+/// Whether an event was added, and then whether the history is that of another.
 type Added = (bool, bool);
 
 /// What comes of adding the own write to two fronts, and the delta to the second, and how many events the first
-/// front and these two have then.
-fn add_events<S: Site>(opened: Opened, events: &Events) -> ([Added; 3], (u64, u64, u64))
-    requires { opened.seen.book ≡ S.story }
+/// history and these two have then.
+fn add_events<S: NodeTag>(new_history: NewHistory, events: &Events) -> ([Added; 3], (u64, u64, u64))
+    requires { new_history.seen.book ≡ S.history }
 {
-    let (story, start) = opened.named::<S>();
-    let (mut one, mut two) = (start.again(), start.again());
-    let first = add_write(&story, &mut one, &start, &events.own);
-    let again = add_write(&story, &mut two, &one, &events.own);
-    let applied = add_delta(&story, &mut two, &one, events);
+    let (head, start) = new_history.named::<S>();
+    let (mut one, mut two) = (start.copy(), start.copy());
+    let first = add_write(&head, &mut one, &start, &events.own);
+    let again = add_write(&head, &mut two, &one, &events.own);
+    let applied = add_delta(&head, &mut two, &one, events);
     let counts = (start.len(), one.len(), two.len());
     ([first, again, applied], counts)
 }
 
-fn add_write<S: Site>(
-    story: &Story<S>,
-    front: &mut Front<S>,
-    other: &Front<S>,
+fn add_write<S: NodeTag>(
+    head: &HistoryHead<S>,
+    history: &mut HistoryPrefix<S>,
+    other: &HistoryPrefix<S>,
     entry: &Entry,
 ) -> Added
-    requires { front.old ≡ [] }
+    requires { history.old ≡ [] }
 {
-    (front.add_own(story, entry), front.is_same(other))
+    (
+        history.add(head, EventRef::TookOwn(entry)),
+        history.is_same(other),
+    )
 }
 
 /// Adds nothing where there is not just one event.
-fn add_delta<S: Site>(
-    story: &Story<S>,
-    front: &mut Front<S>,
-    other: &Front<S>,
+fn add_delta<S: NodeTag>(
+    head: &HistoryHead<S>,
+    history: &mut HistoryPrefix<S>,
+    other: &HistoryPrefix<S>,
     events: &Events,
 ) -> Added {
-    let added = front.len() == 1 && front.add_applied(story, &events.delta, &events.ends);
-    (added, front.is_same(other))
+    let added = history.len() == 1
+        && history.add(head, EventRef::Applied(&events.delta, &events.ends));
+    (added, history.is_same(other))
 }

@@ -143,7 +143,7 @@ fn answers_between(rt: &impl Abort, hub: &mut Hub, notes: [Note; 5]) -> [Result<
     ]
 }
 
-// The fourth note pushes out the second after the first was told as lost, and so on.
+// The fourth note pushes out the second after the first was answers as lost, and so on.
 #[test]
 fn lost_notes_are_told_once(rt: HostRuntime) {
     let found = answers_between(&rt, &mut Hub::new(rt.alloc()), all_notes(&rt));
@@ -206,8 +206,12 @@ fn at_most_64_watches_stand(rt: HostRuntime) {
     are_full(&rt, &mut hub);
     let last = replaced(&rt, &mut hub, first);
     hub.push(&note);
-    let told = [hub.take(last), hub.take(first)];
-    same(&rt, &told, &[Ok(Polled::Note(note)), Err(Fault::NoWatch)]);
+    let answers = [hub.take(last), hub.take(first)];
+    same(
+        &rt,
+        &answers,
+        &[Ok(Polled::Note(note)), Err(Fault::NoWatch)],
+    );
     same(&rt, &hub.drop_watch(first), &Err(Fault::NoWatch));
 }
 
@@ -221,11 +225,11 @@ fn example_of_watches(rt: HostRuntime) {
     let mut hub = Hub::new(rt.alloc());
     let id = got(&rt, hub.add(filter, 2));
     hub.push(&note);
-    let told = hub.take(id);
+    let answers = hub.take(id);
     holds(
         &rt,
-        "it is told",
-        matches!(told, Ok(Polled::Note(note)) if note.version == 2),
+        "it is answers",
+        matches!(answers, Ok(Polled::Note(note)) if note.version == 2),
     );
     same(&rt, &hub.take(id), &Ok(Polled::Empty));
 }

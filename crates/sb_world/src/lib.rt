@@ -1,4 +1,24 @@
 //! A world of nodes that take their steps in any order, and the promise to readers over every such order.
+//!
+//! A `World` has nodes, their logs, their connections and all frames that they sent. Each step is an event with an answer; a
+//! crash and a restart are events too. As long as the stores of the logs keep their promise, the promise to readers holds for
+//! every list of events.
+//!
+//! ```rust
+//! /// What the node `a` answers: to a write, to its entering, and to the question up to where it holds itself.
+//! fn run_three(alloc: Global, settings: Settings) -> Result<Vec<Result<Answer, Fault>>, Fault> {
+//!     let a = Name::read(b"a")?;
+//!     let log = PlainLog::new(alloc, a, settings.cluster(), settings.max_version());
+//!     let mut world = World::new(alloc, settings, vec![in alloc; log]?)?;
+//!     let (key, slot) = (Key::read(b"web/up")?, Slot::Set(Value::flag(true)));
+//!     let events = [
+//!         Event::Commit(a, key, slot),
+//!         Event::Take(a),
+//!         Event::Upto(a, a),
+//!     ];
+//!     run_in_memory(&mut world, &events)
+//! }
+//! ```
 #![tactic(auto)]
 
 mod connecting;

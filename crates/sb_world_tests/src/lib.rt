@@ -3,15 +3,17 @@
 #![tactic(auto)]
 
 #[cfg(test)]
+mod examples;
+#[cfg(test)]
 mod making;
 #[cfg(test)]
 mod real;
 #[cfg(test)]
 mod scripts;
 #[cfg(test)]
-mod story;
-#[cfg(test)]
 mod transcripts;
+#[cfg(test)]
+mod whole_way;
 #[cfg(test)]
 mod world;
 
@@ -37,10 +39,7 @@ fn holds(rt: &impl Abort, what: &str, holds: bool) {
 /// The answer; where there is none, the end of the test, which names the fault.
 #[cfg(test)]
 fn got<T, E: Debug + Drop>(rt: &impl Abort, answer: Result<T, E>) -> T {
-    match answer {
-        Ok(answer) => answer,
-        Err(fault) => panic!(rt; "error: {fault:?}"),
-    }
+    answer.expect(rt, "error")
 }
 
 /// The name of this text.

@@ -1,7 +1,8 @@
 //! What no clause says: what scripts print, and the ends of a run.
-use crate::transcripts::TRANSCRIPTS;
+use crate::transcripts::{TRANSCRIPTS, lines_behind};
 use crate::{got, holds, same};
 use sb_script::{Detail, Ending, Output, sim_run_uncounted};
+use sb_testing::streams::Closing;
 use sb_types::Fault;
 use std::alloc::Global;
 use std::io;
@@ -130,35 +131,6 @@ impl Read for BreakingReader<'_> {
     }
 }
 
-/// A writer that fails once it has taken so many bytes, and at each flush where it is told to. It counts the writes
-/// that failed.
-#[derive(Drop)]
-struct ClosingWriter {
-    left: usize,
-    is_flushed: bool,
-    failed: u32,
-}
-
-impl Write for ClosingWriter {
-    fn write(&mut self, bytes: &[u8]) -> io::Result<usize> {
-        if self.left == 0 {
-            self.failed = self.failed.saturating_add(1);
-            return Err(io::Error::from(ErrorKind::BrokenPipe));
-        }
-        let count = bytes.len().min(self.left);
-        self.left -= count;
-        Ok(count)
-    }
-
-    fn flush(&mut self) -> io::Result<()> {
-        if self.is_flushed {
-            Ok(())
-        } else {
-            Err(io::Error::from(ErrorKind::BrokenPipe))
-        }
-    }
-}
-
 /// The frame of a delta of one weight, and that of an empty delta.
 const FRAME: &str =
     "a7020000002203000101610000000000000000000101770000000000000001020000000000000005";
@@ -205,14 +177,21 @@ fn add_line(rt: &impl Abort, out: &mut Vec<u8>, line: &[u8]) {
     add(rt, out, b"\n");
 }
 
+/// Adds a line of a transcript where it is one of the script, or one of those that it prints.
+fn add_line_if(rt: &impl Abort, out: &mut Vec<u8>, line: &[u8], is_printed: bool) {
+    match line.strip_prefix(b"> ".as_slice()) {
+        Some(printed) if is_printed => add_line(rt, out, printed),
+        None if !is_printed && !line.is_empty() => add_line(rt, out, line),
+        _ => {}
+    }
+}
+
 /// The lines of a transcript's script, or those that it prints.
 fn lines_of(rt: &impl Abort, alloc: Global, transcript: &str, are_printed: bool) -> Vec<u8> {
     let mut lines = Vec::new(alloc);
-    for line in transcript.as_bytes().split(is_newline) {
-        match line.strip_prefix(b"> ".as_slice()) {
-            Some(printed) if are_printed => add_line(rt, &mut lines, printed),
-            None if !are_printed && !line.is_empty() => add_line(rt, &mut lines, line),
-            _ => {}
+    for short in transcript.as_bytes().split(is_newline) {
+        for line in lines_behind(short).split(is_newline) {
+            add_line_if(rt, &mut lines, line, are_printed);
         }
     }
     lines
@@ -320,11 +299,8 @@ fn ends_at_writer(
     wanted: Result<Ending, Fault>,
     failed: u32,
 ) {
-    let mut writer = ClosingWriter {
-        left,
-        is_flushed,
-        failed: 0,
-    };
+    let mut writer = Closing::new(left);
+    writer.is_flushed = is_flushed;
     let ended = run_to(alloc, EXAMPLE.as_bytes(), &mut writer, 100, Detail::Plain);
     let found = (left, settled(rt, ended), writer.failed);
     same(rt, &found, &(left, wanted, failed));

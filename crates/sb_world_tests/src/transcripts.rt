@@ -1,9 +1,21 @@
 //! What lines of scripts print: each transcript is a script, and below each line what it prints, behind a sign.
 use sb_script::Detail;
 
-/// What a run is about, whether words are asked for, and its lines. Of the words of a line T stands for 512 letters, P for 128 and
-/// Q for 127 of them, FRAME for the frame of a delta of one weight, and EMPTY for that of an empty delta.
+/// What a run is about, whether words are asked for, and its lines. The lines WRITTEN, OFFERED and LINED stand for several; of the
+/// words of a line T stands for 512 letters, P for 128 and Q for 127 of them, FRAME for the frame of a delta of one weight, and
+/// EMPTY for that of an empty delta.
 pub(crate) type Transcript = (&'static str, Detail, &'static str);
+
+/// The lines that a line of a transcript stands for: a first write of a, its Hello and the delta of all its writes, and how b is
+/// to hear both of them.
+pub(crate) fn lines_behind(line: &[u8]) -> &[u8] {
+    match line {
+        b"WRITTEN" => b"put a w weight 5\n> version 1",
+        b"OFFERED" => b"connect a 1\n> frame 1\noffer a a 0\n> frame 2",
+        b"LINED" => b"connect b 2\n> frame 3\nline 2 1\n> lined\nline 2 2\n> lined",
+        line => line,
+    }
+}
 
 pub(crate) const TRANSCRIPTS: [Transcript; 15] = [
     (
@@ -28,20 +40,11 @@ show 2
         "a write goes from node to node",
         Detail::Plain,
         "world 1024 breadth 100 a b
-put a w weight 5
-> version 1
-connect a 1
-> frame 1
-offer a a 0
-> frame 2
+WRITTEN
+OFFERED
 show 2
 > FRAME
-connect b 2
-> frame 3
-line 2 1
-> lined
-line 2 2
-> lined
+LINED
 piece 2 53
 > taken 1
 read b a w
@@ -66,16 +69,8 @@ put a y text T
 > version 2
 put a x text T
 > version 3
-connect a 1
-> frame 1
-offer a a 0
-> frame 2
-connect b 2
-> frame 3
-line 2 1
-> lined
-line 2 2
-> lined
+OFFERED
+LINED
 piece 2 558
 > nothing
 piece 2 1
@@ -223,12 +218,8 @@ read a a x
         "a frame is lost and another comes twice",
         Detail::Plain,
         "world 1024 breadth 100 a b
-put a w weight 5
-> version 1
-connect a 1
-> frame 1
-offer a a 0
-> frame 2
+WRITTEN
+OFFERED
 show 2
 > FRAME
 put a x weight 6
@@ -279,8 +270,7 @@ show 5
         "a session asks and is answered",
         Detail::Plain,
         "world 1024 breadth 100 a b
-put a w weight 5
-> version 1
+WRITTEN
 connect a 1
 > frame 1
 connect b 2
@@ -328,16 +318,8 @@ put a x addr P
 > version 1
 put a y addr Q
 > version 2
-connect a 1
-> frame 1
-offer a a 0
-> frame 2
-connect b 2
-> frame 3
-line 2 1
-> lined
-line 2 2
-> lined
+OFFERED
+LINED
 piece 2 163
 > nothing
 restart b
@@ -404,8 +386,7 @@ show 8
         "frames are said in words",
         Detail::Explained,
         "world 1024 breadth 100 a b
-put a w weight 5
-> version 1
+WRITTEN
 put a x flag true
 > version 2
 del a x
@@ -467,8 +448,7 @@ offer a a 0
         "frames of a give and replies are said in words",
         Detail::Explained,
         "world 1024 breadth 100 a b
-put a w weight 5
-> version 1
+WRITTEN
 give a b 0
 > FRAME
 > taken 1

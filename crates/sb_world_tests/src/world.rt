@@ -1,7 +1,8 @@
 //! A run of a world over logs in memory.
 use crate::{got, key, name, same};
 use sb_log::PlainLog;
-use sb_types::{Fault, Order, RawSettings, Settings, Slot, Value};
+use sb_testing::SETTINGS;
+use sb_types::{Fault, RawSettings, Settings, Slot, Value};
 use sb_world::{Answer, Event, World, run_in_memory};
 use std::alloc::Global;
 use std::process::Abort;
@@ -16,15 +17,13 @@ fn log(rt: &impl Abort, alloc: Global, owner: &[u8]) -> PlainLog {
 }
 
 pub(crate) fn settings(rt: &impl Abort) -> Settings {
-    let settings = Settings::check(RawSettings {
+    let raw = RawSettings {
         cluster: b"sim",
-        budget: 1_024,
-        order: Order::Breadth,
         max_version: 2,
         seats: 1,
-        workers: 1,
-    });
-    got(rt, settings)
+        ..SETTINGS
+    };
+    got(rt, Settings::check(raw))
 }
 
 /// A world of a and b.

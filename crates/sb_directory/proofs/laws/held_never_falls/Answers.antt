@@ -1,5 +1,5 @@
-use Rattle.sb_directory.proofs.Rising.{story-rises}
+use Rattle.sb_directory.proofs.Rising.{history-rises}
 use Rattle.sb_directory.proofs.laws.held_never_falls.Goals as goal
 
 pub returns : goal.returns
-returns c opening told later owner begins = story-rises opening told later owner begins
+returns c opening seen later owner begins = history-rises opening seen later owner begins

@@ -6,10 +6,10 @@ use Rattle.sb_directory.proofs.shares.join_all.Goals as goal
 
 pub loop-seat-preserved : goal.loop-seat-preserved
 loop-seat-preserved g c =
-    let story = c.args.front.now in
+    let history = c.args.history.now in
     let all = c.args.seats.items in
     let parts = c.loop-seat.all.parts in
     let amount = c.loop-seat.all.amount in
-    let left = subst (λ (rest : List Seat). IsJoining story all parts amount rest) c.in-Some.ensures.steps.0 c.loop-seat.invariant in
-    joining_goes_on story all parts amount c.in-Some.seat (into_iter_items c.next.new.self) c.merge.new.self.parts c.merge.new.self.amount left c.know.ensures.begins
-    (c.merge.ensures.parts ∙ ap (λ (n : ℕ). parts + n) c.into_share.ensures.parts) (c.merge.ensures.amount ∙ ap (λ (n : ℕ). amount + n) (c.into_share.ensures.amount ∙ ap (λ (s : Seat). s.events) c.know.ensures.known))
+    let left = subst (λ (rest : List Seat). IsJoining history all parts amount rest) c.in-Some.ensures.steps.0 c.loop-seat.invariant in
+    joining_goes_on history all parts amount c.in-Some.seat (into_iter_items c.next.new.self) c.merge.new.self.parts c.merge.new.self.amount left c.call_at.ensures.begins
+    (c.merge.ensures.parts ∙ ap (λ (n : ℕ). parts + n) c.into_share.ensures.parts) (c.merge.ensures.amount ∙ ap (λ (n : ℕ). amount + n) (c.into_share.ensures.amount ∙ ap (λ (s : Seat). s.events) c.call_at.ensures.last_call))

@@ -3,4 +3,4 @@ use Rattle.sb_directory.proofs.Sharing.{IsJoining}
 use Rattle.sb_directory.proofs.shares.join_all.Given as goal
 
 abbrev pub invariant-loop-seat : goal.invariant-loop-seat
-invariant-loop-seat g l = IsJoining l.front l.fn.seats.items l.all.parts l.all.amount (into_iter_items l.seat-iterator)
+invariant-loop-seat g l = IsJoining l.history l.fn.seats.items l.all.parts l.all.amount (into_iter_items l.seat-iterator)

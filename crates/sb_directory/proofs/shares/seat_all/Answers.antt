@@ -12,8 +12,8 @@ loop-reader-preserved g c =
     let most = c.loop-reader.rest.parts in
     let amount = c.loop-reader.rest.amount in
     let seats = c.loop-reader.seats.items in
-    let told = c.in-Some.reader in
+    let seen = c.in-Some.reader in
     let left = subst (λ (rest : List (List Event)). IsSeating all parts most amount seats rest) c.in-Some.ensures.steps.0 c.loop-reader.invariant in
-    let seat : c.new.result ≡ new_seat told = c.new.ensures ∙ ap (λ (n : ℕ). record { told = told; known = told; events = n }) c.split_off-share.ensures.amount in
-    seating_goes_on all parts most amount seats told (into_iter_items c.next.new.self) c.split_off-share.new.self.parts c.split_off-share.new.self.amount c.push.new.self.items
+    let seat : c.new.result ≡ new_seat seen = c.new.ensures ∙ ap (λ (n : ℕ). record { seen = seen; last_call = seen; events = n }) c.split_off-share.ensures.amount in
+    seating_goes_on all parts most amount seats seen (into_iter_items c.next.new.self) c.split_off-share.new.self.parts c.split_off-share.new.self.amount c.push.new.self.items
     left c.split_off-share.ensures.parts_left c.split_off-share.ensures.amount_left (c.in_ok-push.ensures.items ∙ ap (λ (s : Seat). seats ++ s ∷ []) seat)

@@ -3,9 +3,9 @@ use Rattle.sb_directory_tests.proofs.seats.make_new.Given as goal
 abbrev pub ghosts-made-S-Ledger : goal.ghosts-made-S-Ledger
 ghosts-made-S-Ledger g a = record { name = a.blank.name; parts = a.seats }
 
--- the story that was just opened, of this node
-abbrev pub ghosts-made-S-Site : goal.ghosts-made-S-Site
-ghosts-made-S-Site g a = record { opening = a.core.node; story = a.opened.seen.book; seats = a.seats }
+-- the history that was just begun, of this node
+abbrev pub ghosts-made-S-NodeTag : goal.ghosts-made-S-NodeTag
+ghosts-made-S-NodeTag g a = record { opening = a.core.node; history = a.history.seen.book; seats = a.seats }
 
-abbrev pub ghosts-made-S-Configured : goal.ghosts-made-S-Configured
-ghosts-made-S-Configured g a = record { settings = a.core.settings }
+abbrev pub ghosts-made-S-DirectoryTag : goal.ghosts-made-S-DirectoryTag
+ghosts-made-S-DirectoryTag g a = record { settings = a.core.settings }

@@ -4,4 +4,4 @@ use Rattle.sb_listing.specs.Seen.{seen}
 use Rattle.sb_listing.proofs.changing.changes.Given as goal
 
 abbrev pub invariant-loop-row : goal.invariant-loop-row
-invariant-loop-row l = map seen l.told.items ++ merged l.rest (drop l.row-index l.later) ≡ merged l.fn.earlier l.later
+invariant-loop-row l = map seen l.found.items ++ merged l.rest (drop l.row-index l.later) ≡ merged l.fn.earlier l.later

@@ -3,8 +3,8 @@ use Rattle.std.specs.Prelude.{IfOk, IfErr}
 use Rattle.sb_types.specs.declared.fault.Fault.{Fault}
 use Rattle.sb_types.specs.declared.fault.Fault.TheVariants.{NoMemory}
 use Rattle.sb_codec.specs.Records.{Rows}
-use Rattle.sb_views.specs.Rows as views
-use Rattle.sb_query.specs.Pages.{row_told, asked_rows, IsLongestPage}
+use Rattle.sb_views.specs.LiveRows as live
+use Rattle.sb_query.specs.Pages.{message_row, asked_rows, IsLongestPage}
 use Rattle.sb_query.proofs.Ordered.{answered, answered-front}
 use Rattle.sb_query.proofs.answering.answer.Goals as goal
 
@@ -20,7 +20,7 @@ returns-clause-some c =
     let is = answered c.args.budget c.in_ok-more.more c.in_ok-more.rows.items c.args.ask.now c.args.snapshot.now c.rows_behind-asked.result c.rows_behind-asked.ensures c.in_ok-more.ensures.front
     c.new.result c.requires.most c.in_ok-more.ensures.each c.new.ensures in
     let some : 0 < length (asked_rows c.args.ask.now c.args.snapshot.now) → 0 < length c.in_ok-more.rows.items =
-    subst (λ (xs : List views.Row). 0 < length (map row_told xs) → 0 < length c.in_ok-more.rows.items) c.rows_behind-asked.ensures c.in_ok-more.ensures.some in
+    subst (λ (xs : List live.LiveRow). 0 < length (map message_row xs) → 0 < length c.in_ok-more.rows.items) c.rows_behind-asked.ensures c.in_ok-more.ensures.some in
     subst (λ (r : Result Rows Fault). IfOk r (λ page. 0 < length (asked_rows c.args.ask.now c.args.snapshot.now) → 0 < length page.rows)) (sym is) some
 
 pub returns-clause-memory : goal.returns-clause-memory

@@ -1,6 +1,6 @@
 use Rattle.std.proofs.Common.{◌<◌, rules, arith}
 use Rattle.sb_codec.specs.Lengths.{row_length}
-use Rattle.sb_views.specs.Rows.{row_lent}
+use Rattle.sb_views.specs.LiveRows.{row_lent}
 use Rattle.sb_query.proofs.Fronts.{gathering-begins, gathering-more, gathering-cut, gathering-some, gathering-whole, whole-some, room-short}
 use Rattle.sb_query.proofs.answering.gather.Goals as goal
 

@@ -1,14 +1,14 @@
 use Rattle.sb_run.proofs.node.run_node.Given as goal
 
-abbrev pub ghosts-run_site-S-Ledger : goal.ghosts-run_site-S-Ledger
-ghosts-run_site-S-Ledger g a = record { name = a.blank.name; parts = a.blank.parts }
+abbrev pub ghosts-run_tagged-S-Ledger : goal.ghosts-run_tagged-S-Ledger
+ghosts-run_tagged-S-Ledger g a = record { name = a.start.blank.name; parts = a.start.blank.parts }
 
--- the story that was just opened, of the node of this log
-abbrev pub ghosts-run_site-S-Site : goal.ghosts-run_site-S-Site
-ghosts-run_site-S-Site g a = record { opening = a.core.node; story = a.opened.seen.book; seats = a.blank.parts }
+-- the history that was just opened, of the node of this log
+abbrev pub ghosts-run_tagged-S-NodeTag : goal.ghosts-run_tagged-S-NodeTag
+ghosts-run_tagged-S-NodeTag g a = record { opening = a.start.core.node; history = a.start.new_history.seen.book; seats = a.start.blank.parts }
 
-abbrev pub ghosts-run_site-S-Configured : goal.ghosts-run_site-S-Configured
-ghosts-run_site-S-Configured g a = record { settings = a.core.settings }
+abbrev pub ghosts-run_tagged-S-DirectoryTag : goal.ghosts-run_tagged-S-DirectoryTag
+ghosts-run_tagged-S-DirectoryTag g a = record { settings = a.start.core.settings }
 
-abbrev pub ghosts-run_site-S-Paced : goal.ghosts-run_site-S-Paced
-ghosts-run_site-S-Paced g a = record { rounds = a.pace.rounds }
+abbrev pub ghosts-run_tagged-S-RoundsTag : goal.ghosts-run_tagged-S-RoundsTag
+ghosts-run_tagged-S-RoundsTag g a = record { rounds = a.pace.rounds }

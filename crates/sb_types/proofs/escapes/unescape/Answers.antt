@@ -1,7 +1,6 @@
-use Rattle.std.proofs.Common.{◌≡◌, ◌<◌, ◌≢◌, ℕ, List, length, take, arith, rules}
+use Rattle.std.proofs.Common.{◌≡◌, ◌<◌, length, take, arith}
 use Rattle.std.proofs.lemmas.Grind.{common_steps}
 use Rattle.std.proofs.lemmas.List.{length-take-le}
-use Rattle.sb_types.specs.Spelling.{printed_text}
 use Rattle.sb_types.proofs.Spelling.{not_read, too_long}
 use Rattle.sb_types.proofs.escapes.unescape.Goals as goal
 

@@ -5,11 +5,11 @@ use Rattle.sb_views.proofs.opening.enter_table.Goals as goal
 
 pub loop-entry-init : goal.loop-entry-init
 loop-entry-init c =
-    entering-begins c.args.owner.now c.args.page.now (above 0 c.args.table.now.entries) c.into_iter-entry-iterator.result
+    entering-begins c.args.owner.now c.args.view.now (above 0 c.args.table.now.entries) c.into_iter-entry-iterator.result
     (c.into_iter-entry-iterator.ensures.into_iter_gives ∙ c.after-entry-items.ensures.entries)
 
 pub loop-entry-preserved : goal.loop-entry-preserved
-loop-entry-preserved c = search (rules, entering-goes_on c.args.owner.now c.args.page.now (above 0 c.args.table.now.entries) c.loop-entry.page)
+loop-entry-preserved c = search (rules, entering-goes_on c.args.owner.now c.args.view.now (above 0 c.args.table.now.entries) c.loop-entry.view)
 
 pub returns : goal.returns
-returns c = search (rules, entering-ends c.args.owner.now c.args.page.now (above 0 c.args.table.now.entries) c.loop-entry.page)
+returns c = search (rules, entering-ends c.args.owner.now c.args.view.now (above 0 c.args.table.now.entries) c.loop-entry.view)

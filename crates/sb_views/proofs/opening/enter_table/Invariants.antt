@@ -3,4 +3,4 @@ use Rattle.sb_views.proofs.Beginning.{IsEntering}
 use Rattle.sb_views.proofs.opening.enter_table.Given as goal
 
 abbrev pub invariant-loop-entry : goal.invariant-loop-entry
-invariant-loop-entry l = IsEntering l.owner l.initial.page (above 0 l.table.entries) l.page l.entry-iterator
+invariant-loop-entry l = IsEntering l.owner l.initial.view (above 0 l.table.entries) l.view l.entry-iterator

@@ -5,6 +5,6 @@ use Rattle.sb_views_tests.proofs.views.events_are_added_behind_others.Given as g
 abbrev pub ghosts-add_events-S-Ledger : goal.ghosts-add_events-S-Ledger
 ghosts-add_events-S-Ledger g a = record { name = 0; parts = 0 }
 
--- the story that was just opened
-abbrev pub ghosts-add_events-S-Site : goal.ghosts-add_events-S-Site
-ghosts-add_events-S-Site g a = record { opening = record { held = record { me = []; owners = empty }; conflict = None }; story = a.opened.seen.book; seats = 0 }
+-- the history that was just begun
+abbrev pub ghosts-add_events-S-NodeTag : goal.ghosts-add_events-S-NodeTag
+ghosts-add_events-S-NodeTag g a = record { opening = record { held = record { me = []; owners = empty }; conflict = None }; history = a.new_history.seen.book; seats = 0 }

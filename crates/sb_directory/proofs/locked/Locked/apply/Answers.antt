@@ -1,91 +1,10 @@
-use Rattle.std.proofs.Common.{◌≡◌, refl, sym, ap, subst, ◌∙◌}
-use Rattle.sb_holdings.specs.Held.{Held}
-use Rattle.sb_holdings.specs.Nodes.{replay_node}
-use Rattle.sb_holdings.specs.Plain.{IsHoldings}
-use Rattle.sb_holdings.specs.Treats.{took_each}
-use Rattle.sb_node.specs.Cores.{Core}
-use Rattle.sb_watch.specs.Records.{Hub}
-use Rattle.sb_views.specs.Stories.{node_after}
-use Rattle.sb_directory.specs.Behind.{HasOwners, entries_since, AreSince}
-use Rattle.sb_directory.specs.Notes.{with_notes, versions_of, entered_of}
-use Rattle.sb_directory.specs.Locks.{Locked, IsLocked}
-use Rattle.sb_directory.proofs.Keeping.{noted, delta-there, moved}
-use Rattle.sb_directory.proofs.locked.Locked.apply.Given.{Over}
-use Rattle.sb_directory.proofs.locked.Locked.apply.Goals.{After-add_applied}
+use Rattle.std.proofs.Common.{subst}
+use Rattle.sb_directory.specs.ViewedNodes.{ViewedNode}
+use Rattle.sb_directory.specs.Seats.{PublishesWhereSaid}
+use Rattle.sb_directory.proofs.Showing.{said-shows}
 use Rattle.sb_directory.proofs.locked.Locked.apply.Goals as goal
 
--- what lies under the lock once the blocks are taken, where watches are told of what they entered
-entered : (g : Over) (c : After-add_applied g) (hub : Hub)
-    → hub ≡ with_notes c.self.inside.hub (entered_of c.args.delta.now c.self.inside.core.node.held (replay_node c.self.inside.core.node (took_each c.args.delta.now c.in_ok-ends.ends)).held)
-    → IsLocked g.S.Site.opening c.self.inside.views.ready c.add_owners.new.self
-    (record { core = c.apply.new.self; hub = hub; story = c.add_applied.new.front; shown = c.self.inside.views.shown })
-entered g c hub told =
-    let opening = g.S.Site.opening in
-    let inside = c.self.inside in
-    let ready = inside.views.ready in
-    let node = inside.core.node in
-    let old : Locked = record { core = inside.core; hub = inside.hub; story = inside.front; shown = inside.views.shown } in
-    let blocks = c.args.delta.now in
-    let ends = c.in_ok-ends.ends in
-    let taken = c.in_ok-ends.ensures.ok in
-    let more = c.add_owners.new.self in
-    let after : IsHoldings (replay_node node (took_each blocks ends)).held = subst (λ (k : Core). IsHoldings k.node.held) taken c.in_ok-ends.ensures.holdings in
-    let since : AreSince (node_after opening ready).held node.held more =
-    subst (λ (h : Held). AreSince (node_after opening ready).held h more) c.holdings-2.ensures.held
-    (c.in_ok-add_owners.ensures.since (node_after opening ready).held
-    (subst (λ (h : Held). AreSince (node_after opening ready).held h inside.behind) (sym c.holdings-2.ensures.held) c.self.invariant.since)) in
-    let is = noted opening ready inside.behind more old c.self.invariant since in
-    let has : HasOwners more blocks = subst (HasOwners more) c.blocks-blocks.ensures.blocks c.in_ok-add_owners.ensures.owners in
-    delta-there opening ready more old is c.holdings.ensures.holdings blocks ends c.in_ok-ends.ensures.delta c.in_ok-ends.ensures.ends after has
-    c.apply.new.self c.add_applied.new.front hub inside.views.shown taken c.add_applied.ensures told
-
-pub show-shown-requires-clause-node : goal.show-shown-requires-clause-node
-show-shown-requires-clause-node g c = (entered g (goal.at.show-shown-requires-clause-node g c).After-add_applied _ refl).node
-
-pub show-shown-requires-clause-grown : goal.show-shown-requires-clause-grown
-show-shown-requires-clause-grown g c = (entered g (goal.at.show-shown-requires-clause-grown g c).After-add_applied _ refl).grown
-
-pub show-shown-requires-clause-since : goal.show-shown-requires-clause-since
-show-shown-requires-clause-since g c = (entered g (goal.at.show-shown-requires-clause-since g c).After-add_applied _ refl).since
-
-pub invariant_of-self-2 : goal.invariant_of-self-2
-invariant_of-self-2 g c =
-    let inside = c.self.inside in
-    let node = inside.core.node in
-    let blocks = c.args.delta.now in
-    let new = replay_node node (took_each blocks c.in_ok-ends.ends) in
-    let versions : c.in_ok-versions.versions.items ≡ versions_of node.held blocks =
-    c.in_ok-versions.ensures.versions ∙ (λ i. versions_of (c.holdings.ensures.held i) (c.blocks-blocks.ensures.blocks i)) in
-    let held : c.holdings-3.result.now ≡ new.held = c.holdings-3.ensures.held ∙ ap (λ (k : Core). k.node.held) c.in_ok-ends.ensures.ok in
-    let told : c.tell_since.new.hub ≡ with_notes inside.hub (entered_of blocks node.held new.held) =
-    c.tell_since.ensures ∙ (λ i. with_notes inside.hub (entries_since (versions i) (held i))) in
-    let now : Locked = record { core = c.apply.new.self; hub = c.tell_since.new.hub; story = c.add_applied.new.front; shown = inside.views.shown } in
-    moved g.S.Site.opening inside.views.ready c.show-shown.new.self.ready c.add_owners.new.self c.show-shown.new.behind now c.show-shown.new.self.shown
-    (entered g (goal.at.invariant_of-self-2 g c).After-add_applied c.tell_since.new.hub told)
-    c.show-shown.ensures.begins c.show-shown.ensures.grown c.show-shown.ensures.since
-
--- owners are noted as lacking, whether all could be or not
-pub invariant_of-self : goal.invariant_of-self
-invariant_of-self g c =
-    let opening = g.S.Site.opening in
-    let inside = c.self.inside in
-    let ready = inside.views.ready in
-    let more = c.add_owners.new.self in
-    let old : Locked = record { core = inside.core; hub = inside.hub; story = inside.front; shown = inside.views.shown } in
-    noted opening ready inside.behind more old c.self.invariant
-    (subst (λ (h : Held). AreSince (node_after opening ready).held h more) c.holdings-2.ensures.held
-    (c.add_owners.ensures.since (node_after opening ready).held
-    (subst (λ (h : Held). AreSince (node_after opening ready).held h inside.behind) (sym c.holdings-2.ensures.held) c.self.invariant.since)))
-
-pub invariant_of-self-in_err-ends : goal.invariant_of-self-in_err-ends
-invariant_of-self-in_err-ends g c =
-    let opening = g.S.Site.opening in
-    let inside = c.self.inside in
-    let ready = inside.views.ready in
-    let more = c.add_owners.new.self in
-    let old : Locked = record { core = inside.core; hub = inside.hub; story = inside.front; shown = inside.views.shown } in
-    subst (λ (core : Core). IsLocked opening ready more (record { core = core; hub = inside.hub; story = inside.front; shown = inside.views.shown })) (sym c.in_err-ends.ensures.err)
-    (noted opening ready inside.behind more old c.self.invariant
-    (subst (λ (h : Held). AreSince (node_after opening ready).held h more) c.holdings-2.ensures.held
-    (c.in_ok-add_owners.ensures.since (node_after opening ready).held
-    (subst (λ (h : Held). AreSince (node_after opening ready).held h inside.behind) (sym c.holdings-2.ensures.held) c.self.invariant.since))))
+pub returns-in-Ok-clause-shown : goal.returns-in-Ok-clause-shown
+returns-in-Ok-clause-shown g c =
+    subst (λ (l : ViewedNode). PublishesWhereSaid c.count_event-shown.result l c.apply.new.self) c.self.view_is
+    (said-shows c.in-Ok.shown c.count_event-shown.result c.self.inside.node c.apply.new.self c.count_event-shown.ensures.said c.in-Ok.ensures.shown)

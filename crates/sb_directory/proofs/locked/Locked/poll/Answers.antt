@@ -1,46 +1,40 @@
-use Rattle.std.proofs.Common.{◌≡◌, true, leb-true, Result, Err, IfErr, sym, subst, ◌∙◌}
-use Rattle.sb_holdings.specs.Held.{shown_of}
-use Rattle.sb_types.specs.declared.fault.Fault.{Fault}
+use Rattle.std.proofs.Common.{◌≡◌, ◌≤◌, Bool, true, Err, IfErr, sym, ap, subst, ◌∙◌}
 use Rattle.sb_types.specs.declared.fault.Fault.TheVariants.{NoWatch}
-use Rattle.sb_watch.specs.declared.note.Note.{Note}
-use Rattle.sb_watch.specs.declared.note.Polled.{Polled}
-use Rattle.sb_watch.specs.Hubs.{AllNotes, answer_at}
-use Rattle.sb_watch.proofs.KeptNotes.{taken_keeps, given_holds}
-use Rattle.sb_directory.specs.Notes.{is_held}
-use Rattle.sb_directory.specs.Locks.{Locked, with_shown}
-use Rattle.sb_directory.proofs.Keeping.{hub-locked, moved}
-use Rattle.sb_directory.proofs.Polling.{answer-none, answer-some, no-fault, not-refused}
+use Rattle.sb_holdings.specs.Held.{shown_of}
+use Rattle.sb_holdings.specs.Nodes.{Node}
+use Rattle.sb_watch.specs.Hubs.{has_watch, answer_at}
+use Rattle.sb_views.specs.Histories.{node_after}
+use Rattle.sb_directory.specs.ViewedNodes.{ViewedNode}
+use Rattle.sb_directory.proofs.Polling.{answer-none, answer-some, no-fault, stands}
 use Rattle.sb_directory.proofs.locked.Locked.poll.Goals as goal
 
-pub returns-then-not-has-clause-answer : goal.returns-then-not-has-clause-answer
-returns-then-not-has-clause-answer g c other =
-    subst (λ (l : Locked). answer_at l.hub c.args.id ≡ Err NoWatch) c.self.view_is (answer-none c.self.inside.hub c.args.id (sym c.has.ensures.answer ∙ c.if-not-has.true))
+pub returns-then-not-has_watch-clause-answer : goal.returns-then-not-has_watch-clause-answer
+returns-then-not-has_watch-clause-answer g c other =
+    subst (λ (l : ViewedNode). answer_at l.hub c.args.id ≡ Err NoWatch) c.self.view_is (answer-none c.self.inside.node.hub c.args.id (sym c.has_watch.ensures ∙ c.if-not-has_watch.true))
 
-pub returns-then-not-show-clause-refused : goal.returns-then-not-show-clause-refused
-returns-then-not-show-clause-refused g c =
-    subst (λ (l : Locked). IfErr (answer_at l.hub c.args.id) _) c.self.view_is
-    (no-fault (answer_at c.self.inside.hub c.args.id) _ (answer-some c.self.inside.hub c.args.id (sym c.has.ensures.answer ∙ c.if-not-has.false)))
-
-pub invariant_of-self-2 : goal.invariant_of-self-2
-invariant_of-self-2 g c =
-    let opening = g.S.Site.opening in
-    let inside = c.self.inside in
-    let held = inside.core.node.held in
-    let old : Locked = record { core = inside.core; hub = inside.hub; story = inside.front; shown = inside.views.shown } in
-    let notes : AllNotes (is_held held) c.take.new.self =
-    subst (AllNotes (is_held held)) (sym c.take.ensures.left) (taken_keeps (λ (note : Note). is_held held note ≡ true) inside.hub c.args.id c.self.invariant.notes) in
-    hub-locked opening c.show.new.self.ready c.show.new.behind (with_shown old c.show.new.self.shown) c.take.new.self
-    (moved opening inside.views.ready c.show.new.self.ready inside.behind c.show.new.behind old c.show.new.self.shown c.self.invariant c.show.ensures.begins c.show.ensures.grown c.show.ensures.since) notes
+pub returns-then-not-refresh-clause-refused : goal.returns-then-not-refresh-clause-refused
+returns-then-not-refresh-clause-refused g c =
+    subst (λ (l : ViewedNode). IfErr (answer_at l.hub c.args.id) _) c.self.view_is
+    (no-fault (answer_at c.self.inside.node.hub c.args.id) _ (answer-some c.self.inside.node.hub c.args.id (sym c.has_watch.ensures ∙ c.if-not-has_watch.false)))
 
 pub returns-clause-held : goal.returns-clause-held
 returns-clause-held g c note given =
-    let inside = c.self.inside in
-    let held = inside.core.node.held in
-    let kept : is_held held note ≡ true =
-    given_holds (λ (n : Note). is_held held n ≡ true) inside.hub c.args.id note c.self.invariant.notes (sym c.take.ensures.answer ∙ given) in
-    leb-true note.version (shown_of c.args.self.now.core.node.held note.owner).held (subst (λ (l : Locked). is_held l.core.node.held note ≡ true) c.self.view_is kept)
+    let opening = g.S.NodeTag.opening in
+    let node = c.self-2.inside.node in
+    let kept : note.version ≤ (shown_of node.core.node.held note.owner).held = c.poll.ensures.held note given in
+    let seen : c.refresh.new.seat.seen ≡ node.history = c.refresh.ensures.seen c.if-not-refresh.false ∙ sym (ap (λ (l : ViewedNode). l.history) c.self-2.view_is) in
+    subst (λ (n : Node). note.version ≤ (shown_of n.held note.owner).held) (c.history-history.ensures.node ∙ ap (node_after opening) (sym seen)) kept
 
-pub returns-clause-err : goal.returns-clause-err
-returns-clause-err g c =
-    not-refused c.take.result _ (subst (λ (r : Result Polled Fault). IfErr r (λ fault. ⊥)) (sym c.take.ensures.answer)
-    (answer-some c.self.inside.hub c.args.id (sym c.has.ensures.answer ∙ c.if-not-has.false)))
+pub returns-clause-none : goal.returns-clause-none
+returns-clause-none g c none =
+    let has : ViewedNode → Bool = λ l. has_watch l.hub c.args.id in
+    let stood : has c.self-2.inside.node ≡ true =
+    ap has (c.self-2.view_is ∙ c.refresh.ensures.left) ∙ ap has (sym c.self.view_is) ∙ sym c.has_watch.ensures ∙ c.if-not-has_watch.false in
+    stands c.self-2.inside.node.hub c.args.id c.poll.result _ stood c.poll.ensures.answer none
+
+pub returns-clause-seat : goal.returns-clause-seat
+returns-clause-seat g c none =
+    let has : ViewedNode → Bool = λ l. has_watch l.hub c.args.id in
+    let stood : has c.self-2.inside.node ≡ true =
+    ap has (c.self-2.view_is ∙ c.refresh.ensures.left) ∙ ap has (sym c.self.view_is) ∙ sym c.has_watch.ensures ∙ c.if-not-has_watch.false in
+    stands c.self-2.inside.node.hub c.args.id c.poll.result _ stood c.poll.ensures.answer none

@@ -17,7 +17,7 @@ new-requires c =
     let table = c.self.invariant in
     subst (λ (m : List (ℕ × Entry)). Ends c.args.prefix.now m c.range.result) (sym table.1.with_versions)
     (Ends-under c.args.prefix.now (values_of entries) table.0.run.ascending table.0.run.distinct
-    (range_contains (slice_cmp nat_cmp) c.start_of.result Unbounded) (λ key. and-true _ ∙ c.start_of.ensures key)
+    (range_contains (slice_cmp nat_cmp) c.start.result Unbounded) (λ key. and-true _ ∙ c.start.ensures key)
     c.self.inside.versions.entries c.range.result table.1.keyed c.range.ensures.ordered (c.range.ensures.between tt) (λ k d lt. ((c.range.ensures.in_range tt).0 k d lt).1))
 
 pub returns-clause-entries : goal.returns-clause-entries
@@ -26,6 +26,6 @@ returns-clause-entries c =
     let table = c.self.invariant in
     c.new.ensures ∙ ap (λ (m : List (ℕ × Entry)). reached c.args.prefix.now m c.range.result) table.1.with_versions
     ∙ reached-under c.args.prefix.now (values_of entries) table.0.run.ascending table.0.run.distinct
-    (range_contains (slice_cmp nat_cmp) c.start_of.result Unbounded) (λ key. and-true _ ∙ c.start_of.ensures key)
+    (range_contains (slice_cmp nat_cmp) c.start.result Unbounded) (λ key. and-true _ ∙ c.start.ensures key)
     c.self.inside.versions.entries c.range.result table.1.keyed c.range.ensures.ordered (c.range.ensures.between tt) (λ k d lt. ((c.range.ensures.in_range tt).0 k d lt).1)
     ∙ ap (λ (t : Table). by_key (under c.args.prefix.now t.entries)) c.self.view_is

@@ -2,4 +2,4 @@ use Rattle.sb_views.proofs.Turning.{admits}
 use Rattle.sb_views.proofs.writer.ViewWriter.reader.Goals as goal
 
 pub reader-requires : goal.reader-requires
-reader-requires g c = admits g.S.Site.story g.S.Site.opening
+reader-requires g c = admits g.S.NodeTag.history g.S.NodeTag.opening

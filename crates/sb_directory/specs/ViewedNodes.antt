@@ -1,0 +1,83 @@
+-- A node with its history, its views and its watches, and what its calls leave.
+use Rattle.std.specs.Prelude.{◌≡◌, ◌-◌, ◌^◌, ◌==◌, Bool, MatchBool, if◌then◌else◌, List, [], ◌∷◌, ◌++◌, length, Result, Ok, Err}
+use mathlib.Core.List.{IsPrefix}
+use Rattle.sb_types.specs.declared.fault.Fault.{Fault}
+use Rattle.sb_types.specs.declared.fault.Fault.TheVariants.{TurnsSpent}
+use Rattle.sb_types.specs.Records.{Entry, Block}
+use Rattle.sb_holdings.specs.declared.ends.BlockEnd.{BlockEnd}
+use Rattle.sb_holdings.specs.Nodes.{Node, Wrote, node_after_event, replay_node}
+use Rattle.sb_holdings.specs.Treats.{took_each}
+use Rattle.sb_log.specs.Records.{Committed}
+use Rattle.sb_node.specs.Cores.{Core, with_node, committed_answer}
+use Rattle.sb_watch.specs.Records.{Hub}
+use Rattle.sb_watch.specs.Hubs.{AllNotes}
+use Rattle.sb_views.specs.declared.event.Event.{Event}
+use Rattle.sb_views.specs.declared.event.Event.TheVariants.{TookOwn, Applied}
+use Rattle.sb_views.specs.Growing.{AreGrown}
+use Rattle.sb_views.specs.Histories.{node_after}
+use Rattle.sb_directory.specs.Behind.{Behind, AreSince}
+use Rattle.sb_directory.specs.Notes.{with_notes, entered_of, is_held}
+
+pub record ViewedNode : Type 0 where
+  pub core : Core
+  pub hub : Hub
+  -- all events of the node since it was opened
+  pub history : List Event
+  -- the prefix of it whose view is published
+  pub published : List Event
+
+-- no further event can be counted
+abbrev pub are_spent : List Event → Bool
+are_spent history = length history == 2 ^ 64 - 1
+
+abbrev pub unless_spent : List Event → Result (Unit {0}) Fault → Result (Unit {0}) Fault
+unless_spent history (Err fault) = Err fault
+unless_spent history (Ok u) = if are_spent history then Err TurnsSpent else Ok u
+
+-- what a committed write is answered, where there is memory
+abbrev pub own_due : ViewedNode → Committed → Result (Unit {0}) Fault
+own_due l c = unless_spent l.history (committed_answer l.core.node c)
+
+-- what a delta is answered, where there is memory
+abbrev pub delta_due : ViewedNode → Result (Unit {0}) Fault
+delta_due l = unless_spent l.history (Ok tt)
+
+-- the write is entered and noted in watches, and it is the last event of the history
+abbrev pub after_own : ViewedNode → Entry → List Event → ViewedNode
+after_own l e published = record {
+  core = with_node l.core (node_after_event l.core.node (Wrote e));
+  hub = with_notes l.hub ((l.core.node.held.me, e) ∷ []);
+  history = l.history ++ TookOwn e ∷ [];
+  published = published;
+}
+
+-- the same of a delta whose blocks ended so
+abbrev pub after_delta : ViewedNode → List Block → List BlockEnd → List Event → ViewedNode
+after_delta l blocks ends published = (
+    let node = replay_node l.core.node (took_each blocks ends) in
+    record {
+      core = with_node l.core node;
+      hub = with_notes l.hub (entered_of blocks l.core.node.held node.held);
+      history = l.history ++ Applied blocks ends ∷ [];
+      published = published;
+    }
+    )
+
+abbrev pub with_published : ViewedNode → List Event → ViewedNode
+with_published l published = record { core = l.core; hub = l.hub; history = l.history; published = published }
+
+abbrev pub with_hub : ViewedNode → Hub → ViewedNode
+with_hub l hub = record { core = l.core; hub = hub; history = l.history; published = l.published }
+
+-- the answer says whether all that happened is published; where it is not, what is published stays
+abbrev pub Publishes : Bool → ViewedNode → ViewedNode → Type 0
+Publishes shown old new = MatchBool shown (new.published ≡ new.history) (new.published ≡ old.published)
+
+-- the node is the replay of the history, of which a prefix is queued for the views; the tables have grown from those after it, and
+-- what views lack since is noted; and what is noted in watches is held
+pub record IsViewedNode (opening : Node) (queued : List Event) (behind : Behind) (l : ViewedNode) : Type 0 where
+  pub node : l.core.node ≡ node_after opening l.history
+  pub begins : IsPrefix queued l.history
+  pub grown : AreGrown (node_after opening queued).held l.core.node.held
+  pub since : AreSince (node_after opening queued).held l.core.node.held behind
+  pub notes : AllNotes (is_held l.core.node.held) l.hub

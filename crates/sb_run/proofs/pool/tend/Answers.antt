@@ -1,6 +1,0 @@
-use Rattle.sb_run.proofs.Pooling.{kept_on}
-use Rattle.sb_run.proofs.pool.tend.Goals as goal
-
-pub loop-preserved : goal.loop-preserved
-loop-preserved g c =
-    kept_on (g.G.Gate.lets c.args.gate.now) c.in-Some-Ok.number c.args.seat c.loop.sitting c.meet-seat.result.0 c.loop.invariant c.meet-seat.ensures

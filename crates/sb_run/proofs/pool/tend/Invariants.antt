@@ -1,9 +1,0 @@
-use Rattle.sb_run.specs.Gates.{AreShut}
-use Rattle.sb_run.specs.Pools.{IsKept}
-use Rattle.sb_run.proofs.pool.tend.Given as goal
-
-abbrev pub invariant-loop : goal.invariant-loop
-invariant-loop g l = IsKept (AreShut (g.G.Gate.lets l.gate)) l.fn.seat l.sitting
-
-abbrev pub ghosts-meet : goal.ghosts-meet
-ghosts-meet g a = record { name = a.blank.name; parts = a.blank.parts }

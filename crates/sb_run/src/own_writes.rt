@@ -1,0 +1,152 @@
+//! A node's own writes: its log takes each before the directory does.
+ghost use Rattle.std.specs.Prelude.{◌≡◌, ◌+◌, true, None, OnOk, IfOk, IfErr};
+ghost use Rattle.sb_codec.specs.Limits.{is_version};
+ghost use Rattle.sb_log.specs.Puts.{Puts, IsSettled};
+ghost use Rattle.sb_directory.specs.Seats.{with_last_call};
+ghost use Rattle.sb_directory.specs.Serving.{IsLater};
+ghost use Rattle.sb_run.specs.OwnWriting.{IsUndisputed, version_of, count_owed, count_shared, IsHeldBack, IsHandedIn, IsStored, IsRefused};
+
+use sb_directory::{Directory, DirectoryTag, ReaderSeat, Receipt};
+use sb_log::{Committed, WriteLog};
+use sb_types::{Fault, Key, Slot};
+use std::sync::Wait;
+
+/// What became of a write that the log took.
+#[derive(Clone, Copy, Debug, PartialEq, Eq)]
+pub enum Stored {
+    /// The directory took it.
+    Shared(Receipt),
+    /// The directory refused it by this fault. The log has it under this version, and it is handed in before the next write.
+    Owed(u64, Fault),
+}
+
+impl Stored {
+    /// The version under which the log took the write.
+    pub fn version(&self) -> u64
+        ensures { result ≡ version_of self.now }
+    {
+        match self {
+            Stored::Shared(receipt) => receipt.version,
+            Stored::Owed(version, _) => *version,
+        }
+    }
+}
+
+/// The log of a node's own writes, and the write in it that the directory refused and is still owed.
+#[derive(Drop)]
+pub struct OwnWrites<L: WriteLog> {
+    log: L,
+    owed: Option<Committed>,
+    /// The version of the last write that the log took, where it was not asked for since.
+    stored: Option<u64>,
+    /// Whether a write closed the log by a fault of its store, where it was not asked for since.
+    has_failed: bool,
+}
+
+impl<L: WriteLog> OwnWrites<L> {
+    /// The own writes of this log. Nothing is owed.
+    pub fn new(log: L) -> OwnWrites<L>
+        ensures log { result.log ≡ log }
+        ensures owed { result.owed ≡ None }
+    {
+        OwnWrites {
+            log,
+            owed: None,
+            stored: None,
+            has_failed: false,
+        }
+    }
+
+    /// The version of the last write that the log took since this was last asked; none where it took none.
+    pub(crate) fn take_stored(&mut self) -> Option<u64> {
+        self.stored.take()
+    }
+
+    /// Whether a fault of its store closed the log since this was last asked.
+    pub(crate) fn take_failure(&mut self) -> bool {
+        let has_failed = self.has_failed;
+        self.has_failed = false;
+        has_failed
+    }
+
+    /// Puts a write into the log, and takes down whether that took it.
+    fn keep(&mut self, key: &Key, slot: &Slot) -> Result<Committed, Fault>
+        ensures puts { Puts (L.seen self.old.log) key.now slot.now result (L.seen self.new.log) }
+        ensures settled { IsSettled (L.seen self.new.log) (L.leaves self.new.log) }
+        ensures owed { self.new.owed ≡ self.old.owed }
+    {
+        let kept = self.log.put(key, slot);
+        match &kept {
+            Ok(committed) => self.stored = Some(committed.entry().version()),
+            Err(Fault::StoreFailed) => self.has_failed = true,
+            Err(_) => {}
+        }
+        kept
+    }
+
+    /// Hands in what is owed. `OwnerConflict` where another node writes under the own name; then the faults of
+    /// the directory for what is owed. Each leaves everything as it was, but for the seat's last call.
+    fn hand_in<S: DirectoryTag, H: Wait + Drop, Q: Wait>(
+        &mut self,
+        rt: &Q,
+        directory: &Directory<S, H>,
+        seat: &mut ReaderSeat<S>,
+    ) -> Result<(), Fault>
+        ensures log { self.new.log ≡ self.old.log }
+        ensures owed { OnOk result (self.new.owed ≡ None) }
+        ensures handed { OnOk result (IsHandedIn S.opening seat.old self.old.owed seat.new) }
+        ensures count { OnOk result (seat.new.events ≡ seat.old.events + count_owed self.old.owed) }
+        ensures free { IfOk result (λ _. IsUndisputed S.opening seat.old seat.new) }
+        ensures refused { IfErr result (λ fault. IsHeldBack S.opening seat.old self.old.owed fault seat.new) }
+        ensures owes { IfErr result (λ _. self.new.owed ≡ self.old.owed) }
+        ensures seat { IfErr result (λ _. seat.new ≡ with_last_call seat.old seat.new.last_call) }
+        ensures later { IsLater seat.old seat.new }
+    {
+        if let Some(version) = directory.conflict(rt, seat) {
+            return Err(Fault::OwnerConflict(version));
+        }
+        if let Some(committed) = &self.owed {
+            directory.take_own(rt, seat, committed)?;
+        }
+        self.owed = None;
+        Ok(())
+    }
+
+    /// Puts a write into the log, under the next version, and hands it to the directory. Where the directory refuses it by a
+    /// fault, it is owed, and is handed in before the next write.
+    ///
+    /// `OwnerConflict` where another node writes under the own name; the faults of the directory for what is owed.
+    /// Each of these leaves everything as it was, but for the seat's last call. Then, with what was owed handed in, the
+    /// faults of `WriteLog::put`: with `StoreFailed` the write stands or does not, and the log is closed; with each other one
+    /// the log took nothing.
+    pub fn put<S: DirectoryTag, H: Wait + Drop, Q: Wait>(
+        &mut self,
+        rt: &Q,
+        directory: &Directory<S, H>,
+        seat: &mut ReaderSeat<S>,
+        key: &Key,
+        slot: &Slot,
+    ) -> Result<Stored, Fault>
+        ensures stored { IfOk result (λ stored. IsStored S.opening (L.seen self.old.log) seat.old key.now slot.now stored
+            (L.seen self.new.log) self.new.owed seat.new) }
+        ensures version { IfOk result (λ stored. is_version (version_of stored) ≡ true) }
+        ensures handed { OnOk result (IsHandedIn S.opening seat.old self.old.owed seat.new) }
+        ensures count { IfOk result (λ stored. seat.new.events ≡ seat.old.events + count_owed self.old.owed + count_shared stored) }
+        ensures free { IfOk result (λ _. IsUndisputed S.opening seat.old seat.new) }
+        ensures refused { IfErr result (λ fault. IsRefused L.seen S.opening self.old.log self.old.owed seat.old key.now slot.now
+            self.new.log self.new.owed seat.new fault) }
+        ensures settled { IsSettled (L.seen self.old.log) (L.leaves self.old.log) → IsSettled (L.seen self.new.log) (L.leaves self.new.log) }
+        ensures later { IsLater seat.old seat.new }
+    {
+        self.hand_in(rt, directory, seat)?;
+        let committed = self.keep(key, slot)?;
+        let version = committed.entry().version();
+        match directory.take_own(rt, seat, &committed) {
+            Ok(receipt) => Ok(Stored::Shared(receipt)),
+            Err(fault) => {
+                self.owed = Some(committed);
+                Ok(Stored::Owed(version, fault))
+            }
+        }
+    }
+}

@@ -1,0 +1,49 @@
+//! What several of the crates of tests need: frames that are written out by hand, the readers and writers of peers that say
+//! and hear them, settings, and small deltas. Nothing here ends a test: a library may not, so what does (`same`, `got` and the
+//! like) stands in each crate of tests, as a line each over what the toolchain has.
+#![tactic(auto)]
+
+pub mod streams;
+pub mod wire;
+
+use sb_types::{BUDGET_LEAST, Block, Delta, Entry, Fault, Name, Order, RawSettings};
+use std::alloc::Global;
+
+/// Settings that are within their limits: of a node of the cluster c1, with the least budget, two seats and a worker.
+pub const SETTINGS: RawSettings<'static> = RawSettings {
+    cluster: b"c1",
+    budget: BUDGET_LEAST,
+    order: Order::Breadth,
+    max_version: 100,
+    seats: 2,
+    workers: 1,
+};
+
+/// A name of 32 bytes, the most that one may have.
+pub const LONGEST_NAME: &[u8] = b"abcdefghijklmnopqrstuvwxyz-01234";
+
+/// A key of 64 bytes, the most that one may have.
+pub const LONGEST_KEY: &[u8] = b"abcdefghijklmnopqrstuvwxyz012345.bcdefghijklmnopqrstuvwxyz_/-789";
+
+/// The text of a number, in four letters: another one for each number below 456,976.
+pub fn letters_of(number: u64) -> [u8; 4] {
+    let mut text = [b'a'; 4];
+    let mut rest = number;
+    for letter in text.iter_mut() {
+        *letter = b'a' + (rest % 26) as u8;
+        rest /= 26;
+    }
+    text
+}
+
+/// A delta of one block.
+pub fn delta_of_block(alloc: Global, block: Block) -> Result<Delta, Fault> {
+    Delta::new(vec![in alloc; block]?)
+}
+
+/// A delta of one write of an owner, behind the version before it.
+pub fn delta_of_write(alloc: Global, owner: Name, entry: Entry) -> Result<Delta, Fault> {
+    let before = entry.version().saturating_sub(1);
+    let block = Block::new(owner, before, vec![in alloc; entry]?)?;
+    delta_of_block(alloc, block)
+}

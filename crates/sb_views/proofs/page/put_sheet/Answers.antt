@@ -1,6 +1,0 @@
-use Rattle.sb_views.proofs.ByText.{with_inserted}
-use Rattle.sb_views.proofs.page.put_sheet.Goals as goal
-
-pub returns-in-Ok-clause-ok : goal.returns-in-Ok-clause-ok
-returns-in-Ok-clause-ok c =
-    with_inserted c.args.sheets.now.entries c.insert.new.self.entries c.args.owner c.args.sheet c.requires c.insert.ensures.ordered c.in-Ok.ensures.updates.0

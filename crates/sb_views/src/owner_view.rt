@@ -1,0 +1,186 @@
+//! What is shown of one owner.
+ghost use Rattle.std.specs.Prelude.{◌≡◌, ◌≤◌, ℕ, true, nat_eq, List, filter, Some, OnOk, OnErr, length};
+ghost use Rattle.std.specs.List.{starts_with};
+ghost use Rattle.std.specs.Option.{option_map};
+ghost use Rattle.std.specs.FinMap.{get, insert, remove, entries};
+ghost use Rattle.std.specs.Ordering.{nat_cmp, is_lt, is_le};
+ghost use Rattle.std.specs.BTreeMap.Range.{is_from_start};
+ghost use Rattle.sb_views.specs.LiveRows as spec;
+ghost use Rattle.std.specs.Cmp.Lexicographic.{slice_cmp};
+ghost use Rattle.std.specs.BTreeMap.{IsOrdered};
+ghost use Rattle.sb_views.specs.NodeViews as node_views;
+
+use crate::live::LiveValue;
+use crate::rows::OwnerRows;
+use sb_types::{Entry, Key, Name, Prefix, Slot, Value};
+use std::alloc::{AllocError, Global};
+use std::collections::BTreeMap;
+use std::marker::Model;
+use std::ops::Bound;
+
+/// Up to which version an owner is held, and what is live of it by key.
+#[derive(Drop)]
+pub struct OwnerView {
+    upto: u64,
+    rows: BTreeMap<Key, LiveValue>,
+}
+
+impl Model for OwnerView {
+    ghost use Rattle.std.specs.Ordering.{nat_cmp};
+    ghost use Rattle.std.specs.Cmp.Lexicographic.{slice_cmp};
+    ghost use Rattle.std.specs.BTreeMap.{IsOrdered};
+    ghost use Rattle.std.specs.Coded.{codes};
+    ghost use Rattle.std.specs.FinMap.{code};
+    ghost use Rattle.sb_views.specs.NodeViews as node_views;
+
+    ghost Value = { node_views.OwnerView };
+
+    ghost coded = { Prim.hlevel (codes, code) };
+
+    ghost view = { λ s. record { upto = s.upto; rows = node_views.rows_of s.rows.entries } };
+
+    ghost invariant = { λ s. IsOrdered (slice_cmp nat_cmp) s.rows };
+}
+
+/// Puts a value under a key, with the version of its write. Where memory is wanting nothing changes.
+fn set_row(
+    alloc: Global,
+    rows: &mut BTreeMap<Key, LiveValue>,
+    key: Key,
+    value: &Value,
+    version: u64,
+) -> Result<(), AllocError>
+    requires ordered { IsOrdered (slice_cmp nat_cmp) rows.old }
+    requires version { 1 ≤ version }
+    ensures ok { OnOk result (node_views.rows_of rows.new.entries ≡ insert (node_views.rows_of rows.old.entries) key (value.now, version)) }
+    ensures err { OnErr result (rows.new.entries ≡ rows.old.entries) }
+    ensures ordered { IsOrdered (slice_cmp nat_cmp) rows.new }
+{
+    let Ok(copy) = value.copy(alloc) else {
+        return Err(AllocError);
+    };
+    match rows.insert(key, LiveValue::new(copy, version)) {
+        Ok(earlier) => {
+            drop(earlier);
+            Ok(())
+        }
+        Err(refused) => {
+            drop(refused);
+            Err(AllocError)
+        }
+    }
+}
+
+/// Takes out what is under a key.
+fn remove_row(rows: &mut BTreeMap<Key, LiveValue>, key: &Key)
+    requires { IsOrdered (slice_cmp nat_cmp) rows.old }
+    ensures removed { node_views.rows_of rows.new.entries ≡ remove (node_views.rows_of rows.old.entries) key.now }
+    ensures ordered { IsOrdered (slice_cmp nat_cmp) rows.new }
+{
+    let earlier = rows.remove(key);
+    drop(earlier);
+}
+
+/// Shows what a write puts under its key. Where memory is wanting nothing changes.
+fn enter_row(
+    alloc: Global,
+    rows: &mut BTreeMap<Key, LiveValue>,
+    entry: &Entry,
+) -> Result<(), AllocError>
+    requires { IsOrdered (slice_cmp nat_cmp) rows.old }
+    ensures ok { OnOk result (node_views.rows_of rows.new.entries ≡ node_views.rows_with (node_views.rows_of rows.old.entries) entry.now entry.now.slot) }
+    ensures err { OnErr result (rows.new.entries ≡ rows.old.entries) }
+    ensures ordered { IsOrdered (slice_cmp nat_cmp) rows.new }
+{
+    match entry.slot() {
+        Slot::Set(value) => set_row(alloc, rows, *entry.key(), value, entry.version()),
+        Slot::Removed => {
+            remove_row(rows, entry.key());
+            Ok(())
+        }
+    }
+}
+
+impl OwnerView {
+    /// The view of an owner who wrote nothing. It takes no memory.
+    pub(crate) fn new(alloc: Global) -> OwnerView
+        ensures { result ≡ node_views.no_view }
+    {
+        OwnerView {
+            upto: 0,
+            rows: BTreeMap::new(alloc),
+        }
+    }
+
+    /// Shows a write. Where memory is wanting nothing changes.
+    pub(crate) fn enter(&mut self, alloc: Global, entry: &Entry) -> Result<(), AllocError>
+        ensures ok { OnOk result (self.new ≡ node_views.owner_view_with self.old entry.now) }
+        ensures err { OnErr result (self.new ≡ self.old) }
+    {
+        match enter_row(alloc, &mut self.rows, entry) {
+            Ok(()) => {
+                self.upto = entry.version();
+                Ok(())
+            }
+            Err(refused) => Err(refused),
+        }
+    }
+
+    /// The version up to which the owner is held.
+    pub fn upto(&self) -> u64
+        ensures { result ≡ self.now.upto }
+    {
+        self.upto
+    }
+
+    /// How many live rows the owner has. None is counted out one by one.
+    pub fn len(&self) -> usize
+        ensures { result ≡ length (entries self.now.rows) }
+    {
+        self.rows.len()
+    }
+
+    /// The value under a key, with the version of its write.
+    pub(crate) fn get(&self, key: &Key) -> Option<(&Value, u64)>
+        ensures { option_map (λ p. (p.0.now, p.1)) result ≡ get self.now.rows key.now }
+    {
+        match self.rows.get(key) {
+            Some(live) => Some((live.value(), live.version())),
+            None => None,
+        }
+    }
+
+    /// The rows under the keys that begin with the prefix, in ascending order of their keys.
+    pub(crate) fn rows<'a>(&'a self, owner: &'a Name, prefix: Prefix) -> OwnerRows<'a>
+        ensures { result ≡ spec.rows_under prefix owner.now self.now }
+    {
+        let from_start = (prefix.start(), Bound::Unbounded);
+        OwnerRows::new(owner, self.rows.range(from_start), prefix)
+    }
+
+    /// Those of them that stand behind the key.
+    pub(crate) fn rows_behind<'a>(
+        &'a self,
+        owner: &'a Name,
+        prefix: Prefix,
+        key: Key,
+    ) -> OwnerRows<'a>
+        ensures { result ≡ filter (spec.is_behind (Some (owner.now, key))) (spec.rows_under prefix owner.now self.now) }
+    {
+        let behind = (start_behind(key, prefix), Bound::Unbounded);
+        OwnerRows::new(owner, self.rows.range(behind), prefix)
+    }
+}
+
+/// Where the keys start that stand behind the key and do not come before the prefix.
+fn start_behind(key: Key, prefix: Prefix) -> Bound<Key>
+    ensures from { (other : List ℕ) → is_from_start (slice_cmp nat_cmp) result other ≡ true → is_le (slice_cmp nat_cmp prefix other) ≡ true }
+    ensures behind { (other : List ℕ) → starts_with nat_eq other prefix ≡ true
+        → is_from_start (slice_cmp nat_cmp) result other ≡ is_lt (slice_cmp nat_cmp key other) }
+{
+    if key.bytes().cmp(prefix.bytes()).is_lt() {
+        prefix.start()
+    } else {
+        Bound::Excluded(key)
+    }
+}
