@@ -4,6 +4,9 @@
 //! gives the entry of a key, the entries above a version, and those under a prefix. The crate stands on `sb_types`; holdings
 //! and logs keep writes in tables.
 //!
+//! `Shown` is a table with a floor, up to which the removals are gone, and a `Stage` is what has come of one that is to take its
+//! place. No crate above makes one yet: their tables are all without a floor.
+//!
 //! ```rust
 //! /// Enters a write whose version is above all that the table has.
 //! fn enter(table: &mut Table, entry: Entry) -> Result<(), Fault> {
@@ -25,13 +28,18 @@
 #![tactic(auto)]
 
 mod after;
+mod floors;
 mod laws;
 mod prefixed;
+mod restore;
+mod swap;
 mod table;
 
 pub use after::After;
+pub use floors::{Shown, Stage};
 pub use laws::{
-    by_key_sorts, entering_keeps_tables, what_is_entered_is_found, what_stands_is_found,
+    by_key_sorts, entering_keeps_tables, floors_keep_tables, what_is_entered_is_found,
+    what_stands_is_found,
 };
 pub use prefixed::Prefixed;
 pub use table::{Table, entries_above};

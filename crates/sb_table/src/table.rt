@@ -1,13 +1,14 @@
 //! The table of one owner, and the entries of a list above a version.
 
-ghost use Rattle.std.specs.Prelude.{◌≡◌, ◌<◌, ◌≤◌, ◌==◌, ℕ, List, true, [], if◌then◌else◌, Ok, Err, OnOk, OnErr, IfErr, ◌∷◌, length, drop};
+ghost use Rattle.std.specs.Prelude.{◌≡◌, ◌<◌, ◌≤◌, ◌==◌, ℕ, List, true, [], if◌then◌else◌, Ok, Err, OnOk, OnErr, IfErr, Some, ◌∷◌, length, drop, find};
 ghost use Rattle.std.specs.Option.{option_map};
 ghost use Rattle.std.specs.Map.{values_of};
 ghost use Rattle.sb_types.specs.Faults.{Gives};
-ghost use Rattle.sb_types.specs.Runs.{above, are_ascending, entered, entry_at, last_version};
+ghost use Rattle.sb_types.specs.Runs.{above, up_to, live, has_key, are_ascending, entered, entry_at, last_version};
 ghost use Rattle.sb_table.specs.Plain.{IsPlainTable, plain_table, with_entry, is_full_for, version_and_slot};
 ghost use Rattle.sb_table.specs.Order.{by_key, under};
-ghost use Rattle.sb_table.specs.Maps.{Agree};
+ghost use Rattle.sb_table.specs.Maps.{Agree, version_at};
+ghost use Rattle.sb_table.specs.Floors.{is_dead, outside};
 
 use crate::after::After;
 use crate::prefixed::Prefixed;
@@ -145,6 +146,52 @@ impl Table {
         After::new(self.entries.range(above))
     }
 
+    /// Whether a key has an entry at or below a version.
+    pub(crate) fn has_up_to(&self, key: &Key, version: u64) -> bool
+        ensures has { result ≡ has_key key.now (up_to version self.now.entries) }
+        ensures table { IsPlainTable self.now }
+    {
+        match self.get(key) {
+            Some((at, _)) => at <= version,
+            None => false,
+        }
+    }
+
+    /// Takes out the markers at or below a version. It takes no memory.
+    pub(crate) fn drop_markers(&mut self, floor: u64)
+        ensures dropped { self.new ≡ plain_table (live floor self.old.entries) }
+        ensures table { IsPlainTable self.new }
+    {
+        let _ = &self.entries;
+        let mut from = 0;
+        while let Some((key, version)) = self.first_marker(from, floor) {
+            self.remove(&key, version);
+            from = version;
+        }
+    }
+
+    /// The key and the version of the first marker above one version and at or below another.
+    fn first_marker(&self, from: u64, floor: u64) -> Option<(Key, u64)>
+        ensures first { result ≡ option_map (λ e. (e.key, e.version)) (find (λ e. is_dead floor e) (above from self.now.entries)) }
+        ensures table { IsPlainTable self.now }
+    {
+        for entry in self.after(from) {
+            if is_dead(entry, floor) {
+                return Some((*entry.key(), entry.version()));
+            }
+        }
+        None
+    }
+
+    /// Takes out what a key has, at its version.
+    fn remove(&mut self, key: &Key, version: u64)
+        requires { version_at key.now self.old.entries ≡ Some version }
+        ensures gone { self.new ≡ plain_table (outside key.now self.old.entries) }
+        ensures table { IsPlainTable self.new }
+    {
+        take_out(&mut self.entries, &mut self.versions, key, version);
+    }
+
     /// The entries under the keys that begin with the prefix, in ascending order of their keys.
     pub fn prefix(&self, prefix: &Prefix) -> Prefixed<'_>
         ensures entries { result ≡ by_key (under prefix.now self.now.entries) }
@@ -182,6 +229,33 @@ fn enter(
             entries.remove(&version);
             Err(Fault::NoMemory)
         }
+    }
+}
+
+/// Takes out what a key has, at its version.
+fn take_out(
+    entries: &mut BTreeMap<u64, Entry>,
+    versions: &mut BTreeMap<Key, u64>,
+    key: &Key,
+    version: u64,
+)
+    requires table { IsPlainTable (plain_table (values_of entries.old.entries)) }
+    requires agree { Agree entries.old.entries versions.old.entries }
+    requires stands { version_at key.now (values_of entries.old.entries) ≡ Some version }
+    ensures values { values_of entries.new.entries ≡ outside key.now (values_of entries.old.entries) }
+    ensures agree { Agree entries.new.entries versions.new.entries }
+{
+    versions.remove(key);
+    entries.remove(&version);
+}
+
+/// Whether an entry is a marker at or below a version.
+pub(crate) fn is_dead(entry: &Entry, floor: u64) -> bool
+    ensures { result ≡ is_dead floor entry.now }
+{
+    match entry.slot() {
+        Slot::Set(_) => false,
+        Slot::Removed => entry.version() <= floor,
     }
 }
 
