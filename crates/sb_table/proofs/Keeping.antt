@@ -12,6 +12,7 @@ use Rattle.sb_table.specs.Plain.{IsPlainTable, plain_table, with_entry, is_full_
 use Rattle.sb_table.specs.Floors.{IsKeptTable, IsKeptStage, are_live, are_table_entries, merged, raised, stage_with_entry, swapped}
 use Rattle.sb_table.proofs.Order.{run_kept, run_entered}
 use Rattle.sb_table.proofs.Enter.{length-entered}
+use Rattle.sb_table.proofs.Plain.{IsPlainTable-with_entry}
 use Rattle.sb_table.proofs.Merging.{length-filter_le, swapped_run, length-swapped, live-merged, plain-run}
 
 abbrev lives : ℕ → Entry → Bool
@@ -101,6 +102,15 @@ pub kept-pushed : (r : Result (Unit {0}) Fault) (old : Table) (new : Table) (e :
 kept-pushed (Ok u) old new e upto floor n ok err kept later room =
     rw (ok.0, ok.1) (kept-with_entry (table_of upto floor old.entries) e kept later room)
 kept-pushed (Err fault) old new e upto floor n ok err kept later room = rw (ap (λ (t : Table). t.entries) err.0, err.1) kept
+
+-- a table that has no floor has none then
+pub plain-pushed : (r : Result (Unit {0}) Fault) (old : Table) (new : Table) (e : Entry) (upto floor : ℕ) (n : ℕ)
+    → OnOk r ((new.entries ≡ entered old.entries (e ∷ [])) × (n ≡ e.version)) → OnErr r ((new ≡ old) × (n ≡ upto))
+    → IsPlainTable (record { held = upto; floor = floor; entries = old.entries }) → upto < e.version → OnOk r (is_full_for e.key old.entries ≡ false)
+    → IsPlainTable (record { held = n; floor = floor; entries = new.entries })
+plain-pushed (Ok u) old new e upto floor n ok err plain later room =
+    rw (ok.0, ok.1) (IsPlainTable-with_entry (table_of upto floor old.entries) e plain later room)
+plain-pushed (Err fault) old new e upto floor n ok err plain later room = rw (ap (λ (t : Table). t.entries) err.0, err.1) plain
 
 pub kept-stage_pushed : (r : Result (Unit {0}) Fault) (old : Table) (new : Table) (e : Entry) (progress floor : ℕ) (n : ℕ)
     → OnOk r ((new.entries ≡ entered old.entries (e ∷ [])) × (n ≡ e.version)) → OnErr r ((new ≡ old) × (n ≡ progress))

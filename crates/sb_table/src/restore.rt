@@ -6,7 +6,7 @@ ghost use Rattle.sb_types.specs.Runs.{are_ascending, last_version};
 ghost use Rattle.sb_table.specs.Plain.{IsPlainTable, plain_table};
 ghost use Rattle.sb_table.specs.Floors.{are_live, are_table_entries};
 
-use crate::table::{Table, is_dead};
+use crate::entries::{Entries, is_dead};
 use sb_types::{Entry, Fault, are_keys_distinct};
 use std::alloc::Global;
 
@@ -34,11 +34,11 @@ fn are_live_within(upto: u64, floor: u64, entries: &[Entry]) -> bool
 }
 
 /// A table of these entries. `NoMemory`, with which they are dropped.
-pub(crate) fn fill(alloc: Global, entries: Vec<Entry>) -> Result<Table, Fault>
+pub(crate) fn fill(alloc: Global, entries: Vec<Entry>) -> Result<Entries, Fault>
     requires { IsPlainTable (plain_table entries.items) }
     ensures { Gives result (Ok (plain_table entries.items)) }
 {
-    let mut table = Table::new(alloc);
+    let mut table = Entries::new(alloc);
     for entry in entries {
         table.push(entry)?;
     }

@@ -4,12 +4,12 @@ ghost use Rattle.std.specs.Prelude.{◌≡◌, ◌<◌, false, ◌++◌, OnOk, I
 ghost use Rattle.sb_types.specs.Runs.{above, up_to, under_keys_of, live};
 ghost use Rattle.sb_table.specs.Plain.{IsPlainTable, plain_table, with_entry, is_full_for};
 
-use crate::table::{Table, is_dead};
+use crate::entries::{Entries, is_dead};
 use sb_types::{Entry, Fault};
 use std::alloc::Global;
 
 /// Enters a copy of a later entry that has room.
-fn push_copy(alloc: Global, into: &mut Table, entry: &Entry) -> Result<(), Fault>
+fn push_copy(alloc: Global, into: &mut Entries, entry: &Entry) -> Result<(), Fault>
     requires later { into.old.held < entry.now.version }
     requires room { is_full_for entry.now.key into.old.entries ≡ false }
     ensures ok { OnOk result (into.new ≡ with_entry into.old entry.now) }
@@ -21,9 +21,9 @@ fn push_copy(alloc: Global, into: &mut Table, entry: &Entry) -> Result<(), Fault
 /// Copies what is shown under the keys that the stage has at or below a version, without markers up to the floor.
 pub(crate) fn keep_shown(
     alloc: Global,
-    into: &mut Table,
-    shown: &Table,
-    staged: &Table,
+    into: &mut Entries,
+    shown: &Entries,
+    staged: &Entries,
     upto: u64,
     floor: u64,
 ) -> Result<(), Fault>
@@ -43,8 +43,8 @@ pub(crate) fn keep_shown(
 /// Copies what the stage has above a version, without markers up to the floor.
 pub(crate) fn add_staged(
     alloc: Global,
-    into: &mut Table,
-    staged: &Table,
+    into: &mut Entries,
+    staged: &Entries,
     upto: u64,
     floor: u64,
 ) -> Result<(), Fault>
