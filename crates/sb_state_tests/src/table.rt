@@ -4,7 +4,7 @@ ghost use Rattle.sb_types.specs.Runs.{above};
 ghost use Rattle.sb_table.specs.Order.{by_key, under};
 
 use crate::{entry, got, key, push, refusal, same, same_at, settled, weighing, weight};
-use sb_table::{Shown, Stage, Table};
+use sb_table::{Stage, Table};
 use sb_types::{Entry, Fault, KEYS_MOST, Key, Prefix, Slot};
 use std::alloc::{AllocError, Global};
 use std::process::Abort;
@@ -159,6 +159,10 @@ fn example_of_a_table(rt: HostRuntime) {
     remove(&rt, &mut table, b"port", 2);
     let port = key(&rt, b"port");
     same(&rt, &ends_removed(&table, &port), &(1, 2, true));
+    got(&rt, raise(&mut table, 3, 2));
+    let counts = (table.len(), table.upto(), table.floor());
+    same(&rt, &counts, &(0, 3, 2));
+    same(&rt, &table.get(&port).is_none(), &true);
 }
 
 /// A write of a version under the key of a number, its weight the version.
@@ -411,7 +415,7 @@ fn all_listed(rt: &impl Abort, alloc: Global, writes: &[Listed]) -> Vec<Entry> {
     entries
 }
 
-fn listing(alloc: Global, shown: &Shown) -> Result<Vec<Listed>, AllocError> {
+fn listing(alloc: Global, shown: &Table) -> Result<Vec<Listed>, AllocError> {
     let mut writes = Vec::new(alloc);
     for entry in shown.after(0) {
         let letter = entry.key().bytes().first().copied().unwrap_or(0);
@@ -428,7 +432,7 @@ fn listing(alloc: Global, shown: &Shown) -> Result<Vec<Listed>, AllocError> {
 fn assert_holds(
     rt: &impl Abort,
     alloc: Global,
-    shown: &Shown,
+    shown: &Table,
     upto: u64,
     floor: u64,
     writes: &[Listed],
@@ -441,29 +445,20 @@ fn assert_holds(
     same_at(rt, &(upto, floor), &found.as_slice(), &writes);
 }
 
-fn restored(rt: &impl Abort, alloc: Global, upto: u64, floor: u64, writes: &[Listed]) -> Shown {
+fn restored(rt: &impl Abort, alloc: Global, upto: u64, floor: u64, writes: &[Listed]) -> Table {
     got(
         rt,
-        Shown::restored(alloc, upto, floor, all_listed(rt, alloc, writes)),
+        Table::restored(alloc, upto, floor, all_listed(rt, alloc, writes)),
     )
 }
 
 /// Raises what does not fall, to a floor within what is held, and refuses all else.
-fn raise(shown: &mut Shown, upto: u64, floor: u64) -> Result<(), Fault> {
+fn raise(shown: &mut Table, upto: u64, floor: u64) -> Result<(), Fault> {
     if upto < shown.upto() || floor < shown.floor() || upto < floor {
         return Err(Fault::FloorTooHigh);
     }
     shown.raise(upto, floor);
     Ok(())
-}
-
-/// Enters what is of a later version than all that the table holds, and refuses all else as `OutOfTurn`.
-fn enter_shown(shown: &mut Shown, entry: Entry) -> Result<(), Fault> {
-    let version = entry.version();
-    if version <= shown.upto() {
-        return Err(Fault::OutOfTurn(version));
-    }
-    shown.push(entry)
 }
 
 const FIVE: &[Listed] = &[
@@ -480,7 +475,7 @@ const FLOOR_5: &[Listed] = &[(b'a', 1, Some(7)), (b'c', 3, Some(9))];
 
 const WRITTEN_AGAIN: &[Listed] = &[(b'c', 3, Some(9)), (b'b', 9, Some(1)), (b'a', 10, None)];
 
-fn assert_raised(rt: &impl Abort, alloc: Global, shown: &mut Shown) {
+fn assert_raised(rt: &impl Abort, alloc: Global, shown: &mut Table) {
     got(rt, raise(shown, 7, 4));
     assert_holds(rt, alloc, shown, 7, 4, FLOOR_4);
     got(rt, raise(shown, 8, 4));
@@ -489,9 +484,9 @@ fn assert_raised(rt: &impl Abort, alloc: Global, shown: &mut Shown) {
     assert_holds(rt, alloc, shown, 8, 5, FLOOR_5);
 }
 
-fn assert_written_again(rt: &impl Abort, alloc: Global, shown: &mut Shown) {
-    got(rt, enter_shown(shown, listed(rt, (b'b', 9, Some(1)))));
-    got(rt, enter_shown(shown, listed(rt, (b'a', 10, None))));
+fn assert_written_again(rt: &impl Abort, alloc: Global, shown: &mut Table) {
+    got(rt, enter(shown, listed(rt, (b'b', 9, Some(1)))));
+    got(rt, enter(shown, listed(rt, (b'a', 10, None))));
     assert_holds(rt, alloc, shown, 10, 5, WRITTEN_AGAIN);
     let copy = got(rt, shown.copy(alloc));
     assert_holds(rt, alloc, &copy, 10, 5, WRITTEN_AGAIN);
@@ -505,23 +500,6 @@ fn removals_up_to_the_floor_go(rt: HostRuntime) {
     assert_written_again(&rt, rt.alloc(), &mut shown);
 }
 
-/// The example of `Shown`.
-#[test]
-fn example_of_a_floor(rt: HostRuntime) {
-    let mut shown = Shown::new(rt.alloc());
-    let [port, host] = [key(&rt, b"port"), key(&rt, b"host")];
-    got(&rt, enter_shown(&mut shown, weighing(&rt, b"port", 1, 80)));
-    got(
-        &rt,
-        enter_shown(&mut shown, Entry::new(host, 2, Slot::Removed)),
-    );
-    got(&rt, raise(&mut shown, 3, 2));
-    let counts = (shown.len(), shown.upto(), shown.floor());
-    same(&rt, &counts, &(1, 3, 2));
-    let found = (shown.get(&port).is_some(), shown.get(&host).is_none());
-    same(&rt, &found, &(true, true));
-}
-
 fn fault_of(
     rt: &impl Abort,
     alloc: Global,
@@ -530,7 +508,7 @@ fn fault_of(
     writes: &[Listed],
 ) -> Option<Fault> {
     let entries = all_listed(rt, alloc, writes);
-    refusal(rt, Shown::restored(alloc, upto, floor, entries))
+    refusal(rt, Table::restored(alloc, upto, floor, entries))
 }
 
 fn assert_damaged(rt: &impl Abort, alloc: Global, upto: u64, floor: u64, writes: &[Listed]) {
@@ -576,7 +554,7 @@ fn many_numbered(rt: &impl Abort, alloc: Global, count: u64) -> Vec<Entry> {
 
 /// What is restored of these entries up to version 9,999: how many keys, or the fault.
 fn restored_count(rt: &impl Abort, alloc: Global, entries: Vec<Entry>) -> Result<usize, Fault> {
-    match Shown::restored(alloc, 9_999, 0, entries) {
+    match Table::restored(alloc, 9_999, 0, entries) {
         Ok(shown) => Ok(shown.len()),
         Err(Fault::NoMemory) => panic!(rt; "error: NoMemory"),
         Err(fault) => Err(fault),
@@ -598,17 +576,17 @@ fn more_than_4096_keys_are_not_restored(rt: HostRuntime) {
 }
 
 /// How a write of a new key at 4,098 is answered, how many keys there are then, and up to which version.
-fn with_new(rt: &impl Abort, shown: &mut Shown) -> (Result<(), Fault>, usize, u64) {
-    let answer = settled(rt, enter_shown(shown, listed(rt, (b'n', 4098, Some(1)))));
+fn with_new(rt: &impl Abort, shown: &mut Table) -> (Result<(), Fault>, usize, u64) {
+    let answer = settled(rt, enter(shown, listed(rt, (b'n', 4098, Some(1)))));
     (answer, shown.len(), shown.upto())
 }
 
 #[test]
 fn a_floor_makes_room(rt: HostRuntime) {
     let entries = many_numbered(&rt, rt.alloc(), 4096);
-    let mut shown = got(&rt, Shown::restored(rt.alloc(), 4096, 0, entries));
+    let mut shown = got(&rt, Table::restored(rt.alloc(), 4096, 0, entries));
     let removal = entry(&rt, b"k0007", 4097, Slot::Removed);
-    got(&rt, enter_shown(&mut shown, removal));
+    got(&rt, enter(&mut shown, removal));
     let refused = (Err(Fault::TableFull), 4096, 4097);
     same(&rt, &with_new(&rt, &mut shown), &refused);
     got(&rt, raise(&mut shown, 4097, 4097));
@@ -636,7 +614,7 @@ fn staged(rt: &impl Abort, alloc: Global, floor: u64, progress: u64, writes: &[L
 }
 
 /// What is shown once the stage is, where it has come as far as its floor and as what is held.
-fn swapped(alloc: Global, shown: &Shown, stage: &Stage) -> Result<Shown, Fault> {
+fn swapped(alloc: Global, shown: &Table, stage: &Stage) -> Result<Table, Fault> {
     if stage.progress() < stage.floor() || stage.progress() < shown.upto() {
         return Err(Fault::FloorTooHigh);
     }
@@ -671,7 +649,7 @@ const SWAPPED: &[Listed] = &[
     (b'g', 10, None),
 ];
 
-fn assert_swapped(rt: &impl Abort, alloc: Global, shown: &Shown) {
+fn assert_swapped(rt: &impl Abort, alloc: Global, shown: &Table) {
     let whole = staged(rt, alloc, 8, 11, COMING);
     let new = got(rt, swapped(alloc, shown, &whole));
     assert_holds(rt, alloc, &new, 11, 8, SWAPPED);
@@ -680,7 +658,7 @@ fn assert_swapped(rt: &impl Abort, alloc: Global, shown: &Shown) {
     assert_holds(rt, alloc, &new, 9, 9, &[]);
 }
 
-fn assert_swapped_low(rt: &impl Abort, alloc: Global, shown: &Shown) {
+fn assert_swapped_low(rt: &impl Abort, alloc: Global, shown: &Table) {
     let low = staged(rt, alloc, 2, 0, &[(b'c', 3, Some(3)), (b'a', 6, Some(6))]);
     let new = got(rt, swapped(alloc, shown, &low));
     let wanted = [(b'c', 3, None), (b'a', 6, Some(6))];
