@@ -14,7 +14,7 @@ use Rattle.sb_holdings.specs.Plain.{IsHoldings, next_version, own_answer}
 use Rattle.sb_holdings.specs.Nodes.{Node, NodeEvent, Wrote, node_after_event, replay_node}
 use Rattle.sb_holdings.specs.Treats.{Treats, took_each}
 use Rattle.sb_holdings.proofs.Changed.{shown-plain}
-use Rattle.sb_holdings.proofs.Lent.{entry-next}
+use Rattle.sb_holdings.proofs.Changed.{entry-next}
 use Rattle.sb_holdings.proofs.Nodes.{replay_node-append}
 use Rattle.sb_node.specs.Cores.{Core, with_node}
 use Rattle.sb_watch.specs.declared.note.Note.{Note}

@@ -15,9 +15,10 @@ use Rattle.sb_holdings.specs.Shown.{joins_shown, joined, shown_with}
 use Rattle.sb_holdings.specs.Stages.{staged_all, staged_front, staged_refused}
 use Rattle.sb_holdings.specs.Taken.{routed, holder_after_block}
 use Rattle.sb_holdings.specs.Held.{Held, shown_of, with_owner, held_after_taking, held_after_block}
-use Rattle.sb_holdings.specs.Plain.{alone, with_entries, with_entered, IsHoldings}
+use Rattle.sb_holdings.specs.Plain.{alone, with_entries, with_entered, IsPlainHoldings}
 use Rattle.sb_holdings.specs.Ends.{is_own, JoinsOn, Enters, entered_count}
-use Rattle.sb_holdings.proofs.Order.{least, lower, run_above}
+use Rattle.sb_holdings.specs.Holders.{named}
+use Rattle.sb_holdings.proofs.Order.{least, run_above}
 use Rattle.sb_holdings.proofs.Changed.{holder-alone, shown-plain}
 
 -- ---- blocks without a floor
@@ -87,7 +88,7 @@ module _ (t : Table) (plain : IsPlainTable t) where
 
 -- ---- all owners
 
-taken-entered : (held : Held) (b : Block) (end : BlockEnd) → IsHoldings held → IsPlainBlock b → JoinsOn held b → Enters (shown_of held b.owner).entries (above (shown_of held b.owner).held b.entries) end →
+taken-entered : (held : Held) (b : Block) (end : BlockEnd) → IsPlainHoldings held → IsPlainBlock b → JoinsOn held b → Enters (shown_of held b.owner).entries (above (shown_of held b.owner).held b.entries) end →
     held_after_taking held b end ≡ with_owner held b.owner (alone (with_entries (shown_of held b.owner) (take (entered_count end) (above (shown_of held b.owner).held b.entries))))
 taken-entered held b end is plain joins enters =
     cond-false (is_own held b) held _ joins.other
@@ -105,13 +106,13 @@ held_after_block-taken held b (TooManyKeys n) entries new e = refl
 held_after_block-taken held b (NoMemory n) entries new e = refl
 
 -- what a block that joins on leaves
-held_after_block-entered : (held : Held) (b : Block) (end : BlockEnd) → IsHoldings held → is_delta_block b ≡ true → JoinsOn held b →
+held_after_block-entered : (held : Held) (b : Block) (end : BlockEnd) → IsPlainHoldings held → is_delta_block b ≡ true → JoinsOn held b →
     Enters (shown_of held b.owner).entries (above (shown_of held b.owner).held b.entries) end →
     held_after_block held b end ≡ with_owner held b.owner (alone (with_entries (shown_of held b.owner) (take (entered_count end) (above (shown_of held b.owner).held b.entries))))
 held_after_block-entered held b end is block joins enters = held_after_block-taken held b end _ _ enters ∙ taken-entered held b end is (block-plain b block) joins enters
 
 -- the same of entries and an owner that are those of the block
-pub with_entered-held_after_block : (held : Held) (b : Block) (end : BlockEnd) (owner : List ℕ) (new : List Entry) → IsHoldings held → is_delta_block b ≡ true → JoinsOn held b →
+pub with_entered-held_after_block : (held : Held) (b : Block) (end : BlockEnd) (owner : List ℕ) (new : List Entry) → IsPlainHoldings held → is_delta_block b ≡ true → JoinsOn held b →
     owner ≡ b.owner → new ≡ above (shown_of held b.owner).held b.entries → Enters (shown_of held owner).entries new end → with_entered held owner (take (entered_count end) new) ≡ held_after_block held b end
 with_entered-held_after_block held b end owner new is block joins same_owner same_new enters =
     ap (λ (o : List ℕ). with_entered held o (take (entered_count end) new)) same_owner
@@ -126,15 +127,25 @@ last-after after (e ∷ es) up some =
     let parts = and_parts (nat_lt after e.version) (are_ascending e.version es) up in
     omega (arith, ltb-true after e.version parts.0, least e.version es parts.1)
 
+pub some-entries : (b : Block) → is_delta_block b ≡ true → 0 < length b.entries
+some-entries b is =
+    let entries = and_parts _ _ (and_parts _ _ (and_parts _ _ is).0).0 in
+    omega (arith, leb-true 1 (length b.entries) (and_parts _ _ (and_parts _ _ (and_parts _ _ entries.1).0).0).0)
+
 pub IsBlock-delta : (b : Block) → is_delta_block b ≡ true → IsBlock b
 IsBlock-delta b is =
     let plain = block-plain b is in
-    let entries = and_parts _ _ (and_parts _ _ (and_parts _ _ is).0).0 in
-    let some = leb-true 1 (length b.entries) (and_parts _ _ (and_parts _ _ (and_parts _ _ entries.1).0).0).0 in
     record {
       run = record { ascending = plain.ascending; most = omega (arith, plain.upto); distinct = plain.distinct };
-      order = omega (arith, plain.upto, last-after b.after b.entries plain.ascending some);
+      order = omega (arith, plain.upto, last-after b.after b.entries plain.ascending (omega (arith, some-entries b is)));
     }
+
+-- such a block in parts
+pub in_parts : (b : Block) (owner : List ℕ) (after upto : ℕ) (entries : List Entry) → is_delta_block b ≡ true → owner ≡ b.owner → after ≡ b.after → upto ≡ b.upto → entries ≡ b.entries →
+    named owner 0 after upto entries ≡ b
+in_parts b owner after upto entries is owner_is after_is upto_is entries_is =
+    let none = sym (block-plain b is).floor in
+    λ i. record { owner = owner_is i; floor = none i; after = after_is i; upto = upto_is i; entries = entries_is i }
 
 all-each : {X : Type 0} (test : X → Bool) (xs : List X) (x : X) → list_all test xs ≡ true → Stands xs x → test x ≡ true
 all-each test [] x all s = absurd s
@@ -146,25 +157,11 @@ block-of_delta blocks b is s = all-each is_delta_block blocks b (and_parts _ _ i
 
 -- ---- the entries of a block above a version
 
-above-some : (after version : ℕ) (es : List Entry) → are_ascending after es ≡ true → after ≤ version → version < last_version after es → 0 < length (above version es)
-above-some after version [] up le more = absurd (omega arith)
-above-some after version (e ∷ es) up le more =
-    let parts = and_parts (nat_lt after e.version) (are_ascending e.version es) up in
-    cond_both (nat_lt version e.version) (e ∷ above version es) (above version es) (λ (xs : List Entry). 0 < length xs)
-    (λ _. omega arith)
-    (λ held. above-some e.version version es parts.1 (ltb-false version e.version held) more)
-
 module _ (b : Block) (is : is_delta_block b ≡ true) where
   plain : IsPlainBlock b
   plain = block-plain b is
 
-  pub block-ascending : are_ascending 0 b.entries ≡ true
-  block-ascending = lower 0 b.after b.entries (omega arith) plain.ascending
-
   module _ (version : ℕ) (after : b.after ≤ version) (more : version < b.upto) where
-    pub new-some : 0 < length (above version b.entries)
-    new-some = above-some b.after version b.entries plain.ascending after (omega (arith, more, plain.upto))
-
     pub new-run : IsRun version b.upto (above version b.entries)
     new-run =
         let run : IsRun b.after b.upto b.entries = record { ascending = plain.ascending; most = omega (arith, plain.upto); distinct = plain.distinct } in

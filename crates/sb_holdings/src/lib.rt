@@ -1,7 +1,9 @@
 //! What a node holds of each owner's writes, how it takes a block of them, and what stays true.
 //!
 //! Holdings are a node's own table and the tables of other owners. A block enters only where it joins on to what is held, so
-//! that no version is skipped and none goes back. Digests and deltas are made of holdings; `sb_node` changes them.
+//! that no version is skipped and none goes back. A block with a floor above what is held begins a stage, or goes on with it;
+//! once the stage has come as far as its floor it takes the table's place. Digests and deltas are made of holdings; `sb_node`
+//! changes them.
 //!
 //! ```rust
 //! /// How `b` ends a block of the first write of `a`, and then the same block once more.
@@ -16,7 +18,7 @@
 
 mod contents;
 mod ends;
-mod enter;
+mod holder;
 mod holdings;
 mod laws;
 mod node_laws;
@@ -29,7 +31,7 @@ pub use ends::BlockEnd;
 pub use holdings::Holdings;
 pub use laws::{
     blocks_keep_truth, holdings_make_nodes, nodes_hold, nothing_goes_back, one_by_one, one_meaning,
-    replays_hold, truth_lasts, writes_come_in_turn,
+    plain_holdings_stay_plain, replays_hold, truth_lasts, writes_come_in_turn,
 };
 pub use node_laws::{
     growing_keeps_truth, holders_are_found, joining_blocks_are_taken_up, opened_nodes_hold,

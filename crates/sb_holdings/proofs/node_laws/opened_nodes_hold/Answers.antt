@@ -1,8 +1,7 @@
 use Rattle.std.proofs.Common.{sym, subst, arith}
 use Rattle.sb_types.specs.Writes.{Holds}
 use Rattle.sb_holdings.proofs.Content.{content_tells}
-use Rattle.sb_holdings.proofs.ByOwner.{IsHoldings-alone}
-use Rattle.sb_holdings.proofs.Opened.{opened-holds}
+use Rattle.sb_holdings.proofs.Opened.{opened-holds, IsHoldings-alone, IsPlainHoldings-alone}
 use Rattle.sb_holdings.proofs.node_laws.opened_nodes_hold.Goals as goal
 
 pub returns-clause-table : goal.returns-clause-table
@@ -13,3 +12,6 @@ returns-clause-content c = λ writes me t same. opened-holds writes me t (subst 
 
 pub returns-clause-holdings : goal.returns-clause-holdings
 returns-clause-holdings c = IsHoldings-alone
+
+pub returns-clause-plain : goal.returns-clause-plain
+returns-clause-plain c = IsPlainHoldings-alone
