@@ -363,12 +363,12 @@ fn enter_staged(alloc: Global, stage: &mut Stage, entries: &[Entry]) -> BlockEnd
     ensures effect { stage.new ≡ stage_with_entries stage.old (take (entered_count result) entries.now) }
     ensures stage { IsKeptStage stage.new }
 {
-    for (count, entry) in entries.iter().enumerate() {
+    for (number, entry) in entries.iter().enumerate() {
         if stage.is_full_for(entry.key()) {
-            return BlockEnd::TooManyKeys(count as u64);
+            return BlockEnd::TooManyKeys(number as u64);
         }
         if push_staged(alloc, stage, entry).is_err() {
-            return BlockEnd::NoMemory(count as u64);
+            return BlockEnd::NoMemory(number as u64);
         }
     }
     BlockEnd::Taken(entries.len() as u64)
