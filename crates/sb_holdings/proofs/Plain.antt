@@ -42,9 +42,12 @@ left_false false y is none = refl
 below_none : (n floor : ℕ) → floor ≡ 0 → nat_lt n floor ≡ false
 below_none n floor zero = ap (nat_lt n) zero
 
+third : {A B C : Type 0} → (A × B × C) → C
+third p = p.2
+
 entered-all : (entries new others : List Entry) (unknown : Type 0) (end : BlockEnd) → 0 < length others → EntersOr entries new ((others ≡ []) × unknown) end → Enters entries new end
 entered-all entries new others unknown end some (inl e) = e
-entered-all entries new others unknown end some (inr refused) = absurd (omega (arith, some, ap length refused.2.0))
+entered-all entries new others unknown end some (inr refused) = absurd (omega (arith, some, ap length (third refused).0))
 
 module _ (held : Held) (b : Block) (is : IsPlainHoldings held) (block : is_delta_block b ≡ true) where
   abbrev t : Table

@@ -105,8 +105,10 @@ module _ (h : Holder) (b : Block) (s : Stage) (joins : joined_stage h b ≡ Some
 
   all-staged : (k : Holder) → k ≡ staged_all h b (Some s) → ((k.shown ≡ h.shown) × IsSomeAnd k.stage (HasStageAll s b)) ⊎ IsShown h s b k
   all-staged k is =
+      let over : Holder = record { shown = swapped h.shown whole; stage = None } in
+      let beside : Holder = record { shown = h.shown; stage = Some whole } in
       subst (λ (x : Holder). ((x.shown ≡ h.shown) × IsSomeAnd x.stage (HasStageAll s b)) ⊎ IsShown h s b x) (sym is)
-      (cond_both (nat_le s.floor b.upto) (record { shown = swapped h.shown whole; stage = None }) (record { shown = h.shown; stage = Some whole })
+      (cond_both (nat_le s.floor b.upto) over beside
       (λ (x : Holder). ((x.shown ≡ h.shown) × IsSomeAnd x.stage (HasStageAll s b)) ⊎ IsShown h s b x)
       (λ _. inr (record { none = refl; held = refl; floor = refl; each = in-swapped }))
       (λ _. inl (refl, record { floor = refl; progress = refl; each = λ e stands. right (without new s.entries) new e stands })))
