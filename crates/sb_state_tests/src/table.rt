@@ -396,7 +396,7 @@ fn a_write_without_memory_leaves_the_table(rt: HostRuntime) {
 }
 
 /// A write of at least version 1: the letter that is its key, its version, and its weight; or none for a removal.
-type Listed = (u8, u64, Option<u64>);
+pub type Listed = (u8, u64, Option<u64>);
 
 fn listed(rt: &impl Abort, write: Listed) -> Entry {
     let (letter, version, number) = write;
@@ -407,7 +407,7 @@ fn listed(rt: &impl Abort, write: Listed) -> Entry {
     entry(rt, &[letter], version.max(1), slot)
 }
 
-fn all_listed(rt: &impl Abort, alloc: Global, writes: &[Listed]) -> Vec<Entry> {
+pub fn all_listed(rt: &impl Abort, alloc: Global, writes: &[Listed]) -> Vec<Entry> {
     let mut entries = Vec::new(alloc);
     for write in writes {
         push(rt, &mut entries, listed(rt, *write));
