@@ -168,6 +168,14 @@ fn a_swap_brings_in_nothing_up_to_what_was_held(rt: HostRuntime) {
     assert_shows(&rt, &held, [None, None, None, None, set(3)]);
 }
 
+/// Whether an owner has no key, where it is held.
+fn is_empty(holdings: &Holdings, owner: &Name) -> Option<bool> {
+    match holdings.table(owner) {
+        Some(table) => Some(table.is_empty()),
+        None => None,
+    }
+}
+
 /// What a block without entries tells: of a new owner, and of one that is held.
 #[test]
 fn a_block_may_tell_of_a_floor_alone(rt: HostRuntime) {
@@ -175,8 +183,7 @@ fn a_block_may_tell_of_a_floor_alone(rt: HostRuntime) {
     let taken = (BlockEnd::Taken(0), (2, 2, None));
     assert_takes(&rt, rt.alloc(), &mut held, ((2, 0, 2), &[]), taken);
     let owner = name(&rt, b"a");
-    let found = held.table(&owner).map(|table| table.len());
-    same(&rt, &found, &Some(0));
+    same(&rt, &is_empty(&held, &owner), &Some(true));
     let further = (BlockEnd::Taken(0), (4, 2, None));
     assert_takes(&rt, rt.alloc(), &mut held, ((0, 2, 4), &[]), further);
 }
