@@ -26,7 +26,7 @@ mod owners;
 mod reading;
 mod report;
 
-pub use contents::{contents_grow, contents_hold, tables_are_contents};
+pub use contents::{contents_grow, contents_hold, contents_purge, tables_are_contents};
 pub use ends::BlockEnd;
 pub use holdings::Holdings;
 pub use laws::{

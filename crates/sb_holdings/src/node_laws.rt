@@ -1,6 +1,6 @@
 //! How nodes open, and what blocks and more writes leave of them.
 
-ghost use Rattle.std.specs.Prelude.{◌≡◌, ℕ, if◌then◌else◌, nat_eq, List, ◌++◌, Some, None};
+ghost use Rattle.std.specs.Prelude.{◌≡◌, ℕ, ◌≤◌, if◌then◌else◌, nat_eq, List, ◌++◌, length, Some, None};
 ghost use Rattle.std.specs.Ordering.{nat_cmp};
 ghost use Rattle.std.specs.Cmp.Lexicographic.{pointwise, slice_cmp};
 ghost use Rattle.std.specs.FinMap.{FinMap, get};
@@ -29,7 +29,7 @@ pub fn growing_keeps_truth()
 /// of every owner's.
 pub fn opened_nodes_hold()
     ensures table { (writes : List ℕ → List Write) (me : List ℕ) (t : Table) → Holds (writes me) t → NodeHolds writes (opened_node me t) }
-    ensures content { (writes : List ℕ → List Write) (me : List ℕ) (t : Table) → t ≡ content_table 0 (writes me) → NodeHolds writes (opened_node me t) }
+    ensures content { (writes : List ℕ → List Write) (me : List ℕ) (floor : ℕ) (t : Table) → floor ≤ length (writes me) → t ≡ content_table floor (writes me) → NodeHolds writes (opened_node me t) }
     ensures holdings { (me : List ℕ) (t : Table) → IsKeptTable t → IsHoldings (opened_node me t).held }
     ensures plain { (me : List ℕ) (t : Table) → IsPlainTable t → IsPlainHoldings (opened_node me t).held }
 {}
