@@ -147,6 +147,16 @@ in_parts b owner after upto entries is owner_is after_is upto_is entries_is =
     let none = sym (block-plain b is).floor in
     λ i. record { owner = owner_is i; floor = none i; after = after_is i; upto = upto_is i; entries = entries_is i }
 
+-- its entries, where a block of them tells further
+pub run-further : (b : Block) (after upto : ℕ) (entries : List Entry) → is_delta_block b ≡ true → after ≡ b.after → entries ≡ b.entries → b.upto ≤ upto → IsRun after upto entries × (after < upto)
+run-further b after upto entries is after_is entries_is far =
+    let block = IsBlock-delta b is in
+    let run : IsRun b.after upto b.entries = record { ascending = block.run.ascending; most = omega (arith, block.run.most, far); distinct = block.run.distinct } in
+    let order : b.after < upto = omega (arith, block.order, far) in (
+      subst (λ (n : ℕ). IsRun n upto entries) (sym after_is) (subst (λ (es : List Entry). IsRun b.after upto es) (sym entries_is) run),
+      subst (λ (n : ℕ). n < upto) (sym after_is) order,
+    )
+
 all-each : {X : Type 0} (test : X → Bool) (xs : List X) (x : X) → list_all test xs ≡ true → Stands xs x → test x ≡ true
 all-each test [] x all s = absurd s
 all-each test (y ∷ ys) x all (inl same) = sym (ap test same) ∙ (and_parts _ _ all).0

@@ -13,21 +13,22 @@ use std::process::Abort;
 type Range = (u64, u64, u64);
 
 /// How a block of these entries ends, where it tells at least up to its last.
-fn apply_some(rt: &impl Abort, holdings: &mut Holdings, block: &Block, range: Range) -> BlockEnd {
-    let (floor, _, upto) = range;
-    if upto < block.upto() {
-        panic!(rt; "error: no block");
+fn apply_some(holdings: &mut Holdings, block: &Block, floor: u64, upto: u64) -> Option<BlockEnd> {
+    let reach = block.upto();
+    if upto < reach {
+        return None;
     }
-    holdings.apply_parts(block.owner(), floor, block.after(), upto, block.entries())
+    let after = block.after();
+    Some(holdings.apply_parts(block.owner(), floor, after, upto, block.entries()))
 }
 
 /// How a block without entries ends, where it tells of more than what it begins after.
-fn apply_none(rt: &impl Abort, holdings: &mut Holdings, owner: &Name, range: Range) -> BlockEnd {
+fn apply_none(holdings: &mut Holdings, owner: &Name, range: Range) -> Option<BlockEnd> {
     let (floor, after, upto) = range;
     if upto <= after {
-        panic!(rt; "error: no block");
+        return None;
     }
-    holdings.apply_parts(owner, floor, after, upto, &[])
+    Some(holdings.apply_parts(owner, floor, after, upto, &[]))
 }
 
 /// How a block of a's writes ends; where memory ran out, the end of the test.
@@ -37,17 +38,17 @@ fn applied(
     holdings: &mut Holdings,
     range: Range,
     writes: &[Listed],
-) -> BlockEnd {
+) -> Option<BlockEnd> {
     let owner = name(rt, b"a");
     let end = if writes.is_empty() {
-        apply_none(rt, holdings, &owner, range)
+        apply_none(holdings, &owner, range)
     } else {
         let entries = all_listed(rt, alloc, writes);
         let block = got(rt, Block::new(owner, range.1, entries));
-        apply_some(rt, holdings, &block, range)
+        apply_some(holdings, &block, range.0, range.2)
     };
     match end {
-        BlockEnd::NoMemory(_) => panic!(rt; "error: NoMemory"),
+        Some(BlockEnd::NoMemory(_)) => panic!(rt; "error: NoMemory"),
         end => end,
     }
 }
@@ -71,7 +72,8 @@ fn assert_takes(
 ) {
     let (range, writes) = block;
     let end = applied(rt, alloc, holdings, range, writes);
-    same_at(rt, &range, &(end, places(rt, holdings)), &wanted);
+    let found = (end, places(rt, holdings));
+    same_at(rt, &range, &found, &(Some(wanted.0), wanted.1));
 }
 
 /// The version under a letter of a's, and whether it sets the key.
