@@ -7,7 +7,7 @@ ghost use Rattle.sb_types.specs.Runs.{IsTable};
 ghost use Rattle.sb_types.specs.Writes.{Written, Holds};
 ghost use Rattle.sb_table.specs.Plain.{IsPlainTable, with_entry};
 ghost use Rattle.sb_table.specs.Floors.{raised};
-ghost use Rattle.sb_holdings.specs.Contents.{entry_of_write, content_table};
+ghost use Rattle.sb_holdings.specs.Contents.{entry_of_write, content_table, IsContent};
 
 /// What a log of all writes has is true, and is a table.
 pub fn contents_hold()
@@ -27,7 +27,9 @@ pub fn contents_purge()
     ensures { (writes : List Write) (floor more : ℕ) → floor ≤ more → content_table more writes ≡ raised (length writes) more (content_table floor writes) }
 {}
 
-/// Each table without a floor is what a log of some writes has.
+/// Each table without a floor is what a log of some writes has, and so is each that is held no further than its floor or its
+/// last entry.
 pub fn tables_are_contents()
-    ensures { (t : Table) → IsPlainTable t → (writes : List Write) × (content_table 0 writes ≡ t) }
+    ensures plain { (t : Table) → IsPlainTable t → (writes : List Write) × (content_table 0 writes ≡ t) }
+    ensures content { (t : Table) → IsContent t → (writes : List Write) × (content_table t.floor writes ≡ t) }
 {}
