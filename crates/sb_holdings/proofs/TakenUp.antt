@@ -1,5 +1,5 @@
 -- How a block that joins on is taken up.
-use Rattle.std.proofs.Common.{◌≡◌, ℕ, zero, suc, ◌≤◌, ◌<◌, Bool, true, false, cond, ◌&&◌, ◌⊎◌, inl, inr, ⊎_elim, take, length, refl, sym, ap, subst, ◌∙◌, arith, le-leb, lt-ltb, ltb-true, Option, Some, None, IsSomeAnd, nat_eq, nat_lt, nat_le}
+use Rattle.std.proofs.Common.{◌≡◌, ℕ, zero, suc, ◌≤◌, ◌<◌, Bool, true, false, cond, ◌&&◌, ◌⊎◌, List, inl, inr, ⊎_elim, take, length, refl, sym, ap, subst, ◌∙◌, arith, le-leb, lt-ltb, ltb-true, Option, Some, None, IsSomeAnd, nat_eq, nat_lt, nat_le}
 use Rattle.std.proofs.lemmas.Bool.{and_parts, and_from, and_left, cond-true, cond-false, cond_both, false≢true, leb-true, lt-leb}
 use Rattle.std.specs.Cmp.Lexicographic.{pointwise}
 use Rattle.sb_types.specs.Records.{Entry, Table, Stage, Block, Holder}
