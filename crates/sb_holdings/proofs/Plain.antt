@@ -1,6 +1,6 @@
 -- Holdings without floors and stages stay so, and a block ends there by fewer tests.
 use Rattle.std.proofs.Common.{◌≡◌, ℕ, ◌+◌, ◌≤◌, ◌<◌, max, Bool, true, false, not, ◌&&◌, ◌||◌, nat_eq, nat_lt, nat_le, eq-eqb, get_or, unwrap_or, List, [], ◌∷◌, ◌++◌, ◌⊎◌, inl, inr, length, filter, take, Option, Some, None, IfSome, Result, Ok, Err, OnOk, OnErr, refl, sym, ap, subst, ◌∙◌, arith, length-append, append-nil, eqb-true, le-leb, lt-ltb}
-use Rattle.std.proofs.lemmas.Bool.{and_parts, cond_both, cond-false, not-true, false≢true, or_left, leb-true, leb-false}
+use Rattle.std.proofs.lemmas.Bool.{and_parts, cond_both, cond-false, not-true, false≢true, or_left, leb-true, leb-false, le-ltb}
 use Rattle.std.proofs.lemmas.List.{take_more}
 use Rattle.std.proofs.lemmas.List.Elements.{filter_agree}
 use Rattle.std.proofs.lemmas.List.Folds.{list_any-append}
@@ -40,7 +40,7 @@ left_false true y is none = absurd (false≢true (sym none ∙ is))
 left_false false y is none = refl
 
 below_none : (n floor : ℕ) → floor ≡ 0 → nat_lt n floor ≡ false
-below_none n floor zero = ap (nat_lt n) zero
+below_none n floor zero = le-ltb n floor (omega (arith, zero))
 
 third : {A B C : Type 0} → (A × B × C) → C
 third p = p.2
