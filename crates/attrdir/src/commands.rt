@@ -296,7 +296,7 @@ const FANOUT: Part = Part {
     name: "fanout",
     form: Form::NumberOr("3"),
     value: "K",
-    help: "How many nodes it asks at once when it has news, 0 for none",
+    help: "How many nodes it asks right away, one after another, when it has news, 0 for none",
 };
 
 const IDLE: Part = Part {

@@ -105,7 +105,7 @@ the --sock of another node. On --control it answers `set`, `del`, `get` and `wat
 open a socket may use it.
 
 It asks its peers for what it lacks, and gives them what they lack: one a round, in turn, with a --pause after each. When its own owner
-writes, or a peer has news, it asks --fanout of them at once. A peer that keeps it waiting for --dial-idle is passed over in its next seven
+writes, or a peer has news, it asks --fanout of them right away. A peer that keeps it waiting for --dial-idle is passed over in its next seven
 turns. A request that has not come whole within --request is dropped.
 
 Each line on standard error is `attrdir: LEVEL WHAT: ..`, where LEVEL is info, warning or error: the node listens; a peer answers, does

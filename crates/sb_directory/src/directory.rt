@@ -57,8 +57,9 @@ pub struct Directory<S: DirectoryTag, R: Wait + Drop> {
 }
 
 impl<S: DirectoryTag, R: Wait + Drop> Directory<S, R> {
-    /// A directory of a node as it was opened, and its seats, which have seen nothing. It keeps `rt` to wait for readers
-    /// that still read when it publishes. `BadSetting` where there are not 1 to 64 seats; `NoMemory`. Each drops what was
+    /// A directory of a node as it was opened, and its seats, which have seen nothing. `history` is a `NewHistory::new()` and
+    /// `blank` a `Blank::new(seats)`: by these proofs tell the node's events, and count them by seat. It keeps `rt` to wait for
+    /// readers that still read when it publishes. `BadSetting` where there are not 1 to 64 seats; `NoMemory`. Each drops what was
     /// given.
     pub fn make(
         rt: R,
@@ -110,9 +111,11 @@ impl<S: DirectoryTag, R: Wait + Drop> Directory<S, R> {
     }
 
     /// Enters a committed write of the node's own, notes it in watches, and publishes all that happened; gives its version,
-    /// and whether the seat has seen it. Where it has not, the next call that publishes makes up for it. `WrongOwner`,
-    /// `OwnerConflict`, `OutOfTurn` and `TableFull` as of the node; `TurnsSpent` after 2^64 - 1 events; `NoMemory`. Each
-    /// leaves everything as it was, but for the seat's last call.
+    /// and whether the seat has seen it. Where it has not, the next call that publishes makes up for it. `WrongOwner` where the
+    /// write is another's; `OwnerConflict` where a block told of a version under the own name that the node never gave;
+    /// `OutOfTurn` where the write has another version than the next; `TableFull` where its key is new beside 4,096 others,
+    /// removed ones counted; `TurnsSpent` after 2^64 - 1 events; `NoMemory`. Each leaves everything as it was, but for the seat's
+    /// last call.
     pub fn take_own<Q: Wait>(
         &self,
         rt: &Q,
@@ -206,8 +209,9 @@ impl<S: DirectoryTag, R: Wait + Drop> Directory<S, R> {
         self.locked.lock(rt).core_for(rt, seat).keys()
     }
 
-    /// Adds a watch with room for 1 to 1,024 notes, and gives its id. `BadSetting`, `WatchesFull` and `NoMemory` as of
-    /// the watches. Each leaves everything as it was.
+    /// Adds a watch with room for 1 to 1,024 notes, and gives its id, by which any seat may poll it. `BadSetting` where the room
+    /// is outside these; `WatchesFull` where 64 watches stand, or all ids were used; `NoMemory`. Each leaves everything as it
+    /// was. The command `attrdir watch` uses none: it asks for pages.
     pub fn watch<Q: Wait>(&self, rt: &Q, filter: Filter, capacity: usize) -> Result<WatchId, Fault>
         ensures { (hub : Hub) × Gives result (next_id hub capacity) × ((fault : Fault) → next_id hub capacity ≡ Err fault → result ≡ Err fault) }
     {
@@ -234,8 +238,9 @@ impl<S: DirectoryTag, R: Wait + Drop> Directory<S, R> {
         self.locked.lock(rt).refresh(rt, seat)
     }
 
-    /// Publishes all that happened, and gives what the watch answers once the seat has seen it: how many notes it lost, where it
-    /// lost any since it last said so; then its notes, the oldest first; then that none is left. `NoWatch` where no watch with
+    /// Publishes all that happened, lets the seat see it, and gives the watch's next answer, one a call: `Lagged` with how many
+    /// notes it lost since it last said so, where it lost any; else `Note` with its oldest note, which it then no longer has;
+    /// else `Empty`. `NoWatch` where no watch with
     /// the id stands, before anything is published: it is noted as the seat's last call, and nothing else changes. `NoMemory`
     /// where there is none to publish what happened, or the seat cannot enter, and then the note is still to come.
     pub fn poll<Q: Wait>(

@@ -2,8 +2,9 @@
 use sb_holdings::Report;
 use sb_node::NodeCore;
 
-/// A write was entered, under this version. `shown` is true where the seat has seen it. It is false where there was no memory to
-/// publish it, or the seat could not enter: the write stands all the same, and the next call that publishes makes up for it.
+/// A write was entered, under this version, and stands. `shown` is true where the seat has seen it. It is false where there was no
+/// memory to publish it, or the seat could not enter: then it is seen once a `take_own`, `apply`, `refresh` or `poll` from any seat
+/// has published it, and the seat enters.
 #[derive(Clone, Copy, PartialEq, Eq, Debug)]
 pub struct Receipt {
     pub version: u64,

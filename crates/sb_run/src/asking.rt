@@ -11,7 +11,8 @@ use std::alloc::Global;
 use std::io::{Read, Write};
 use std::sync::ledger::Ledger;
 
-/// Sends one request and gives its answer, with at most `max_reads` reads, and says what the last write of the call answered.
+/// Sends one request and gives the message that answers it, a `Refused` as any other, with at most `max_reads` reads; and
+/// says what the last write to the stream answered.
 /// `WriteFailed`, with how many bytes of the request are out; `BadMark`, `BadVersion`, `BadLength`, `UnknownKind` or
 /// `Malformed` of the answer; `ReadFailed`; `Truncated` where no whole answer comes; `TurnsSpent` where one more read is
 /// needed; `NoMemory`.

@@ -129,13 +129,14 @@ fn reply_to<L: WriteLog, S: DirectoryTag, H: Wait + Drop, Q: Wait>(
 }
 
 /// Reads one request, with at most `max_reads` reads, and writes one answer: to an Ask its page, to a Put the version
-/// under which the log took the write in this call, and to either the fault that it met; to any other message the
-/// fault `UnknownKind`. It gives the seat back, and says what the last write of the call answered.
+/// under which the log took the write in this call, also where the directory refused it, and to either the fault that it
+/// met; to any other message the fault `UnknownKind`. It gives the seat back, and says what the last write to the stream
+/// answered.
 ///
 /// `BadMark`, `BadVersion`, `BadLength`, `UnknownKind` or `Malformed` of the request; `ReadFailed`; `Truncated` at an
 /// end before or inside it; `TurnsSpent` where one more read is needed; `NoMemory`. Each of these is before anything
-/// is answered, and leaves all as it was. Then `WriteFailed`, with how many bytes of the answer are out, and
-/// `NoMemory`, with none: what the request did stands.
+/// is answered, and leaves all as it was. `WriteFailed`, with how many bytes of the answer are out, and a `NoMemory` of
+/// sending it, with none, come after the request was done, and that stands: so after `NoMemory` a Put may have been kept.
 pub fn serve_control<
     R: Read,
     W: Write,

@@ -1,4 +1,4 @@
-//! Gates: a session of a pool passes one before it applies a delta, and after it answers a digest.
+//! Gates: a session of a pool passes one before it applies a delta, and before it sends the delta that answers a digest.
 ghost use Rattle.std.specs.Prelude.{◌≡◌, ◌⊎◌, MatchBool};
 
 use sb_digest::Digest;
@@ -11,7 +11,7 @@ use sb_types::{Delta, Fault, Name};
 pub enum GatePoint {
     /// It is about to apply a delta.
     BeforeApply,
-    /// It has made the answer to a digest.
+    /// It has made the delta that answers a digest, and not sent it.
     AfterAnswer,
 }
 

@@ -1,26 +1,27 @@
-//! The running node: it serves its peers and its owner over sockets, and dials its peers.
+//! The running node: it serves its peers and its clients over sockets, and dials its peers.
 //!
 //! `run_node` runs the node that owns a log: workers serve the peers that connect, one thread dials the peers in turn and
-//! where there is news, and the calling thread answers the owner at the control socket. Each write of the owner is in the
+//! where there is news, and the calling thread answers clients at the control socket. Each write of a client is in the
 //! log before the directory takes it. Who has connections of their own serves them by `serve_pool` and `serve_control`, and
 //! asks by `ask_control`.
 //!
 //! ```rust
-//! /// Runs the node `a` over a log in memory, until it has made its rounds.
+//! /// Runs the node of this name over a log in memory, until it has made its rounds.
 //! fn run_in_memory<R: Runtime + Net<Listener = TcpListener, Stream = TcpStream>>(
 //!     rt: &R,
 //!     alloc: Global,
-//!     config: NodeConfig,
+//!     name: Name,
+//!     settings: Settings,
+//!     paths: &Paths,
+//!     pace: Pace,
 //! ) -> Result<Ran, Fault> {
-//!     let name = Name::read(b"a")?;
-//!     let (cluster, most) = (config.settings.cluster(), config.settings.max_version());
-//!     run_node(
-//!         rt,
-//!         alloc,
-//!         config,
-//!         PlainLog::new(alloc, name, cluster, most),
-//!         &Nobody,
-//!     )
+//!     let log = PlainLog::new(alloc, name, settings.cluster(), settings.max_version());
+//!     let config = NodeConfig {
+//!         settings,
+//!         paths: *paths,
+//!         pace,
+//!     };
+//!     run_node(rt, alloc, config, log, &Nobody)
 //! }
 //! ```
 #![tactic(auto)]

@@ -1,4 +1,4 @@
-//! A node that runs: it serves its peers and its owner, and dials its peers.
+//! A node that runs: it serves its peers and its clients, and dials its peers.
 ghost use Rattle.std.specs.Prelude.{◌≡◌, false, None, Err, IfOk, IfErr, IfSome};
 ghost use Rattle.sb_run.specs.Running as spec;
 ghost use Rattle.sb_run.specs.Running.{IsRunningFault};
@@ -21,7 +21,7 @@ use std::sync::ledger::Blank;
 pub struct Paths<'a> {
     /// Where its peers connect.
     pub sock: &'a str,
-    /// Where its owner connects.
+    /// Where its clients connect: who writes its rows, or asks for rows of any owner.
     pub control: &'a str,
     /// Where its peers listen.
     pub peers: &'a [&'a str],
@@ -43,7 +43,7 @@ pub struct Pace {
     pub rounds: u64,
     /// How long it waits after each round in turn, in milliseconds.
     pub pause: u64,
-    /// How many peers it dials at once where it has something new to pass on; 0 for none.
+    /// How many peers it dials one after another, without a pause, where it has something new to pass on; 0 for none.
     pub fanout: u64,
     /// How long a connection may move no byte, in milliseconds; 0 for no limit.
     pub idle: u64,
@@ -94,15 +94,15 @@ fn start_refusal<L: WriteLog>(settings: &Settings, log: &L) -> Option<Fault>
 
 /// Runs the node that owns a log. It binds both sockets, each at a path where no file is or a socket at which nobody
 /// listens, and tells the observer. Workers serve peers on `sock`, as many at once as there are workers. The calling thread
-/// serves the owner on `control`, one connection after another. One more thread dials the peers in turn, one a round, with a
+/// serves clients on `control`, one connection after another. One more thread dials the peers in turn, one a round, with a
 /// pause after each. A round has as many exchanges of digests and deltas as it takes to tell of all owners that the node
 /// holds: one, where the budget has room for a digest of all. A peer that let a round wait for `dial_idle` milliseconds is
 /// passed over in its next seven turns, unless nobody else is left. The observer is told of a round that ended otherwise
 /// than the one before with that peer. After the last round the node ends, once the connections that are open have ended,
 /// and removes what is at the paths of both sockets, also where another put it there since.
 ///
-/// Where its owner wrote, or a peer told of something new, the node dials the next `fanout` peers at once, without a pause,
-/// but for those whose last round had a fault. News that comes within ten milliseconds goes together. These are rounds too.
+/// Where a client wrote, or a peer told of something new, the node dials the next `fanout` peers one after another, without a
+/// pause, but for those whose last round had a fault. News that comes within ten milliseconds goes together. These are rounds too.
 /// With no pause there is no need of them.
 ///
 /// A connection ends with a fault where its peer breaks the rules of a session or of the control socket, where it takes

@@ -9,7 +9,8 @@ pub trait Observer {
     /// Both sockets are bound, and nothing is served or dialed yet. It is told once.
     fn listening(&self);
 
-    /// How a round with the peer at this path ended: `ReadFailed` also where the peer could not be reached. Each peer's first
+    /// How a round with the peer at this path ended: `RoundsDone` where all exchanges of digests of this one round were made;
+    /// `ReadFailed` also where the peer could not be reached. Each peer's first
     /// round is told, and then each that ended otherwise than its round before, be it by another fault; but `WriteFailed` is
     /// not told behind a refusal of the peer's Hello, since it is the same one.
     fn dialed(&self, peer: &str, ended: &Result<Ended, Fault>);

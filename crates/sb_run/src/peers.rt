@@ -67,7 +67,7 @@ impl<'a> Peer<'a> {
         self.path
     }
 
-    /// How the last round with it ended.
+    /// How the last round with it ended; but where that was `WriteFailed` behind a refusal of its Hello, still that refusal.
     pub fn last(&self) -> LastRound {
         self.last
     }

@@ -22,7 +22,7 @@ pub(crate) struct BoundSocket<'a> {
     latch: UnixStream,
 }
 
-/// The sockets of a node: for its peers, and for its owner.
+/// The sockets of a node: for its peers, and for its clients.
 #[derive(Drop)]
 pub(crate) struct BoundSockets<'a> {
     pub(crate) sock: BoundSocket<'a>,

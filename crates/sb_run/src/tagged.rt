@@ -35,7 +35,7 @@ pub(crate) struct NodeStart<L: WriteLog> {
     pub(crate) blank: Blank,
     /// The node as it was opened.
     pub(crate) core: NodeCore,
-    /// Its log, and what the directory owes of it.
+    /// Its log, and the write in it that is still to be handed to the directory.
     pub(crate) writes: OwnWrites<L>,
 }
 

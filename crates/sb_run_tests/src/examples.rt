@@ -1,46 +1,42 @@
 //! The example that stands at the top of the crate of the running node.
-use crate::making::settings;
-use crate::running::pace;
+use crate::making::{name, settings};
+use crate::running::{pace, paths_of, ran_of};
 use crate::{got, same};
 use sb_log::PlainLog;
-use sb_run::{Nobody, NodeConfig, Paths, Ran, Runtime, run_node};
-use sb_types::{Fault, Name};
+use sb_run::{Nobody, NodeConfig, Pace, Paths, Ran, Runtime, run_node};
+use sb_types::{Fault, Name, Settings};
 use std::alloc::Global;
 use std::net::{Net, TcpListener, TcpStream};
 
-/// Runs the node `a` over a log in memory, until it has made its rounds.
+/// Runs the node of this name over a log in memory, until it has made its rounds.
 fn run_in_memory<R: Runtime + Net<Listener = TcpListener, Stream = TcpStream>>(
     rt: &R,
     alloc: Global,
-    config: NodeConfig,
+    name: Name,
+    settings: Settings,
+    paths: &Paths,
+    pace: Pace,
 ) -> Result<Ran, Fault> {
-    let name = Name::read(b"a")?;
-    let (cluster, most) = (config.settings.cluster(), config.settings.max_version());
-    run_node(
-        rt,
-        alloc,
-        config,
-        PlainLog::new(alloc, name, cluster, most),
-        &Nobody,
-    )
+    let log = PlainLog::new(alloc, name, settings.cluster(), settings.max_version());
+    let config = NodeConfig {
+        settings,
+        paths: *paths,
+        pace,
+    };
+    run_node(rt, alloc, config, log, &Nobody)
 }
 
 #[test]
 fn example_of_sb_run(rt: HostRuntime) {
-    let config = NodeConfig {
-        settings: settings(&rt, 3),
-        paths: Paths {
-            sock: "example.sock",
-            control: "example.control",
-            peers: &[],
-        },
-        pace: pace(2, 0),
-    };
-    let ran = got(&rt, run_in_memory(&rt, rt.alloc(), config));
-    let whole = Ran {
-        rounds: 2,
-        faults: 0,
-        events: 0,
-    };
-    same(&rt, &ran, &whole);
+    let paths = paths_of("example.sock", "example.control", &[]);
+    let ran = run_in_memory(
+        &rt,
+        rt.alloc(),
+        name(&rt, b"a"),
+        settings(&rt, 3),
+        &paths,
+        pace(2, 0),
+    );
+    let whole = ran_of(2, 0, 0);
+    same(&rt, &got(&rt, ran), &whole);
 }

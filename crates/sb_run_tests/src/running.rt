@@ -3,9 +3,10 @@
 use crate::making::{name, new_log, settings};
 use crate::peers::{hears_only, next_of, node_with, put_is_done, reach, talk};
 use crate::{got, holds, same};
+use sb_log::PlainLog;
 use sb_run::{Nobody, NodeConfig, Observer, OnLogFault, Pace, Paths, Ran, Runtime, run_node};
 use sb_session::Ended;
-use sb_types::Fault;
+use sb_types::{Fault, Settings};
 use std::alloc::Global;
 use std::fs::File;
 use std::io::{Read, Write};
@@ -95,6 +96,23 @@ pub(crate) fn run_observed<
         pace,
     };
     run_node(rt, alloc, config, log, observer)
+}
+
+/// Runs the node of this log.
+pub(crate) fn run_log<R: Host + Net<Listener = TcpListener, Stream = TcpStream>>(
+    rt: &R,
+    alloc: Global,
+    settings: Settings,
+    paths: &Paths,
+    pace: Pace,
+    log: PlainLog,
+) -> Result<Ran, Fault> {
+    let config = NodeConfig {
+        settings,
+        paths: *paths,
+        pace,
+    };
+    run_node(rt, alloc, config, log, &Nobody)
 }
 
 /// Looks whether the sockets are there once the node listens.

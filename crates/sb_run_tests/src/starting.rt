@@ -3,12 +3,12 @@ ghost use Rattle.std.specs.Prelude.{◌≤◌};
 
 use crate::making::{key, name, new_log, node_of, settings, settings_with, weight};
 use crate::peers::{hears_only, next_of, put_is_done_as, reach, talk};
-use crate::running::{pace, paths_of, ran_of, run_a};
+use crate::running::{pace, paths_of, ran_of, run_a, run_log};
 use crate::waking::silent_b;
 use crate::{got, same};
 use sb_log::{PlainLog, WriteLog};
 use sb_node::NodeCore;
-use sb_run::{Nobody, NodeConfig, Paths, run_node};
+use sb_run::Paths;
 use sb_table::Table;
 use sb_testing::delta_of_write;
 use sb_testing::wire::{HELLO_A, HELLO_AND_BYE_B};
@@ -50,14 +50,16 @@ fn a_node_opens_with_what_its_log_has(rt: HostRuntime) {
     let paths = paths_of("kept.sock", "kept.control", &["kept.b"]);
     let alloc = rt.alloc();
     let listener = got(&rt, UnixListener::bind(&rt, "kept.b"));
-    let config = NodeConfig {
-        settings: settings(&rt, 3),
-        paths,
-        pace: pace(2, 0),
-    };
     let (ran, heard) = thread::join(
         &rt,
-        || run_node(&rt, alloc, config, log_of_two(&rt, alloc), &Nobody),
+        || run_log(
+            &rt,
+            alloc,
+            settings(&rt, 3),
+            &paths,
+            pace(2, 0),
+            log_of_two(&rt, alloc),
+        ),
         || hear_twice(&rt, alloc, &listener, &paths),
     );
     got(&rt, fs::remove_file(&rt, "kept.b"));
@@ -98,14 +100,16 @@ fn as_many_peers_are_served_at_once_as_there_are_workers(rt: HostRuntime) {
     let listener = got(&rt, UnixListener::bind(&rt, "crowd.b"));
     let mut pace = pace(1, 10_000);
     pace.dial_idle = 0;
-    let config = NodeConfig {
-        settings: settings_with(&rt, 1_024, 5, 3),
-        paths,
-        pace,
-    };
     let (ran, left) = thread::join(
         &rt,
-        || run_node(&rt, alloc, config, new_log(&rt, alloc, b"a"), &Nobody),
+        || run_log(
+            &rt,
+            alloc,
+            settings_with(&rt, 1_024, 5, 3),
+            &paths,
+            pace,
+            new_log(&rt, alloc, b"a"),
+        ),
         || {
             let dialed = next_of(&rt, &listener);
             let left = crowd(&rt, paths.sock);

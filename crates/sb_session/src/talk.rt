@@ -24,7 +24,7 @@ pub enum Ended {
     Bye(u8),
     /// The peer's bytes ended between two frames.
     End,
-    /// The rounds are done, and Bye was said.
+    /// All rounds were made, each an exchange of digests, and Bye was said.
     RoundsDone,
 }
 
@@ -218,9 +218,9 @@ pub fn serve<R: Read, W: Write, H: Handler, L: Ledger>(
     (ended, last)
 }
 
-/// Says Hello, and then asks with a digest that wants one in answer, `rounds` times; it answers whatever
-/// comes. A round is done when a digest that wants none in answer was answered. After the last round it
-/// says Bye and ends. At most `max_reads` reads are made. It tells what `serve` tells; the faults of `serve`.
+/// The session of the end that dialed, over a connection that is open: it says Hello, and then asks with a
+/// digest that wants one in answer, `rounds` times; it answers whatever comes. A round is done when a digest
+/// that wants none in answer was answered. After the last round it says Bye and ends. At most `max_reads` reads are made. It tells what `serve` tells; the faults of `serve`.
 pub fn dial<R: Read, W: Write, H: Handler, L: Ledger>(
     alloc: Global,
     reader: &mut R,
