@@ -11,6 +11,10 @@ mod Entering
 mod Writing
 mod Keeping
 mod Naming
+mod Changing
 mod Raising
+mod Flooring
+mod Dropping
+mod Contents
 mod Founding
 mod Whole
