@@ -1,7 +1,5 @@
 -- What an update of the one row that says whose log it is does.
-use Rattle.std.proofs.Common.{◌≡◌, inl, inr, ℕ, ℤ, pos, Bool, true, cond, not, List, [], ◌∷◌, map, drop, append-nil, Option, None, Ok, refl, sym, ap, subst, subst₂, ◌∙◌, arith, int_cmp, is_eq}
-use Rattle.std.proofs.lemmas.Bool.Decides.{nat_tests}
-use Rattle.std.proofs.lemmas.Int.{ints}
+use Rattle.std.proofs.Common.{◌≡◌, inl, inr, ℕ, ℤ, pos, Bool, true, cond, not, List, [], ◌∷◌, map, drop, append-nil, Option, None, Ok, refl, sym, ap, subst, subst₂, ◌∙◌, arith, is_eq}
 use Rattle.sqlite_value.specs.declared.value.Value.{Value}
 use Rattle.sqlite_value.specs.declared.value.Value.TheVariants.{Null, Int}
 use Rattle.sqlite_value.specs.Order.{Row, column, value_cmp}
@@ -30,9 +28,7 @@ use Rattle.sb_log.specs.Opening.{meta_cells, meta_row, IsNamedIn}
 use Rattle.sb_log.specs.Standing.{IsReady}
 use Rattle.sb_log.proofs.Making.{went, same_value, commits}
 use Rattle.sb_log.proofs.Naming.{source, one_named, cell}
-
-int_same : (n : ℤ) → is_eq (int_cmp n n) ≡ true
-int_same n = grind (arith, ints, nat_tests)
+use Rattle.sb_log.proofs.Updating.{int_same}
 
 apart : ◌≡◌ {A = ℕ} 1 0 → ⊥
 apart e = absurd (omega (arith, e))

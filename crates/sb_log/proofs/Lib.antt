@@ -8,6 +8,7 @@ mod Upserting
 mod Unique
 mod Updating
 mod Entering
+mod Numbering
 mod Writing
 mod Keeping
 mod Naming
