@@ -9,7 +9,7 @@ ghost use Rattle.sqlite.specs.Effect.{IsDatabase};
 ghost use Rattle.sqlite.specs.State.{HasCleanDisk};
 ghost use Rattle.sqlite_catalog.specs.Listing.{IsSound};
 ghost use Rattle.sb_types.specs.Records as records;
-ghost use Rattle.sb_table.specs.Plain.{plain_table};
+ghost use Rattle.sb_table.specs.Plain.{IsPlainTable, plain_table};
 ghost use Rattle.sb_log.specs.Form.{no_schema, meta_schema, log_schema, schema_with};
 ghost use Rattle.sb_log.specs.Opening.{meta_cells, meta_row, meta_found, IsForm, IsFormOf, IsNamedIn, Completes, Opens, Grows, Founds, IsWant, IsOpeningFault};
 ghost use Rattle.sb_log.specs.Rows.{AreRowsOf};
@@ -37,6 +37,7 @@ pub(crate) fn open_tables<S: Alter>(
     ensures opens { HasCleanDisk (state S.Store conn.new) → IfOk result (Opens owner.now cluster.now (state S.Store conn.old).now) }
     ensures ready { HasCleanDisk (state S.Store conn.new) → OnOk result (IsReady (state S.Store conn.new)) }
     ensures rows { HasCleanDisk (state S.Store conn.new) → IfOk result (λ t. AreRowsOf t ((state S.Store conn.new).now.trees 1)) }
+    ensures plain { IfOk result IsPlainTable }
     ensures meta { HasCleanDisk (state S.Store conn.new)
         → OnOk result (IsNamedIn 2 owner.now cluster.now 0 0 ((state S.Store conn.new).now.trees 0)) }
     // What is refused is refused again: at most the tables that were missing are made.
@@ -68,6 +69,7 @@ fn open_new<S: Alter>(
 ) -> Result<Table, Fault>
     ensures rows { HasCleanDisk (state S.Store conn.new) → IsReady (state S.Store conn.old)
         → IfOk result (λ t. AreRowsOf t ((state S.Store conn.old).now.trees 1)) }
+    ensures plain { IfOk result IsPlainTable }
     ensures empty { IfOk result (λ t. t ≡ plain_table []) }
     ensures ready { HasCleanDisk (state S.Store conn.new) → IsReady (state S.Store conn.old) → OnOk result (IsReady (state S.Store conn.new)) }
     ensures same { HasCleanDisk (state S.Store conn.new) → IsReady (state S.Store conn.old)
@@ -105,6 +107,7 @@ fn open_old<S: Alter>(
 ) -> Result<Table, Fault>
     ensures rows { HasCleanDisk (state S.Store conn.new) → IsReady (state S.Store conn.old)
         → IfOk result (λ t. AreRowsOf t ((state S.Store conn.old).now.trees 1)) }
+    ensures plain { IfOk result IsPlainTable }
     ensures ready { HasCleanDisk (state S.Store conn.new) → IsReady (state S.Store conn.old) → map meta_cells ((state S.Store conn.old).now.trees 0) ≡ row.now ∷ []
         → OnOk result (IsReady (state S.Store conn.new)) }
     ensures same { HasCleanDisk (state S.Store conn.new) → IsReady (state S.Store conn.old) → map meta_cells ((state S.Store conn.old).now.trees 0) ≡ row.now ∷ []
@@ -140,6 +143,7 @@ fn read_whole<S: Alter>(
 ) -> Result<Table, Fault>
     ensures rows { HasCleanDisk (state S.Store conn.new) → IsReady (state S.Store conn.old)
         → IfOk result (λ t. AreRowsOf t ((state S.Store conn.old).now.trees 1)) }
+    ensures plain { IfOk result IsPlainTable }
     ensures ready { HasCleanDisk (state S.Store conn.new) → IsReady (state S.Store conn.old)
         → OnOk result (IsReady (state S.Store conn.new) × ((state S.Store conn.new).now ≡ (state S.Store conn.old).now)) }
     ensures all { OnOk result (has_forgotten ≡ false) }
