@@ -238,7 +238,7 @@ fn sets_text(slot: &Slot) -> bool
 #[tactic(auto, using(crate::proofs::Cells::not_found, crate::proofs::Cells::added, crate::proofs::Whole::none_there))]
 fn add(table: &mut Table, entry: Entry) -> Result<(), Fault>
     ensures added { OnOk result (table.new.entries ≡ table.old.entries ++ entry ∷ []) }
-    ensures plain { IsPlainTable table.new }
+    ensures plain { IsPlainTable table.old → IsPlainTable table.new }
     ensures whole { table.old.held < entry.version → has_key entry.key table.old.entries ≡ false → length table.old.entries < KEYS_MOST
         → IfErr result (λ fault. fault ≡ Fault.NoMemory) }
     ensures fault { IfErr result (λ fault. (fault ≡ Fault.NoMemory) ⊎ (fault ≡ Fault.LogDamaged)) }

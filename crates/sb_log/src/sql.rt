@@ -48,7 +48,7 @@ impl<S: Alter> Model for SqlLog<S> {
 
     ghost view = { λ l. record { owner = l.owner; cluster = l.cluster; most = l.max_version; is_open = l.is_open; conn = l.conn } };
 
-    // No log is opened yet with a floor.
+    // No log has a floor yet.
     ghost invariant = { λ l. IsKept S.Store l.owner l.cluster l.conn l.table l.is_open × (l.max_version ≤ VERSION_MOST) × IsPlainTable l.table };
 }
 
