@@ -1,9 +1,11 @@
 //! The statements that raise a log's floor, each of which commits by itself.
-ghost use Rattle.std.specs.Prelude.{◌≡◌, ℕ, List, ◌<◌, ◌≤◌, ◌^◌, ◌⊎◌, pos, IfErr, OnOk};
+ghost use Rattle.std.specs.Prelude.{◌≡◌, ℕ, List, ◌<◌, ◌≤◌, ◌^◌, ◌⊎◌, [], ◌∷◌, pos, IfErr, OnOk};
+ghost use Rattle.sqlite_value.specs.declared.value.Value.TheVariants.{Int};
 ghost use Rattle.sqlite_trees.specs.Tree.{Trees};
 ghost use Rattle.sqlite_trees.specs.View.{doubt};
 ghost use Rattle.sqlite.specs.Held.{state};
 ghost use Rattle.sqlite.specs.State.{HasCleanDisk};
+ghost use Rattle.sqlite.specs.Values.{bound};
 ghost use Rattle.sqlite_catalog.specs.Listing.{IsSound};
 ghost use Rattle.sb_types.specs.Records as records;
 ghost use Rattle.sb_log.specs.Form.{log_schema};
@@ -63,7 +65,7 @@ fn write_floor<S: Alter>(conn: &mut Connection<S>, last: u64, floor: u64) -> Res
 {
     match conn.execute(
         "UPDATE meta SET last = ?1, floor = ?2",
-        &[ValueRef::Int(signed(last)), ValueRef::Int(signed(floor))],
+        &both_numbers(last, floor),
     ) {
         Ok(_) => Ok(()),
         Err(_) => Err(Fault::StoreFailed),
@@ -87,17 +89,26 @@ fn drop_removals<S: Alter>(conn: &mut Connection<S>, floor: u64) -> Result<(), F
 {
     match conn.execute(
         "DELETE FROM writes WHERE tag = 0 AND version <= ?1",
-        &[ValueRef::Int(signed(floor))],
+        &one_number(floor),
     ) {
         Ok(_) => Ok(()),
         Err(_) => Err(Fault::StoreFailed),
     }
 }
 
-/// A number as a column holds it.
-fn signed(number: u64) -> i64
-    requires { number < 2 ^ 63 }
-    ensures { result ≡ pos number }
+/// The parameters that say a last version and a floor.
+fn both_numbers(last: u64, floor: u64) -> [ValueRef<'static>; 2]
+    requires last { last < 2 ^ 63 }
+    requires floor { floor < 2 ^ 63 }
+    ensures { bound result ≡ Int (pos last) ∷ Int (pos floor) ∷ [] }
 {
-    number as i64
+    [ValueRef::Int(last as i64), ValueRef::Int(floor as i64)]
+}
+
+/// The parameter that says a floor.
+fn one_number(floor: u64) -> [ValueRef<'static>; 1]
+    requires { floor < 2 ^ 63 }
+    ensures { bound result ≡ Int (pos floor) ∷ [] }
+{
+    [ValueRef::Int(floor as i64)]
 }
