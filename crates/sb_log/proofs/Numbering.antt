@@ -1,5 +1,5 @@
 -- That no rowid stands twice, row by row.
-use Rattle.std.proofs.Common.{◌≡◌, ◌≢◌, ◌≤◌, ◌<◌, ◌+◌, ℕ, zero, suc, ℤ, Bool, true, false, cond, ◌||◌, true≢false, List, [], ◌∷◌, ◌++◌, length, get_or, take, filter, refl, sym, ap, subst, ◌∙◌, arith, int_cmp, is_eq}
+use Rattle.std.proofs.Common.{◌≡◌, ◌≢◌, ◌≤◌, ◌<◌, ◌+◌, ℕ, zero, suc, ℤ, Bool, true, false, not, cond, ◌||◌, true≢false, List, [], ◌∷◌, ◌++◌, length, get_or, take, filter, refl, sym, ap, subst, ◌∙◌, arith, int_cmp, is_eq}
 use Rattle.std.specs.List.{list_any}
 use Rattle.std.proofs.lemmas.List.{take_more}
 use Rattle.std.proofs.lemmas.List.Filters.{length-filter_more}
@@ -40,6 +40,14 @@ fewer_taken p (suc n) (r ∷ rows) =
     let later = fewer_taken p n rows in
     elim (p r) as (λ b. length (cond b (r ∷ filter p (take n rows)) (filter p (take n rows))) ≤ length (cond b (r ∷ filter p rows) (filter p rows))) [ true ↦ omega (arith, later) | false ↦ later ]
 
+pub was_there : (b x : Bool) → b ≡ not x → b ≡ false → x ≡ true
+was_there b true is no = refl
+was_there b false is no = absurd (true≢false (sym is ∙ no))
+
+pub was_missing : (b x : Bool) → b ≡ not x → b ≡ true → x ≡ false
+was_missing b true is yes = absurd (true≢false (sym yes ∙ is))
+was_missing b false is yes = refl
+
 -- the rowids that were seen are those of the first rows, of which none stands twice
 abbrev pub AreSeen : (ℤ → Bool) → List Row → Type 0
 AreSeen seen rows = ((n : ℤ) → seen n ≡ list_any (has_rowid n) rows) × AreNumberedApart rows
@@ -75,12 +83,22 @@ module _ (rows : List Row) (at : ℕ) (row : Row) (low : at < length rows) (is :
           go : (n : ℤ) (b : Bool) → has_rowid n row ≡ b → length (filter (has_rowid n) (take (at + 1) rows)) ≤ 1
           go n true has =
               let none : list_any (has_rowid n) (take at rows) ≡ false = subst (λ (m : ℤ). list_any (has_rowid m) (take at rows) ≡ false) (one_number n has) (sym (are.0 k) ∙ missing) in
-              omega (arith, count (has_rowid n), ap (λ (b : Bool). cond b 1 0) has, none_filtered (has_rowid n) (take at rows) none)
-          go n false has = omega (arith, count (has_rowid n), ap (λ (b : Bool). cond b 1 0) has, are.1 n)
+              omega (arith, count (has_rowid n), ap {B = ℕ} (λ (b : Bool). cond b 1 0) has, none_filtered (has_rowid n) (take at rows) none)
+          go n false has = omega (arith, count (has_rowid n), ap {B = ℕ} (λ (b : Bool). cond b 1 0) has, are.1 n)
 
       -- where it was not
       pub seen_twice : seen k ≡ true → AreNumberedApart rows → ⊥
       seen_twice there once =
           let some = some_filtered (has_rowid k) (take at rows) (sym (are.0 k) ∙ there) in
           let here : has_rowid k row ≡ true = has_is k ∙ int_same k in
-          absurd (omega (arith, some, once k, fewer_taken (has_rowid k) (at + 1) rows, count (has_rowid k), ap (λ (b : Bool). cond b 1 0) here))
+          absurd (omega (arith, some, once k, fewer_taken (has_rowid k) (at + 1) rows, count (has_rowid k), ap {B = ℕ} (λ (b : Bool). cond b 1 0) here))
+
+-- the first rows are all
+pub whole_apart : (rows : List Row) (at : ℕ) → length rows ≤ at → AreNumberedApart (take at rows) → AreNumberedApart rows
+whole_apart rows at all once = subst AreNumberedApart (take_all rows at all) once
+  where
+    take_all : (rows : List Row) (at : ℕ) → length rows ≤ at → take at rows ≡ rows
+    take_all [] zero all = refl
+    take_all [] (suc at) all = refl
+    take_all (r ∷ rows) zero all = absurd (omega arith)
+    take_all (r ∷ rows) (suc at) all = ap (λ (l : List Row). r ∷ l) (take_all rows at (omega arith))
