@@ -41,12 +41,12 @@ fewer_taken p (suc n) (r ∷ rows) =
     elim (p r) as (λ b. length (cond b (r ∷ filter p (take n rows)) (filter p (take n rows))) ≤ length (cond b (r ∷ filter p rows) (filter p rows))) [ true ↦ omega (arith, later) | false ↦ later ]
 
 pub was_there : (b x : Bool) → b ≡ not x → b ≡ false → x ≡ true
-was_there b true is no = refl
-was_there b false is no = absurd (true≢false (sym is ∙ no))
+was_there b true is off = refl
+was_there b false is off = absurd (true≢false (sym is ∙ off))
 
 pub was_missing : (b x : Bool) → b ≡ not x → b ≡ true → x ≡ false
-was_missing b true is yes = absurd (true≢false (sym yes ∙ is))
-was_missing b false is yes = refl
+was_missing b true is on = absurd (true≢false (sym on ∙ is))
+was_missing b false is on = refl
 
 -- the rowids that were seen are those of the first rows, of which none stands twice
 abbrev pub AreSeen : (ℤ → Bool) → List Row → Type 0
