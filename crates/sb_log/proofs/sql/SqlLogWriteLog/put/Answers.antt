@@ -64,3 +64,14 @@ returns-in-Err-write_entry-clause-crash g c clean up =
     rw (← c.self.view_is)
     (survives g.S.Store g.met.S.Store.settled i.owner i.cluster i.max_version i.is_open c.if-not-self.false i.conn i.table c.self.invariant.0 c.args.key.now c.args.slot.now w.new.conn w.ensures.clean c.in-Ok.entry
     a.entry a.fits w.ensures.crash clean)
+
+pub invariant_of-self-in-Ok-write_entry : goal.invariant_of-self-in-Ok-write_entry
+invariant_of-self-in-Ok-write_entry g c =
+    let i = c.self.inside in
+    let a = c.in-Ok.ensures in
+    let w = c.write_entry in (
+      now_kept g.S.Store g.met.S.Store.settled i.owner i.cluster i.max_version i.is_open c.if-not-self.false i.conn i.table c.self.invariant.0 c.args.key.now c.args.slot.now w.new.conn w.ensures.clean c.in-Ok.entry
+          a.entry a.fits c.accept.new.table a.entered c.in-Ok-write_entry.ensures.enters c.in-Ok-write_entry.ensures.ready c.in-Ok-write_entry.ensures.meta,
+      c.self.invariant.1,
+      a.plain c.self.invariant.2,
+    )
