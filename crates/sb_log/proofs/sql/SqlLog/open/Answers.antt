@@ -1,4 +1,4 @@
-use Rattle.std.proofs.Common.{sym, subst}
+use Rattle.std.proofs.Common.{rules, sym, subst}
 use Rattle.sqlite.specs.Held.{state}
 use Rattle.sb_log.specs.Opening.{Opens}
 use Rattle.sb_log.proofs.Contents.{holds_plain, plain_content}
@@ -18,3 +18,11 @@ returns-clause-settled g c =
 
 pub returns-in-Err-clause-whole : goal.returns-in-Err-clause-whole
 returns-in-Err-clause-whole g c t opens clean = c.in-Err.ensures.whole clean t opens
+
+pub invariant_of-result : goal.invariant_of-result
+invariant_of-result g c =
+    let o = c.in-Ok.ensures in (
+      λ _ clean. (o.ready clean, holds_plain c.args.owner c.args.cluster c.in-Ok.table (state g.S.Store c.open_tables.new.conn).now.trees (o.meta clean) (o.rows clean)),
+      search rules,
+      o.plain,
+    )
