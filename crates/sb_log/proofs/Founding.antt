@@ -53,7 +53,7 @@ module _ (owner cluster : List ℕ) (old mid : Database) (shown : List Row) (all
       }
   opens_new (Err fault) none rows empty = tt
 
-  pub opens_old : (result : Result Table Fault) (row : Row) → shown ≡ row ∷ [] → IfOk result (λ t. (form : ℕ) × IsFormOf form t × (row ≡ meta_row form owner cluster))
+  pub opens_old : (result : Result Table Fault) (row : Row) → shown ≡ row ∷ [] → IfOk result (λ t. (form : ℕ) × IsFormOf form t × (row ≡ meta_row form owner cluster 0 0))
       → IfOk result (λ t. AreRowsOf t (read.trees 1))
       → IfOk result (Opens owner cluster old)
   opens_old (Ok t) row one is rows =
@@ -113,7 +113,7 @@ module _ (owner cluster : List ℕ) (old mid : Database) (t : Table) (all : Comp
   still_meta : IsMetaOf owner cluster t (mid.trees 0)
   still_meta = subst (IsMetaOf owner cluster t) (ap (λ (m : Made). meta_found m old.trees) one_made ∙ sym all.meta) opens.meta
 
-  pub still_named : (row : Row) → map meta_cells (mid.trees 0) ≡ row ∷ [] → (form : ℕ) × IsFormOf form t × (row ≡ meta_row form owner cluster)
+  pub still_named : (row : Row) → map meta_cells (mid.trees 0) ≡ row ∷ [] → (form : ℕ) × IsFormOf form t × (row ≡ meta_row form owner cluster 0 0)
   still_named row one = elim still_meta [
     | inl none ↦ absurd (let e = sym (ap (map meta_cells) none) ∙ one in cc)
     | inr named ↦ (named.0, named.1, (let e = sym one ∙ named.2 in cc))
@@ -132,7 +132,7 @@ or_grows owner cluster found db (inl was) = inl was
 or_grows owner cluster found db (inr grows) = inr (inl grows)
 
 pub names_too : (owner cluster : List ℕ) (old mid read : Database) (db : Trees) → Completes old mid → read ≡ mid → mid.trees 0 ≡ []
-    → IsSound log_schema db × (db 1 ≡ read.trees 1) × IsNamedIn 2 owner cluster (db 0) → Founds owner cluster old db
+    → IsSound log_schema db × (db 1 ≡ read.trees 1) × IsNamedIn 2 owner cluster 0 0 (db 0) → Founds owner cluster old db
 names_too owner cluster old mid read db all kept none names =
     inr (inl (record {
       made = all.made;
@@ -144,7 +144,7 @@ names_too owner cluster old mid read db all kept none names =
     }))
 
 pub raises_too : (owner cluster : List ℕ) (old mid read : Database) (db : Trees) (row : Row) → Completes old mid → read ≡ mid → map meta_cells (mid.trees 0) ≡ row ∷ []
-    → (row ≡ meta_row 1 owner cluster) × IsSound log_schema db × (db 1 ≡ read.trees 1) × IsNamedIn 2 owner cluster (db 0) → Founds owner cluster old db
+    → (row ≡ meta_row 1 owner cluster 0 0) × IsSound log_schema db × (db 1 ≡ read.trees 1) × IsNamedIn 2 owner cluster 0 0 (db 0) → Founds owner cluster old db
 raises_too owner cluster old mid read db row all kept one raises =
     inr (inr (record {
       made = all.made;

@@ -20,13 +20,13 @@ use Rattle.sb_log.specs.Rows.{has_texts, AreRowsOf}
 abbrev pub meta_cells : Row → Row
 meta_cells row = rowid row ∷ column row 2 ∷ column row 3 ∷ column row 4 ∷ column row 5 ∷ column row 6 ∷ []
 
--- of this form, with no version that was forgotten
-abbrev pub meta_row : ℕ → List ℕ → List ℕ → Row
-meta_row form owner cluster = Int (pos 1) ∷ Int (pos form) ∷ Text owner ∷ Text cluster ∷ Int (pos 0) ∷ Int (pos 0) ∷ []
+-- of this form, with this last version and this floor
+abbrev pub meta_row : ℕ → List ℕ → List ℕ → ℕ → ℕ → Row
+meta_row form owner cluster last floor = Int (pos 1) ∷ Int (pos form) ∷ Text owner ∷ Text cluster ∷ Int (pos last) ∷ Int (pos floor) ∷ []
 
--- the one row says that it is this owner's log, of this cluster, in this form
-abbrev pub IsNamedIn : ℕ → List ℕ → List ℕ → List Row → Type 0
-IsNamedIn form owner cluster rows = map meta_cells rows ≡ meta_row form owner cluster ∷ []
+-- the one row says that it is this owner's log, of this cluster, in this form, with this last version and this floor
+abbrev pub IsNamedIn : ℕ → List ℕ → List ℕ → ℕ → ℕ → List Row → Type 0
+IsNamedIn form owner cluster last floor rows = map meta_cells rows ≡ meta_row form owner cluster last floor ∷ []
 
 -- the forms that are read; the second is that of every log that was opened
 abbrev pub IsForm : ℕ → Type 0
@@ -37,12 +37,12 @@ abbrev pub IsFormOf : ℕ → Table → Type 0
 IsFormOf form content = ((form ≡ 1) × (has_texts content ≡ false)) ⊎ (form ≡ 2)
 
 -- the same in a form that is read and has this content
-abbrev pub IsNamed : List ℕ → List ℕ → Table → List Row → Type 0
-IsNamed owner cluster content rows = (form : ℕ) × IsFormOf form content × IsNamedIn form owner cluster rows
+abbrev pub IsNamed : List ℕ → List ℕ → Table → ℕ → ℕ → List Row → Type 0
+IsNamed owner cluster content last floor rows = (form : ℕ) × IsFormOf form content × IsNamedIn form owner cluster last floor rows
 
--- it says so, or there is no row yet
+-- it says so, with no last version of its own and no floor, since no opening takes another yet; or there is no row yet
 abbrev pub IsMetaOf : List ℕ → List ℕ → Table → List Row → Type 0
-IsMetaOf owner cluster content rows = (rows ≡ []) ⊎ IsNamed owner cluster content rows
+IsMetaOf owner cluster content rows = (rows ≡ []) ⊎ IsNamed owner cluster content 0 0 rows
 
 -- the rows of each table, and none of a table that is not there
 abbrev pub meta_found : Made → Trees → List Row
@@ -88,16 +88,16 @@ pub record Names (owner cluster : List ℕ) (found : Database) (db : Trees) : Ty
   pub schema : found.schema ≡ schema_with made
   pub none : meta_found made found.trees ≡ []
   pub sound : IsSound log_schema db
-  pub meta : IsNamedIn 2 owner cluster (db 0)
+  pub meta : IsNamedIn 2 owner cluster 0 0 (db 0)
   pub rows : db 1 ≡ writes_found made found.trees
 
 -- what was found is there, but that the owner's log, which was of form 1, is of form 2
 pub record Raises (owner cluster : List ℕ) (found : Database) (db : Trees) : Type 0 where
   pub made : Made
   pub schema : found.schema ≡ schema_with made
-  pub older : IsNamedIn 1 owner cluster (meta_found made found.trees)
+  pub older : IsNamedIn 1 owner cluster 0 0 (meta_found made found.trees)
   pub sound : IsSound log_schema db
-  pub meta : IsNamedIn 2 owner cluster (db 0)
+  pub meta : IsNamedIn 2 owner cluster 0 0 (db 0)
   pub rows : db 1 ≡ writes_found made found.trees
 
 -- what an opening may commit

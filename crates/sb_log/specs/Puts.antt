@@ -7,6 +7,7 @@ use Rattle.sb_types.specs.declared.fault.Fault.TheVariants.{NoMemory, TableFull,
 use Rattle.sb_types.specs.Records.{Entry, Table}
 use Rattle.sb_types.specs.Runs.{shown_at}
 use Rattle.sb_table.specs.Plain.{IsPlainTable, plain_table, with_entry, is_full_for}
+use Rattle.sb_table.specs.Floors.{raised}
 use Rattle.sb_log.specs.Records.{Committed, Log}
 
 -- the write, with the next version
@@ -32,6 +33,10 @@ refusal most content key slot =
 -- the content with the write
 abbrev pub next_content : Log → List ℕ → Slot → Table
 next_content log key slot = with_entry log.content (next_entry log.content key slot)
+
+-- the content once its floor is as high as this: the removals up to it go
+abbrev pub purged : ℕ → Table → Table
+purged floor content = if nat_le floor content.floor then content else raised content.held floor content
 
 -- a log of nothing
 abbrev pub new_log : List ℕ → List ℕ → ℕ → Log

@@ -20,7 +20,7 @@ pub(crate) fn accept(
     ensures fits { OnOk result (spec.refusal max_version table.old key.now slot.now ≡ None) }
     ensures entry { IfOk result (λ e. e ≡ spec.next_entry table.old key.now slot.now) }
     ensures entered { IfOk result (λ e. table.new ≡ with_entry table.old e) }
-    ensures plain { OnOk result (IsPlainTable table.new) }
+    ensures plain { IsPlainTable table.old → IsPlainTable table.new }
     ensures limits { IfOk result (λ e. is_entry e ≡ true) }
     ensures version { IfOk result (λ e. e.version ≤ max_version) }
     ensures err { OnErr result (table.new ≡ table.old) }

@@ -20,6 +20,7 @@ mod committed;
 mod log;
 mod opening;
 mod plain;
+mod purging;
 mod rows;
 mod schema;
 mod sql;

@@ -9,7 +9,7 @@ ghost use Rattle.sqlite.specs.Effect.{IsDatabase};
 ghost use Rattle.sqlite.specs.State.{HasCleanDisk};
 ghost use Rattle.sqlite_catalog.specs.Listing.{IsSound};
 ghost use Rattle.sb_types.specs.Records as records;
-ghost use Rattle.sb_table.specs.Plain.{plain_table};
+ghost use Rattle.sb_table.specs.Plain.{IsPlainTable, plain_table};
 ghost use Rattle.sb_log.specs.Form.{no_schema, meta_schema, log_schema, schema_with};
 ghost use Rattle.sb_log.specs.Opening.{meta_cells, meta_row, meta_found, IsForm, IsFormOf, IsNamedIn, Completes, Opens, Grows, Founds, IsWant, IsOpeningFault};
 ghost use Rattle.sb_log.specs.Rows.{AreRowsOf};
@@ -37,8 +37,9 @@ pub(crate) fn open_tables<S: Alter>(
     ensures opens { HasCleanDisk (state S.Store conn.new) → IfOk result (Opens owner.now cluster.now (state S.Store conn.old).now) }
     ensures ready { HasCleanDisk (state S.Store conn.new) → OnOk result (IsReady (state S.Store conn.new)) }
     ensures rows { HasCleanDisk (state S.Store conn.new) → IfOk result (λ t. AreRowsOf t ((state S.Store conn.new).now.trees 1)) }
+    ensures plain { IfOk result IsPlainTable }
     ensures meta { HasCleanDisk (state S.Store conn.new)
-        → OnOk result (IsNamedIn 2 owner.now cluster.now ((state S.Store conn.new).now.trees 0)) }
+        → OnOk result (IsNamedIn 2 owner.now cluster.now 0 0 ((state S.Store conn.new).now.trees 0)) }
     // What is refused is refused again: at most the tables that were missing are made.
     ensures refused { HasCleanDisk (state S.Store conn.new) → IfErr result (λ fault. fault ≢ Fault.StoreFailed
         → ((state S.Store conn.new).now ≡ (state S.Store conn.old).now) ⊎ Completes (state S.Store conn.old).now (state S.Store conn.new).now) }
@@ -68,17 +69,18 @@ fn open_new<S: Alter>(
 ) -> Result<Table, Fault>
     ensures rows { HasCleanDisk (state S.Store conn.new) → IsReady (state S.Store conn.old)
         → IfOk result (λ t. AreRowsOf t ((state S.Store conn.old).now.trees 1)) }
+    ensures plain { IfOk result IsPlainTable }
     ensures empty { IfOk result (λ t. t ≡ plain_table []) }
     ensures ready { HasCleanDisk (state S.Store conn.new) → IsReady (state S.Store conn.old) → OnOk result (IsReady (state S.Store conn.new)) }
     ensures same { HasCleanDisk (state S.Store conn.new) → IsReady (state S.Store conn.old)
         → OnOk result ((state S.Store conn.new).now.trees 1 ≡ (state S.Store conn.old).now.trees 1) }
     ensures meta { HasCleanDisk (state S.Store conn.new) → IsReady (state S.Store conn.old) → (state S.Store conn.old).now.trees 0 ≡ []
-        → OnOk result (IsNamedIn 2 owner.now cluster.now ((state S.Store conn.new).now.trees 0)) }
+        → OnOk result (IsNamedIn 2 owner.now cluster.now 0 0 ((state S.Store conn.new).now.trees 0)) }
     ensures refused { HasCleanDisk (state S.Store conn.new) → IsReady (state S.Store conn.old)
         → IfErr result (λ fault. fault ≢ Fault.StoreFailed → (state S.Store conn.new).now ≡ (state S.Store conn.old).now) }
     ensures crash { HasCleanDisk (state S.Store conn.new) → IsReady (state S.Store conn.old) → (state S.Store conn.old).now.trees 0 ≡ []
         → (db : Trees) → (state S.Store conn.new).may_leave db
-        → (state S.Store conn.old).may_leave db ⊎ (IsSound log_schema db × (db 1 ≡ (state S.Store conn.old).now.trees 1) × IsNamedIn 2 owner.now cluster.now (db 0)) }
+        → (state S.Store conn.old).may_leave db ⊎ (IsSound log_schema db × (db 1 ≡ (state S.Store conn.old).now.trees 1) × IsNamedIn 2 owner.now cluster.now 0 0 (db 0)) }
     ensures whole { HasCleanDisk (state S.Store conn.new) → IsReady (state S.Store conn.old)
         → (t : records.Table) → AreRowsOf t ((state S.Store conn.old).now.trees 1) → t ≡ plain_table [] → IfErr result IsWant }
     ensures clean { doubt (state S.Store conn.old).is_clean ≤ doubt (state S.Store conn.new).is_clean }
@@ -105,19 +107,20 @@ fn open_old<S: Alter>(
 ) -> Result<Table, Fault>
     ensures rows { HasCleanDisk (state S.Store conn.new) → IsReady (state S.Store conn.old)
         → IfOk result (λ t. AreRowsOf t ((state S.Store conn.old).now.trees 1)) }
+    ensures plain { IfOk result IsPlainTable }
     ensures ready { HasCleanDisk (state S.Store conn.new) → IsReady (state S.Store conn.old) → map meta_cells ((state S.Store conn.old).now.trees 0) ≡ row.now ∷ []
         → OnOk result (IsReady (state S.Store conn.new)) }
     ensures same { HasCleanDisk (state S.Store conn.new) → IsReady (state S.Store conn.old) → map meta_cells ((state S.Store conn.old).now.trees 0) ≡ row.now ∷ []
         → OnOk result ((state S.Store conn.new).now.trees 1 ≡ (state S.Store conn.old).now.trees 1) }
-    ensures found { IfOk result (λ t. (form : ℕ) × IsFormOf form t × (row.now ≡ meta_row form owner.now cluster.now)) }
+    ensures found { IfOk result (λ t. (form : ℕ) × IsFormOf form t × (row.now ≡ meta_row form owner.now cluster.now 0 0)) }
     ensures meta { HasCleanDisk (state S.Store conn.new) → IsReady (state S.Store conn.old) → map meta_cells ((state S.Store conn.old).now.trees 0) ≡ row.now ∷ []
-        → OnOk result (IsNamedIn 2 owner.now cluster.now ((state S.Store conn.new).now.trees 0)) }
+        → OnOk result (IsNamedIn 2 owner.now cluster.now 0 0 ((state S.Store conn.new).now.trees 0)) }
     ensures refused { HasCleanDisk (state S.Store conn.new) → IsReady (state S.Store conn.old)
         → IfErr result (λ fault. fault ≢ Fault.StoreFailed → (state S.Store conn.new).now ≡ (state S.Store conn.old).now) }
     ensures crash { HasCleanDisk (state S.Store conn.new) → IsReady (state S.Store conn.old) → map meta_cells ((state S.Store conn.old).now.trees 0) ≡ row.now ∷ []
         → (db : Trees) → (state S.Store conn.new).may_leave db → (state S.Store conn.old).may_leave db
-        ⊎ ((row.now ≡ meta_row 1 owner.now cluster.now) × IsSound log_schema db × (db 1 ≡ (state S.Store conn.old).now.trees 1) × IsNamedIn 2 owner.now cluster.now (db 0)) }
-    ensures whole { HasCleanDisk (state S.Store conn.new) → IsReady (state S.Store conn.old) → (form : ℕ) → row.now ≡ meta_row form owner.now cluster.now
+        ⊎ ((row.now ≡ meta_row 1 owner.now cluster.now 0 0) × IsSound log_schema db × (db 1 ≡ (state S.Store conn.old).now.trees 1) × IsNamedIn 2 owner.now cluster.now 0 0 (db 0)) }
+    ensures whole { HasCleanDisk (state S.Store conn.new) → IsReady (state S.Store conn.old) → (form : ℕ) → row.now ≡ meta_row form owner.now cluster.now 0 0
         → (t : records.Table) → IsFormOf form t → AreRowsOf t ((state S.Store conn.old).now.trees 1) → IfErr result IsWant }
     ensures clean { doubt (state S.Store conn.old).is_clean ≤ doubt (state S.Store conn.new).is_clean }
     ensures fault { IfErr result IsOpeningFault }
@@ -140,6 +143,7 @@ fn read_whole<S: Alter>(
 ) -> Result<Table, Fault>
     ensures rows { HasCleanDisk (state S.Store conn.new) → IsReady (state S.Store conn.old)
         → IfOk result (λ t. AreRowsOf t ((state S.Store conn.old).now.trees 1)) }
+    ensures plain { IfOk result IsPlainTable }
     ensures ready { HasCleanDisk (state S.Store conn.new) → IsReady (state S.Store conn.old)
         → OnOk result (IsReady (state S.Store conn.new) × ((state S.Store conn.new).now ≡ (state S.Store conn.old).now)) }
     ensures all { OnOk result (has_forgotten ≡ false) }
@@ -177,16 +181,16 @@ fn is_form_of(form: u64, table: &Table) -> bool
 /// Raises the form of a log from this one to 2. `StoreFailed`, not of one that has it.
 fn raise_from<S: Alter>(conn: &mut Connection<S>, form: u64) -> Result<(), Fault>
     ensures ready { HasCleanDisk (state S.Store conn.new) → IsReady (state S.Store conn.old) → (owner cluster : List ℕ)
-        → IsNamedIn form owner cluster ((state S.Store conn.old).now.trees 0) → OnOk result (IsReady (state S.Store conn.new)) }
+        → IsNamedIn form owner cluster 0 0 ((state S.Store conn.old).now.trees 0) → OnOk result (IsReady (state S.Store conn.new)) }
     ensures rows { HasCleanDisk (state S.Store conn.new) → IsReady (state S.Store conn.old) → (owner cluster : List ℕ)
-        → IsNamedIn form owner cluster ((state S.Store conn.old).now.trees 0)
+        → IsNamedIn form owner cluster 0 0 ((state S.Store conn.old).now.trees 0)
         → OnOk result ((state S.Store conn.new).now.trees 1 ≡ (state S.Store conn.old).now.trees 1) }
     ensures meta { HasCleanDisk (state S.Store conn.new) → IsReady (state S.Store conn.old) → IsForm form → (owner cluster : List ℕ)
-        → IsNamedIn form owner cluster ((state S.Store conn.old).now.trees 0) → OnOk result (IsNamedIn 2 owner cluster ((state S.Store conn.new).now.trees 0)) }
+        → IsNamedIn form owner cluster 0 0 ((state S.Store conn.old).now.trees 0) → OnOk result (IsNamedIn 2 owner cluster 0 0 ((state S.Store conn.new).now.trees 0)) }
     ensures crash { HasCleanDisk (state S.Store conn.new) → IsReady (state S.Store conn.old) → (owner cluster : List ℕ)
-        → IsNamedIn form owner cluster ((state S.Store conn.old).now.trees 0) → (db : Trees) → (state S.Store conn.new).may_leave db
+        → IsNamedIn form owner cluster 0 0 ((state S.Store conn.old).now.trees 0) → (db : Trees) → (state S.Store conn.new).may_leave db
         → (state S.Store conn.old).may_leave db
-        ⊎ ((form ≡ 1) × IsSound log_schema db × (db 1 ≡ (state S.Store conn.old).now.trees 1) × IsNamedIn 2 owner cluster (db 0)) }
+        ⊎ ((form ≡ 1) × IsSound log_schema db × (db 1 ≡ (state S.Store conn.old).now.trees 1) × IsNamedIn 2 owner cluster 0 0 (db 0)) }
     ensures clean { doubt (state S.Store conn.old).is_clean ≤ doubt (state S.Store conn.new).is_clean }
     ensures fault { IfErr result (λ fault. fault ≡ Fault.StoreFailed) }
 {
@@ -285,9 +289,9 @@ struct Meta {
 /// of another owner or cluster.
 #[tactic(auto, using(crate::proofs::Cells::of_six))]
 fn test_meta(row: &Row, owner: &Name, cluster: &Name) -> Result<Meta, Fault>
-    ensures row { IfOk result (λ meta. meta.has_forgotten ≡ false → row.now ≡ meta_row meta.form owner.now cluster.now) }
+    ensures row { IfOk result (λ meta. meta.has_forgotten ≡ false → row.now ≡ meta_row meta.form owner.now cluster.now 0 0) }
     ensures form { IfOk result (λ meta. IsForm meta.form) }
-    ensures whole { (form : ℕ) → IsForm form → row.now ≡ meta_row form owner.now cluster.now
+    ensures whole { (form : ℕ) → IsForm form → row.now ≡ meta_row form owner.now cluster.now 0 0
         → IsOkAnd result (λ meta. (meta.form ≡ form) × (meta.has_forgotten ≡ false)) }
     ensures others { IfErr result (λ fault. fault ≡ Fault.WrongOwner
         → (form : ℕ) × IsForm form × (column row.now 0 ≡ Int (pos 1)) × (column row.now 1 ≡ Int (pos form))

@@ -24,11 +24,15 @@ pub struct PlainLog {
 
 impl Model for PlainLog {
     ghost use Rattle.std.specs.Prelude.{true};
+    ghost use Rattle.sb_table.specs.Plain.{IsPlainTable};
     ghost use Rattle.sb_log.specs.Records as records;
 
     ghost Value = { records.Log };
 
     ghost view = { λ l. record { owner = l.owner; cluster = l.cluster; most = l.max_version; content = l.table; is_open = true; is_clean = true; is_sure = true } };
+
+    // No log has a floor yet.
+    ghost invariant = { λ l. IsPlainTable l.table };
 }
 
 impl PlainLog {

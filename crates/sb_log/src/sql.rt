@@ -38,6 +38,7 @@ pub struct SqlLog<S: Alter> {
 impl<S: Alter> Model for SqlLog<S> {
     ghost use Rattle.std.specs.Prelude.{◌≤◌};
     ghost use Rattle.sb_types.specs.declared.limits.TheConstants.{VERSION_MOST};
+    ghost use Rattle.sb_table.specs.Plain.{IsPlainTable};
     ghost use Rattle.sb_log.specs.Sql.{SqlView, sql_code};
     ghost use Rattle.sb_log.specs.Standing.{IsKept};
 
@@ -47,7 +48,8 @@ impl<S: Alter> Model for SqlLog<S> {
 
     ghost view = { λ l. record { owner = l.owner; cluster = l.cluster; most = l.max_version; is_open = l.is_open; conn = l.conn } };
 
-    ghost invariant = { λ l. IsKept S.Store l.owner l.cluster l.conn l.table l.is_open × (l.max_version ≤ VERSION_MOST) };
+    // No log has a floor yet.
+    ghost invariant = { λ l. IsKept S.Store l.owner l.cluster l.conn l.table l.is_open × (l.max_version ≤ VERSION_MOST) × IsPlainTable l.table };
 }
 
 impl<S: Alter + Drop> SqlLog<S> {
@@ -55,7 +57,7 @@ impl<S: Alter + Drop> SqlLog<S> {
     /// first of them or both and no rows. It gives versions up to `max_version`, and none above 2^40 - 1. In this order:
     /// `LogDamaged` where rows stand without the row that says whose they are, where that row stands without the table of
     /// writes, where its form is unknown, or where there are other tables than a log's; `WrongOwner` where the log is
-    /// another owner's or of another cluster; `LogDamaged` where a row breaks a limit or two have one key or version,
+    /// another owner's or of another cluster; `LogDamaged` where a row breaks a limit or two have one rowid, key or version,
     /// where a log of form 1 has a text, where there are more than 4,096, or where versions were forgotten. `NoMemory`
     /// and `StoreFailed` wherever they come, the latter also inside a transaction. After all of these a log of form 1
     /// becomes one of form 2. A refusal hands the connection back, and the database is as it was, but that tables which
@@ -70,7 +72,7 @@ impl<S: Alter + Drop> SqlLog<S> {
         ensures log { IfOk result (λ l. IsOpenedAs owner cluster max_version (log_in S.Store l)) }
         ensures clean { IfOk result (λ l. doubt (state S.Store conn).is_clean ≤ doubt (state S.Store l.conn).is_clean) }
         ensures found { IfOk result (λ l. HasCleanDisk (state S.Store l.conn) → Opens owner cluster (state S.Store conn).now (log_in S.Store l).content) }
-        ensures meta { IfOk result (λ l. HasCleanDisk (state S.Store l.conn) → IsNamedIn 2 owner cluster ((state S.Store l.conn).now.trees 0)) }
+        ensures meta { IfOk result (λ l. HasCleanDisk (state S.Store l.conn) → IsNamedIn 2 owner cluster 0 0 ((state S.Store l.conn).now.trees 0)) }
         ensures settled { IfOk result (λ l. IsSettled (log_in S.Store l) (MayLeave S.Store owner cluster l.conn)) }
         ensures whole { (t : records.Table) → Opens owner cluster (state S.Store conn).now t
             → IfErr result (λ refused. HasCleanDisk (state S.Store refused.1) → IsWant refused.0) }

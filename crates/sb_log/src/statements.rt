@@ -109,10 +109,10 @@ pub(crate) fn write_meta<S: Alter>(
     ensures rows { HasCleanDisk (state S.Store conn.new) → IsReady (state S.Store conn.old)
         → OnOk result ((state S.Store conn.new).now.trees 1 ≡ (state S.Store conn.old).now.trees 1) }
     ensures meta { HasCleanDisk (state S.Store conn.new) → IsReady (state S.Store conn.old) → (state S.Store conn.old).now.trees 0 ≡ []
-        → OnOk result (IsNamedIn 2 owner.now cluster.now ((state S.Store conn.new).now.trees 0)) }
+        → OnOk result (IsNamedIn 2 owner.now cluster.now 0 0 ((state S.Store conn.new).now.trees 0)) }
     ensures crash { HasCleanDisk (state S.Store conn.new) → IsReady (state S.Store conn.old) → (db : Trees) → (state S.Store conn.new).may_leave db
         → (state S.Store conn.old).may_leave db
-        ⊎ (IsSound log_schema db × (db 1 ≡ (state S.Store conn.old).now.trees 1) × ((state S.Store conn.old).now.trees 0 ≡ [] → IsNamedIn 2 owner.now cluster.now (db 0))) }
+        ⊎ (IsSound log_schema db × (db 1 ≡ (state S.Store conn.old).now.trees 1) × ((state S.Store conn.old).now.trees 0 ≡ [] → IsNamedIn 2 owner.now cluster.now 0 0 (db 0))) }
     ensures clean { doubt (state S.Store conn.old).is_clean ≤ doubt (state S.Store conn.new).is_clean }
     ensures fault { IfErr result (λ fault. fault ≡ Fault.StoreFailed) }
 {
@@ -130,17 +130,17 @@ pub(crate) fn write_meta<S: Alter>(
 
 /// Raises the form of a log that says whose it is to 2. `StoreFailed`.
 pub(crate) fn raise_form<S: Alter>(conn: &mut Connection<S>) -> Result<(), Fault>
-    ensures ready { HasCleanDisk (state S.Store conn.new) → IsReady (state S.Store conn.old) → (form : ℕ) (owner cluster : List ℕ)
-        → IsNamedIn form owner cluster ((state S.Store conn.old).now.trees 0) → OnOk result (IsReady (state S.Store conn.new)) }
-    ensures rows { HasCleanDisk (state S.Store conn.new) → IsReady (state S.Store conn.old) → (form : ℕ) (owner cluster : List ℕ)
-        → IsNamedIn form owner cluster ((state S.Store conn.old).now.trees 0)
+    ensures ready { HasCleanDisk (state S.Store conn.new) → IsReady (state S.Store conn.old) → (form last floor : ℕ) (owner cluster : List ℕ)
+        → IsNamedIn form owner cluster last floor ((state S.Store conn.old).now.trees 0) → OnOk result (IsReady (state S.Store conn.new)) }
+    ensures rows { HasCleanDisk (state S.Store conn.new) → IsReady (state S.Store conn.old) → (form last floor : ℕ) (owner cluster : List ℕ)
+        → IsNamedIn form owner cluster last floor ((state S.Store conn.old).now.trees 0)
         → OnOk result ((state S.Store conn.new).now.trees 1 ≡ (state S.Store conn.old).now.trees 1) }
-    // Owner and cluster stay, and no version counts as forgotten.
-    ensures meta { HasCleanDisk (state S.Store conn.new) → IsReady (state S.Store conn.old) → (form : ℕ) (owner cluster : List ℕ)
-        → IsNamedIn form owner cluster ((state S.Store conn.old).now.trees 0) → OnOk result (IsNamedIn 2 owner cluster ((state S.Store conn.new).now.trees 0)) }
-    ensures crash { HasCleanDisk (state S.Store conn.new) → IsReady (state S.Store conn.old) → (form : ℕ) (owner cluster : List ℕ)
-        → IsNamedIn form owner cluster ((state S.Store conn.old).now.trees 0) → (db : Trees) → (state S.Store conn.new).may_leave db
-        → (state S.Store conn.old).may_leave db ⊎ (IsSound log_schema db × (db 1 ≡ (state S.Store conn.old).now.trees 1) × IsNamedIn 2 owner cluster (db 0)) }
+    // All else that the row says stays.
+    ensures meta { HasCleanDisk (state S.Store conn.new) → IsReady (state S.Store conn.old) → (form last floor : ℕ) (owner cluster : List ℕ)
+        → IsNamedIn form owner cluster last floor ((state S.Store conn.old).now.trees 0) → OnOk result (IsNamedIn 2 owner cluster last floor ((state S.Store conn.new).now.trees 0)) }
+    ensures crash { HasCleanDisk (state S.Store conn.new) → IsReady (state S.Store conn.old) → (form last floor : ℕ) (owner cluster : List ℕ)
+        → IsNamedIn form owner cluster last floor ((state S.Store conn.old).now.trees 0) → (db : Trees) → (state S.Store conn.new).may_leave db
+        → (state S.Store conn.old).may_leave db ⊎ (IsSound log_schema db × (db 1 ≡ (state S.Store conn.old).now.trees 1) × IsNamedIn 2 owner cluster last floor (db 0)) }
     ensures clean { doubt (state S.Store conn.old).is_clean ≤ doubt (state S.Store conn.new).is_clean }
     ensures fault { IfErr result (λ fault. fault ≡ Fault.StoreFailed) }
 {

@@ -1,0 +1,166 @@
+-- The content that a log's tables hold.
+use Rattle.std.proofs.Common.{◌≡◌, ℕ, ◌<◌, ◌≤◌, max, Bool, true, false, ◌||◌, cond, nat_lt, nat_le, List, [], ◌∷◌, ◌++◌, Result, Ok, Err, OnOk, refl, sym, ap, subst, ◌∙◌, arith}
+use Rattle.std.proofs.lemmas.Bool.{leb-true}
+use Rattle.sqlite_value.specs.Order.{Row}
+use Rattle.sqlite_trees.specs.Tree.{Trees}
+use Rattle.sqlite_catalog.specs.Listing.{IsSound}
+use Rattle.sb_types.specs.declared.fault.Fault.{Fault}
+use Rattle.sb_types.specs.Records.{Entry, Table}
+use Rattle.sb_types.specs.Runs.{are_ascending, entered, is_set, last_version, live, without}
+use Rattle.sb_types.proofs.Live.{live-above, live-live}
+use Rattle.sb_table.specs.Plain.{IsPlainTable, plain_table, with_entry, is_full_for}
+use Rattle.sb_table.specs.Floors.{IsKeptTable, raised}
+use Rattle.sb_table.proofs.Ascent.{last_version-push, last_version-filter}
+use Rattle.sb_table.proofs.Keeping.{kept-with_entry, kept-raised}
+use Rattle.sb_table.proofs.Plain.{IsPlainTable-with_entry, plain_table-entered}
+use Rattle.sb_log.specs.Rows.{AreRowsOf, Enters, Drops, number_of, last_in, floor_in, content_by, content_of}
+use Rattle.sb_log.specs.Form.{log_schema}
+use Rattle.sb_log.specs.Opening.{IsNamedIn}
+use Rattle.sb_log.specs.Puts.{purged}
+use Rattle.sb_log.specs.Standing.{HoldsContent}
+use Rattle.sb_log.proofs.Naming.{one_named, cell}
+use Rattle.sb_log.proofs.Unique.{plain_is, entries_are}
+
+-- what the row of meta says
+said : (form : ℕ) (owner cluster : List ℕ) (last floor : ℕ) (metas : List Row) → IsNamedIn form owner cluster last floor metas → (last_in metas ≡ last) × (floor_in metas ≡ floor)
+said form owner cluster last floor metas named =
+    let one = one_named form owner cluster last floor metas named in (
+      ap last_in one.1 ∙ ap number_of (cell form owner cluster last floor one.0 one.2 4),
+      ap floor_in one.1 ∙ ap number_of (cell form owner cluster last floor one.0 one.2 5),
+    )
+
+content_is : (form : ℕ) (owner cluster : List ℕ) (last floor : ℕ) (t : Table) (metas rows : List Row) → IsNamedIn form owner cluster last floor metas → AreRowsOf t rows
+    → content_of metas rows ≡ content_by last floor t.entries
+content_is form owner cluster last floor t metas rows named are =
+    let says = said form owner cluster last floor metas named in
+    λ i. content_by (says.0 i) (says.1 i) (entries_are rows t are i)
+
+pub holds_is : (owner cluster : List ℕ) (content : Table) (entries : List Entry) (db : Trees) → HoldsContent owner cluster content entries db → content_of (db 0) (db 1) ≡ content
+holds_is owner cluster content entries db holds =
+    content_is 2 owner cluster holds.last content.floor (plain_table entries) (db 0) (db 1) holds.named holds.rows ∙ sym holds.is
+
+-- ---- without a floor
+
+no_floor : (es : List Entry) → are_ascending 0 es ≡ true → content_by 0 0 es ≡ plain_table es
+no_floor es up =
+    let most : max 0 (last_version 0 es) ≡ last_version 0 es = omega arith in
+    let all : live 0 es ≡ es = live-above 0 0 es (omega arith) up in
+    λ i. record { held = most i; floor = 0; entries = all i }
+
+kept_plain : (t : Table) → IsPlainTable t → IsKeptTable t
+kept_plain t plain = record {
+  is = record {
+    run = plain.run;
+    floor = omega (arith, plain.floor);
+    live = ap (λ (n : ℕ). live n t.entries) plain.floor ∙ live-above 0 0 t.entries (omega arith) plain.run.ascending;
+  };
+  limit = plain.limit;
+}
+
+pub holds_plain : (owner cluster : List ℕ) (t : Table) (db : Trees) → IsNamedIn 2 owner cluster 0 0 (db 0) → AreRowsOf t (db 1) → HoldsContent owner cluster t t.entries db
+holds_plain owner cluster t db named are = record {
+  last = 0;
+  named = subst (λ (n : ℕ). IsNamedIn 2 owner cluster 0 n (db 0)) (sym are.plain.floor) named;
+  rows = subst (λ (u : Table). AreRowsOf u (db 1)) (plain_is t are.plain) are;
+  table = kept_plain t are.plain;
+  is = plain_is t are.plain ∙ sym (no_floor t.entries are.plain.run.ascending) ∙ ap (λ (n : ℕ). content_by 0 n t.entries) (sym are.plain.floor);
+}
+
+pub plain_content : (owner cluster : List ℕ) (t : Table) (db : Trees) → IsNamedIn 2 owner cluster 0 0 (db 0) → AreRowsOf t (db 1) → content_of (db 0) (db 1) ≡ t
+plain_content owner cluster t db named are = holds_is owner cluster t t.entries db (holds_plain owner cluster t db named are)
+
+-- ---- with an entry
+
+module _ (owner cluster : List ℕ) (content : Table) (db : Trees) (holds : HoldsContent owner cluster content content.entries db) where
+  held_is : content.held ≡ max holds.last (last_version 0 content.entries)
+  held_is = ap (λ (t : Table). t.held) holds.is
+
+  module _ (e : Entry) (later : content.held < e.version) (room : is_full_for e.key content.entries ≡ false) where
+    kept : IsKeptTable (with_entry content e)
+    kept = kept-with_entry content e holds.table later room
+
+    plain : IsPlainTable (with_entry (plain_table content.entries) e)
+    plain = IsPlainTable-with_entry (plain_table content.entries) e holds.rows.plain (omega (arith, held_is, later)) room
+
+    entered_is : with_entry content e ≡ content_by holds.last content.floor (entered content.entries (e ∷ []))
+    entered_is =
+        let last : last_version 0 (entered content.entries (e ∷ [])) ≡ e.version = last_version-push 0 (without (e ∷ []) content.entries) e in
+        let held : e.version ≡ max holds.last (last_version 0 (entered content.entries (e ∷ []))) = omega (arith, last, held_is, later) in
+        let all : entered content.entries (e ∷ []) ≡ live content.floor (entered content.entries (e ∷ [])) = sym kept.is.live in
+        λ i. record { held = held i; floor = content.floor; entries = all i }
+
+    pub entered_holds : (after : Trees) → Enters e (db 1) (after 1) → after 0 ≡ db 0 → HoldsContent owner cluster (with_entry content e) (with_entry content e).entries after
+    entered_holds after enters same = record {
+      last = holds.last;
+      named = subst (IsNamedIn 2 owner cluster holds.last content.floor) (sym same) holds.named;
+      rows = subst (λ (t : Table). AreRowsOf t (after 1)) (sym (plain_table-entered content.entries e)) (enters (plain_table content.entries) plain holds.rows);
+      table = kept;
+      is = entered_is;
+    }
+
+  -- ---- with a higher floor
+
+  module _ (floor : ℕ) (rises : content.floor ≤ floor) (order : floor ≤ content.held) where
+    purged_is : purged floor content ≡ raised content.held floor content
+    purged_is = go (nat_le floor content.floor) refl
+      where
+        go : (b : Bool) → nat_le floor content.floor ≡ b → cond b content (raised content.held floor content) ≡ raised content.held floor content
+        go true le =
+            let same : content.floor ≡ floor = omega (arith, leb-true floor content.floor le, rises) in
+            let all : content.entries ≡ live floor content.entries = sym holds.table.is.live ∙ ap (λ (n : ℕ). live n content.entries) same in
+            λ i. record { held = content.held; floor = same i; entries = all i }
+        go false gt = refl
+
+    abbrev lives : Entry → Bool
+    lives e = is_set e.slot || nat_lt floor e.version
+
+    least : last_version 0 (live floor content.entries) ≤ content.held
+    least = omega (arith, last_version-filter lives 0 0 content.entries (omega arith) holds.table.is.run.ascending, holds.table.is.run.most)
+
+    module _ (after : Trees) (named : IsNamedIn 2 owner cluster content.held floor (after 0)) where
+      -- the removals up to it may still have rows
+      pub raised_holds : (es : List Entry) → live floor es ≡ live floor content.entries → last_version 0 es ≤ content.held → AreRowsOf (plain_table es) (after 1) → HoldsContent owner cluster (purged floor content) es after
+      raised_holds es same most rows =
+          let held : content.held ≡ max content.held (last_version 0 es) = omega (arith, most) in
+          subst (λ (t : Table). HoldsContent owner cluster t es after) (sym purged_is) (record {
+            last = content.held;
+            named = named;
+            rows = rows;
+            table = kept-raised content.held floor content holds.table (omega arith) order;
+            is = λ i. record { held = held i; floor = floor; entries = sym same i };
+          })
+
+      -- the rows are as before
+      pub floored_holds : after 1 ≡ db 1 → HoldsContent owner cluster (purged floor content) content.entries after
+      floored_holds same =
+          raised_holds content.entries refl (omega (arith, holds.table.is.run.most)) (subst (λ (rows : List Row). AreRowsOf (plain_table content.entries) rows) (sym same) holds.rows)
+
+      pub purged_holds : Drops floor (db 1) (after 1) → HoldsContent owner cluster (purged floor content) (purged floor content).entries after
+      purged_holds drops =
+          subst (λ (es : List Entry). HoldsContent owner cluster (purged floor content) es after) (sym (ap (λ (t : Table). t.entries) purged_is))
+          (raised_holds (live floor content.entries) (live-live floor content.entries) least (drops (plain_table content.entries) holds.rows))
+
+    -- ---- by two statements, of which the first says the floor and the second takes the rows out
+
+    module _ (held : ℕ) (is : content.held ≡ held) where
+      says : (db' : Trees) → IsNamedIn 2 owner cluster held floor (db' 0) → IsNamedIn 2 owner cluster content.held floor (db' 0)
+      says db' named = subst (λ (n : ℕ). IsNamedIn 2 owner cluster n floor (db' 0)) (sym is) named
+
+      abbrev pub Leaves : Trees → Type 0
+      Leaves left = IsSound log_schema left × ((entries : List Entry) × HoldsContent owner cluster (purged floor content) entries left)
+
+      pub first_leaves : (left : Trees) → IsSound log_schema left × (left 1 ≡ db 1) × IsNamedIn 2 owner cluster held floor (left 0) → Leaves left
+      first_leaves left did = (did.0, (content.entries, floored_holds left (says left did.2) did.1))
+
+      module _ (mid : Trees) (rows : mid 1 ≡ db 1) (named : IsNamedIn 2 owner cluster held floor (mid 0)) where
+        dropped : (after : Trees) → Drops floor (mid 1) (after 1) → after 0 ≡ mid 0 → HoldsContent owner cluster (purged floor content) (purged floor content).entries after
+        dropped after drops meta =
+            purged_holds after (subst (IsNamedIn 2 owner cluster content.held floor) (sym meta) (says mid named)) (subst (λ (before : List Row). Drops floor before (after 1)) rows drops)
+
+        pub second_holds : (result : Result (Unit {0}) Fault) (after : Trees) → OnOk result (Drops floor (mid 1) (after 1)) → OnOk result (after 0 ≡ mid 0)
+            → OnOk result (HoldsContent owner cluster (purged floor content) (purged floor content).entries after)
+        second_holds (Ok done) after drops meta = dropped after drops meta
+        second_holds (Err fault) after drops meta = tt
+
+        pub second_leaves : (left : Trees) → IsSound log_schema left × Drops floor (mid 1) (left 1) × (left 0 ≡ mid 0) → Leaves left
+        second_leaves left did = (did.0, ((purged floor content).entries, dropped left did.1 did.2))
