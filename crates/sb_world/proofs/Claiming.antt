@@ -151,7 +151,7 @@ taken_each node [] [] are treats = refl
 taken_each node [] (end ∷ ends) are treats = absurd treats
 taken_each node (b ∷ bs) [] are treats = absurd treats
 taken_each node (b ∷ bs) (end ∷ ends) are treats =
-    (λ joins. taken_up node b end (are b (inl refl)) joins treats.0, taken_each (node_after_block node b end) bs ends (λ c stands. are c (inr stands)) treats.1)
+    (λ joins. taken_up node b end joins treats.0, taken_each (node_after_block node b end) bs ends (λ c stands. are c (inr stands)) treats.1)
 
 -- a message of each kind, as it was taken
 message_taken : (s : Session) (core : Core) (m : Message) (answer : Replies) (t : Session) (new : Core) → is_message m ≡ true → Takes Steps s core m (Ok answer) t new →
