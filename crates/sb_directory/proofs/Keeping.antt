@@ -10,7 +10,7 @@ use Rattle.sb_types.specs.Records.{Entry, Table, Block}
 use Rattle.sb_types.proofs.Texts.{text_same}
 use Rattle.sb_holdings.specs.declared.ends.BlockEnd.{BlockEnd}
 use Rattle.sb_holdings.specs.Held.{Held, shown_of, written}
-use Rattle.sb_holdings.specs.Plain.{IsHoldings, next_version, own_answer}
+use Rattle.sb_holdings.specs.Plain.{IsPlainHoldings, next_version, own_answer}
 use Rattle.sb_holdings.specs.Nodes.{Node, NodeEvent, Wrote, node_after_event, replay_node}
 use Rattle.sb_holdings.specs.Treats.{Treats, took_each}
 use Rattle.sb_holdings.proofs.Changed.{shown-plain}
@@ -53,13 +53,13 @@ begins-longer queued history event begins = prefix_trans queued history (history
 
 -- ---- what is noted in watches
 
-raised : (note : Note) (old new : Held) → AreGrown old new → IsHoldings new → is_held old note ≡ true → is_held new note ≡ true
+raised : (note : Note) (old new : Held) → AreGrown old new → IsPlainHoldings new → is_held old note ≡ true → is_held new note ≡ true
 raised note old new grown is held =
     let le : (shown_of old note.owner).held ≤ (shown_of new note.owner).held =
     grown-held (shown_of old note.owner) (shown_of new note.owner) (grown note.owner) (shown-plain new is note.owner) in
     le-leb note.version (shown_of new note.owner).held (omega (arith, le, leb-true note.version (shown_of old note.owner).held held))
 
-pub notes-raised : (old new : Held) (hub : Hub) → AreGrown old new → IsHoldings new → AllNotes (is_held old) hub → AllNotes (is_held new) hub
+pub notes-raised : (old new : Held) (hub : Hub) → AreGrown old new → IsPlainHoldings new → AllNotes (is_held old) hub → AllNotes (is_held new) hub
 notes-raised old new hub grown is notes =
     weaker_keeps (λ note. is_held old note ≡ true) (λ note. is_held new note ≡ true) hub (λ note held. raised note old new grown is held) notes
 
@@ -97,9 +97,9 @@ own-held held e next =
 own-noted : (held : Held) (e : Entry) → e.version ≡ (shown_of held held.me).held + 1 → is_held (written held e) (note_of (held.me, e)) ≡ true
 own-noted held e next = le-leb e.version (shown_of (written held e) held.me).held (omega (arith, own-held held e next))
 
-module _ (opening : Node) (queued : List Event) (behind : Behind) (old : ViewedNode) (is : IsViewedNode opening queued behind old) (holds : IsHoldings old.core.node.held) where
+module _ (opening : Node) (queued : List Event) (behind : Behind) (old : ViewedNode) (is : IsViewedNode opening queued behind old) (holds : IsPlainHoldings old.core.node.held) where
   module _ (e : Entry) (turn : own_answer old.core.node.held e ≡ Ok tt) (entry : is_entry e ≡ true) (few : (shown_of old.core.node.held old.core.node.held.me).held < 2 ^ 64)
-      (after : IsHoldings (written old.core.node.held e)) (has : contains_key behind old.core.node.held.me ≡ true) where
+      (after : IsPlainHoldings (written old.core.node.held e)) (has : contains_key behind old.core.node.held.me ≡ true) where
     next : e.version ≡ (shown_of old.core.node.held old.core.node.held.me).held + 1
     next = entry-next e _ entry few (own-turn old.core.node.held e turn)
 
@@ -122,7 +122,7 @@ module _ (opening : Node) (queued : List Event) (behind : Behind) (old : ViewedN
         subst (IsViewedNode opening queued behind) (λ i. record { core = sym taken i; hub = sym seen i; history = sym longer i; published = published }) (own-locked published)
 
   module _ (blocks : List Block) (ends : List BlockEnd) (delta : is_delta blocks ≡ true) (treats : Treats old.core.node blocks ends)
-      (after : IsHoldings (replay_node old.core.node (took_each blocks ends)).held) (has : HasOwners behind blocks) where
+      (after : IsPlainHoldings (replay_node old.core.node (took_each blocks ends)).held) (has : HasOwners behind blocks) where
     pub delta-locked : (published : List Event) → IsViewedNode opening queued behind (after_delta old blocks ends published)
     delta-locked published =
         let new = replay_node old.core.node (took_each blocks ends) in

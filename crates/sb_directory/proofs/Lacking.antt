@@ -17,7 +17,7 @@ use Rattle.sb_holdings.specs.declared.ends.BlockEnd.{BlockEnd}
 use Rattle.sb_holdings.specs.declared.ends.BlockEnd.TheVariants.{Own, OwnAhead, Gap, Stale, OwnersFull, Taken, TooManyKeys, NoMemory}
 use Rattle.sb_holdings.specs.Held.{Held, holder_of, shown_of, with_owner as held_with, written, held_after_taking}
 use Rattle.sb_holdings.specs.Nodes.{Node, held_by, node_after_block, replay_node}
-use Rattle.sb_holdings.specs.Plain.{IsHoldings}
+use Rattle.sb_holdings.specs.Plain.{IsPlainHoldings}
 use Rattle.sb_holdings.specs.Shown.{own}
 use Rattle.sb_holdings.specs.Taken.{holder_after_block}
 use Rattle.sb_holdings.specs.Treats.{took_each}
@@ -222,12 +222,12 @@ module _ (held : Held) (o : List ℕ) where
   lacked-of : (m : Behind) → of_owner o (all_lacked m held) ≡ due (get m o)
   lacked-of m = mine (entries m) (entries_sorted m) ∙ ap due (sym (get-entries m o))
 
-  leads-case : (old : Held) → IsHoldings held → AreGrown old held → (r : Option ℕ) → IsSince (shown_of old o) (shown_of held o) r → shown_of held o ≡ table_with_all (shown_of old o) (due r)
+  leads-case : (old : Held) → IsPlainHoldings held → AreGrown old held → (r : Option ℕ) → IsSince (shown_of old o) (shown_of held o) r → shown_of held o ≡ table_with_all (shown_of old o) (due r)
   leads-case old is grown None at = at
   leads-case old is grown (Some v) at =
       new-leads old held is grown o
       ∙ ap (table_with_all (shown_of old o)) (of_owner-above held (λ owner. (shown_of old owner).held) o ∙ ap (λ (n : ℕ). above n (shown_of held o).entries) (sym at))
 
-pub lacked-leads : (old new : Held) (m : Behind) → IsHoldings new → AreGrown old new → AreSince old new m → Leads old new (all_lacked m new)
+pub lacked-leads : (old new : Held) (m : Behind) → IsPlainHoldings new → AreGrown old new → AreSince old new m → Leads old new (all_lacked m new)
 lacked-leads old new m is grown since =
     λ o. leads-case new o old is grown (get m o) (since o) ∙ ap (table_with_all (shown_of old o)) (sym (lacked-of new o m))

@@ -7,7 +7,7 @@ use Rattle.sb_types.specs.Records.{Entry, Table, Block, Holder}
 use Rattle.sb_types.specs.Runs.{Stands, above}
 use Rattle.sb_types.proofs.Standing.{of_above}
 use Rattle.sb_holdings.specs.Held.{Held, nothing, shown_of}
-use Rattle.sb_holdings.specs.Plain.{IsHoldings, table_of}
+use Rattle.sb_holdings.specs.Plain.{IsPlainHoldings, table_of}
 use Rattle.sb_holdings.proofs.Changed.{shown-plain}
 use Rattle.sb_holdings.proofs.Order.{run_upto}
 use Rattle.sb_watch.specs.Records.{Hub}
@@ -115,7 +115,7 @@ owned-held held o [] each = tt
 owned-held held o (e ∷ es) each =
     (le-leb e.version (shown_of held o).held (each e (inl refl)), owned-held held o es (λ x s. each x (inr s)))
 
-pub since-held : (held : Held) (versions : List (List ℕ × ℕ)) → IsHoldings held → AreHeld held (entries_since versions held)
+pub since-held : (held : Held) (versions : List (List ℕ × ℕ)) → IsPlainHoldings held → AreHeld held (entries_since versions held)
 since-held held [] is = tt
 since-held held (p ∷ ps) is =
     both-held held (owned_above p.1 p.0 (shown_of held p.0)) (entries_since ps held)

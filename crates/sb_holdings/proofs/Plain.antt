@@ -1,5 +1,5 @@
 -- Holdings without floors and stages stay so, and a block ends there by fewer tests.
-use Rattle.std.proofs.Common.{◌≡◌, ℕ, ◌+◌, ◌≤◌, ◌<◌, max, Bool, true, false, not, ◌&&◌, ◌||◌, nat_eq, nat_lt, nat_le, eq-eqb, get_or, unwrap_or, List, [], ◌∷◌, ◌++◌, ◌⊎◌, inl, inr, length, filter, take, Option, Some, None, IfSome, Result, Ok, Err, OnOk, OnErr, refl, sym, ap, subst, ◌∙◌, arith, length-append, append-nil, eqb-true, le-leb, lt-ltb}
+use Rattle.std.proofs.Common.{◌≡◌, ℕ, ◌+◌, ◌≤◌, ◌<◌, max, Bool, true, false, not, ◌&&◌, ◌||◌, nat_eq, nat_lt, nat_le, eq-eqb, get_or, unwrap_or, List, [], ◌∷◌, ◌++◌, ◌⊎◌, inl, inr, length, take, Option, Some, None, IfSome, Result, Ok, Err, OnOk, OnErr, refl, sym, ap, subst, ◌∙◌, arith, length-append, append-nil, eqb-true, le-leb, lt-ltb}
 use Rattle.std.proofs.lemmas.Bool.{and_parts, cond_both, cond-false, not-true, false≢true, or_left, leb-true, leb-false, le-ltb}
 use Rattle.std.proofs.lemmas.List.{take_more}
 use Rattle.std.proofs.lemmas.List.Elements.{filter_agree}
@@ -23,7 +23,7 @@ use Rattle.sb_holdings.specs.Held.{Held, nothing, holder_of, shown_of, written, 
 use Rattle.sb_holdings.specs.Plain.{with_entries, with_entered, IsPlainHoldings}
 use Rattle.sb_holdings.specs.Shown.{joins_shown}
 use Rattle.sb_holdings.specs.Stages.{stage_for}
-use Rattle.sb_holdings.specs.Ends.{is_own, is_stale, joined_stage, JoinsOn, JoinsStage, has_place, keys_with, Enters, entered_count, EntersOr, IsTaken, IsStaged, Fits, IsPlainTaken, FitsPlain}
+use Rattle.sb_holdings.specs.Ends.{is_stale, joined_stage, JoinsOn, JoinsStage, has_place, keys_with, Enters, entered_count, EntersOr, IsTaken, IsStaged, Fits, IsPlainTaken, FitsPlain}
 use Rattle.sb_holdings.proofs.Order.{distinct_kept, run_front, run_entered}
 use Rattle.sb_holdings.proofs.Entering.{filter-filter, without_none}
 use Rattle.sb_holdings.proofs.Changed.{shown-plain, IsHoldings-plain, IsPlainHoldings-with, entered-some, added-nothing, written-next, written-unfit}

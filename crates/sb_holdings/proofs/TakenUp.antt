@@ -1,9 +1,9 @@
 -- How a block that joins on is taken up.
-use Rattle.std.proofs.Common.{◌≡◌, ℕ, zero, suc, ◌≤◌, ◌<◌, Bool, true, false, cond, ◌&&◌, ◌⊎◌, List, inl, inr, ⊎_elim, take, length, refl, sym, ap, subst, ◌∙◌, arith, le-leb, lt-ltb, ltb-true, Option, Some, None, IsSomeAnd, nat_eq, nat_lt, nat_le}
+use Rattle.std.proofs.Common.{◌≡◌, ℕ, zero, suc, Bool, true, false, cond, ◌&&◌, ◌⊎◌, List, inl, inr, take, length, refl, sym, ap, subst, ◌∙◌, arith, le-leb, lt-ltb, ltb-true, Option, Some, None, IsSomeAnd, nat_eq, nat_lt, nat_le}
 use Rattle.std.proofs.lemmas.Bool.{and_parts, and_from, and_left, cond-true, cond-false, cond_both, false≢true, leb-true, lt-leb}
 use Rattle.std.specs.Cmp.Lexicographic.{pointwise}
 use Rattle.sb_types.specs.Records.{Entry, Table, Stage, Block, Holder}
-use Rattle.sb_types.specs.Runs.{Stands, above, up_to, under_keys_of, without, entered, live}
+use Rattle.sb_types.specs.Runs.{Stands, above, up_to, under_keys_of, without}
 use Rattle.sb_types.specs.Writes.{Gone}
 use Rattle.sb_table.specs.Floors.{merged, swapped}
 use Rattle.sb_holdings.specs.declared.ends.BlockEnd.{BlockEnd}
@@ -13,9 +13,9 @@ use Rattle.sb_holdings.specs.Shown.{joins_shown, joined, shown_with}
 use Rattle.sb_holdings.specs.Stages.{stage_for, stage_with, staged_all, staged_front, staged_refused}
 use Rattle.sb_holdings.specs.Taken.{routed, holder_after_block}
 use Rattle.sb_holdings.specs.Held.{Held, holder_of, shown_of, held_after_taking}
-use Rattle.sb_holdings.specs.Ends.{is_own, is_stale, joined_stage, JoinsOn, JoinsStage, Fits}
+use Rattle.sb_holdings.specs.Ends.{is_own, joined_stage, JoinsOn, JoinsStage, Fits}
 use Rattle.sb_holdings.specs.Nodes.{Node, node_after_block}
-use Rattle.sb_holdings.specs.TakenUp.{HasFront, HasAll, IsTakenUp, HasStageFront, HasStageAll, IsShown, IsFrontStaged, IsStagedUp}
+use Rattle.sb_holdings.specs.TakenUp.{HasFront, HasAll, IsTakenUp, HasStageAll, IsShown, IsFrontStaged, IsStagedUp}
 use Rattle.sb_types.proofs.Standing.{right, in_above, of_above, in_live}
 use Rattle.sb_types.proofs.Texts.{text_same}
 use Rattle.sb_holdings.proofs.Nodes.{put_with}

@@ -1,5 +1,5 @@
 -- Which end a block has at one owner, and what it leaves there.
-use Rattle.std.specs.Prelude.{◌≡◌, ℕ, ◌≤◌, ◌<◌, max, Bool, true, false, ◌&&◌, nat_lt, nat_le, if◌then◌else◌, List, [], ◌⊎◌, length, take, Option, Some, None}
+use Rattle.std.specs.Prelude.{◌≡◌, ℕ, ◌≤◌, ◌<◌, max, Bool, true, false, ◌&&◌, nat_lt, nat_le, if◌then◌else◌, List, [], ◌⊎◌, take, Option, Some, None}
 use Rattle.std.specs.Ordering.{nat_cmp}
 use Rattle.std.specs.Cmp.Lexicographic.{slice_cmp}
 use Rattle.std.specs.Map.{lookup}
@@ -10,7 +10,7 @@ use Rattle.sb_table.specs.Floors.{raised, swapped}
 use Rattle.sb_holdings.specs.declared.ends.BlockEnd.{BlockEnd}
 use Rattle.sb_holdings.specs.declared.ends.BlockEnd.TheVariants.{Own, OwnAhead, Gap, Stale, OwnersFull, Taken, TooManyKeys, NoMemory}
 use Rattle.sb_holdings.specs.Shown.{joins_shown, stage_beyond}
-use Rattle.sb_holdings.specs.Stages.{goes_on, stage_for, staged_all, staged_front, staged_refused}
+use Rattle.sb_holdings.specs.Stages.{goes_on, staged_all, staged_front, staged_refused}
 use Rattle.sb_holdings.specs.Held.{nothing}
 use Rattle.sb_holdings.specs.Ends.{Enters, entered_count, EntersOr, is_stale, joined_stage}
 

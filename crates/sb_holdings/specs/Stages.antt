@@ -1,6 +1,6 @@
 -- How a block of a floor above all that is held joins a stage, and how the stage comes to be shown.
 use Rattle.std.specs.Prelude.{ℕ, zero, suc, Bool, ◌&&◌, nat_lt, nat_le, nat_eq, if◌then◌else◌, [], length, Option, Some, None}
-use Rattle.sb_types.specs.Records.{Table, Stage, Block, Holder}
+use Rattle.sb_types.specs.Records.{Stage, Block, Holder}
 use Rattle.sb_types.specs.Runs.{above, entered}
 use Rattle.sb_table.specs.Floors.{swapped}
 use Rattle.sb_holdings.specs.Blocks.{part_above, front}

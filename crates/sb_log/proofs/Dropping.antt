@@ -1,5 +1,5 @@
 -- What the statement that takes out removals does.
-use Rattle.std.proofs.Common.{◌≡◌, ◌≤◌, inl, inr, ⊎_elim, ℕ, ℤ, pos, Bool, true, false, cond, not, ◌&&◌, ◌||◌, true≢false, List, [], ◌∷◌, ◌++◌, length, map, filter, flat_map, append-nil, Option, None, Some, Ok, refl, sym, ap, subst, subst₂, ◌∙◌, arith, int_cmp, is_eq, nat_lt, IsPermutation}
+use Rattle.std.proofs.Common.{◌≡◌, ◌≤◌, inl, inr, ⊎_elim, ℕ, ℤ, pos, Bool, true, false, cond, not, ◌&&◌, ◌||◌, true≢false, List, [], ◌∷◌, ◌++◌, length, map, filter, flat_map, Option, None, Some, Ok, refl, sym, ap, subst, subst₂, ◌∙◌, arith, int_cmp, is_eq, nat_lt, IsPermutation}
 use Rattle.std.specs.List.{AllByRecursion, list_any, list_all}
 use Rattle.std.specs.Ordering.{is_le}
 use Rattle.std.proofs.lemmas.Bool.{and_parts, and_from, or_parts, cases_Bool}
@@ -43,7 +43,6 @@ use Rattle.sb_types.specs.Value as values
 use Rattle.sb_types.specs.Value.{Addr, Weight, Flag}
 use Rattle.sb_types.specs.Records.{Entry, Table}
 use Rattle.sb_types.specs.Runs.{is_set, live}
-use Rattle.sb_table.specs.Plain.{plain_table}
 use Rattle.sb_table.proofs.Order.{run_kept}
 use Rattle.sb_table.proofs.Merging.{length-filter_le, plain-run}
 use Rattle.sb_log.specs.Form.{log_schema, writes_table, drop_text}

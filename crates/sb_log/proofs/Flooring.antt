@@ -4,8 +4,7 @@ use Rattle.std.proofs.lemmas.List.Sorted.{IsPermutation-map}
 use Rattle.sqlite_value.specs.declared.value.Value.TheVariants.{Null, Int}
 use Rattle.sqlite_value.specs.Order.{Row, column}
 use Rattle.sqlite_trees.specs.Tree.{Trees}
-use Rattle.sqlite_sql.specs.Query.{IsAnswer, Output, output}
-use Rattle.sqlite_sql.specs.Program.{overlay}
+use Rattle.sqlite_sql.specs.Query.{Output, output}
 use Rattle.sqlite_rules.specs.Cast.{cast_row}
 use Rattle.sqlite.specs.State.{State, Executes, CommitsBy}
 use Rattle.sqlite_catalog.specs.Listing.{IsSound}

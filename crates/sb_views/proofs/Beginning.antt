@@ -15,7 +15,7 @@ use Rattle.sb_types.proofs.Texts.{same_text, apart-from_Less}
 use Rattle.sb_table.specs.Plain.{IsPlainTable, plain_table, with_entry}
 use Rattle.sb_table.proofs.Copying.{IsCopying, copying-begins, copying-goes_on, copying-ends}
 use Rattle.sb_holdings.specs.Held.{Held, nothing, shown_of}
-use Rattle.sb_holdings.specs.Plain.{IsPlainHolder, IsHoldings, is_from, tables_from}
+use Rattle.sb_holdings.specs.Plain.{IsPlainHolder, IsPlainHoldings, is_from, tables_from}
 use Rattle.sb_views.specs.NodeViews.{OwnerView, NodeView, view_with, no_view, owner_view_of, ShowsTables, view_with_all, of_owner, table_with_all, owned, all_owned}
 use Rattle.sb_views.proofs.ByText.{by_text}
 use Rattle.sb_views.proofs.Showing.{same_tables, view-with-all}
@@ -130,7 +130,7 @@ of_owner-above held v o =
     ∙ mine o v (entries held.owners) (entries_sorted held.owners)
     ∙ ap (λ (h : Option Holder). above (v o) (unwrap_or h nothing).shown.entries) (sym (get-entries held.owners o))
 
-module _ (held : Held) (is : IsHoldings held) where
+module _ (held : Held) (is : IsPlainHoldings held) where
   shown-all : (o : List ℕ) → table_with_all (plain_table []) (of_owner o (all_owned held)) ≡ shown_of held o
   shown-all o =
       ap (table_with_all (plain_table [])) (of_owner-above held (λ owner. 0) o)

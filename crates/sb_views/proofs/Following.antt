@@ -1,15 +1,15 @@
 -- What is new of grown tables leads on.
-use Rattle.std.proofs.Common.{◌≡◌, ℕ, true, nat_lt, List, [], ◌∷◌, refl, sym, ap, ◌∙◌}
+use Rattle.std.proofs.Common.{◌≡◌, true, nat_lt, List, [], ◌∷◌, refl, sym, ap, ◌∙◌}
 use Rattle.sb_types.specs.Records.{Entry, Table}
 use Rattle.sb_types.specs.Runs.{are_distinct, last_version, above}
 use Rattle.sb_table.specs.Plain.{with_entry}
 use Rattle.sb_holdings.specs.Entering.{entered_each}
 use Rattle.sb_holdings.specs.Held.{Held, shown_of}
-use Rattle.sb_holdings.specs.Plain.{with_entries, IsHoldings}
+use Rattle.sb_holdings.specs.Plain.{with_entries, IsPlainHoldings}
 use Rattle.sb_holdings.proofs.Changed.{shown-plain}
 use Rattle.sb_holdings.proofs.Entering.{one_by_one}
 use Rattle.sb_holdings.proofs.Order.{distinct_kept}
-use Rattle.sb_views.specs.NodeViews.{of_owner, table_with_all, Leads}
+use Rattle.sb_views.specs.NodeViews.{table_with_all, Leads}
 use Rattle.sb_views.specs.Growing.{AreGrown, new_entries}
 use Rattle.sb_views.proofs.Beginning.{of_owner-above}
 
@@ -21,7 +21,7 @@ in-turn : (t : Table) (es : List Entry) → are_distinct es ≡ true → table_w
 in-turn t es apart =
     each-in-turn t es ∙ ap (λ (xs : List Entry). let u : Table = record { held = last_version t.held es; floor = t.floor; entries = xs } in u) (one_by_one t.entries es apart)
 
-pub new-leads : (old new : Held) → IsHoldings new → AreGrown old new → Leads old new (new_entries old new)
+pub new-leads : (old new : Held) → IsPlainHoldings new → AreGrown old new → Leads old new (new_entries old new)
 new-leads old new is grown =
     λ o.
     let t = shown_of old o in

@@ -6,7 +6,7 @@ ghost use Rattle.sb_types.specs.Runs.{shown_at};
 ghost use Rattle.sb_holdings.specs.declared.ends.BlockEnd.{BlockEnd};
 ghost use Rattle.sb_holdings.specs.Held.{Held, shown_of, written};
 ghost use Rattle.sb_holdings.specs.Nodes.{Node, replay_node};
-ghost use Rattle.sb_holdings.specs.Plain.{IsHoldings};
+ghost use Rattle.sb_holdings.specs.Plain.{IsPlainHoldings};
 ghost use Rattle.sb_holdings.specs.Treats.{Treats, took_each};
 ghost use Rattle.sb_views.specs.Growing.{AreGrown, new_entries};
 ghost use Rattle.sb_views.specs.NodeViews as node_views;
@@ -35,14 +35,14 @@ pub fn rows_ascend()
 /// Tables grow: after any own writes and deltas, however their blocks end, the table of each owner is the earlier one
 /// with the entries entered that it now has above that one's version.
 pub fn tables_grow()
-    ensures none { (held : Held) → IsHoldings held → AreGrown held held }
-    ensures own { (held : Held) (e : records.Entry) → IsHoldings held → AreGrown held (written held e) }
+    ensures none { (held : Held) → IsPlainHoldings held → AreGrown held held }
+    ensures own { (held : Held) (e : records.Entry) → IsPlainHoldings held → AreGrown held (written held e) }
     ensures delta { (node : Node) (blocks : List records.Block) (ends : List BlockEnd) →
-        IsHoldings node.held → is_delta blocks ≡ true → Treats node blocks ends → AreGrown node.held (replay_node node (took_each blocks ends)).held }
-    ensures further { (first second third : Held) → IsHoldings second → AreGrown first second → AreGrown second third → AreGrown first third }
+        IsPlainHoldings node.held → is_delta blocks ≡ true → Treats node blocks ends → AreGrown node.held (replay_node node (took_each blocks ends)).held }
+    ensures further { (first second third : Held) → IsPlainHoldings second → AreGrown first second → AreGrown second third → AreGrown first third }
 {}
 
 /// What is new of tables that grew leads on: with it entered, owner by owner, the earlier tables are the later ones.
 pub fn new_entries_lead()
-    ensures { (old new : Held) → IsHoldings new → AreGrown old new → node_views.Leads old new (new_entries old new) }
+    ensures { (old new : Held) → IsPlainHoldings new → AreGrown old new → node_views.Leads old new (new_entries old new) }
 {}

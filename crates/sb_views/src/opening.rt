@@ -2,7 +2,7 @@
 ghost use Rattle.std.specs.Prelude.{◌≡◌, ◌<◌, ◌^◌, [], replicate, IfOk, IfErr, OnOk};
 ghost use Rattle.std.specs.FinMap.{empty};
 ghost use Rattle.sb_views.specs.NodeViews as node_views;
-ghost use Rattle.sb_holdings.specs.Plain.{IsHoldings};
+ghost use Rattle.sb_holdings.specs.Plain.{IsPlainHoldings};
 
 use crate::history::{HistoryPrefix, NodeTag};
 use crate::node_view::NodeView;
@@ -28,7 +28,6 @@ fn enter_table(view: &mut NodeView, owner: &Name, table: &Table) -> Result<(), A
 /// The view of all that is held.
 fn view_of(alloc: Global, holdings: &Holdings) -> Result<NodeView, AllocError>
     ensures view { IfOk result (λ view. view ≡ node_views.view_with_all empty (node_views.all_owned holdings.now)) }
-    ensures holdings { IsHoldings holdings.now }
 {
     let mut view = NodeView::new(alloc);
     for (owner, table) in holdings.tables_from(None) {
@@ -47,6 +46,7 @@ pub fn views<S: NodeTag, R: Wait + Drop>(
     seats: usize,
 ) -> Result<(ViewWriter<S, R>, Vec<Reader<S>>), Fault>
     requires opening { S.opening.held ≡ holdings.now }
+    requires plain { IsPlainHoldings holdings.now }
     requires start { start ≡ [] }
     requires seats { (0 < seats) × (seats < 2 ^ 32) }
     ensures writer { IfOk result (λ v. v.0 ≡ record { published = []; queued = [] }) }

@@ -11,9 +11,8 @@ use Rattle.sb_holdings.specs.Growth.{Grows}
 use Rattle.sb_holdings.specs.Nodes.{Node, NodeEvent, opened_node, node_after_event, replay_node, AreNodeEvents, AllTrueAt, IsNode, NodeHolds}
 use Rattle.sb_types.proofs.Standing.{either}
 use Rattle.sb_holdings.proofs.Nodes.{same_me, replay_node-append, replay_at_step}
-use Rattle.sb_holdings.proofs.Opened.{opened-holds}
-use Rattle.sb_holdings.proofs.ByOwner.{IsHoldings-alone}
-use Rattle.sb_holdings.proofs.Changed.{IsHolder-held}
+use Rattle.sb_holdings.proofs.Opened.{opened-holds, IsPlainHoldings-alone}
+use Rattle.sb_holdings.proofs.Changed.{IsHolder-held, IsHoldings-plain}
 use Rattle.sb_holdings.proofs.Content.{content_tells}
 use Rattle.sb_log.specs.Records.{Committed, Log}
 use Rattle.sb_node.specs.Cores.{with_node}
@@ -89,7 +88,7 @@ module _ (old new : List ℕ → List Write) (grows : Grows old new) (past : Pas
       (record { me = p.me; log = log; core = record { settings = p.core.settings; node = opened_node p.me table }; waiting = []; is_up = true })
   reopened ws is_ws log table openings owner content plain same =
       let node : opened_node p.me table ≡ opened_node p.me (content_table 0 ws) = ap (opened_node p.me) same in
-      let is : IsNode (opened_node p.me table) = IsHolder-held (opened_node p.me table).held (IsHoldings-alone p.me table plain) in
+      let is : IsNode (opened_node p.me table) = IsHolder-held (opened_node p.me table).held (IsHoldings-plain (opened_node p.me table).held (IsPlainHoldings-alone p.me table plain)) in
       let holds : NodeHolds new (opened_node p.me (content_table 0 (new p.me))) = opened-holds new p.me (content_table 0 (new p.me)) (content_tells (new p.me) 0 (omega arith)) in
       record {
         owner = owner;

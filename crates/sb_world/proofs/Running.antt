@@ -5,9 +5,8 @@ use Rattle.sb_types.specs.declared.fault.Fault.{Fault}
 use Rattle.sb_types.specs.Writes.{Written}
 use Rattle.sb_holdings.specs.Contents.{content_table}
 use Rattle.sb_holdings.specs.Nodes.{Node, opened_node, replay_node, AreNodeEvents, AllTrueAt, IsNode, NodeHolds}
-use Rattle.sb_holdings.proofs.Opened.{opened-holds}
-use Rattle.sb_holdings.proofs.ByOwner.{IsHoldings-alone}
-use Rattle.sb_holdings.proofs.Changed.{IsHolder-held}
+use Rattle.sb_holdings.proofs.Opened.{opened-holds, IsPlainHoldings-alone}
+use Rattle.sb_holdings.proofs.Changed.{IsHolder-held, IsHoldings-plain}
 use Rattle.sb_holdings.proofs.Content.{content_tells}
 use Rattle.sb_types.specs.Runs.{Stands}
 use Rattle.sb_log.specs.Records.{Committed}
@@ -80,7 +79,7 @@ each_step P f old (e ∷ es) (a ∷ rs) (s ∷ ss) run each = (f old e a s run.0
 fresh_true : (s : State) (p : Place) → IsFresh s p → IsTruePlace s.writes (s.past p.me) s.now.settings p
 fresh_true s p f =
     let node : opened_node p.me p.log.content ≡ opened_node p.me (content_table 0 (s.writes p.me)) = ap (opened_node p.me) f.content in
-    let is : IsNode p.core.node = subst IsNode (sym f.node) (IsHolder-held (opened_node p.me p.log.content).held (IsHoldings-alone p.me p.log.content f.plain)) in
+    let is : IsNode p.core.node = subst IsNode (sym f.node) (IsHolder-held (opened_node p.me p.log.content).held (IsHoldings-plain (opened_node p.me p.log.content).held (IsPlainHoldings-alone p.me p.log.content f.plain))) in
     let opening : (s.past p.me).opening ≡ p.core.node = ap (λ (h : Past). h.opening) f.past in
     let since : (s.past p.me).since ≡ [] = ap (λ (h : Past). h.since) f.past in
     record {

@@ -1,7 +1,7 @@
 use Rattle.std.proofs.Common.{◌≡◌, refl, sym, ap, subst, ◌∙◌}
 use Rattle.sb_holdings.specs.Held.{Held}
 use Rattle.sb_holdings.specs.Nodes.{replay_node}
-use Rattle.sb_holdings.specs.Plain.{IsHoldings}
+use Rattle.sb_holdings.specs.Plain.{IsPlainHoldings}
 use Rattle.sb_holdings.specs.Treats.{took_each}
 use Rattle.sb_node.specs.Cores.{Core}
 use Rattle.sb_watch.specs.Records.{Hub}
@@ -29,7 +29,7 @@ entered g c hub seen =
     let ends = c.in_ok-ends.ends in
     let taken = c.in_ok-ends.ensures.ok in
     let more = c.add_owners.new.self in
-    let after : IsHoldings (replay_node node (took_each blocks ends)).held = subst (λ (k : Core). IsHoldings k.node.held) taken c.in_ok-ends.ensures.holdings in
+    let after : IsPlainHoldings (replay_node node (took_each blocks ends)).held = subst (λ (k : Core). IsPlainHoldings k.node.held) taken c.in_ok-ends.ensures.holdings in
     let since : AreSince (node_after opening queued).held node.held more =
     subst (λ (h : Held). AreSince (node_after opening queued).held h more) c.holdings-2.ensures.held
     (c.in_ok-add_owners.ensures.since (node_after opening queued).held

@@ -1,7 +1,7 @@
 use Rattle.std.proofs.Common.{◌≡◌, ℕ, ◌<◌, ◌^◌, List, [], ◌∷◌, ◌++◌, refl, sym, ap, subst, ◌∙◌, arith}
 use Rattle.sb_types.specs.Records.{Entry}
 use Rattle.sb_holdings.specs.Held.{shown_of, written}
-use Rattle.sb_holdings.specs.Plain.{IsHoldings}
+use Rattle.sb_holdings.specs.Plain.{IsPlainHoldings}
 use Rattle.sb_node.specs.Cores.{Core}
 use Rattle.sb_watch.specs.Records.{Hub}
 use Rattle.sb_views.specs.declared.event.Event.TheVariants.{TookOwn}
@@ -26,7 +26,7 @@ entered g c hub seen =
     let taken = c.in_ok-take_own.ensures.ok in
     let few : (shown_of node.held node.held.me).held < 2 ^ 64 =
     subst (λ (owner : List ℕ). (shown_of node.held owner).held < 2 ^ 64) c.name.ensures.name (omega (arith, c.upto.ensures.version, c.upto.type_inv)) in
-    let after : IsHoldings (written node.held e) = subst (λ (k : Core). IsHoldings k.node.held) taken c.in_ok-take_own.ensures.holdings in
+    let after : IsPlainHoldings (written node.held e) = subst (λ (k : Core). IsPlainHoldings k.node.held) taken c.in_ok-take_own.ensures.holdings in
     let longer : c.add_event.new.history ≡ inside.history ++ TookOwn e ∷ [] = c.add_event.ensures ∙ ap (λ (x : Entry). inside.history ++ TookOwn x ∷ []) c.entry-entry.ensures.entry in
     let is = added-locked opening queued inside.behind c.add.new.self old c.name.result.now c.upto.result c.self.invariant c.in_ok-add.ensures.ok c.upto.ensures.version in
     let has = added-there inside.behind c.add.new.self c.name.result.now node.held.me c.upto.result c.in_ok-add.ensures.ok c.name.ensures.name in

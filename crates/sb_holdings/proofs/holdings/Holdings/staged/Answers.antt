@@ -1,4 +1,4 @@
-use Rattle.std.proofs.Common.{ℕ, Option, unwrap_or, sym, ap, ◌∙◌}
+use Rattle.std.proofs.Common.{Option, unwrap_or, sym, ap, ◌∙◌}
 use Rattle.std.specs.Option.{option_map}
 use Rattle.std.specs.FinMap.{get}
 use Rattle.sb_types.specs.Records.{Stage, Holder}
