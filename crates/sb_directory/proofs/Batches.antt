@@ -1,11 +1,12 @@
 -- A batch that is filled entry by entry, and owner by owner.
-use Rattle.std.proofs.Common.{◌≡◌, ℕ, ◌≤◌, ◌<◌, nat_lt, List, [], ◌∷◌, ◌++◌, map, Some, None, sym, ap, ◌∙◌, append_assoc, append-nil, lt-ltb}
+use Rattle.std.proofs.Common.{◌≡◌, ℕ, ◌≤◌, ◌<◌, nat_lt, List, [], ◌∷◌, ◌++◌, map, Some, None, Result, Ok, Err, OnOk, sym, ap, ◌∙◌, arith, append_assoc, append-nil, lt-ltb}
 use Rattle.std.proofs.lemmas.Bool.{cond-true, cond-false, le-ltb}
 use Rattle.std.proofs.lemmas.List.{map-append}
 use Rattle.std.specs.FinMap.{get}
+use Rattle.sb_types.specs.declared.fault.Fault.{Fault}
 use Rattle.sb_types.specs.Records.{Entry, Table}
 use Rattle.sb_types.specs.Runs.{last_version, above}
-use Rattle.sb_holdings.specs.Held.{Held, nothing, shown_of}
+use Rattle.sb_holdings.specs.Held.{Held, shown_of}
 use Rattle.sb_holdings.specs.Plain.{table_of}
 use Rattle.sb_views.specs.declared.change.Change.{Change}
 use Rattle.sb_views.specs.declared.change.Change.TheVariants.{Enter, Clear, Hold}
@@ -56,19 +57,25 @@ module _ (owner : List ℕ) (t : Table) (version : ℕ) (from batch : List (List
   pub pushed-upto : t.held ≤ last → batch ≡ from ++ owned owner (changes_above version t)
   pushed-upto le = sym (append-nil batch) ∙ pushed-with [] (cond-false (nat_lt last t.held) (Hold t.held ∷ []) [] (le-ltb last t.held le))
 
-  pub pushed-beyond : (new : List (List ℕ × Change)) → last < t.held → new ≡ batch ++ (owner, Hold t.held) ∷ [] → new ≡ from ++ owned owner (changes_above version t)
-  pushed-beyond new less step = step ∙ pushed-with (Hold t.held ∷ []) (cond-true (nat_lt last t.held) (Hold t.held ∷ []) [] (lt-ltb last t.held less))
+  pub pushed-beyond : (new : List (List ℕ × Change)) (upto : ℕ) (r : Result (Unit {0}) Fault) → last < upto → upto ≡ t.held → OnOk r (new ≡ batch ++ (owner, Hold upto) ∷ [])
+      → OnOk r (new ≡ from ++ owned owner (changes_above version t))
+  pushed-beyond new upto (Err fault) less same step = tt
+  pushed-beyond new upto (Ok u) less same step =
+      step ∙ ap (λ (n : ℕ). batch ++ (owner, Hold n) ∷ []) same
+      ∙ pushed-with (Hold t.held ∷ []) (cond-true (nat_lt last t.held) (Hold t.held ∷ []) [] (lt-ltb last t.held (omega (arith, less, same))))
 
 -- ---- all that is lacked of an owner
 
 module _ (owner : List ℕ) (t : Table) (version floor : ℕ) (from new : List (List ℕ × Change)) where
-  pub lacked-above : t.floor ≤ floor → new ≡ from ++ owned owner (changes_above version t) → new ≡ from ++ owned owner (lacked_of version floor t)
-  lacked-above le step =
+  pub lacked-above : (r : Result (Unit {0}) Fault) → t.floor ≤ floor → OnOk r (new ≡ from ++ owned owner (changes_above version t)) → OnOk r (new ≡ from ++ owned owner (lacked_of version floor t))
+  lacked-above (Err fault) le step = tt
+  lacked-above (Ok u) le step =
       step ∙ ap (λ (cs : List Change). from ++ owned owner cs) (sym (cond-false (nat_lt floor t.floor) (Clear ∷ changes_above 0 t) (changes_above version t) (le-ltb floor t.floor le)))
 
-  pub lacked-anew : (cleared : List (List ℕ × Change)) → floor < t.floor → cleared ≡ from ++ (owner, Clear) ∷ [] → new ≡ cleared ++ owned owner (changes_above 0 t)
-      → new ≡ from ++ owned owner (lacked_of version floor t)
-  lacked-anew cleared less clear step =
+  pub lacked-anew : (cleared : List (List ℕ × Change)) (r : Result (Unit {0}) Fault) → floor < t.floor → cleared ≡ from ++ (owner, Clear) ∷ []
+      → OnOk r (new ≡ cleared ++ owned owner (changes_above 0 t)) → OnOk r (new ≡ from ++ owned owner (lacked_of version floor t))
+  lacked-anew cleared (Err fault) less clear step = tt
+  lacked-anew cleared (Ok u) less clear step =
       step ∙ ap (λ (b : List (List ℕ × Change)). b ++ owned owner (changes_above 0 t)) clear ∙ append_assoc from ((owner, Clear) ∷ []) (owned owner (changes_above 0 t))
       ∙ ap (λ (cs : List Change). from ++ owned owner cs) (sym (cond-true (nat_lt floor t.floor) (Clear ∷ changes_above 0 t) (changes_above version t) (lt-ltb floor t.floor less)))
 
