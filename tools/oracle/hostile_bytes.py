@@ -17,7 +17,7 @@ PREFIX = re.compile(rb"[a-z0-9._/-]{0,64}\Z")
 ADDR = re.compile(rb"[\x21-\x7e]{1,128}\Z")
 KINDS = {1, 2, 3, 4, 0x10, 0x11, 0x12, 0x13, 0x14}
 PAYLOAD_MOST = 65_530
-VERSION = 2
+VERSION = 3
 
 
 class Malformed(Exception):
@@ -75,7 +75,9 @@ def read_digest(body):
     last = b""
     for _ in range(body.number(2)):
         name = body.text(NAME)
-        body.number(8)
+        # how far it is held, the floor of its stage, and how far that has come
+        for _ in range(3):
+            body.number(8)
         need(last < name and low <= name and (high == b"" or name < high))
         last = name
 
@@ -83,9 +85,10 @@ def read_digest(body):
 def read_block(body, last_owner):
     owner = body.text(NAME)
     need(last_owner < owner)
-    last = body.number(8)
+    _floor, last, upto = body.number(8), body.number(8), body.number(8)
+    need(last < upto)
     keys = set()
-    for _ in range(body.number(2, 1)):
+    for _ in range(body.number(2)):
         key = body.text(KEY)
         need(key not in keys)
         keys.add(key)
@@ -93,6 +96,7 @@ def read_block(body, last_owner):
         need(last < version)
         last = version
         body.value(0)
+    need(last <= upto)
     return owner
 
 
@@ -192,14 +196,14 @@ TEXT = b"\x04" + u16(3) + b"h\xc3\xa9"
 
 FRAMES = [
     ("hello", frame(1, text(b"c1") + text(b"a"))),
-    ("digest", frame(2, b"\x01" + text(b"a") + text(b"c") + u16(2) + text(b"a") + u64(0) + text(b"b") + u64(7))),
+    ("digest", frame(2, b"\x01" + text(b"a") + text(b"c") + u16(2) + text(b"a") + u64(0) + u64(5) + u64(3) + text(b"b") + u64(7) + u64(0) + u64(0))),
     (
         "delta",
         frame(
             3,
             u16(2)
-            + text(b"a") + u64(0) + u16(2) + text(b"w") + u64(1) + WEIGHT + text(b"x") + u64(2) + REMOVED
-            + text(b"b") + u64(1) + u16(3) + text(b"k") + u64(2) + ADDRESS + text(b"l") + u64(3) + FLAG + text(b"m") + u64(4) + TEXT,
+            + text(b"a") + u64(0) + u64(0) + u64(2) + u16(2) + text(b"w") + u64(1) + WEIGHT + text(b"x") + u64(2) + REMOVED
+            + text(b"b") + u64(3) + u64(1) + u64(5) + u16(3) + text(b"k") + u64(2) + ADDRESS + text(b"l") + u64(3) + FLAG + text(b"m") + u64(4) + TEXT,
         ),
     ),
     ("bye", frame(4, b"\x01")),
