@@ -125,6 +125,8 @@ a node that no longer runs left its socket, and removes them when it ends. On --
 the --sock of another node. On --control it answers `set`, `del`, `get` and `watch`. Peers and callers are not authenticated: whoever may
 open a socket may use it.
 
+Where its log has --purge-removals removals or more, they go before the node starts, as by `attrdir purge --all`, and a line says so.
+
 It asks its peers for what it lacks, and gives them what they lack: one a round, in turn, with a --pause after each. When its own owner
 writes, or a peer has news, it asks --fanout of them right away. A peer that keeps it waiting for --dial-idle is passed over in its next seven
 turns. A request that has not come whole within --request is dropped.
