@@ -27,7 +27,7 @@ def want(what, found, wanted):
 
 
 # what each frame begins with: the mark, and the version of the format
-FRAME_FRONT = b"\xa7\x02"
+FRAME_FRONT = b"\xa7\x03"
 
 
 def text(word):

@@ -16,10 +16,11 @@ use std::process::Abort;
 use std::sync::ledger::{Blank, Ledger};
 
 /// Hello and the digest of a, a delta of no block, and Bye.
-const DIALED_BY_A: &[u8] = b"\xa7\x02\x00\x00\x00\x06\x01\x02c1\x01a\
-    \xa7\x02\x00\x00\x00\x10\x02\x01\x00\x00\x00\x01\x01a\x00\x00\x00\x00\x00\x00\x00\x00\
-    \xa7\x02\x00\x00\x00\x03\x03\x00\x00\
-    \xa7\x02\x00\x00\x00\x02\x04\x01";
+const DIALED_BY_A: &[u8] = b"\xa7\x03\x00\x00\x00\x06\x01\x02c1\x01a\
+    \xa7\x03\x00\x00\x00\x20\x02\x01\x00\x00\x00\x01\
+    \x01a\x00\x00\x00\x00\x00\x00\x00\x00\x00\x00\x00\x00\x00\x00\x00\x00\x00\x00\x00\x00\x00\x00\x00\x00\
+    \xa7\x03\x00\x00\x00\x03\x03\x00\x00\
+    \xa7\x03\x00\x00\x00\x02\x04\x01";
 
 /// One block of a, after 0, with the weight 5 under w as version 1.
 const FRAME: &[u8] = &DELTA_A;
@@ -226,9 +227,9 @@ fn faulty_frames_enter_nothing(rt: HostRuntime) {
     let alloc = rt.alloc();
     refuse(&rt, alloc, b"\xa6", Fault::BadMark);
     refuse(&rt, alloc, b"\xa7\x09", Fault::BadVersion);
-    refuse(&rt, alloc, b"\xa7\x02\x00\x00\x00\x00", Fault::BadLength);
-    refuse(&rt, alloc, b"\xa7\x02\x00\x00\xff\xfb", Fault::BadLength);
-    let unknown = b"\xa7\x02\x00\x00\x00\x01\x55";
+    refuse(&rt, alloc, b"\xa7\x03\x00\x00\x00\x00", Fault::BadLength);
+    refuse(&rt, alloc, b"\xa7\x03\x00\x00\xff\xfb", Fault::BadLength);
+    let unknown = b"\xa7\x03\x00\x00\x00\x01\x55";
     refuse(&rt, alloc, unknown, Fault::UnknownKind(0x55));
     refuse(&rt, alloc, DELTA_DESCENDING, Fault::Malformed(3));
 }
