@@ -76,5 +76,5 @@ fn a_peer_is_served(rt: HostRuntime) {
         serve_new(&rt, rt.alloc(), piece);
     }
     // Hello, the delta and the digest.
-    same(&rt, &SAID_BY_B.len(), &67);
+    same(&rt, &SAID_BY_B.len(), &99);
 }
