@@ -92,20 +92,20 @@ optional_again test some (Some (byte ∷ bytes)) fits = made_again unless_empty 
 pair_takes : Takes (λ p. is_pair p ≡ true) pair pair_field
 unfolding pair_field pair
 pair_takes =
-    made_takes pair_of_parts (then_takes name_takes (number_takes wide64))
-    (λ p fits. (and_from _ _ (and_from _ _ (and_from _ _ fits.0 (lt-ltb p.1 (2 ^ 64) fits.1)) refl) refl, refl))
-
-same_pair : (owner : List ℕ) (held floor progress : ℕ) → floor ≡ 0 → progress ≡ 0 → plain_pair owner held ≡ record { owner = owner; held = held; floor = floor; progress = progress }
-same_pair owner held floor progress no_floor no_progress = rw (no_floor, no_progress) refl
+    made_takes pair_of_parts (then_takes name_takes (then_takes (number_takes wide64) (then_takes (number_takes wide64) (number_takes wide64))))
+    (λ p fits.
+        let held = lt-ltb p.1.0 (2 ^ 64) fits.1.0 in
+        let floor = lt-ltb p.1.1.0 (2 ^ 64) fits.1.1.0 in
+        (and_from _ _ (and_from _ _ (and_from _ _ fits.0 held) floor) (lt-ltb p.1.1.1 (2 ^ 64) fits.1.1.1), refl))
 
 pair_again : (p : Pair) → is_pair p ≡ true → Again pair_field (pair p) p
 unfolding pair_field pair
 pair_again p fits =
-    let progress = and_parts (is_name p.owner && nat_lt p.held (2 ^ 64) && p.floor == 0) (p.progress == 0) fits in
-    let floor = and_parts (is_name p.owner && nat_lt p.held (2 ^ 64)) (p.floor == 0) progress.0 in
+    let progress = and_parts (is_name p.owner && nat_lt p.held (2 ^ 64) && nat_lt p.floor (2 ^ 64)) (nat_lt p.progress (2 ^ 64)) fits in
+    let floor = and_parts (is_name p.owner && nat_lt p.held (2 ^ 64)) (nat_lt p.floor (2 ^ 64)) progress.0 in
     let parts = and_parts (is_name p.owner) (nat_lt p.held (2 ^ 64)) floor.0 in
-    let read = then_again (name_again p.owner parts.0) (number_again wide64 p.held (ltb-true p.held (2 ^ 64) parts.1)) in
-    subst (λ (x : Pair). Again pair_field (pair p) x) (same_pair p.owner p.held p.floor p.progress (eqb-true _ _ floor.1) (eqb-true _ _ progress.1)) (made_again pair_of_parts read)
+    let again : (n : ℕ) → nat_lt n (2 ^ 64) ≡ true → Again (number_field w64) (number w64 n) n = λ n lt. number_again wide64 n (ltb-true n (2 ^ 64) lt) in
+    made_again pair_of_parts (then_again (name_again p.owner parts.0) (then_again (again p.held parts.1) (then_again (again p.floor floor.1) (again p.progress progress.1))))
 
 bound_from : (b : Option (List ℕ)) → is_optional is_name b ≡ true → is_bound b ≡ true
 bound_from None fits = refl

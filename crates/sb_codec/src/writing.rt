@@ -133,7 +133,9 @@ pub(crate) fn write_block(out: &mut Vec<u8>, written: &Block) -> Result<(), Allo
     ensures stands { StandsFirst out.old.items out.new.items }
 {
     write_text(out, written.owner().bytes())?;
+    write_u64(out, written.floor())?;
     write_u64(out, written.after())?;
+    write_u64(out, written.upto())?;
     write_list(out, written.entries())
 }
 
@@ -180,7 +182,9 @@ pub(crate) fn write_pair(out: &mut Vec<u8>, written: &Pair) -> Result<(), AllocE
     ensures stands { StandsFirst out.old.items out.new.items }
 {
     write_text(out, written.owner.bytes())?;
-    write_u64(out, written.upto)
+    write_u64(out, written.upto)?;
+    write_u64(out, written.staged_floor)?;
+    write_u64(out, written.progress)
 }
 
 /// What a row has behind its owner.

@@ -17,7 +17,7 @@ use Rattle.sb_table.specs.Plain.{IsPlainTable, with_entry}
 use Rattle.sb_table.proofs.Plain.{nothing_plain}
 use Rattle.sb_holdings.specs.Held.{Held, nothing, is_nothing, holder_of, shown_of, with_owner, written}
 use Rattle.sb_holdings.specs.Shown.{own}
-use Rattle.sb_holdings.specs.Plain.{alone, with_entries, with_entered, IsKeptHolder, IsHoldings, IsPlainHolder, IsPlainHoldings, next_version}
+use Rattle.sb_holdings.specs.Plain.{alone, IsKeptHolder, IsHoldings, IsPlainHolder, IsPlainHoldings, next_version}
 use Rattle.sb_holdings.specs.Ends.{has_place}
 use Rattle.sb_types.proofs.Texts.{same_text}
 use Rattle.sb_holdings.proofs.Entering.{one_by_one}
@@ -117,24 +117,6 @@ module _ (held : Held) (owner : List ℕ) (t : Table) (some : 0 < length t.entri
 
 same_owners : (m n : FinMap by_text Holder) → ((q : List ℕ) → get m q ≡ get n q) → m ≡ n
 same_owners = same_map nat_list_cmp_total (slice_cmp-IsAntisymmetric nat_cmp-IsAntisymmetric)
-
--- nothing of an owner that is not known leaves all as it is
-pub with_owner-nothing : (held : Held) (owner : List ℕ) (t : Table) → get held.owners owner ≡ None → alone t ≡ nothing → with_owner held owner (alone t) ≡ held
-with_owner-nothing held owner t unknown none =
-    ap (with_owner held owner) none
-    ∙ ap (λ (m : FinMap by_text Holder). let h : Held = record { me = held.me; owners = m } in h)
-    (same_owners (remove held.owners owner) held.owners (λ q. get-remove nat_list_cmp_total held.owners owner q
-    ∙ cond_both (eq_by_cmp by_text q owner) None (get held.owners q) (λ (o : Option Holder). o ≡ get held.owners q) (λ tied. sym (ap (get held.owners) (same_text q owner (texts_ties q owner ∙ tied)) ∙ unknown)) (λ _. refl)))
-
--- what is entered stays
-pub entered-some : (entries others : List Entry) → 0 < length entries → 0 < length (entered entries others)
-entered-some entries [] some = subst (λ (es : List Entry). 0 < length es) (one_by_one entries [] refl) some
-entered-some entries (e ∷ es) some = omega (arith, length-append (without (e ∷ es) entries) (e ∷ es))
-
-pub added-nothing : (held : Held) (owner : List ℕ) (others : List Entry) → get held.owners owner ≡ None → length others ≡ 0 → with_entered held owner others ≡ held
-added-nothing held owner others unknown none =
-    ap (with_entered held owner) (nil_from_length others none)
-    ∙ with_owner-nothing held owner (with_entries (shown_of held owner) []) unknown (ap (λ (o : Option Holder). alone (with_entries (unwrap_or o nothing).shown [])) unknown)
 
 -- ---- an own write
 

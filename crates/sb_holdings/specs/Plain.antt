@@ -11,7 +11,7 @@ use Rattle.sb_types.specs.Writes.{IsHolder}
 use Rattle.sb_types.specs.declared.fault.Fault.{Fault}
 use Rattle.sb_types.specs.declared.fault.Fault.TheVariants.{OutOfTurn, TableFull}
 use Rattle.sb_table.specs.Plain.{IsPlainTable, is_full_for}
-use Rattle.sb_holdings.specs.Held.{Held, is_nothing, shown_of, with_owner}
+use Rattle.sb_holdings.specs.Held.{Held, is_nothing, shown_of}
 
 -- the table, and no stage beside it
 abbrev pub alone : Table → Holder
@@ -52,10 +52,6 @@ pub record IsPlainHoldings (held : Held) : Type 0 where
 -- the table that is shown of an owner
 abbrev pub table_of : Held → List ℕ → Option Table
 table_of held owner = option_map (λ h. h.shown) (get held.owners owner)
-
--- with later entries of an owner entered
-abbrev pub with_entered : Held → List ℕ → List Entry → Held
-with_entered held owner others = with_owner held owner (alone (with_entries (shown_of held owner) others))
 
 -- the version of the next write, 0 where all are spent
 abbrev pub next_version : ℕ → ℕ
