@@ -1,5 +1,5 @@
 -- Digests as plain data, and how they are read.
-use Rattle.std.specs.Prelude.{ℕ, Bool, true, ◌&&◌, List, find, count_by, nat_eq, Option, Some, None}
+use Rattle.std.specs.Prelude.{ℕ, Bool, true, ◌&&◌, List, find, count_by, nat_eq, nat_le, if◌then◌else◌, Option, Some, None}
 use Rattle.std.specs.Option.{option_map_or}
 use Rattle.std.specs.Ordering.{nat_cmp, is_le}
 use Rattle.std.specs.Cmp.Lexicographic.{slice_cmp, pointwise}
@@ -43,6 +43,15 @@ pair_at owner pairs = find (λ pair. pointwise nat_eq pair.owner owner) pairs
 -- the version up to which an owner's writes are held, 0 where the digest does not name it
 abbrev pub held_in : Digest → List ℕ → ℕ
 held_in d owner = option_map_or (λ pair. pair.held) (pair_at owner d.pairs) 0
+
+-- the version above which a sender whose table has this floor offers its owner: the one that is held, where that is at or
+-- above the floor; else how far a stage of that floor has come, where there is one
+abbrev pub number_by : ℕ → Option Pair → ℕ
+number_by floor None = 0
+number_by floor (Some p) = if nat_le floor p.held then p.held else (if nat_eq p.floor floor then p.progress else 0)
+
+abbrev pub number_in : Digest → List ℕ → ℕ → ℕ
+number_in d owner floor = number_by floor (pair_at owner d.pairs)
 
 -- how many pairs' owners are the owner or before it
 abbrev pub at_or_below : List ℕ → List Pair → ℕ

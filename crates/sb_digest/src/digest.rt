@@ -3,7 +3,7 @@ ghost use Rattle.std.specs.Prelude.{◌≡◌, ◌≤◌, ◌+◌, ◌&&◌, [],
 ghost use Rattle.std.specs.List.{list_all};
 ghost use Rattle.std.specs.Option.{option_copied};
 ghost use Rattle.sb_holdings.specs.Plain.{is_from};
-ghost use Rattle.sb_digest.specs.Digests.{digest_of, is_below, covers, held_in, at_or_below};
+ghost use Rattle.sb_digest.specs.Digests.{digest_of, is_below, covers, pair_at, held_in, number_by, number_in, at_or_below};
 ghost use Rattle.sb_digest.specs.Lengths.{bound_length, pair_length, digest_length};
 ghost use Rattle.sb_digest.specs.Limits.{are_pairs_above, is_range, are_digest_parts, is_bound, is_pair, is_digest};
 
@@ -185,6 +185,14 @@ impl Pair {
     {
         BYTE_LENGTH + self.owner.bytes().len() as u64 + NUMBER_LENGTH
     }
+
+    /// The version above which a node offers the owner whose table it holds with this floor: the one that is held, where that
+    /// is at or above the floor. Below it all is offered: a pair tells of no stage.
+    fn number_by(&self, floor: u64) -> u64
+        ensures { result ≡ number_by floor (Some self.now) }
+    {
+        if floor <= self.upto { self.upto } else { 0 }
+    }
 }
 
 impl Digest {
@@ -298,28 +306,42 @@ impl Digest {
     pub fn number(&self, owner: &Name) -> u64
         ensures { result ≡ held_in self.now owner.now }
     {
-        let (number, _) = self.number_from(owner, 0);
-        number
+        match self.pair_from(owner, 0) {
+            (Some(pair), _) => pair.upto,
+            (None, _) => 0,
+        }
     }
 
-    /// The same number, and the place of the next pair, at which to look for the next owner's: as many as there are pairs of
-    /// owners at or below this one. It takes a step where the owner's pair is at `place`, as it is where all owners in turn
-    /// have one, and else a search.
-    pub fn number_from(&self, owner: &Name, place: usize) -> (u64, usize)
-        ensures number { result.0 ≡ held_in self.now owner.now }
+    /// The version above which a node offers the owner whose table it holds with this floor: the greatest that is known, where
+    /// that is at or above the floor, and else 0. And the place of the next pair, at which to look for the next owner's: as
+    /// many as there are pairs of owners at or below this one. It takes a step where the owner's pair is at `place`, as it is
+    /// where all owners in turn have one, and else a search.
+    pub fn number_from(&self, owner: &Name, floor: u64, place: usize) -> (u64, usize)
+        ensures number { result.0 ≡ number_in self.now owner.now floor }
+        ensures place { result.1 ≡ at_or_below owner.now self.now.pairs }
+    {
+        match self.pair_from(owner, place) {
+            (Some(pair), next) => (pair.number_by(floor), next),
+            (None, next) => (0, next),
+        }
+    }
+
+    /// The owner's pair, where it has one, and the place of the next.
+    fn pair_from(&self, owner: &Name, place: usize) -> (Option<Pair>, usize)
+        ensures pair { result.0 ≡ pair_at owner.now self.now.pairs }
         ensures place { result.1 ≡ at_or_below owner.now self.now.pairs }
     {
         if let Some(pair) = self.pairs.get(place) {
             if pair.owner == *owner {
-                return (pair.upto, place + 1);
+                return (Some(*pair), place + 1);
             }
         }
         match self
             .pairs
             .binary_search_by_key(owner, |pair| owner_of(pair))
         {
-            Ok(found) => (self.pairs[found].upto, found + 1),
-            Err(next) => (0, next),
+            Ok(found) => (Some(self.pairs[found]), found + 1),
+            Err(next) => (None, next),
         }
     }
 }

@@ -1,8 +1,8 @@
-use Rattle.std.proofs.Common.{rules, sym, ap, ◌∙◌}
+use Rattle.std.proofs.Common.{rules, Some, sym, ap, ◌∙◌}
 use Rattle.std.proofs.lemmas.List.Sorted.{answers_always}
 use Rattle.sb_digest.specs.Digests.{Pair, digest_of}
-use Rattle.sb_digest.proofs.Searching.{number-at, number-found, number-missing, place-at, place-found, place-missing}
-use Rattle.sb_digest.proofs.digest.Digest.number_from.Goals as goal
+use Rattle.sb_digest.proofs.Searching.{pair-at, pair-found, pair-missing, place-at, place-found, place-missing}
+use Rattle.sb_digest.proofs.digest.Digest.pair_from.Goals as goal
 
 pub returns-then-eq : goal.returns-then-eq
 returns-then-eq c =
@@ -10,7 +10,7 @@ returns-then-eq c =
     let digest = digest_of c.self.inside.want c.self.inside.from c.self.inside.until c.self.inside.pairs.items in
     let same = sym (rw (ap (λ (p : Pair). p.owner) c.pair.view_is) at c.if-eq.ensures) in
     record {
-      number = rw (← c.self.view_is) (ap (λ (p : Pair). p.held) c.pair.view_is ∙ sym (number-at digest c.args.owner.now c.args.place c.in-Some.pair.now c.self.invariant.0 at.3.0 at.3.1 same));
+      pair = rw (← c.self.view_is) (ap (λ (p : Pair). Some p) c.pair.view_is ∙ sym (pair-at digest c.args.owner.now c.args.place c.in-Some.pair.now c.self.invariant.0 at.3.0 at.3.1 same));
       place = rw (← c.self.view_is) (sym (place-at digest c.args.owner.now c.args.place c.in-Some.pair.now c.self.invariant.0 at.3.0 at.3.1 same));
     }
 
@@ -21,7 +21,7 @@ returns-in-Ok c =
     let bound = rw c.deref-2.ensures.value at c.in-Ok.ensures.bound in
     let at = rw c.deref-2.ensures.value at held in
     record {
-      number = rw (← c.self.view_is) (ap (λ (p : Pair). p.held) c.behind-self.view_is ∙ sym (number-found digest c.args.owner.now _ _ c.self.invariant.0 bound at c.index.ensures));
+      pair = rw (← c.self.view_is) (sym (pair-found digest c.args.owner.now _ _ c.self.invariant.0 bound at c.index.ensures));
       place = rw (← c.self.view_is) (sym (place-found digest c.args.owner.now _ c.self.invariant.0 bound at));
     }
 
@@ -32,6 +32,6 @@ returns-in-Err c =
     let bound = rw c.deref-2.ensures.value at c.in-Err.ensures.bound in
     let at = rw c.deref-2.ensures.value at held in
     record {
-      number = rw (← c.self.view_is) (sym (number-missing digest c.args.owner.now _ c.self.invariant.0 bound at));
+      pair = rw (← c.self.view_is) (sym (pair-missing digest c.args.owner.now _ c.self.invariant.0 bound at));
       place = rw (← c.self.view_is) (sym (place-missing digest c.args.owner.now _ c.self.invariant.0 bound at));
     }
