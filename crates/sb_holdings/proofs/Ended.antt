@@ -5,7 +5,7 @@ use Rattle.std.specs.List.{list_all}
 use Rattle.sb_types.specs.declared.limits.TheConstants.{ENTRIES_MOST}
 use Rattle.sb_types.specs.Records.{Entry, Block}
 use Rattle.sb_types.specs.Limits.{are_block_parts, is_delta, is_delta_block}
-use Rattle.sb_types.specs.Runs.{Stands, IsRun, IsBlock, are_ascending, are_distinct, last_version}
+use Rattle.sb_types.specs.Runs.{Stands, IsBlock, are_ascending, are_distinct, last_version}
 use Rattle.sb_holdings.specs.Holders.{named}
 
 pub IsBlock-parts : (b : Block) → are_block_parts b.after b.upto b.entries ≡ true → IsBlock b

@@ -10,9 +10,9 @@ ghost use Rattle.std.specs.BTreeMap.{IsOrdered};
 ghost use Rattle.sb_types.specs.declared.limits.TheConstants.{OWNERS_MOST};
 ghost use Rattle.sb_types.specs.Faults.{Gives};
 ghost use Rattle.sb_types.specs.Runs.{IsRun};
-ghost use Rattle.sb_table.specs.Plain.{IsPlainTable, is_full_for};
+ghost use Rattle.sb_table.specs.Plain.{is_full_for};
 ghost use Rattle.sb_holdings.specs.Held.{holder_of, shown_of, nothing, with_owner, written, held_after_block};
-ghost use Rattle.sb_holdings.specs.Plain.{IsHoldings, IsPlainHoldings, alone, held_of, own_answer, table_of, tables_from};
+ghost use Rattle.sb_holdings.specs.Plain.{IsHoldings, alone, held_of, own_answer, table_of, tables_from};
 ghost use Rattle.sb_holdings.specs.Taken.{holder_after_block};
 ghost use Rattle.sb_holdings.specs.Ends.{Fits};
 ghost use Rattle.sb_holdings.specs.Holders.{told, named, FitsHolder, FitsNew, own_end, Dropped};
@@ -70,7 +70,6 @@ impl Holdings {
     pub fn new(alloc: Global, me: Name, table: Table) -> Result<Holdings, Fault>
         ensures held { IfOk result (λ h. h ≡ held_of me ((me, alone table) ∷ [])) }
         ensures holdings { IfOk result IsHoldings }
-        ensures plain { IsPlainTable table → IfOk result IsPlainHoldings }
         ensures memory { IfErr result (λ fault. fault ≡ Fault.NoMemory) }
     {
         let mut holders = BTreeMap::new(alloc);
@@ -169,7 +168,6 @@ impl Holdings {
         ensures ok { OnOk result (self.new ≡ written self.old entry) }
         ensures err { OnErr result (self.new ≡ self.old) }
         ensures holdings { IsHoldings self.new }
-        ensures plain { IsPlainHoldings self.old → IsPlainHoldings self.new }
     {
         let next = self.upto(&self.me).wrapping_add(1);
         if entry.version() != next {

@@ -1,9 +1,8 @@
-use Rattle.std.proofs.Common.{◌≡◌, ◌<◌, sym, ap, subst, ◌∙◌}
+use Rattle.std.proofs.Common.{◌<◌, sym, ap, subst, ◌∙◌}
 use Rattle.sb_types.specs.Records.{Block}
 use Rattle.sb_types.specs.Runs.{IsRun}
 use Rattle.sb_holdings.specs.Held.{held_after_block}
 use Rattle.sb_holdings.specs.Ends.{Fits}
-use Rattle.sb_holdings.specs.Holders.{named}
 use Rattle.sb_holdings.proofs.Ended.{IsBlock-delta, in_parts}
 use Rattle.sb_holdings.proofs.holdings.Holdings.apply_block.Goals as goal
 
