@@ -1,15 +1,16 @@
 -- What the pairs of what is held tell of an owner.
-use Rattle.std.proofs.Common.{◌≡◌, ℕ, zero, suc, ◌<◌, Bool, true, false, ◌&&◌, List, [], ◌∷◌, map, take, length, get_or, Option, Some, refl, sym, ap, ◌∙◌, subst, arith, inl, inr, nat_cmp, nat_eq, Ordering, Less, Equal, Greater, is_lt}
-use Rattle.std.specs.Prelude.{filter, cond, unwrap_or}
+use Rattle.std.proofs.Common.{◌≡◌, ℕ, zero, suc, ◌<◌, Bool, true, false, ◌&&◌, List, [], ◌∷◌, map, take, length, get_or, Option, Some, None, refl, sym, ap, ◌∙◌, subst, arith, inl, inr, nat_cmp, nat_eq, Ordering, Less, Equal, Greater, is_lt}
+use Rattle.std.specs.Prelude.{filter, cond, unwrap_or, nat_le, if◌then◌else◌}
 use lib.Dec.{T}
 use Rattle.std.specs.List.{slice_get, AllByRecursion}
 use Rattle.std.specs.List.Sorted.{IsStrictlySortedBy}
 use Rattle.std.specs.Option.{option_map, option_map_or}
 use Rattle.std.specs.Ordering.{eq_by_cmp}
 use Rattle.std.specs.Cmp.Lexicographic.{slice_cmp, pointwise, texts_ties}
-use Rattle.std.specs.FinMap.{entries, entries_sorted, get-entries, is_sorted, find}
+use Rattle.std.specs.FinMap.{get, entries, entries_sorted, get-entries, is_sorted, find}
 use Rattle.std.specs.FinMap.Entries.{below_all, is_sorted-where_key}
 use Rattle.std.proofs.lemmas.Bool.{and_parts, cases_order, true≢false}
+use Rattle.std.proofs.lemmas.Bool.Decides.{nat_tests}
 use Rattle.std.proofs.lemmas.Cmp.{nat_list_cmp_total, nat_list_eq_equiv}
 use Rattle.std.proofs.lemmas.Map.Keys.{Less-from_sorted, sorted_tail}
 use Rattle.sb_types.specs.Records.{Holder}
@@ -94,7 +95,7 @@ cut_keeps owner [] (suc count) rises below = refl
 cut_keeps owner (p ∷ ps) zero rises below = sym (missing owner (p ∷ ps) (λ k d l. past_end owner p ps k d below rises l))
 cut_keeps owner (p ∷ ps) (suc count) rises below = ap (λ o. cond (pointwise nat_eq p.owner owner) (Some p) o) (cut_keeps owner ps count (sorted_tail by_owner p ps rises) below)
 
-from_nothing : (floor : ℕ) → 0 ≡ (if nat_le floor 0 then 0 else (if nat_eq 0 floor then 0 else 0))
+from_nothing : (floor : ℕ) → ◌≡◌ {A = ℕ} 0 (if nat_le floor 0 then 0 else (if nat_eq 0 floor then 0 else 0))
 from_nothing floor = grind (arith, nat_tests)
 
 -- the digest's pair of an owner that it covers is that of what is held of it

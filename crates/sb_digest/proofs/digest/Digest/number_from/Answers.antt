@@ -21,7 +21,7 @@ returns-in-Ok c =
     let bound = rw c.deref-2.ensures.value at c.in-Ok.ensures.bound in
     let at = rw c.deref-2.ensures.value at held in
     record {
-      number = rw (← c.self.view_is) (c.number.ensures ∙ sym (number-found digest c.args.owner.now c.args.floor _ _ c.self.invariant.0 bound at c.index.ensures));
+      number = rw (← c.self.view_is) (c.number-in-Ok.ensures ∙ sym (number-found digest c.args.owner.now c.args.floor _ _ c.self.invariant.0 bound at c.index.ensures));
       place = rw (← c.self.view_is) (sym (place-found digest c.args.owner.now _ c.self.invariant.0 bound at));
     }
 
