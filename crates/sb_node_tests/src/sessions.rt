@@ -142,7 +142,7 @@ fn two_nodes_talk(rt: HostRuntime) {
     let alloc = rt.alloc();
     serve_pieces(&rt, alloc, 1);
     serve_pieces(&rt, alloc, 7);
-    serve_pieces(&rt, alloc, 42);
+    serve_pieces(&rt, alloc, 58);
     let told = talk_of_b(&rt, alloc, peer_terms(b"", Some(0)), HELLO_AND_BYE_B);
     same(&rt, &told, &(Ok(Ended::RoundsDone), true));
     let asked = talk_of_a(&rt, alloc);
@@ -165,7 +165,7 @@ fn peers_that_give_out(rt: HostRuntime) {
     let alloc = rt.alloc();
     fill(&rt, alloc, 20, 8);
     fill(&rt, alloc, 12, 0);
-    fill(&rt, alloc, 45, 0);
+    fill(&rt, alloc, 61, 0);
     let terms = Terms {
         breaks: true,
         ..peer_terms(HELLO_A, None)
@@ -205,7 +205,7 @@ fn a_delta_in_any_pieces(rt: HostRuntime) {
     let front = there(&rt, FRAME.get(..17));
     let found = [
         heard(&rt, alloc, &[FRAME], 1, 99),
-        heard(&rt, alloc, &[FRAME], 51, 99),
+        heard(&rt, alloc, &[FRAME], 67, 99),
         heard(&rt, alloc, &[FRAME, FRAME], 4_096, 99),
         heard(&rt, alloc, &[front], 4_096, 99),
         heard(&rt, alloc, &[FRAME], 4_096, 0),
@@ -237,7 +237,7 @@ fn faulty_frames_enter_nothing(rt: HostRuntime) {
 /// The flag true under k, the first write of an owner.
 fn write_of(rt: &impl Abort, alloc: Global, owner: &[u8]) -> Block {
     let entry = Entry::new(key(rt, b"k"), 1, Slot::Set(Value::flag(true)));
-    got(rt, Block::new(name(rt, owner), 0, one(rt, alloc, entry)))
+    got(rt, Block::new(name(rt, owner), 0, 0, 1, one(rt, alloc, entry)))
 }
 
 /// One write of each of so many owners, in the order of their names.
@@ -297,10 +297,10 @@ fn node_of_writes(rt: &impl Abort, alloc: Global, owners: u64) -> NodeCore {
 fn each_owner_is_told_of_in_turn(rt: HostRuntime) {
     let mut session = Session::new(name(&rt, b"c1"), name(&rt, b"a"));
     let mut core = node_of_writes(&rt, rt.alloc(), 1_023);
-    // 72 owners in the first digest, 71 in each of the next 13, and 29 in the last; then all once more.
+    // 33 owners in each of the first 31 digests, and one in the last; then all once more.
     let found = [
         asked_in_turn(&rt, &mut core, &mut session),
         asked_in_turn(&rt, &mut core, &mut session),
     ];
-    same(&rt, &found, &[Some((15, 1_024)), Some((15, 1_024))]);
+    same(&rt, &found, &[Some((32, 1_024)), Some((32, 1_024))]);
 }
