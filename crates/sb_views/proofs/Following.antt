@@ -1,5 +1,5 @@
 -- What is new of grown tables leads on.
-use Rattle.std.proofs.Common.{◌≡◌, ℕ, List, sym, subst}
+use Rattle.std.proofs.Common.{ℕ, List, sym, subst}
 use Rattle.sb_types.specs.Records.{Table}
 use Rattle.sb_holdings.specs.Held.{Held, shown_of}
 use Rattle.sb_holdings.specs.Plain.{IsHoldings}

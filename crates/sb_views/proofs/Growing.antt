@@ -1,5 +1,5 @@
 -- Over own writes and blocks the tables of all owners grow.
-use Rattle.std.proofs.Common.{◌≡◌, ℕ, zero, suc, ◌+◌, ◌≤◌, ◌<◌, true, cond, nat_eq, nat_lt, nat_le, List, [], ◌∷◌, length, Option, Some, None, IfSome, inl, inr, ⊎_elim, refl, sym, ap, subst, ◌∙◌, arith, eqb-true, ltb-true, leb-true}
+use Rattle.std.proofs.Common.{◌≡◌, ℕ, zero, suc, ◌+◌, ◌≤◌, ◌<◌, true, cond, ◌&&◌, nat_eq, nat_lt, nat_le, List, [], ◌∷◌, length, Option, Some, None, IfSome, inl, inr, ⊎_elim, refl, sym, ap, subst, ◌∙◌, arith, eqb-true, ltb-true, leb-true}
 use Rattle.std.proofs.lemmas.Bool.{and_parts, cond_both}
 use Rattle.std.specs.Cmp.Lexicographic.{pointwise}
 use Rattle.sb_types.specs.Records.{Entry, Stage, Block, Holder}
@@ -13,7 +13,7 @@ use Rattle.sb_holdings.specs.declared.ends.BlockEnd.{BlockEnd}
 use Rattle.sb_holdings.specs.declared.ends.BlockEnd.TheVariants.{Own, OwnAhead, Gap, Stale, OwnersFull, Taken, TooManyKeys, NoMemory}
 use Rattle.sb_holdings.specs.Blocks.{part_above, front}
 use Rattle.sb_holdings.specs.Held.{Held, holder_of, shown_of, with_owner, written, held_after_block, held_after_taking}
-use Rattle.sb_holdings.specs.Nodes.{Node, NodeEvent, Took, IsNode, IsNodeEvent, held_by, replay_node, node_after_block}
+use Rattle.sb_holdings.specs.Nodes.{Node, Took, IsNode, IsNodeEvent, held_by, replay_node, node_after_block}
 use Rattle.sb_holdings.specs.Plain.{IsHoldings}
 use Rattle.sb_holdings.specs.Shown.{joins_shown, joined, shown_with, stage_beyond, own}
 use Rattle.sb_holdings.specs.Stages.{stage_for, stage_with, settled, staged_all, staged_front, staged_refused}
@@ -103,8 +103,8 @@ module _ (h : Holder) (b : Block) (i : IsHolder h) (is : IsBlock b) where
   routed-grows p staged to_shown to_stage =
       cond_both (joins_shown h.shown b) (shown_with h p) (cond (nat_lt h.shown.held b.floor) (staged (stage_for h.stage b)) h) Grows
       (λ joins.
-      let more = and_parts _ _ (and_parts _ _ joins).1 in
-      let new = ltb-true h.shown.held b.upto more.1 in
+      let more = and_parts (nat_le b.after h.shown.held) (nat_lt h.shown.held b.upto) (and_parts (nat_le b.floor h.shown.held) (nat_le b.after h.shown.held && nat_lt h.shown.held b.upto) joins).1 in
+      let new : h.shown.held < b.upto = ltb-true h.shown.held b.upto more.1 in
       shown-grows p (to_shown (leb-true b.after h.shown.held more.0) (omega (arith, new))))
       (λ _. cond_both (nat_lt h.shown.held b.floor) (staged (stage_for h.stage b)) h Grows
       (λ beyond. to_stage (stage_for h.stage b) (stage_joins h b i is (ltb-true h.shown.held b.floor beyond) h.stage refl))
