@@ -108,7 +108,7 @@ fn has_wrong_number(rt: &HostRuntime, given: &ArgMatches<'_>, names: &[&'static 
     for name in names {
         let text = value(given, name);
         if !text.bytes().all(|byte| byte.is_ascii_digit()) {
-            let dashes = if name == "FLOOR" { "" } else { "--" };
+            let dashes = if *name == "FLOOR" { "" } else { "--" };
             let _ = eprintln!(rt;
                 "error: invalid value '{text}' for '{dashes}{name}': a number has digits alone"
             );
