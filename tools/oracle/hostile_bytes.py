@@ -75,8 +75,7 @@ def read_digest(body):
     last = b""
     for _ in range(body.number(2)):
         name = body.text(NAME)
-        # how far it is held, the floor of its stage, and how far that has come
-        for _ in range(3):
+        for _ in ("held", "floor", "progress"):
             body.number(8)
         need(last < name and low <= name and (high == b"" or name < high))
         last = name
@@ -85,7 +84,8 @@ def read_digest(body):
 def read_block(body, last_owner):
     owner = body.text(NAME)
     need(last_owner < owner)
-    _floor, last, upto = body.number(8), body.number(8), body.number(8)
+    body.number(8)
+    last, upto = body.number(8), body.number(8)
     need(last < upto)
     keys = set()
     for _ in range(body.number(2)):
@@ -93,10 +93,9 @@ def read_block(body, last_owner):
         need(key not in keys)
         keys.add(key)
         version = body.number(8)
-        need(last < version)
+        need(last < version <= upto)
         last = version
         body.value(0)
-    need(last <= upto)
     return owner
 
 
@@ -191,19 +190,27 @@ def frame(kind, body):
     return bytes([0xA7, VERSION]) + len(payload).to_bytes(4, "big") + payload
 
 
+def pair(owner, held, floor, progress):
+    return text(owner) + u64(held) + u64(floor) + u64(progress)
+
+
+def head(owner, floor, after, upto):
+    return text(owner) + u64(floor) + u64(after) + u64(upto)
+
+
 WEIGHT, ADDRESS, FLAG, REMOVED = b"\x02" + u64(5), b"\x01" + text(b"p:1"), b"\x03\x01", b"\x00"
 TEXT = b"\x04" + u16(3) + b"h\xc3\xa9"
 
 FRAMES = [
     ("hello", frame(1, text(b"c1") + text(b"a"))),
-    ("digest", frame(2, b"\x01" + text(b"a") + text(b"c") + u16(2) + text(b"a") + u64(0) + u64(5) + u64(3) + text(b"b") + u64(7) + u64(0) + u64(0))),
+    ("digest", frame(2, b"\x01" + text(b"a") + text(b"c") + u16(2) + pair(b"a", 0, 0, 0) + pair(b"b", 7, 9, 8))),
     (
         "delta",
         frame(
             3,
             u16(2)
-            + text(b"a") + u64(0) + u64(0) + u64(2) + u16(2) + text(b"w") + u64(1) + WEIGHT + text(b"x") + u64(2) + REMOVED
-            + text(b"b") + u64(3) + u64(1) + u64(5) + u16(3) + text(b"k") + u64(2) + ADDRESS + text(b"l") + u64(3) + FLAG + text(b"m") + u64(4) + TEXT,
+            + head(b"a", 0, 0, 2) + u16(2) + text(b"w") + u64(1) + WEIGHT + text(b"x") + u64(2) + REMOVED
+            + head(b"b", 3, 1, 5) + u16(3) + text(b"k") + u64(2) + ADDRESS + text(b"l") + u64(3) + FLAG + text(b"m") + u64(4) + TEXT,
         ),
     ),
     ("bye", frame(4, b"\x01")),
