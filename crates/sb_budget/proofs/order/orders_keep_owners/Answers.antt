@@ -1,5 +1,5 @@
 use Rattle.std.proofs.Common.{sym, ap, subst, ◌∙◌}
-use Rattle.sb_budget.specs.Cut.{items_of_all, IsPart}
+use Rattle.sb_budget.specs.Cut.{items_of_all, IsPart, IsPlainPart}
 use Rattle.sb_budget.proofs.OrderLemmas.{owner_kept}
 use Rattle.sb_budget.proofs.GatherLemmas.{of_owner_items}
 use Rattle.sb_budget.proofs.order.orders_keep_owners.Goals as goal
@@ -13,4 +13,9 @@ returns-clause-items c = λ offered ordered owner offer moved ascends.
 
 pub returns-clause-cut : goal.returns-clause-cut
 returns-clause-cut c = λ offered ordered offer moved ascends can owner.
-    ((can owner).0, (can owner).1, subst (IsPart (can owner).0 (can owner).1) (sym (owner_kept owner offered ordered offer moved ascends)) (can owner).2)
+    let is = can owner in
+    (is.0, is.1, is.2, subst (IsPart is.0 is.1 is.2) (sym (owner_kept owner offered ordered offer moved ascends)) is.3)
+
+pub returns-clause-plain : goal.returns-clause-plain
+returns-clause-plain c = λ offered ordered offer moved ascends plain owner.
+    subst IsPlainPart (sym (owner_kept owner offered ordered offer moved ascends)) (plain owner)
