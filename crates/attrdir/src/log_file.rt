@@ -100,15 +100,21 @@ pub(crate) fn print_log<'a>(
     }
 }
 
-/// Drops the removals of a log up to a version, prints that version, and ends the log. The faults of `load`, where the version is the
-/// last; then those of `purge_run`, then those of `close`.
-fn purge_lines<L: WriteLog>(rt: &HostRuntime, log: L, floor: Floor) -> Result<(), Fault> {
-    let mut log = log;
+/// Drops the removals of a log up to a version, and prints that version. The faults of `load`, where the version is the last; then
+/// those of `purge_run`.
+fn purge_to<L: WriteLog>(rt: &HostRuntime, log: &mut L, floor: Floor) -> Result<(), Fault> {
     let version = match floor {
         Floor::At(version) => version,
         Floor::Last => log.load(rt.alloc())?.upto(),
     };
-    let (purged, _) = purge_run(rt.alloc(), &mut log, version, &mut rt.stdout());
+    let (purged, _) = purge_run(rt.alloc(), log, version, &mut rt.stdout());
+    purged
+}
+
+/// The same, and ends the log. The faults of `purge_to`, then those of `close`.
+fn purge_lines<L: WriteLog>(rt: &HostRuntime, log: L, floor: Floor) -> Result<(), Fault> {
+    let mut log = log;
+    let purged = purge_to(rt, &mut log, floor);
     purged.and(log.close())
 }
 
