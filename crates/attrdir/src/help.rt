@@ -16,7 +16,7 @@ Example of a node, which is then asked from a second terminal:
 Example of a script:
   $ printf 'world 1024 breadth 100 a b\\nput a w weight 5\\ngive a b 0\\nread b a w\\n' | attrdir sim
   version 1
-  a7020000002203000101610000000000000000000101770000000000000001020000000000000005
+  a703000000320300010161000000000000000000000000000000000000000000000001000101770000000000000001020000000000000005
   taken 1
   a w 1 weight 5";
 
@@ -28,6 +28,7 @@ Each other line is a command, and prints its answer:
   commit N K VALUE, take N        the two halves of a put: the log takes it, the oldest that waits is entered
   commit N K removed              the first half of a del
   crash N K VALUE kept|lost       node N goes down, behind the commit or before it
+  purge N F                       the log of node N lets go of removals up to the version F, and the node goes down
   restart N                       node N opens anew with what its log has
   give A B V                      node A sends node B what it wrote above the version V, as far as a frame has room
   offer N O V                     node N sends what it holds of owner O above the version V: `frame I`
@@ -41,9 +42,9 @@ the last word: the text, but that each byte 00 to 1f, 7f and \\ is a \\ and two 
 
 A fault of a line below the first is printed as `fault N`, and the script goes on: 1 no memory, 2 a name, 3 a key, 4 a value that
 is none, 6 a key too many, 8 no version is left, 9 nothing to remove, 15 the node is down, 21 another writes under
-the node's name, 22 to 25 a Hello that is missing, of another cluster, of the same name or the second. Where a node, a
-connection or a frame is not there, the answer is `nothing`. A fault of the first line is printed too (1, 2, 5 a setting, 24 two
-nodes of one name) and ends the run.
+the node's name, 22 to 25 a Hello that is missing, of another cluster, of the same name or the second, 30 a floor above the last
+version. Where a node, a connection or a frame is not there, the answer is `nothing`. A fault of the first line is printed too (1, 2,
+5 a setting, 24 two nodes of one name) and ends the run.
 
 A fault of the run ends it, after what was answered, with `fault N`, its text and what to do about it on standard error: 1 no
 memory, 16 the script cannot be read, 17 the answers cannot be written, 29 the script takes more than 1,000,000 reads.
@@ -54,14 +55,14 @@ fault that ended the run.
 Example:
   $ printf 'world 1024 breadth 100 a b\\nput a w weight 5\\ngive a b 0\\nread b a w\\n' | attrdir sim
   version 1
-  a7020000002203000101610000000000000000000101770000000000000001020000000000000005
+  a703000000320300010161000000000000000000000000000000000000000000000001000101770000000000000001020000000000000005
   taken 1
   a w 1 weight 5
 
 With --explain each frame that a line sent or shows is said in words behind what the line prints:
   $ printf 'world 1024 breadth 100 a b\\nput a w weight 5\\ngive a b 0\\nread b a w\\n' | attrdir sim --explain
   version 1
-  a7020000002203000101610000000000000000000101770000000000000001020000000000000005
+  a703000000320300010161000000000000000000000000000000000000000000000001000101770000000000000001020000000000000005
   taken 1
     frame 1: hello, cluster sim, node a
     frame 2: delta, blocks 1
