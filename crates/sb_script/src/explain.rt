@@ -90,7 +90,7 @@ fn add_bound(
 /// Adds how far an owner is held, and of which floor its stage is and how far that has come, where there is one.
 fn add_pair(words: &mut String, pair: &Pair) -> Result<(), Fault> {
     let owner = Text(pair.owner.bytes());
-    let (upto, floor, progress) = (pair.upto, pair.floor, pair.progress);
+    let (upto, floor, progress) = (pair.upto, pair.staged_floor, pair.progress);
     if floor == 0 && progress == 0 {
         return add(words, format_args!("    {owner} upto {upto}\n"));
     }

@@ -24,12 +24,7 @@ pub(crate) fn asked(
         // Does nothing: the call tells the prover that the name keeps its limits.
         let _ = name.bytes();
         let upto = if name == owner { after } else { table.upto() };
-        pairs.push(Pair {
-            owner: *name,
-            upto,
-            floor: 0,
-            progress: 0,
-        })?;
+        pairs.push(Pair::new(*name, upto, None))?;
     }
     Digest::new(false, None, None, pairs)
 }
