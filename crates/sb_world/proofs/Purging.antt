@@ -93,12 +93,13 @@ module _ (old : Seen) (me : List ℕ) (effect : Effect) where
         let kept : log.is_clean ≡ true = subst (λ (l : Log). l.is_clean ≡ true) logs clean in
         let content : log.content.floor ≡ (purged floor p.log.content).floor = ap (λ (t : Table). t.floor) (purges.done.content kept) in
         let reached = (floor_reached p.log.content floor).0 in
-        let high : floor ≤ log.content.floor = omega (arith, content, reached) in (
-          cc (same),
+        let high : floor ≤ log.content.floor = omega (arith, content, reached) in
+        let done : IsDone q = (
           ap (λ (x : Turn). x.place.is_up) is,
           subst (λ (l : Log). l.is_open ≡ true) (sym logs) purges.done.is_open,
           subst (λ (l : Log). floor ≤ l.content.floor) (sym logs) high,
-        )
+        ) in
+        (cc, done)
     purge_turned p q frames (Err fault) log purges is clean =
         let no : told_purged told ≡ Err fault = ap (λ (x : Turn). x.answer) is in absurd (cc)
 

@@ -11,7 +11,7 @@ use Rattle.sb_types.specs.Records.{Table, Block}
 use Rattle.sb_holdings.specs.Held.{Held}
 use Rattle.sb_holdings.specs.Nodes.{NodeEvent, Wrote, opened_node, node_after_event}
 use Rattle.sb_holdings.specs.Plain.{tables_from}
-use Rattle.sb_digest.specs.Digests.{Pair, Digest, digest_of}
+use Rattle.sb_digest.specs.Digests.{Pair, Digest, digest_of, staged_pair}
 use Rattle.sb_codec.specs.declared.message.Message.{Message}
 use Rattle.sb_codec.specs.declared.message.Message.TheVariants as messages
 use Rattle.sb_frames.specs.Frames.{frame}
@@ -180,7 +180,7 @@ Restarts p turn = (result : Result Table Fault) × (log : Log) × Loads p.log re
 
 -- of a table that is shown: the number for the owner, how far it is held for each other, and no stage
 abbrev pub numbered_pair : List ℕ → ℕ → List ℕ × Table → Pair
-numbered_pair owner after p = record { owner = p.0; held = if pointwise nat_eq p.0 owner then after else p.1.held; floor = 0; progress = 0 }
+numbered_pair owner after p = staged_pair p.0 (if pointwise nat_eq p.0 owner then after else p.1.held) None
 
 -- a digest of the whole range that has this number for the owner, and of each other what the node itself holds
 abbrev pub asked : Held → List ℕ → ℕ → Digest
