@@ -1,8 +1,9 @@
 -- The content that a log's tables hold.
 use Rattle.std.proofs.Common.{◌≡◌, ℕ, ◌<◌, ◌≤◌, max, Bool, true, false, ◌&&◌, ◌||◌, cond, nat_lt, nat_le, List, [], ◌∷◌, length, Result, Ok, Err, OnOk, refl, sym, ap, subst, ◌∙◌, arith}
-use Rattle.std.proofs.lemmas.Bool.{and_parts, and_from, le-leb, leb-true, ltb-false}
+use Rattle.std.proofs.lemmas.Bool.{and_parts, leb-true, ltb-false}
 use Rattle.std.proofs.lemmas.Bool.Decides.{nat_tests}
 use Rattle.std.specs.List.{list_all}
+use Rattle.std.specs.Prelude.{IfOk, IsOk}
 use Rattle.sqlite_value.specs.Order.{Row}
 use Rattle.sqlite_trees.specs.Tree.{Trees}
 use Rattle.sqlite_catalog.specs.Listing.{IsSound}
@@ -60,8 +61,13 @@ most_in before [] le kept = le
 most_in before (e ∷ es) le kept =
     let parts = and_parts _ _ kept in most_in e.version es (leb-true e.version VERSION_MOST (and_parts _ _ parts.0).1) parts.1
 
-pub kept_most : (t : Table) → IsPlainTable t → list_all is_kept t.entries ≡ true → t.held ≤ VERSION_MOST
-kept_most t plain kept = let most = most_in 0 t.entries (omega arith) kept in omega (arith, plain.last, most)
+pub kept_most : (result : Result Table Fault) → IfOk result IsPlainTable → IfOk result (λ t. list_all is_kept t.entries ≡ true) → IfOk result (λ t. t.held ≤ VERSION_MOST)
+kept_most (Ok t) plain kept = let most = most_in 0 t.entries (omega arith) kept in omega (arith, plain.last, most)
+kept_most (Err fault) plain kept = tt
+
+pub never_err : (result : Result Table Fault) (fault : Fault) → IsOk result → result ≡ Err fault → ⊥
+never_err (Ok t) fault ok is = cc
+never_err (Err other) fault ok is = absurd (cc)
 
 -- what a log of these entries can say makes a content of them
 pub said_content : (last floor : ℕ) (es : List Entry) → CanSay last floor es → IsKeptTable (content_by last floor es) → IsContent (content_by last floor es)
@@ -105,20 +111,12 @@ module _ (last floor greatest : ℕ) (t : Table) (plain : IsPlainTable t) (is : 
       let reach = leb-true last (max floor greatest) more.1 in
       record { order = leb-true floor last parts.0; reach = omega (arith, reach, is, plain.last); most = leb-true last VERSION_MOST more.0 }
 
-  pub so_said : CanSay last floor t.entries → (nat_le floor last && (nat_le last VERSION_MOST && nat_le last (max floor greatest))) ≡ true
-  so_said can =
-      let reach : last ≤ max floor greatest = omega (arith, can.reach, is, plain.last) in
-      and_from _ _ (le-leb floor last can.order) (and_from _ _ (le-leb last VERSION_MOST can.most) (le-leb last (max floor greatest) reach))
-
   module _ (new : Table) (same : new ≡ raised (max last greatest) floor t) where
-    pub content_made : new ≡ content_by last floor t.entries
+    content_made : new ≡ content_by last floor t.entries
     content_made = same ∙ (λ i. record { held = max last ((is ∙ plain.last) i); floor = floor; entries = live floor t.entries })
 
     pub content_kept : CanSay last floor t.entries → IsKeptTable new → IsContent new
     content_kept can kept = subst IsContent (sym content_made) (said_content last floor t.entries can (subst IsKeptTable content_made kept))
-
-    pub content_most : CanSay last floor t.entries → t.held ≤ VERSION_MOST → new.held ≤ VERSION_MOST
-    content_most can most = omega (arith, ap (λ (u : Table). u.held) same, is, can.most, most)
 
 -- ---- without a floor
 
@@ -158,11 +156,11 @@ plain_content owner cluster t db named are = holds_is owner cluster t t.entries 
 
 none_dead : (floor : ℕ) (es : List Entry) → length es ≤ length (live floor es) → live floor es ≡ es
 none_dead floor [] most = refl
-none_dead floor (x ∷ xs) most = go (is_set x.slot || nat_lt floor x.version) most
+none_dead floor (x ∷ xs) most = go (is_set x.slot || nat_lt floor x.version) most (none_dead floor xs)
   where
-    go : (b : Bool) → length (x ∷ xs) ≤ length (cond b (x ∷ live floor xs) (live floor xs)) → cond b (x ∷ live floor xs) (live floor xs) ≡ x ∷ xs
-    go true le = ap (λ (l : List Entry). x ∷ l) (none_dead floor xs (omega (arith, le)))
-    go false le = absurd (omega (arith, le, length-filter_le (λ e. is_set e.slot || nat_lt floor e.version) xs))
+    go : (b : Bool) → length (x ∷ xs) ≤ length (cond b (x ∷ live floor xs) (live floor xs)) → (length xs ≤ length (live floor xs) → live floor xs ≡ xs) → cond b (x ∷ live floor xs) (live floor xs) ≡ x ∷ xs
+    go true le rest = ap (λ (l : List Entry). x ∷ l) (rest (omega (arith, le)))
+    go false le rest = absurd (omega (arith, le, length-filter_le (λ e. is_set e.slot || nat_lt floor e.version) xs))
 
 -- where as many entries live as have rows, all live
 pub all_live : (last floor : ℕ) (found t : Table) → t ≡ content_by last floor found.entries → nat_lt (length t.entries) (length found.entries) ≡ false → live floor found.entries ≡ found.entries

@@ -247,7 +247,7 @@ module _ {S : Type 0} (g : Ghosts S) (settled : (s : S) (db : Trees) → IsTrue 
             closed = (λ e. absurd (never_closed t e), λ shut. absurd (true≢false (sym up ∙ shut)));
             given = record {
               is_open = up;
-              table = is;
+              is = is;
               same = λ clean.
                   let was = still_clean clean in
                   let stands = kept up (no_doubt _ was) in

@@ -118,7 +118,7 @@ pub record Purges (old : Log) (floor : ℕ) (result : Result (Unit {0}) Fault) (
 -- the content, in a table
 pub record Gives (old : Log) (table : Table) (new : Log) : Type 0 where
   pub is_open : new.is_open ≡ true
-  pub table : IsContent table
+  pub is : IsContent table
   pub same : new.is_clean ≡ true → table ≡ old.content
   pub content : new.is_clean ≡ true → new.content ≡ old.content
 

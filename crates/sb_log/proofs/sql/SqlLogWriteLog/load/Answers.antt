@@ -8,7 +8,7 @@ returns-in-Ok-clause-loads g c =
     let r = c.read_content in
     rw (← c.self.view_is)
     (gives g.S.Store g.met.S.Store.settled i.owner i.cluster i.max_version i.is_open c.if-not-self.false i.conn i.table c.self.invariant.0 r.new.conn r.ensures.clean c.in-Ok.table c.in-Ok.ensures.table
-    (λ clean ready. c.in-Ok.ensures.ready clean ready (λ e. cc)) (rw (c.upto.ensures.version, c.floor.ensures.floor) at c.in-Ok.ensures.rows))
+    (λ clean ready. c.in-Ok.ensures.ready clean ready (λ e. cc)) (rw (c.upto-last.ensures.version, c.floor-floor.ensures.floor) at c.in-Ok.ensures.rows))
 
 pub returns-in-Ok-clause-crash : goal.returns-in-Ok-clause-crash
 returns-in-Ok-clause-crash g c clean _ =
@@ -64,7 +64,7 @@ returns-in-Err-LogDamaged g c =
     let was_open : c.args.self.now.is_open ≡ true = rw (← c.self.view_is) c.if-not-self.false in
     record {
       loads = rw (← c.self.view_is) (gives_damaged g.S.Store g.met.S.Store.settled i.owner i.cluster i.max_version i.is_open c.if-not-self.false i.conn i.table c.self.invariant.0 r.new.conn r.ensures.clean
-          (λ clean ready t are can e. (rw (c.upto.ensures.version, c.floor.ensures.floor) at c.in-Err-LogDamaged.ensures.whole) clean ready t are can (cc)));
+          (λ clean ready t are can e. (rw (c.upto-last.ensures.version, c.floor-floor.ensures.floor) at c.in-Err-LogDamaged.ensures.whole) clean ready t are can (cc)));
       closed = λ shut. absurd (true≢false (sym was_open ∙ shut));
       crash = λ clean _. rw (← c.self.view_is)
           (same_left g.S.Store g.met.S.Store.settled i.owner i.cluster i.max_version i.is_open c.if-not-self.false i.conn i.table c.self.invariant.0 r.new.conn r.ensures.clean r.ensures.crash clean);
