@@ -262,7 +262,7 @@ def waiting(check):
 
 def digest(want_one, start, end, pairs):
     """The body of a digest of a range."""
-    told = b"".join(text(name) + number(upto) for name, upto in pairs)
+    told = b"".join(text(name) + number(upto) + number(0) + number(0) for name, upto in pairs)
     return bytes([want_one]) + text(start) + text(end) + number(len(pairs), 2) + told
 
 

@@ -27,7 +27,7 @@ def want(what, found, wanted):
 
 
 # what each frame begins with: the mark, and the version of the format
-FRAME_FRONT = b"\xa7\x02"
+FRAME_FRONT = b"\xa7\x03"
 
 
 def text(word):
@@ -62,13 +62,16 @@ def hello(name, cluster="c"):
 
 
 def digest(want_one, pairs=()):
-    told = b"".join(text(name) + number(upto) for name, upto in pairs)
+    """A digest of owners that are held so far, and of no stage."""
+    told = b"".join(text(name) + number(upto) + number(0) + number(0) for name, upto in pairs)
     return frame(2, bytes([want_one]) + text("") + text("") + number(len(pairs), 2) + told)
 
 
 def delta(owner, after, entries):
+    """A delta of one block, of the floor 0 and up to its last entry, or without one up to the next version."""
     told = b"".join(text(key) + number(version) + slot for key, version, slot in entries)
-    return frame(3, number(1, 2) + text(owner) + number(after) + number(len(entries), 2) + told)
+    upto = entries[-1][1] if entries else after + 1
+    return frame(3, number(1, 2) + text(owner) + number(0) + number(after) + number(upto) + number(len(entries), 2) + told)
 
 
 BYE = frame(4, b"\x01")

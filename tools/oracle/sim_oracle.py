@@ -51,7 +51,7 @@ BUDGET_LEAST, BUDGET_MOST = 1_024, 65_536
 NODES_MOST, KEYS_MOST, OWNERS_MOST = 1_024, 4_096, 1_024
 CONNECTION_MOST = 999_999
 CLUSTER = b"sim"
-FRAME_FRONT = b"\xa7\x02"
+FRAME_FRONT = b"\xa7\x03"
 
 BAD_NAME, BAD_KEY, BAD_VALUE, BAD_SETTING = 2, 3, 4, 5
 TABLE_FULL, VERSIONS_SPENT, NOTHING_THERE, CLOSED = 6, 8, 9, 15
@@ -207,7 +207,8 @@ class Digest:
 
     def payload(self):
         """Spells the message."""
-        pairs = b"".join(text(name) + u64(upto) for name, upto in self.pairs)
+        # Nothing is purged in a world, so nothing is staged.
+        pairs = b"".join(text(name) + u64(upto) + u64(0) + u64(0) for name, upto in self.pairs)
         return b"\x02" + bytes([self.want]) + text(self.start) + text(self.until) + u16(len(self.pairs)) + pairs
 
     def words(self):
@@ -227,11 +228,16 @@ class Digest:
 
 @dataclass(frozen=True)
 class Block:
-    """Entries (key, version, value) of an owner, all that it wrote above `after` up to the last of them."""
+    """Entries (key, version, value) of an owner, all that it wrote above `after` up to the last of them; its floor is 0."""
 
     owner: bytes
     after: int
     entries: tuple
+
+    @property
+    def upto(self):
+        """The version that it reaches."""
+        return self.entries[-1][1]
 
 
 @dataclass(frozen=True)
@@ -244,7 +250,7 @@ class Delta:
         """Spells the message."""
         spelled = b"\x03" + u16(len(self.blocks))
         for block in self.blocks:
-            spelled += text(block.owner) + u64(block.after) + u16(len(block.entries))
+            spelled += text(block.owner) + u64(0) + u64(block.after) + u64(block.upto) + u16(len(block.entries))
             for key, version, value in block.entries:
                 spelled += text(key) + u64(version) + bytes([value.tag]) + value.encoded
         return spelled
@@ -253,8 +259,8 @@ class Delta:
         """Says the message in words."""
         said = [b"delta, blocks %d" % len(self.blocks)]
         for block in self.blocks:
-            last, count = block.entries[-1][1], len(block.entries)
-            said.append(b"    block of %s, after %d, upto %d, entries %d" % (block.owner, block.after, last, count))
+            head = (block.owner, block.after, block.upto, len(block.entries))
+            said.append(b"    block of %s, after %d, upto %d, entries %d" % head)
             for key, version, value in block.entries:
                 said.append(b"      %s %s %d %s" % (block.owner, key, version, value.shown or b"removed -"))
         return said
@@ -352,7 +358,7 @@ class Node:
     def apply(self, block):
         """Takes a block, and says how it ended."""
         owner, entries = block.owner, block.entries
-        last, held = entries[-1][1], self.upto(block.owner)
+        last, held = block.upto, self.upto(block.owner)
         if owner == self.name:
             if last <= held:
                 return b"own"
@@ -390,7 +396,7 @@ class Node:
         blocks, length = {}, 9
         for _, _, owner, number, entry in items:
             length += 10 + len(entry[0]) + len(entry[2].encoded)
-            length += 0 if owner in blocks else 11 + len(owner)
+            length += 0 if owner in blocks else 27 + len(owner)
             if length > world.budget:
                 break
             blocks.setdefault(owner, (number, []))[1].append(entry)
