@@ -1,5 +1,5 @@
 -- The two laws for each part of a message.
-use Rattle.std.proofs.Common.{◌≡◌, ℕ, ◌-◌, ◌^◌, ◌<◌, ◌≤◌, Bool, true, false, ◌&&◌, ◌==◌, List, [], ◌∷◌, length, refl, ap, subst, arith}
+use Rattle.std.proofs.Common.{◌≡◌, ℕ, ◌-◌, ◌^◌, ◌<◌, ◌≤◌, Bool, true, false, ◌&&◌, List, [], ◌∷◌, length, refl, ap, arith}
 use Rattle.std.specs.Prelude.{nat_le, nat_lt, sum_by}
 use Rattle.std.specs.List.{list_all, AllByRecursion}
 use Rattle.std.specs.Str.{is_utf8}
@@ -15,7 +15,7 @@ use Rattle.sb_types.specs.Runs.{are_ascending, are_distinct, last_version}
 use Rattle.sb_types.specs.Lengths.{block_length, delta_length}
 use Rattle.sb_types.specs.Limits.{is_slot, is_entry, are_block_parts, is_delta_block, are_owners_above, are_delta_blocks, is_delta}
 use Rattle.sb_types.specs.declared.format.TheConstants.{TAG_REMOVED, TAG_ADDR, TAG_WEIGHT, TAG_FLAG, TAG_TEXT}
-use Rattle.sb_codec.specs.Spelling.{text, long_text, list, flag, tag_of, content, slot, entry, block}
+use Rattle.sb_codec.specs.Spelling.{text, list, flag, tag_of, content, slot, entry, block}
 use Rattle.sb_codec.specs.Reading.{name_field, key_field, addr_field, weight_field, text_value_field, flag_cases, flag_field, flag_slot, slot_cases, slot_field, entry_of_parts, entry_field, are_block_fields, block_of_fields, block_field, delta_field}
 use Rattle.sb_codec.proofs.Taken.{Takes, wide64, fits_takes, made_takes, then_takes, where_takes, number_takes, text_takes, long_text_takes, list_takes, tagged_takes, made_case, given_case}
 use Rattle.sb_codec.proofs.Again.{Again, given_again, made_again, then_again, where_again, number_again, text_again, long_text_again, list_again, tagged_again}
@@ -129,9 +129,9 @@ block_takes =
     made_takes block_of_fields
     (where_takes (then_takes name_takes (then_takes (number_takes wide64) (then_takes (number_takes wide64) (then_takes (number_takes wide64) (list_takes entry_takes))))))
     (λ b fits.
-        let floor = lt-ltb b.1.0 (2 ^ 64) fits.0.1.0 in
-        let upto = lt-ltb b.1.1.1.0 (2 ^ 64) fits.0.1.1.1.0 in
-        (and_from _ _ (and_from _ _ (and_from _ _ (and_from _ _ fits.0.0 floor) upto) (all_from is_entry b.1.1.1.1 fits.0.1.1.1.1.1)) fits.1, refl))
+    let floor = lt-ltb b.1.0 (2 ^ 64) fits.0.1.0 in
+    let upto = lt-ltb b.1.1.1.0 (2 ^ 64) fits.0.1.1.1.0 in
+    (and_from _ _ (and_from _ _ (and_from _ _ (and_from _ _ fits.0.0 floor) upto) (all_from is_entry b.1.1.1.1 fits.0.1.1.1.1.1)) fits.1, refl))
 
 -- few entries, and a reach above where it begins
 parts_within : (after upto : ℕ) (entries : List Entry) → are_block_parts after upto entries ≡ true → (length entries ≤ ENTRIES_MOST) × (after < upto)
