@@ -329,7 +329,7 @@ fn place(item: &Offered) -> Place {
         item.upto,
         item.rank,
         item.count,
-        item.entry.version(),
+        item.version(),
     )
 }
 

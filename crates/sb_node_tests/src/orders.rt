@@ -102,7 +102,7 @@ fn come(
     let ordered = arranged_by(rt, alloc, &holdings, order);
     let mut are_equal = ordered.len() == wanted.len();
     for (item, place) in ordered.iter().zip(wanted) {
-        are_equal &= (item.owner, item.entry.version()) == *place;
+        are_equal &= (item.owner, item.version()) == *place;
     }
     same_at(rt, &order, &are_equal, &true);
 }
@@ -219,7 +219,7 @@ fn come_by<O: DeltaOrder>(rt: &impl Abort, alloc: Global, order: &O, wanted: &[u
     let ordered = got(rt, arranged(alloc, &holdings, &digest, order));
     let mut are_equal = ordered.len() == wanted.len();
     for (item, version) in ordered.iter().zip(wanted) {
-        are_equal &= item.entry.version() == *version;
+        are_equal &= item.version() == *version;
     }
     are_equal
 }
