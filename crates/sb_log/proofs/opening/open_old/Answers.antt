@@ -17,7 +17,7 @@ returns-in_err-table-clause-whole g c clean ready form last floor is t fits can 
     let found = c.in_ok-found.found in
     let same = one_table _ t found are (c.in_ok-found.ensures.rows clean ready) in
     let says = c.in_ok-meta.ensures.whole form last floor (form_read form t fits) is in
-    let here : CanSay m.last m.floor found.entries = rw (says.1, says.2, same) can in
+    let here : CanSay m.last m.floor found.entries = rw (says.1.0, says.1.1, same) can in
     let ok = c.in_err-table.ensures.whole here in
     absurd (true≢false (sym ok))
 
