@@ -8,14 +8,14 @@ use Rattle.sqlite.proofs.Callers.{one_permutation}
 use Rattle.sb_types.specs.declared.fault.Fault.{Fault}
 use Rattle.sb_types.specs.Records.{Table}
 use Rattle.sb_table.specs.Plain.{plain_table}
-use Rattle.sb_log.specs.Opening.{meta_cells, meta_row, meta_found, writes_found, IsFormOf, IsNamedIn, IsNamed, IsSaid, IsMetaOf, IsRaised, IsCleared, SaysStill, Completes, Opens, Grows, Founds}
+use Rattle.sb_log.specs.Opening.{meta_cells, meta_row, meta_found, writes_found, IsForm, IsFormOf, IsNamedIn, IsNamed, IsSaid, IsMetaOf, IsRaised, IsCleared, SaysStill, Completes, Opens, Grows, Founds}
 use Rattle.sb_log.specs.Form.{log_schema, schema_with}
 use Rattle.sb_log.specs.declared.schema.Made.{Made}
 use Rattle.sb_log.specs.declared.schema.Made.TheVariants.{Neither, Meta, Both}
 use Rattle.sqlite_trees.specs.Tree.{Trees}
 use Rattle.sqlite_schema.specs.declared.schema.Schema.{Schema}
 use Rattle.sqlite_catalog.specs.Listing.{IsSound}
-use Rattle.sb_log.specs.Rows.{AreRowsOf, CanSay, last_in, floor_in}
+use Rattle.sb_log.specs.Rows.{AreRowsOf, CanSay, Drops, last_in, floor_in}
 use Rattle.sb_log.specs.Standing.{HoldsContent}
 use Rattle.sb_log.proofs.Contents.{holds_plain}
 
@@ -167,6 +167,29 @@ names_too owner cluster old mid read db all kept none names =
       meta = names.2;
       rows = names.1 ∙ ap (λ (d : Database). d.trees 1) kept ∙ all.rows;
     }))
+
+-- ---- what is accepted is raised, and cleared
+
+module _ (form : ℕ) (owner cluster : List ℕ) (last floor : ℕ) (metas rows : List Row) (named : IsNamedIn form owner cluster last floor metas) where
+  pub raised_in : (db : Trees) → (form ≡ 1) × IsSound log_schema db × (db 1 ≡ rows) × IsNamedIn 2 owner cluster last floor (db 0) → IsRaised owner cluster metas rows db
+  raised_in db did =
+      record { last = last; floor = floor; older = subst (λ (n : ℕ). IsNamedIn n owner cluster last floor metas) did.0 named; sound = did.1; meta = did.3; same = did.2 }
+
+  pub cleared_in : (mid db : Trees) → mid 1 ≡ rows → IsNamedIn 2 owner cluster last floor (mid 0) → IsSound log_schema db × Drops floor (mid 1) (db 1) × (db 0 ≡ mid 0) → IsCleared owner cluster metas rows db
+  cleared_in mid db same raised did =
+      record {
+        form = form;
+        last = last;
+        floor = floor;
+        said = named;
+        sound = did.0;
+        meta = subst (IsNamedIn 2 owner cluster last floor) (sym did.2) raised;
+        left = subst (λ (before : List Row). Drops floor before (db 1)) same did.1;
+      }
+
+pub form_read : (form : ℕ) (t : Table) → IsFormOf form t → IsForm form
+form_read form t (inl first) = inl first.0
+form_read form t (inr second) = inr second
 
 pub accepts_too : (owner cluster : List ℕ) (old mid read : Database) (db : Trees) → Completes old mid → read ≡ mid
     → IsRaised owner cluster (read.trees 0) (read.trees 1) db ⊎ IsCleared owner cluster (read.trees 0) (read.trees 1) db → Founds owner cluster old db

@@ -12,9 +12,9 @@ returns-then-floor-upto-clause-purges g c =
     rw (← c.self.view_is) (holds_too_high g.S.Store g.met.S.Store.settled i.owner i.cluster i.max_version i.is_open c.if-not-self.false i.conn i.table c.self.invariant.0 c.self.invariant.2 c.args.floor high)
 
 pub returns-then-floor-upto-clause-crash : goal.returns-then-floor-upto-clause-crash
-returns-then-floor-upto-clause-crash g c clean up left may =
+returns-then-floor-upto-clause-crash g c =
     let i = c.self.inside in
-    rw (← c.self.view_is) (inl (settles g.S.Store g.met.S.Store.settled i.owner i.cluster i.conn i.table i.is_open c.self.invariant.0 clean c.if-not-self.false left may))
+    rw (← c.self.view_is) (λ clean _ left may. inl (settles g.S.Store g.met.S.Store.settled i.owner i.cluster i.conn i.table i.is_open c.self.invariant.0 clean c.if-not-self.false left may))
 
 pub returns-then-floor-upto-clause-settled : goal.returns-then-floor-upto-clause-settled
 returns-then-floor-upto-clause-settled g c =
@@ -28,9 +28,9 @@ returns-then-floor-present-clause-purges g c =
     rw (← c.self.view_is) (holds_as_high g.S.Store g.met.S.Store.settled i.owner i.cluster i.max_version i.is_open c.if-not-self.false i.conn i.table c.self.invariant.0 c.self.invariant.2 c.args.floor low)
 
 pub returns-then-floor-present-clause-crash : goal.returns-then-floor-present-clause-crash
-returns-then-floor-present-clause-crash g c clean up left may =
+returns-then-floor-present-clause-crash g c =
     let i = c.self.inside in
-    rw (← c.self.view_is) (inl (settles g.S.Store g.met.S.Store.settled i.owner i.cluster i.conn i.table i.is_open c.self.invariant.0 clean c.if-not-self.false left may))
+    rw (← c.self.view_is) (λ clean _ left may. inl (settles g.S.Store g.met.S.Store.settled i.owner i.cluster i.conn i.table i.is_open c.self.invariant.0 clean c.if-not-self.false left may))
 
 pub returns-then-floor-present-clause-settled : goal.returns-then-floor-present-clause-settled
 returns-then-floor-present-clause-settled g c =
