@@ -261,7 +261,7 @@ room_short None cost room none other = absurd_or (cases_lt room cost)
     absurd_or : (room < cost) ⊎ (cost ≤ room) → room < cost
     absurd_or (inl l) = l
     absurd_or (inr l) = absurd (none l)
-room_short (Some x) cost room some other = absurd (other x refl)
+room_short (Some x) cost room is other = absurd (other x refl)
 
 -- a name is behind the empty text
 pub name_above : (owner : List ℕ) → is_name owner ≡ true → text_lt [] owner ≡ true

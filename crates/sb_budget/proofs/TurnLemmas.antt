@@ -117,14 +117,14 @@ IsTurn budget turn all owners making = (front : List Offered) × (front ++ in_tu
 -- what is left behind in another order is the same
 all_apart : (owner : List ℕ) (xs : List Offered) → offered_by owner xs ≡ [] → All (λ (x : Offered). pointwise nat_eq x.owner owner ≡ false) xs
 all_apart owner [] none = λ k d l. absurd (omega (arith, l))
-all_apart owner (x ∷ xs) none = go (cases_Bool (pointwise nat_eq x.owner owner))
+all_apart owner (x ∷ xs) none = go (cases_Bool (pointwise nat_eq x.owner owner)) (λ rest. all_apart owner xs rest)
   where
     no_item : (y : Offered) (ys : List Offered) → y ∷ ys ≡ [] → ⊥
     no_item y ys e = cc
 
-    go : ((pointwise nat_eq x.owner owner ≡ true) ⊎ (pointwise nat_eq x.owner owner ≡ false)) → All (λ (y : Offered). pointwise nat_eq y.owner owner ≡ false) (x ∷ xs)
-    go (inl t) = absurd (no_item x (offered_by owner xs) (sym (cond-true _ _ _ t) ∙ none))
-    go (inr f) = All-cons (λ (y : Offered). pointwise nat_eq y.owner owner ≡ false) x xs f (all_apart owner xs (sym (cond-false _ _ _ f) ∙ none))
+    go : ((pointwise nat_eq x.owner owner ≡ true) ⊎ (pointwise nat_eq x.owner owner ≡ false)) → (offered_by owner xs ≡ [] → All (λ (y : Offered). pointwise nat_eq y.owner owner ≡ false) xs) → All (λ (y : Offered). pointwise nat_eq y.owner owner ≡ false) (x ∷ xs)
+    go (inl t) later = absurd (no_item x (offered_by owner xs) (sym (cond-true _ _ _ t) ∙ none))
+    go (inr f) later = All-cons (λ (y : Offered). pointwise nat_eq y.owner owner ≡ false) x xs f (later (sym (cond-false _ _ _ f) ∙ none))
 
 none_apart : (owner : List ℕ) (xs : List Offered) → All (λ (x : Offered). pointwise nat_eq x.owner owner ≡ false) xs → offered_by owner xs ≡ []
 none_apart owner [] apart = refl
@@ -140,15 +140,15 @@ same_left owner part xs ys moved =
     no_item : (y : Offered) (zs : List Offered) → [] ≡ y ∷ zs → ⊥
     no_item y zs e = cc
 
-    some : (part : List Item) (a b : Offered) (as bs : List Offered) → block_from owner part (items_of_all (a ∷ as)) ≡ block_from owner part (items_of_all (b ∷ bs))
-    some [] a b as bs = refl
-    some (i ∷ is) a b as bs = refl
+    some : (part : List Item) (a b : Offered) (os qs : List Offered) → block_from owner part (items_of_all (a ∷ os)) ≡ block_from owner part (items_of_all (b ∷ qs))
+    some [] a b os qs = refl
+    some (i ∷ is) a b os qs = refl
 
-    go : (as bs : List Offered) → offered_by owner xs ≡ as → offered_by owner ys ≡ bs → block_from owner part (items_of_all as) ≡ block_from owner part (items_of_all bs)
+    go : (os qs : List Offered) → offered_by owner xs ≡ os → offered_by owner ys ≡ qs → block_from owner part (items_of_all os) ≡ block_from owner part (items_of_all qs)
     go [] [] p q = refl
-    go [] (b ∷ bs) p q = absurd (no_item b bs (sym (none_moved owner xs ys moved p) ∙ q))
-    go (a ∷ as) [] p q = absurd (no_item a as (sym (none_moved owner ys xs (IsPermutation-sym xs ys moved) q) ∙ p))
-    go (a ∷ as) (b ∷ bs) p q = some part a b as bs
+    go [] (b ∷ qs) p q = absurd (no_item b qs (sym (none_moved owner xs ys moved p) ∙ q))
+    go (a ∷ os) [] p q = absurd (no_item a os (sym (none_moved owner ys xs (IsPermutation-sym xs ys moved) q) ∙ p))
+    go (a ∷ os) (b ∷ qs) p q = some part a b os qs
 
 pub left_moved : (front : List Item) (xs ys : List Offered) → IsPermutation xs ys → blocks_of front (items_of_all xs) ≡ blocks_of front (items_of_all ys)
 left_moved front xs ys moved =

@@ -1,6 +1,6 @@
 //! Entries gathered by owner, as the blocks that they are to make.
 ghost use Rattle.std.specs.Prelude.{◌≡◌, ◌≤◌, ◌+◌, true, length, OnOk, OnErr, IfOk, IfErr};
-ghost use Rattle.std.specs.Option.{option_copied, option_map_or};
+ghost use Rattle.std.specs.Option.{option_map_or};
 ghost use Rattle.std.specs.Ordering.{nat_cmp};
 ghost use Rattle.std.specs.Cmp.Lexicographic.{slice_cmp};
 ghost use Rattle.std.specs.List.Sorted.{IsSearchInRange, IsBinarySearchResult};
@@ -103,8 +103,8 @@ pub(crate) fn place_of(gathered: &[BlockBuilder], owner: Name) -> Result<usize, 
 }
 
 /// How many bytes an entry takes, where there is one.
-fn length_of(entry: Option<&Entry>) -> u64
-    ensures length { result ≡ option_map_or (λ e. entry_length e) (option_copied entry.entry) 0 }
+fn length_of(entry: &Option<Entry>) -> u64
+    ensures length { result ≡ option_map_or (λ e. entry_length e) entry.now 0 }
     ensures most { result ≤ ENTRY_LENGTH_MOST }
 {
     match entry {
@@ -114,9 +114,9 @@ fn length_of(entry: Option<&Entry>) -> u64
 }
 
 /// How many bytes an item adds to a delta, by where its owner's entries stand in it.
-pub(crate) fn cost(head: Head, entry: Option<&Entry>, place: Result<usize, usize>) -> u64
-    ensures cost { result ≡ cost_of (item_at head (option_copied entry.entry)) place }
-    ensures owner { is_name head.owner ≡ true }
+pub(crate) fn cost(head: &Head, entry: &Option<Entry>, place: Result<usize, usize>) -> u64
+    ensures cost { result ≡ cost_of (item_at head.now entry.now) place }
+    ensures owner { is_name head.now.owner ≡ true }
     ensures most { result ≤ BLOCK_HEAD_MOST + ENTRY_LENGTH_MOST }
 {
     let name_length = head.owner.bytes().len() as u64;

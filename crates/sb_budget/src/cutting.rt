@@ -14,11 +14,15 @@ fn take(making: &mut DeltaBuilder, is_full: bool, item: Offered) -> Result<bool,
     ensures taking { IfOk result (λ full. (budget : ℕ) (items : List Item) → IsTaking budget items is_full making.old → IsTaking budget (items ++ item_of item ∷ []) full making.new) }
     ensures memory { IfErr result (λ fault. fault ≡ Fault.NoMemory) }
 {
-    let head = item.head();
-    if !is_full && making.push(head, item.entry)? {
+    let owner = item.owner;
+    if is_full {
+        making.leave(owner);
+        return Ok(true);
+    }
+    if making.push(item.head(), item.entry)? {
         return Ok(false);
     }
-    making.leave(head.owner);
+    making.leave(owner);
     Ok(true)
 }
 

@@ -61,7 +61,7 @@ impl DeltaBuilder {
         ensures memory { IfErr result (λ fault. fault ≡ Fault.NoMemory) }
     {
         let place = place_of(&self.gathered, head.owner);
-        let Some(left) = self.room.checked_sub(cost(head, entry.as_ref(), place)) else {
+        let Some(left) = self.room.checked_sub(cost(&head, &entry, place)) else {
             return Ok(false);
         };
         put(self.alloc, &mut self.gathered, place, head, entry)?;

@@ -18,14 +18,14 @@ pub loop-item-preserved : goal.loop-item-preserved
 loop-item-preserved c =
     let y = c.loop-item.yielded in
     let x = c.in-Some.item in
-    (tt, tt, subst (λ (l : List Item). IsTaking c.args.budget l c.in_ok-take.field-0 c.take.new.making) (sym (map-append item_of y (x ∷ [])))
-    (c.in_ok-take.ensures.taking c.args.budget (items_of_all y) c.loop-item.invariant.2))
+    (tt, tt, subst (λ (l : List Item). IsTaking c.args.budget l c.in_ok-is_full.is_full c.take.new.making) (sym (map-append item_of y (x ∷ [])))
+    (c.in_ok-is_full.ensures.taking c.args.budget (items_of_all y) c.loop-item.invariant.2))
 
 pub finish-requires : goal.finish-requires
 finish-requires c =
     let items = c.args.items.items in
     let source = YieldsList-from_vec items c.into_iter-item-iterator.ensures.into_iter_gives.0 (c.into_iter-item-iterator.ensures.into_iter_gives.1 ∙ c.args.items.ok.0) in
-    let ends = YieldsList-end source c.loop-item.yielded _ c.loop-item.yielded_by _ _ c.in-None.is c.next.ensures.steps in
+    let ends = YieldsList-end source c.loop-item.yielded _ c.loop-item.yielded_by _ c.next.new.self c.in-None.is c.next.ensures.steps in
     let all : c.loop-item.yielded ≡ items = sym (map-id c.loop-item.yielded) ∙ ends.0 in
     let taken : IsTaking c.args.budget (items_of_all items) c.loop-item.is_full c.loop-item.making = subst (λ (l : List Offered). IsTaking c.args.budget (items_of_all l) c.loop-item.is_full c.loop-item.making) all c.loop-item.invariant.2 in
     record {
@@ -37,7 +37,7 @@ pub returns-clause-cut : goal.returns-clause-cut
 returns-clause-cut c =
     let items = c.args.items.items in
     let source = YieldsList-from_vec items c.into_iter-item-iterator.ensures.into_iter_gives.0 (c.into_iter-item-iterator.ensures.into_iter_gives.1 ∙ c.args.items.ok.0) in
-    let ends = YieldsList-end source c.loop-item.yielded _ c.loop-item.yielded_by _ _ c.in-None.is c.next.ensures.steps in
+    let ends = YieldsList-end source c.loop-item.yielded _ c.loop-item.yielded_by _ c.next.new.self c.in-None.is c.next.ensures.steps in
     let all : c.loop-item.yielded ≡ items = sym (map-id c.loop-item.yielded) ∙ ends.0 in
     let taken : IsTaking c.args.budget (items_of_all items) c.loop-item.is_full c.loop-item.making = subst (λ (l : List Offered). IsTaking c.args.budget (items_of_all l) c.loop-item.is_full c.loop-item.making) all c.loop-item.invariant.2 in
     IfOk-weaker c.finish.result _ _
@@ -48,7 +48,7 @@ pub returns-clause-some : goal.returns-clause-some
 returns-clause-some c =
     let items = c.args.items.items in
     let source = YieldsList-from_vec items c.into_iter-item-iterator.ensures.into_iter_gives.0 (c.into_iter-item-iterator.ensures.into_iter_gives.1 ∙ c.args.items.ok.0) in
-    let ends = YieldsList-end source c.loop-item.yielded _ c.loop-item.yielded_by _ _ c.in-None.is c.next.ensures.steps in
+    let ends = YieldsList-end source c.loop-item.yielded _ c.loop-item.yielded_by _ c.next.new.self c.in-None.is c.next.ensures.steps in
     let all : c.loop-item.yielded ≡ items = sym (map-id c.loop-item.yielded) ∙ ends.0 in
     let taken : IsTaking c.args.budget (items_of_all items) c.loop-item.is_full c.loop-item.making = subst (λ (l : List Offered). IsTaking c.args.budget (items_of_all l) c.loop-item.is_full c.loop-item.making) all c.loop-item.invariant.2 in
     IfOk-weaker c.finish.result _ _

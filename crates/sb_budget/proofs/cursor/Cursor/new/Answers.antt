@@ -2,8 +2,8 @@ use Rattle.std.proofs.Common.{sym, arith}
 use Rattle.sb_budget.proofs.CursorLemmas.{above_shorter, ranked_some, ranked_none}
 use Rattle.sb_budget.proofs.cursor.Cursor.new.Goals as goal
 
-pub returns-then-le : goal.returns-then-le
-returns-then-le c =
+pub returns-then-upto-after : goal.returns-then-upto-after
+returns-then-upto-after c =
     let table = c.upto.ensures.table in
     record { part = sym (ranked_none c.args.owner.now c.args.table.now c.args.after table.is.run (omega arith)) }
 

@@ -1,5 +1,5 @@
-use Rattle.std.proofs.Common.{◌≡◌, List, sym, ap, subst, ◌∙◌}
-use Rattle.std.specs.Prelude.{ℕ, All}
+use Rattle.std.proofs.Common.{◌≡◌, sym, ap, subst, ◌∙◌}
+use Rattle.std.specs.Prelude.{All}
 use Rattle.sb_budget.specs.declared.offered.Offered.{Offered}
 use Rattle.sb_budget.specs.Parts.{Part}
 use Rattle.sb_budget.proofs.CursorLemmas.{next_of}
@@ -9,10 +9,9 @@ pub returns : goal.returns
 returns c =
     let s = c.self.inside in
     let is = next_of s.owner.now s.table.now s.after _ c.self.invariant.0 in
-    let owner : s.owner.now ≡ c.args.self.now.next.owner = sym is.owner ∙ ap (λ (p : Part). p.next.owner) c.self.view_is in
     record {
-      owner = owner;
+      owner = sym is.owner ∙ ap (λ (p : Part). p.next.owner) c.self.view_is;
       later =
-          subst (λ (p : Part). All (λ (item : Offered). item.owner ≡ c.args.self.now.next.owner) p.later) c.self.view_is
-          (subst (λ (o : List ℕ). All (λ (item : Offered). item.owner ≡ o) _) owner is.later);
+          subst (λ (p : Part). All (λ (item : Offered). item.owner ≡ p.next.owner) p.later) c.self.view_is
+          (λ k d l. is.later k d l ∙ sym is.owner);
     }

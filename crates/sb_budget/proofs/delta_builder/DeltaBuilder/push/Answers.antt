@@ -17,7 +17,7 @@ returns-in_default-clause-next c = λ budget front is.
     let found : IsBinarySearchResult (λ (b : Block). text_cmp b.owner c.args.head.owner) blocks c.place_of-place.result =
     subst (λ (bs : List Block). IsBinarySearchResult (λ (b : Block). text_cmp b.owner c.args.head.owner) bs c.place_of-place.result) c.deref.ensures.value c.place_of-place.ensures.place in
     let old : Making = record { blocks = blocks; room = c.self.inside.room } in
-    let cost : c.cost.result ≡ cost_of item c.place_of-place.result = ? in
+    let cost : c.cost.result ≡ cost_of item c.place_of-place.result = c.cost.ensures.cost in
     let short = room_short c.checked_sub.result c.cost.result c.self.inside.room c.checked_sub.ensures c.in_default.not-Some in
     subst (AfterNext budget front item false) c.self.view_is
     (next_left budget front item old c.self.invariant (subst (IsFrontOf budget front) (sym c.self.view_is) is) c.place_of-place.result bound found
@@ -44,7 +44,7 @@ returns-clause-next c = λ budget front is.
     let found : IsBinarySearchResult (λ (b : Block). text_cmp b.owner c.args.head.owner) blocks c.place_of-place.result =
     subst (λ (bs : List Block). IsBinarySearchResult (λ (b : Block). text_cmp b.owner c.args.head.owner) bs c.place_of-place.result) c.deref.ensures.value c.place_of-place.ensures.place in
     let old : Making = record { blocks = blocks; room = c.self.inside.room } in
-    let cost : c.cost.result ≡ cost_of item c.place_of-place.result = ? in
+    let cost : c.cost.result ≡ cost_of item c.place_of-place.result = c.cost.ensures.cost in
     subst (λ (bs : List Block). AfterNext budget front item true (record { blocks = bs; room = c.in-Some.left })) (sym c.in_ok-put.ensures.placed)
     (next_taken budget front item old c.self.invariant (subst (IsFrontOf budget front) (sym c.self.view_is) is) c.place_of-place.result bound found
     c.in-Some.left (omega (arith, c.in-Some.ensures.0, c.in-Some.ensures.1, cost)))
