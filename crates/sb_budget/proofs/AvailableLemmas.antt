@@ -1,5 +1,5 @@
 -- What is offered of all owners, owner by owner.
-use Rattle.std.proofs.Common.{◌≡◌, ℕ, suc, Bool, true, false, cond, List, [], ◌∷◌, ◌++◌, length, map, filter, ◌⊎◌, inl, inr, refl, sym, ap, ap₂, subst, ◌∙◌, arith, Option, Some, None, IfSome, nat_lt, nat_eq, if◌then◌else◌, Ordering, Less, Equal, append-nil, true≢false}
+use Rattle.std.proofs.Common.{◌≡◌, ℕ, suc, Bool, true, false, cond, List, [], ◌∷◌, ◌++◌, length, filter, ◌⊎◌, inl, inr, refl, sym, ap, ap₂, subst, ◌∙◌, arith, Option, Some, None, IfSome, nat_lt, nat_eq, if◌then◌else◌, Ordering, Less, Equal, append-nil, true≢false}
 use Rattle.std.specs.Prelude.{count_by, AllPairs}
 use Rattle.std.specs.List.{AllByRecursion}
 use Rattle.std.specs.List.Sorted.{IsStrictlySortedBy}
@@ -14,24 +14,24 @@ use Rattle.std.proofs.lemmas.List.Elements.{filter-append, recursion_from_All}
 use Rattle.std.proofs.lemmas.List.Kept.{AllPairs-cons}
 use Rattle.sb_types.specs.Records.{Table, Holder}
 use Rattle.sb_types.specs.Runs.{Stands, IsRun}
-use Rattle.sb_table.specs.Plain.{IsPlainTable, plain_table}
-use Rattle.sb_table.proofs.Plain.{nothing_plain}
+use Rattle.sb_table.specs.Plain.{plain_table}
+
 use Rattle.sb_holdings.specs.Held.{Held}
-use Rattle.sb_holdings.specs.Plain.{IsKeptHolder, IsHoldings, IsPlainHolder, IsPlainHoldings, is_from, each_shown, tables_from}
+use Rattle.sb_holdings.specs.Plain.{IsKeptHolder, IsHoldings, is_from, each_shown, tables_from}
 use Rattle.sb_digest.specs.Digests.{Digest, covers}
 use Rattle.sb_types.proofs.Texts.{same_text, text_same}
 use Rattle.sb_budget.specs.declared.offered.Offered.{Offered}
 use Rattle.sb_budget.specs.Offers.{items_of}
 use Rattle.sb_budget.specs.Offers as offers
 use Rattle.sb_budget.specs.Orders.{offered_by, version_of, Precedes, IsOffer}
-use Rattle.sb_budget.specs.Cut.{items_of_all, IsPart, CanCut, IsPlainPart, IsPlainOffer}
+use Rattle.sb_budget.specs.Cut.{items_of_all, IsPart, CanCut}
 use Rattle.sb_budget.specs.Available.{number_for, available_for, ranked_of, rank_of, count_of, AreRanked}
 use Rattle.sb_budget.proofs.OrderLemmas.{Before}
 use Rattle.sb_budget.proofs.PlaceLemmas.{text_cmp, Equal_from_same}
 use Rattle.sb_budget.proofs.NameLemmas.{some_of}
 use Rattle.sb_budget.proofs.GatherLemmas.{all_at, all_from}
 use Rattle.sb_budget.proofs.HonestLemmas.{mapped_from}
-use Rattle.sb_budget.proofs.RankLemmas.{part_owner, part_items, part_before, part_rank, part_count, part_is, part_plain}
+use Rattle.sb_budget.proofs.RankLemmas.{part_owner, part_items, part_before, part_rank, part_count, part_is}
 
 abbrev IsRising : Table → Type 0
 IsRising t = IsRun 0 t.held t.entries
@@ -198,11 +198,6 @@ module _ (reaches : List ℕ → Bool) (known : List ℕ → Table → ℕ) wher
           part_count o.owner b.table n b.is o stands ∙ ap (λ (os : List Offered). length os) (sym b.part),
         ))
 
-  pub is_plain : (ps : List (List ℕ × Table)) → IsStrictlySortedBy text_cmp (keys_of ps) → ((p : List ℕ × Table) → Stands ps p → IsPlainTable p.1) → IsPlainOffer (all_parts ps)
-  is_plain ps up plain owner =
-      let b = by_owner IsPlainTable nothing_plain ps up plain owner in
-      subst IsPlainPart (sym b.part) (part_plain owner b.table (known owner b.table) b.is)
-
 -- ---- of all that is held
 
 filter_all : (es : List (List ℕ × Holder)) → filter (λ p. is_from None p.0) es ≡ es
@@ -231,9 +226,6 @@ module _ (held : Held) (up : IsStrictlySortedBy text_cmp (keys_of (tables_from N
 
   pub rising_tables : IsHoldings held → (p : List ℕ × Table) → Stands (tables_from None held) p → IsRun 0 p.1.held p.1.entries
   rising_tables is = each_table IsKeptHolder IsRising (λ h kept. kept.is.shown.run) is.each
-
-  pub plain_tables : IsPlainHoldings held → (p : List ℕ × Table) → Stands (tables_from None held) p → IsPlainTable p.1
-  plain_tables is = each_table IsPlainHolder IsPlainTable (λ h plain. plain.shown) is.each
 
 pub items_held : (held : Held) (digest : Digest) → items_of_all (all_parts (covers digest) (number_for digest) (tables_from None held)) ≡ available_for held digest
 items_held held digest = ap (λ ts. items_of_all (all_parts (covers digest) (number_for digest) ts)) (all_tables held) ∙ items_all (covers digest) (number_for digest) (entries held.owners)

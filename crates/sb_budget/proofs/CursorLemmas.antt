@@ -3,7 +3,6 @@ use Rattle.std.proofs.Common.{◌≡◌, ℕ, suc, ◌+◌, ◌<◌, ◌≤◌, 
 use Rattle.std.specs.Prelude.{All}
 use Rattle.sb_types.specs.Records.{Entry, Table}
 use Rattle.sb_types.specs.Runs.{Stands, above, IsRun}
-use Rattle.sb_budget.specs.declared.offered.Offered.{Offered}
 use Rattle.sb_budget.specs.Available.{ranked_of}
 use Rattle.sb_budget.specs.Parts.{Part, part_of}
 use Rattle.sb_budget.specs.Cursors.{Place, first_part, part_at, IsPlace}

@@ -1,28 +1,28 @@
 -- The longest front that fits, by one item after another.
-use Rattle.std.proofs.Common.{◌≡◌, ℕ, suc, ◌+◌, ◌<◌, ◌≤◌, ◌-◌, ◌*◌, Bool, true, false, List, [], ◌∷◌, ◌++◌, length, map, take, drop, ◌⊎◌, inl, inr, refl, sym, ap, ap₂, subst, ◌∙◌, arith, append-nil, append_assoc, length-append, Option, Some, None, true≢false}
+use Rattle.std.proofs.Common.{◌≡◌, ℕ, ◌+◌, ◌<◌, ◌≤◌, ◌-◌, ◌*◌, Bool, true, false, List, [], ◌∷◌, ◌++◌, length, map, take, drop, ◌⊎◌, inl, inr, refl, sym, ap, ap₂, subst, ◌∙◌, arith, append-nil, append_assoc, length-append, Option, Some, None, true≢false, nat_lt}
 use Rattle.std.specs.Prelude.{sum_by, All}
-use Rattle.std.specs.List.{filter_map, cons_option}
+use Rattle.std.specs.List.{cons_option}
 use Rattle.std.specs.Option.{SomeIff}
 use Rattle.std.proofs.Math.Seq.{take-append-add, take-append_seam, drop-append_seam, take-length, drop-length}
-use Rattle.std.proofs.lemmas.Bool.{and_from, le-leb, cases_lt}
+use Rattle.std.proofs.lemmas.Bool.{and_parts, and_from, le-leb, lt-ltb, ltb-true, cases_lt}
 use Rattle.std.proofs.lemmas.List.{length_push, take_at}
-use Rattle.std.proofs.lemmas.List.Elements.{filter_map-append, recursion_from_All, filter-append}
+use Rattle.std.proofs.lemmas.List.Elements.{filter_map-append, filter-append}
 use Rattle.std.proofs.lemmas.List.Sums.{sum_by-cons}
 use Rattle.sb_types.specs.declared.limits.TheConstants.{PAYLOAD_MOST, BUDGET_MOST, ENTRIES_MOST}
 use Rattle.sb_types.specs.Records.{Entry, Block}
-use Rattle.sb_types.specs.Runs.{Stands, IsRun, last_version}
+use Rattle.sb_types.specs.Runs.{Stands, IsRun, are_ascending, last_version}
 use Rattle.sb_types.specs.Lengths.{entry_length, entries_length, block_length, delta_length}
 use Rattle.sb_types.specs.Text.{is_name}
-use Rattle.sb_types.specs.Limits.{are_owners_above, are_block_entries, are_delta_blocks, text_lt}
+use Rattle.sb_types.specs.Limits.{are_owners_above, are_block_parts, are_delta_blocks, text_lt}
 use Rattle.sb_holdings.proofs.Order.{run_front}
 use Rattle.sb_budget.specs.declared.offered.Offered.{Offered}
 use Rattle.sb_budget.specs.Offers.{Item, of_owner, entries_of, block_from, block_of}
 use Rattle.sb_budget.specs.Orders.{offered_by}
-use Rattle.sb_budget.specs.Cut.{item_of, items_of_all, entries_in, owners_of, blocks_of, delta_at, delta_frame_length, IsPart, IsPlainPart, IsCut, CanCut, IsPlainOffer}
-use Rattle.sb_budget.specs.BlocksByOwner.{lowered_of, IsPlainBlock}
+use Rattle.sb_budget.specs.Cut.{item_of, items_of_all, entries_in, owners_of, blocks_of, delta_at, delta_frame_length, IsPart, IsCut, CanCut}
+use Rattle.sb_budget.specs.BlocksByOwner.{lowered_of, HasParts}
 use Rattle.sb_budget.specs.Making.{Making, left_by, IsFrontOf, IsStopped, IsTaking}
 use Rattle.sb_budget.proofs.NameLemmas.{named_some, each_named}
-use Rattle.sb_budget.proofs.GatherLemmas.{map_same, left_length, front_grows, left_more, of_owner_items, all_mapped, all_at}
+use Rattle.sb_budget.proofs.GatherLemmas.{left_length, front_grows, left_more, of_owner_items, all_mapped}
 
 -- ---- the front is the longest
 
@@ -140,19 +140,25 @@ one_of_sum f [] x s = absurd s
 one_of_sum f (y ∷ ys) x (inl p) = omega (arith, sum_by-cons block_length (f y) (map f ys), ap (λ z. block_length (f z)) p)
 one_of_sum f (y ∷ ys) x (inr s) = omega (arith, sum_by-cons block_length (f y) (map f ys), one_of_sum f ys x s)
 
--- one owner's block, of a front of its items
-module _ (owner : List ℕ) (floor after upto : ℕ) (o : Offered) (os : List Offered) (is : IsPart floor after upto (o ∷ os)) (plain : IsPlainPart (o ∷ os)) (more others : List Item) (same : (item_of o ∷ more) ++ others ≡ items_of_all (o ∷ os)) where
-  part : List Item
-  part = item_of o ∷ more
+rises_on : (before : ℕ) (es : List Entry) → are_ascending before es ≡ true → before ≤ last_version before es
+rises_on before [] up = omega arith
+rises_on before (e ∷ es) up =
+    let p = and_parts (nat_lt before e.version) (are_ascending e.version es) up in
+    omega (arith, ltb-true before e.version p.0, rises_on e.version es p.1)
 
+rises : (before : ℕ) (es : List Entry) → are_ascending before es ≡ true → 1 ≤ length es → before < last_version before es
+rises before [] up some = absurd (omega (arith, some))
+rises before (e ∷ es) up some =
+    let p = and_parts (nat_lt before e.version) (are_ascending e.version es) up in
+    omega (arith, ltb-true before e.version p.0, rises_on e.version es p.1)
+
+-- one owner's block, of a front of its items
+module _ (owner : List ℕ) (floor after upto : ℕ) (o : Offered) (os : List Offered) (is : IsPart floor after upto (o ∷ os)) (more others : List Item) (same : (item_of o ∷ more) ++ others ≡ items_of_all (o ∷ os)) where
   heads : (o.floor ≡ floor) × (o.after ≡ after) × (o.upto ≡ upto)
   heads = is.each 0 o (omega arith)
 
   all_entries : entries_of (item_of o ∷ more) ++ entries_of others ≡ entries_in (o ∷ os)
   all_entries = sym (filter_map-append (λ (i : Item). i.entry) (item_of o ∷ more) others) ∙ ap entries_of same ∙ entries_items (o ∷ os)
-
-  these : List Entry
-  these = entries_of (item_of o ∷ more)
 
   run : IsRun after (last_version after (entries_of (item_of o ∷ more))) (entries_of (item_of o ∷ more))
   run =
@@ -160,97 +166,80 @@ module _ (owner : List ℕ) (floor after upto : ℕ) (o : Offered) (os : List Of
       let front : take (length es) (entries_in (o ∷ os)) ≡ es = ap (take (length es)) (sym all_entries) ∙ take_at es (entries_of others) (length es) refl in
       subst (λ l. IsRun after (last_version after l) l) front (run_front (length es) is.run)
 
-  some : 1 ≤ length (entries_of (item_of o ∷ more))
-  some = go o.entry refl
+  order : after < upto
+  order = is.order (nonempty o os)
+    where
+      nonempty : (x : Offered) (xs : List Offered) → x ∷ xs ≡ [] → ⊥
+      nonempty x xs e = cc
+
+  -- where others are left, one of these has an entry
+  some : (j : Item) (js : List Item) → others ≡ j ∷ js → 1 ≤ length (entries_of (item_of o ∷ more))
+  some j js left = go o.entry refl
     where
       go : (e : Option Entry) → o.entry ≡ e → 1 ≤ length (cons_option e (entries_of more))
       go (Some e) h = omega arith
       go None h =
-          let one : o ∷ os ≡ o ∷ [] = is.alone o (inl refl) h in
-          let none : entries_in (o ∷ os) ≡ [] = ap entries_in one ∙ ap (λ e. cons_option e []) h in
-          let last : o.upto ≡ last_version o.after (entries_in (o ∷ os)) = plain.last 0 o (omega arith) in
-          let order = is.order (λ empty. nonempty o os empty) in
-          absurd (omega (arith, order, heads.1, heads.2, last, ap (last_version o.after) none))
-        where
-          nonempty : (x : Offered) (xs : List Offered) → x ∷ xs ≡ [] → ⊥
-          nonempty x xs e = cc
-
-  last : (others : List Item) → (item_of o ∷ more) ++ others ≡ items_of_all (o ∷ os) → (block_from owner (item_of o ∷ more) others).upto ≡ last_version o.after (entries_of (item_of o ∷ more))
-  last [] whole =
-      let all : entries_of (item_of o ∷ more) ≡ entries_in (o ∷ os) = ap entries_of (sym (append-nil (item_of o ∷ more)) ∙ whole) ∙ entries_items (o ∷ os) in
-      plain.last 0 o (omega arith) ∙ ap (last_version o.after) (sym all)
-  last (j ∷ js) whole = refl
-
-  block_entries : (rest : List Item) → (block_from owner (item_of o ∷ more) rest).entries ≡ entries_of (item_of o ∷ more)
-  block_entries [] = refl
-  block_entries (j ∷ js) = refl
-
-  block_after : (rest : List Item) → (block_from owner (item_of o ∷ more) rest).after ≡ o.after
-  block_after [] = refl
-  block_after (j ∷ js) = refl
-
-  block_floor : (rest : List Item) → (block_from owner (item_of o ∷ more) rest).floor ≡ o.floor
-  block_floor [] = refl
-  block_floor (j ∷ js) = refl
+          let one : length (items_of_all (o ∷ os)) ≡ 1 = ap (λ (l : List Offered). length (items_of_all l)) (is.alone o (inl refl) h) in
+          absurd (omega (arith, one, ap (λ (l : List Item). length l) same, length-append (item_of o ∷ more) others, ap (λ (l : List Item). length l) left))
 
   block_takes : (rest : List Item) → entries_length (entries_of (item_of o ∷ more)) ≤ block_length (block_from owner (item_of o ∷ more) rest)
   block_takes [] = omega arith
   block_takes (j ∷ js) = omega arith
 
-  good : entries_length (entries_of (item_of o ∷ more)) ≤ 65536 → are_block_entries after (entries_of (item_of o ∷ more)) ≡ true
-  good small =
+  good : entries_length (entries_of (item_of o ∷ more)) ≤ 65536 → (reach : ℕ) → after < reach → last_version after (entries_of (item_of o ∷ more)) ≤ reach → are_block_parts after reach (entries_of (item_of o ∷ more)) ≡ true
+  good small reach more_than most =
       let es = entries_of (item_of o ∷ more) in
-      let most : length es ≤ ENTRIES_MOST = omega (arith, ten_each es) in
-      let least = some in
-      and_from _ _ (and_from _ _ (and_from _ _ (le-leb 1 (length es) least) (le-leb (length es) ENTRIES_MOST most)) run.ascending) run.distinct
+      let few : length es ≤ ENTRIES_MOST = omega (arith, ten_each es, small) in
+      and_from _ _ (and_from _ _ (and_from _ _ (and_from _ _ (le-leb (length es) ENTRIES_MOST few) (lt-ltb after reach more_than)) run.ascending) (le-leb (last_version after es) reach most)) run.distinct
 
-  plain_block : block_length (block_from owner (item_of o ∷ more) others) ≤ 65536 → IsPlainBlock (block_from owner (item_of o ∷ more) others)
-  plain_block small =
-      let es = entries_of (item_of o ∷ more) in
-      let entries = block_entries others in
-      let starts = block_after others in
-      record {
-        floor = block_floor others ∙ plain.floor 0 o (omega arith);
-        last = last others same ∙ ap₂ last_version (sym starts) (sym entries);
-        entries = ap₂ are_block_entries (starts ∙ heads.1) entries ∙ good (omega (arith, small, block_takes others));
-      }
+  parts_block : block_length (block_from owner (item_of o ∷ more) others) ≤ 65536 → HasParts (block_from owner (item_of o ∷ more) others)
+  parts_block small = go others refl (omega (arith, small, block_takes others))
+    where
+      go : (rest : List Item) → others ≡ rest → entries_length (entries_of (item_of o ∷ more)) ≤ 65536 → HasParts (block_from owner (item_of o ∷ more) rest)
+      go [] none least =
+          let es = entries_of (item_of o ∷ more) in
+          let all : es ≡ entries_in (o ∷ os) = sym (append-nil es) ∙ ap (λ l. es ++ entries_of l) (sym none) ∙ all_entries in
+          ap₂ (λ a u. are_block_parts a u es) heads.1 heads.2 ∙ good least upto order (omega (arith, is.run.most, ap (last_version after) all))
+      go (j ∷ js) left least =
+          let es = entries_of (item_of o ∷ more) in
+          ap (λ a. are_block_parts a (last_version a es) es) heads.1 ∙ good least (last_version after es) (rises after es run.ascending (some j js left)) (omega arith)
 
-plain_part : (owner : List ℕ) (floor after upto : ℕ) (os : List Offered) (part others : List Item) (y : Item) → IsPart floor after upto os → IsPlainPart os → part ++ others ≡ items_of_all os → Stands part y →
-    block_length (block_from owner part others) ≤ 65536 → IsPlainBlock (block_from owner part others)
-plain_part owner floor after upto os [] others y is plain same s small = absurd s
-plain_part owner floor after upto [] (i ∷ more) others y is plain same s small = absurd (no_item i (more ++ others) same)
+parts_of : (owner : List ℕ) (floor after upto : ℕ) (os : List Offered) (part others : List Item) (y : Item) → IsPart floor after upto os → part ++ others ≡ items_of_all os → Stands part y →
+    block_length (block_from owner part others) ≤ 65536 → HasParts (block_from owner part others)
+parts_of owner floor after upto os [] others y is same s small = absurd s
+parts_of owner floor after upto [] (i ∷ more) others y is same s small = absurd (no_item i (more ++ others) same)
   where
     no_item : (x : Item) (xs : List Item) → x ∷ xs ≡ [] → ⊥
     no_item x xs e = cc
-plain_part owner floor after upto (o ∷ os) (i ∷ more) others y is plain same s small =
+parts_of owner floor after upto (o ∷ os) (i ∷ more) others y is same s small =
     let first : item_of o ≡ i = cc in
-    subst (λ (x : Item). (x ∷ more) ++ others ≡ items_of_all (o ∷ os) → block_length (block_from owner (x ∷ more) others) ≤ 65536 → IsPlainBlock (block_from owner (x ∷ more) others)) first
-    (λ whole least. plain_block owner floor after upto o os is plain more others whole least) same small
+    subst (λ (x : Item). (x ∷ more) ++ others ≡ items_of_all (o ∷ os) → block_length (block_from owner (x ∷ more) others) ≤ 65536 → HasParts (block_from owner (x ∷ more) others)) first
+    (λ whole least. parts_block owner floor after upto o os is more others whole least) same small
 
-module _ (offered : List Offered) (can : CanCut offered) (plain : IsPlainOffer offered) (front left : List Item) (whole : front ++ left ≡ items_of_all offered) where
+module _ (offered : List Offered) (can : CanCut offered) (front left : List Item) (whole : front ++ left ≡ items_of_all offered) where
   both : (owner : List ℕ) → of_owner owner front ++ of_owner owner left ≡ items_of_all (offered_by owner offered)
   both owner = sym (filter-append _ front left) ∙ ap (of_owner owner) whole ∙ of_owner_items owner offered
 
-  blocks_plain : sum_by block_length (blocks_of front left) ≤ 65536 → All IsPlainBlock (blocks_of front left)
-  blocks_plain small = all_mapped IsPlainBlock (λ owner. block_of owner front left) (owners_of front) (λ owner s.
+  blocks_parts : sum_by block_length (blocks_of front left) ≤ 65536 → All HasParts (blocks_of front left)
+  blocks_parts small = all_mapped HasParts (λ owner. block_of owner front left) (owners_of front) (λ owner s.
       let part = can owner in
       let some = named_some (λ (i : Item). i.owner) front owner s in
-      plain_part owner part.0 part.1 part.2 (offered_by owner offered) (of_owner owner front) (of_owner owner left) some.0 part.3 (plain owner) (both owner) some.1
+      parts_of owner part.0 part.1 part.2 (offered_by owner offered) (of_owner owner front) (of_owner owner left) some.0 part.3 (both owner) some.1
       (omega (arith, small, one_of_sum (λ owner. block_of owner front left) (owners_of front) owner s)))
 
 pub taken_fits : (budget : ℕ) (items : List Item) (full : Bool) (making : Making) → IsTaking budget items full making → delta_frame_length making.blocks ≤ BUDGET_MOST
 taken_fits budget items false making is = omega (arith, is.room, is.most)
 taken_fits budget items true making is = omega (arith, is.fits, is.most, ap delta_frame_length is.blocks, frame_left is.front (is.next ∷ is.rest))
 
-pub taken_plain : (budget : ℕ) (offered : List Offered) (full : Bool) (making : Making) → CanCut offered → IsPlainOffer offered → IsTaking budget (items_of_all offered) full making → All IsPlainBlock making.blocks
-taken_plain budget offered false making can plain is =
+pub taken_parts : (budget : ℕ) (offered : List Offered) (full : Bool) (making : Making) → CanCut offered → IsTaking budget (items_of_all offered) full making → All HasParts making.blocks
+taken_parts budget offered false making can is =
     let small = taken_fits budget (items_of_all offered) false making is in
-    subst (All IsPlainBlock) (sym is.blocks)
-    (blocks_plain offered can plain (items_of_all offered) [] (append-nil (items_of_all offered)) (omega (arith, small, ap (sum_by block_length) is.blocks)))
-taken_plain budget offered true making can plain is =
+    subst (All HasParts) (sym is.blocks)
+    (blocks_parts offered can (items_of_all offered) [] (append-nil (items_of_all offered)) (omega (arith, small, ap (sum_by block_length) is.blocks)))
+taken_parts budget offered true making can is =
     let small = taken_fits budget (items_of_all offered) true making is in
-    subst (All IsPlainBlock) (sym is.blocks)
-    (blocks_plain offered can plain is.front (is.next ∷ is.rest) is.whole (omega (arith, small, ap (sum_by block_length) is.blocks)))
+    subst (All HasParts) (sym is.blocks)
+    (blocks_parts offered can is.front (is.next ∷ is.rest) is.whole (omega (arith, small, ap (sum_by block_length) is.blocks)))
 
 pub is_delta_of : (blocks : List Block) → delta_frame_length blocks ≤ BUDGET_MOST → are_owners_above [] blocks ≡ true → are_delta_blocks blocks ≡ true
 is_delta_of blocks fits ascending = and_from _ _ ascending (le-leb (delta_length blocks) PAYLOAD_MOST (omega (arith, fits)))

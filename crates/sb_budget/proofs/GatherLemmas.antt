@@ -1,6 +1,6 @@
 -- The items of a front gathered by owner, and the blocks that they make.
-use Rattle.std.proofs.Common.{◌≡◌, ℕ, ◌≤◌, zero, suc, Bool, true, false, cond, List, [], ◌∷◌, ◌++◌, length, map, inl, inr, ⊎_elim, refl, sym, ap, ap₂, subst, ◌∙◌, arith, Ordering, Less, Equal, Greater, nat_eq, if◌then◌else◌, append-nil, append_assoc, true≢false, ◌⊎◌}
-use Rattle.std.specs.Prelude.{sum_by, fold, All}
+use Rattle.std.proofs.Common.{◌≡◌, ℕ, ◌≤◌, zero, suc, Bool, true, false, cond, List, [], ◌∷◌, ◌++◌, map, inl, inr, ⊎_elim, refl, sym, ap, ap₂, subst, ◌∙◌, arith, Ordering, Less, Equal, Greater, nat_eq, append-nil, append_assoc, true≢false, ◌⊎◌}
+use Rattle.std.specs.Prelude.{sum_by, All}
 use Rattle.std.specs.List.{AllByRecursion}
 use Rattle.std.specs.Ordering.{match_ordering}
 use Rattle.std.specs.Cmp.Lexicographic.{pointwise}

@@ -13,7 +13,7 @@ use Rattle.sb_budget.specs.declared.offered.Offered.{Offered}
 use Rattle.sb_budget.specs.Offers.{of_owner}
 use Rattle.sb_budget.specs.Orders.{AscendsByOwner}
 use Rattle.sb_budget.specs.Available.{available_for}
-use Rattle.sb_budget.specs.Cut.{item_of, items_of_all, IsPart, IsCut, CanCut, IsPlainPart, IsPlainOffer}
+use Rattle.sb_budget.specs.Cut.{item_of, items_of_all, IsPart, IsCut, CanCut}
 use Rattle.sb_budget.specs.Parts.{Part, all_of, AreParts, IsDeltaBy}
 use Rattle.sb_budget.proofs.OrderLemmas.{owner_kept}
 use Rattle.sb_budget.proofs.GatherLemmas.{of_owner_items}
@@ -23,9 +23,6 @@ module _ {held : Held} {digest : Digest} {parts : List Part} (are : AreParts hel
   listing_can_cut owner =
       let is = are.cut owner in
       (is.0, is.1, is.2, subst (IsPart is.0 is.1 is.2) (sym (owner_kept owner (all_of parts) listed are.offer moved ascends)) is.3)
-
-  pub listing_plain : IsPlainOffer (all_of parts) → IsPlainOffer listed
-  listing_plain plain owner = subst IsPlainPart (sym (owner_kept owner (all_of parts) listed are.offer moved ascends)) (plain owner)
 
   pub listing_delta : (IsListing : List Offered → Type 0) (budget : ℕ) (delta : List Block) → IsListing listed → IsCut budget (items_of_all listed) delta → IsDeltaBy IsListing budget held digest delta
   listing_delta IsListing budget delta order cut = record {

@@ -1,26 +1,21 @@
 -- One owner's items with their ranks.
-use Rattle.std.proofs.Common.{◌≡◌, ℕ, zero, suc, ◌+◌, ◌<◌, ◌≤◌, Bool, true, false, cond, List, [], ◌∷◌, length, map, ◌⊎◌, inl, inr, ⊎_elim, refl, sym, ap, subst, ◌∙◌, arith, nat_lt, if◌then◌else◌, Option, Some, None}
+use Rattle.std.proofs.Common.{◌≡◌, ℕ, zero, suc, ◌+◌, ◌<◌, ◌≤◌, Bool, true, false, cond, List, [], ◌∷◌, length, map, ◌⊎◌, inl, inr, ⊎_elim, refl, sym, ap, subst, ◌∙◌, arith, nat_lt, if◌then◌else◌, Some, None}
 use Rattle.std.specs.Prelude.{count_by, All, AllPairs}
-use Rattle.std.proofs.lemmas.Bool.{and_parts, ltb-true, ltb-false, lt-ltb, le-ltb, false_from_ne_true, cond-true, cond-false, cond_both}
+use Rattle.std.proofs.lemmas.Bool.{and_parts, ltb-true, ltb-false, lt-ltb, le-ltb, cond-true, cond-false, cond_both}
 use Rattle.std.proofs.lemmas.List.Kept.{AllPairs-cons}
 use Rattle.std.proofs.lemmas.List.Sums.{sum_by-cons}
 use Rattle.sb_types.specs.Records.{Entry, Table}
-use Rattle.sb_types.specs.Runs.{Stands, are_ascending, last_version, above, IsRun}
-use Rattle.sb_table.specs.Plain.{IsPlainTable}
-use Rattle.sb_types.proofs.Standing.{in_above, of_above}
-use Rattle.sb_holdings.proofs.Order.{ascending_kept, greatest, run_above, run_upto}
+use Rattle.sb_types.specs.Runs.{Stands, are_ascending, above, IsRun}
+use Rattle.sb_types.proofs.Standing.{of_above}
+use Rattle.sb_holdings.proofs.Order.{ascending_kept, run_above, run_upto}
 use Rattle.sb_budget.specs.declared.offered.Offered.{Offered}
 use Rattle.sb_budget.specs.Offers.{items_from, items_of}
 use Rattle.sb_budget.specs.Orders.{version_of}
-use Rattle.sb_budget.specs.Cut.{items_of_all, entries_in, IsPart, IsPlainPart}
+use Rattle.sb_budget.specs.Cut.{items_of_all, entries_in, IsPart}
 use Rattle.sb_budget.specs.Available.{ranked_item, ranked_from, ranked_these, ranked_of}
 use Rattle.sb_budget.proofs.OrderLemmas.{Before}
 
 -- ---- the entries of a table above a version
-
-last_stands : (before : ℕ) (es : List Entry) → (last_version before es ≡ before) ⊎ ((e : Entry) × Stands es e × (e.version ≡ last_version before es))
-last_stands before [] = inl refl
-last_stands before (e ∷ es) = ⊎_elim (λ same. inr (e, inl refl, sym same)) (λ found. inr (found.0, inr found.1, found.2)) (last_stands e.version es)
 
 module _ (t : Table) (run : IsRun 0 t.held t.entries) (n : ℕ) where
   pub held_further : (e : Entry) → Stands (above n t.entries) e → n < t.held
@@ -31,23 +26,6 @@ module _ (t : Table) (run : IsRun 0 t.held t.entries) (n : ℕ) where
 
   part_ascending : are_ascending 0 (above n t.entries) ≡ true
   part_ascending = ascending_kept (λ e. nat_lt n e.version) 0 t.entries run.ascending
-
-module _ (t : Table) (plain : IsPlainTable t) (n : ℕ) where
-  -- where the table is held further, its last entry is above
-  held_above : n < t.held → (e : Entry) × Stands (above n t.entries) e × (e.version ≡ t.held)
-  held_above less = ⊎_elim
-      (λ none. absurd (omega (arith, none, plain.last, less)))
-      (λ found. (found.0, in_above n t.entries found.0 found.1 (omega (arith, found.2, plain.last, less)), found.2 ∙ sym plain.last))
-      (last_stands 0 t.entries)
-
-  held_no_further : above n t.entries ≡ [] → n < t.held → ⊥
-  held_no_further none less = let found = held_above less in subst (λ (es : List Entry). Stands es found.0) none found.1
-
-  last_of_above : n < t.held → last_version n (above n t.entries) ≡ t.held
-  last_of_above less =
-      let run = run_above n (omega (arith, less)) plain.run in
-      let found = held_above less in
-      omega (arith, run.most, greatest n (above n t.entries) found.0 run.ascending found.1, found.2)
 
 -- ---- what is ranked
 
@@ -245,19 +223,3 @@ module _ (owner : List ℕ) (t : Table) (n : ℕ) where
         one_bounds : All (λ o. (o.floor ≡ t.floor) × (o.after ≡ n) × (o.upto ≡ t.held)) (news ∷ [])
         one_bounds zero d l = (refl, refl, refl)
         one_bounds (suc k) d l = absurd (omega (arith, l))
-
-  -- and without a floor ends at its last entry
-  pub part_plain : IsPlainTable t → IsPlainPart (ranked_of owner t n)
-  part_plain plain = of_three IsPlainPart
-      (λ e es h.
-      let further = held_further t plain.run n e (subst (λ (l : List Entry). Stands l e) (sym h) (inl refl)) in
-      let last : t.held ≡ last_version n (entries_in (ranked_from 0 owner t n (length (e ∷ es)) (e ∷ es))) =
-      sym (last_of_above t plain n further) ∙ ap (last_version n) (h ∙ sym (entries-ranked owner t n (length (e ∷ es)) 0 (e ∷ es))) in
-      record {
-        floor = λ k d l. (bounds-ranked owner t n (length (e ∷ es)) 0 (e ∷ es) k d l).0 ∙ plain.floor;
-        last = λ k d l.
-            let at = bounds-ranked owner t n (length (e ∷ es)) 0 (e ∷ es) k d l in
-            at.2 ∙ last ∙ ap (λ a. last_version a (entries_in (ranked_from 0 owner t n (length (e ∷ es)) (e ∷ es)))) (sym at.1);
-      })
-      (λ h less. absurd (held_no_further t plain n h less))
-      (λ h less. record { floor = λ k d l. absurd (omega (arith, l)); last = λ k d l. absurd (omega (arith, l)) })

@@ -1,12 +1,12 @@
 -- Items gathered by owner, each owner's as the block that they would make.
-use Rattle.std.specs.Prelude.{◌≡◌, ℕ, ◌+◌, true, nat_eq, if◌then◌else◌, List, [], ◌∷◌, ◌++◌, length, slice_index_or, slice_set, insert, Option, Result, Ok, Err}
+use Rattle.std.specs.Prelude.{◌≡◌, ℕ, ◌+◌, true, nat_eq, if◌then◌else◌, List, [], ◌++◌, length, slice_index_or, slice_set, insert, Option, Result, Ok, Err}
 use Rattle.std.specs.List.{cons_option}
 use Rattle.std.specs.Option.{option_map_or}
 use Rattle.std.specs.Cmp.Lexicographic.{pointwise}
 use Rattle.sb_types.specs.Records.{Entry, Block}
 use Rattle.sb_types.specs.Runs.{last_version}
 use Rattle.sb_types.specs.Lengths.{entry_length}
-use Rattle.sb_types.specs.Limits.{are_block_entries}
+use Rattle.sb_types.specs.Limits.{are_block_parts}
 use Rattle.sb_budget.specs.declared.head.Head.{Head}
 use Rattle.sb_budget.specs.Offers.{Item}
 
@@ -34,7 +34,7 @@ placed (Err i) item blocks = insert blocks i (begun item)
 -- how many bytes the item takes, by whether its owner's block is there
 abbrev pub cost_of : Item → Result ℕ ℕ → ℕ
 cost_of item (Ok i) = option_map_or (λ e. entry_length e) item.entry 0
-cost_of item (Err i) = 11 + length item.owner + option_map_or (λ e. entry_length e) item.entry 0
+cost_of item (Err i) = 27 + length item.owner + option_map_or (λ e. entry_length e) item.entry 0
 
 -- the block up to its last entry, as it is where items of its owner are left behind
 abbrev pub lowered : Block → Block
@@ -44,8 +44,6 @@ lowered b = record { owner = b.owner; floor = b.floor; after = b.after; upto = l
 abbrev pub lowered_of : List ℕ → Block → Block
 lowered_of owner b = if pointwise nat_eq b.owner owner then lowered b else b
 
--- a block of floor 0, up to its last entry
-pub record IsPlainBlock (b : Block) : Type 0 where
-  pub floor : b.floor ≡ 0
-  pub last : b.upto ≡ last_version b.after b.entries
-  pub entries : are_block_entries b.after b.entries ≡ true
+-- its entries are those that a block of its bounds can have
+abbrev pub HasParts : Block → Type 0
+HasParts b = are_block_parts b.after b.upto b.entries ≡ true

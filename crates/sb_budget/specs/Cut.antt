@@ -5,7 +5,7 @@ use Rattle.std.specs.Ordering.{nat_cmp, match_ordering}
 use Rattle.std.specs.Cmp.Lexicographic.{slice_cmp}
 use Rattle.sb_types.specs.declared.format.TheConstants.{HEADER_LENGTH}
 use Rattle.sb_types.specs.Records.{Entry, Block}
-use Rattle.sb_types.specs.Runs.{Stands, IsRun, last_version}
+use Rattle.sb_types.specs.Runs.{Stands, IsRun}
 use Rattle.sb_types.specs.Lengths.{delta_length}
 use Rattle.sb_budget.specs.declared.offered.Offered.{Offered}
 use Rattle.sb_budget.specs.Offers.{Item, block_of}
@@ -60,12 +60,3 @@ pub record IsPart (floor after upto : ℕ) (part : List Offered) : Type 0 where
 -- of each owner the items are such a part, in their order
 abbrev pub CanCut : List Offered → Type 0
 CanCut offered = (owner : List ℕ) → (floor : ℕ) × (after : ℕ) × (upto : ℕ) × IsPart floor after upto (offered_by owner offered)
-
--- one owner's items where nothing has a floor: the last one's entry is at the version that all reach up to
-pub record IsPlainPart (part : List Offered) : Type 0 where
-  pub floor : All (λ o. o.floor ≡ 0) part
-  pub last : All (λ o. o.upto ≡ last_version o.after (entries_in part)) part
-
--- so of each owner
-abbrev pub IsPlainOffer : List Offered → Type 0
-IsPlainOffer offered = (owner : List ℕ) → IsPlainPart (offered_by owner offered)

@@ -1,9 +1,8 @@
 //! What a node has to offer in answer to a digest.
 ghost use Rattle.std.specs.Prelude.{◌≡◌, ◌++◌, [], length, OnOk, IfOk, IfErr};
 ghost use Rattle.sb_types.specs.Runs.{above};
-ghost use Rattle.sb_holdings.specs.Plain.{IsPlainHoldings};
 ghost use Rattle.sb_budget.specs.Available.{available_for, ranked_from, ranked_these, ranked_of, AreRanked};
-ghost use Rattle.sb_budget.specs.Cut.{items_of_all, CanCut, IsPlainOffer};
+ghost use Rattle.sb_budget.specs.Cut.{items_of_all, CanCut};
 ghost use Rattle.sb_budget.specs.Orders.{IsOffer};
 
 use crate::offered::Offered;
@@ -94,7 +93,6 @@ pub fn available(alloc: Global, holdings: &Holdings, digest: &Digest) -> Result<
     ensures ranks { IfOk result (λ offered. AreRanked offered.items) }
     ensures offer { IfOk result (λ offered. IsOffer offered.items) }
     ensures cut { IfOk result (λ offered. CanCut offered.items) }
-    ensures plain { IsPlainHoldings holdings.now → IfOk result (λ offered. IsPlainOffer offered.items) }
     ensures memory { IfErr result (λ fault. fault ≡ Fault.NoMemory) }
 {
     let mut offered = Vec::new(alloc);

@@ -7,7 +7,7 @@ ghost use Rattle.std.specs.List.Sorted.{IsSearchInRange, IsBinarySearchResult};
 ghost use Rattle.sb_types.specs.Text.{is_name};
 ghost use Rattle.sb_types.specs.Runs.{last_version};
 ghost use Rattle.sb_types.specs.Lengths.{entry_length};
-ghost use Rattle.sb_budget.specs.BlocksByOwner.{item_at, grown, begun, placed, cost_of, lowered, IsPlainBlock};
+ghost use Rattle.sb_budget.specs.BlocksByOwner.{item_at, grown, begun, placed, cost_of, lowered, HasParts};
 
 use crate::head::Head;
 use sb_types::{
@@ -18,7 +18,7 @@ use std::alloc::Global;
 use std::marker::Model;
 
 /// The bytes of a block before its entries, the text of its owner's name not counted.
-const BLOCK_START: u64 = BYTE_LENGTH + NUMBER_LENGTH + COUNT_LENGTH;
+const BLOCK_START: u64 = BYTE_LENGTH + 3 * NUMBER_LENGTH + COUNT_LENGTH;
 
 /// The entries of one owner that are to make its block.
 #[derive(Drop)]
@@ -74,13 +74,13 @@ impl BlockBuilder {
         self.head.upto = last_of(self.head.after, &self.entries);
     }
 
-    /// The block of these entries, which has to be one of floor 0, up to its last entry. It takes no memory.
+    /// The block of these entries, which have to be such as a block can have. It takes no memory.
     pub(crate) fn into_block(self) -> Block
-        requires { IsPlainBlock self }
+        requires { HasParts self }
         ensures { result ≡ self }
     {
         let BlockBuilder { head, entries } = self;
-        Block::from_entries(head.owner, head.after, entries)
+        Block::from_parts(head.owner, head.floor, head.after, head.upto, entries)
     }
 }
 

@@ -2,10 +2,8 @@
 ghost use Rattle.std.specs.Prelude.{◌≡◌, ◌∷◌, length, All, IfOk, IfErr};
 ghost use Rattle.std.specs.Option.{option_copied, option_map};
 ghost use Rattle.sb_types.specs.Runs.{above};
-ghost use Rattle.sb_holdings.specs.Plain.{IsPlainHoldings};
 ghost use Rattle.sb_budget.specs.Available.{ranked_of};
 ghost use Rattle.sb_budget.specs.Cursors.{first_place};
-ghost use Rattle.sb_budget.specs.Cut.{IsPlainOffer};
 ghost use Rattle.sb_budget.specs.Making.{head_of};
 ghost use Rattle.sb_budget.specs.Parts.{part_of, all_of, AreParts};
 
@@ -170,7 +168,6 @@ pub fn cursors<'a>(
     digest: &Digest,
 ) -> Result<Vec<Cursor<'a>>, Fault>
     ensures parts { IfOk result (λ cursors. AreParts holdings.now digest.now cursors.items) }
-    ensures plain { IsPlainHoldings holdings.now → IfOk result (λ cursors. IsPlainOffer (all_of cursors.items)) }
     ensures memory { IfErr result (λ fault. fault ≡ Fault.NoMemory) }
 {
     let mut cursors = Vec::new(alloc);

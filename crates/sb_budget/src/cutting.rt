@@ -1,6 +1,6 @@
 //! The longest front of what is offered that fits a budget, as a delta.
 ghost use Rattle.std.specs.Prelude.{◌≡◌, ◌≤◌, ◌<◌, ℕ, List, [], ◌∷◌, ◌++◌, length, IfOk, IfErr};
-ghost use Rattle.sb_budget.specs.Cut.{item_of, items_of_all, IsCut, CanCut, IsPlainOffer};
+ghost use Rattle.sb_budget.specs.Cut.{item_of, items_of_all, IsCut, CanCut};
 ghost use Rattle.sb_budget.specs.Making.{IsTaking};
 ghost use Rattle.sb_budget.specs.Offers.{Item};
 
@@ -43,7 +43,6 @@ pub fn cut(alloc: Global, items: Vec<Offered>, budget: u64) -> Result<Delta, Fau
     requires least { BUDGET_LEAST ≤ budget }
     requires most { budget ≤ BUDGET_MOST }
     requires items { CanCut items.items }
-    requires plain { IsPlainOffer items.items }
     ensures cut { IfOk result (λ delta. IsCut budget (items_of_all items.items) delta) }
     ensures some { IfOk result (λ delta. 0 < length items.items → 0 < length delta) }
     ensures memory { IfErr result (λ fault. fault ≡ Fault.NoMemory) }

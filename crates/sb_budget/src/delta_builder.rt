@@ -1,7 +1,7 @@
 //! A delta in the making, within a budget.
 ghost use Rattle.std.specs.Prelude.{◌≡◌, ◌≤◌, ℕ, List, [], false, All, OnErr, IfOk, IfErr};
 ghost use Rattle.sb_budget.specs.Offers.{Item};
-ghost use Rattle.sb_budget.specs.BlocksByOwner.{item_at, IsPlainBlock};
+ghost use Rattle.sb_budget.specs.BlocksByOwner.{item_at, HasParts};
 ghost use Rattle.sb_budget.specs.Cut.{delta_frame_length};
 ghost use Rattle.sb_budget.specs.Making.{IsFrontOf, AfterNext, left_by};
 
@@ -78,9 +78,9 @@ impl DeltaBuilder {
         }
     }
 
-    /// The delta of the items that were taken, where its blocks have floor 0 and end at their last entries. `NoMemory`.
+    /// The delta of the items that were taken, whose blocks have to be such as a delta can have. `NoMemory`.
     pub fn finish(self) -> Result<Delta, Fault>
-        requires blocks { All IsPlainBlock self.blocks }
+        requires blocks { All HasParts self.blocks }
         requires fits { delta_frame_length self.blocks ≤ BUDGET_MOST }
         ensures blocks { IfOk result (λ delta. delta ≡ self.blocks) }
         ensures memory { IfErr result (λ fault. fault ≡ Fault.NoMemory) }
@@ -91,7 +91,7 @@ impl DeltaBuilder {
 
 /// A block of each owner's entries.
 fn blocks_from(alloc: Global, gathered: Vec<BlockBuilder>) -> Result<Vec<Block>, Fault>
-    requires { All IsPlainBlock gathered.items }
+    requires { All HasParts gathered.items }
     ensures blocks { IfOk result (λ blocks. blocks.items ≡ gathered.items) }
     ensures memory { IfErr result (λ fault. fault ≡ Fault.NoMemory) }
 {

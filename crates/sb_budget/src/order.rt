@@ -1,9 +1,8 @@
 //! What each order of what is offered promises, and what follows of any.
 ghost use Rattle.std.specs.Prelude.{◌≡◌, ◌≤◌, ◌<◌, ℕ, List, length, IfOk, IfErr, IsPermutation};
-ghost use Rattle.sb_holdings.specs.Plain.{IsPlainHoldings};
 ghost use Rattle.sb_budget.specs.declared.offered.Offered.{Offered};
 ghost use Rattle.sb_budget.specs.Available.{available_for};
-ghost use Rattle.sb_budget.specs.Cut.{items_of_all, CanCut, IsPlainOffer};
+ghost use Rattle.sb_budget.specs.Cut.{items_of_all, CanCut};
 ghost use Rattle.sb_budget.specs.Offers.{of_owner};
 ghost use Rattle.sb_budget.specs.Orders.{offered_by, IsOffer, AscendsByOwner};
 ghost use Rattle.sb_budget.specs.Parts.{IsDeltaBy};
@@ -26,8 +25,7 @@ pub trait DeltaOrder {
 
     /// What a peer that sent this digest lacks, in this order: the longest front of it within a frame of at most
     /// `budget` bytes, 1,024 to 65,536, and at least one entry where one is lacking. It is what `cut` makes of some
-    /// order of what `available` lists, without a list of what does not fit; each order says of which. No table may have a
-    /// floor, and no owner a stage. `NoMemory`.
+    /// order of what `available` lists, without a list of what does not fit; each order says of which. `NoMemory`.
     fn delta(
         &self,
         alloc: Global,
@@ -37,7 +35,6 @@ pub trait DeltaOrder {
     ) -> Result<Delta, Fault>
         requires least { BUDGET_LEAST ≤ budget }
         requires most { budget ≤ BUDGET_MOST }
-        requires plain { IsPlainHoldings holdings.now }
         ensures delta { IfOk result (IsDeltaBy AscendsByOwner budget holdings.now digest.now) }
         ensures goes { IfOk result (λ delta. 0 < length (available_for holdings.now digest.now) → 0 < length delta) }
         ensures memory { IfErr result (λ fault. fault ≡ Fault.NoMemory) };
@@ -53,6 +50,4 @@ pub fn orders_keep_owners()
         of_owner owner (items_of_all ordered) ≡ of_owner owner (items_of_all offered) }
     ensures cut { (offered ordered : List Offered) →
         IsOffer offered → IsPermutation offered ordered → AscendsByOwner ordered → CanCut offered → CanCut ordered }
-    ensures plain { (offered ordered : List Offered) →
-        IsOffer offered → IsPermutation offered ordered → AscendsByOwner ordered → IsPlainOffer offered → IsPlainOffer ordered }
 {}

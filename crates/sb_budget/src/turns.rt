@@ -2,7 +2,7 @@
 ghost use Rattle.std.specs.Prelude.{◌≡◌, ◌≤◌, ◌<◌, ◌++◌, ℕ, List, length, All, IfOk, IfErr};
 ghost use Rattle.std.specs.Option.{option_copied};
 ghost use Rattle.sb_budget.specs.Offers.{Item};
-ghost use Rattle.sb_budget.specs.Cut.{items_of_all, blocks_of, IsCut, CanCut, IsPlainOffer};
+ghost use Rattle.sb_budget.specs.Cut.{items_of_all, blocks_of, IsCut, CanCut};
 ghost use Rattle.sb_budget.specs.Parts.{all_of};
 ghost use Rattle.sb_budget.specs.Turns.{in_turns};
 
@@ -54,7 +54,6 @@ pub fn cut_in_turns(
     requires least { BUDGET_LEAST ≤ budget }
     requires most { budget ≤ BUDGET_MOST }
     requires items { CanCut (in_turns turns owners.items) }
-    requires plain { IsPlainOffer (in_turns turns owners.items) }
     ensures cut { IfOk result (λ delta. IsCut budget (items_of_all (in_turns turns owners.entry.items)) delta) }
     ensures some { IfOk result (λ delta. 0 < length (in_turns turns owners.entry.items) → 0 < length delta) }
     ensures memory { IfErr result (λ fault. fault ≡ Fault.NoMemory) }

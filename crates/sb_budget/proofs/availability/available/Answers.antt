@@ -4,10 +4,10 @@ use Rattle.std.specs.Map.{keys_of}
 use Rattle.sb_holdings.specs.Plain.{tables_from}
 use Rattle.sb_digest.specs.Digests.{covers}
 use Rattle.sb_budget.specs.Available.{number_for, AreRanked}
-use Rattle.sb_budget.specs.Cut.{items_of_all, CanCut, IsPlainOffer}
+use Rattle.sb_budget.specs.Cut.{items_of_all, CanCut}
 use Rattle.sb_budget.specs.Orders.{IsOffer}
 use Rattle.sb_budget.proofs.PlaceLemmas.{text_cmp}
-use Rattle.sb_budget.proofs.AvailableLemmas.{all_made, items_held, rising_tables, plain_tables, can_cut, is_offer, are_ranked, is_plain}
+use Rattle.sb_budget.proofs.AvailableLemmas.{all_made, items_held, rising_tables, can_cut, is_offer, are_ranked}
 use Rattle.sb_budget.proofs.availability.available.Goals as goal
 
 pub returns-clause-items : goal.returns-clause-items
@@ -47,12 +47,3 @@ returns-clause-cut c =
     let made = all_made (covers digest) (number_for digest) c.loop-owner.offered.items c.loop-owner.owner-iterator tables c.loop-owner.invariant c.in-None.ensures.steps.0 in
     let each = rising_tables held up c.tables_from-owner-items.ensures.holdings in
     subst CanCut (sym made) (can_cut (covers digest) (number_for digest) tables up each)
-
-pub returns-clause-plain : goal.returns-clause-plain
-returns-clause-plain c = λ plain.
-    let held = c.args.holdings.now in
-    let digest = c.args.digest.now in
-    let tables = tables_from None held in
-    let up : IsStrictlySortedBy text_cmp (keys_of tables) = rw c.tables_from-owner-items.ensures.tables at c.tables_from-owner-items.ensures.ascending in
-    let made = all_made (covers digest) (number_for digest) c.loop-owner.offered.items c.loop-owner.owner-iterator tables c.loop-owner.invariant c.in-None.ensures.steps.0 in
-    subst IsPlainOffer (sym made) (is_plain (covers digest) (number_for digest) tables up (plain_tables held up plain))

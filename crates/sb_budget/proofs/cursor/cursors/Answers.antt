@@ -1,15 +1,15 @@
-use Rattle.std.proofs.Common.{◌≡◌, List, sym, ap, subst, ◌∙◌}
+use Rattle.std.proofs.Common.{◌≡◌, sym, ap, subst, ◌∙◌}
 use Rattle.std.specs.Prelude.{None}
 use Rattle.std.specs.List.Sorted.{IsStrictlySortedBy}
 use Rattle.std.specs.Map.{keys_of}
 use Rattle.sb_holdings.specs.Plain.{tables_from}
 use Rattle.sb_digest.specs.Digests.{covers}
 use Rattle.sb_budget.specs.Available.{number_for, AreRanked}
-use Rattle.sb_budget.specs.Cut.{items_of_all, CanCut, IsPlainOffer}
+use Rattle.sb_budget.specs.Cut.{items_of_all, CanCut}
 use Rattle.sb_budget.specs.Orders.{IsOffer}
-use Rattle.sb_budget.specs.Parts.{Part, all_of, AreParts}
+use Rattle.sb_budget.specs.Parts.{all_of, AreParts}
 use Rattle.sb_budget.proofs.PlaceLemmas.{text_cmp}
-use Rattle.sb_budget.proofs.AvailableLemmas.{all_parts, items_held, rising_tables, plain_tables, can_cut, is_offer, are_ranked, is_plain}
+use Rattle.sb_budget.proofs.AvailableLemmas.{all_parts, items_held, rising_tables, can_cut, is_offer, are_ranked}
 use Rattle.sb_budget.proofs.PartLemmas.{all_pieces, all_pieced, items_of_pieces, chains_of_pieces, names_of_pieces}
 use Rattle.sb_budget.proofs.cursor.cursors.Goals as goal
 
@@ -30,14 +30,3 @@ returns-clause-parts c =
       chains = chains_of_pieces (covers digest) (number_for digest) tables each;
       names = names_of_pieces (covers digest) (number_for digest) tables up;
     })
-
-pub returns-clause-plain : goal.returns-clause-plain
-returns-clause-plain c = λ plain.
-    let held = c.args.holdings.now in
-    let digest = c.args.digest.now in
-    let tables = tables_from None held in
-    let up : IsStrictlySortedBy text_cmp (keys_of tables) = rw c.tables_from-owner-items.ensures.tables at c.tables_from-owner-items.ensures.ascending in
-    let made = all_pieced (covers digest) (number_for digest) c.loop-owner.cursors.items c.loop-owner.owner-iterator tables c.loop-owner.invariant c.in-None.ensures.steps.0 in
-    let all : all_of (all_pieces (covers digest) (number_for digest) tables) ≡ all_parts (covers digest) (number_for digest) tables = items_of_pieces (covers digest) (number_for digest) tables in
-    subst (λ (ps : List Part). IsPlainOffer (all_of ps)) (sym made)
-    (subst IsPlainOffer (sym all) (is_plain (covers digest) (number_for digest) tables up (plain_tables held up plain)))

@@ -1,4 +1,4 @@
-use Rattle.std.proofs.Common.{◌≡◌, ◌<◌, ◌++◌, ◌∷◌, [], ℕ, List, length, Bool, sym, ap, subst, ◌∙◌, arith}
+use Rattle.std.proofs.Common.{◌≡◌, ◌<◌, ◌∷◌, [], List, length, sym, subst, ◌∙◌, arith}
 use Rattle.std.proofs.lemmas.Iterator.Adapters.{YieldsList-from_vec}
 use Rattle.std.proofs.lemmas.Iterator.Consumers.{YieldsList-end}
 use Rattle.std.proofs.lemmas.List.{map-id, map-append, length-map}
@@ -8,7 +8,7 @@ use Rattle.sb_budget.specs.declared.offered.Offered.{Offered}
 use Rattle.sb_budget.specs.Offers.{Item}
 use Rattle.sb_budget.specs.Cut.{item_of, items_of_all, IsCut}
 use Rattle.sb_budget.specs.Making.{IsTaking}
-use Rattle.sb_budget.proofs.CutLemmas.{cut_taken, some_taken, taken_fits, taken_plain}
+use Rattle.sb_budget.proofs.CutLemmas.{cut_taken, some_taken, taken_fits, taken_parts}
 use Rattle.sb_budget.proofs.cutting.cut.Goals as goal
 
 pub loop-item-init : goal.loop-item-init
@@ -29,7 +29,7 @@ finish-requires c =
     let all : c.loop-item.yielded ≡ items = sym (map-id c.loop-item.yielded) ∙ ends.0 in
     let taken : IsTaking c.args.budget (items_of_all items) c.loop-item.is_full c.loop-item.making = subst (λ (l : List Offered). IsTaking c.args.budget (items_of_all l) c.loop-item.is_full c.loop-item.making) all c.loop-item.invariant.2 in
     record {
-      blocks = taken_plain c.args.budget items c.loop-item.is_full c.loop-item.making c.requires.items c.requires.plain taken;
+      blocks = taken_parts c.args.budget items c.loop-item.is_full c.loop-item.making c.requires.items taken;
       fits = taken_fits c.args.budget (items_of_all items) c.loop-item.is_full c.loop-item.making taken;
     }
 

@@ -1,4 +1,4 @@
-use Rattle.std.proofs.Common.{◌≡◌, ◌∷◌, ◌++◌, [], true, false, Bool, List, ap, subst, sym, ◌∙◌}
+use Rattle.std.proofs.Common.{◌∷◌, ◌++◌, [], true, false, Bool, ap, subst, sym}
 use Rattle.sb_budget.specs.Offers.{Item}
 use Rattle.sb_budget.specs.Cut.{item_of}
 use Rattle.sb_budget.specs.BlocksByOwner.{item_at}

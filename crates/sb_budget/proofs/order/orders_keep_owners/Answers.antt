@@ -1,5 +1,5 @@
 use Rattle.std.proofs.Common.{sym, ap, subst, ◌∙◌}
-use Rattle.sb_budget.specs.Cut.{items_of_all, IsPart, IsPlainPart}
+use Rattle.sb_budget.specs.Cut.{items_of_all, IsPart}
 use Rattle.sb_budget.proofs.OrderLemmas.{owner_kept}
 use Rattle.sb_budget.proofs.GatherLemmas.{of_owner_items}
 use Rattle.sb_budget.proofs.order.orders_keep_owners.Goals as goal
@@ -15,7 +15,3 @@ pub returns-clause-cut : goal.returns-clause-cut
 returns-clause-cut c = λ offered ordered offer moved ascends can owner.
     let is = can owner in
     (is.0, is.1, is.2, subst (IsPart is.0 is.1 is.2) (sym (owner_kept owner offered ordered offer moved ascends)) is.3)
-
-pub returns-clause-plain : goal.returns-clause-plain
-returns-clause-plain c = λ offered ordered offer moved ascends plain owner.
-    subst IsPlainPart (sym (owner_kept owner offered ordered offer moved ascends)) (plain owner)

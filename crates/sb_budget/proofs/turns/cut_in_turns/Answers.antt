@@ -1,17 +1,16 @@
-use Rattle.std.proofs.Common.{◌≡◌, ◌<◌, ◌++◌, ◌∷◌, [], suc, true, false, Bool, ℕ, List, map, length, refl, sym, subst, ap, ap₂, ◌∙◌, arith, Option}
+use Rattle.std.proofs.Common.{◌≡◌, ◌<◌, ◌++◌, ◌∷◌, [], suc, true, false, Bool, ℕ, List, map, length, refl, sym, subst, ap, ap₂, ◌∙◌, arith}
 use Rattle.std.proofs.lemmas.Result.{IfOk-weaker}
 use Rattle.std.proofs.lemmas.List.{map-append, length-map}
-use Rattle.sb_types.specs.Records.{Entry, Block}
-use Rattle.sb_budget.specs.declared.head.Head.{Head}
+use Rattle.sb_types.specs.Records.{Block}
 use Rattle.sb_budget.specs.declared.offered.Offered.{Offered}
 use Rattle.sb_budget.specs.Offers.{Item}
-use Rattle.sb_budget.specs.Cut.{item_of, items_of_all, blocks_of, IsCut, CanCut, IsPlainOffer}
+use Rattle.sb_budget.specs.Cut.{item_of, items_of_all, blocks_of, IsCut, CanCut}
 use Rattle.sb_budget.specs.BlocksByOwner.{item_at, lowered_of}
-use Rattle.sb_budget.specs.Making.{Making, AfterNext, IsTaking, left_by}
+use Rattle.sb_budget.specs.Making.{Making, AfterNext, IsTaking}
 use Rattle.sb_budget.specs.Parts.{Part, all_of}
 use Rattle.sb_budget.specs.Turns.{rejoined, in_turns}
-use Rattle.sb_budget.proofs.CutLemmas.{cut_taken, some_taken, taken_fits, taken_plain}
-use Rattle.sb_budget.proofs.TurnLemmas.{IsTurn, rejoined_length, left_part, turn_taken, turn_left, turn_ends, none_later, later_first, later_last}
+use Rattle.sb_budget.proofs.CutLemmas.{cut_taken, some_taken, taken_fits, taken_parts}
+use Rattle.sb_budget.proofs.TurnLemmas.{IsTurn, rejoined_length, left_part, turn_taken, turn_left, none_later, later_first, later_last}
 use Rattle.sb_budget.proofs.turns.cut_in_turns.Goals.{In-Some, In_ok-push, After-leave_all, In_ok-push_front-in-First, In_ok-push_back-in-Last}
 use Rattle.sb_budget.proofs.turns.cut_in_turns.Goals as goal
 
@@ -121,9 +120,8 @@ finish-requires c =
     let made = stopped (goal.at.finish-requires c).After-leave_all c.if-not-branch.true in
     let whole : List Offered = in_turns c.args.turns c.from-queue.result.items in
     record {
-      blocks = taken_plain c.args.budget whole true c.leave_all.new.making
-          (subst (λ (ps : List Part). CanCut (in_turns c.args.turns ps)) (sym c.from-queue.ensures.0) c.requires.items)
-          (subst (λ (ps : List Part). IsPlainOffer (in_turns c.args.turns ps)) (sym c.from-queue.ensures.0) c.requires.plain) made;
+      blocks = taken_parts c.args.budget whole true c.leave_all.new.making
+          (subst (λ (ps : List Part). CanCut (in_turns c.args.turns ps)) (sym c.from-queue.ensures.0) c.requires.items) made;
       fits = taken_fits c.args.budget (items_of_all whole) true c.leave_all.new.making made;
     }
 

@@ -1,4 +1,4 @@
-use Rattle.std.proofs.Common.{ap, sym, ◌∙◌, arith}
+use Rattle.std.proofs.Common.{ap, arith}
 use Rattle.sb_budget.specs.Parts.{Part}
 use Rattle.sb_budget.proofs.CursorLemmas.{next_of}
 use Rattle.sb_budget.proofs.cursor.Cursor.count.Goals as goal

@@ -1,4 +1,4 @@
-use Rattle.std.proofs.Common.{sym, ap, ◌∙◌}
+use Rattle.std.proofs.Common.{ap}
 use Rattle.sb_budget.specs.Parts.{Part}
 use Rattle.sb_budget.specs.Making.{head_of}
 use Rattle.sb_budget.proofs.CursorLemmas.{next_of}
