@@ -22,5 +22,5 @@ returns-clause-taking c = λ budget items is.
     let after = c.in_ok-push.ensures.next budget items (subst (λ (b : Bool). IsTaking budget items b c.args.making.now) c.if-is_full.false is) in
     let this : AfterNext budget items (item_of c.args.item) c.in_ok-push.field-0 c.push.new.self = subst (λ (i : Item). AfterNext budget items i c.in_ok-push.field-0 c.push.new.self) (ap (λ h. item_at h c.args.item.entry) c.head.ensures.head) after in
     let left : AfterNext budget items (item_of c.args.item) false c.push.new.self = subst (λ (t : Bool). AfterNext budget items (item_of c.args.item) t c.push.new.self) c.if-branch.false this in
-    subst (IsStopped budget (items ++ item_of c.args.item ∷ [])) (sym c.leave.ensures)
+    subst (IsStopped budget (items ++ item_of c.args.item ∷ [])) (sym c.leave-2.ensures)
     (stopped_here budget items (item_of c.args.item) c.push.new.self left.0 left.1 left.2)

@@ -10,8 +10,8 @@ use Rattle.sb_budget.specs.Making.{Making, AfterNext, IsTaking}
 use Rattle.sb_budget.specs.Parts.{Part, all_of}
 use Rattle.sb_budget.specs.Turns.{rejoined, in_turns}
 use Rattle.sb_budget.proofs.CutLemmas.{cut_taken, some_taken, taken_fits, taken_parts}
-use Rattle.sb_budget.proofs.TurnLemmas.{IsTurn, rejoined_length, left_part, turn_taken, turn_left, none_later, later_first, later_last}
-use Rattle.sb_budget.proofs.turns.cut_in_turns.Goals.{In-Some, In_ok-push, After-leave_all, In_ok-push_front-in-First, In_ok-push_back-in-Last}
+use Rattle.sb_budget.proofs.TurnLemmas.{IsTurn, rejoined_length, left_part, turn_taken, turn_left, turn_ends, none_later, later_first, later_last}
+use Rattle.sb_budget.proofs.turns.cut_in_turns.Goals.{In-Some, In_default, In_ok-push, After-leave_all, In_ok-push_front-in-First, In_ok-push_back-in-Last}
 use Rattle.sb_budget.proofs.turns.cut_in_turns.Goals as goal
 
 pub loop-cursor-init : goal.loop-cursor-init
@@ -67,7 +67,7 @@ stopped c full =
     ap (λ (m : Making). m.blocks) c.leave.ensures ∙ ap (λ (o : List ℕ). map (λ b. lowered_of o b) c.push.new.self.blocks) c.owner-owner.ensures.owner
     ∙ ap (map (λ b. lowered_of p.next.owner b)) after.0.blocks ∙ left_part p front [] c.owner-owner.ensures.later in
     let all : c.leave_all.new.making.blocks ≡ blocks_of front (items_of_all (all_of (p ∷ others))) =
-    c.leave_all.ensures front these own ∙ ap (blocks_of front) (sym (map-append item_of (p.next ∷ p.later) (all_of others))) in
+    c.leave_all.ensures.left front these own ∙ ap (blocks_of front) (sym (map-append item_of (p.next ∷ p.later) (all_of others))) in
     turn_left c.args.budget c.args.turns (in_turns c.args.turns c.from-queue.result.items) p others c.loop-cursor.making is c.push.new.self c.leave_all.new.making after all
 
 -- ---- the turns
@@ -143,11 +143,40 @@ returns-then-not-branch-clause-some c =
     (omega (arith, some, length-map whole item_of, ap (λ (ps : List Part). length (in_turns c.args.turns ps)) c.from-queue.ensures.0))))
     c.finish.ensures.blocks
 
+-- no owner has anything left
+empty : (ps : List Part) → length ps ≡ 0 → ps ≡ []
+empty [] e = refl
+empty (p ∷ ps) e = absurd (omega (arith, e))
+
+ended : (c : In_default) → IsTaking c.args.budget (items_of_all (in_turns c.args.turns c.from-queue.result.items)) false c.loop-cursor.making
+ended c =
+    turn_ends c.args.budget c.args.turns (in_turns c.args.turns c.from-queue.result.items) c.loop-cursor.queue.items c.loop-cursor.making c.loop-cursor.invariant
+    (empty c.loop-cursor.queue.items (omega (arith, c.in_default.ensures.cases, c.loop-cursor.queue.ok)))
+
 pub finish-requires-2 : goal.finish-requires-2
-finish-requires-2 c = ?
+finish-requires-2 c =
+    let made = ended c in
+    let whole : List Offered = in_turns c.args.turns c.from-queue.result.items in
+    record {
+      blocks = taken_parts c.args.budget whole false c.loop-cursor.making
+          (subst (λ (ps : List Part). CanCut (in_turns c.args.turns ps)) (sym c.from-queue.ensures.0) c.requires.items) made;
+      fits = taken_fits c.args.budget (items_of_all whole) false c.loop-cursor.making made;
+    }
 
 pub returns-clause-cut : goal.returns-clause-cut
-returns-clause-cut c = ?
+returns-clause-cut c =
+    let made = ended (goal.at.returns-clause-cut c).In_default in
+    let cut : IsCut c.args.budget (items_of_all (in_turns c.args.turns c.args.owners.items)) c.loop-cursor.making.blocks =
+    subst (λ (ps : List Part). IsCut c.args.budget (items_of_all (in_turns c.args.turns ps)) c.loop-cursor.making.blocks) c.from-queue.ensures.0
+    (cut_taken c.args.budget (items_of_all (in_turns c.args.turns c.from-queue.result.items)) false c.loop-cursor.making made) in
+    IfOk-weaker c.finish-2.result _ _ (λ delta same. subst (IsCut c.args.budget (items_of_all (in_turns c.args.turns c.args.owners.items))) (sym same) cut) c.finish-2.ensures.blocks
 
 pub returns-clause-some : goal.returns-clause-some
-returns-clause-some c = ?
+returns-clause-some c =
+    let made = ended (goal.at.returns-clause-some c).In_default in
+    let whole : List Offered = in_turns c.args.turns c.from-queue.result.items in
+    IfOk-weaker c.finish-2.result _ _
+    (λ delta same some. subst (λ (bs : List Block). 0 < length bs) (sym same)
+    (some_taken c.args.budget (items_of_all whole) false c.loop-cursor.making made
+    (omega (arith, some, length-map whole item_of, ap (λ (ps : List Part). length (in_turns c.args.turns ps)) c.from-queue.ensures.0))))
+    c.finish-2.ensures.blocks
