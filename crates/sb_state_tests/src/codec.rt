@@ -1,8 +1,13 @@
 //! Payloads by hand, the greatest of each kind, and what is no payload.
 ghost use Rattle.std.specs.Prelude.{◌≤◌};
 
+use crate::words::{
+    ASK, ASK_BEHIND, BELOW_ITS_FLOOR, BYE, DIGEST, DIGEST_OF_A_RANGE, DONE, EVERY_SLOT,
+    GREATEST_HEAD, GREATEST_NUMBERS, HELLO, LAST_ENTRY, LAST_ROW, LONGEST_ASK, LONGEST_ENTRY,
+    LONGEST_HELLO, LONGEST_PUT, LONGEST_ROW, NO_BLOCK, NO_ENTRY, ONE_ENTRY, ONE_TEXT, PUT,
+    PUT_OF_A_REMOVAL, REFUSED, ROWS, UP_TO_ITS_FLOOR, WRONG,
+};
 use crate::{entry, got, holds, key, name, one, push, refusal, same, same_at, weighing, weight};
-use crate::words::{ASK, ASK_BEHIND, BELOW_ITS_FLOOR, BYE, DIGEST, DIGEST_OF_A_RANGE, DONE, EVERY_SLOT, GREATEST_HEAD, GREATEST_NUMBERS, HELLO, LAST_ENTRY, LAST_ROW, LONGEST_ASK, LONGEST_ENTRY, LONGEST_HELLO, LONGEST_PUT, LONGEST_ROW, NO_BLOCK, NO_ENTRY, ONE_ENTRY, ONE_TEXT, PUT, PUT_OF_A_REMOVAL, REFUSED, ROWS, UP_TO_ITS_FLOOR, WRONG};
 use bytes::Bytes;
 use sb_codec::{
     Ask, Bye, Done, Hello, Message, Refused, Row, Rows, append_payload, decode_payload,
@@ -446,7 +451,13 @@ fn greatest_rows(rt: &impl Abort, alloc: Global) -> Vec<u8> {
 /// 1,024 pairs of 57 bytes, behind 6: 58,374 bytes.
 fn greatest_digest(rt: &impl Abort, alloc: Global) -> Vec<u8> {
     let mut out = bytes(rt, alloc, "02 00 00 00 0400");
-    append_list(rt, &mut out, 1_024, "20", "0000000000000000 0000000000000000");
+    append_list(
+        rt,
+        &mut out,
+        1_024,
+        "20",
+        "0000000000000000 0000000000000000",
+    );
     out
 }
 
@@ -529,7 +540,8 @@ fn payloads_that_break_the_format(rt: HostRuntime) {
 
 /// A delta of one entry, with a text that is a byte too long.
 fn too_long_a_text(rt: &impl Abort, alloc: Global) -> Vec<u8> {
-    let front = "03 0001 0161 0000000000000000 0000000000000000 0000000000000001 0001 0174 0000000000000001 04 0201";
+    let front =
+        "03 0001 0161 0000000000000000 0000000000000000 0000000000000001 0001 0174 0000000000000001 04 0201";
     let mut out = bytes(rt, alloc, front);
     got(rt, out.extend_from_slice(&[b'h'; 513]));
     out

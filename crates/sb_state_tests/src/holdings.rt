@@ -49,7 +49,10 @@ fn entries(rt: &impl Abort, alloc: Global, run: Run) -> Vec<Entry> {
 fn block_of(rt: &impl Abort, alloc: Global, owner: Name, run: Run) -> Block {
     let (after, first, count, _) = run;
     let upto = (u64::from(first) + u64::from(count)).saturating_sub(1);
-    got(rt, Block::new(owner, 0, after, upto, entries(rt, alloc, run)))
+    got(
+        rt,
+        Block::new(owner, 0, after, upto, entries(rt, alloc, run)),
+    )
 }
 
 /// How a block ends; where memory ran out, the end of the test.
@@ -97,7 +100,10 @@ fn assert_takes(
 /// A block of a's first write, a flag.
 fn first_flag(rt: &impl Abort, alloc: Global) -> Block {
     let flag = entry(rt, b"up", 1, Slot::Set(Value::flag(true)));
-    got(rt, Block::new(name(rt, b"a"), 0, 0, 1, one(rt, alloc, flag)))
+    got(
+        rt,
+        Block::new(name(rt, b"a"), 0, 0, 1, one(rt, alloc, flag)),
+    )
 }
 
 /// How a block ends, how it ends once more, and how far its owner is then held.

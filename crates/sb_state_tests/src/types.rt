@@ -383,13 +383,7 @@ fn made_of(
 }
 
 /// These make a block of this length.
-fn assert_block(
-    rt: &impl Abort,
-    alloc: Global,
-    range: Range,
-    writes: &[(&str, u64)],
-    length: u64,
-) {
+fn assert_block(rt: &impl Abort, alloc: Global, range: Range, writes: &[(&str, u64)], length: u64) {
     let wanted = (true, range, writes.len(), length);
     same_at(rt, &range, &made_of(rt, alloc, range, writes), &Ok(wanted));
 }

@@ -1,30 +1,37 @@
 //! Payloads by hand, as hexadecimal words.
 
 /// One block of the owner a, after 0, with the weight 5 under w as version 1.
-pub(crate) const ONE_ENTRY: &str = "03 0001 0161 0000000000000000 0000000000000000 0000000000000001 0001 \
+pub(crate) const ONE_ENTRY: &str =
+    "03 0001 0161 0000000000000000 0000000000000000 0000000000000001 0001 \
     0177 0000000000000001 02 0000000000000005";
 
 /// The same with the text of h and the two bytes of an e with an accent, under t.
-pub(crate) const ONE_TEXT: &str = "03 0001 0161 0000000000000000 0000000000000000 0000000000000001 0001 \
+pub(crate) const ONE_TEXT: &str =
+    "03 0001 0161 0000000000000000 0000000000000000 0000000000000001 0001 \
     0174 0000000000000001 04 0003 68c3a9";
 
 /// A block of a of the floor 3, after 0 and up to 3, whose one entry is of version 2: what came behind it went with the floor.
-pub(crate) const UP_TO_ITS_FLOOR: &str = "03 0001 0161 0000000000000003 0000000000000000 0000000000000003 0001 \
+pub(crate) const UP_TO_ITS_FLOOR: &str =
+    "03 0001 0161 0000000000000003 0000000000000000 0000000000000003 0001 \
     0179 0000000000000002 02 0000000000000002";
 
 /// A block of a of the floor 2, after 0 and up to 2, without an entry: whatever was set is removed.
-pub(crate) const NO_ENTRY: &str = "03 0001 0161 0000000000000002 0000000000000000 0000000000000002 0000";
+pub(crate) const NO_ENTRY: &str =
+    "03 0001 0161 0000000000000002 0000000000000000 0000000000000002 0000";
 
 /// A part of what has the floor 5: the entries of the versions 2 and 3, after 0 and up to 3.
-pub(crate) const BELOW_ITS_FLOOR: &str = "03 0001 0161 0000000000000005 0000000000000000 0000000000000003 0002 \
+pub(crate) const BELOW_ITS_FLOOR: &str =
+    "03 0001 0161 0000000000000005 0000000000000000 0000000000000003 0002 \
     0179 0000000000000002 02 0000000000000002 017a 0000000000000003 02 0000000000000003";
 
 /// The greatest numbers that a block may have.
-pub(crate) const GREATEST_NUMBERS: &str = "03 0001 0161 ffffffffffffffff fffffffffffffffe ffffffffffffffff 0000";
+pub(crate) const GREATEST_NUMBERS: &str =
+    "03 0001 0161 ffffffffffffffff fffffffffffffffe ffffffffffffffff 0000";
 
 pub(crate) const NO_BLOCK: &str = "03 0000";
 
-pub(crate) const EVERY_SLOT: &str = "03 0001 026e31 0000000000000000 0000000000000000 0000000000000105 0005 \
+pub(crate) const EVERY_SLOT: &str =
+    "03 0001 026e31 0000000000000000 0000000000000000 0000000000000105 0005 \
     0161 0000000000000001 00 \
     0162 0000000000000002 01 03683a31 \
     0163 0000000000000003 03 00 \
@@ -34,7 +41,8 @@ pub(crate) const EVERY_SLOT: &str = "03 0001 026e31 0000000000000000 00000000000
 pub(crate) const HELLO: &str = "01 02 63 31 01 61";
 
 /// Of a node a that holds only itself, an answer wanted.
-pub(crate) const DIGEST: &str = "02 01 00 00 0001 01 61 0000000000000000 0000000000000000 0000000000000000";
+pub(crate) const DIGEST: &str =
+    "02 01 00 00 0001 01 61 0000000000000000 0000000000000000 0000000000000000";
 
 /// Of b, held up to 5, and of c, held up to 7, whose stage of the floor 9 has come as far as 8.
 pub(crate) const DIGEST_OF_A_RANGE: &str = "02 00 0162 0164 0002 \
@@ -192,10 +200,12 @@ pub(crate) const WRONG: &[&str] = &[
 ];
 
 /// The head of the greatest delta.
-pub(crate) const GREATEST_HEAD: &str = "03 0001 0161 0000000000000000 0000000000000000 000000000000051e 051e";
+pub(crate) const GREATEST_HEAD: &str =
+    "03 0001 0161 0000000000000000 0000000000000000 000000000000051e 051e";
 
 /// Its last entry, a removal of a key of 39 bytes.
-pub(crate) const LAST_ENTRY: &str = "27 7a7a7a7a7a7a7a7a7a7a7a7a7a7a7a7a7a7a7a7a7a7a7a7a7a7a7a7a7a7a7a7a7a7a7a7a7a7a7a \
+pub(crate) const LAST_ENTRY: &str =
+    "27 7a7a7a7a7a7a7a7a7a7a7a7a7a7a7a7a7a7a7a7a7a7a7a7a7a7a7a7a7a7a7a7a7a7a7a7a7a7a7a \
     000000000000051e 00";
 
 /// The last row of the greatest, with 44 bytes of address.
