@@ -1,5 +1,5 @@
 -- From what the statements that raise a floor do to what a log promises of it.
-use Rattle.std.proofs.Common.{◌≡◌, ◌≢◌, ◌⊎◌, inl, inr, ℕ, ◌<◌, ◌≤◌, Bool, true, false, ◌||◌, cond, nat_lt, nat_le, true≢false, List, [], ◌∷◌, filter, Ok, Err, IsTrue, refl, sym, ap, subst, ◌∙◌, arith}
+use Rattle.std.proofs.Common.{◌≡◌, ◌⊎◌, inl, inr, ℕ, ◌<◌, ◌≤◌, Bool, true, false, cond, nat_lt, nat_le, true≢false, List, [], ◌∷◌, Ok, Err, IsTrue, refl, sym, ap, subst, ◌∙◌, arith}
 use Rattle.std.proofs.lemmas.Bool.{le-leb, lt-ltb, leb-true, ltb-true}
 use Rattle.std.proofs.lemmas.Bool.Decides.{nat_tests}
 use Rattle.sqlite_trees.specs.declared.store.Store.{Ghosts}
@@ -9,16 +9,15 @@ use Rattle.sqlite_trees.proofs.Doubt.{clean_of, no_doubt}
 use Rattle.sqlite.specs.Held.{Held, state}
 use Rattle.sqlite.specs.State.{HasCleanDisk}
 use Rattle.sqlite_catalog.specs.Listing.{IsSound}
-use Rattle.sb_types.specs.declared.fault.Fault.{Fault}
-use Rattle.sb_types.specs.declared.fault.Fault.TheVariants.{Closed, StoreFailed, FloorTooHigh}
+use Rattle.sb_types.specs.declared.fault.Fault.TheVariants.{StoreFailed, FloorTooHigh}
 use Rattle.sb_types.specs.Records.{Entry, Table}
-use Rattle.sb_types.specs.Runs.{is_set, live}
+use Rattle.sb_types.specs.Runs.{live}
 use Rattle.sb_types.proofs.Live.{live-live}
 use Rattle.sb_table.specs.Floors.{IsKeptTable, raised}
 use Rattle.sb_table.specs.Contents.{IsContent}
 use Rattle.sb_log.specs.Form.{log_schema}
 use Rattle.sb_log.specs.Records.{Log}
-use Rattle.sb_log.specs.Puts.{Stays, IsSure, Purges, RaisesFloor, purged, floor_fault}
+use Rattle.sb_log.specs.Puts.{Stays, IsSure, Purges, purged}
 use Rattle.sb_log.specs.Standing.{IsReady, HoldsContent, IsKept, MayLeave}
 use Rattle.sb_log.specs.Sql.{SqlView, log_in}
 use Rattle.sb_log.proofs.Contents.{holds_is}

@@ -3,7 +3,6 @@ use Rattle.sqlite_value.specs.Order.{Row}
 use Rattle.sqlite.specs.Effect.{Database}
 use Rattle.sqlite.specs.Held.{state}
 use Rattle.sqlite.specs.State.{HasCleanDisk}
-use Rattle.sb_types.specs.Records.{Table}
 use Rattle.sb_log.specs.Opening.{meta_cells, IsRaised, IsCleared}
 use Rattle.sb_log.specs.Rows.{AreRowsOf, CanSay}
 use Rattle.sb_log.proofs.Contents.{all_live, cleared_holds}

@@ -1,5 +1,4 @@
 use Rattle.std.proofs.Common.{map, inl, inr, sym, ap, ◌∙◌}
-use Rattle.sqlite_value.specs.Order.{Row}
 use Rattle.sqlite.specs.Effect.{Database}
 use Rattle.sqlite.specs.Held.{state}
 use Rattle.sqlite.specs.State.{HasCleanDisk}
