@@ -280,7 +280,8 @@ fn about_fault(fault: &Fault, place: Place<'_>) -> &'static str {
             "start the node again with a greater --max-version, of at most 1099511627775, or under a new name"
         }
         Fault::NothingThere => "get prints the keys that the node has",
-        Fault::FloorTooHigh => "give a FLOOR of at most the last version, which `attrdir log` prints last, or --all",
+        Fault::FloorTooHigh =>
+            "give a FLOOR of at most the last version, which `attrdir log` prints last, or --all",
         Fault::StoreFailed => about_store(place),
         Fault::LogDamaged => {
             "see that this is the log; one of a later release wants that release; where it is damaged keep it, and put its newest copy \

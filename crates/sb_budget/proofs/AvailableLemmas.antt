@@ -15,7 +15,6 @@ use Rattle.std.proofs.lemmas.List.Kept.{AllPairs-cons}
 use Rattle.sb_types.specs.Records.{Table, Holder}
 use Rattle.sb_types.specs.Runs.{Stands, IsRun}
 use Rattle.sb_table.specs.Plain.{plain_table}
-
 use Rattle.sb_holdings.specs.Held.{Held}
 use Rattle.sb_holdings.specs.Plain.{IsKeptHolder, IsHoldings, is_from, each_shown, tables_from}
 use Rattle.sb_digest.specs.Digests.{Digest, covers}

@@ -134,11 +134,13 @@ impl<'a> Cursor<'a> {
             Some(place) => Some(place),
             None => Place::first(table, after),
         };
-        let Some(Place {
-            rank,
-            entry,
-            mut later,
-        }) = place
+        let Some(
+            Place {
+                rank,
+                entry,
+                mut later,
+            },
+        ) = place
         else {
             return (None, None);
         };

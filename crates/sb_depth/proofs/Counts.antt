@@ -129,7 +129,6 @@ module _ {held : Held} {digest : Digest} {parts sorted : List Part} (are : ArePa
   pub turns_can_cut : CanCut (in_turns turns.First sorted)
   turns_can_cut = listing_can_cut are (in_turns turns.First sorted) moved_turns turns_ascend
 
-
   pub sorted_delta : (budget : ℕ) (delta : List Block) → IsCut budget (items_of_all (in_turns turns.First sorted)) delta → IsDeltaBy (IsSorted by_count) budget held digest delta
   sorted_delta budget delta cut = listing_delta are (in_turns turns.First sorted) moved_turns turns_ascend (IsSorted by_count) budget delta turns_sorted cut
 

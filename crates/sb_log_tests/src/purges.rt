@@ -4,9 +4,7 @@ use crate::visits::{
     LogVisit, OWN, Opening, log_in_memory, log_on_disks, numbers_on_disks, rows_on_disks,
     run_on_disks,
 };
-use crate::writes::{
-    Answer, CLUSTER, OWNER, Reach, fill, key, name, reach, remove, set, settled,
-};
+use crate::writes::{Answer, CLUSTER, OWNER, Reach, fill, key, name, reach, remove, set, settled};
 use crate::{got, same};
 use sb_log::{PlainLog, WriteLog};
 use sb_types::{Fault, KEYS_MOST};
@@ -215,11 +213,19 @@ impl LogVisit for Ending {
 }
 
 fn is_closed<L: WriteLog>(rt: &impl Abort, alloc: Global, log: &mut L, fault: Fault) {
-    same(rt, &matches!(fault, Fault::StoreFailed | Fault::Closed), &true);
+    same(
+        rt,
+        &matches!(fault, Fault::StoreFailed | Fault::Closed),
+        &true,
+    );
     same(rt, &log.purge(2), &Err(Fault::Closed));
     same(rt, &log.purge(9), &Err(Fault::Closed));
     same(rt, &log.load(alloc).is_err(), &true);
-    same(rt, &log.put(&key(rt, b"y"), &sb_types::Slot::Removed).is_err(), &true);
+    same(
+        rt,
+        &log.put(&key(rt, b"y"), &sb_types::Slot::Removed).is_err(),
+        &true,
+    );
 }
 
 #[test]

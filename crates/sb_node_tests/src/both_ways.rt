@@ -66,7 +66,10 @@ fn round_of(
             Entry::new(key, version, slot_of(rt, alloc, random)),
         );
     }
-    got(rt, Block::new(owner, 0, after, round * 8 + last + 1, entries))
+    got(
+        rt,
+        Block::new(owner, 0, after, round * 8 + last + 1, entries),
+    )
 }
 
 /// Up to seven own writes, under some of eight keys.

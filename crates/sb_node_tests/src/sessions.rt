@@ -237,7 +237,10 @@ fn faulty_frames_enter_nothing(rt: HostRuntime) {
 /// The flag true under k, the first write of an owner.
 fn write_of(rt: &impl Abort, alloc: Global, owner: &[u8]) -> Block {
     let entry = Entry::new(key(rt, b"k"), 1, Slot::Set(Value::flag(true)));
-    got(rt, Block::new(name(rt, owner), 0, 0, 1, one(rt, alloc, entry)))
+    got(
+        rt,
+        Block::new(name(rt, owner), 0, 0, 1, one(rt, alloc, entry)),
+    )
 }
 
 /// One write of each of so many owners, in the order of their names.

@@ -17,9 +17,12 @@ loop-item-init c = (tt, tt, c.new-making.ensures.begins)
 pub loop-item-preserved : goal.loop-item-preserved
 loop-item-preserved c =
     let y = c.loop-item.yielded in
-    let x = c.in-Some.item in
-    (tt, tt, subst (λ (l : List Item). IsTaking c.args.budget l c.in_ok-is_full.is_full c.take.new.making) (sym (map-append item_of y (x ∷ [])))
-    (c.in_ok-is_full.ensures.taking c.args.budget (items_of_all y) c.loop-item.invariant.2))
+    let x = c.in-Some.item in (
+      tt,
+      tt,
+      subst (λ (l : List Item). IsTaking c.args.budget l c.in_ok-is_full.is_full c.take.new.making) (sym (map-append item_of y (x ∷ [])))
+          (c.in_ok-is_full.ensures.taking c.args.budget (items_of_all y) c.loop-item.invariant.2),
+    )
 
 pub finish-requires : goal.finish-requires
 finish-requires c =

@@ -15,9 +15,9 @@ loop-cursor-preserved c = λ front left same.
     let these = items_of_all (p.next ∷ p.later) in (
       old.0 ++ these,
       old.1 ∙ ap (λ (ps : List Part). old.0 ++ items_of_all (all_of ps)) c.in-Some.ensures.items
-      ∙ ap (λ r. old.0 ++ r) (map-append item_of (p.next ∷ p.later) (all_of others))
-      ∙ sym (append_assoc old.0 these (items_of_all (all_of others))),
+          ∙ ap (λ r. old.0 ++ r) (map-append item_of (p.next ∷ p.later) (all_of others))
+          ∙ sym (append_assoc old.0 these (items_of_all (all_of others))),
       ap (λ (m : Making). m.blocks) c.leave.ensures
-      ∙ ap (λ (o : List ℕ). map (λ b. lowered_of o b) c.loop-cursor.making.blocks) c.owner.ensures.owner
-      ∙ ap (map (λ b. lowered_of p.next.owner b)) old.2 ∙ left_part p front old.0 c.owner.ensures.later,
+          ∙ ap (λ (o : List ℕ). map (λ b. lowered_of o b) c.loop-cursor.making.blocks) c.owner.ensures.owner
+          ∙ ap (map (λ b. lowered_of p.next.owner b)) old.2 ∙ left_part p front old.0 c.owner.ensures.later,
     )
