@@ -27,8 +27,9 @@ fn take(making: &mut DeltaBuilder, is_full: bool, item: Offered) -> Result<bool,
 }
 
 /// The longest front of the items whose delta has a frame of at most `budget` bytes, 1,024 to 65,536, as that
-/// delta. The items have to be as an order leaves them, each owner's in ascending version, and without a floor. The delta
-/// has at least one entry where there is an item; the other items are dropped. `NoMemory`.
+/// delta. The items have to be as an order leaves them, each owner's in ascending version. The block of an owner of whom
+/// nothing is left reaches as far as the sender holds it, and another as far as its last entry. The delta has at least one
+/// block where there is an item; the other items are dropped. `NoMemory`.
 ///
 /// The test `example_of_cut` runs these lines, for holdings with one write of a flag under the key `up`, by `a`:
 /// ```
@@ -36,8 +37,8 @@ fn take(making: &mut DeltaBuilder, is_full: bool, item: Offered) -> Result<bool,
 /// let offered = available(alloc, &holdings, &digest)?;
 /// let delta = cut(alloc, offered, 1_024)?;
 /// assert_eq!(rt; delta.blocks().len(), 1);
-/// // 3 bytes, the block's 12, and the entry's 13.
-/// assert_eq!(rt; delta.encoded_length(), 28);
+/// // 3 bytes, the block's 28, and the entry's 13.
+/// assert_eq!(rt; delta.encoded_length(), 44);
 /// ```
 pub fn cut(alloc: Global, items: Vec<Offered>, budget: u64) -> Result<Delta, Fault>
     requires least { BUDGET_LEAST ≤ budget }

@@ -44,7 +44,7 @@ fn leave_all(making: &mut DeltaBuilder, mut owners: VecDeque<Cursor<'_>>)
 
 /// The longest front of what the owners offer in turns, from the first on, whose delta has a frame of at most
 /// `budget` bytes, 1,024 to 65,536, as that delta, with at least one entry where there is an owner. The owners have to be those of
-/// `cursors`, in whatever order, and without a floor. It takes memory and steps as the owners and what is sent. `NoMemory`.
+/// `cursors`, in whatever order. It takes memory and steps as the owners and what is sent. `NoMemory`.
 pub fn cut_in_turns(
     alloc: Global,
     owners: Vec<Cursor<'_>>,

@@ -228,8 +228,8 @@ fn example_of_cut(rt: HostRuntime) {
     let alloc = rt.alloc();
     let digest = nothing(&rt, alloc, true);
     let found = extent_after(&rt, alloc, &one_flag(&rt, alloc), &digest);
-    // 3 bytes, the block's 12, and the entry's 13.
-    same(&rt, &found, &(1, 28));
+    // 3 bytes, the block's 28, and the entry's 13.
+    same(&rt, &found, &(1, 44));
 }
 
 /// How a block ends, how far its owner is then held, and the versions under the keys y and x.

@@ -33,9 +33,9 @@ fn first_delta(alloc: Global, holdings: &Holdings) -> Result<Delta, Fault> {
 fn example_of_sb_budget(rt: HostRuntime) {
     let holdings = got(&rt, one_write(rt.alloc()));
     let delta = got(&rt, first_delta(rt.alloc(), &holdings));
-    // 3 bytes, the block's 12, and the entry's 17.
+    // 3 bytes, the block's 28, and the entry's 17.
     let found = (delta.blocks().len(), delta.encoded_length());
-    same(&rt, &found, &(1, 32));
+    same(&rt, &found, &(1, 48));
 }
 
 /// The owner and the version of each entry that an empty peer lacks, in the order of breadth.
