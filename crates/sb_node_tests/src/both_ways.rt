@@ -116,9 +116,13 @@ fn made_pairs(
     let mut pairs = Vec::new(alloc);
     for letter in first..behind {
         if below(random, 2) == 1 {
-            let owner = name(rt, &[letter]);
             let upto = below(random, 40);
-            push(rt, &mut pairs, Pair { owner, upto });
+            let staged = match below(random, 3) {
+                0 => Some((below(random, 40), below(random, 40))),
+                _ => None,
+            };
+            let pair = Pair::new(name(rt, &[letter]), upto, staged);
+            push(rt, &mut pairs, pair);
         }
     }
     pairs
