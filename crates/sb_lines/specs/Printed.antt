@@ -9,7 +9,8 @@ use Rattle.sb_types.specs.declared.fault.Fault.TheVariants.{NoMemory}
 use Rattle.sb_types.specs.Records.{Entry, Table}
 use Rattle.sb_types.specs.Value.{line_of}
 use Rattle.sb_table.specs.Order.{by_key}
-use Rattle.sb_frames.specs.Sending.{Sends}
+use Rattle.sb_frames.specs.declared.last_write.Outcome.{Outcome}
+use Rattle.sb_frames.specs.Sending.{Sends, OnlyWhereFailed}
 use Rattle.sb_log.specs.Records.{Log}
 use Rattle.sb_log.specs.Puts.{Loads, Purges}
 
@@ -39,13 +40,14 @@ PrintsLog log log' old new result = (loaded : Result Table Fault) × Loads log l
 abbrev pub purged_line : ℕ → List ℕ
 purged_line floor = codes "purged" ++ 32 ∷ (decimal floor ++ 10 ∷ [])
 
--- of a purge that was made the line is printed, or so many of its first bytes; a fault of it is passed on, with nothing printed
-abbrev pub PrintsPurge : ℕ → Result (Unit {0}) Fault → Option (List ℕ) → Option (List ℕ) → Result (Unit {0}) Fault → Type 0
-PrintsPurge floor (Ok u) old new result = Sends old new (purged_line floor) result
-PrintsPurge floor (Err fault) old new result = (result ≡ Err fault) × Keeps old new
+-- of a purge that was made the line is printed, or so many of its first bytes, where the last write failed; a fault of it is
+-- passed on, with nothing printed
+abbrev pub PrintsPurge : ℕ → Result (Unit {0}) Fault → Option (List ℕ) → Option (List ℕ) → Result (Unit {0}) Fault → Outcome → Type 0
+PrintsPurge floor (Ok u) old new result last = Sends old new (purged_line floor) result × OnlyWhereFailed result last
+PrintsPurge floor (Err fault) old new result last = (result ≡ Err fault) × Keeps old new
 
 -- the log is purged, and that is printed; or there was no memory for the line, and nothing changed
-abbrev pub PurgesAndPrints : ℕ → Log → Log → Option (List ℕ) → Option (List ℕ) → Result (Unit {0}) Fault → Type 0
-PurgesAndPrints floor log log' old new result =
-    ((purged : Result (Unit {0}) Fault) × Purges log floor purged log' × PrintsPurge floor purged old new result)
+abbrev pub PurgesAndPrints : ℕ → Log → Log → Option (List ℕ) → Option (List ℕ) → Result (Unit {0}) Fault → Outcome → Type 0
+PurgesAndPrints floor log log' old new result last =
+    ((purged : Result (Unit {0}) Fault) × Purges log floor purged log' × PrintsPurge floor purged old new result last)
     ⊎ ((result ≡ Err NoMemory) × (log' ≡ log) × Keeps old new)

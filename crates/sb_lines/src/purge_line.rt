@@ -1,6 +1,5 @@
 //! What a purge of a log prints.
 ghost use Rattle.std.specs.Prelude.{◌≡◌, IfOk, IfErr};
-ghost use Rattle.sb_frames.specs.Sending.{OnlyWhereFailed};
 ghost use Rattle.sb_lines.specs.Printed.{purged_line, PurgesAndPrints};
 
 use sb_frames::{LastWrite, write_counted};
@@ -30,9 +29,7 @@ pub fn purge_run<L: WriteLog, W: Write>(
     floor: u64,
     writer: &mut W,
 ) -> (Result<(), Fault>, LastWrite)
-    ensures prints { PurgesAndPrints floor (L.seen log.old) (L.seen log.new) (W.contents writer.old) (W.contents writer.new) result.0 }
-    // A write that did not fail, or that was made before the call, is no reason to stop.
-    ensures failed { OnlyWhereFailed result.0 result.1 }
+    ensures prints { PurgesAndPrints floor (L.seen log.old) (L.seen log.new) (W.contents writer.old) (W.contents writer.new) result.0 result.1 }
 {
     let line = match line_of(alloc, floor) {
         Ok(line) => line,
