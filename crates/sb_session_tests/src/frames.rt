@@ -453,7 +453,7 @@ fn the_greatest_frame_is_interrupted(rt: HostRuntime) {
     goes_out_interrupted(&rt, alloc, &frame, (4_096, 1_000));
 }
 
-/// Takes 20 bytes a write, but for one, which fails; and counts the writes.
+/// Takes 28 bytes a write, but for one, which fails; and counts the writes.
 #[derive(Drop)]
 struct Broken {
     fails_at: u32,
@@ -466,7 +466,7 @@ impl Write for Broken {
         if self.writes == self.fails_at {
             return Err(ErrorKind::BrokenPipe.into());
         }
-        Ok(buf.len().min(20))
+        Ok(buf.len().min(28))
     }
 
     fn flush(&mut self) -> io::Result<()> {
@@ -490,7 +490,7 @@ fn a_failed_write_is_the_last(rt: HostRuntime) {
     let alloc = rt.alloc();
     let message = message(&rt, alloc);
     let first = (Err(Fault::WriteFailed(0)), 1);
-    let second = (Err(Fault::WriteFailed(20)), 2);
+    let second = (Err(Fault::WriteFailed(28)), 2);
     same(&rt, &sent_broken(alloc, &message, 1), &first);
     same(&rt, &sent_broken(alloc, &message, 2), &second);
     same(&rt, &sent_broken(alloc, &message, 3), &(Ok(()), 2));

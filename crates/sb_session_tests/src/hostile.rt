@@ -272,13 +272,19 @@ fn is_damaged(rt: &impl Abort, alloc: Global, frame: &[u8], wanted: [u64; 7]) {
     same_at(rt, &frame, &counts, &Counts::new(wanted));
 }
 
-/// What comes of each frame of which one byte is another.
+/// What comes of a delta of which one byte is another.
+#[test]
+fn each_byte_of_a_delta_is_damaged(rt: HostRuntime) {
+    let alloc = rt.alloc();
+    is_damaged(&rt, alloc, DELTA, [10_789, 378, 255, 255, 511, 247, 22_755]);
+}
+
+/// The same of each frame of another kind.
 #[test]
 fn each_byte_is_damaged(rt: HostRuntime) {
     let alloc = rt.alloc();
     is_damaged(&rt, alloc, HELLO_A, [108, 504, 255, 255, 511, 247, 1_180]);
     is_damaged(&rt, alloc, DIGEST, [12_275, 450, 255, 255, 511, 247, 2_837]);
-    is_damaged(&rt, alloc, DELTA, [10_789, 378, 255, 255, 511, 247, 22_755]);
     is_damaged(&rt, alloc, BYE, [5, 508, 255, 255, 511, 247, 259]);
     is_damaged(&rt, alloc, ASK, [268, 498, 255, 255, 511, 247, 2_556]);
     is_damaged(&rt, alloc, ROWS, [6_383, 468, 255, 255, 511, 247, 4_121]);
