@@ -1,7 +1,7 @@
 //! Views that follow a node.
 ghost use Rattle.std.specs.Prelude.{◌≡◌, ◌<◌, ◌^◌, [], replicate, MatchBool, MatchResult, OnOk, OnErr, IfOk, IfErr};
 ghost use mathlib.Core.List.{IsPrefix};
-ghost use Rattle.sb_holdings.specs.Plain.{IsPlainHoldings};
+ghost use Rattle.sb_holdings.specs.Plain.{IsHoldings};
 ghost use Rattle.sb_views.specs.Growing.{AreGrown};
 ghost use Rattle.sb_views.specs.Histories.{node_after};
 ghost use Rattle.sb_directory.specs.Behind.{AreSince};
@@ -77,7 +77,7 @@ impl<S: NodeTag, R: Wait + Drop> Views<S, R> {
         ensures ok { OnOk result (self.new ≡ record { published = self.old.published; queued = history.now }) }
         ensures err { OnErr result (self.new ≡ self.old) }
         ensures memory { IfErr result (λ fault. fault ≡ Fault.NoMemory) }
-        ensures holdings { IsPlainHoldings core.now.node.held }
+        ensures holdings { IsHoldings core.now.node.held }
     {
         let holdings = core.holdings();
         let batch = pending(self.alloc, holdings, behind)?;

@@ -56,7 +56,8 @@ fn round_of(
 {
     let first = below(random, 8);
     let mut entries = Vec::new(alloc);
-    for number in 0..=below(random, 6) {
+    let last = below(random, 6);
+    for number in 0..=last {
         let version = round * 8 + number + 1;
         let key = key_of(rt, first + number);
         push(
@@ -65,7 +66,10 @@ fn round_of(
             Entry::new(key, version, slot_of(rt, alloc, random)),
         );
     }
-    got(rt, Block::new(owner, after, entries))
+    got(
+        rt,
+        Block::new(owner, 0, after, round * 8 + last + 1, entries),
+    )
 }
 
 /// Up to seven own writes, under some of eight keys.

@@ -44,7 +44,7 @@ fn ordered_by_breadth(alloc: Global, holdings: &Holdings) -> Result<Vec<(Name, u
     let offered = available(alloc, holdings, &nothing)?;
     let mut versions = Vec::new(alloc);
     for item in Breadth.arrange(alloc, offered)?.iter() {
-        versions.push((item.owner, item.entry.version()))?;
+        versions.push((item.owner, item.version()))?;
     }
     Ok(versions)
 }
@@ -74,7 +74,7 @@ fn ordered_by_depth(alloc: Global, holdings: &Holdings) -> Result<Vec<(Name, u64
     let offered = available(alloc, holdings, &nothing)?;
     let mut versions = Vec::new(alloc);
     for item in Depth.arrange(alloc, offered)?.iter() {
-        versions.push((item.owner, item.entry.version()))?;
+        versions.push((item.owner, item.version()))?;
     }
     Ok(versions)
 }
