@@ -340,7 +340,7 @@ module _ (writes : List ℕ → List Write) (past : Past) (settings : Settings) 
         let kept : log.is_clean ≡ true → IsContentOf (writes p.me) table = λ clean. subst (IsContentOf (writes p.me)) (sym (loads.given.same clean)) (t.content stands) in
         record {
           place = λ clean. reopened writes (after effect) (grows effect) past settings p t (writes p.me) (now effect) log table (past.openings + 1) (loads.stays.owner ∙ t.owner)
-              (same_content log effect refl (λ unshut. loaded clean)) loads.given.table.table (kept clean);
+              (same_content log effect refl (λ unshut. loaded clean)) loads.given.is.table (kept clean);
           frames = λ bytes stands. absurd stands;
         }
 
