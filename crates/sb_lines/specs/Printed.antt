@@ -1,16 +1,17 @@
--- What `attrdir log` prints of a log.
-use Rattle.std.specs.Prelude.{◌≡◌, ℕ, List, [], ◌∷◌, ◌++◌, codes, decimal, Option, Result, Ok, Err}
+-- What is printed of a log, and of a floor that is raised.
+use Rattle.std.specs.Prelude.{◌≡◌, ◌≢◌, ◌⊎◌, ℕ, List, [], ◌∷◌, ◌++◌, codes, decimal, Option, Result, Ok, Err}
 use Rattle.std.specs.List.{flat_map}
 use Rattle.std.specs.Io.KnownBytes.{Keeps}
 use Rattle.sb_types.specs.declared.entry.Slot.{Slot}
 use Rattle.sb_types.specs.declared.entry.Slot.TheVariants.{Set, Removed}
 use Rattle.sb_types.specs.declared.fault.Fault.{Fault}
+use Rattle.sb_types.specs.declared.fault.Fault.TheVariants.{NoMemory}
 use Rattle.sb_types.specs.Records.{Entry, Table}
 use Rattle.sb_types.specs.Value.{line_of}
 use Rattle.sb_table.specs.Order.{by_key}
 use Rattle.sb_frames.specs.Sending.{Sends}
 use Rattle.sb_log.specs.Records.{Log}
-use Rattle.sb_log.specs.Puts.{Loads}
+use Rattle.sb_log.specs.Puts.{Purges, Loads}
 
 -- the two words of what stands under a key
 abbrev pub slot_text : Slot → List ℕ
@@ -33,3 +34,17 @@ Prints owner (Err fault) old new result = (result ≡ Err fault) × Keeps old ne
 -- what the log gives is printed, and of whose log it is
 abbrev pub PrintsLog : Log → Log → Option (List ℕ) → Option (List ℕ) → Result (Unit {0}) Fault → Type 0
 PrintsLog log log' old new result = (loaded : Result Table Fault) × Loads log loaded log' × Prints log.owner loaded old new result
+
+-- the line of a floor that was asked for
+abbrev pub purged_line : ℕ → List ℕ
+purged_line floor = codes "purged" ++ 32 ∷ (decimal floor ++ 10 ∷ [])
+
+-- a floor that is raised is told, or so many of the first bytes of that; a fault of raising it is passed on, with nothing printed
+abbrev pub TellsPurge : ℕ → Result (Unit {0}) Fault → Option (List ℕ) → Option (List ℕ) → Result (Unit {0}) Fault → Type 0
+TellsPurge floor (Ok done) old new result = Sends old new (purged_line floor) result × (result ≢ Err NoMemory)
+TellsPurge floor (Err fault) old new result = (result ≡ Err fault) × Keeps old new
+
+-- there was no memory for the line, and nothing was done; or the log was asked, and what came of it is told
+abbrev pub PrintsPurged : ℕ → Log → Log → Option (List ℕ) → Option (List ℕ) → Result (Unit {0}) Fault → Type 0
+PrintsPurged floor log log' old new result =
+    ((result ≡ Err NoMemory) × (log' ≡ log) × Keeps old new) ⊎ ((done : Result (Unit {0}) Fault) × Purges log floor done log' × TellsPurge floor done old new result)

@@ -145,11 +145,7 @@ fn open_old<S: Alter>(
 }
 
 /// The table of the rows of a log of this form, removals up to its floor too. `LogDamaged` also where form 1 has a text.
-fn read_whole<S: Alter>(
-    conn: &mut Connection<S>,
-    alloc: Global,
-    form: u64,
-) -> Result<Table, Fault>
+fn read_whole<S: Alter>(conn: &mut Connection<S>, alloc: Global, form: u64) -> Result<Table, Fault>
     ensures rows { HasCleanDisk (state S.Store conn.new) → IsReady (state S.Store conn.old)
         → IfOk result (λ t. AreRowsOf t ((state S.Store conn.old).now.trees 1)) }
     ensures plain { IfOk result IsPlainTable }

@@ -96,7 +96,13 @@ fn stop(rt: &impl Abort, alloc: Global, files: &Files<Memory>, calls: Calls) -> 
     let mut disks = whole_copy(rt, alloc, files);
     let purged = log_on_disks(rt, alloc, &mut disks, calls, OWN, Purging);
     let is_done = purged == Ok(Ok(()));
-    recovers(rt, alloc, &mut whole_copy(rt, alloc, &disks), calls.log, is_done);
+    recovers(
+        rt,
+        alloc,
+        &mut whole_copy(rt, alloc, &disks),
+        calls.log,
+        is_done,
+    );
     disks.log.crash();
     disks.db.crash();
     recovers(rt, alloc, &mut disks, calls.log, is_done);
@@ -106,7 +112,7 @@ fn stop(rt: &impl Abort, alloc: Global, files: &Files<Memory>, calls: Calls) -> 
 /// The calls of the log file that an opening makes, and those that a purge behind it makes too.
 const OPENED: u64 = 97;
 
-const PURGED: u64 = 109;
+const PURGED: u64 = 108;
 
 fn miss_each(rt: &impl Abort, alloc: Global, after: After) {
     let files = written(rt, alloc);

@@ -48,8 +48,7 @@ invariant_of-self g c =
     let r = c.raise_floor in
     let fits : c.args.floor ≤ i.table.held = omega (arith, c.upto-upto.ensures.version, c.if-floor-upto.false) in
     let higher : i.table.floor < c.args.floor = omega (arith, c.floor-present.ensures.floor, c.if-floor-present.false) in
-    let same = rw c.upto-upto.ensures.version at c.raise.ensures.raised in
-    (
+    let same = rw c.upto-upto.ensures.version at c.raise.ensures.raised in (
       kept_raised g.S.Store g.met.S.Store.settled i.owner i.cluster i.max_version i.is_open c.if-not-self.false i.conn i.table c.self.invariant.0 c.self.invariant.2 c.args.floor fits higher r.new.conn r.ensures.clean c.raise.new.self same (rw c.upto-upto.ensures.version at c.in-Ok.ensures.content) c.in-Ok.ensures.ready,
       c.self.invariant.1,
       raised_content c.args.floor i.table c.raise.new.self c.self.invariant.2 (omega (arith, higher)) same c.raise.ensures.table,
