@@ -8,13 +8,14 @@ use sb_types::Fault;
 use std::alloc::Global;
 use std::process::Abort;
 
-const META: &str =
+/// The tables of a log, and the row that says that it is `a`'s.
+pub const META: &str =
     "CREATE TABLE meta (id INTEGER PRIMARY KEY CHECK (id = 1), form INTEGER NOT NULL, owner TEXT NOT NULL, cluster TEXT NOT NULL, last INTEGER NOT NULL, floor INTEGER NOT NULL) STRICT";
 
-const WRITES: &str =
+pub const WRITES: &str =
     "CREATE TABLE writes (k TEXT PRIMARY KEY NOT NULL, version INTEGER NOT NULL UNIQUE, tag INTEGER NOT NULL, num INTEGER, txt TEXT) STRICT";
 
-const OWNERS: &str = "INSERT INTO meta VALUES (1, 2, 'a', 'sim', 0, 0)";
+pub const OWNERS: &str = "INSERT INTO meta VALUES (1, 2, 'a', 'sim', 0, 0)";
 
 /// The same in the form of older releases.
 const OLDER: &str = "INSERT INTO meta VALUES (1, 1, 'a', 'sim', 0, 0)";

@@ -112,7 +112,7 @@ fn stop(rt: &impl Abort, alloc: Global, files: &Files<Memory>, calls: Calls) -> 
 /// The calls of the log file that an opening makes, and those that a purge behind it makes too.
 const OPENED: u64 = 97;
 
-const PURGED: u64 = 109;
+const PURGED: u64 = 108;
 
 fn miss_each(rt: &impl Abort, alloc: Global, after: After) {
     let files = written(rt, alloc);

@@ -1,4 +1,5 @@
 //! A log whose floor is raised, wherever it keeps its writes: what goes, what is refused, and what stands when it is opened again.
+use crate::database::{META, OWNERS, WRITES};
 use crate::disks::{ENDLESS, new_disks};
 use crate::visits::{
     LogVisit, OWN, Opening, log_in_memory, log_on_disks, numbers_on_disks, rows_on_disks,
@@ -155,10 +156,9 @@ fn a_crash_between_the_statements_leaves_the_floor(rt: HostRuntime) {
     same(&rt, &numbers_on_disks(&rt, alloc, &mut disks), &(3, 3));
 }
 
-/// Removes the last of as many keys as there may be: no other finds room until its removal is up to the floor.
-fn is_freed<L: WriteLog>(rt: &impl Abort, alloc: Global, log: &mut L) {
-    same(rt, &fill(rt, alloc, log), &(KEYS_MOST as u64));
-    let answers = [remove(rt, log, b"k4096"), set(rt, log, b"new", 1)];
+/// Removes one of as many keys as there may be, the last of which has the version 4,096: no other finds room until its removal is up to the floor.
+fn is_freed<L: WriteLog>(rt: &impl Abort, alloc: Global, log: &mut L, full: &[u8]) {
+    let answers = [remove(rt, log, full), set(rt, log, b"new", 1)];
     same(rt, &settled(rt, answers), &[Ok(4097), FULL]);
     same(rt, &log.purge(4096), &Ok(()));
     same(rt, &set(rt, log, b"new", 1), &FULL);
@@ -175,7 +175,7 @@ impl LogVisit for Freeing {
     type Outcome = ();
 
     fn visit<L: WriteLog + Drop>(self, rt: &impl Abort, alloc: Global, mut log: L) {
-        is_freed(rt, alloc, &mut log);
+        is_freed(rt, alloc, &mut log, b"x012");
     }
 }
 
@@ -183,13 +183,35 @@ impl LogVisit for Freeing {
 fn a_purge_frees_a_key_of_a_plain_log(rt: HostRuntime) {
     let alloc = rt.alloc();
     let mut log = PlainLog::new(alloc, name(&rt, OWNER), name(&rt, CLUSTER), 9_999);
-    is_freed(&rt, alloc, &mut log);
+    same(&rt, &fill(&rt, alloc, &mut log), &(KEYS_MOST as u64));
+    is_freed(&rt, alloc, &mut log, b"k4096");
 }
+
+/// Makes a log of 4,096 rows: one, and twelve times as many again.
+const FILLED: [&str; 16] = [
+    META,
+    WRITES,
+    OWNERS,
+    "INSERT INTO writes VALUES ('x', 1, 2, 1, NULL)",
+    "INSERT INTO writes SELECT k || '0', version + 1, 2, 1, NULL FROM writes",
+    "INSERT INTO writes SELECT k || '1', version + 2, 2, 1, NULL FROM writes",
+    "INSERT INTO writes SELECT k || '2', version + 4, 2, 1, NULL FROM writes",
+    "INSERT INTO writes SELECT k || '3', version + 8, 2, 1, NULL FROM writes",
+    "INSERT INTO writes SELECT k || '4', version + 16, 2, 1, NULL FROM writes",
+    "INSERT INTO writes SELECT k || '5', version + 32, 2, 1, NULL FROM writes",
+    "INSERT INTO writes SELECT k || '6', version + 64, 2, 1, NULL FROM writes",
+    "INSERT INTO writes SELECT k || '7', version + 128, 2, 1, NULL FROM writes",
+    "INSERT INTO writes SELECT k || '8', version + 256, 2, 1, NULL FROM writes",
+    "INSERT INTO writes SELECT k || '9', version + 512, 2, 1, NULL FROM writes",
+    "INSERT INTO writes SELECT k || 'a', version + 1024, 2, 1, NULL FROM writes",
+    "INSERT INTO writes SELECT k || 'b', version + 2048, 2, 1, NULL FROM writes",
+];
 
 #[test]
 fn a_purge_frees_a_key_in_a_database(rt: HostRuntime) {
     let opening = Opening {
         max_version: 9_999,
+        statements: &FILLED,
         ..OWN
     };
     got(&rt, log_in_memory(&rt, rt.alloc(), opening, Freeing));
