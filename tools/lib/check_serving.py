@@ -9,7 +9,7 @@ from nodes import BYE, ROWS, SECONDS, Difference, ask, connect, delta, digest, e
 # the most bytes of the path of a socket
 PATH_MOST = 107
 # whole frames but for what stands in them: Rows, and a Delta with one block of the owner p
-ROWS_HEAD, DELTA_HEAD = 10, 9 + 11 + 1
+ROWS_HEAD, DELTA_HEAD = 10, 9 + 27 + 1
 # an entry and a row of a weight of the owner p under a key of five bytes
 ENTRY_BYTES, ROW_BYTES = 10 + 5 + 8, 11 + 1 + 5 + 8
 

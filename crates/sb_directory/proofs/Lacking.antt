@@ -52,8 +52,7 @@ module _ (m : Behind) (o : List ℕ) (v : ℕ × ℕ) where
       (cond_both (eq_by_cmp by_text q o) (Some v) (get m q) (IsSince (shown_of old q) (shown_of held q))
       (λ same.
       let there : q ≡ o = same_text q o (texts_ties q o ∙ same) in
-      let as_was : shown_of held o ≡ shown_of old o = subst (IsSince (shown_of old o) (shown_of held o)) (no-key (get m o) none) (since o) in
-      (
+      let as_was : shown_of held o ≡ shown_of old o = subst (IsSince (shown_of old o) (shown_of held o)) (no-key (get m o) none) (since o) in (
         ap (λ (s : ℕ × ℕ). s.0) is ∙ ap (λ (t : Table). t.held) as_was ∙ sym (ap (λ (n : List ℕ). (shown_of old n).held) there),
         ap (λ (s : ℕ × ℕ). s.1) is ∙ ap (λ (t : Table). t.floor) as_was ∙ sym (ap (λ (n : List ℕ). (shown_of old n).floor) there),
       ))

@@ -84,7 +84,7 @@ pub(crate) fn delta_of(
         got(rt, entries.push(entry_behind(rt, version, &[*letter])));
         version = version.saturating_add(1);
     }
-    let block = got(rt, Block::new(name(rt, owner), after, entries));
+    let block = got(rt, Block::new(name(rt, owner), 0, after, version, entries));
     got(rt, delta_of_block(alloc, block))
 }
 

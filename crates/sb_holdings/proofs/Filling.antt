@@ -8,7 +8,8 @@ use Rattle.sb_types.specs.declared.entry.Write.{Write}
 use Rattle.sb_types.specs.Records.{Entry, Table}
 use Rattle.sb_types.specs.Runs.{Stands, are_ascending, are_distinct, has_key, is_set, last_version, live}
 use Rattle.sb_table.specs.Plain.{IsPlainTable}
-use Rattle.sb_holdings.specs.Contents.{entry_of_write, numbered, last_each, content_table, IsContent}
+use Rattle.sb_table.specs.Contents.{IsContent}
+use Rattle.sb_holdings.specs.Contents.{entry_of_write, numbered, last_each, content_table}
 use Rattle.sb_types.proofs.Texts.{same_text, text_same}
 use Rattle.sb_holdings.proofs.Numbered.{write_in}
 use Rattle.sb_types.proofs.Live.{live-above}

@@ -18,7 +18,6 @@ pub mod ByOwner
 pub mod Entered
 pub mod Changed
 pub mod Ended
-pub mod Plain
 pub mod Growing
 pub mod Filling
 pub mod Opened

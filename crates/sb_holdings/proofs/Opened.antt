@@ -1,5 +1,5 @@
 -- What a node holds that has just opened.
-use Rattle.std.proofs.Common.{◌≡◌, ℕ, ◌<◌, Bool, true, false, cond, List, [], ◌∷◌, length, Option, Some, None, IfSome, is_some, unwrap_or, refl, sym, ap, subst, ◌∙◌, nat_eq, arith}
+use Rattle.std.proofs.Common.{◌≡◌, ℕ, Bool, true, false, cond, List, [], ◌∷◌, Option, Some, None, unwrap_or, refl, sym, ap, subst, ◌∙◌, nat_eq, arith}
 use Rattle.std.proofs.lemmas.Bool.{cond_both}
 use Rattle.std.specs.FinMap.{get}
 use Rattle.std.specs.Cmp.Lexicographic.{pointwise, texts_ties}
@@ -7,13 +7,12 @@ use Rattle.std.specs.List.Sorted.{IsStrictlySortedBy}
 use Rattle.sb_types.specs.declared.entry.Write.{Write}
 use Rattle.sb_types.specs.Records.{Table, Holder}
 use Rattle.sb_types.specs.Writes.{Holds, HolderHolds}
-use Rattle.sb_table.specs.Plain.{IsPlainTable}
 use Rattle.sb_table.specs.Floors.{IsKeptTable}
 use Rattle.sb_holdings.specs.Held.{nothing, holder_of}
-use Rattle.sb_holdings.specs.Plain.{alone, IsKeptHolder, IsHoldings, IsPlainHolder, IsPlainHoldings}
+use Rattle.sb_holdings.specs.Plain.{alone, IsKeptHolder, IsHoldings}
 use Rattle.sb_holdings.specs.Nodes.{opened_node, NodeHolds}
-use Rattle.sb_types.proofs.Texts.{same_text, text_same}
-use Rattle.sb_holdings.proofs.ByOwner.{Rise, get-from, len-from, IsHoldings-own}
+use Rattle.sb_types.proofs.Texts.{same_text}
+use Rattle.sb_holdings.proofs.ByOwner.{Rise, get-from, IsHoldings-own}
 
 -- the holder, or nothing
 found-or_nothing : (b : Bool) (h : Holder) → unwrap_or (cond b (Some h) None) nothing ≡ cond b h nothing
@@ -38,16 +37,6 @@ kept-table t kept = record { is = record { shown = kept.is; stage = tt }; limit 
 
 pub IsHoldings-alone : (me : List ℕ) (t : Table) → IsKeptTable t → IsHoldings (opened_node me t).held
 IsHoldings-alone me t kept = IsHoldings-own me (alone t) (kept-table t kept) refl
-
-pub IsPlainHoldings-alone : (me : List ℕ) (t : Table) → IsPlainTable t → IsPlainHoldings (opened_node me t).held
-IsPlainHoldings-alone me t plain = record {
-  own = ap is_some (get-opened me t me ∙ ap (λ (b : Bool). cond b (Some (alone t)) None) (text_same me me refl));
-  each = λ owner. subst (λ (o : Option Holder). IfSome o IsPlainHolder) (sym (get-opened me t owner))
-      (cond_both (pointwise nat_eq owner me) (Some (alone t)) None (λ (o : Option Holder). IfSome o IsPlainHolder) (λ _. record { shown = plain; stage = refl }) (λ _. tt));
-  others = λ owner apart. subst (λ (o : Option Holder). IfSome o (λ h. 0 < length h.shown.entries))
-      (sym (get-opened me t owner ∙ ap (λ (b : Bool). cond b (Some (alone t)) None) apart)) tt;
-  limit = omega (arith, len-from me ((me, alone t) ∷ []) (one-rises me (alone t)));
-}
 
 -- ---- what it holds is true
 

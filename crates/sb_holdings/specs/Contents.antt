@@ -1,9 +1,8 @@
 -- All that was written, as a table.
-use Rattle.std.specs.Prelude.{ℕ, ◌+◌, ◌≤◌, max, if◌then◌else◌, List, [], ◌∷◌, length}
+use Rattle.std.specs.Prelude.{ℕ, ◌+◌, if◌then◌else◌, List, [], ◌∷◌, length}
 use Rattle.sb_types.specs.declared.entry.Write.{Write}
 use Rattle.sb_types.specs.Records.{Entry, Table}
-use Rattle.sb_types.specs.Runs.{has_key, last_version, live}
-use Rattle.sb_table.specs.Floors.{IsKeptTable}
+use Rattle.sb_types.specs.Runs.{has_key, live}
 
 -- the write as the entry of this version
 abbrev pub entry_of_write : ℕ → Write → Entry
@@ -22,8 +21,3 @@ last_each (e ∷ es) = if has_key e.key es then last_each es else e ∷ last_eac
 -- what a log of these writes, purged up to the floor, has
 abbrev pub content_table : ℕ → List Write → Table
 content_table floor writes = record { held = length writes; floor = floor; entries = live floor (last_each (numbered 0 writes)) }
-
--- a table that a log can have: held no further than its last entry or its floor, whichever is higher
-pub record IsContent (t : Table) : Type 0 where
-  pub table : IsKeptTable t
-  pub held : t.held ≤ max t.floor (last_version 0 t.entries)

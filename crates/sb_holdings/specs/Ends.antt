@@ -95,19 +95,3 @@ Fits held b OwnersFull = (JoinsOn held b ⊎ ((s : Stage) × JoinsStage held b s
 Fits held b (Taken n) = IsTaken held b (Taken n) ⊎ IsStaged held b (Taken n)
 Fits held b (TooManyKeys n) = IsTaken held b (TooManyKeys n) ⊎ IsStaged held b (TooManyKeys n)
 Fits held b (NoMemory n) = IsTaken held b (NoMemory n) ⊎ IsStaged held b (NoMemory n)
-
--- the same, where there are no floors and no stages and the block has an entry
-pub record IsPlainTaken (held : Held) (b : Block) (end : BlockEnd) : Type 0 where
-  pub joins : JoinsOn held b
-  pub place : has_place held b.owner ≡ true
-  pub enters : let t = shown_of held b.owner in Enters t.entries (above t.held b.entries) end
-
-abbrev pub FitsPlain : Held → Block → BlockEnd → Type 0
-FitsPlain held b Own = (is_own held b ≡ true) × (b.upto ≤ (shown_of held b.owner).held)
-FitsPlain held b (OwnAhead upto) = (is_own held b ≡ true) × ((shown_of held b.owner).held < b.upto) × (upto ≡ b.upto)
-FitsPlain held b Gap = (is_own held b ≡ false) × ((shown_of held b.owner).held < b.after)
-FitsPlain held b Stale = (is_own held b ≡ false) × (b.after ≤ (shown_of held b.owner).held) × (b.upto ≤ (shown_of held b.owner).held)
-FitsPlain held b OwnersFull = JoinsOn held b × (has_place held b.owner ≡ false)
-FitsPlain held b (Taken n) = IsPlainTaken held b (Taken n)
-FitsPlain held b (TooManyKeys n) = IsPlainTaken held b (TooManyKeys n)
-FitsPlain held b (NoMemory n) = IsPlainTaken held b (NoMemory n)

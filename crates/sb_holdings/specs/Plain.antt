@@ -1,17 +1,17 @@
--- What a node keeps, also where it has no floor and no stage, and what is read of it.
-use Rattle.std.specs.Prelude.{◌≡◌, ℕ, ◌+◌, ◌%◌, ◌^◌, ◌≤◌, ◌<◌, Bool, true, false, not, ◌==◌, if◌then◌else◌, nat_eq, List, map, filter, length, Option, Some, None, IfSome, IsSomeAnd, Result, Ok, Err}
+-- What a node keeps, and what is read of it.
+use Rattle.std.specs.Prelude.{◌≡◌, ℕ, ◌+◌, ◌%◌, ◌^◌, ◌≤◌, Bool, true, false, not, ◌==◌, if◌then◌else◌, nat_eq, List, map, filter, length, Option, Some, None, IfSome, IsSomeAnd, Result, Ok, Err}
 use Rattle.std.specs.Option.{option_map}
 use Rattle.std.specs.Ordering.{nat_cmp, is_le}
 use Rattle.std.specs.Cmp.Lexicographic.{slice_cmp, pointwise}
-use Rattle.std.specs.FinMap.{get, contains_key, entries, len, from_sorted}
+use Rattle.std.specs.FinMap.{get, entries, len, from_sorted}
 use Rattle.sb_types.specs.declared.limits.TheConstants.{OWNERS_MOST, KEYS_MOST}
 use Rattle.sb_types.specs.Records.{Entry, Table, Holder}
 use Rattle.sb_types.specs.Runs.{entered, last_version}
 use Rattle.sb_types.specs.Writes.{IsHolder}
 use Rattle.sb_types.specs.declared.fault.Fault.{Fault}
 use Rattle.sb_types.specs.declared.fault.Fault.TheVariants.{OutOfTurn, TableFull}
-use Rattle.sb_table.specs.Plain.{IsPlainTable, is_full_for}
-use Rattle.sb_holdings.specs.Held.{Held, is_nothing, shown_of, with_owner}
+use Rattle.sb_table.specs.Plain.{is_full_for}
+use Rattle.sb_holdings.specs.Held.{Held, is_nothing, shown_of}
 
 -- the table, and no stage beside it
 abbrev pub alone : Table → Holder
@@ -38,24 +38,9 @@ pub record IsHoldings (held : Held) : Type 0 where
   pub others : (owner : List ℕ) → pointwise nat_eq owner held.me ≡ false → IfSome (get held.owners owner) (λ h. is_nothing h ≡ false)
   pub limit : len held.owners ≤ OWNERS_MOST
 
-pub record IsPlainHolder (h : Holder) : Type 0 where
-  pub shown : IsPlainTable h.shown
-  pub stage : h.stage ≡ None
-
--- no floors and no stages: the own name is held, no other owner without an entry, and not too many
-pub record IsPlainHoldings (held : Held) : Type 0 where
-  pub own : contains_key held.owners held.me ≡ true
-  pub each : (owner : List ℕ) → IfSome (get held.owners owner) IsPlainHolder
-  pub others : (owner : List ℕ) → pointwise nat_eq owner held.me ≡ false → IfSome (get held.owners owner) (λ h. 0 < length h.shown.entries)
-  pub limit : len held.owners ≤ OWNERS_MOST
-
 -- the table that is shown of an owner
 abbrev pub table_of : Held → List ℕ → Option Table
 table_of held owner = option_map (λ h. h.shown) (get held.owners owner)
-
--- with later entries of an owner entered
-abbrev pub with_entered : Held → List ℕ → List Entry → Held
-with_entered held owner others = with_owner held owner (alone (with_entries (shown_of held owner) others))
 
 -- the version of the next write, 0 where all are spent
 abbrev pub next_version : ℕ → ℕ

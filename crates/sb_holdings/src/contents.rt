@@ -7,7 +7,8 @@ ghost use Rattle.sb_types.specs.Runs.{IsTable};
 ghost use Rattle.sb_types.specs.Writes.{Written, Holds};
 ghost use Rattle.sb_table.specs.Plain.{IsPlainTable, with_entry};
 ghost use Rattle.sb_table.specs.Floors.{raised};
-ghost use Rattle.sb_holdings.specs.Contents.{entry_of_write, content_table, IsContent};
+ghost use Rattle.sb_table.specs.Contents.{IsContent};
+ghost use Rattle.sb_holdings.specs.Contents.{entry_of_write, content_table};
 
 /// What a log of all writes has is true, and is a table.
 pub fn contents_hold()

@@ -10,9 +10,9 @@ ghost use Rattle.std.specs.BTreeMap.{IsOrdered};
 ghost use Rattle.sb_types.specs.declared.limits.TheConstants.{OWNERS_MOST};
 ghost use Rattle.sb_types.specs.Faults.{Gives};
 ghost use Rattle.sb_types.specs.Runs.{IsRun};
-ghost use Rattle.sb_table.specs.Plain.{IsPlainTable, is_full_for};
+ghost use Rattle.sb_table.specs.Plain.{is_full_for};
 ghost use Rattle.sb_holdings.specs.Held.{holder_of, shown_of, nothing, with_owner, written, held_after_block};
-ghost use Rattle.sb_holdings.specs.Plain.{IsHoldings, IsPlainHoldings, alone, held_of, own_answer, table_of, tables_from};
+ghost use Rattle.sb_holdings.specs.Plain.{IsHoldings, alone, held_of, own_answer, table_of, tables_from};
 ghost use Rattle.sb_holdings.specs.Taken.{holder_after_block};
 ghost use Rattle.sb_holdings.specs.Ends.{Fits};
 ghost use Rattle.sb_holdings.specs.Holders.{told, named, FitsHolder, FitsNew, own_end, Dropped};
@@ -35,7 +35,7 @@ use std::ops::Bound;
 /// let a = Name::read(b"a")?;
 /// let mut holdings = Holdings::new(alloc, Name::read(b"b")?, Table::new(alloc))?;
 /// let entry = Entry::new(Key::read(b"up")?, 1, Slot::Set(Value::flag(true)));
-/// let block = Block::new(a, 0, vec![in alloc; entry]?)?;
+/// let block = Block::new(a, 0, 0, 1, vec![in alloc; entry]?)?;
 /// assert_eq!(rt; holdings.apply_block(&block), BlockEnd::Taken(1));
 /// assert_eq!(rt; holdings.apply_block(&block), BlockEnd::Stale);
 /// assert_eq!(rt; holdings.upto(&a), 1);
@@ -70,7 +70,6 @@ impl Holdings {
     pub fn new(alloc: Global, me: Name, table: Table) -> Result<Holdings, Fault>
         ensures held { IfOk result (λ h. h ≡ held_of me ((me, alone table) ∷ [])) }
         ensures holdings { IfOk result IsHoldings }
-        ensures plain { IsPlainTable table → IfOk result IsPlainHoldings }
         ensures memory { IfErr result (λ fault. fault ≡ Fault.NoMemory) }
     {
         let mut holders = BTreeMap::new(alloc);
@@ -169,7 +168,6 @@ impl Holdings {
         ensures ok { OnOk result (self.new ≡ written self.old entry) }
         ensures err { OnErr result (self.new ≡ self.old) }
         ensures holdings { IsHoldings self.new }
-        ensures plain { IsPlainHoldings self.old → IsPlainHoldings self.new }
     {
         let next = self.upto(&self.me).wrapping_add(1);
         if entry.version() != next {
@@ -181,33 +179,29 @@ impl Holdings {
         self.enter_own(entry)
     }
 
-    /// Takes what a block tells of another owner above what is held, copied entry by entry, and tells how it
-    /// ended. Of these entries the first are entered, as many as `Taken`, `TooManyKeys` or `NoMemory` says;
-    /// every other end leaves everything as it was.
+    /// Takes what a block tells of another owner, copied entry by entry, and tells how it ended. Where the block's floor is
+    /// at or below what is held, the owner's table takes it: its floor rises, the removals up to that go, and the entries
+    /// above what is held are entered. Else a stage takes it, the one of that floor, or a new one where the block begins
+    /// at 0 and there is none of as high a floor; once it has come as far as its floor it takes the table's place. `Taken`,
+    /// `TooManyKeys` and `NoMemory` say how many entries were entered, of those that the table or the stage lacked; where
+    /// `NoMemory` counts them all, it was the swap or the place of a new owner that found none: then the stage is gone, and
+    /// the table stands. Every other end leaves everything as it was.
     pub fn apply_block(&mut self, block: &Block) -> BlockEnd
         ensures effect { self.new ≡ held_after_block self.old block.now result }
         ensures end { Fits self.old block.now result }
         ensures holdings { IsHoldings self.new }
-        ensures plain { IsPlainHoldings self.old → IsPlainHoldings self.new }
     {
         self.apply_parts(
             block.owner(),
-            0,
+            block.floor(),
             block.after(),
             block.upto(),
             block.entries(),
         )
     }
 
-    /// Takes what a block of any floor tells of another owner, in parts: entries above the version `after` and at most
-    /// `upto`, which leave out no write between but those whose key was written again and removals up to the floor.
-    /// Where the floor is at or below what is held, the owner's table takes them: its floor rises, the removals up to
-    /// that go, and the entries above what is held are entered. Else a stage takes them, the one of that floor, or a new
-    /// one where they begin at 0 and there is none of as high a floor; once it has come as far as its floor it takes the
-    /// table's place. `Taken`, `TooManyKeys` and `NoMemory` say how many entries were entered, of those that the table
-    /// or the stage lacked; where `NoMemory` counts them all, it was the swap or the place of a new owner that found
-    /// none: then the stage is gone, and the table stands. Every other end leaves everything as it was.
-    pub fn apply_parts(
+    /// Takes a block in parts.
+    fn apply_parts(
         &mut self,
         owner: &Name,
         floor: u64,

@@ -10,10 +10,8 @@ ghost use Rattle.sb_holdings.specs.declared.ends.BlockEnd.{BlockEnd};
 ghost use Rattle.sb_holdings.specs.Taken.{holder_after_block};
 ghost use Rattle.sb_holdings.specs.Events.{Event, replay_holder, AreEvents, AllTrue};
 ghost use Rattle.sb_holdings.specs.Progress.{Later};
-ghost use Rattle.sb_table.specs.Plain.{is_full_for};
-ghost use Rattle.sb_holdings.specs.Held.{Held, shown_of, written, held_after_block};
-ghost use Rattle.sb_holdings.specs.Plain.{IsHoldings, IsPlainHoldings};
-ghost use Rattle.sb_holdings.specs.Ends.{Fits, FitsPlain};
+ghost use Rattle.sb_holdings.specs.Held.{Held, shown_of, written};
+ghost use Rattle.sb_holdings.specs.Plain.{IsHoldings};
 ghost use Rattle.sb_holdings.specs.Nodes.{Node, NodeEvent, replay_node, AreNodeEvents, AllTrueAt, IsNode, NodeHolds, NodeLater};
 ghost use Rattle.sb_holdings.specs.Entering.{entered_each};
 ghost use Rattle.sb_holdings.specs.ByVersion.{TellsByVersion};
@@ -74,13 +72,4 @@ pub fn holdings_make_nodes()
     ensures node { (held : Held) (conflict : Option ℕ) → IsHoldings held → IsNode (record { held = held; conflict = conflict }) }
     ensures block { (b : Block) → is_delta_block b ≡ true → IsBlock b }
     ensures delta { (blocks : List Block) (b : Block) → is_delta blocks ≡ true → Stands blocks b → is_delta_block b ≡ true }
-{}
-
-/// Where nothing has a floor or a stage, holdings are holdings, blocks of a delta end by fewer tests, and after them and after
-/// own writes nothing has a floor or a stage either.
-pub fn plain_holdings_stay_plain()
-    ensures holdings { (held : Held) → IsPlainHoldings held → IsHoldings held }
-    ensures fits { (held : Held) (b : Block) (end : BlockEnd) → IsPlainHoldings held → is_delta_block b ≡ true → Fits held b end → FitsPlain held b end }
-    ensures taken { (held : Held) (b : Block) (end : BlockEnd) → IsPlainHoldings held → is_delta_block b ≡ true → Fits held b end → IsPlainHoldings (held_after_block held b end) }
-    ensures written { (held : Held) (e : Entry) → IsPlainHoldings held → is_full_for e.key (shown_of held held.me).entries ≡ false → IsPlainHoldings (written held e) }
 {}

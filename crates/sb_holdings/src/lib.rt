@@ -10,7 +10,7 @@
 //! fn apply_twice(alloc: Global) -> Result<[BlockEnd; 2], Fault> {
 //!     let mut holdings = Holdings::new(alloc, Name::read(b"b")?, Table::new(alloc))?;
 //!     let entry = Entry::new(Key::read(b"web/up")?, 1, Slot::Set(Value::flag(true)));
-//!     let block = Block::new(Name::read(b"a")?, 0, vec![in alloc; entry]?)?;
+//!     let block = Block::new(Name::read(b"a")?, 0, 0, 1, vec![in alloc; entry]?)?;
 //!     Ok([holdings.apply_block(&block), holdings.apply_block(&block)])
 //! }
 //! ```
@@ -31,7 +31,7 @@ pub use ends::BlockEnd;
 pub use holdings::Holdings;
 pub use laws::{
     blocks_keep_truth, holdings_make_nodes, nodes_hold, nothing_goes_back, one_by_one, one_meaning,
-    plain_holdings_stay_plain, replays_hold, truth_lasts, writes_come_in_turn,
+    replays_hold, truth_lasts, writes_come_in_turn,
 };
 pub use node_laws::{
     growing_keeps_truth, holders_are_found, joining_blocks_are_taken_up, opened_nodes_hold,

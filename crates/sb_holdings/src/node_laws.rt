@@ -7,12 +7,11 @@ ghost use Rattle.std.specs.FinMap.{FinMap, get};
 ghost use Rattle.sb_types.specs.declared.entry.Write.{Write};
 ghost use Rattle.sb_types.specs.Records.{Entry, Table, Stage, Block, Holder};
 ghost use Rattle.sb_types.specs.Writes.{Written, Holds, Honest};
-ghost use Rattle.sb_table.specs.Plain.{IsPlainTable};
 ghost use Rattle.sb_table.specs.Floors.{IsKeptTable};
 ghost use Rattle.sb_holdings.specs.declared.ends.BlockEnd.{BlockEnd};
 ghost use Rattle.sb_holdings.specs.Contents.{content_table};
 ghost use Rattle.sb_holdings.specs.Held.{holder_of, is_nothing, with_holder};
-ghost use Rattle.sb_holdings.specs.Plain.{IsHoldings, IsPlainHoldings};
+ghost use Rattle.sb_holdings.specs.Plain.{IsHoldings};
 ghost use Rattle.sb_holdings.specs.Ends.{JoinsOn, JoinsStage, Fits};
 ghost use Rattle.sb_holdings.specs.Nodes.{Node, NodeEvent, opened_node, node_after_block, replay_node, NodeHolds};
 ghost use Rattle.sb_holdings.specs.Growth.{Grows};
@@ -31,7 +30,6 @@ pub fn opened_nodes_hold()
     ensures table { (writes : List ℕ → List Write) (me : List ℕ) (t : Table) → Holds (writes me) t → NodeHolds writes (opened_node me t) }
     ensures content { (writes : List ℕ → List Write) (me : List ℕ) (floor : ℕ) (t : Table) → floor ≤ length (writes me) → t ≡ content_table floor (writes me) → NodeHolds writes (opened_node me t) }
     ensures holdings { (me : List ℕ) (t : Table) → IsKeptTable t → IsHoldings (opened_node me t).held }
-    ensures plain { (me : List ℕ) (t : Table) → IsPlainTable t → IsPlainHoldings (opened_node me t).held }
 {}
 
 /// A block that joins on is taken up, all of it or as much as there is room for: by the table that is shown, or by a stage.

@@ -14,17 +14,18 @@ use Rattle.sb_types.specs.declared.entry.Slot.{Slot}
 use Rattle.sb_types.specs.declared.fault.Fault.{Fault}
 use Rattle.sb_types.specs.declared.fault.Fault.TheVariants.{NoMemory, TableFull, VersionsSpent, NothingThere, Closed, StoreFailed, LogDamaged}
 use Rattle.sb_types.specs.Records.{Entry, Table}
-use Rattle.sb_table.specs.Plain.{IsPlainTable, plain_table, with_entry, is_full_for}
+use Rattle.sb_table.specs.Plain.{plain_table, with_entry, is_full_for}
+use Rattle.sb_table.specs.Contents.{IsContent}
 use Rattle.sb_log.specs.Records.{Committed, Log}
 use Rattle.sb_log.specs.Puts.{is_idle, Puts, Loads, refusal, next_entry, next_content, IsReason}
 use Rattle.sb_log.specs.Form.{log_schema}
-use Rattle.sb_log.specs.Rows.{AreRowsOf, Enters, content_of}
+use Rattle.sb_log.specs.Rows.{AreRowsOf, CanSay, Enters, content_by, content_of}
 use Rattle.sb_log.specs.Opening.{IsNamed, IsNamedIn}
 use Rattle.sb_log.specs.Standing.{IsReady, HoldsContent, IsKept, Finds, MayLeave}
 use Rattle.sb_log.specs.Sql.{SqlView, log_in}
-use Rattle.sb_log.proofs.Contents.{holds_is, entered_holds}
+use Rattle.sb_log.proofs.Contents.{holds_is, holds_content, holds_most, says_again, content_again, entered_holds}
 use Rattle.sb_log.proofs.Refusals.{has_room}
-use Rattle.sb_log.proofs.Unique.{one_table, plain_is}
+use Rattle.sb_log.proofs.Unique.{one_table}
 
 pub same_fault : {A : Type 0} {a b : Fault} → ◌≡◌ {A = Result A Fault} (Err a) (Err b) → a ≡ b
 same_fault e = cc
@@ -67,12 +68,12 @@ module _ (old : Log) (up : old.is_open ≡ true) (key : List ℕ) (slot : Slot) 
           (subst (λ (o : Option Fault). IsReason o fault) (sym is) (inl same))
 
 module _ {S : Type 0} (g : Ghosts S) (settled : (s : S) (db : Trees) → IsTrue (g.view s).is_open → g.recovers s db → db ≡ (g.view s).committed) (owner cluster : List ℕ) where
-  in_two : (content : Table) (last floor : ℕ) (rows : List Row) → IsNamedIn 2 owner cluster last floor rows → IsNamed owner cluster content last floor rows
-  in_two content last floor rows named = (2, inr refl, named)
+  in_two : (table : Table) (last floor : ℕ) (rows : List Row) → IsNamedIn 2 owner cluster last floor rows → CanSay last floor table.entries → IsNamed owner cluster table last floor rows
+  in_two table last floor rows named can = (2, inr refl, named, can)
 
-  found_in : (content : Table) (entries : List Entry) (db : Trees) → IsSound log_schema db → HoldsContent owner cluster content entries db → (left : Table) → Finds owner cluster db left → left ≡ content
+  pub found_in : (content : Table) (entries : List Entry) (db : Trees) → IsSound log_schema db → HoldsContent owner cluster content entries db → (left : Table) → Finds owner cluster db left → left ≡ content
   found_in content entries db sound holds left finds =
-      finds holds.last content.floor (plain_table entries) sound (in_two (plain_table entries) holds.last content.floor (db 0) holds.named) holds.rows ∙ holds_is owner cluster content entries db holds
+      finds holds.last content.floor (plain_table entries) sound (in_two (plain_table entries) holds.last content.floor (db 0) holds.named holds.can) holds.rows ∙ holds_is owner cluster content entries db holds
 
   -- after a crash what a log that stands holds is found
   left_is : (conn : Held S) (table : Table) → IsReady (state g conn) → HoldsContent owner cluster table table.entries (state g conn).now.trees → (left : Table) → MayLeave g owner cluster conn left → left ≡ table
@@ -235,19 +236,24 @@ module _ {S : Type 0} (g : Ghosts S) (settled : (s : S) (db : Trees) → IsTrue 
           let now = read clean stands.0 in
           (now.0, subst (λ (d : Database). HoldsContent owner cluster table table.entries d.trees) (sym now.1) stands.1)
 
-      pub gives : IsPlainTable table → (t : Table) → IsPlainTable t → Read → (HasCleanDisk (state g conn') → IsReady (state g conn) → AreRowsOf t ((state g conn).now.trees 1))
-          → Loads before (Ok t) (log_in g (view_with is_open conn'))
-      gives whole t plain read rows =
+      -- what is read is the content of the same rows
+      abbrev ReadsAs : Table → Type 0
+      ReadsAs t = HasCleanDisk (state g conn') → IsReady (state g conn) → (found : Table) × AreRowsOf found ((state g conn).now.trees 1) × (t ≡ content_by table.held table.floor found.entries)
+
+      pub gives : (t : Table) → IsContent t → Read → ReadsAs t → Loads before (Ok t) (log_in g (view_with is_open conn'))
+      gives t is read reads =
           record {
             stays = record { owner = refl; cluster = refl; most = refl; clean = still_clean; sure = λ s. absurd (cc) };
             closed = (λ e. absurd (never_closed t e), λ shut. absurd (true≢false (sym up ∙ shut)));
             given = record {
               is_open = up;
-              plain = plain;
+              is = is;
               same = λ clean.
                   let was = still_clean clean in
                   let stands = kept up (no_doubt _ was) in
-                  one_table ((state g conn).now.trees 1) (plain_table table.entries) t stands.1.rows (rows (no_doubt _ clean) stands.0) ∙ sym (plain_is table whole) ∙ sym (shown was);
+                  let found = reads (no_doubt _ clean) stands.0 in
+                  let same : found.0 ≡ plain_table table.entries = one_table ((state g conn).now.trees 1) (plain_table table.entries) found.0 stands.1.rows found.1 in
+                  found.2 ∙ ap (λ (u : Table). content_by table.held table.floor u.entries) same ∙ content_again table stands.1.table ∙ sym (shown was);
               content = same_content read;
             };
             failed = tt;
@@ -303,7 +309,8 @@ module _ {S : Type 0} (g : Ghosts S) (settled : (s : S) (db : Trees) → IsTrue 
 
       abbrev TakesNoneForDamage : Type 0
       TakesNoneForDamage =
-          HasCleanDisk (state g conn') → IsReady (state g conn) → (t : Table) → AreRowsOf t ((state g conn).now.trees 1) → ◌≢◌ {A = Result Table Fault} (Err LogDamaged) (Err LogDamaged)
+          HasCleanDisk (state g conn') → IsReady (state g conn) → (t : Table) → AreRowsOf t ((state g conn).now.trees 1) → CanSay table.held table.floor t.entries
+          → ◌≢◌ {A = Result Table Fault} (Err LogDamaged) (Err LogDamaged)
 
       -- where a row is taken for damage, the store broke its promise
       broke : TakesNoneForDamage → (g.view conn'.store).is_clean ≡ false
@@ -311,7 +318,11 @@ module _ {S : Type 0} (g : Ghosts S) (settled : (s : S) (db : Trees) → IsTrue 
         where
           go : (b : Bool) → (g.view conn'.store).is_clean ≡ b → b ≡ false
           go false is = refl
-          go true is = let stands = kept up (no_doubt _ (still_clean is)) in absurd (whole (no_doubt _ is) stands.0 (plain_table table.entries) stands.1.rows refl)
+          go true is =
+              let stands = kept up (no_doubt _ (still_clean is)) in
+              let trees = (g.view conn.store).trees in
+              let can = says_again table (holds_content owner cluster table table.entries trees stands.1) (holds_most owner cluster table table.entries trees stands.1) in
+              absurd (whole (no_doubt _ is) stands.0 (plain_table table.entries) stands.1.rows can refl)
 
       pub gives_damaged : TakesNoneForDamage → Loads before (Err LogDamaged) (log_in g (view_with false conn'))
       gives_damaged whole = gives_damage (broke whole)

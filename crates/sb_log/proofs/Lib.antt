@@ -19,3 +19,4 @@ mod Dropping
 mod Contents
 mod Founding
 mod Whole
+mod Floors

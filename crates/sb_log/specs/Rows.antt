@@ -112,6 +112,13 @@ floor_in (row ∷ rows) = number_of (column row 6)
 abbrev pub content_by : ℕ → ℕ → List Entry → Table
 content_by last floor entries = record { held = max last (last_version 0 entries); floor = floor; entries = live floor entries }
 
+-- a log of these entries can say this last version and this floor: the floor is at most the last version, and that at most the greatest of
+-- all, and at most the last entry's or the floor, whichever is higher
+pub record CanSay (last floor : ℕ) (entries : List Entry) : Type 0 where
+  pub order : floor ≤ last
+  pub reach : last ≤ max floor (last_version 0 entries)
+  pub most : last ≤ VERSION_MOST
+
 -- the content that the rows of both tables hold, their entries in the order of their versions
 abbrev pub content_of : List Row → List Row → Table
 content_of metas rows = content_by (last_in metas) (floor_in metas) (in_order (map (λ row. entry_by (cells row)) rows))

@@ -17,6 +17,7 @@
 
 mod check;
 mod committed;
+mod content;
 mod log;
 mod opening;
 mod plain;

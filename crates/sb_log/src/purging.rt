@@ -73,7 +73,7 @@ fn write_floor<S: Alter>(conn: &mut Connection<S>, last: u64, floor: u64) -> Res
 }
 
 /// Takes out the rows of the removals up to a version. `StoreFailed`.
-fn drop_removals<S: Alter>(conn: &mut Connection<S>, floor: u64) -> Result<(), Fault>
+pub(crate) fn drop_removals<S: Alter>(conn: &mut Connection<S>, floor: u64) -> Result<(), Fault>
     requires { floor < 2 ^ 63 }
     ensures drops { HasCleanDisk (state S.Store conn.new) → IsReady (state S.Store conn.old)
         → OnOk result (Drops floor ((state S.Store conn.old).now.trees 1) ((state S.Store conn.new).now.trees 1)) }

@@ -6,6 +6,7 @@ ghost use Rattle.sqlite.specs.Held.{state};
 ghost use Rattle.sqlite.specs.Effect.{IsDatabase};
 ghost use Rattle.sqlite.specs.State.{HasCleanDisk, IsUnchanged};
 ghost use Rattle.sqlite_catalog.specs.Listing.{IsSound};
+ghost use Rattle.sb_types.specs.declared.limits.TheConstants.{VERSION_MOST};
 ghost use Rattle.sb_types.specs.Records as records;
 ghost use Rattle.sb_table.specs.Plain.{IsPlainTable};
 ghost use Rattle.sb_log.specs.Form.{no_schema, meta_schema, log_schema};
@@ -204,6 +205,7 @@ pub(crate) fn read_table<S: Alter>(conn: &mut Connection<S>, alloc: Global) -> R
     ensures rows { HasCleanDisk (state S.Store conn.new) → IsReady (state S.Store conn.old)
         → IfOk result (λ t. AreRowsOf t ((state S.Store conn.old).now.trees 1)) }
     ensures plain { IfOk result IsPlainTable }
+    ensures most { IfOk result (λ t. t.held ≤ VERSION_MOST) }
     // No row of a table's is taken for damage.
     ensures whole { HasCleanDisk (state S.Store conn.new) → IsReady (state S.Store conn.old) → (t : records.Table) → AreRowsOf t ((state S.Store conn.old).now.trees 1)
         → result ≢ Err Fault.LogDamaged }

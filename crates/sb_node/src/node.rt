@@ -5,11 +5,11 @@ ghost use Rattle.std.specs.Option.{option_map};
 ghost use Rattle.sb_types.specs.Faults.{Gives};
 ghost use Rattle.sb_types.specs.Limits.{is_delta, are_settings};
 ghost use Rattle.sb_types.specs.Runs.{shown_at};
-ghost use Rattle.sb_table.specs.Plain.{IsPlainTable, is_full_for};
+ghost use Rattle.sb_table.specs.Plain.{is_full_for};
 ghost use Rattle.sb_holdings.specs.Ends.{Fits};
 ghost use Rattle.sb_holdings.specs.Held.{shown_of};
 ghost use Rattle.sb_holdings.specs.Nodes.{Wrote, node_after_block, node_after_event, replay_node, opened_node};
-ghost use Rattle.sb_holdings.specs.Plain.{IsPlainHoldings, own_answer};
+ghost use Rattle.sb_holdings.specs.Plain.{IsHoldings, own_answer};
 ghost use Rattle.sb_digest.specs.Builders.{IsLongestFront};
 ghost use Rattle.sb_digest.specs.Pairs.{pairs_from};
 ghost use Rattle.sb_budget.specs.Available.{available_for};
@@ -41,7 +41,7 @@ pub struct NodeCore {
 impl Model for NodeCore {
     ghost use Rattle.std.specs.Coded.{codes};
     ghost use Rattle.std.specs.FinMap.{code};
-    ghost use Rattle.sb_holdings.specs.Plain.{IsPlainHoldings};
+    ghost use Rattle.sb_holdings.specs.Plain.{IsHoldings};
     ghost use Rattle.sb_node.specs.Cores.{Core};
 
     ghost Value = { Core };
@@ -50,7 +50,7 @@ impl Model for NodeCore {
 
     ghost view = { λ c. record { settings = c.settings; node = record { held = c.holdings; conflict = c.conflict } } };
 
-    ghost invariant = { λ c. IsPlainHoldings c.holdings };
+    ghost invariant = { λ c. IsHoldings c.holdings };
 }
 
 impl NodeCore {
@@ -61,10 +61,9 @@ impl NodeCore {
         me: Name,
         table: Table,
     ) -> Result<NodeCore, Fault>
-        requires plain { IsPlainTable table }
         ensures settings { IfOk result (λ core. core.settings ≡ settings) }
         ensures node { IfOk result (λ core. core.node ≡ opened_node me table) }
-        ensures holdings { IfOk result (λ core. IsPlainHoldings core.node.held) }
+        ensures holdings { IfOk result (λ core. IsHoldings core.node.held) }
         ensures memory { IfErr result (λ fault. fault ≡ Fault.NoMemory) }
     {
         Ok(NodeCore {
@@ -79,7 +78,7 @@ impl NodeCore {
     pub fn settings(&self) -> Settings
         ensures settings { result ≡ self.now.settings }
         ensures limits { are_settings self.now.settings ≡ true }
-        ensures holdings { IsPlainHoldings self.now.node.held }
+        ensures holdings { IsHoldings self.now.node.held }
     {
         // Does nothing: the call tells the prover that the settings keep their limits.
         let _ = self.settings.budget();
@@ -89,7 +88,7 @@ impl NodeCore {
     /// The own name.
     pub fn name(&self) -> &Name
         ensures name { result.now ≡ self.now.node.held.me }
-        ensures holdings { IsPlainHoldings self.now.node.held }
+        ensures holdings { IsHoldings self.now.node.held }
     {
         self.holdings.me()
     }
@@ -97,7 +96,7 @@ impl NodeCore {
     /// What is held of each owner.
     pub fn holdings(&self) -> &Holdings
         ensures held { result.now ≡ self.now.node.held }
-        ensures holdings { IsPlainHoldings self.now.node.held }
+        ensures holdings { IsHoldings self.now.node.held }
     {
         &self.holdings
     }
@@ -105,7 +104,7 @@ impl NodeCore {
     /// The version up to which an owner is held, 0 where it is not. It takes no memory.
     pub fn upto(&self, owner: &Name) -> u64
         ensures version { result ≡ (shown_of self.now.node.held owner.now).held }
-        ensures holdings { IsPlainHoldings self.now.node.held }
+        ensures holdings { IsHoldings self.now.node.held }
     {
         self.holdings.upto(owner)
     }
@@ -114,7 +113,7 @@ impl NodeCore {
     /// where no write of it is held. It takes no memory.
     pub fn get(&self, owner: &Name, key: &Key) -> Option<(&Value, u64)>
         ensures found { option_map (λ p. (p.0.now, p.1)) result ≡ shown_at key.now (shown_of self.now.node.held owner.now).entries }
-        ensures holdings { IsPlainHoldings self.now.node.held }
+        ensures holdings { IsHoldings self.now.node.held }
     {
         match self.holdings.table(owner)?.get(key)? {
             (version, Slot::Set(value)) => Some((value, version)),
@@ -125,7 +124,7 @@ impl NodeCore {
     /// How many keys the node's own table has, removed ones counted. It takes no memory.
     pub fn keys(&self) -> usize
         ensures count { result ≡ own_keys self.now.node }
-        ensures holdings { IsPlainHoldings self.now.node.held }
+        ensures holdings { IsHoldings self.now.node.held }
     {
         match self.holdings.table(self.holdings.me()) {
             Some(table) => table.len(),
@@ -137,7 +136,7 @@ impl NodeCore {
     /// block did. While there is one, the node takes no write of its own. It takes no memory.
     pub fn conflict(&self) -> Option<u64>
         ensures version { result ≡ self.now.node.conflict }
-        ensures holdings { IsPlainHoldings self.now.node.held }
+        ensures holdings { IsHoldings self.now.node.held }
     {
         self.conflict
     }
@@ -156,7 +155,7 @@ impl NodeCore {
         ensures own { OnOk result (committed.now.owner ≡ self.old.node.held.me) }
         ensures alone { OnOk result (self.old.node.conflict ≡ None) }
         ensures next { OnOk result (own_answer self.old.node.held committed.now.entry ≡ Ok tt) }
-        ensures holdings { IsPlainHoldings self.new.node.held }
+        ensures holdings { IsHoldings self.new.node.held }
     {
         if let Some(fault) = self.refusal(committed) {
             return Err(fault);
@@ -169,7 +168,7 @@ impl NodeCore {
     pub fn refusal(&self, committed: &Committed) -> Option<Fault>
         ensures some { IfSome result (λ fault. committed_answer self.now.node committed.now ≡ Err fault) }
         ensures none { IfNone result (committed_answer self.now.node committed.now ≡ Ok tt) }
-        ensures holdings { IsPlainHoldings self.now.node.held }
+        ensures holdings { IsHoldings self.now.node.held }
     {
         if committed.owner() != self.holdings.me() {
             return Some(Fault::WrongOwner);
@@ -204,7 +203,7 @@ impl NodeCore {
         ensures longest { IfOk result (IsLongestFront self.now.settings.budget want from (pairs_from from self.now.node.held)) }
         ensures goes { IfOk result (λ digest. 0 < length (pairs_from from self.now.node.held) → 0 < length digest.pairs) }
         ensures memory { IfErr result (λ fault. fault ≡ Fault.NoMemory) }
-        ensures holdings { IsPlainHoldings self.now.node.held }
+        ensures holdings { IsHoldings self.now.node.held }
     {
         build(
             self.alloc,
@@ -222,7 +221,7 @@ impl NodeCore {
         ensures answer { IfOk result (IsAnswer self.now.settings.budget self.now.node.held digest.now) }
         ensures goes { IfOk result (λ delta. 0 < length (available_for self.now.node.held digest.now) → 0 < length delta) }
         ensures memory { IfErr result (λ fault. fault ≡ Fault.NoMemory) }
-        ensures holdings { IsPlainHoldings self.now.node.held }
+        ensures holdings { IsHoldings self.now.node.held }
     {
         let budget = self.settings.budget();
         match self.settings.order() {
@@ -239,7 +238,7 @@ impl NodeCore {
         ensures err { OnErr result (self.new ≡ self.old) }
         ensures delta { is_delta delta.now ≡ true }
         ensures memory { IfErr result (λ fault. fault ≡ Fault.NoMemory) }
-        ensures holdings { IsPlainHoldings self.new.node.held }
+        ensures holdings { IsHoldings self.new.node.held }
     {
         let blocks = delta.blocks();
         let mut ends = Vec::with_capacity(self.alloc, blocks.len())?;
@@ -254,7 +253,7 @@ impl NodeCore {
     fn take_block(&mut self, block: &Block) -> BlockEnd
         ensures end { Fits self.old.node.held block.now result }
         ensures effect { self.new ≡ with_node self.old (node_after_block self.old.node block.now result) }
-        ensures holdings { IsPlainHoldings self.new.node.held }
+        ensures holdings { IsHoldings self.new.node.held }
     {
         let end = self.holdings.apply_block(block);
         if let BlockEnd::OwnAhead(version) = end {

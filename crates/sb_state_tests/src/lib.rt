@@ -20,6 +20,8 @@ mod stages;
 mod table;
 #[cfg(test)]
 mod types;
+#[cfg(test)]
+mod words;
 
 #[cfg(test)]
 use sb_types::{Entry, Fault, Key, Name, Slot, Value};

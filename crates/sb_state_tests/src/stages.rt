@@ -1,6 +1,4 @@
 //! Holdings: what is taken of blocks with a floor, by the table that is shown and by a stage.
-ghost use Rattle.std.specs.Prelude.{◌≡◌, ◌<◌};
-
 use crate::table::{Listed, all_listed, shown};
 use crate::{got, name, same, same_at};
 use sb_holdings::{BlockEnd, Holdings};
@@ -12,25 +10,6 @@ use std::process::Abort;
 /// The floor of a block, what it begins after, and up to which version it tells.
 type Range = (u64, u64, u64);
 
-/// How a block of these entries ends, where it tells at least up to its last.
-fn apply_some(holdings: &mut Holdings, block: &Block, floor: u64, upto: u64) -> Option<BlockEnd> {
-    let reach = block.upto();
-    if upto < reach {
-        return None;
-    }
-    let after = block.after();
-    Some(holdings.apply_parts(block.owner(), floor, after, upto, block.entries()))
-}
-
-/// How a block without entries ends, where it tells of more than what it begins after.
-fn apply_none(holdings: &mut Holdings, owner: &Name, range: Range) -> Option<BlockEnd> {
-    let (floor, after, upto) = range;
-    if upto <= after {
-        return None;
-    }
-    Some(holdings.apply_parts(owner, floor, after, upto, &[]))
-}
-
 /// How a block of a's writes ends; where memory ran out, the end of the test.
 fn applied(
     rt: &impl Abort,
@@ -38,17 +17,12 @@ fn applied(
     holdings: &mut Holdings,
     range: Range,
     writes: &[Listed],
-) -> Option<BlockEnd> {
-    let owner = name(rt, b"a");
-    let end = if writes.is_empty() {
-        apply_none(holdings, &owner, range)
-    } else {
-        let entries = all_listed(rt, alloc, writes);
-        let block = got(rt, Block::new(owner, range.1, entries));
-        apply_some(holdings, &block, range.0, range.2)
-    };
-    match end {
-        Some(BlockEnd::NoMemory(_)) => panic!(rt; "error: NoMemory"),
+) -> BlockEnd {
+    let (floor, after, upto) = range;
+    let entries = all_listed(rt, alloc, writes);
+    let block = got(rt, Block::new(name(rt, b"a"), floor, after, upto, entries));
+    match holdings.apply_block(&block) {
+        BlockEnd::NoMemory(_) => panic!(rt; "error: NoMemory"),
         end => end,
     }
 }
@@ -73,7 +47,7 @@ fn assert_takes(
     let (range, writes) = block;
     let end = applied(rt, alloc, holdings, range, writes);
     let found = (end, places(rt, holdings));
-    same_at(rt, &range, &found, &(Some(wanted.0), wanted.1));
+    same_at(rt, &range, &found, &wanted);
 }
 
 /// The version under a letter of a's, and whether it sets the key.

@@ -66,7 +66,7 @@ pub(crate) fn entry_of(rt: &impl Abort, case: Case) -> Entry {
 
 pub(crate) fn block_of_b(rt: &impl Abort, alloc: Global) -> Block {
     let entries = got(rt, vec![in alloc; entry_of(rt, OF_B)]);
-    got(rt, Block::new(name(rt, b"b"), 0, entries))
+    got(rt, Block::new(name(rt, b"b"), 0, 0, OF_B.version, entries))
 }
 
 /// A write of the node is entered.

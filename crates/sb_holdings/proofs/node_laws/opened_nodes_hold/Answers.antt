@@ -1,7 +1,7 @@
 use Rattle.std.proofs.Common.{sym, subst}
 use Rattle.sb_types.specs.Writes.{Holds}
 use Rattle.sb_holdings.proofs.Content.{content_tells}
-use Rattle.sb_holdings.proofs.Opened.{opened-holds, IsHoldings-alone, IsPlainHoldings-alone}
+use Rattle.sb_holdings.proofs.Opened.{opened-holds, IsHoldings-alone}
 use Rattle.sb_holdings.proofs.node_laws.opened_nodes_hold.Goals as goal
 
 pub returns-clause-table : goal.returns-clause-table
@@ -12,6 +12,3 @@ returns-clause-content c = λ writes me floor t low same. opened-holds writes me
 
 pub returns-clause-holdings : goal.returns-clause-holdings
 returns-clause-holdings c = IsHoldings-alone
-
-pub returns-clause-plain : goal.returns-clause-plain
-returns-clause-plain c = IsPlainHoldings-alone

@@ -1,9 +1,8 @@
 use Rattle.std.proofs.Common.{◌≡◌, refl, sym, ap, subst, ◌∙◌}
 use Rattle.sb_holdings.specs.Held.{Held}
 use Rattle.sb_holdings.specs.Nodes.{replay_node}
-use Rattle.sb_holdings.specs.Plain.{IsHoldings, IsPlainHoldings}
+use Rattle.sb_holdings.specs.Plain.{IsHoldings}
 use Rattle.sb_holdings.specs.Treats.{took_each}
-use Rattle.sb_holdings.proofs.Changed.{IsHoldings-plain}
 use Rattle.sb_node.specs.Cores.{Core}
 use Rattle.sb_watch.specs.Records.{Hub}
 use Rattle.sb_views.specs.Histories.{node_after}
@@ -31,14 +30,14 @@ entered g c hub seen =
     let taken = c.in_ok-ends.ensures.ok in
     let more = c.add_owners.new.self in
     let new = (replay_node node (took_each blocks ends)).held in
-    let after : IsHoldings new = IsHoldings-plain new (subst (λ (k : Core). IsPlainHoldings k.node.held) taken c.in_ok-ends.ensures.holdings) in
+    let after : IsHoldings new = subst (λ (k : Core). IsHoldings k.node.held) taken c.in_ok-ends.ensures.holdings in
     let since : AreSince (node_after opening queued).held node.held more =
     subst (λ (h : Held). AreSince (node_after opening queued).held h more) c.holdings-2.ensures.held
     (c.in_ok-add_owners.ensures.since (node_after opening queued).held
     (subst (λ (h : Held). AreSince (node_after opening queued).held h inside.behind) (sym c.holdings-2.ensures.held) c.self.invariant.since)) in
     let is = noted opening queued inside.behind more old c.self.invariant since in
     let has : HasOwners more blocks = subst (HasOwners more) c.blocks-blocks.ensures.blocks c.in_ok-add_owners.ensures.owners in
-    delta-there opening queued more old is (IsHoldings-plain node.held c.holdings.ensures.holdings) blocks ends c.in_ok-ends.ensures.delta c.in_ok-ends.ensures.ends after has
+    delta-there opening queued more old is c.holdings.ensures.holdings blocks ends c.in_ok-ends.ensures.delta c.in_ok-ends.ensures.ends after has
     c.apply.new.self c.add_event.new.history hub inside.views.published taken c.add_event.ensures seen
 
 pub show-shown-requires-clause-node : goal.show-shown-requires-clause-node

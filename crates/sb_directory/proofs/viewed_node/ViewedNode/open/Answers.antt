@@ -1,7 +1,6 @@
 use Rattle.std.proofs.Common.{◌≡◌, List, [], refl, sym, ap, subst, ◌∙◌}
 use mathlib.Core.List.{IsPrefix}
-use Rattle.sb_holdings.specs.Plain.{IsHoldings, IsPlainHoldings}
-use Rattle.sb_holdings.proofs.Changed.{IsHoldings-plain}
+use Rattle.sb_holdings.specs.Plain.{IsHoldings}
 use Rattle.sb_node.specs.Cores.{Core}
 use Rattle.sb_watch.specs.Hubs.{AllNotes}
 use Rattle.sb_views.specs.declared.event.Event.{Event}
@@ -17,7 +16,7 @@ invariant_of-node g c =
     let opening = g.S.NodeTag.opening in
     let held = c.args.core.node.held in
     let queued : c.in_ok-views.views.queued ≡ [] = ap (λ (v : Views). v.queued) c.in_ok-views.ensures.views in
-    let is : IsHoldings held = IsHoldings-plain held (subst (λ (k : Core). IsPlainHoldings k.node.held) c.core.view_is c.core.invariant) in
+    let is : IsHoldings held = subst (λ (k : Core). IsHoldings k.node.held) c.core.view_is c.core.invariant in
     record {
       node = sym c.requires.opening ∙ sym (ap (node_after opening) c.requires.start);
       begins = subst (λ (r : List Event). IsPrefix r c.args.start) (sym queued) (c.args.start, refl);

@@ -1,7 +1,6 @@
 use Rattle.std.proofs.Common.{◌≡◌, ℕ, ◌<◌, ◌^◌, List, [], ◌∷◌, ◌++◌, refl, sym, ap, subst, ◌∙◌, arith}
 use Rattle.sb_types.specs.Records.{Entry}
 use Rattle.sb_holdings.specs.Held.{Held, shown_of}
-use Rattle.sb_holdings.proofs.Changed.{IsHoldings-plain}
 use Rattle.sb_node.specs.Cores.{Core}
 use Rattle.sb_watch.specs.Records.{Hub}
 use Rattle.sb_views.specs.declared.event.Event.TheVariants.{TookOwn}
@@ -29,7 +28,7 @@ entered g c hub seen =
     let longer : c.add_event.new.history ≡ inside.history ++ TookOwn e ∷ [] = c.add_event.ensures ∙ ap (λ (x : Entry). inside.history ++ TookOwn x ∷ []) c.entry-entry.ensures.entry in
     let is = added-locked opening queued inside.behind c.add.new.self old c.name.result.now _ c.self.invariant c.in_ok-add.ensures.ok (since-read _ _ _ _ _ c.upto.ensures.version c.floor.ensures.floor c.holdings.ensures.held) in
     let has = added-there inside.behind c.add.new.self c.name.result.now node.held.me _ c.in_ok-add.ensures.ok c.name.ensures.name in
-    own-there opening queued c.add.new.self old is (IsHoldings-plain node.held c.refusal.ensures.holdings) e c.in_ok-take_own.ensures.next c.entry-entry.ensures.limits few has
+    own-there opening queued c.add.new.self old is c.refusal.ensures.holdings e c.in_ok-take_own.ensures.next c.entry-entry.ensures.limits few has
     c.take_own.new.self c.add_event.new.history hub inside.views.published taken longer seen
 
 pub show-requires-clause-node : goal.show-requires-clause-node

@@ -1,6 +1,5 @@
 use Rattle.std.proofs.Common.{sym, ap, subst, ◌∙◌}
 use Rattle.sb_holdings.specs.Held.{Held}
-use Rattle.sb_holdings.proofs.Changed.{IsHoldings-plain}
 use Rattle.sb_views.specs.Growing.{AreGrown}
 use Rattle.sb_views.specs.Histories.{node_after}
 use Rattle.sb_views.specs.Publishing.{Views}
@@ -13,10 +12,10 @@ append-requires-clause-leads g c =
     let opening = g.S.NodeTag.opening in
     let inside = c.self.inside in
     let held : Held = c.args.core.now.node.held in
-    batch-leads opening c.args.core.now.node c.args.history.now c.requires.node inside.writer.queued c.args.behind.now c.in_ok-batch.batch (IsHoldings-plain held c.holdings-holdings.ensures.holdings)
+    batch-leads opening c.args.core.now.node c.args.history.now c.requires.node inside.writer.queued c.args.behind.now c.in_ok-batch.batch c.holdings-holdings.ensures.holdings
     (subst (λ (v : Views). AreGrown (node_after opening v.queued).held held) (sym c.self.view_is) c.requires.grown)
     (subst (λ (v : Views). AreSince (node_after opening v.queued).held held c.args.behind.now) (sym c.self.view_is) c.requires.since)
     (c.in_ok-batch.ensures.batch ∙ ap (all_lacked c.args.behind.now) c.holdings-holdings.ensures.held)
 
 pub returns-clause-holdings : goal.returns-clause-holdings
-returns-clause-holdings g c = IsHoldings-plain c.args.core.now.node.held c.holdings-holdings.ensures.holdings
+returns-clause-holdings g c = c.holdings-holdings.ensures.holdings

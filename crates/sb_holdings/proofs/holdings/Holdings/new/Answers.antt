@@ -3,9 +3,8 @@ use Rattle.std.specs.BTreeMap.{insert_entry}
 use Rattle.std.specs.Ordering.{nat_cmp}
 use Rattle.std.specs.Cmp.Lexicographic.{slice_cmp}
 use Rattle.sb_types.specs.Records.{Holder}
-use Rattle.sb_holdings.specs.Plain.{alone, held_of, IsKeptHolder, IsHoldings, IsPlainHoldings}
+use Rattle.sb_holdings.specs.Plain.{alone, held_of, IsKeptHolder, IsHoldings}
 use Rattle.sb_holdings.proofs.ByOwner.{IsHoldings-own}
-use Rattle.sb_holdings.proofs.Opened.{IsPlainHoldings-alone}
 use Rattle.sb_holdings.proofs.holdings.Holdings.new.Goals as goal
 
 pub invariant_of-result : goal.invariant_of-result
@@ -20,10 +19,3 @@ invariant_of-result c =
 
 pub returns-clause-holdings : goal.returns-clause-holdings
 returns-clause-holdings c = (invariant_of-result c).1
-
-pub returns-clause-plain : goal.returns-clause-plain
-returns-clause-plain c plain =
-    let only : c.insert.new.self.entries ≡ (c.args.me, alone c.args.table) ∷ [] =
-    c.in_ok-insert.ensures.entries ∙ ap (λ (es : List (List ℕ × Holder)). insert_entry (slice_cmp nat_cmp) es c.args.me c.alone.result) c.new-holders.ensures.empty
-    ∙ ap (λ (h : Holder). (c.args.me, h) ∷ []) c.alone.ensures.alone in
-    subst (λ (es : List (List ℕ × Holder)). IsPlainHoldings (held_of c.args.me es)) (sym only) (IsPlainHoldings-alone c.args.me c.args.table plain)

@@ -1,4 +1,5 @@
-use Rattle.std.proofs.Common.{inl, sym, ◌∙◌}
+use Rattle.std.proofs.Common.{inl, sym, ap, ◌∙◌, arith}
+use Rattle.sb_types.specs.Records.{Table}
 use Rattle.sb_log.proofs.Keeping.{refuses, fails, keeps, survives, settles, now_kept, same_fault}
 use Rattle.sb_log.proofs.sql.SqlLogWriteLog.put.Goals as goal
 
@@ -73,5 +74,6 @@ invariant_of-self-in-Ok-write_entry g c =
       now_kept g.S.Store g.met.S.Store.settled i.owner i.cluster i.max_version i.is_open c.if-not-self.false i.conn i.table c.self.invariant.0 c.args.key.now c.args.slot.now w.new.conn w.ensures.clean c.in-Ok.entry
           a.entry a.fits c.accept.new.table a.entered c.in-Ok-write_entry.ensures.enters c.in-Ok-write_entry.ensures.ready c.in-Ok-write_entry.ensures.meta,
       c.self.invariant.1,
-      a.plain c.self.invariant.2,
+      a.table c.self.invariant.2,
+      omega (arith, ap (λ (t : Table). t.held) a.entered, a.version, c.self.invariant.1),
     )
