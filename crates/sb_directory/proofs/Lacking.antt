@@ -21,8 +21,8 @@ use Rattle.sb_holdings.proofs.Nodes.{Put, put_with}
 use Rattle.sb_views.specs.declared.change.Change.{Change}
 use Rattle.sb_views.specs.Changes.{Leads, IsAlike, of_owner, table_with_all, lacked_of}
 use Rattle.sb_views.specs.Growing.{AreGrown}
-use Rattle.sb_views.proofs.Beginning.{turned, of_owner-owned}
-use Rattle.sb_views.proofs.ByText.{first, second, less, by_text}
+use Rattle.sb_views.proofs.Beginning.{first, second, less, turned, of_owner-owned}
+use Rattle.sb_views.proofs.ByText.{by_text}
 use Rattle.sb_views.proofs.Changing.{same-alike, lacked-alike}
 use Rattle.sb_directory.specs.Behind.{Behind, since_of, with_owner, HasOwners, lacked_since, all_lacked, IsSince, AreSince}
 use Rattle.sb_directory.proofs.Rising.{put-owner}

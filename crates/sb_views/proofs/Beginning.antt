@@ -7,6 +7,8 @@ use Rattle.std.proofs.lemmas.Cmp.{nat_list_eq_equiv}
 use Rattle.std.specs.Cmp.Lexicographic.{pointwise, texts_ties}
 use Rattle.std.specs.Ordering.{eq_by_cmp, is_lt}
 use Rattle.std.specs.declared.alloc.AllocError.{AllocError}
+use Rattle.std.specs.declared.cmp.Ordering.{Ordering}
+use Rattle.std.specs.declared.cmp.Ordering.TheVariants.{Less, Equal, Greater}
 use Rattle.std.specs.FinMap.{get, empty, entries, entries_sorted, get-entries, get-empty, find, is_sorted}
 use Rattle.std.specs.FinMap.Entries.{below_all}
 use Rattle.sb_types.specs.Records.{Entry, Table, Holder}
@@ -20,7 +22,7 @@ use Rattle.sb_views.specs.declared.change.Change.{Change}
 use Rattle.sb_views.specs.declared.change.Change.TheVariants.{Enter, Hold}
 use Rattle.sb_views.specs.Changes.{table_with_all, of_owner, IsAlike, owned, held_beyond, changes_above, all_owned}
 use Rattle.sb_views.specs.NodeViews.{OwnerView, NodeView, view_with, no_view, owner_view_of, ShowsTables, view_with_all}
-use Rattle.sb_views.proofs.ByText.{first, second, less, by_text}
+use Rattle.sb_views.proofs.ByText.{by_text}
 use Rattle.sb_views.proofs.Changing.{all-brought}
 use Rattle.sb_views.proofs.Showing.{alike_tables, view-with-all}
 
@@ -35,6 +37,19 @@ empty-view =
       upto = λ o. ap (λ (s : OwnerView). s.upto) (no-owner_view o);
       row = λ o key. ap (λ (s : OwnerView). get s.rows key) (no-owner_view o) ∙ get-empty by_text key;
     }
+
+pub first : (a b : Bool) → T (a && b) → T a
+first true b p = tt
+first false b p = p
+
+pub second : (a b : Bool) → T (a && b) → T b
+second true b p = p
+second false b p = absurd p
+
+pub less : (r : Ordering) → T (is_lt r) → r ≡ Less
+less Less p = refl
+less Equal p = absurd p
+less Greater p = absurd p
 
 -- ---- the changes of one owner among those of all
 

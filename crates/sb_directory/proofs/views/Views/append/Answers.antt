@@ -16,6 +16,3 @@ append-requires-clause-leads g c =
     (subst (λ (v : Views). AreGrown (node_after opening v.queued).held held) (sym c.self.view_is) c.requires.grown)
     (subst (λ (v : Views). AreSince (node_after opening v.queued).held held c.args.behind.now) (sym c.self.view_is) c.requires.since)
     (c.in_ok-batch.ensures.batch ∙ ap (all_lacked c.args.behind.now) c.holdings-holdings.ensures.held)
-
-pub returns-clause-holdings : goal.returns-clause-holdings
-returns-clause-holdings g c = c.holdings-holdings.ensures.holdings
