@@ -1,5 +1,5 @@
 -- What was purged is gone, and a removed key does not come back.
-use Rattle.std.proofs.Common.{◌≡◌, ℕ, ◌≤◌, Bool, true, false, ◌||◌, cond, nat_eq, nat_lt, List, [], ◌∷◌, ⊎_elim, Option, Some, None, IfSome, IsSomeAnd, Result, Ok, Err, refl, sym, ap, subst, ◌∙◌, arith, ltb-true}
+use Rattle.std.proofs.Common.{◌≡◌, ℕ, ◌≤◌, Bool, true, false, ◌||◌, cond, nat_eq, nat_lt, List, ⊎_elim, Option, Some, None, IfSome, IsSomeAnd, Result, Ok, Err, refl, sym, ap, subst, ◌∙◌, arith, ltb-true}
 use Rattle.std.proofs.lemmas.Bool.{true≢false, or_cases}
 use Rattle.std.specs.Cmp.Lexicographic.{pointwise}
 use Rattle.sb_types.specs.declared.entry.Write.{Write}
@@ -25,7 +25,7 @@ use Rattle.sb_world.specs.Events.{place_for, ActsWhere}
 use Rattle.sb_world.specs.Steps.{StepAt}
 use Rattle.sb_world.specs.States.{State, Moves}
 use Rattle.sb_world.specs.Truth.{IsContentOf, IsTrueState}
-use Rattle.sb_world.specs.Claims.{removal_of, HidesRemoved, RemovedIsNotRead, IsPurged, ArePurged, PurgeIsDone, RestartIsOfLog, FloorsStay, KeepsPurged}
+use Rattle.sb_world.specs.Claims.{removal_of, HidesRemoved, RemovedIsNotRead, IsPurged, ArePurged, KeepsPurged}
 use Rattle.sb_world.proofs.Names.{found_me, placed, placed_there, clean_there}
 use Rattle.sb_world.proofs.Floors.{floor_reached}
 use Rattle.sb_world.proofs.Acting.{Same, does_same}

@@ -25,5 +25,5 @@ returns-clause-memory c =
     let rises = subst (λ (ts : List (List ℕ × Table)). IsStrictlySortedBy (slice_cmp nat_cmp) (keys_of ts)) c.tables_from-name-items.ensures.tables c.tables_from-name-items.ensures.ascending in
     let named = subst (λ (ps : List Pair). list_all (λ (pair : Pair). is_name pair.owner) ps ≡ true) pairs c.loop-name.invariant.names in
     let fits = asked_fits held owner after c.tables_from-name-items.ensures.holdings rises named in
-    let made = asked_made c.loop-name.pairs.items (asked held owner after) c.new.result _ c.new.ensures (ap (digest_of false None None) pairs) fits in
+    let made = asked_made c.loop-name.pairs.items (asked held owner after) c.new-2.result _ c.new-2.ensures (ap (digest_of false None None) pairs) fits in
     subst (λ (r : Result Digest Fault). IfErr r (λ fault. fault ≡ NoMemory)) (sym made) tt
