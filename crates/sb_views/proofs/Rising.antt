@@ -7,27 +7,37 @@ use Rattle.std.specs.List.{AllByRecursion, starts_with}
 use Rattle.std.specs.List.Sorted.{IsStrictlySortedBy}
 use Rattle.std.specs.Map.{keys_of}
 use Rattle.std.specs.Ordering.{is_lt}
-use Rattle.std.specs.declared.cmp.Ordering.TheVariants.{Less}
+use Rattle.std.specs.declared.cmp.Ordering.{Ordering}
+use Rattle.std.specs.declared.cmp.Ordering.TheVariants.{Less, Equal, Greater}
 use Rattle.std.specs.FinMap.{entries, entries_sorted, is_sorted}
 use Rattle.std.specs.FinMap.Entries.{below_all}
 use Rattle.sb_types.specs.Value.{Value}
 use Rattle.sb_views.specs.NodeViews.{OwnerView, NodeView}
 use Rattle.sb_views.specs.LiveRows.{LiveRow, row_at, rows_under, rows_of_owners, rows_in, rows_behind, is_wanted, is_behind, place_of, AreAscending}
-use Rattle.sb_views.proofs.ByText.{first, second, less, by_text, Ascend}
+use Rattle.sb_views.proofs.ByText.{by_text, Ascend}
 
 -- the second row stands behind the first
 abbrev pub Before : LiveRow → LiveRow → Type 0
 Before x y = is_behind (Some (place_of x)) y ≡ true
 
+both-parts : (a b : Bool) → T (a && b) → T a × T b
+both-parts true b p = (tt, p)
+both-parts false b p = absurd p
+
+lt-T : (r : Ordering) → T (is_lt r) → r ≡ Less
+lt-T Less p = refl
+lt-T Equal p = absurd p
+lt-T Greater p = absurd p
+
 module _ {X : Type 0} where
   below-all : (q : List ℕ) (es : List (List ℕ × X)) → T (below_all by_text q es) → AllByRecursion (λ y. by_text q y ≡ Less) (keys_of es)
   below-all q [] t = tt
-  below-all q (p ∷ ps) t = (less (by_text q p.0) (first (is_lt (by_text q p.0)) (below_all by_text q ps) t), below-all q ps (second (is_lt (by_text q p.0)) (below_all by_text q ps) t))
+  below-all q (p ∷ ps) t = let parts = both-parts (is_lt (by_text q p.0)) (below_all by_text q ps) t in (lt-T (by_text q p.0) parts.0, below-all q ps parts.1)
 
   pub rising : (es : List (List ℕ × X)) → T (is_sorted by_text es) → Ascend es
   unfolding IsStrictlySortedBy
   rising [] t = tt
-  rising (p ∷ ps) t = (below-all p.0 ps (first (below_all by_text p.0 ps) (is_sorted by_text ps) t), rising ps (second (below_all by_text p.0 ps) (is_sorted by_text ps) t))
+  rising (p ∷ ps) t = let parts = both-parts (below_all by_text p.0 ps) (is_sorted by_text ps) t in (below-all p.0 ps parts.0, rising ps parts.1)
 
 -- each row stands behind those before it, by recursion
 abbrev pub IsUp : List LiveRow → Type 0
