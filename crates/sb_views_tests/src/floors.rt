@@ -3,11 +3,11 @@
 ghost use Rattle.std.specs.Prelude.{◌≡◌, ◌∷◌, [], OnOk};
 ghost use Rattle.sb_holdings.specs.Held.{shown_of};
 
-use crate::making::{holdings_of_a, name};
+use crate::making::{apply, holdings_of_a, name};
 use crate::reading::{Look, read};
-use crate::views::{Case, NET_B, Seen, W, block_of_b, entry_of, is_found, is_upto, look_around};
+use crate::views::{Case, NET_B, OF_B, Seen, W, entry_of, is_found, is_upto, look_around};
 use crate::{got, same, there};
-use sb_holdings::{BlockEnd, Holdings};
+use sb_holdings::Holdings;
 use sb_table::Table;
 use sb_types::{Block, Entry, Fault, Name};
 use sb_views::{
@@ -19,27 +19,15 @@ use std::marker::Brand;
 use std::process::Abort;
 use std::sync::Wait;
 
-/// How a block of this floor ends, which tells of no write above its entries up to `upto`.
-fn apply_from(holdings: &mut Holdings, block: &Block, floor: u64, upto: u64) -> Option<BlockEnd> {
-    let reach = block.upto();
-    if upto < reach {
-        return None;
-    }
-    let after = block.after();
-    Some(holdings.apply_parts(block.owner(), floor, after, upto, block.entries()))
-}
-
 /// What is held of a, a write of version 3 up to version 5 with floor 4, and of b, whose stage of floor 2 with a write of
 /// version 1 came up to version 3.
 fn held_beyond(rt: &impl Abort, alloc: Global) -> Holdings {
     let entries = got(rt, vec![in alloc; entry_of(rt, W)]);
     let own = got(rt, Table::restored(alloc, 5, 4, entries));
     let mut holdings = got(rt, Holdings::new(alloc, name(rt, b"a"), own));
-    let end = apply_from(&mut holdings, &block_of_b(rt, alloc), 2, 3);
-    if let Some(BlockEnd::NoMemory(_)) = end {
-        panic!(rt; "error: NoMemory");
-    }
-    same(rt, &end, &Some(BlockEnd::Taken(1)));
+    let entries = got(rt, vec![in alloc; entry_of(rt, OF_B)]);
+    let block = got(rt, Block::new(name(rt, b"b"), 2, 0, 3, entries));
+    apply(rt, &mut holdings, &block);
     holdings
 }
 

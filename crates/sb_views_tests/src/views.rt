@@ -26,7 +26,7 @@ pub(crate) struct Case {
 }
 
 // The write of b, and those of a in turn.
-const OF_B: Case = Case {
+pub(crate) const OF_B: Case = Case {
     key: b"net/a",
     version: 1,
     weight: Some(7),
@@ -64,7 +64,7 @@ pub(crate) fn entry_of(rt: &impl Abort, case: Case) -> Entry {
     entry(rt, case.key, case.version, value)
 }
 
-pub(crate) fn block_of_b(rt: &impl Abort, alloc: Global) -> Block {
+fn block_of_b(rt: &impl Abort, alloc: Global) -> Block {
     let entries = got(rt, vec![in alloc; entry_of(rt, OF_B)]);
     got(rt, Block::new(name(rt, b"b"), 0, 0, OF_B.version, entries))
 }
