@@ -428,6 +428,15 @@ fn listing(alloc: Global, shown: &Table) -> Result<Vec<Listed>, AllocError> {
     Ok(writes)
 }
 
+/// How many entries stand in the table by key.
+fn count_by_key(rt: &impl Abort, shown: &Table) -> usize {
+    let mut count = 0_usize;
+    for _ in shown.prefix(&got(rt, Prefix::read(b""))) {
+        count = count.saturating_add(1);
+    }
+    count
+}
+
 /// It holds up to this version, has this floor, and just these entries, also by key.
 fn assert_holds(
     rt: &impl Abort,
@@ -437,8 +446,7 @@ fn assert_holds(
     floor: u64,
     writes: &[Listed],
 ) {
-    let all = got(rt, Prefix::read(b""));
-    let counts = (shown.len(), shown.prefix(&all).count());
+    let counts = (shown.len(), count_by_key(rt, shown));
     let wanted = (upto, floor, (writes.len(), writes.len()));
     same(rt, &(shown.upto(), shown.floor(), counts), &wanted);
     let found = got(rt, listing(alloc, shown));
