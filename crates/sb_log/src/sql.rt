@@ -59,13 +59,13 @@ impl<S: Alter + Drop> SqlLog<S> {
     /// first of them or both and no rows. It gives versions up to `max_version`, and none above 2^40 - 1. In this order:
     /// `LogDamaged` where rows stand without the row that says whose they are, where that row stands without the table of
     /// writes, where its form is unknown, or where there are other tables than a log's; `WrongOwner` where the log is
-    /// another owner's or of another cluster; `LogDamaged` where a row breaks a limit or two have one rowid, key or version,
-    /// where a log of form 1 has a text, where there are more than 4,096, or where it says a floor above its last version,
-    /// or a last version above both its floor and its last row's. `NoMemory` and `StoreFailed` wherever they come, the
-    /// latter also inside a transaction. After all of these a log of form 1 becomes one of form 2, and rows of removals up
-    /// to the floor go, which a crash may have left: they are none of the content. A refusal hands the connection back, and
-    /// the database is as it was, but that tables which were missing may have been made. However it ends, nothing else of
-    /// what was there is lost.
+    /// another owner's or of another cluster; `LogDamaged` where a row breaks a limit or two have one rowid, key or
+    /// version, where a log of form 1 has a text, where there are more than 4,096, or where it says a floor above its last
+    /// version, or a last version above 2^40 - 1, or above both its floor and its last row's. `NoMemory` and `StoreFailed`
+    /// wherever they come, the latter also inside a transaction. After all of these a log of form 1 becomes one of form 2,
+    /// and rows of removals up to the floor go, which a crash may have left: they are none of the content. A refusal hands
+    /// the connection back, and the database is as it was, but that tables which were missing may have been made. However
+    /// it ends, nothing else of what was there is lost.
     pub fn open(
         alloc: Global,
         conn: Connection<S>,

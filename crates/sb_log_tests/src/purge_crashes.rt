@@ -82,13 +82,14 @@ impl LogVisit for Reopening {
     }
 }
 
-/// Opened again it holds what it held before or after the purge, and after an acknowledged one the latter; each of its keys has a row.
+/// Opened again it holds what it held before or after the purge, and after an acknowledged one the latter; each of its keys has a row, and no other.
 fn recovers(rt: &impl Abort, alloc: Global, disks: &mut Files<Memory>, at: u64, is_done: bool) {
     let (found, next) = got(rt, log_on_disks(rt, alloc, disks, ENDLESS, OWN, Reopening));
     let is_kept = found == AFTER || (found == BEFORE && !is_done);
     same_at(rt, &(at, found), &(is_kept, next), &(true, Ok(4)));
     let rows = rows_on_disks(rt, alloc, disks);
-    same_at(rt, &at, &rows, &(found.0 as i64 + 1));
+    let wanted: i64 = if found == AFTER { 2 } else { 3 };
+    same_at(rt, &at, &rows, &wanted);
 }
 
 /// Purges while a call may fail; then what was not synced stays, and is lost. Whether the purge was acknowledged.
