@@ -22,7 +22,10 @@ pub(crate) type Seen = (u64, [u64; 2], usize);
 /// What is seen after so many events.
 fn seen_of(rt: &impl Abort, events: u64, snapshot: &Snapshot<'_>) -> Seen {
     let (a, b) = (name(rt, b"a"), name(rt, b"b"));
-    let rows = snapshot.rows(Some(b), prefix(rt, b"")).count();
+    let mut rows: usize = 0;
+    for _ in snapshot.rows(Some(b), prefix(rt, b"")) {
+        rows = rows.saturating_add(1);
+    }
     (events, [snapshot.upto(&a), snapshot.upto(&b)], rows)
 }
 
