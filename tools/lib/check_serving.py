@@ -70,8 +70,8 @@ def budgets(check):
         body = exchange(node.control, ask())[1]
         want(f"more, and the rows of a page by {options}", (body[0], int.from_bytes(body[1:3], "big")), (1, (budget - ROWS_HEAD) // ROW_BYTES))
         body = delta_for(node)
-        # (count of blocks, name, after, count of entries)
-        count = int.from_bytes(body[12:14], "big")
+        # (count of blocks, name, floor, after, upto, count of entries)
+        count = int.from_bytes(body[28:30], "big")
         want(f"the entries of a delta by {options}", count, (budget - DELTA_HEAD) // ENTRY_BYTES)
         node.kill()
 
