@@ -12,7 +12,7 @@ _attrdir() {
       continue
     elif [[ $value_of ]]; then
       value_of=''
-    elif [[ $it == --explain || $it == --log-time || $it == --value || $it == --mark || $it == --retry || $it == --help || $it == --version || $it == -h || $it == -V || $it == -- ]]; then
+    elif [[ $it == --explain || $it == --log-time || $it == --all || $it == --value || $it == --mark || $it == --retry || $it == --help || $it == --version || $it == -h || $it == -V || $it == -- ]]; then
       :
     elif [[ $it == --* ]]; then
       value_of=$it
@@ -49,9 +49,9 @@ _attrdir() {
 
   local options=''
   case $command in
-    '') options='serve set del get watch owners log sim --help --version' ;;
+    '') options='serve set del get watch owners log purge sim --help --version' ;;
     serve)
-      options='--name --cluster --log --sock --control --budget --order --max-version --seats --workers --rounds --pause --fanout --idle --dial-idle --request --max-reads --on-log-fault --log-time --metrics --help'
+      options='--name --cluster --log --sock --control --budget --order --max-version --seats --workers --rounds --pause --fanout --idle --dial-idle --request --max-reads --on-log-fault --purge-removals --log-time --metrics --help'
       ;;
     set) options='--control --raw --help' ;;
     del) options='--control --help' ;;
@@ -59,6 +59,7 @@ _attrdir() {
     watch) options='--control --owner --prefix --every --count --mark --retry --help' ;;
     owners) options='--sock --cluster --name --help' ;;
     log) options='--log --name --cluster --help' ;;
+    purge) options='--log --name --cluster --all --help' ;;
     sim) options='--explain --help' ;;
   esac
 

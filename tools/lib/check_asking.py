@@ -142,7 +142,7 @@ def wrong_answers(check):
     kind = lambda fault, message: told[fault].replace("kind N", f"kind {message[6]}")
     writes, reads = ["set", "k", "weight", "5"], ["get"]
     cases = [(writes, [answer], fault, told[fault]) for answer, fault in (
-        (b"\xa8" + good[1:], 10), (b"\xa7\x01" + good[2:], 11), (b"\xa7\x03" + good[2:], 11), (FRAME_FRONT + bytes(4), 12), (FRAME_FRONT + number(65531, 4), 12),
+        (b"\xa8" + good[1:], 10), (b"\xa7\x01" + good[2:], 11), (b"\xa7\x02" + good[2:], 11), (b"\xa7\x04" + good[2:], 11), (FRAME_FRONT + bytes(4), 12), (FRAME_FRONT + number(65531, 4), 12),
         (b"", 28), (good[:-1], 28),
     )]
     no_put = [hello("a"), digest(0), delta("a", 0, [("k", 1, weight(5))]), BYE, ask(), rows(), put("k", weight(5)), frame(0x7F, b"")]

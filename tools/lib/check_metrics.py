@@ -6,7 +6,7 @@ import sqlite3
 import subprocess
 import time
 
-from nodes import BYE, SECONDS, Difference, connect, delta, frame, hello, number, read_frame, run, text, want, weight
+from nodes import BYE, SECONDS, Difference, block, connect, delta, frame, hello, number, read_frame, run, want, weight
 
 # each metric, in the order of the file, with its type and the labels of its values beside that of the node
 METRICS = {
@@ -95,7 +95,7 @@ def promtool_takes(check, path):
 
 def rows_of(owners):
     """A Delta with one weight of each of these owners, from the first version on."""
-    told = b"".join(text(it) + number(0) + number(1, 2) + text("k") + number(1) + weight(5) for it in owners)
+    told = b"".join(block(it, 0, [("k", 1, weight(5))]) for it in owners)
     return frame(3, number(len(owners), 2) + told)
 
 

@@ -10,7 +10,7 @@ from types import SimpleNamespace
 
 from check_asking import MadeUp, rows
 from check_watch import Watching
-from nodes import BYE, SECONDS, Difference, connect, delta, frame, hello, number, read_frame, run, text, want, weight
+from nodes import BYE, SECONDS, Difference, connect, delta, frame, hello, number, pair, read_frame, run, text, want, weight
 
 
 def ended(program, words, given="", **more):
@@ -262,7 +262,7 @@ def waiting(check):
 
 def digest(want_one, start, end, pairs):
     """The body of a digest of a range."""
-    told = b"".join(text(name) + number(upto) for name, upto in pairs)
+    told = b"".join(pair(name, upto) for name, upto in pairs)
     return bytes([want_one]) + text(start) + text(end) + number(len(pairs), 2) + told
 
 

@@ -9,7 +9,7 @@ from nodes import BYE, ROWS, SECONDS, Difference, ask, connect, delta, digest, e
 # the most bytes of the path of a socket
 PATH_MOST = 107
 # whole frames but for what stands in them: Rows, and a Delta with one block of the owner p
-ROWS_HEAD, DELTA_HEAD = 10, 9 + 11 + 1
+ROWS_HEAD, DELTA_HEAD = 10, 9 + 27 + 1
 # an entry and a row of a weight of the owner p under a key of five bytes
 ENTRY_BYTES, ROW_BYTES = 10 + 5 + 8, 11 + 1 + 5 + 8
 
@@ -70,8 +70,8 @@ def budgets(check):
         body = exchange(node.control, ask())[1]
         want(f"more, and the rows of a page by {options}", (body[0], int.from_bytes(body[1:3], "big")), (1, (budget - ROWS_HEAD) // ROW_BYTES))
         body = delta_for(node)
-        # (count of blocks, name, after, count of entries)
-        count = int.from_bytes(body[12:14], "big")
+        # (count of blocks, name, floor, after, upto, count of entries)
+        count = int.from_bytes(body[28:30], "big")
         want(f"the entries of a delta by {options}", count, (budget - DELTA_HEAD) // ENTRY_BYTES)
         node.kill()
 

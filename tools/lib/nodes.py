@@ -27,7 +27,7 @@ def want(what, found, wanted):
 
 
 # what each frame begins with: the mark, and the version of the format
-FRAME_FRONT = b"\xa7\x02"
+FRAME_FRONT = b"\xa7\x03"
 
 
 def text(word):
@@ -61,14 +61,25 @@ def hello(name, cluster="c"):
     return frame(1, text(cluster) + text(name))
 
 
+def pair(name, upto, floor=0, progress=0):
+    """How far an owner is held, and its stage, where there is one."""
+    return text(name) + number(upto) + number(floor) + number(progress)
+
+
 def digest(want_one, pairs=()):
-    told = b"".join(text(name) + number(upto) for name, upto in pairs)
+    told = b"".join(pair(name, upto) for name, upto in pairs)
     return frame(2, bytes([want_one]) + text("") + text("") + number(len(pairs), 2) + told)
 
 
-def delta(owner, after, entries):
+def block(owner, after, entries, floor=0, upto=None):
+    """A block that reaches as far as its last entry, where nothing else is said."""
     told = b"".join(text(key) + number(version) + slot for key, version, slot in entries)
-    return frame(3, number(1, 2) + text(owner) + number(after) + number(len(entries), 2) + told)
+    reaches = max([after, *(it[1] for it in entries)]) if upto is None else upto
+    return text(owner) + number(floor) + number(after) + number(reaches) + number(len(entries), 2) + told
+
+
+def delta(owner, after, entries, floor=0, upto=None):
+    return frame(3, number(1, 2) + block(owner, after, entries, floor, upto))
 
 
 BYE = frame(4, b"\x01")
@@ -219,6 +230,17 @@ class Node:
 
     def put(self, key, value):
         return version_of(exchange(self.control, put(key, weight(value))))
+
+    def last(self):
+        """The last version of its log, while it does not run; 0 where that can't be read."""
+        printed = run(self.program, "log", "--log", str(self.log), "--name", self.name, "--cluster", "c")[1]
+        return int(printed.split()[-1]) if printed else 0
+
+    def purge(self, floor="--all"):
+        """Purges its log, while it does not run: the version that was printed."""
+        found = run(self.program, "purge", "--log", str(self.log), "--name", self.name, "--cluster", "c", str(floor))
+        want(f"purge {floor} of {self.name}", (found[0], found[1].split()[:1], found[2]), (0, ["purged"], ""))
+        return int(found[1].split()[1])
 
     def command(self, name, *words):
         """The status, what was printed and what was said by one of the program's commands to this node."""

@@ -17,7 +17,7 @@ PREFIX = re.compile(rb"[a-z0-9._/-]{0,64}\Z")
 ADDR = re.compile(rb"[\x21-\x7e]{1,128}\Z")
 KINDS = {1, 2, 3, 4, 0x10, 0x11, 0x12, 0x13, 0x14}
 PAYLOAD_MOST = 65_530
-VERSION = 2
+VERSION = 3
 
 
 class Malformed(Exception):
@@ -75,7 +75,8 @@ def read_digest(body):
     last = b""
     for _ in range(body.number(2)):
         name = body.text(NAME)
-        body.number(8)
+        for _ in ("held", "floor", "progress"):
+            body.number(8)
         need(last < name and low <= name and (high == b"" or name < high))
         last = name
 
@@ -83,14 +84,16 @@ def read_digest(body):
 def read_block(body, last_owner):
     owner = body.text(NAME)
     need(last_owner < owner)
-    last = body.number(8)
+    body.number(8)
+    last, upto = body.number(8), body.number(8)
+    need(last < upto)
     keys = set()
-    for _ in range(body.number(2, 1)):
+    for _ in range(body.number(2)):
         key = body.text(KEY)
         need(key not in keys)
         keys.add(key)
         version = body.number(8)
-        need(last < version)
+        need(last < version <= upto)
         last = version
         body.value(0)
     return owner
@@ -187,19 +190,27 @@ def frame(kind, body):
     return bytes([0xA7, VERSION]) + len(payload).to_bytes(4, "big") + payload
 
 
+def pair(owner, held, floor, progress):
+    return text(owner) + u64(held) + u64(floor) + u64(progress)
+
+
+def head(owner, floor, after, upto):
+    return text(owner) + u64(floor) + u64(after) + u64(upto)
+
+
 WEIGHT, ADDRESS, FLAG, REMOVED = b"\x02" + u64(5), b"\x01" + text(b"p:1"), b"\x03\x01", b"\x00"
 TEXT = b"\x04" + u16(3) + b"h\xc3\xa9"
 
 FRAMES = [
     ("hello", frame(1, text(b"c1") + text(b"a"))),
-    ("digest", frame(2, b"\x01" + text(b"a") + text(b"c") + u16(2) + text(b"a") + u64(0) + text(b"b") + u64(7))),
+    ("digest", frame(2, b"\x01" + text(b"a") + text(b"c") + u16(2) + pair(b"a", 0, 0, 0) + pair(b"b", 7, 9, 8))),
     (
         "delta",
         frame(
             3,
             u16(2)
-            + text(b"a") + u64(0) + u16(2) + text(b"w") + u64(1) + WEIGHT + text(b"x") + u64(2) + REMOVED
-            + text(b"b") + u64(1) + u16(3) + text(b"k") + u64(2) + ADDRESS + text(b"l") + u64(3) + FLAG + text(b"m") + u64(4) + TEXT,
+            + head(b"a", 0, 0, 2) + u16(2) + text(b"w") + u64(1) + WEIGHT + text(b"x") + u64(2) + REMOVED
+            + head(b"b", 3, 1, 5) + u16(3) + text(b"k") + u64(2) + ADDRESS + text(b"l") + u64(3) + FLAG + text(b"m") + u64(4) + TEXT,
         ),
     ),
     ("bye", frame(4, b"\x01")),

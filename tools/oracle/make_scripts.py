@@ -2,7 +2,7 @@
 """Writes random scripts for `attrdir sim`: make_scripts.py SEED COUNT DIR.
 
 The scripts are DIR/00001.sim and so on. The same seed gives the same scripts. Most are short lives of a few nodes that
-write, crash, restart and talk over connections that lose, repeat, reorder and cut; some have a line that is no command,
+write, crash, purge, restart and talk over connections that lose, repeat, reorder and cut; some have a line that is no command,
 some a world line with a fault, and a few are long: 4,096 keys and one more, deltas about as long as a frame can carry, a
 thousand nodes, digests that take several frames.
 """
@@ -10,6 +10,8 @@ import os
 import random
 import re
 import sys
+
+import sim_oracle
 
 NAME_BYTES = "abcdefghijklmnopqrstuvwxyz0123456789-"
 KEY_BYTES = NAME_BYTES + "._/"
@@ -100,7 +102,7 @@ class Life:
         node, key, rng = self.node(), self.rng.choice(self.keys), self.rng
         self.puts += 1
         put, crash = f"put {node} {key} {value(rng)}", f"crash {node} {key} {value(rng)} {self.end()}"
-        return rng.choice([put, put, put, f"del {node} {key}", f"commit {node} {key} {value(rng)}", f"commit {node} {key} removed", f"take {node}", f"take {node}", crash])
+        return rng.choice([put, put, put, f"del {node} {key}", f"commit {node} {key} {value(rng)}", f"commit {node} {key} removed", f"take {node}", f"take {node}", crash, f"purge {node} {self.held()}"])
 
     def connection_line(self):
         """Makes a line of a connection."""
@@ -131,7 +133,7 @@ class Life:
         words = rng.choice([value(rng), rng.choice(BAD_VALUES), rng.choice(BAD_VALUES)])
         write = rng.choice([f"put {name()} {key()} {words}", f"commit {name()} {key()} {words}", f"crash {name()} {key()} {words} {self.end()}"])
         others = [f"give {name()} {name()} {number(rng, self.puts)}", f"offer {name()} {name()} {number(rng, self.puts)}", f"read {name()} {name()} {key()}"]
-        few = [f"del {name()} {key()}", f"commit {name()} {key()} removed", f"take {name()}", f"restart {name()}", f"connect {name()} {self.connection()}", f"upto {name()} {name()}"]
+        few = [f"del {name()} {key()}", f"commit {name()} {key()} removed", f"take {name()}", f"restart {name()}", f"purge {name()} {number(rng, self.puts)}", f"connect {name()} {self.connection()}", f"upto {name()} {name()}"]
         return rng.choice([write, write, rng.choice(others), rng.choice(few)])
 
     def wrong_line(self):
@@ -146,7 +148,7 @@ class Life:
             "\r", " ", "#", line.upper(), line.capitalize(), words[0], words[0] + "\r", "\x00" + line,
             f"give {node} {node} {bad}", f"offer {node} {node} {bad}", f"piece 1 {bad}", f"line 1 {bad}", f"show {bad}",
             f"connect {node} {far}", f"close {far}", f"ask {far}", f"line {far} 1", f"piece {far} 1",
-            f"put {node} k removed", f"put {node} k addr a b", f"commit {node} k Removed", f"crash {node} k removed kept", f"crash {node} k weight 1", f"crash {node} k weight 1 Kept",
+            f"purge {node}", f"purge {node} {bad}", f"purge {node} 1 1", f"put {node} k removed", f"put {node} k addr a b", f"commit {node} k Removed", f"crash {node} k removed kept", f"crash {node} k weight 1", f"crash {node} k weight 1 Kept",
             f"put {node} k text", f"put {node} k  text x", f"put  {node} k text x", f"crash {node} k text kept", f"crash {node} k text  kept", f"crash {node} k text x y lost", f"crash {node} k text x ",
             self.lines[0], "world 1024 breadth 100 a b", "world",
         ]
@@ -245,6 +247,87 @@ def twins(rng):
     return life.lines
 
 
+class Play:
+    """A script in the making that the oracle runs along, so that it knows which frames there are."""
+
+    def __init__(self, line):
+        self.lines, self.world, self.numbers = [line], sim_oracle.make_world(line.encode().split(b" ")), 0
+
+    def sent(self):
+        """How many frames there are."""
+        return len(self.world.sent)
+
+    def do(self, line):
+        """Adds a line."""
+        self.lines.append(line)
+        try:
+            return sim_oracle.answer(self.world, sim_oracle.words_of(line.encode()))
+        except sim_oracle.Fault:
+            return []
+
+    def connect(self, node, other):
+        """Begins a session at a node, which hears the Hello of another one, and tells its number."""
+        self.numbers += 1
+        at = self.numbers
+        self.do(f"connect {other} {10_000 + at}")
+        hello = self.sent()
+        self.do(f"connect {node} {at}")
+        self.do(f"line {at} {hello}")
+        self.do(f"piece {at} 100")
+        return at
+
+    def exchange(self, node, other, rounds):
+        """A node asks another, is answered, and answers in turn, some times over."""
+        here, there = self.connect(node, other), self.connect(other, node)
+        for _ in range(rounds):
+            self.do(f"ask {here}")
+            before = self.sent()
+            self.do(f"line {there} {before}")
+            self.do(f"piece {there} 100000")
+            for at in range(before + 1, self.sent() + 1):
+                self.do(f"line {here} {at}")
+            self.do(f"piece {here} 100000")
+            if self.sent() > before + 2:
+                self.do(f"line {there} {self.sent()}")
+                self.do(f"piece {there} 100000")
+
+
+def purged(rng):
+    """An owner that writes, removes and purges, and others that hear of it in order or not, from it or from each other."""
+    names = ["a", "b", "c"][: rng.choice([2, 3, 3])]
+    play = Play(f"world {rng.choice([1024, 1024, 1200, 65536])} {rng.choice(['breadth', 'depth'])} 1000 {' '.join(names)}")
+    keys = [f"k{at}" for at in range(rng.choice([2, 3, 6, 16, 40]))]
+    long = rng.choice(["flag true", f"addr {'x' * 128}", f"text {'x' * 300}"])
+    upto = lambda: play.world.nodes[b"a"].log.upto
+    if rng.random() < 0.5:
+        for key in keys:
+            play.do(f"put a {key} {long}")
+    for _ in range(rng.randint(5, 50)):
+        way, (node, other) = rng.random(), rng.sample(names, 2)
+        if way < 0.3:
+            play.do(f"put a {rng.choice(keys)} {rng.choice([long, value(rng)])}")
+        elif way < 0.5:
+            play.do(f"del a {rng.choice(keys)}")
+        elif way < 0.6:
+            play.do(f"purge a {rng.choice([upto(), upto(), max(0, upto() - rng.randint(0, 5)), upto() + 1])}")
+            if rng.random() < 0.9:
+                play.do("restart a")
+        elif way < 0.7:
+            play.do(f"give a {rng.choice(names)} {rng.choice([0, 0, upto(), max(0, upto() - rng.randint(0, 5))])}")
+        elif way < 0.85:
+            play.exchange(node, other, rng.choice([1, 1, 2, 5]))
+        elif way < 0.92 and play.sent() > 2:
+            at = play.connect(node, other)
+            for _ in range(rng.randint(1, 6)):
+                play.do(f"line {at} {rng.randint(1, play.sent())}")
+            play.do(f"piece {at} {rng.choice([100, 1000, 100_000])}")
+        else:
+            play.do(rng.choice([f"upto {node} a", f"read {node} a {rng.choice(keys)}", f"offer {node} a {rng.randint(0, upto() + 1)}", f"restart {node}", f"show {play.sent()}"]))
+    for name in names:
+        play.lines += [f"upto {name} a", *(f"read {name} a {key}" for key in keys)]
+    return play.lines
+
+
 def worlds(rng):
     """A world line with something wrong in it, and a line behind it."""
     names, good = [rng.choice([text(rng, NAME_BYTES, 32), rng.choice(BAD_NAMES), "a"]) for _ in range(rng.randint(1, 4))], rng.choice(GOOD_WORLDS)
@@ -285,7 +368,7 @@ def long(rng):
     lines = [f"world 65536 {rng.choice(['depth', 'breadth'])} 1000 {name} not-{'b' * rng.randint(1, 20)}"]
     other = lines[0].split(" ")[-1]
     lines += [f"put {name} {at:064} addr {'x' * 128}" for at in range(321)]
-    left = 65_530 - 3 - 11 - len(name) - 321 * 203
+    left = 65_530 - 3 - 27 - len(name) - 321 * 203
     # two more entries take what is left, or up to two bytes less or more
     last = left + rng.randint(-2, 2) - (10 + 20 + 129) - (10 + 64 + 1)
     lines += [f"put {name} {'y' * 20} addr {'y' * 128}", f"put {name} {'k' * 64} addr {'z' * last}"]
@@ -307,7 +390,7 @@ def empty(rng):
     return [""] * rng.randint(0, 4)
 
 
-KINDS = {quiet: 40, faulty: 22, broken: 26, twins: 14, talk: 40, through: 20, spent: 8, worlds: 16, edges: 12, full: 1, long: 2, crowd: 2, empty: 1}
+KINDS = {quiet: 40, faulty: 22, broken: 26, twins: 14, talk: 40, through: 20, purged: 30, spent: 8, worlds: 16, edges: 12, full: 1, long: 2, crowd: 2, empty: 1}
 
 
 def script(seed, at):

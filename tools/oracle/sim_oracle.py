@@ -29,9 +29,19 @@ Order of faults
   key is told even where the node is not in the world.
 - World line: names, then budget and last version (5), then the number of nodes (5), then two equal names (24). The run
   ends at the first of these with status 3. After any other fault the script goes on.
-- A node that is not in the world: `nothing`. A node that is down: 15, but for a restart. Then what is not there or
+- A node that is not in the world: `nothing`. A node that is down: 15, but for a restart (so also `purge`). Then what is not there or
   already there: `nothing`. An owner that is no node of the world holds nothing: `none`, 0, an empty delta.
 - A removal of what is not there (9), then a new key beside 4,096 others (6), then the last version reached (8).
+- A floor above the last version is 30, and the node stays up. Else `purge` prints the floor that was asked for and takes the
+  node down, also where the log's floor is as high already and nothing changes there.
+
+Floors and stages
+- A block is looked at in this order: its owner is the taker; it tells nothing that is new (`stale`); it joins the table that is
+  shown; it joins the stage of its floor, or begins one; else `gap`. A block that would add an owner beside 1,023 others is `owners-full`.
+- The floor of the table rises before the first entry is entered, and stays risen where there is no room for that.
+- `taken` and `too-many-keys` count what was entered: into the table, or into the stage. The swap counts nothing.
+- An owner of which there is only a stage is held up to 0, and has a pair in each digest.
+- What is offered of a table without an entry above the number is one item, with neither a key nor a version; its rank is 0.
 
 Composite lines
 - `put` and `del` print the version that was entered, which is not the one that was committed where another waits.
@@ -51,11 +61,12 @@ BUDGET_LEAST, BUDGET_MOST = 1_024, 65_536
 NODES_MOST, KEYS_MOST, OWNERS_MOST = 1_024, 4_096, 1_024
 CONNECTION_MOST = 999_999
 CLUSTER = b"sim"
-FRAME_FRONT = b"\xa7\x02"
+FRAME_FRONT = b"\xa7\x03"
 
 BAD_NAME, BAD_KEY, BAD_VALUE, BAD_SETTING = 2, 3, 4, 5
 TABLE_FULL, VERSIONS_SPENT, NOTHING_THERE, CLOSED = 6, 8, 9, 15
 CONFLICT, NO_HELLO, WRONG_CLUSTER, SAME_NAME, SECOND_HELLO = 21, 22, 23, 24, 25
+FLOOR_TOO_HIGH = 30
 
 NOTHING = [b"nothing"]
 
@@ -197,6 +208,27 @@ class Hello:
 
 
 @dataclass(frozen=True)
+class Pair:
+    """How far an owner is held, and the floor and the progress of its stage, both 0 where there is none."""
+
+    name: bytes
+    upto: int
+    floor: int = 0
+    progress: int = 0
+
+    def number(self, floor):
+        """The version above which a sender offers whose table has this floor."""
+        if floor <= self.upto:
+            return self.upto
+        return self.progress if floor == self.floor else 0
+
+    def words(self):
+        """Says the pair in words."""
+        stage = b", stage of floor %d up to %d" % (self.floor, self.progress) if self.floor or self.progress else b""
+        return b"    %s upto %d%s" % (self.name, self.upto, stage)
+
+
+@dataclass(frozen=True)
 class Digest:
     """How far each owner of a range is held."""
 
@@ -207,7 +239,7 @@ class Digest:
 
     def payload(self):
         """Spells the message."""
-        pairs = b"".join(text(name) + u64(upto) for name, upto in self.pairs)
+        pairs = b"".join(text(it.name) + u64(it.upto) + u64(it.floor) + u64(it.progress) for it in self.pairs)
         return b"\x02" + bytes([self.want]) + text(self.start) + text(self.until) + u16(len(self.pairs)) + pairs
 
     def words(self):
@@ -216,22 +248,28 @@ class Digest:
         start = b"from " + (self.start or b"the first name")
         until = b"until " + self.until if self.until else b"to the last name"
         head = b"digest, %s, %s, %s, pairs %d" % (want, start, until, len(self.pairs))
-        return [head, *(b"    %s upto %d" % pair for pair in self.pairs)]
+        return [head, *(pair.words() for pair in self.pairs)]
 
-    def number(self, name):
-        """Tells the version up to which the owner is held, or None where the digest does not speak of it."""
+    def number(self, name, floor):
+        """Tells the version above which an owner of this floor is offered, or None where the digest does not speak of it."""
         if name < self.start or (self.until and name >= self.until):
             return None
-        return dict(self.pairs).get(name, 0)
+        return next((pair.number(floor) for pair in self.pairs if pair.name == name), 0)
 
 
 @dataclass(frozen=True)
 class Block:
-    """Entries (key, version, value) of an owner, all that it wrote above `after` up to the last of them."""
+    """Entries (key, version, value) of an owner, all that it wrote above `after` up to `upto`, but for removals up to the floor."""
 
     owner: bytes
+    floor: int
     after: int
+    upto: int
     entries: tuple
+
+    def above(self, version):
+        """Lists its entries above a version."""
+        return [it for it in self.entries if it[1] > version]
 
 
 @dataclass(frozen=True)
@@ -244,7 +282,7 @@ class Delta:
         """Spells the message."""
         spelled = b"\x03" + u16(len(self.blocks))
         for block in self.blocks:
-            spelled += text(block.owner) + u64(block.after) + u16(len(block.entries))
+            spelled += text(block.owner) + u64(block.floor) + u64(block.after) + u64(block.upto) + u16(len(block.entries))
             for key, version, value in block.entries:
                 spelled += text(key) + u64(version) + bytes([value.tag]) + value.encoded
         return spelled
@@ -253,8 +291,8 @@ class Delta:
         """Says the message in words."""
         said = [b"delta, blocks %d" % len(self.blocks)]
         for block in self.blocks:
-            last, count = block.entries[-1][1], len(block.entries)
-            said.append(b"    block of %s, after %d, upto %d, entries %d" % (block.owner, block.after, last, count))
+            floor = b", floor %d" % block.floor if block.floor else b""
+            said.append(b"    block of %s%s, after %d, upto %d, entries %d" % (block.owner, floor, block.after, block.upto, len(block.entries)))
             for key, version, value in block.entries:
                 said.append(b"      %s %s %d %s" % (block.owner, key, version, value.shown or b"removed -"))
         return said
@@ -285,43 +323,115 @@ def frame_of(message):
 
 
 @dataclass
-class Table:
-    """One owner's entries, (version, value) under each key in ascending version, and the last version entered."""
+class Entries:
+    """Entries, (version, value) under each key in ascending version."""
 
-    entries: dict = field(default_factory=dict)
-    last: int = 0
+    under: dict = field(default_factory=dict)
 
     def has_room(self, key):
         """Says whether an entry under this key keeps to the most keys."""
-        return key in self.entries or len(self.entries) < KEYS_MOST
-
-    def live(self, key):
-        """The version and the value under a key, unless nothing stands there."""
-        entry = self.entries.get(key)
-        return None if entry is None or entry[1] is REMOVED else entry
+        return key in self.under or len(self.under) < KEYS_MOST
 
     def push(self, key, version, value):
         """Enters a write, which takes the place of an older one under its key."""
-        self.entries.pop(key, None)
-        self.entries[key] = (version, value)
-        self.last = version
+        self.under.pop(key, None)
+        self.under[key] = (version, value)
+
+    def fill(self, entries):
+        """Enters these entries while there is room, and tells how many there were, and whether all were."""
+        for taken, (key, version, value) in enumerate(entries):
+            if not self.has_room(key):
+                return taken, False
+            self.push(key, version, value)
+        return len(entries), True
 
     def above(self, version):
         """Lists the entries above a version as (key, version, value), ascending."""
-        return [(key, *entry) for key, entry in self.entries.items() if entry[0] > version]
+        return [(key, *entry) for key, entry in self.under.items() if entry[0] > version]
+
+    def without_removals(self, floor):
+        """The entries but for the removals up to the floor."""
+        return Entries({key: it for key, it in self.under.items() if it[1] is not REMOVED or it[0] > floor})
+
+
+@dataclass
+class Table:
+    """What is held of one owner: its entries, the version up to which they are all, and the floor up to which removals are gone."""
+
+    entries: Entries = field(default_factory=Entries)
+    upto: int = 0
+    floor: int = 0
+
+    def live(self, key):
+        """The version and the value under a key, unless nothing stands there."""
+        entry = self.entries.under.get(key)
+        return None if entry is None or entry[1] is REMOVED else entry
+
+    def push(self, key, version, value):
+        """Enters a write of the owner's own."""
+        self.entries.push(key, version, value)
+        self.upto = version
+
+    def raise_floor(self, floor):
+        """The floor rises, where it is lower, and the removals up to it go."""
+        if floor > self.floor:
+            self.floor, self.entries = floor, self.entries.without_removals(floor)
+
+    def take(self, block):
+        """Takes a block that joins it, and says how that ended."""
+        self.raise_floor(block.floor)
+        entries = block.above(self.upto)
+        taken, is_whole = self.entries.fill(entries)
+        if is_whole:
+            self.upto = block.upto
+            return b"taken %d" % taken
+        if taken:
+            self.upto = entries[taken - 1][1]
+        return b"too-many-keys %d" % taken
 
     def copy(self):
         """An equal table."""
-        return Table(dict(self.entries), self.last)
+        return Table(Entries(dict(self.entries.under)), self.upto, self.floor)
+
+
+@dataclass
+class Stage:
+    """What has come, from version 1 up to `progress`, of a table of a floor that is not shown yet."""
+
+    floor: int
+    progress: int = 0
+    entries: Entries = field(default_factory=Entries)
+
+    def take(self, block):
+        """Takes a block that joins it, and says how that ended, and whether the stage has reached its floor by that."""
+        entries = block.above(self.progress)
+        taken, is_whole = self.entries.fill(entries)
+        if is_whole:
+            self.progress = block.upto
+            return b"taken %d" % taken, self.progress >= self.floor
+        if taken:
+            self.progress = entries[taken - 1][1]
+        return b"too-many-keys %d" % taken, False
+
+    def swapped(self, shown):
+        """The table that takes the place of the one that is shown."""
+        kept = {}
+        for key, entry in shown.entries.under.items():
+            staged = self.entries.under.get(key)
+            if staged is not None and staged[0] <= shown.upto:
+                kept[key] = entry
+        kept.update({key: entry for key, entry in self.entries.under.items() if entry[0] > shown.upto})
+        return Table(Entries(kept).without_removals(self.floor), self.progress, self.floor)
 
 
 @dataclass
 class Node:
-    """What a node has on its log, what it holds of each owner, which writes wait, and whether it runs."""
+    """What a node has on its log, what it holds of each owner and what is staged, which writes wait, and whether it runs."""
 
     name: bytes
     log: Table = field(default_factory=Table)
     held: dict = field(default_factory=dict)
+    stages: dict = field(default_factory=dict)
     waiting: list = field(default_factory=list)
     is_up: bool = True
     seen_ahead: bool = False
@@ -331,79 +441,116 @@ class Node:
 
     def upto(self, owner):
         """The version up to which an owner is held."""
-        return self.held[owner].last if owner in self.held else 0
+        return self.held[owner].upto if owner in self.held else 0
 
     def put(self, key, value, most):
         """The log takes a write, and answers its version."""
         if value is REMOVED and self.log.live(key) is None:
             raise Fault(NOTHING_THERE)
-        if not self.log.has_room(key):
+        if not self.log.entries.has_room(key):
             raise Fault(TABLE_FULL)
-        if self.log.last >= most:
+        if self.log.upto >= most:
             raise Fault(VERSIONS_SPENT)
-        self.log.push(key, self.log.last + 1, value)
-        return self.log.last
+        self.log.push(key, self.log.upto + 1, value)
+        return self.log.upto
+
+    def purge(self, floor):
+        """The log drops its removals up to a floor."""
+        if floor > self.log.upto:
+            raise Fault(FLOOR_TOO_HIGH)
+        self.log.raise_floor(floor)
 
     def restart(self):
         """Opens anew with what the log has."""
-        self.held, self.waiting = {self.name: self.log.copy()}, []
+        self.held, self.stages, self.waiting = {self.name: self.log.copy()}, {}, []
         self.is_up, self.seen_ahead = True, False
+
+    def stage_for(self, block):
+        """The stage that a block joins or begins, if any."""
+        stage = self.stages.get(block.owner)
+        if stage is not None and stage.floor == block.floor:
+            return stage if block.after <= stage.progress < block.upto else None
+        if block.after == 0 and (stage is None or stage.floor < block.floor):
+            return Stage(block.floor)
+        return None
 
     def apply(self, block):
         """Takes a block, and says how it ended."""
-        owner, entries = block.owner, block.entries
-        last, held = entries[-1][1], self.upto(block.owner)
+        owner, held = block.owner, self.upto(block.owner)
         if owner == self.name:
-            if last <= held:
+            if block.upto <= held:
                 return b"own"
             self.seen_ahead = True
-            return b"own-ahead %d" % last
-        if block.after > held:
-            return b"gap"
-        if last <= held:
+            return b"own-ahead %d" % block.upto
+        if block.upto <= held and block.floor <= held:
             return b"stale"
+        stage = None
+        if block.floor > held:
+            stage = self.stage_for(block)
+        if (block.floor > held and stage is None) or (block.floor <= held < block.after):
+            return b"gap"
         if owner not in self.held and len(self.held) >= OWNERS_MOST:
             return b"owners-full"
-        table, taken = self.held.setdefault(owner, Table()), 0
-        for key, version, value in entries:
-            if version <= held:
+        shown = self.held.setdefault(owner, Table())
+        if stage is None:
+            end = shown.take(block)
+            if owner in self.stages and self.stages[owner].floor <= shown.upto:
+                del self.stages[owner]
+            return end
+        end, is_reached = stage.take(block)
+        self.stages[owner] = stage
+        if is_reached:
+            self.held[owner] = self.stages.pop(owner).swapped(shown)
+        return end
+
+    def items_for(self, digest):
+        """All that the digest's sender lacks, as (rank, count, owner, number, entry), where there is no entry for the news alone."""
+        items = []
+        for owner, table in self.held.items():
+            number = digest.number(owner, table.floor)
+            if number is None:
                 continue
-            if not table.has_room(key):
-                return b"too-many-keys %d" % taken
-            table.push(key, version, value)
-            taken += 1
-        return b"taken %d" % taken
+            entries = table.entries.above(number)
+            if not entries and table.upto > number:
+                items.append((0, 1, owner, number, None))
+            items += [(rank, len(entries), owner, number, entry) for rank, entry in enumerate(entries)]
+        return items
 
     def delta_for(self, digest, world):
         """All that the digest's sender lacks, as far as the budget has room, in the order of the world."""
-        items = []
-        for owner in self.held:
-            number = digest.number(owner)
-            if number is None:
-                continue
-            entries = self.held[owner].above(number)
-            items += [(rank, len(entries), owner, number, entry) for rank, entry in enumerate(entries)]
+        items = self.items_for(digest)
         if world.order == b"breadth":
             items.sort(key=lambda it: (it[0], it[2]))
         else:
-            items.sort(key=lambda it: (-it[1], it[2], it[4][1]))
-        blocks, length = {}, 9
-        for _, _, owner, number, entry in items:
-            length += 10 + len(entry[0]) + len(entry[2].encoded)
-            length += 0 if owner in blocks else 11 + len(owner)
+            items.sort(key=lambda it: (-it[1], it[2], it[4][1] if it[4] else 0))
+        parts, length = {}, 9
+        for _, count, owner, number, entry in items:
+            length += 10 + len(entry[0]) + len(entry[2].encoded) if entry else 0
+            length += 0 if owner in parts else 27 + len(owner)
             if length > world.budget:
                 break
-            blocks.setdefault(owner, (number, []))[1].append(entry)
-        return Delta(tuple(Block(owner, blocks[owner][0], tuple(blocks[owner][1])) for owner in sorted(blocks)))
+            parts.setdefault(owner, (number, count if entry else 0, []))[2].extend([entry] if entry else [])
+        return Delta(tuple(self.block_of(owner, *parts[owner]) for owner in sorted(parts)))
+
+    def block_of(self, owner, number, count, entries):
+        """The block of the first entries that an owner lacks, which reaches as far as is held where they are all."""
+        table = self.held[owner]
+        upto = table.upto if len(entries) == count else entries[-1][1]
+        return Block(owner, table.floor, number, upto, tuple(entries))
+
+    def pair(self, owner):
+        """How far an owner is held and staged."""
+        stage = self.stages.get(owner, Stage(0))
+        return Pair(owner, self.upto(owner), stage.floor, stage.progress)
 
     def digest(self, start, want, budget):
         """How far it holds each owner from a name on, as many as the budget has room for."""
-        pairs = [(name, self.held[name].last) for name in sorted(self.held) if name >= start]
+        pairs = [self.pair(name) for name in sorted(self.held) if name >= start]
         whole = Digest(want, start, b"", tuple(pairs))
         if len(frame_of(whole)) <= budget:
             return whole
         for count in range(len(pairs) - 1, -1, -1):
-            part = Digest(want, start, pairs[count][0], tuple(pairs[:count]))
+            part = Digest(want, start, pairs[count].name, tuple(pairs[:count]))
             if len(frame_of(part)) <= budget:
                 return part
         raise AssertionError("a budget has room for one pair")
@@ -446,6 +593,11 @@ class World:
         self.sent.append((message, frame_of(message)))
         return len(self.sent)
 
+    def stop(self, node):
+        """A node goes down."""
+        node.is_up = False
+        self.drop_connections(node)
+
     def drop_connections(self, node):
         """Drops the connections of a node."""
         self.connections = {number: it for number, it in self.connections.items() if it.node is not node}
@@ -456,7 +608,7 @@ class World:
         if node is None:
             return NOTHING
         node.waiting.append((key, node.put(key, value, self.most), value))
-        return [b"committed %d" % node.log.last]
+        return [b"committed %d" % node.log.upto]
 
     def take(self, name):
         """The oldest write of a node that waits is entered."""
@@ -478,9 +630,17 @@ class World:
                 node.put(key, value, self.most)
         except Fault:
             pass
-        node.is_up = False
-        self.drop_connections(node)
+        self.stop(node)
         return [b"crashed"]
+
+    def purge(self, name, floor):
+        """The log of a node drops its removals up to a floor, and the node goes down."""
+        node = self.running(name)
+        if node is None:
+            return NOTHING
+        node.purge(floor)
+        self.stop(node)
+        return [b"purged %d" % floor]
 
     def restart(self, name):
         """A node opens anew."""
@@ -570,9 +730,9 @@ class World:
         node = self.running(name)
         if node is None:
             return NOTHING
-        pairs = {held: table.last for held, table in node.held.items()}
-        pairs[owner] = after
-        return [b"frame %d" % self.send(node.delta_for(Digest(False, b"", b"", tuple(sorted(pairs.items()))), self))]
+        pairs = {held: Pair(held, table.upto) for held, table in node.held.items()}
+        pairs[owner] = Pair(owner, after)
+        return [b"frame %d" % self.send(node.delta_for(Digest(False, b"", b"", tuple(pairs.values())), self))]
 
     def read(self, name, owner, key):
         """What a node has under an owner's key."""
@@ -655,6 +815,7 @@ FORMS = {
     b"del": [("NK", lambda world, name, key: world.write(name, key, REMOVED))],
     b"crash": [("NKVE", World.crash)],
     b"restart": [("N", World.restart)],
+    b"purge": [("N#", World.purge)],
     b"connect": [("NC", World.connect)],
     b"ask": [("C", World.ask)],
     b"offer": [("NN#", World.offer)],

@@ -3,7 +3,7 @@ use crate::asking::{Form, print_all, put};
 use crate::batch::write_lines;
 use crate::commands::command;
 use crate::failure::Failure;
-use crate::log_file::print_log;
+use crate::log_file::{Floor, print_log, purge_log};
 use crate::one_row::{Wanted, print_one};
 use crate::owners::print_owners;
 use crate::serving::Given;
@@ -34,7 +34,7 @@ const LINES: &str = "-";
 const FAULT_STATUS: u8 = 3;
 
 /// The options of `serve` that take a number.
-const NUMBERS: [&str; 11] = [
+const NUMBERS: [&str; 12] = [
     "budget",
     "max-version",
     "seats",
@@ -46,10 +46,14 @@ const NUMBERS: [&str; 11] = [
     "dial-idle",
     "request",
     "max-reads",
+    "purge-removals",
 ];
 
 /// The options of `watch` that take a number.
 const WATCH_NUMBERS: [&str; 2] = ["every", "count"];
+
+/// The word of `purge` that is a number.
+const PURGE_NUMBERS: [&str; 1] = ["FLOOR"];
 
 /// What is left to do behind the command line.
 #[derive(Drop)]
@@ -99,13 +103,14 @@ fn value<'a>(given: &ArgMatches<'a>, name: &str) -> &'a str {
     given.get_str(name).unwrap_or("")
 }
 
-/// Whether the number of one of these options has something else than digits, as a sign; the first that has is told.
+/// Whether the number of one of these options or words has something else than digits, as a sign; the first that has is told.
 fn has_wrong_number(rt: &HostRuntime, given: &ArgMatches<'_>, names: &[&'static str]) -> bool {
     for name in names {
         let text = value(given, name);
         if !text.bytes().all(|byte| byte.is_ascii_digit()) {
+            let dashes = if *name == "FLOOR" { "" } else { "--" };
             let _ = eprintln!(rt;
-                "error: invalid value '{text}' for '--{name}': a number has digits alone"
+                "error: invalid value '{text}' for '{dashes}{name}': a number has digits alone"
             );
             return true;
         }
@@ -164,6 +169,7 @@ fn node_of<'a>(rt: &HostRuntime, given: &ArgMatches<'a>) -> Result<Next<'a>, Fai
         control: value(given, "control"),
         peers,
         pace: pace_of(given),
+        purge_removals: given.get_one::<u64>("purge-removals").unwrap_or(0),
         has_time: given.get_flag("log-time"),
         metrics: given.get_str("metrics"),
     }))
@@ -307,6 +313,26 @@ fn run_log<'a>(rt: &HostRuntime, given: &ArgMatches<'a>) -> Result<u8, Failure<'
     Ok(0)
 }
 
+/// Says what `purge` wants.
+fn tell_floors(rt: &HostRuntime) -> u8 {
+    let _ = eprintln!(rt; "error: give FLOOR or --all, one of the two");
+    USAGE_STATUS
+}
+
+fn run_purge<'a>(rt: &HostRuntime, given: &ArgMatches<'a>) -> Result<u8, Failure<'a>> {
+    if has_wrong_number(rt, given, &PURGE_NUMBERS) {
+        return Ok(USAGE_STATUS);
+    }
+    let floor = match (given.get_one::<u64>("FLOOR"), given.get_flag("all")) {
+        (Some(version), false) => Floor::At(version),
+        (None, true) => Floor::Last,
+        _ => return Ok(tell_floors(rt)),
+    };
+    let (name, cluster) = (value(given, "name"), value(given, "cluster"));
+    purge_log(rt, value(given, "log"), name, cluster, floor)?;
+    Ok(0)
+}
+
 fn run_sim<'a>(rt: &HostRuntime, given: &ArgMatches<'a>) -> Result<u8, Failure<'a>> {
     Ok(play(rt, detail_of(given))?)
 }
@@ -324,6 +350,7 @@ fn status_of<'a>(
         "watch" => run_watch(rt, given),
         "owners" => run_owners(rt, given),
         "log" => run_log(rt, given),
+        "purge" => run_purge(rt, given),
         "sim" => run_sim(rt, given),
         _ => Ok(USAGE_STATUS),
     }

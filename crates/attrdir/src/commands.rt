@@ -14,6 +14,8 @@ enum Form {
     Flag,
     /// A word that may be left out.
     WordOrNone,
+    /// A number that may be left out.
+    NumberOrNone,
     /// An option with one value that has to be given.
     Needed,
     /// An option with one value, which is that of the environment where it is not given, and has to be given where there is none.
@@ -194,6 +196,20 @@ const LOG_CLUSTER: Part = Part {
     help: "The name of its cluster",
 };
 
+const FLOOR: Part = Part {
+    name: "FLOOR",
+    form: Form::NumberOrNone,
+    value: "",
+    help: "The version up to which removals go, at most the last version of the log",
+};
+
+const ALL: Part = Part {
+    name: "all",
+    form: Form::Flag,
+    value: "",
+    help: "Up to the last version of the log, in place of FLOOR",
+};
+
 const EXPLAIN: Part = Part {
     name: "explain",
     form: Form::Flag,
@@ -341,6 +357,13 @@ const METRICS: Part = Part {
     help: "The file in which it tells how it is, as Prometheus reads it [default: none]",
 };
 
+const PURGE_REMOVALS: Part = Part {
+    name: "purge-removals",
+    form: Form::NumberOr("1024"),
+    value: "N",
+    help: "From how many removals in its log on it drops them before it starts, 0 for never",
+};
+
 const LOG_TIME: Part = Part {
     name: "log-time",
     form: Form::Flag,
@@ -372,6 +395,7 @@ const SERVE_TASK: Task = Task {
         REQUEST,
         MAX_READS,
         ON_LOG_FAULT,
+        PURGE_REMOVALS,
         LOG_TIME,
         METRICS,
     ],
@@ -419,6 +443,13 @@ const LOG_TASK: Task = Task {
     parts: &[LOG, LOG_NAME, LOG_CLUSTER],
 };
 
+const PURGE_TASK: Task = Task {
+    name: "purge",
+    about: "Drops the removals of a log, so that their keys count no more",
+    more: help::PURGE,
+    parts: &[LOG, LOG_NAME, LOG_CLUSTER, FLOOR, ALL],
+};
+
 const SIM_TASK: Task = Task {
     name: "sim",
     about: "Runs a script of nodes, from standard input to standard output",
@@ -427,7 +458,7 @@ const SIM_TASK: Task = Task {
 };
 
 /// The commands, in the order of the help.
-const TASKS: [Task; 8] = [
+const TASKS: [Task; 9] = [
     SERVE_TASK,
     SET_TASK,
     DEL_TASK,
@@ -435,6 +466,7 @@ const TASKS: [Task; 8] = [
     WATCH_TASK,
     OWNERS_TASK,
     LOG_TASK,
+    PURGE_TASK,
     SIM_TASK,
 ];
 
@@ -478,6 +510,9 @@ fn arg_of<'a>(
         Form::Word => word(alloc, part).required(true).action(ArgAction::Set),
         Form::Words => word(alloc, part).num_args(0..).action(ArgAction::Append),
         Form::WordOrNone => word(alloc, part).action(ArgAction::Set),
+        Form::NumberOrNone => word(alloc, part)
+            .action(ArgAction::Set)
+            .value_parser(value_parser!(u64)),
         Form::Flag => flag(alloc, part),
         Form::Needed => option(alloc, part).required(true),
         Form::Control => control(alloc, part, fallback),

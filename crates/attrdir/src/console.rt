@@ -1,4 +1,5 @@
 //! What a node that runs says on standard error.
+use crate::log_file::Purged;
 use crate::metrics::Metrics;
 use crate::metrics_file::MetricsFile;
 use jiff::Timestamp;
@@ -128,6 +129,15 @@ impl Console<'_, '_> {
         if let Some(file) = &self.metrics {
             file.remove(self.rt);
         }
+    }
+
+    /// Removals of the log went before the node starts.
+    pub(crate) fn purged(&self, purged: Purged) {
+        let (rt, head) = (self.rt, self.head(Level::Info));
+        let _ = eprintln!(rt;
+            "{head} log {}: {} removals up to version {} are purged",
+            self.log, purged.removals, purged.floor
+        );
     }
 
     /// The node ended after its last round.

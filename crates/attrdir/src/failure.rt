@@ -272,12 +272,16 @@ fn about_fault(fault: &Fault, place: Place<'_>) -> &'static str {
         Fault::BadValue =>
             "give a kind and a word, as: addr 10.0.0.1:80, weight 5, flag true, text 'zone b'",
         Fault::BadSetting => about_setting(place),
-        Fault::TableFull => "no key comes free again; a new name begins with none",
+        Fault::TableFull => {
+            "a removed key counts until its removal is purged: start the node again with --purge-removals 1; else write under keys that it has"
+        }
         Fault::OwnersFull => "start the node again without owners that are gone",
         Fault::VersionsSpent => {
             "start the node again with a greater --max-version, of at most 1099511627775, or under a new name"
         }
         Fault::NothingThere => "get prints the keys that the node has",
+        Fault::FloorTooHigh =>
+            "give a FLOOR of at most the last version, which `attrdir log` prints last, or --all",
         Fault::StoreFailed => about_store(place),
         Fault::LogDamaged => {
             "see that this is the log; one of a later release wants that release; where it is damaged keep it, and put its newest copy \
@@ -294,7 +298,6 @@ in its place, since an older one would give versions a second time"
         | Fault::SecondHello
         | Fault::NoWatch
         | Fault::WatchesFull
-        | Fault::FloorTooHigh
         | Fault::OutOfTurn(_) =>
             "give each node a name and a log of its own, and all nodes one cluster, and start the node again",
         fault => about_exchange(fault, place),

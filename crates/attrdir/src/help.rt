@@ -1,8 +1,8 @@
 //! What `--help` says behind the options.
 
 pub(crate) const EXAMPLE: &str =
-    "A node runs by `serve`; `set`, `del`, `get`, `watch` and `owners` talk to one that runs. `sim` plays many nodes in memory, and `log` reads the
-log of a node that does not run. `attrdir COMMAND --help` says more of each.
+    "A node runs by `serve`; `set`, `del`, `get`, `watch` and `owners` talk to one that runs. `sim` plays many nodes in memory; `log` reads the
+log of a node that does not run, and `purge` drops its removals. `attrdir COMMAND --help` says more of each.
 
 Example of a node, which is then asked from a second terminal:
   $ touch a.log
@@ -16,7 +16,7 @@ Example of a node, which is then asked from a second terminal:
 Example of a script:
   $ printf 'world 1024 breadth 100 a b\\nput a w weight 5\\ngive a b 0\\nread b a w\\n' | attrdir sim
   version 1
-  a7020000002203000101610000000000000000000101770000000000000001020000000000000005
+  a703000000320300010161000000000000000000000000000000000000000000000001000101770000000000000001020000000000000005
   taken 1
   a w 1 weight 5";
 
@@ -29,6 +29,7 @@ Each other line is a command, and prints its answer:
   commit N K removed              the first half of a del
   crash N K VALUE kept|lost       node N goes down, behind the commit or before it
   restart N                       node N opens anew with what its log has
+  purge N F                       the log of node N drops its removals up to the version F, and node N goes down: `purged F`
   give A B V                      node A sends node B what it wrote above the version V, as far as a frame has room
   offer N O V                     node N sends what it holds of owner O above the version V: `frame I`
   connect N C, close C            a connection of the number C begins at node N, and its Hello is sent; it ends
@@ -41,8 +42,8 @@ the last word: the text, but that each byte 00 to 1f, 7f and \\ is a \\ and two 
 
 A fault of a line below the first is printed as `fault N`, and the script goes on: 1 no memory, 2 a name, 3 a key, 4 a value that
 is none, 6 a key too many, 8 no version is left, 9 nothing to remove, 15 the node is down, 21 another writes under
-the node's name, 22 to 25 a Hello that is missing, of another cluster, of the same name or the second. Where a node, a
-connection or a frame is not there, the answer is `nothing`. A fault of the first line is printed too (1, 2, 5 a setting, 24 two
+the node's name, 22 to 25 a Hello that is missing, of another cluster, of the same name or the second, 30 a version above the
+last. Where a node, a connection or a frame is not there, the answer is `nothing`. A fault of the first line is printed too (1, 2, 5 a setting, 24 two
 nodes of one name) and ends the run.
 
 A fault of the run ends it, after what was answered, with `fault N`, its text and what to do about it on standard error: 1 no
@@ -54,14 +55,14 @@ fault that ended the run.
 Example:
   $ printf 'world 1024 breadth 100 a b\\nput a w weight 5\\ngive a b 0\\nread b a w\\n' | attrdir sim
   version 1
-  a7020000002203000101610000000000000000000101770000000000000001020000000000000005
+  a703000000320300010161000000000000000000000000000000000000000000000001000101770000000000000001020000000000000005
   taken 1
   a w 1 weight 5
 
 With --explain each frame that a line sent or shows is said in words behind what the line prints:
   $ printf 'world 1024 breadth 100 a b\\nput a w weight 5\\ngive a b 0\\nread b a w\\n' | attrdir sim --explain
   version 1
-  a7020000002203000101610000000000000000000101770000000000000001020000000000000005
+  a703000000320300010161000000000000000000000000000000000000000000000001000101770000000000000001020000000000000005
   taken 1
     frame 1: hello, cluster sim, node a
     frame 2: delta, blocks 1
@@ -72,7 +73,7 @@ With --explain each frame that a line sent or shows is said in words behind what
 
 The same in single events, with the frame in two pieces:
   $ printf 'world 1024 breadth 100 a b\\nput a w weight 5\\nconnect a 1\\noffer a a 0\\nconnect b 2\\nline 2 1\\nline 2 2\\n\
-piece 2 20\\npiece 2 33\\n' | attrdir sim
+piece 2 20\\npiece 2 49\\n' | attrdir sim
   version 1
   frame 1
   frame 2
@@ -98,11 +99,33 @@ Example:
   a y 3 flag true
   last 3";
 
+pub(crate) const PURGE: &str =
+    "Each removal of a version up to FLOOR goes, so that its key counts no more among the 4,096 that an owner may have. What was written and not
+removed stays, and so does the last version: the next write has the one behind it. The node must not run meanwhile. Once it runs again, a peer that
+holds less than up to FLOOR takes the whole table anew, and shows the rows that it has until that is whole.
+
+It prints `purged FLOOR`, also where the log was purged so far before. With --all it goes up to the last version, and prints that.
+
+The file has to be there; an empty one becomes a new log. A fault ends the run, with `fault N`, its text and what to do about it on
+standard error: 1 no memory, 2 a name, 17 the line cannot be written, 18 the file is not there, cannot be read or written, or is open
+elsewhere, 19 the file is no log of this release, or a damaged one, 20 it belongs to another owner or cluster, 30 FLOOR is above the
+last version.
+
+The exit status is 0, 2 after a command line that is wrong, and 3 after a fault.
+
+Examples:
+  $ attrdir purge --log a.log --name a --cluster c 2
+  purged 2
+  $ attrdir purge --log a.log --name a --cluster c --all
+  purged 3";
+
 pub(crate) const SERVE: &str =
     "The log is a file that is there; an empty one becomes a new log. The node makes both sockets, each at a path where no file is or where
 a node that no longer runs left its socket, and removes them when it ends. On --sock it serves other nodes, and each PEER is the path of
 the --sock of another node. On --control it answers `set`, `del`, `get` and `watch`. Peers and callers are not authenticated: whoever may
 open a socket may use it.
+
+Where its log has --purge-removals removals or more, they go before the node starts, as by `attrdir purge --all`, and a line says so.
 
 It asks its peers for what it lacks, and gives them what they lack: one a round, in turn, with a --pause after each. When its own owner
 writes, or a peer has news, it asks --fanout of them right away. A peer that keeps it waiting for --dial-idle is passed over in its next seven
@@ -152,7 +175,7 @@ each as it comes, one after the other: other writes may come between them. It pr
 first fault ends it, and says the number of its line; the writes of the lines before stand.
 
 A fault ends the command, with `fault N`, its text and what to do about it on standard error: 1 no memory, 3 the key, 4 the value, 6
-the node has 4,096 keys, removed ones counted, 8 it has no version left, 10 to 14 what answers is no control socket, 15 its log met
+the node has 4,096 keys, removed ones counted (see --purge-removals of serve), 8 it has no version left, 10 to 14 what answers is no control socket, 15 its log met
 a fault before, 16 no node answers, or it is silent for a minute, 17 the request or the answer cannot be written, 18 its log cannot be
 written, 21 another node writes under its name, 28 it ended before it answered, 29 the answer takes more than 65,536 reads.
 

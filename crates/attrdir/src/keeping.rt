@@ -130,10 +130,7 @@ fn enter(shown: &mut Vec<Pair>, found: &Pair) -> Result<(), Fault> {
             return Ok(());
         }
     }
-    shown.push(Pair {
-        owner: found.owner,
-        upto: found.upto,
-    })?;
+    shown.push(Pair::new(found.owner, found.upto, None))?;
     Ok(())
 }
 
@@ -143,10 +140,7 @@ fn with_row(before: &Option<Pair>, row: &Row) -> Pair {
         Some(pair) if pair.owner == *row.owner() => pair.upto.max(row.version()),
         _ => row.version(),
     };
-    Pair {
-        owner: *row.owner(),
-        upto,
-    }
+    Pair::new(*row.owner(), upto, None)
 }
 
 /// Enters what a listing shows. `NoMemory`.

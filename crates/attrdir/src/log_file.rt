@@ -1,14 +1,30 @@
 //! An owner's log in a file.
 use crate::failure::{Failure, Place};
 use crate::words::name_of;
-use sb_lines::log_run;
+use sb_lines::{log_run, purge_run};
 use sb_log::{SqlLog, WriteLog};
-use sb_types::{Fault, Name, VERSION_MOST};
+use sb_table::Table;
+use sb_types::{Fault, Name, Slot, VERSION_MOST};
 use sqlite::{Connection, Error, ErrorCode, File, FileStore};
 use std::fs;
 
 /// A log in a file of the system.
 pub(crate) type FileLog = SqlLog<FileStore<File>>;
+
+/// Up to which version removals go.
+#[derive(Clone, Copy)]
+pub(crate) enum Floor {
+    At(u64),
+    /// The last version of the log.
+    Last,
+}
+
+/// The removals that a log dropped, and the version up to which they went.
+#[derive(Clone, Copy)]
+pub(crate) struct Purged {
+    pub(crate) removals: usize,
+    pub(crate) floor: u64,
+}
 
 /// A fault of a log, or of printing its lines.
 fn failure(path: &str, fault: Fault) -> Failure<'_> {
@@ -82,4 +98,68 @@ pub(crate) fn print_log<'a>(
         Ok(()) => Ok(()),
         Err(fault) => Err(failure(path, fault)),
     }
+}
+
+/// Drops the removals of a log up to a version, and prints that version. The faults of `load`, where the version is the last; then
+/// those of `purge_run`.
+fn purge_to<L: WriteLog>(rt: &HostRuntime, log: &mut L, floor: Floor) -> Result<(), Fault> {
+    let version = match floor {
+        Floor::At(version) => version,
+        Floor::Last => log.load(rt.alloc())?.upto(),
+    };
+    let (purged, _) = purge_run(rt.alloc(), log, version, &mut rt.stdout());
+    purged
+}
+
+/// The same, and ends the log. The faults of `purge_to`, then those of `close`.
+fn purge_lines<L: WriteLog>(rt: &HostRuntime, log: L, floor: Floor) -> Result<(), Fault> {
+    let mut log = log;
+    let purged = purge_to(rt, &mut log, floor);
+    purged.and(log.close())
+}
+
+/// Drops the removals of the log of an owner of a cluster, and prints up to which version. `BadName` of either name, before the
+/// file is looked for; then the faults of `open_log`, of `load` and `purge_run`, and of `close`.
+pub(crate) fn purge_log<'a>(
+    rt: &HostRuntime,
+    path: &'a str,
+    owner: &'a str,
+    cluster: &'a str,
+    floor: Floor,
+) -> Result<(), Failure<'a>> {
+    let owner = name_of("--name", owner)?;
+    let cluster = name_of("--cluster", cluster)?;
+    let log = open_log(rt, path, owner, cluster, VERSION_MOST)?;
+    match purge_lines(rt, log, floor) {
+        Ok(()) => Ok(()),
+        Err(fault) => Err(failure(path, fault)),
+    }
+}
+
+/// How many keys of a table are removed ones.
+fn count_removals(table: &Table) -> usize {
+    table
+        .after(0)
+        .filter(|entry| matches!(entry.slot(), Slot::Removed))
+        .count()
+}
+
+/// Drops the removals of a log up to its last version, where it has `least` of them or more, and tells what went. Nothing goes where
+/// `least` is 0. The faults of `load`, then those of `purge`.
+pub(crate) fn purge_removals<L: WriteLog>(
+    rt: &HostRuntime,
+    log: &mut L,
+    least: u64,
+) -> Result<Option<Purged>, Fault> {
+    if least == 0 {
+        return Ok(None);
+    }
+    let table = log.load(rt.alloc())?;
+    let removals = count_removals(&table);
+    if (removals as u64) < least {
+        return Ok(None);
+    }
+    let floor = table.upto();
+    log.purge(floor)?;
+    Ok(Some(Purged { removals, floor }))
 }

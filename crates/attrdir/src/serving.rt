@@ -1,7 +1,7 @@
 //! A node that runs.
 use crate::console::{Console, Shortage};
 use crate::failure::{Failure, Place, Setting};
-use crate::log_file::open_log;
+use crate::log_file::{open_log, purge_removals};
 use crate::metrics_file::{MetricsFile, may_replace, writes_over};
 use crate::words::name_of;
 use sb_log::WriteLog;
@@ -26,6 +26,8 @@ pub(crate) struct Given<'a> {
     pub(crate) control: &'a str,
     pub(crate) peers: Vec<&'a str>,
     pub(crate) pace: Pace,
+    /// From how many removals in its log on they are dropped before it starts; 0 for never.
+    pub(crate) purge_removals: u64,
     /// Whether each line on standard error begins with the time.
     pub(crate) has_time: bool,
     /// The path of the file that tells how the node is.
@@ -120,7 +122,23 @@ fn place_of<'a>(rt: &HostRuntime, fault: &Fault, given: &Given<'a>) -> Place<'a>
     }
 }
 
-/// Runs a node over a log, and prints what it did. The faults of `run_node`; then `WriteFailed`.
+/// Drops the removals of a log where there are many, and says so. The faults of `purge_removals`.
+fn purge_first<'a, L: WriteLog>(
+    rt: &HostRuntime,
+    console: &Console<'_, '_>,
+    given: &Given<'a>,
+    log: &mut L,
+) -> Result<(), Failure<'a>> {
+    match purge_removals(rt, log, given.purge_removals) {
+        Ok(Some(purged)) => console.purged(purged),
+        Ok(None) => {}
+        Err(fault) => return Err(Failure::at(place_of(rt, &fault, given), fault)),
+    }
+    Ok(())
+}
+
+/// Runs a node over a log, from which removals go first where there are many, and prints what it did. The faults of `purge_removals`;
+/// those of `run_node`; then `WriteFailed`.
 fn run<'a, L: WriteLog + Drop, R: Runtime + Net<Listener = TcpListener, Stream = TcpStream>>(
     rt: &HostRuntime,
     runtime: &R,
@@ -128,6 +146,7 @@ fn run<'a, L: WriteLog + Drop, R: Runtime + Net<Listener = TcpListener, Stream =
     settings: Settings,
     log: L,
 ) -> Result<(), Failure<'a>> {
+    let mut log = log;
     let paths = Paths {
         sock: given.sock,
         control: given.control,
@@ -147,6 +166,7 @@ fn run<'a, L: WriteLog + Drop, R: Runtime + Net<Listener = TcpListener, Stream =
         metrics,
         shortage: Shortage::new(),
     };
+    purge_first(rt, &console, given, &mut log)?;
     let config = NodeConfig {
         settings,
         paths,

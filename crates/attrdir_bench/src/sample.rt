@@ -96,7 +96,7 @@ pub(crate) fn block_of(alloc: Global, owner: u64, keys: u64, kinds: Kinds) -> Re
         let value = value_at(alloc, kinds, turn.wrapping_mul(31).wrapping_add(owner))?;
         entries.push(Entry::new(key, turn + 1, Slot::Set(value)))?;
     }
-    Block::new(owner_at(alloc, owner)?, 0, entries)
+    Block::new(owner_at(alloc, owner)?, 0, 0, keys, entries)
 }
 
 /// A block of each owner.
@@ -141,11 +141,15 @@ pub(crate) fn new_node(alloc: Global, name: &[u8]) -> Result<NodeCore, Fault> {
 }
 
 fn delta_of(alloc: Global, owner: Name, after: u64, entries: &[Entry]) -> Result<Delta, Fault> {
+    let upto = match entries {
+        [.., last] => last.version(),
+        [] => after,
+    };
     let mut copies = Vec::with_capacity(alloc, entries.len())?;
     for entry in entries {
         copies.push(entry.copy(alloc)?)?;
     }
-    Delta::new(vec![in alloc; Block::new(owner, after, copies)?]?)
+    Delta::new(vec![in alloc; Block::new(owner, 0, after, upto, copies)?]?)
 }
 
 /// Has a node hear a block, in deltas that are not too long.

@@ -10,7 +10,7 @@
 //!     let offered = available(alloc, holdings, &nothing)?;
 //!     let mut versions = Vec::new(alloc);
 //!     for item in Breadth.arrange(alloc, offered)?.iter() {
-//!         versions.push((item.owner, item.entry.version()))?;
+//!         versions.push((item.owner, item.version()))?;
 //!     }
 //!     Ok(versions)
 //! }
@@ -37,7 +37,7 @@ use std::alloc::Global;
 /// let offered = available(alloc, &holdings, &digest)?;
 /// let ordered = Breadth.arrange(alloc, offered)?;
 /// for (item, version) in ordered.iter().zip([1, 1, 2]) {
-///     assert_eq!(rt; item.entry.version(), version);
+///     assert_eq!(rt; item.version(), version);
 /// }
 /// ```
 #[derive(Clone, Copy, Debug)]

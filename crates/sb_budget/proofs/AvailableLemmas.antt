@@ -1,5 +1,5 @@
 -- What is offered of all owners, owner by owner.
-use Rattle.std.proofs.Common.{◌≡◌, ℕ, suc, Bool, true, false, cond, List, [], ◌∷◌, ◌++◌, length, map, filter, ◌⊎◌, inl, inr, refl, sym, ap, ap₂, subst, ◌∙◌, arith, Option, Some, None, IfSome, nat_lt, nat_eq, if◌then◌else◌, Ordering, Less, Equal, append-nil, true≢false}
+use Rattle.std.proofs.Common.{◌≡◌, ℕ, suc, Bool, true, false, cond, List, [], ◌∷◌, ◌++◌, length, filter, ◌⊎◌, inl, inr, refl, sym, ap, ap₂, subst, ◌∙◌, arith, Option, Some, None, IfSome, nat_lt, nat_eq, if◌then◌else◌, Ordering, Less, Equal, append-nil, true≢false}
 use Rattle.std.specs.Prelude.{count_by, AllPairs}
 use Rattle.std.specs.List.{AllByRecursion}
 use Rattle.std.specs.List.Sorted.{IsStrictlySortedBy}
@@ -7,30 +7,33 @@ use Rattle.std.specs.Map.{keys_of}
 use Rattle.std.specs.FinMap.{get, entries, get-entries, find}
 use Rattle.std.specs.Ordering.{is_eq, eq_by_cmp, ordering_reverse}
 use Rattle.std.specs.Cmp.Lexicographic.{pointwise}
-use Rattle.std.proofs.lemmas.Bool.{cases_Bool, cond_both, cond-true, cond-false, false_from_ne_true}
+use Rattle.std.proofs.lemmas.Bool.{cases_Bool, cond_both, cond-true, cond-false, false_from_ne_true, le-ltb}
 use Rattle.std.proofs.lemmas.Cmp.{nat_list_cmp_total, tied_itself}
 use Rattle.std.proofs.lemmas.List.{map-append}
 use Rattle.std.proofs.lemmas.List.Elements.{filter-append, recursion_from_All}
 use Rattle.std.proofs.lemmas.List.Kept.{AllPairs-cons}
-use Rattle.sb_types.specs.Records.{Entry, Table, Holder}
-use Rattle.sb_types.specs.Runs.{Stands, above}
-use Rattle.sb_table.specs.Plain.{IsPlainTable, plain_table}
+use Rattle.sb_types.specs.Records.{Table, Holder}
+use Rattle.sb_types.specs.Runs.{Stands, IsRun}
+use Rattle.sb_table.specs.Plain.{plain_table}
 use Rattle.sb_holdings.specs.Held.{Held}
-use Rattle.sb_holdings.specs.Plain.{IsPlainHolder, IsHoldings, is_from, tables_from}
-use Rattle.sb_digest.specs.Digests.{Digest, covers, held_in}
+use Rattle.sb_holdings.specs.Plain.{IsKeptHolder, IsHoldings, is_from, each_shown, tables_from}
+use Rattle.sb_digest.specs.Digests.{Digest, covers}
 use Rattle.sb_types.proofs.Texts.{same_text, text_same}
 use Rattle.sb_budget.specs.declared.offered.Offered.{Offered}
-use Rattle.sb_budget.specs.Offers.{Item, items_from, items_of}
+use Rattle.sb_budget.specs.Offers.{items_of}
 use Rattle.sb_budget.specs.Offers as offers
-use Rattle.sb_budget.specs.Orders.{offered_by, Precedes, IsOffer}
+use Rattle.sb_budget.specs.Orders.{offered_by, version_of, Precedes, IsOffer}
 use Rattle.sb_budget.specs.Cut.{items_of_all, IsPart, CanCut}
-use Rattle.sb_budget.specs.Available.{available_for, ranked_from, ranked_of, rank_of, count_of, AreRanked}
+use Rattle.sb_budget.specs.Available.{number_for, available_for, ranked_of, rank_of, count_of, AreRanked}
 use Rattle.sb_budget.proofs.OrderLemmas.{Before}
 use Rattle.sb_budget.proofs.PlaceLemmas.{text_cmp, Equal_from_same}
 use Rattle.sb_budget.proofs.NameLemmas.{some_of}
 use Rattle.sb_budget.proofs.GatherLemmas.{all_at, all_from}
 use Rattle.sb_budget.proofs.HonestLemmas.{mapped_from}
-use Rattle.sb_budget.proofs.RankLemmas.{held_no_further, length-ranked, items-ranked, owner-ranked, before-ranked, rank-ranked, count-ranked, part_is, part_ascending}
+use Rattle.sb_budget.proofs.RankLemmas.{part_owner, part_items, part_before, part_rank, part_count, part_is}
+
+abbrev IsRising : Table → Type 0
+IsRising t = IsRun 0 t.held t.entries
 
 -- ---- a map's entries are found
 
@@ -75,9 +78,9 @@ pairs_by_owner (x ∷ xs) each = AllPairs-cons Precedes x xs (all_from (Precedes
 
 -- ---- owner by owner
 
-module _ (reaches : List ℕ → Bool) (known : List ℕ → ℕ) where
+module _ (reaches : List ℕ → Bool) (known : List ℕ → Table → ℕ) where
   abbrev pub part_at : List ℕ × Table → List Offered
-  part_at p = if reaches p.0 then ranked_of p.0 p.1 (known p.0) else []
+  part_at p = if reaches p.0 then ranked_of p.0 p.1 (known p.0 p.1) else []
 
   abbrev pub all_parts : List (List ℕ × Table) → List Offered
   all_parts [] = []
@@ -85,24 +88,14 @@ module _ (reaches : List ℕ → Bool) (known : List ℕ → ℕ) where
 
   -- as items
 
-  items_part : (owner : List ℕ) (t : Table) → IsPlainTable t → items_of_all (ranked_of owner t (known owner)) ≡ items_of owner t (known owner)
-  items_part owner t plain = go (above (known owner) t.entries) refl
+  items_all : (ps : List (List ℕ × Holder)) → items_of_all (all_parts (each_shown ps)) ≡ offers.available reaches known ps
+  items_all [] = refl
+  items_all (p ∷ ps) =
+      map-append _ (part_at (p.0, p.1.shown)) (all_parts (each_shown ps))
+      ∙ ap₂ (λ a b. a ++ b) (go (reaches p.0)) (items_all ps)
     where
-      go : (es : List Entry) → above (known owner) t.entries ≡ es → items_of_all (ranked_from 0 owner (known owner) t.held (length es) es) ≡ items_from owner t (known owner) es
-      go [] e = sym (cond-false _ _ _ (held_no_further t plain (known owner) e))
-      go (x ∷ xs) e =
-          items-ranked owner (known owner) t.held (length (x ∷ xs)) 0 (x ∷ xs)
-          ∙ ap (λ floor. map (λ (y : Entry). record { owner = owner; floor = floor; after = known owner; upto = t.held; entry = Some y }) (x ∷ xs)) (sym plain.floor)
-
-  pub items_all : (ps : List (List ℕ × Holder)) → ((p : List ℕ × Holder) → Stands ps p → IsPlainTable p.1.shown) →
-      items_of_all (all_parts (map (λ p. (p.0, p.1.shown)) ps)) ≡ offers.available reaches (λ owner table. known owner) ps
-  items_all [] plain = refl
-  items_all (p ∷ ps) plain =
-      map-append _ (part_at (p.0, p.1.shown)) (all_parts (map (λ p. (p.0, p.1.shown)) ps))
-      ∙ ap₂ (λ a b. a ++ b) (go (reaches p.0)) (items_all ps (λ q s. plain q (inr s)))
-    where
-      go : (b : Bool) → items_of_all (if b then ranked_of p.0 p.1.shown (known p.0) else []) ≡ (if b then items_of p.0 p.1.shown (known p.0) else [])
-      go true = items_part p.0 p.1.shown (plain p (inl refl))
+      go : (b : Bool) → items_of_all (if b then ranked_of p.0 p.1.shown (known p.0 p.1.shown) else []) ≡ (if b then items_of p.0 p.1.shown (known p.0 p.1.shown) else [])
+      go true = part_items p.0 p.1.shown (known p.0 p.1.shown)
       go false = refl
 
   -- by owner
@@ -115,15 +108,15 @@ module _ (reaches : List ℕ → Bool) (known : List ℕ → ℕ) where
   none_of owner [] other = refl
   none_of owner (o ∷ os) other = cond-false _ _ _ (false_from_ne_true _ (λ t. other o (inl refl) (same_text o.owner owner t))) ∙ none_of owner os (λ x s. other x (inr s))
 
-  part_owner : (p : List ℕ × Table) (o : Offered) → Stands (part_at p) o → o.owner ≡ p.0
-  part_owner p o s =
-      cond_both (reaches p.0) (ranked_of p.0 p.1 (known p.0)) [] (λ os. Stands os o → o.owner ≡ p.0)
-      (λ _ t. owner-ranked p.0 (known p.0) p.1.held (length (above (known p.0) p.1.entries)) 0 (above (known p.0) p.1.entries) o t)
+  owner_at : (p : List ℕ × Table) (o : Offered) → Stands (part_at p) o → o.owner ≡ p.0
+  owner_at p o s =
+      cond_both (reaches p.0) (ranked_of p.0 p.1 (known p.0 p.1)) [] (λ os. Stands os o → o.owner ≡ p.0)
+      (λ _ t. part_owner p.0 p.1 (known p.0 p.1) o t)
       (λ _ none. absurd none)
       s
 
   part_unnamed : (p : List ℕ × Table) (owner : List ℕ) → (p.0 ≡ owner → ⊥) → offered_by owner (part_at p) ≡ []
-  part_unnamed p owner other = none_of owner (part_at p) (λ o s same. other (sym (part_owner p o s) ∙ same))
+  part_unnamed p owner other = none_of owner (part_at p) (λ o s same. other (sym (owner_at p o s) ∙ same))
 
   later_unnamed : (owner : List ℕ) (ps : List (List ℕ × Table)) → AllByRecursion (λ k. text_cmp owner k ≡ Less) (keys_of ps) → offered_by owner (all_parts ps) ≡ []
   later_unnamed owner [] behind = refl
@@ -135,70 +128,73 @@ module _ (reaches : List ℕ → Bool) (known : List ℕ → ℕ) where
       less_tied r less tied = cc
 
   -- the part of an owner: of a table of its own, or of nothing
-  record IsByOwner (offered : List Offered) (owner : List ℕ) : Type 0 where
+  record IsByOwner (P : Table → Type 0) (offered : List Offered) (owner : List ℕ) : Type 0 where
     table : Table
-    plain : IsPlainTable table
-    part : offered_by owner offered ≡ ranked_of owner table (known owner)
+    is : P table
+    part : offered_by owner offered ≡ ranked_of owner table (known owner table)
 
-  nothing_plain : IsPlainTable (plain_table [])
-  nothing_plain = record { run = record { ascending = refl; most = omega arith; distinct = refl }; floor = refl; last = refl; limit = omega arith }
+  none_ranked : (owner : List ℕ) (n : ℕ) → ranked_of owner (plain_table []) n ≡ []
+  none_ranked owner n = cond-false _ _ _ (le-ltb n 0 (omega arith))
 
-  by_owner : (ps : List (List ℕ × Table)) → IsStrictlySortedBy text_cmp (keys_of ps) → ((p : List ℕ × Table) → Stands ps p → IsPlainTable p.1) → (owner : List ℕ) → IsByOwner (all_parts ps) owner
-  unfolding IsStrictlySortedBy
-  by_owner [] up plain owner = record { table = plain_table []; plain = nothing_plain; part = refl }
-  by_owner (p ∷ ps) up plain owner = go (cases_Bool (pointwise nat_eq p.0 owner)) up.0 (plain p (inl refl)) (by_owner ps up.1 (λ q s. plain q (inr s)) owner)
-    where
-      parts : offered_by owner (part_at p ++ all_parts ps) ≡ offered_by owner (part_at p) ++ offered_by owner (all_parts ps)
-      parts = filter-append (λ o. pointwise nat_eq o.owner owner) (part_at p) (all_parts ps)
+  module _ (P : Table → Type 0) (nothing : P (plain_table [])) where
+    by_owner : (ps : List (List ℕ × Table)) → IsStrictlySortedBy text_cmp (keys_of ps) → ((p : List ℕ × Table) → Stands ps p → P p.1) → (owner : List ℕ) → IsByOwner P (all_parts ps) owner
+    unfolding IsStrictlySortedBy
+    by_owner [] up each owner = record { table = plain_table []; is = nothing; part = sym (none_ranked owner (known owner (plain_table []))) }
+    by_owner (p ∷ ps) up each owner = go (cases_Bool (pointwise nat_eq p.0 owner)) up.0 (each p (inl refl)) (by_owner ps up.1 (λ q s. each q (inr s)) owner)
+      where
+        parts : offered_by owner (part_at p ++ all_parts ps) ≡ offered_by owner (part_at p) ++ offered_by owner (all_parts ps)
+        parts = filter-append (λ o. pointwise nat_eq o.owner owner) (part_at p) (all_parts ps)
 
-      own : p.0 ≡ owner → IsPlainTable p.1 → offered_by owner (all_parts ps) ≡ [] → (b : Bool) → reaches p.0 ≡ b → IsByOwner (part_at p ++ all_parts ps) owner
-      own same table none true reached = record {
-        table = p.1;
-        plain = table;
-        part =
-            parts ∙ ap₂ (λ a b. a ++ b) (ap (λ (b : Bool). offered_by owner (if b then ranked_of p.0 p.1 (known p.0) else [])) reached) none ∙ append-nil (offered_by owner (ranked_of p.0 p.1 (known p.0)))
-            ∙ all_of owner (ranked_of p.0 p.1 (known p.0)) (λ o s. owner-ranked p.0 (known p.0) p.1.held (length (above (known p.0) p.1.entries)) 0 (above (known p.0) p.1.entries) o s ∙ same)
-            ∙ ap (λ q. ranked_of q p.1 (known q)) same;
-      }
-      own same table none false reached = record {
-        table = plain_table [];
-        plain = nothing_plain;
-        part = parts ∙ ap₂ (λ a b. a ++ b) (ap (λ (b : Bool). offered_by owner (if b then ranked_of p.0 p.1 (known p.0) else [])) reached) none;
-      }
+        own : p.0 ≡ owner → P p.1 → offered_by owner (all_parts ps) ≡ [] → (b : Bool) → reaches p.0 ≡ b → IsByOwner P (part_at p ++ all_parts ps) owner
+        own same table none true reached = record {
+          table = p.1;
+          is = table;
+          part =
+              parts ∙ ap₂ (λ a b. a ++ b) (ap (λ (b : Bool). offered_by owner (if b then ranked_of p.0 p.1 (known p.0 p.1) else [])) reached) none
+              ∙ append-nil (offered_by owner (ranked_of p.0 p.1 (known p.0 p.1)))
+              ∙ all_of owner (ranked_of p.0 p.1 (known p.0 p.1)) (λ o s. part_owner p.0 p.1 (known p.0 p.1) o s ∙ same)
+              ∙ ap (λ q. ranked_of q p.1 (known q p.1)) same;
+        }
+        own same table none false reached = record {
+          table = plain_table [];
+          is = nothing;
+          part =
+              parts ∙ ap₂ (λ a b. a ++ b) (ap (λ (b : Bool). offered_by owner (if b then ranked_of p.0 p.1 (known p.0 p.1) else [])) reached) none
+              ∙ sym (none_ranked owner (known owner (plain_table [])));
+        }
 
-      go : ((pointwise nat_eq p.0 owner ≡ true) ⊎ (pointwise nat_eq p.0 owner ≡ false)) → AllByRecursion (λ k. text_cmp p.0 k ≡ Less) (keys_of ps) → IsPlainTable p.1 → IsByOwner (all_parts ps) owner → IsByOwner (part_at p ++ all_parts ps) owner
-      go (inl same) behind table rest =
-          let this = same_text p.0 owner same in
-          own this table (later_unnamed owner ps (subst (λ q. AllByRecursion (λ k. text_cmp q k ≡ Less) (keys_of ps)) this behind)) (reaches p.0) refl
-      go (inr other) behind table rest = record {
-        table = rest.table;
-        plain = rest.plain;
-        part = parts ∙ ap (λ r. r ++ offered_by owner (all_parts ps)) (part_unnamed p owner (λ same. true≢false (sym (text_same p.0 owner same) ∙ other))) ∙ rest.part;
-      }
+        go : ((pointwise nat_eq p.0 owner ≡ true) ⊎ (pointwise nat_eq p.0 owner ≡ false)) → AllByRecursion (λ k. text_cmp p.0 k ≡ Less) (keys_of ps) → P p.1 → IsByOwner P (all_parts ps) owner → IsByOwner P (part_at p ++ all_parts ps) owner
+        go (inl same) behind table rest =
+            let this = same_text p.0 owner same in
+            own this table (later_unnamed owner ps (subst (λ q. AllByRecursion (λ k. text_cmp q k ≡ Less) (keys_of ps)) this behind)) (reaches p.0) refl
+        go (inr other) behind table rest = record {
+          table = rest.table;
+          is = rest.is;
+          part = parts ∙ ap (λ r. r ++ offered_by owner (all_parts ps)) (part_unnamed p owner (λ same. true≢false (sym (text_same p.0 owner same) ∙ other))) ∙ rest.part;
+        }
 
-  module _ (ps : List (List ℕ × Table)) (up : IsStrictlySortedBy text_cmp (keys_of ps)) (plain : (p : List ℕ × Table) → Stands ps p → IsPlainTable p.1) where
+  module _ (ps : List (List ℕ × Table)) (up : IsStrictlySortedBy text_cmp (keys_of ps)) (each : (p : List ℕ × Table) → Stands ps p → IsRun 0 p.1.held p.1.entries) where
+    at_owner : (owner : List ℕ) → IsByOwner IsRising (all_parts ps) owner
+    at_owner = by_owner IsRising (record { ascending = refl; most = omega arith; distinct = refl }) ps up each
+
     pub can_cut : CanCut (all_parts ps)
     can_cut owner =
-        let b = by_owner ps up plain owner in
-        let is = part_is owner b.table b.plain (known owner) in
-        (is.0, is.1, subst (IsPart is.0 is.1) (sym b.part) is.2)
+        let b = at_owner owner in
+        let is = part_is owner b.table (known owner b.table) b.is in
+        (is.0, is.1, is.2, subst (IsPart is.0 is.1 is.2) (sym b.part) is.3)
 
     pub is_offer : IsOffer (all_parts ps)
     is_offer = pairs_by_owner (all_parts ps) (λ owner.
-        let b = by_owner ps up plain owner in
-        let es = above (known owner) b.table.entries in
-        subst (AllPairs Before) (sym b.part) (before-ranked owner (known owner) b.table.held (length es) 0 0 es (part_ascending owner b.table b.plain (known owner))))
+        let b = at_owner owner in
+        subst (AllPairs Before) (sym b.part) (part_before owner b.table (known owner b.table) b.is))
 
     pub are_ranked : AreRanked (all_parts ps)
     are_ranked = all_from (λ (o : Offered). (o.rank ≡ rank_of (all_parts ps) o) × (o.count ≡ count_of (all_parts ps) o)) (all_parts ps) (λ o s.
-        let b = by_owner ps up plain o.owner in
-        let n = known o.owner in
-        let es = above n b.table.entries in
-        let stands : Stands (ranked_of o.owner b.table n) o = subst (λ (os : List Offered). Stands os o) b.part (some_of (λ (x : Offered). x.owner) o.owner (all_parts ps) o s refl) in
-        let rank = rank-ranked o.owner n b.table.held (length es) 0 0 es o (part_ascending o.owner b.table b.plain n) stands in
-        let count = count-ranked o.owner n b.table.held (length es) 0 es o stands in (
-          omega (arith, rank, ap (count_by (λ (x : Offered). nat_lt x.entry.version o.entry.version)) b.part),
-          omega (arith, count, length-ranked o.owner n b.table.held (length es) 0 es, ap (λ (os : List Offered). length os) b.part),
+        let b = at_owner o.owner in
+        let n = known o.owner b.table in
+        let stands : Stands (ranked_of o.owner b.table n) o = subst (λ (os : List Offered). Stands os o) b.part (some_of (λ (x : Offered). x.owner) o.owner (all_parts ps) o s refl) in (
+          part_rank o.owner b.table n b.is o stands ∙ ap (count_by (λ (x : Offered). nat_lt (version_of x) (version_of o))) (sym b.part),
+          part_count o.owner b.table n b.is o stands ∙ ap (λ (os : List Offered). length os) (sym b.part),
         ))
 
 -- ---- of all that is held
@@ -207,32 +203,33 @@ filter_all : (es : List (List ℕ × Holder)) → filter (λ p. is_from None p.0
 filter_all [] = refl
 filter_all (e ∷ es) = ap (λ r. e ∷ r) (filter_all es)
 
-keys_shown : (es : List (List ℕ × Holder)) → keys_of (map (λ p. (p.0, p.1.shown)) es) ≡ keys_of es
+keys_shown : (es : List (List ℕ × Holder)) → keys_of (each_shown es) ≡ keys_of es
 keys_shown [] = refl
 keys_shown (e ∷ es) = ap (λ r. e.0 ∷ r) (keys_shown es)
 
-module _ (held : Held) (is : IsHoldings held) (up : IsStrictlySortedBy text_cmp (keys_of (tables_from None held))) where
-  all_tables : tables_from None held ≡ map (λ p. (p.0, p.1.shown)) (entries held.owners)
-  all_tables = ap (map (λ p. (p.0, p.1.shown))) (filter_all (entries held.owners))
+all_tables : (held : Held) → tables_from None held ≡ each_shown (entries held.owners)
+all_tables held = ap each_shown (filter_all (entries held.owners))
 
+module _ (held : Held) (up : IsStrictlySortedBy text_cmp (keys_of (tables_from None held))) where
   names_rise : IsStrictlySortedBy text_cmp (keys_of (entries held.owners))
-  names_rise = subst (IsStrictlySortedBy text_cmp) (ap keys_of all_tables ∙ keys_shown (entries held.owners)) up
+  names_rise = subst (IsStrictlySortedBy text_cmp) (ap keys_of (all_tables held) ∙ keys_shown (entries held.owners)) up
 
-  plain_each : (p : List ℕ × Holder) → Stands (entries held.owners) p → IsPlainTable p.1.shown
-  plain_each p s =
-      let got : get held.owners p.0 ≡ Some p.1 = get-entries held.owners p.0 ∙ found_of (entries held.owners) p names_rise s in
-      let holder : IsPlainHolder p.1 = subst (λ (o : Option Holder). IfSome o IsPlainHolder) got (is.each p.0) in
-      holder.shown
+  -- what holds of what is shown of each holder holds of each table
+  each_table : (P : Holder → Type 0) (Q : Table → Type 0) → ((h : Holder) → P h → Q h.shown) → ((owner : List ℕ) → IfSome (get held.owners owner) P) → (p : List ℕ × Table) → Stands (tables_from None held) p → Q p.1
+  each_table P Q shown each p s =
+      let from = mapped_from (λ (q : List ℕ × Holder). (q.0, q.1.shown)) (entries held.owners) p (subst (λ (ts : List (List ℕ × Table)). Stands ts p) (all_tables held) s) in
+      let h = from.0 in
+      let got : get held.owners h.0 ≡ Some h.1 = get-entries held.owners h.0 ∙ found_of (entries held.owners) h names_rise from.1 in
+      let holder : P h.1 = subst (λ (o : Option Holder). IfSome o P) got (each h.0) in
+      subst (λ (q : List ℕ × Table). Q q.1) from.2 (shown h.1 holder)
 
-  pub plain_tables : (p : List ℕ × Table) → Stands (tables_from None held) p → IsPlainTable p.1
-  plain_tables p s =
-      let from = mapped_from (λ (q : List ℕ × Holder). (q.0, q.1.shown)) (entries held.owners) p (subst (λ (ts : List (List ℕ × Table)). Stands ts p) all_tables s) in
-      subst (λ (q : List ℕ × Table). IsPlainTable q.1) from.2 (plain_each from.0 from.1)
+  pub rising_tables : IsHoldings held → (p : List ℕ × Table) → Stands (tables_from None held) p → IsRun 0 p.1.held p.1.entries
+  rising_tables is = each_table IsKeptHolder IsRising (λ h kept. kept.is.shown.run) is.each
 
-  pub items_held : (digest : Digest) → items_of_all (all_parts (covers digest) (held_in digest) (tables_from None held)) ≡ available_for held digest
-  items_held digest = ap (λ ts. items_of_all (all_parts (covers digest) (held_in digest) ts)) all_tables ∙ items_all (covers digest) (held_in digest) (entries held.owners) plain_each
+pub items_held : (held : Held) (digest : Digest) → items_of_all (all_parts (covers digest) (number_for digest) (tables_from None held)) ≡ available_for held digest
+items_held held digest = ap (λ ts. items_of_all (all_parts (covers digest) (number_for digest) ts)) (all_tables held) ∙ items_all (covers digest) (number_for digest) (entries held.owners)
 
 -- where nothing is left to go over, all is there
-pub all_made : (reaches : List ℕ → Bool) (known : List ℕ → ℕ) (offered : List Offered) (left all : List (List ℕ × Table)) →
+pub all_made : (reaches : List ℕ → Bool) (known : List ℕ → Table → ℕ) (offered : List Offered) (left all : List (List ℕ × Table)) →
     offered ++ all_parts reaches known left ≡ all_parts reaches known all → left ≡ [] → offered ≡ all_parts reaches known all
 all_made reaches known offered left all made none = sym (append-nil offered) ∙ ap (λ ts. offered ++ all_parts reaches known ts) (sym none) ∙ made

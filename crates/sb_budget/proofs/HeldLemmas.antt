@@ -5,7 +5,7 @@ use Rattle.std.specs.FinMap.Entries.{below_all}
 use Rattle.std.specs.Ordering.{is_lt, eq_by_cmp}
 use Rattle.std.specs.Cmp.Lexicographic.{pointwise, texts_ties}
 use Rattle.std.proofs.lemmas.Bool.{cases_Bool, cond-true, cond-false, false_from_ne_true, or_from, and_from, not_from_false, le-ltb}
-use Rattle.sb_types.specs.Records.{Holder}
+use Rattle.sb_types.specs.Records.{Table, Holder}
 use Rattle.sb_types.specs.Runs.{Stands}
 use Rattle.sb_holdings.specs.Held.{nothing, holder_of}
 use Rattle.sb_types.proofs.Texts.{same_text, text_same}
@@ -50,17 +50,17 @@ looked_up (e ∷ es) owner = go (cases_Bool (eq_by_cmp text_cmp owner e.0)) (loo
 nothing_above : (owner : List ℕ) (n : ℕ) → items_of owner nothing.shown n ≡ []
 nothing_above owner n = cond-false _ _ _ (le-ltb n 0 (omega arith))
 
-pub available_of_owner : (reaches : List ℕ → Bool) (known : List ℕ → ℕ) (owners : FinMap text_cmp Holder) (owner : List ℕ) → reaches owner ≡ true →
-    of_owner owner (available reaches (λ name table. known name) (entries owners)) ≡ items_of owner (holder_of owners owner).shown (known owner)
+pub available_of_owner : (reaches : List ℕ → Bool) (known : List ℕ → Table → ℕ) (owners : FinMap text_cmp Holder) (owner : List ℕ) → reaches owner ≡ true →
+    of_owner owner (available reaches known (entries owners)) ≡ items_of owner (holder_of owners owner).shown (known owner (holder_of owners owner).shown)
 available_of_owner reaches known owners owner reached = go (looked_up (entries owners) owner)
   where
     go : (((h : Holder) × (find text_cmp owner (entries owners) ≡ Some h) × Stands (entries owners) (owner, h)) ⊎ ((find text_cmp owner (entries owners) ≡ None) × (is_named owner (entries owners) ≡ false))) →
-        of_owner owner (available reaches (λ name table. known name) (entries owners)) ≡ items_of owner (holder_of owners owner).shown (known owner)
+        of_owner owner (available reaches known (entries owners)) ≡ items_of owner (holder_of owners owner).shown (known owner (holder_of owners owner).shown)
     go (inl found) =
         let held : holder_of owners owner ≡ found.0 = ap (λ (o : Option Holder). unwrap_or o nothing) (get-entries owners owner ∙ found.1) in
-        available_of reaches (λ name table. known name) (entries owners) (owner, found.0) (named_once (entries owners) (entries_sorted owners)) found.2 reached
-        ∙ ap (λ (h : Holder). items_of owner h.shown (known owner)) (sym held)
+        available_of reaches known (entries owners) (owner, found.0) (named_once (entries owners) (entries_sorted owners)) found.2 reached
+        ∙ ap (λ (h : Holder). items_of owner h.shown (known owner h.shown)) (sym held)
     go (inr missing) =
         let none : holder_of owners owner ≡ nothing = ap (λ (o : Option Holder). unwrap_or o nothing) (get-entries owners owner ∙ missing.0) in
-        unnamed reaches (λ name table. known name) (entries owners) owner missing.1
-        ∙ sym (nothing_above owner (known owner)) ∙ ap (λ (h : Holder). items_of owner h.shown (known owner)) (sym none)
+        unnamed reaches known (entries owners) owner missing.1
+        ∙ sym (nothing_above owner (known owner nothing.shown)) ∙ ap (λ (h : Holder). items_of owner h.shown (known owner h.shown)) (sym none)

@@ -4,15 +4,11 @@ use Rattle.sb_types.specs.declared.entry.Write.{Write}
 use Rattle.sb_types.specs.Records.{Table, Block}
 use Rattle.sb_types.specs.Runs.{Stands, IsTable, IsBlock}
 use Rattle.sb_types.specs.Writes.{Holds, Honest}
-use Rattle.sb_budget.specs.Offers.{Item, of_owner, items_of, block_from, block_of}
+use Rattle.sb_budget.specs.Offers.{Item, of_owner, items_of, block_of}
 use Rattle.sb_budget.specs.Cut.{owners_of, blocks_of, IsCut}
 use Rattle.sb_budget.proofs.OfferLemmas.{offer_is, offer_honest}
 use Rattle.sb_budget.proofs.NameLemmas.{named_some}
-
-owner_is : (owner : List ℕ) (part rest : List Item) → (block_from owner part rest).owner ≡ owner
-owner_is owner [] rest = refl
-owner_is owner (i ∷ is) [] = refl
-owner_is owner (i ∷ is) (j ∷ js) = refl
+use Rattle.sb_budget.proofs.GatherLemmas.{owner_is}
 
 pub mapped_from : {A B : Type 0} (f : A → B) (xs : List A) (b : B) → Stands (map f xs) b → (x : A) × Stands xs x × (f x ≡ b)
 mapped_from f [] b s = absurd s

@@ -20,7 +20,9 @@ use Rattle.sb_budget.proofs.GatherLemmas.{of_owner_items}
 
 module _ {held : Held} {digest : Digest} {parts : List Part} (are : AreParts held digest parts) (listed : List Offered) (moved : IsPermutation (all_of parts) listed) (ascends : AscendsByOwner listed) where
   pub listing_can_cut : CanCut listed
-  listing_can_cut owner = ((are.cut owner).0, (are.cut owner).1, subst (IsPart (are.cut owner).0 (are.cut owner).1) (sym (owner_kept owner (all_of parts) listed are.offer moved ascends)) (are.cut owner).2)
+  listing_can_cut owner =
+      let is = are.cut owner in
+      (is.0, is.1, is.2, subst (IsPart is.0 is.1 is.2) (sym (owner_kept owner (all_of parts) listed are.offer moved ascends)) is.3)
 
   pub listing_delta : (IsListing : List Offered → Type 0) (budget : ℕ) (delta : List Block) → IsListing listed → IsCut budget (items_of_all listed) delta → IsDeltaBy IsListing budget held digest delta
   listing_delta IsListing budget delta order cut = record {

@@ -55,7 +55,7 @@ module _ {X : Type 0} (owner_of : X → List ℕ) where
   all_stay ns [] m s = s
   all_stay ns (x ∷ xs) m s = all_stay (with_name (owner_of x) ns) xs m (names_stay (owner_of x) ns m s)
 
-  each_named : (ns : List (List ℕ)) (xs : List X) (x : X) → Stands xs x → Stands (names_from ns xs) (owner_of x)
+  pub each_named : (ns : List (List ℕ)) (xs : List X) (x : X) → Stands xs x → Stands (names_from ns xs) (owner_of x)
   each_named ns [] y s = absurd s
   each_named ns (x ∷ xs) y (inl p) = all_stay (with_name (owner_of x) ns) xs (owner_of y) (subst (λ (z : X). Stands (with_name (owner_of x) ns) (owner_of z)) p (name_there (owner_of x) ns))
   each_named ns (x ∷ xs) y (inr s) = each_named (with_name (owner_of x) ns) xs y s

@@ -16,12 +16,12 @@ use Rattle.sb_types.proofs.Rising.{all_stand, rises_from_neighbours, same_from_r
 use Rattle.sb_types.proofs.Standing.{kept}
 use Rattle.sb_types.proofs.Texts.{same_text, text_same}
 use Rattle.sb_budget.specs.declared.offered.Offered.{Offered}
-use Rattle.sb_budget.specs.Orders.{offered_by, Precedes, IsOffer, AscendsByOwner}
+use Rattle.sb_budget.specs.Orders.{offered_by, version_of, Precedes, IsOffer, AscendsByOwner}
 
 -- ---- each owner's items ascend in every order by its ranks
 
 precedes : Offered → Offered → Bool
-precedes x y = nat_lt x.entry.version y.entry.version && (nat_lt x.rank y.rank && nat_eq x.count y.count)
+precedes x y = nat_lt (version_of x) (version_of y) && (nat_lt x.rank y.rank && nat_eq x.count y.count)
 
 -- two items of one owner of which neither precedes the other
 clash : Offered → Offered → Bool
@@ -38,7 +38,7 @@ unfolding clash
 clash_flips x y = ap₂ (λ a b. a && not b) ((lists_equiv nat_eq_equiv).symm x.owner y.owner) (or_flips (precedes x y) (precedes y x))
 
 abbrev pub Before : Offered → Offered → Type 0
-Before x y = (x.entry.version < y.entry.version) × (x.rank < y.rank) × (x.count ≡ y.count)
+Before x y = (version_of x < version_of y) × (x.rank < y.rank) × (x.count ≡ y.count)
 
 before_from : (x y : Offered) → precedes x y ≡ true → Before x y
 unfolding precedes
@@ -84,11 +84,11 @@ module _ {R : Offered → Offered → Ordering} (total : IsTotalOrder R) (follow
 -- ---- each owner's items are kept
 
 by_version : Offered → Offered → Ordering
-by_version = on (λ (x : Offered). x.entry.version) nat_cmp
+by_version = on (λ (x : Offered). version_of x) nat_cmp
 
 by_version_total : IsTotalOrder by_version
 unfolding by_version
-by_version_total = on_total (λ (x : Offered). x.entry.version) nat_cmp_total
+by_version_total = on_total (λ (x : Offered). version_of x) nat_cmp_total
 
 abbrev is_of : List ℕ → Offered → Bool
 is_of owner x = pointwise nat_eq x.owner owner
@@ -101,8 +101,8 @@ module _ (owner : List ℕ) where
       let y = get_or (offered_by owner xs) (k + 1) d in
       let passes = filter_passes (is_of owner) xs in
       let same : x.owner ≡ y.owner = same_text x.owner owner (passes k d (omega arith)) ∙ sym (same_text y.owner owner (passes (k + 1) d l)) in
-      let less = AllPairs-filter (λ (x y : Offered). x.owner ≡ y.owner → x.entry.version < y.entry.version) (is_of owner) xs ascends k (k + 1) d (omega arith) l same in
-      cond-true _ _ _ (lt-ltb x.entry.version y.entry.version less))
+      let less = AllPairs-filter (λ (x y : Offered). x.owner ≡ y.owner → version_of x < version_of y) (is_of owner) xs ascends k (k + 1) d (omega arith) l same in
+      cond-true _ _ _ (lt-ltb (version_of x) (version_of y) less))
 
   stand_kept : (xs ys : List Offered) → AllByRecursion (Stands xs) ys → AllByRecursion (Stands (offered_by owner xs)) (offered_by owner ys)
   stand_kept xs [] h = tt

@@ -8,13 +8,13 @@ use Rattle.std.proofs.lemmas.Bool.{and_parts, ltb-true, lt-ltb, cond-true}
 use Rattle.std.proofs.lemmas.List.Elements.{All-nil, All-cons}
 use Rattle.std.proofs.lemmas.List.Kept.{AllPairs-cons}
 use Rattle.sb_types.specs.Records.{Entry, Table}
-use Rattle.sb_types.specs.Runs.{Stands, above, are_ascending}
-use Rattle.sb_table.specs.Plain.{IsPlainTable}
+use Rattle.sb_types.specs.Runs.{Stands, above, are_ascending, IsRun}
+use Rattle.sb_holdings.proofs.Order.{ascending_kept}
 use Rattle.sb_budget.specs.declared.offered.Offered.{Offered}
-use Rattle.sb_budget.specs.Available.{ranked_from, ranked_of}
+use Rattle.sb_budget.specs.Available.{ranked_item, ranked_from, ranked_of}
 use Rattle.sb_budget.specs.Parts.{Part, part_of, all_of, IsChain}
 use Rattle.sb_budget.proofs.PlaceLemmas.{text_cmp}
-use Rattle.sb_budget.proofs.RankLemmas.{part_ascending}
+use Rattle.sb_budget.proofs.RankLemmas.{of_three}
 use Rattle.sb_budget.proofs.AvailableLemmas.{all_parts}
 
 -- a version is above 0
@@ -36,22 +36,25 @@ pub record IsPartOf (name : List ℕ) (part : Part) : Type 0 where
   pub rank : part.next.rank ≡ 0
   pub chain : IsChain part.next part.later
 
-chained : (owner : List ℕ) (after upto count rank : ℕ) (e : Entry) (es : List Entry) → are_ascending e.version es ≡ true →
-    IsChain (record { owner = owner; after = after; upto = upto; rank = rank; count = count; entry = e }) (ranked_from (rank + 1) owner after upto count es)
-chained owner after upto count rank e [] up = tt
-chained owner after upto count rank e (x ∷ xs) up =
-    let p = and_parts (nat_lt e.version x.version) (are_ascending x.version xs) up in
-    ((refl, refl, refl, ltb-true e.version x.version p.0), chained owner after upto count (rank + 1) x xs p.1)
+module _ (owner : List ℕ) (t : Table) (n : ℕ) where
+  chained : (count rank : ℕ) (e : Entry) (es : List Entry) → are_ascending e.version es ≡ true → IsChain (ranked_item rank owner t n count (Some e)) (ranked_from (rank + 1) owner t n count es)
+  chained count rank e [] up = tt
+  chained count rank e (x ∷ xs) up =
+      let p = and_parts (nat_lt e.version x.version) (are_ascending x.version xs) up in
+      ((refl, refl, refl, ltb-true e.version x.version p.0), chained count (rank + 1) x xs p.1)
 
-ranked_part : (owner : List ℕ) (after upto count before : ℕ) (es : List Entry) → are_ascending before es ≡ true → IfSome (part_of (ranked_from 0 owner after upto count es)) (IsPartOf owner)
-ranked_part owner after upto count before [] up = tt
-ranked_part owner after upto count before (e ∷ es) up =
-    let p = and_parts (nat_lt before e.version) (are_ascending e.version es) up in
-    record { owner = refl; rank = refl; chain = chained owner after upto count 0 e es p.1 }
+  ranked_part : IsRun 0 t.held t.entries → IfSome (part_of (ranked_of owner t n)) (IsPartOf owner)
+  ranked_part run = of_three owner t n (λ os. IfSome (part_of os) (IsPartOf owner))
+      (λ e es h. record { owner = refl; rank = refl; chain = chained (length (e ∷ es)) 0 e es (and_parts (nat_lt 0 e.version) (are_ascending e.version es) (ap (are_ascending 0) (sym h) ∙ ascending_kept (λ x. nat_lt n x.version) 0 t.entries run.ascending)).1 })
+      (λ h l. record { owner = refl; rank = refl; chain = tt })
+      (λ h l. tt)
 
-module _ (reaches : List ℕ → Bool) (known : List ℕ → ℕ) where
+  owner_of_ranked : IfSome (part_of (ranked_of owner t n)) (λ q. q.next.owner ≡ owner)
+  owner_of_ranked = of_three owner t n (λ os. IfSome (part_of os) (λ q. q.next.owner ≡ owner)) (λ e es h. refl) (λ h l. refl) (λ h l. tt)
+
+module _ (reaches : List ℕ → Bool) (known : List ℕ → Table → ℕ) where
   abbrev pub piece_at : List ℕ × Table → Option Part
-  piece_at p = if reaches p.0 then part_of (ranked_of p.0 p.1 (known p.0)) else None
+  piece_at p = if reaches p.0 then part_of (ranked_of p.0 p.1 (known p.0 p.1)) else None
 
   abbrev pub all_pieces : List (List ℕ × Table) → List Part
   all_pieces ps = filter_map piece_at ps
@@ -61,40 +64,30 @@ module _ (reaches : List ℕ → Bool) (known : List ℕ → ℕ) where
   items_of_pieces [] = refl
   items_of_pieces (p ∷ ps) = go (reaches p.0) (items_of_pieces ps)
     where
-      go : (b : Bool) → all_of (all_pieces ps) ≡ all_parts reaches known ps → all_of (cons_option (if b then part_of (ranked_of p.0 p.1 (known p.0)) else None) (all_pieces ps)) ≡ (if b then ranked_of p.0 p.1 (known p.0) else []) ++ all_parts reaches known ps
-      go true rest = parts_of_items (ranked_of p.0 p.1 (known p.0)) (all_pieces ps) ∙ ap (λ r. ranked_of p.0 p.1 (known p.0) ++ r) rest
+      go : (b : Bool) → all_of (all_pieces ps) ≡ all_parts reaches known ps → all_of (cons_option (if b then part_of (ranked_of p.0 p.1 (known p.0 p.1)) else None) (all_pieces ps)) ≡ (if b then ranked_of p.0 p.1 (known p.0 p.1) else []) ++ all_parts reaches known ps
+      go true rest = parts_of_items (ranked_of p.0 p.1 (known p.0 p.1)) (all_pieces ps) ∙ ap (λ r. ranked_of p.0 p.1 (known p.0 p.1) ++ r) rest
       go false rest = rest
 
   -- what holds of each owner's part holds of each
-  each_piece : (P : Part → Type 0) (ps : List (List ℕ × Table)) → ((p : List ℕ × Table) → Stands ps p → IfSome (part_of (ranked_of p.0 p.1 (known p.0))) P) → All P (all_pieces ps)
+  each_piece : (P : Part → Type 0) (ps : List (List ℕ × Table)) → ((p : List ℕ × Table) → Stands ps p → IfSome (part_of (ranked_of p.0 p.1 (known p.0 p.1))) P) → All P (all_pieces ps)
   each_piece P [] each = All-nil P
-  each_piece P (p ∷ ps) each = go (reaches p.0) (part_of (ranked_of p.0 p.1 (known p.0))) (each p (inl refl)) (each_piece P ps (λ q s. each q (inr s)))
+  each_piece P (p ∷ ps) each = go (reaches p.0) (part_of (ranked_of p.0 p.1 (known p.0 p.1))) (each p (inl refl)) (each_piece P ps (λ q s. each q (inr s)))
     where
       go : (b : Bool) (r : Option Part) → IfSome r P → All P (all_pieces ps) → All P (cons_option (if b then r else None) (all_pieces ps))
       go false r this rest = rest
       go true None this rest = rest
       go true (Some q) this rest = All-cons P q (all_pieces ps) this rest
 
-  pub chains_of_pieces : (ps : List (List ℕ × Table)) → ((p : List ℕ × Table) → Stands ps p → IsPlainTable p.1) → All (λ (p : Part). (p.next.rank ≡ 0) × IsChain p.next p.later) (all_pieces ps)
-  chains_of_pieces ps plain = each_piece (λ q. (q.next.rank ≡ 0) × IsChain q.next q.later) ps (λ p s. go (part_of (ranked_of p.0 p.1 (known p.0))) p.0 (this p s))
+  pub chains_of_pieces : (ps : List (List ℕ × Table)) → ((p : List ℕ × Table) → Stands ps p → IsRun 0 p.1.held p.1.entries) → All (λ (p : Part). (p.next.rank ≡ 0) × IsChain p.next p.later) (all_pieces ps)
+  chains_of_pieces ps each = each_piece (λ q. (q.next.rank ≡ 0) × IsChain q.next q.later) ps (λ p s. go (part_of (ranked_of p.0 p.1 (known p.0 p.1))) p.0 (ranked_part p.0 p.1 (known p.0 p.1) (each p s)))
     where
-      this : (p : List ℕ × Table) → Stands ps p → IfSome (part_of (ranked_of p.0 p.1 (known p.0))) (IsPartOf p.0)
-      this p s = ranked_part p.0 (known p.0) p.1.held (length (above (known p.0) p.1.entries)) 0 (above (known p.0) p.1.entries) (part_ascending p.0 p.1 (plain p s) (known p.0))
-
       go : (r : Option Part) (owner : List ℕ) → IfSome r (IsPartOf owner) → IfSome r (λ q. (q.next.rank ≡ 0) × IsChain q.next q.later)
       go None owner is = tt
       go (Some q) owner is = (is.rank, is.chain)
 
-  owner_of_piece : (p : List ℕ × Table) → IfSome (part_of (ranked_of p.0 p.1 (known p.0))) (λ q. q.next.owner ≡ p.0)
-  owner_of_piece p = go (above (known p.0) p.1.entries)
-    where
-      go : (es : List Entry) → IfSome (part_of (ranked_from 0 p.0 (known p.0) p.1.held (length (above (known p.0) p.1.entries)) es)) (λ q. q.next.owner ≡ p.0)
-      go [] = tt
-      go (e ∷ es) = refl
-
   all_behind : (name : List ℕ) (ps : List (List ℕ × Table)) → AllByRecursion (λ k. text_cmp name k ≡ Less) (keys_of ps) → All (λ (q : Part). text_cmp name q.next.owner ≡ Less) (all_pieces ps)
   all_behind name [] behind = All-nil (λ (q : Part). text_cmp name q.next.owner ≡ Less)
-  all_behind name (p ∷ ps) behind = go (reaches p.0) (part_of (ranked_of p.0 p.1 (known p.0))) (owner_of_piece p) (all_behind name ps behind.1)
+  all_behind name (p ∷ ps) behind = go (reaches p.0) (part_of (ranked_of p.0 p.1 (known p.0 p.1))) (owner_of_ranked p.0 p.1 (known p.0 p.1)) (all_behind name ps behind.1)
     where
       go : (b : Bool) (r : Option Part) → IfSome r (λ q. q.next.owner ≡ p.0) → All (λ (q : Part). text_cmp name q.next.owner ≡ Less) (all_pieces ps) → All (λ (q : Part). text_cmp name q.next.owner ≡ Less) (cons_option (if b then r else None) (all_pieces ps))
       go false r this rest = rest
@@ -104,7 +97,7 @@ module _ (reaches : List ℕ → Bool) (known : List ℕ → ℕ) where
   pub names_of_pieces : (ps : List (List ℕ × Table)) → IsStrictlySortedBy text_cmp (keys_of ps) → AllPairs (λ (p q : Part). text_cmp p.next.owner q.next.owner ≡ Less) (all_pieces ps)
   unfolding IsStrictlySortedBy
   names_of_pieces [] up = λ i j d l k. absurd (omega arith)
-  names_of_pieces (p ∷ ps) up = go (reaches p.0) (part_of (ranked_of p.0 p.1 (known p.0))) (owner_of_piece p) (all_behind p.0 ps up.0) (names_of_pieces ps up.1)
+  names_of_pieces (p ∷ ps) up = go (reaches p.0) (part_of (ranked_of p.0 p.1 (known p.0 p.1))) (owner_of_ranked p.0 p.1 (known p.0 p.1)) (all_behind p.0 ps up.0) (names_of_pieces ps up.1)
     where
       go : (b : Bool) (r : Option Part) → IfSome r (λ q. q.next.owner ≡ p.0) → All (λ (q : Part). text_cmp p.0 q.next.owner ≡ Less) (all_pieces ps) →
           AllPairs (λ (p q : Part). text_cmp p.next.owner q.next.owner ≡ Less) (all_pieces ps) → AllPairs (λ (p q : Part). text_cmp p.next.owner q.next.owner ≡ Less) (cons_option (if b then r else None) (all_pieces ps))
@@ -115,6 +108,6 @@ module _ (reaches : List ℕ → Bool) (known : List ℕ → ℕ) where
           (subst (λ (name : List ℕ). All (λ (x : Part). text_cmp name x.next.owner ≡ Less) (all_pieces ps)) (sym this) behind) rest
 
 -- where nothing is left to go over, all is there
-pub all_pieced : (reaches : List ℕ → Bool) (known : List ℕ → ℕ) (parts : List Part) (left all : List (List ℕ × Table)) →
+pub all_pieced : (reaches : List ℕ → Bool) (known : List ℕ → Table → ℕ) (parts : List Part) (left all : List (List ℕ × Table)) →
     parts ++ all_pieces reaches known left ≡ all_pieces reaches known all → left ≡ [] → parts ≡ all_pieces reaches known all
 all_pieced reaches known parts left all made none = sym (append-nil parts) ∙ ap (λ ts. parts ++ all_pieces reaches known ts) (sym none) ∙ made

@@ -1,14 +1,24 @@
 -- What owners offer in turns.
-use Rattle.std.proofs.Common.{◌≡◌, ℕ, zero, suc, ◌<◌, Bool, true, false, Option, Some, None, IfSome, List, [], ◌∷◌, ◌++◌, length, get_or, set, refl, sym, ap, subst, ◌∙◌, arith, append-nil, append_assoc, length-append}
-use Rattle.std.specs.Prelude.{IsPermutation, swap}
-use Rattle.std.proofs.lemmas.List.Sorted.{IsPermutation-refl, IsPermutation-cons, IsPermutation-trans, IsPermutation-append_comm, IsPermutation-append_left, IsPermutation-append_right, IsPermutation-keeps}
+use Rattle.std.proofs.Common.{◌≡◌, ℕ, zero, suc, ◌<◌, true, false, Option, Some, None, IfSome, List, [], ◌∷◌, ◌++◌, length, get_or, set, map, nat_eq, ◌⊎◌, inl, inr, refl, sym, ap, subst, ◌∙◌, arith, append-nil, append_assoc, length-append}
+use Rattle.std.specs.Prelude.{IsPermutation, swap, All}
+use Rattle.std.specs.Cmp.Lexicographic.{pointwise}
+use Rattle.std.proofs.lemmas.Bool.{cases_Bool, cond-true, cond-false}
+use Rattle.std.proofs.lemmas.List.{map-append}
+use Rattle.std.proofs.lemmas.List.Elements.{All-cons, recursion_from_All}
+use Rattle.sb_types.specs.Runs.{Stands}
+use Rattle.std.proofs.lemmas.List.Sorted.{IsPermutation-refl, IsPermutation-cons, IsPermutation-trans, IsPermutation-append_comm, IsPermutation-append_left, IsPermutation-append_right, IsPermutation-keeps, IsPermutation-sym, All-permutation}
 use Rattle.sb_budget.specs.declared.offered.Offered.{Offered}
 use Rattle.sb_budget.specs.declared.turns.Turns.{Turns}
 use Rattle.sb_budget.specs.declared.turns.Turns.TheVariants as turns
-use Rattle.sb_budget.specs.Cut.{items_of_all, IsCut, CanCut}
-use Rattle.sb_budget.specs.Making.{Making, IsFrontOf, AfterNext}
+use Rattle.sb_budget.specs.Offers.{Item, of_owner, block_from, block_of}
+use Rattle.sb_budget.specs.Orders.{offered_by}
+use Rattle.sb_budget.specs.Cut.{item_of, items_of_all, owners_of, blocks_of, delta_frame_length}
+use Rattle.sb_budget.specs.BlocksByOwner.{lowered_of}
+use Rattle.sb_budget.specs.Making.{Making, IsFrontOf, AfterNext, IsTaking}
 use Rattle.sb_budget.specs.Parts.{Part, part_of, all_of}
 use Rattle.sb_budget.specs.Turns.{rejoined, first_turns, in_turns}
+use Rattle.sb_budget.proofs.GatherLemmas.{map_same, left_more, of_owner_items, all_at}
+use Rattle.sb_budget.proofs.HonestLemmas.{mapped_from}
 
 all_append : (ps qs : List Part) → all_of (ps ++ qs) ≡ all_of ps ++ all_of qs
 all_append [] qs = refl
@@ -102,10 +112,64 @@ parts_moved ps qs moved =
 
 -- what was taken, and what is still to come in turns, are all
 abbrev pub IsTurn : ℕ → Turns → List Offered → List Part → Making → Type 0
-IsTurn budget turn all owners making = (front : List Offered) × (front ++ in_turns turn owners ≡ all) × IsFrontOf budget front (in_turns turn owners) making
+IsTurn budget turn all owners making = (front : List Offered) × (front ++ in_turns turn owners ≡ all) × IsFrontOf budget (items_of_all front) making
 
-module _ (budget : ℕ) (turn : Turns) (all : List Offered) (p : Part) (others : List Part) (making new : Making) (can : CanCut all) (is : IsTurn budget turn all (p ∷ others) making)
-    (took : Bool) (next : (front rest : List Offered) → CanCut (front ++ p.next ∷ rest) → IsFrontOf budget front (p.next ∷ rest) making → AfterNext budget front p.next rest took new) where
+-- what is left behind in another order is the same
+all_apart : (owner : List ℕ) (xs : List Offered) → offered_by owner xs ≡ [] → All (λ (x : Offered). pointwise nat_eq x.owner owner ≡ false) xs
+all_apart owner [] none = λ k d l. absurd (omega (arith, l))
+all_apart owner (x ∷ xs) none = go (cases_Bool (pointwise nat_eq x.owner owner)) (λ rest. all_apart owner xs rest)
+  where
+    no_item : (y : Offered) (ys : List Offered) → y ∷ ys ≡ [] → ⊥
+    no_item y ys e = cc
+
+    go : ((pointwise nat_eq x.owner owner ≡ true) ⊎ (pointwise nat_eq x.owner owner ≡ false)) → (offered_by owner xs ≡ [] → All (λ (y : Offered). pointwise nat_eq y.owner owner ≡ false) xs) → All (λ (y : Offered). pointwise nat_eq y.owner owner ≡ false) (x ∷ xs)
+    go (inl t) later = absurd (no_item x (offered_by owner xs) (sym (cond-true _ _ _ t) ∙ none))
+    go (inr f) later = All-cons (λ (y : Offered). pointwise nat_eq y.owner owner ≡ false) x xs f (later (sym (cond-false _ _ _ f) ∙ none))
+
+none_apart : (owner : List ℕ) (xs : List Offered) → All (λ (x : Offered). pointwise nat_eq x.owner owner ≡ false) xs → offered_by owner xs ≡ []
+none_apart owner [] apart = refl
+none_apart owner (x ∷ xs) apart = cond-false _ _ _ (apart 0 x (omega arith)) ∙ none_apart owner xs (λ k d l. apart (suc k) d (omega (arith, l)))
+
+none_moved : (owner : List ℕ) (xs ys : List Offered) → IsPermutation xs ys → offered_by owner xs ≡ [] → offered_by owner ys ≡ []
+none_moved owner xs ys moved none = none_apart owner ys (All-permutation (λ (x : Offered). pointwise nat_eq x.owner owner ≡ false) xs ys moved (all_apart owner xs none))
+
+same_left : (owner : List ℕ) (part : List Item) (xs ys : List Offered) → IsPermutation xs ys → block_from owner part (of_owner owner (items_of_all xs)) ≡ block_from owner part (of_owner owner (items_of_all ys))
+same_left owner part xs ys moved =
+    ap (block_from owner part) (of_owner_items owner xs) ∙ go (offered_by owner xs) (offered_by owner ys) refl refl ∙ sym (ap (block_from owner part) (of_owner_items owner ys))
+  where
+    no_item : (y : Offered) (zs : List Offered) → [] ≡ y ∷ zs → ⊥
+    no_item y zs e = cc
+
+    some : (part : List Item) (a b : Offered) (os qs : List Offered) → block_from owner part (items_of_all (a ∷ os)) ≡ block_from owner part (items_of_all (b ∷ qs))
+    some [] a b os qs = refl
+    some (i ∷ is) a b os qs = refl
+
+    go : (os qs : List Offered) → offered_by owner xs ≡ os → offered_by owner ys ≡ qs → block_from owner part (items_of_all os) ≡ block_from owner part (items_of_all qs)
+    go [] [] p q = refl
+    go [] (b ∷ qs) p q = absurd (no_item b qs (sym (none_moved owner xs ys moved p) ∙ q))
+    go (a ∷ os) [] p q = absurd (no_item a os (sym (none_moved owner ys xs (IsPermutation-sym xs ys moved) q) ∙ p))
+    go (a ∷ os) (b ∷ qs) p q = some part a b os qs
+
+pub left_moved : (front : List Item) (xs ys : List Offered) → IsPermutation xs ys → blocks_of front (items_of_all xs) ≡ blocks_of front (items_of_all ys)
+left_moved front xs ys moved =
+    map_same (λ owner. block_of owner front (items_of_all xs)) (λ owner. block_of owner front (items_of_all ys)) (owners_of front) (λ owner s. same_left owner (of_owner owner front) xs ys moved)
+
+-- an owner's items are left behind
+items_stand : (owner : List ℕ) (os : List Offered) → ((o : Offered) → Stands os o → o.owner ≡ owner) → (i : Item) → Stands (items_of_all os) i → i.owner ≡ owner
+items_stand owner os same i s =
+    let from = mapped_from item_of os i s in
+    sym (ap (λ (x : Item). x.owner) from.2) ∙ same from.0 from.1
+
+pub left_part : (p : Part) (front left : List Item) → All (λ item. item.owner ≡ p.next.owner) p.later →
+    map (λ b. lowered_of p.next.owner b) (blocks_of front left) ≡ blocks_of front (left ++ items_of_all (p.next ∷ p.later))
+left_part p front left same =
+    left_more p.next.owner front left (items_of_all (p.next ∷ p.later)) (item_of p.next) (inl refl) (items_stand p.next.owner (p.next ∷ p.later) each)
+  where
+    each : (o : Offered) → Stands (p.next ∷ p.later) o → o.owner ≡ p.next.owner
+    each o (inl e) = ap (λ (x : Offered). x.owner) (sym e)
+    each o (inr s) = all_at (λ (item : Offered). item.owner ≡ p.next.owner) p.later o (recursion_from_All (λ (item : Offered). item.owner ≡ p.next.owner) p.later same) s
+
+module _ (budget : ℕ) (turn : Turns) (all : List Offered) (p : Part) (others : List Part) (making : Making) (is : IsTurn budget turn all (p ∷ others) making) where
   rest : List Offered
   rest = in_turns turn (rejoined turn others p.later)
 
@@ -113,18 +177,36 @@ module _ (budget : ℕ) (turn : Turns) (all : List Offered) (p : Part) (others :
   unfolding rest
   all_again = ap (λ r. is.0 ++ r) (sym (in_turns_step turn p others)) ∙ is.1
 
-  after : AfterNext budget is.0 p.next rest took new
+  pub turn_taken : (new : Making) → AfterNext budget (items_of_all is.0) (item_of p.next) true new → IsTurn budget turn all (rejoined turn others p.later) new
   unfolding rest
-  after = next is.0 rest (subst CanCut (sym all_again) can) (subst (λ (r : List Offered). IsFrontOf budget is.0 r making) (in_turns_step turn p others) is.2)
+  turn_taken new after = (
+    is.0 ++ p.next ∷ [],
+    append_assoc is.0 (p.next ∷ []) rest ∙ all_again,
+    subst (λ (l : List Item). IsFrontOf budget l new) (sym (map-append item_of is.0 (p.next ∷ []))) after,
+  )
 
-  pub turn_taken : took ≡ true → IsTurn budget turn all (rejoined turn others p.later) new
+  -- where the next item does not fit, and all are left
+  pub turn_left : (same new : Making) → AfterNext budget (items_of_all is.0) (item_of p.next) false same → new.blocks ≡ blocks_of (items_of_all is.0) (items_of_all (all_of (p ∷ others))) → IsTaking budget (items_of_all all) true new
   unfolding rest
-  turn_taken e = (is.0 ++ p.next ∷ [], append_assoc is.0 (p.next ∷ []) rest ∙ all_again, subst (λ (b : Bool). AfterNext budget is.0 p.next rest b new) e after)
+  turn_left same new after left = record {
+    most = after.0.most;
+    front = items_of_all is.0;
+    next = item_of p.next;
+    rest = items_of_all rest;
+    whole = sym (map-append item_of is.0 (p.next ∷ rest)) ∙ ap items_of_all all_again;
+    some = after.1;
+    blocks =
+        left ∙ left_moved (items_of_all is.0) (all_of (p ∷ others)) (in_turns turn (p ∷ others)) (in_turns_all turn (p ∷ others))
+        ∙ ap (λ (l : List Offered). blocks_of (items_of_all is.0) (items_of_all l)) (in_turns_step turn p others);
+    fits = omega (arith, after.0.room, ap delta_frame_length after.0.blocks);
+    full = after.2;
+  }
 
-  pub turn_left : took ≡ false → IsCut budget (items_of_all all) new.blocks × (0 < length new.blocks)
-  turn_left e =
-      let made : IsCut budget (items_of_all (is.0 ++ p.next ∷ rest)) new.blocks × (0 < length new.blocks) = subst (λ (b : Bool). AfterNext budget is.0 p.next rest b new) e after in
-      (subst (λ (l : List Offered). IsCut budget (items_of_all l) new.blocks) all_again made.0, made.1)
+-- where no owner is left
+pub turn_ends : (budget : ℕ) (turn : Turns) (all : List Offered) (owners : List Part) (making : Making) → IsTurn budget turn all owners making → owners ≡ [] → IsTaking budget (items_of_all all) false making
+turn_ends budget turn all owners making is none =
+    let whole : is.0 ≡ all = sym (append-nil is.0) ∙ ap (λ (ps : List Part). is.0 ++ in_turns turn ps) (sym none) ∙ is.1 in
+    subst (λ (l : List Offered). IsFrontOf budget (items_of_all l) making) whole is.2
 
 -- who stands where after a turn
 none_some : (q : Part) → None ≡ Some q → ⊥

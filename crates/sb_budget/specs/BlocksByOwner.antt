@@ -1,23 +1,49 @@
--- Entries gathered by owner, each owner's as the block that they would make.
-use Rattle.std.specs.Prelude.{ℕ, ◌+◌, List, [], ◌∷◌, ◌++◌, length, slice_index_or, slice_set, insert, Result, Ok, Err}
+-- Items gathered by owner, each owner's as the block that they would make.
+use Rattle.std.specs.Prelude.{◌≡◌, ℕ, ◌+◌, true, nat_eq, if◌then◌else◌, List, [], ◌++◌, length, slice_index_or, slice_set, insert, Option, Result, Ok, Err}
+use Rattle.std.specs.List.{cons_option}
+use Rattle.std.specs.Option.{option_map_or}
+use Rattle.std.specs.Cmp.Lexicographic.{pointwise}
 use Rattle.sb_types.specs.Records.{Entry, Block}
+use Rattle.sb_types.specs.Runs.{last_version}
 use Rattle.sb_types.specs.Lengths.{entry_length}
-use Rattle.sb_types.specs.Limits.{block_of_entries}
+use Rattle.sb_types.specs.Limits.{are_block_parts}
+use Rattle.sb_budget.specs.declared.head.Head.{Head}
+use Rattle.sb_budget.specs.Offers.{Item}
 
--- the block with one more entry
-abbrev pub grown : Block → Entry → Block
-grown b e = block_of_entries b.owner b.after (b.entries ++ e ∷ [])
+-- the item under a head
+abbrev pub item_at : Head → Option Entry → Item
+item_at h entry = record { owner = h.owner; floor = h.floor; after = h.after; upto = h.upto; entry = entry }
 
--- the block of the owner's first entry
-abbrev pub begun : List ℕ → ℕ → Entry → Block
-begun owner after e = block_of_entries owner after (e ∷ [])
+-- the block under a head
+abbrev pub block_at : Head → List Entry → Block
+block_at h entries = record { owner = h.owner; floor = h.floor; after = h.after; upto = h.upto; entries = entries }
 
--- the entry put to its owner's block where that stands, or into a new one where it would come
-abbrev pub placed : Result ℕ ℕ → List ℕ → ℕ → Entry → List Block → List Block
-placed (Ok i) owner after e blocks = slice_set blocks i (grown (slice_index_or blocks i (begun owner after e)) e)
-placed (Err i) owner after e blocks = insert blocks i (begun owner after e)
+-- the block with an item's entry, where that has one
+abbrev pub grown : Block → Option Entry → Block
+grown b entry = record { owner = b.owner; floor = b.floor; after = b.after; upto = b.upto; entries = b.entries ++ cons_option entry [] }
 
--- how many bytes the entry takes, by whether its owner's block is there
-abbrev pub cost_of : List ℕ → Entry → Result ℕ ℕ → ℕ
-cost_of owner e (Ok i) = entry_length e
-cost_of owner e (Err i) = 11 + length owner + entry_length e
+-- the block of the owner's first item
+abbrev pub begun : Item → Block
+begun item = record { owner = item.owner; floor = item.floor; after = item.after; upto = item.upto; entries = cons_option item.entry [] }
+
+-- the item put to its owner's block where that stands, or into a new one where it would come
+abbrev pub placed : Result ℕ ℕ → Item → List Block → List Block
+placed (Ok i) item blocks = slice_set blocks i (grown (slice_index_or blocks i (begun item)) item.entry)
+placed (Err i) item blocks = insert blocks i (begun item)
+
+-- how many bytes the item takes, by whether its owner's block is there
+abbrev pub cost_of : Item → Result ℕ ℕ → ℕ
+cost_of item (Ok i) = option_map_or (λ e. entry_length e) item.entry 0
+cost_of item (Err i) = 27 + length item.owner + option_map_or (λ e. entry_length e) item.entry 0
+
+-- the block up to its last entry, as it is where items of its owner are left behind
+abbrev pub lowered : Block → Block
+lowered b = record { owner = b.owner; floor = b.floor; after = b.after; upto = last_version b.after b.entries; entries = b.entries }
+
+-- so where it is this owner's
+abbrev pub lowered_of : List ℕ → Block → Block
+lowered_of owner b = if pointwise nat_eq b.owner owner then lowered b else b
+
+-- its entries are those that a block of its bounds can have
+abbrev pub HasParts : Block → Type 0
+HasParts b = are_block_parts b.after b.upto b.entries ≡ true

@@ -1,18 +1,19 @@
 -- The longest front of what is offered that fits a budget, as a delta.
-use Rattle.std.specs.Prelude.{◌≡◌, ℕ, ◌+◌, ◌≤◌, ◌<◌, List, [], ◌∷◌, length, take, drop, map, fold, All, Some}
+use Rattle.std.specs.Prelude.{◌≡◌, ◌≢◌, ℕ, ◌+◌, ◌≤◌, ◌<◌, List, [], ◌∷◌, length, take, drop, map, fold, All, None}
+use Rattle.std.specs.List.{filter_map}
 use Rattle.std.specs.Ordering.{nat_cmp, match_ordering}
 use Rattle.std.specs.Cmp.Lexicographic.{slice_cmp}
 use Rattle.sb_types.specs.declared.format.TheConstants.{HEADER_LENGTH}
-use Rattle.sb_types.specs.Records.{Block}
-use Rattle.sb_types.specs.Runs.{IsRun, last_version}
+use Rattle.sb_types.specs.Records.{Entry, Block}
+use Rattle.sb_types.specs.Runs.{Stands, IsRun}
 use Rattle.sb_types.specs.Lengths.{delta_length}
 use Rattle.sb_budget.specs.declared.offered.Offered.{Offered}
 use Rattle.sb_budget.specs.Offers.{Item, block_of}
 use Rattle.sb_budget.specs.Orders.{offered_by}
 
--- an offered entry as an item: where nothing is purged every floor is 0
+-- what is offered as an item
 abbrev pub item_of : Offered → Item
-item_of o = record { owner = o.owner; floor = 0; after = o.after; upto = o.upto; entry = Some o.entry }
+item_of o = record { owner = o.owner; floor = o.floor; after = o.after; upto = o.upto; entry = o.entry }
 
 abbrev pub items_of_all : List Offered → List Item
 items_of_all offered = map item_of offered
@@ -45,12 +46,17 @@ pub record IsCut (budget : ℕ) (items : List Item) (delta : List Block) : Type 
   pub fits : delta_frame_length delta ≤ budget
   pub longest : (n : ℕ) → count < n → n ≤ length items → budget < delta_frame_length (delta_at n items)
 
--- one owner's items: all above the same version, ascending, each key once, the last at the version that all reach up to
-pub record IsPart (after upto : ℕ) (part : List Offered) : Type 0 where
-  pub each : All (λ o. (o.after ≡ after) × (o.upto ≡ upto)) part
-  pub run : IsRun after upto (map (λ o. o.entry) part)
-  pub last : last_version after (map (λ o. o.entry) part) ≡ upto
+-- the entries of these
+abbrev pub entries_in : List Offered → List Entry
+entries_in offered = filter_map (λ o. o.entry) offered
+
+-- one owner's items: of one floor, above one version, up to one, ascending, each key once; one without an entry stands alone
+pub record IsPart (floor after upto : ℕ) (part : List Offered) : Type 0 where
+  pub each : All (λ o. (o.floor ≡ floor) × (o.after ≡ after) × (o.upto ≡ upto)) part
+  pub run : IsRun after upto (entries_in part)
+  pub order : part ≢ [] → after < upto
+  pub alone : (o : Offered) → Stands part o → o.entry ≡ None → part ≡ o ∷ []
 
 -- of each owner the items are such a part, in their order
 abbrev pub CanCut : List Offered → Type 0
-CanCut offered = (owner : List ℕ) → (after : ℕ) × (upto : ℕ) × IsPart after upto (offered_by owner offered)
+CanCut offered = (owner : List ℕ) → (floor : ℕ) × (after : ℕ) × (upto : ℕ) × IsPart floor after upto (offered_by owner offered)

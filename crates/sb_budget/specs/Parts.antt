@@ -8,7 +8,7 @@ use Rattle.sb_types.specs.Records.{Block}
 use Rattle.sb_holdings.specs.Held.{Held}
 use Rattle.sb_digest.specs.Digests.{Digest}
 use Rattle.sb_budget.specs.declared.offered.Offered.{Offered}
-use Rattle.sb_budget.specs.Orders.{IsOffer}
+use Rattle.sb_budget.specs.Orders.{version_of, IsOffer}
 use Rattle.sb_budget.specs.Offers.{of_owner}
 use Rattle.sb_budget.specs.Cut.{items_of_all, IsCut, CanCut}
 use Rattle.sb_budget.specs.Available.{available_for, AreRanked}
@@ -27,7 +27,7 @@ all_of parts = flat_map (λ p. p.next ∷ p.later) parts
 
 -- the later item is the owner's next
 abbrev pub IsNextAfter : Offered → Offered → Type 0
-IsNextAfter x y = (y.owner ≡ x.owner) × (y.rank ≡ x.rank + 1) × (y.count ≡ x.count) × (x.entry.version < y.entry.version)
+IsNextAfter x y = (y.owner ≡ x.owner) × (y.rank ≡ x.rank + 1) × (y.count ≡ x.count) × (version_of x < version_of y)
 
 abbrev pub IsChain : Offered → List Offered → Type 0
 IsChain x [] = ⊤

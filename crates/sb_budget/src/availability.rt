@@ -1,6 +1,7 @@
 //! What a node has to offer in answer to a digest.
-ghost use Rattle.std.specs.Prelude.{◌≡◌, ◌++◌, OnOk, IfOk, IfErr};
-ghost use Rattle.sb_budget.specs.Available.{available_for, ranked_of, AreRanked};
+ghost use Rattle.std.specs.Prelude.{◌≡◌, ◌++◌, [], length, OnOk, IfOk, IfErr};
+ghost use Rattle.sb_types.specs.Runs.{above};
+ghost use Rattle.sb_budget.specs.Available.{available_for, ranked_from, ranked_these, ranked_of, AreRanked};
 ghost use Rattle.sb_budget.specs.Cut.{items_of_all, CanCut};
 ghost use Rattle.sb_budget.specs.Orders.{IsOffer};
 
@@ -22,26 +23,71 @@ fn offer(
     ensures offered { OnOk result (offered.new.items ≡ offered.old.items ++ ranked_of owner table.now number) }
     ensures memory { IfErr result (λ fault. fault ≡ Fault.NoMemory) }
 {
-    let upto = table.upto();
-    let count = table.after(number).count() as u64;
+    match table.after(number).count() as u64 {
+        0 => offer_news(offered, owner, table, number),
+        count => offer_entries(alloc, offered, owner, table, number, count),
+    }
+}
+
+/// Adds each entry that the table has above a version, of which there are so many.
+fn offer_entries(
+    alloc: Global,
+    offered: &mut Vec<Offered>,
+    owner: Name,
+    table: &Table,
+    number: u64,
+    count: u64,
+) -> Result<(), Fault>
+    requires { count ≡ length (above number table.now.entries) }
+    ensures offered { OnOk result (offered.new.items ≡ offered.old.items ++ ranked_from 0 owner table.now number count (above number table.now.entries)) }
+    ensures memory { IfErr result (λ fault. fault ≡ Fault.NoMemory) }
+{
+    let (floor, upto) = (table.floor(), table.upto());
     let mut rank = 0;
     for entry in table.after(number) {
         let entry = entry.copy(alloc)?;
         offered.push(Offered {
             owner,
+            floor,
             after: number,
             upto,
             rank,
             count,
-            entry,
+            entry: Some(entry),
         })?;
         rank += 1;
     }
     Ok(())
 }
 
-/// What a peer that sent this digest lacks: of each owner that the digest covers, the entries above its
-/// number there, in ascending version. `NoMemory`.
+/// Adds the news alone of how far the table is held, where that is above a version.
+fn offer_news(
+    offered: &mut Vec<Offered>,
+    owner: Name,
+    table: &Table,
+    number: u64,
+) -> Result<(), Fault>
+    ensures offered { OnOk result (offered.new.items ≡ offered.old.items ++ ranked_these owner table.now number []) }
+    ensures memory { IfErr result (λ fault. fault ≡ Fault.NoMemory) }
+{
+    if table.upto() <= number {
+        return Ok(());
+    }
+    offered.push(Offered {
+        owner,
+        floor: table.floor(),
+        after: number,
+        upto: table.upto(),
+        rank: 0,
+        count: 1,
+        entry: None,
+    })?;
+    Ok(())
+}
+
+/// What a peer that sent this digest lacks: of each owner that the digest covers, the entries above its number there, in
+/// ascending version; where there is none, and the owner is held above that number, one item without an entry.
+/// `NoMemory`.
 pub fn available(alloc: Global, holdings: &Holdings, digest: &Digest) -> Result<Vec<Offered>, Fault>
     ensures items { IfOk result (λ offered. items_of_all offered.items ≡ available_for holdings.now digest.now) }
     ensures ranks { IfOk result (λ offered. AreRanked offered.items) }
@@ -50,9 +96,12 @@ pub fn available(alloc: Global, holdings: &Holdings, digest: &Digest) -> Result<
     ensures memory { IfErr result (λ fault. fault ≡ Fault.NoMemory) }
 {
     let mut offered = Vec::new(alloc);
+    let mut place = 0;
     for (owner, table) in holdings.tables_from(None) {
         if digest.covers(owner) {
-            offer(alloc, &mut offered, *owner, table, digest.number(owner))?;
+            let (number, next) = digest.number_from(owner, table.floor(), place);
+            place = next;
+            offer(alloc, &mut offered, *owner, table, number)?;
         }
     }
     Ok(offered)

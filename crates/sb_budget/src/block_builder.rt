@@ -1,12 +1,15 @@
 //! Entries gathered by owner, as the blocks that they are to make.
-ghost use Rattle.std.specs.Prelude.{◌≡◌, ◌≤◌, ◌+◌, true, length, OnOk, OnErr, IfOk, IfErr, if◌then◌else◌, Ok, Err};
+ghost use Rattle.std.specs.Prelude.{◌≡◌, ◌≤◌, ◌+◌, true, length, OnOk, OnErr, IfOk, IfErr};
+ghost use Rattle.std.specs.Option.{option_map_or};
 ghost use Rattle.std.specs.Ordering.{nat_cmp};
 ghost use Rattle.std.specs.Cmp.Lexicographic.{slice_cmp};
 ghost use Rattle.std.specs.List.Sorted.{IsSearchInRange, IsBinarySearchResult};
 ghost use Rattle.sb_types.specs.Text.{is_name};
-ghost use Rattle.sb_types.specs.Limits.{are_block_entries};
-ghost use Rattle.sb_budget.specs.BlocksByOwner.{grown, begun, placed, cost_of};
+ghost use Rattle.sb_types.specs.Runs.{last_version};
+ghost use Rattle.sb_types.specs.Lengths.{entry_length};
+ghost use Rattle.sb_budget.specs.BlocksByOwner.{item_at, grown, begun, placed, cost_of, lowered, HasParts};
 
+use crate::head::Head;
 use sb_types::{
     BLOCK_HEAD_MOST, BYTE_LENGTH, Block, COUNT_LENGTH, ENTRY_LENGTH_MOST, Entry, Fault,
     NUMBER_LENGTH, Name,
@@ -15,13 +18,12 @@ use std::alloc::Global;
 use std::marker::Model;
 
 /// The bytes of a block before its entries, the text of its owner's name not counted.
-const BLOCK_START: u64 = BYTE_LENGTH + NUMBER_LENGTH + COUNT_LENGTH;
+const BLOCK_START: u64 = BYTE_LENGTH + 3 * NUMBER_LENGTH + COUNT_LENGTH;
 
 /// The entries of one owner that are to make its block.
 #[derive(Drop)]
 pub(crate) struct BlockBuilder {
-    owner: Name,
-    after: u64,
+    head: Head,
     entries: Vec<Entry>,
 }
 
@@ -30,51 +32,65 @@ impl Model for BlockBuilder {
 
     ghost Value = { records.Block };
 
-    ghost use Rattle.sb_types.specs.Limits.{block_of_entries};
+    ghost use Rattle.sb_budget.specs.BlocksByOwner.{block_at};
 
-    ghost view = { λ g. block_of_entries g.owner g.after g.entries.items };
+    ghost view = { λ g. block_at g.head g.entries.items };
 }
 
 impl BlockBuilder {
-    fn new(alloc: Global, owner: Name, after: u64, entry: Entry) -> Result<BlockBuilder, Fault>
-        ensures begun { IfOk result (λ g. g ≡ begun owner after entry) }
+    /// The block of an owner's first item. `NoMemory`.
+    fn new(alloc: Global, head: Head, entry: Option<Entry>) -> Result<BlockBuilder, Fault>
+        ensures begun { IfOk result (λ g. g ≡ begun (item_at head entry)) }
         ensures memory { IfErr result (λ fault. fault ≡ Fault.NoMemory) }
     {
         let mut entries = Vec::new(alloc);
-        entries.push(entry)?;
-        Ok(BlockBuilder {
-            owner,
-            after,
-            entries,
-        })
+        if let Some(entry) = entry {
+            entries.push(entry)?;
+        }
+        Ok(BlockBuilder { head, entries })
     }
 
     fn owner(&self) -> Name
         ensures { result ≡ self.now.owner }
     {
-        self.owner
+        self.head.owner
     }
 
-    fn push(&mut self, entry: Entry) -> Result<(), Fault>
+    fn push(&mut self, entry: Option<Entry>) -> Result<(), Fault>
         ensures grown { OnOk result (self.new ≡ grown self.old entry) }
         ensures left { OnErr result (self.new ≡ self.old) }
         ensures memory { IfErr result (λ fault. fault ≡ Fault.NoMemory) }
     {
-        self.entries.push(entry)?;
+        if let Some(entry) = entry {
+            self.entries.push(entry)?;
+        }
         Ok(())
     }
 
-    /// The block of these entries, which have to be those of a block. It takes no memory.
+    /// Ends it at its last entry, since other items of its owner are left behind.
+    pub(crate) fn lower(&mut self)
+        ensures { self.new ≡ lowered self.old }
+    {
+        self.head.upto = last_of(self.head.after, &self.entries);
+    }
+
+    /// The block of these entries, which have to be such as a block can have. It takes no memory.
     pub(crate) fn into_block(self) -> Block
-        requires { are_block_entries self.after self.entries ≡ true }
+        requires { HasParts self }
         ensures { result ≡ self }
     {
-        let BlockBuilder {
-            owner,
-            after,
-            entries,
-        } = self;
-        Block::from_entries(owner, after, entries)
+        let BlockBuilder { head, entries } = self;
+        Block::from_parts(head.owner, head.floor, head.after, head.upto, entries)
+    }
+}
+
+/// The version of the last entry, or the one before where there is none.
+fn last_of(before: u64, entries: &[Entry]) -> u64
+    ensures { result ≡ last_version before entries.now }
+{
+    match entries {
+        [.., last] => last.version(),
+        [] => before,
     }
 }
 
@@ -86,31 +102,41 @@ pub(crate) fn place_of(gathered: &[BlockBuilder], owner: Name) -> Result<usize, 
     gathered.binary_search_by_key(&owner, |group| group.owner())
 }
 
-/// How many bytes the entry adds to a delta, by where its owner's entries stand in it.
-pub(crate) fn cost(owner: &Name, entry: &Entry, place: Result<usize, usize>) -> u64
-    ensures cost { result ≡ cost_of owner.now entry.now place }
-    ensures owner { is_name owner.now ≡ true }
+/// How many bytes an entry takes, where there is one.
+fn length_of(entry: &Option<Entry>) -> u64
+    ensures length { result ≡ option_map_or (λ e. entry_length e) entry.now 0 }
+    ensures most { result ≤ ENTRY_LENGTH_MOST }
+{
+    match entry {
+        Some(entry) => entry.encoded_length(),
+        None => 0,
+    }
+}
+
+/// How many bytes an item adds to a delta, by where its owner's entries stand in it.
+pub(crate) fn cost(head: &Head, entry: &Option<Entry>, place: Result<usize, usize>) -> u64
+    ensures cost { result ≡ cost_of (item_at head.now entry.now) place }
+    ensures owner { is_name head.now.owner ≡ true }
     ensures most { result ≤ BLOCK_HEAD_MOST + ENTRY_LENGTH_MOST }
 {
-    let name_length = owner.bytes().len() as u64;
-    let entry_length = entry.encoded_length();
+    let name_length = head.owner.bytes().len() as u64;
+    let entry_length = length_of(entry);
     match place {
         Ok(_) => entry_length,
         Err(_) => BLOCK_START + name_length + entry_length,
     }
 }
 
-/// Puts the entry to its owner's. `NoMemory`.
+/// Puts the item to its owner's. `NoMemory`.
 pub(crate) fn put(
     alloc: Global,
     gathered: &mut Vec<BlockBuilder>,
     place: Result<usize, usize>,
-    owner: Name,
-    after: u64,
-    entry: Entry,
+    head: Head,
+    entry: Option<Entry>,
 ) -> Result<(), Fault>
     requires { IsSearchInRange place (length gathered.old.items) }
-    ensures placed { OnOk result (gathered.new.items ≡ placed place owner after entry gathered.old.items) }
+    ensures placed { OnOk result (gathered.new.items ≡ placed place (item_at head entry) gathered.old.items) }
     ensures left { OnErr result (gathered.new.items ≡ gathered.old.items) }
     ensures memory { IfErr result (λ fault. fault ≡ Fault.NoMemory) }
 {
@@ -120,7 +146,7 @@ pub(crate) fn put(
             group.push(entry)
         }
         Err(index) => {
-            let group = BlockBuilder::new(alloc, owner, after, entry)?;
+            let group = BlockBuilder::new(alloc, head, entry)?;
             gathered.insert(index, group)?;
             Ok(())
         }

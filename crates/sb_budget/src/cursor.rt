@@ -1,10 +1,13 @@
-//! What is offered of each owner, one entry after another, without a copy.
-ghost use Rattle.std.specs.Prelude.{◌≡◌, ◌<◌, ◌∷◌, nat_lt, length, IfOk, IfErr};
+//! What is offered of each owner, one item after another, without a copy.
+ghost use Rattle.std.specs.Prelude.{◌≡◌, ◌∷◌, length, All, IfOk, IfErr};
+ghost use Rattle.std.specs.Option.{option_copied, option_map};
 ghost use Rattle.sb_types.specs.Runs.{above};
-ghost use Rattle.sb_table.specs.Plain.{IsPlainTable};
 ghost use Rattle.sb_budget.specs.Available.{ranked_of};
-ghost use Rattle.sb_budget.specs.Parts.{part_of, AreParts};
+ghost use Rattle.sb_budget.specs.Cursors.{first_place};
+ghost use Rattle.sb_budget.specs.Making.{head_of};
+ghost use Rattle.sb_budget.specs.Parts.{part_of, all_of, AreParts};
 
+use crate::head::Head;
 use sb_digest::Digest;
 use sb_holdings::Holdings;
 use sb_table::{After, Table};
@@ -22,31 +25,29 @@ struct Place<'a> {
 }
 
 impl<'a> Place<'a> {
-    /// At the first entry of a table above a version, which has to be there.
-    fn first(table: &'a Table, after: u64) -> Place<'a>
-        requires { 0 < length (above after table.now.entries) }
-        ensures rank { result.rank ≡ 0 }
-        ensures entries { (result.entry.now ∷ result.later) ≡ above after table.now.entries }
+    /// At the first entry of a table above a version, where there is one.
+    fn first(table: &'a Table, after: u64) -> Option<Place<'a>>
+        ensures { option_map (λ p. record { rank = p.rank; entry = p.entry.now; later = p.later }) result ≡ first_place (above after table.now.entries) }
     {
         let mut later = table.after(after);
-        let entry = later.next().unwrap();
-        Place {
+        let entry = later.next()?;
+        Some(Place {
             rank: 0,
             entry,
             later,
-        }
+        })
     }
 }
 
-/// What is still to be sent of one owner: its next entry, and those after it. Its first entry is not looked up before
+/// What is still to be sent of one owner: its next item, and those after it. Its first entry is not looked up before
 /// it is asked for, so that an owner of which nothing is sent costs no search.
 #[derive(Drop)]
 pub struct Cursor<'a> {
     owner: &'a Name,
     table: &'a Table,
-    /// The version up to which the peer holds the owner's writes.
+    /// The version above which the peer lacks the owner's writes.
     after: u64,
-    /// Before the first entry, where there is none.
+    /// Before the first entry, and where there is no entry, none.
     place: Option<Place<'a>>,
 }
 
@@ -64,17 +65,6 @@ impl<'a> Model for Cursor<'a> {
     ghost invariant = { λ c. IsPlace c.table.now c.after (option_map (λ p. record { rank = p.rank; entry = p.entry.now; later = p.later }) c.place) × (length (above c.after c.table.now.entries) < 2 ^ 63) };
 }
 
-/// Whether a table has entries above a version.
-fn has_above(table: &Table, after: u64) -> bool
-    ensures value { result ≡ nat_lt 0 (length (above after table.now.entries)) }
-    ensures table { IsPlainTable table.now }
-{
-    match after {
-        0 => !table.is_empty(),
-        after => table.upto() > after,
-    }
-}
-
 /// How many entries a table has above a version. It takes a step for each, but where that is all of them.
 fn count_above(table: &Table, after: u64) -> u64
     ensures { result ≡ length (above after table.now.entries) }
@@ -86,11 +76,11 @@ fn count_above(table: &Table, after: u64) -> u64
 }
 
 impl<'a> Cursor<'a> {
-    /// The first entry of a table above a version, and those after it, where there is one.
+    /// What is offered of a table that is held above a version, where it is.
     fn new(owner: &'a Name, table: &'a Table, after: u64) -> Option<Cursor<'a>>
         ensures part { result ≡ part_of (ranked_of owner.now table.now after) }
     {
-        if !has_above(table, after) {
+        if table.upto() <= after {
             return None;
         }
         Some(Cursor {
@@ -101,31 +91,37 @@ impl<'a> Cursor<'a> {
         })
     }
 
-    /// Whose entries they are.
+    /// Whose items they are.
     pub fn owner(&self) -> Name
         ensures owner { result ≡ self.now.next.owner }
+        ensures later { All (λ item. item.owner ≡ self.now.next.owner) self.now.later }
     {
         *self.owner
     }
 
-    /// The version up to which the peer holds the owner's writes.
-    pub fn after(&self) -> u64
-        ensures after { result ≡ self.now.next.after }
+    /// What the owner's block tells beside entries.
+    pub fn head(&self) -> Head
+        ensures head { result ≡ head_of self.now.next }
     {
-        self.after
+        Head {
+            owner: *self.owner,
+            floor: self.table.floor(),
+            after: self.after,
+            upto: self.table.upto(),
+        }
     }
 
-    /// How many entries of the owner are offered, those that it has passed too. It takes a step for each, but where the
-    /// peer holds nothing of the owner.
+    /// How many items the owner has, those that it has passed too. It takes a step for each, but where the peer holds
+    /// nothing of the owner.
     pub fn count(&self) -> u64
         ensures count { result ≡ self.now.next.count }
     {
-        count_above(self.table, self.after)
+        count_above(self.table, self.after).max(1)
     }
 
-    /// The next entry, and what is to be sent after it, where there is something.
-    pub fn split_first(self) -> (&'a Entry, Option<Cursor<'a>>)
-        ensures entry { result.0.now ≡ self.entry.next.entry }
+    /// The next item's entry, where it has one, and what is to be sent after it, where there is something.
+    pub fn split_first(self) -> (Option<&'a Entry>, Option<Cursor<'a>>)
+        ensures entry { option_copied result.0 ≡ self.entry.next.entry }
         ensures later { result.1 ≡ part_of self.entry.later }
     {
         let Cursor {
@@ -134,16 +130,22 @@ impl<'a> Cursor<'a> {
             after,
             place,
         } = self;
-        let Place {
-            rank,
-            entry,
-            mut later,
-        } = match place {
-            Some(place) => place,
+        let place = match place {
+            Some(place) => Some(place),
             None => Place::first(table, after),
         };
+        let Some(
+            Place {
+                rank,
+                entry,
+                mut later,
+            },
+        ) = place
+        else {
+            return (None, None);
+        };
         let Some(next) = later.next() else {
-            return (entry, None);
+            return (Some(entry), None);
         };
         let place = Place {
             rank: rank + 1,
@@ -156,7 +158,7 @@ impl<'a> Cursor<'a> {
             after,
             place: Some(place),
         };
-        (entry, Some(later))
+        (Some(entry), Some(later))
     }
 }
 
@@ -174,7 +176,7 @@ pub fn cursors<'a>(
     let mut place = 0;
     for (owner, table) in holdings.tables_from(None) {
         if digest.covers(owner) {
-            let (number, next) = digest.number_from(owner, place);
+            let (number, next) = digest.number_from(owner, table.floor(), place);
             place = next;
             if let Some(cursor) = Cursor::new(owner, table, number) {
                 cursors.push(cursor)?;

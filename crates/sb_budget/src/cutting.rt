@@ -1,15 +1,35 @@
 //! The longest front of what is offered that fits a budget, as a delta.
-ghost use Rattle.std.specs.Prelude.{◌≡◌, ◌≤◌, ◌<◌, length, IfOk, IfErr};
-ghost use Rattle.sb_budget.specs.Cut.{items_of_all, IsCut, CanCut};
+ghost use Rattle.std.specs.Prelude.{◌≡◌, ◌≤◌, ◌<◌, ℕ, List, [], ◌∷◌, ◌++◌, length, IfOk, IfErr};
+ghost use Rattle.sb_budget.specs.Cut.{item_of, items_of_all, IsCut, CanCut};
+ghost use Rattle.sb_budget.specs.Making.{IsTaking};
+ghost use Rattle.sb_budget.specs.Offers.{Item};
 
 use crate::delta_builder::DeltaBuilder;
 use crate::offered::Offered;
 use sb_types::{BUDGET_LEAST, BUDGET_MOST, Delta, Fault};
 use std::alloc::Global;
 
+/// Takes the next item, or leaves it where one before was left or it does not fit; and tells whether it was left.
+fn take(making: &mut DeltaBuilder, is_full: bool, item: Offered) -> Result<bool, Fault>
+    ensures taking { IfOk result (λ full. (budget : ℕ) (items : List Item) → IsTaking budget items is_full making.old → IsTaking budget (items ++ item_of item ∷ []) full making.new) }
+    ensures memory { IfErr result (λ fault. fault ≡ Fault.NoMemory) }
+{
+    let owner = item.owner;
+    if is_full {
+        making.leave(owner);
+        return Ok(true);
+    }
+    if making.push(item.head(), item.entry)? {
+        return Ok(false);
+    }
+    making.leave(owner);
+    Ok(true)
+}
+
 /// The longest front of the items whose delta has a frame of at most `budget` bytes, 1,024 to 65,536, as that
-/// delta. The items have to be as an order leaves them, each owner's in ascending version. The delta has at
-/// least one entry where there is an item; the other items are dropped. `NoMemory`.
+/// delta. The items have to be as an order leaves them, each owner's in ascending version. The block of an owner of whom
+/// nothing is left reaches as far as the sender holds it, and another as far as its last entry. The delta has at least one
+/// block where there is an item; the other items are dropped. `NoMemory`.
 ///
 /// The test `example_of_cut` runs these lines, for holdings with one write of a flag under the key `up`, by `a`:
 /// ```
@@ -17,8 +37,8 @@ use std::alloc::Global;
 /// let offered = available(alloc, &holdings, &digest)?;
 /// let delta = cut(alloc, offered, 1_024)?;
 /// assert_eq!(rt; delta.blocks().len(), 1);
-/// // 3 bytes, the block's 12, and the entry's 13.
-/// assert_eq!(rt; delta.encoded_length(), 28);
+/// // 3 bytes, the block's 28, and the entry's 13.
+/// assert_eq!(rt; delta.encoded_length(), 44);
 /// ```
 pub fn cut(alloc: Global, items: Vec<Offered>, budget: u64) -> Result<Delta, Fault>
     requires least { BUDGET_LEAST ≤ budget }
@@ -29,10 +49,9 @@ pub fn cut(alloc: Global, items: Vec<Offered>, budget: u64) -> Result<Delta, Fau
     ensures memory { IfErr result (λ fault. fault ≡ Fault.NoMemory) }
 {
     let mut making = DeltaBuilder::new(alloc, budget);
+    let mut is_full = false;
     for item in items {
-        if !making.push(item.owner, item.after, item.entry)? {
-            return making.finish();
-        }
+        is_full = take(&mut making, is_full, item)?;
     }
     making.finish()
 }

@@ -1,11 +1,12 @@
 //! A delta in the making, within a budget.
-ghost use Rattle.std.specs.Prelude.{◌≡◌, ◌≤◌, ℕ, List, [], ◌∷◌, ◌++◌, true, false, All, OnErr, IfOk, IfErr};
-ghost use Rattle.sb_types.specs.Limits.{are_block_entries};
-ghost use Rattle.sb_budget.specs.declared.offered.Offered.{Offered};
-ghost use Rattle.sb_budget.specs.Cut.{items_of_all, IsCut, CanCut};
-ghost use Rattle.sb_budget.specs.Making.{IsOf, IsFrontOf, AfterNext};
+ghost use Rattle.std.specs.Prelude.{◌≡◌, ◌≤◌, ℕ, List, [], false, All, OnErr, IfOk, IfErr};
+ghost use Rattle.sb_budget.specs.Offers.{Item};
+ghost use Rattle.sb_budget.specs.BlocksByOwner.{item_at, HasParts};
+ghost use Rattle.sb_budget.specs.Cut.{delta_frame_length};
+ghost use Rattle.sb_budget.specs.Making.{IsFrontOf, AfterNext, left_by};
 
 use crate::block_builder::{BlockBuilder, cost, place_of, put};
+use crate::head::Head;
 use sb_types::{
     BUDGET_LEAST, BUDGET_MOST, BYTE_LENGTH, Block, COUNT_LENGTH, Delta, Entry, Fault,
     HEADER_LENGTH, Name,
@@ -16,7 +17,7 @@ use std::marker::Model;
 /// The length of the frame of a delta without blocks.
 const EMPTY_FRAME: u64 = HEADER_LENGTH + BYTE_LENGTH + COUNT_LENGTH;
 
-/// A delta in the making: the entries that were taken so far, by owner, and the bytes that its frame has left.
+/// A delta in the making: the items that were taken so far, by owner, and the bytes that its frame has left.
 #[derive(Drop)]
 pub struct DeltaBuilder {
     alloc: Global,
@@ -37,11 +38,11 @@ impl Model for DeltaBuilder {
 }
 
 impl DeltaBuilder {
-    /// A delta without entries, whose frame may have `budget` bytes, 1,024 to 65,536.
+    /// A delta without items, whose frame may have `budget` bytes, 1,024 to 65,536.
     pub fn new(alloc: Global, budget: u64) -> DeltaBuilder
         requires least { BUDGET_LEAST ≤ budget }
         requires most { budget ≤ BUDGET_MOST }
-        ensures begins { (rest : List Offered) → IsFrontOf budget [] rest result }
+        ensures begins { IsFrontOf budget [] result }
     {
         DeltaBuilder {
             alloc,
@@ -50,31 +51,38 @@ impl DeltaBuilder {
         }
     }
 
-    /// Takes the next entry of what is sent, an owner's behind what the peer holds up to the version `after`, where
-    /// the frame has room for it, and tells whether it had. The first entry always has room. `NoMemory`. An entry
-    /// that is not taken is dropped, and leaves the delta as it was.
-    pub fn push(&mut self, owner: Name, after: u64, entry: Entry) -> Result<bool, Fault>
-        ensures next { IfOk result (λ taken. (budget : ℕ) (front rest : List Offered) (next : Offered) → IsOf owner after entry next → CanCut (front ++ next ∷ rest) →
-            IsFrontOf budget front (next ∷ rest) self.old → AfterNext budget front next rest taken self.new) }
+    /// Takes the next item of what is sent, where the frame has room for it, and tells whether it had. Its owner's block
+    /// has the head of the owner's first item. The first item of all always has room. `NoMemory`. An item that is not taken
+    /// is dropped, and leaves the delta as it was.
+    pub fn push(&mut self, head: Head, entry: Option<Entry>) -> Result<bool, Fault>
+        ensures next { IfOk result (λ taken. (budget : ℕ) (front : List Item) → IsFrontOf budget front self.old → AfterNext budget front (item_at head entry) taken self.new) }
         ensures left { IfOk result (λ taken. taken ≡ false → self.new ≡ self.old) }
         ensures err { OnErr result (self.new ≡ self.old) }
         ensures memory { IfErr result (λ fault. fault ≡ Fault.NoMemory) }
     {
-        let place = place_of(&self.gathered, owner);
-        let Some(left) = self.room.checked_sub(cost(&owner, &entry, place)) else {
+        let place = place_of(&self.gathered, head.owner);
+        let Some(left) = self.room.checked_sub(cost(&head, &entry, place)) else {
             return Ok(false);
         };
-        put(self.alloc, &mut self.gathered, place, owner, after, entry)?;
+        put(self.alloc, &mut self.gathered, place, head, entry)?;
         self.room = left;
         Ok(true)
     }
 
-    /// The delta of the entries that were taken, which have to be those of a front of a list that can be cut.
-    /// `NoMemory`.
+    /// Leaves items of the owner behind, so that its block ends at its last entry. It takes no memory.
+    pub fn leave(&mut self, owner: Name)
+        ensures { self.new ≡ left_by owner self.old }
+    {
+        if let Ok(index) = place_of(&self.gathered, owner) {
+            self.gathered[index].lower();
+        }
+    }
+
+    /// The delta of the items that were taken, whose blocks have to be such as a delta can have. `NoMemory`.
     pub fn finish(self) -> Result<Delta, Fault>
-        requires { (budget : ℕ) × (front : List Offered) × (rest : List Offered) × CanCut (front ++ rest) × IsFrontOf budget front rest self }
+        requires blocks { All HasParts self.blocks }
+        requires fits { delta_frame_length self.blocks ≤ BUDGET_MOST }
         ensures blocks { IfOk result (λ delta. delta ≡ self.blocks) }
-        ensures whole { IfOk result (λ delta. (budget : ℕ) (listed : List Offered) → CanCut listed → IsFrontOf budget listed [] self → IsCut budget (items_of_all listed) delta) }
         ensures memory { IfErr result (λ fault. fault ≡ Fault.NoMemory) }
     {
         Delta::new(blocks_from(self.alloc, self.gathered)?)
@@ -83,7 +91,7 @@ impl DeltaBuilder {
 
 /// A block of each owner's entries.
 fn blocks_from(alloc: Global, gathered: Vec<BlockBuilder>) -> Result<Vec<Block>, Fault>
-    requires { All (λ b. are_block_entries b.after b.entries ≡ true) gathered.items }
+    requires { All HasParts gathered.items }
     ensures blocks { IfOk result (λ blocks. blocks.items ≡ gathered.items) }
     ensures memory { IfErr result (λ fault. fault ≡ Fault.NoMemory) }
 {

@@ -5,9 +5,9 @@ ghost use Rattle.sb_types.specs.declared.entry.Write.{Write};
 ghost use Rattle.sb_types.specs.Records.{Table, Block, Holder};
 ghost use Rattle.sb_types.specs.Runs.{Stands, IsTable, IsBlock};
 ghost use Rattle.sb_types.specs.Writes.{Holds, Honest};
-ghost use Rattle.sb_holdings.specs.Held.{Held, holder_of};
-ghost use Rattle.sb_digest.specs.Digests.{Digest, covers, held_in};
-ghost use Rattle.sb_budget.specs.Available.{available_for};
+ghost use Rattle.sb_holdings.specs.Held.{Held, shown_of};
+ghost use Rattle.sb_digest.specs.Digests.{Digest, covers};
+ghost use Rattle.sb_budget.specs.Available.{number_for, available_for};
 ghost use Rattle.sb_budget.specs.Offers.{Item, of_owner, items_of, block_of, is_named, are_named_once, available};
 ghost use Rattle.sb_budget.specs.Cut.{IsCut};
 
@@ -48,7 +48,7 @@ pub fn cuts_are_honest()
 pub fn available_by_number()
     ensures covered { (held : Held) (digest : Digest) (owner : List ℕ) →
         covers digest owner ≡ true →
-        of_owner owner (available_for held digest) ≡ items_of owner (holder_of held.owners owner).shown (held_in digest owner) }
+        of_owner owner (available_for held digest) ≡ items_of owner (shown_of held owner) (number_for digest owner (shown_of held owner)) }
     ensures others { (held : Held) (digest : Digest) (owner : List ℕ) →
         covers digest owner ≡ false → of_owner owner (available_for held digest) ≡ [] }
 {}

@@ -1,15 +1,15 @@
 -- The two laws for the body of each kind but deltas.
-use Rattle.std.proofs.Common.{◌≡◌, ℕ, ◌-◌, ◌^◌, ◌<◌, ◌≤◌, Bool, true, false, ◌&&◌, ◌==◌, List, [], ◌∷◌, ◌++◌, length, Option, Some, None, refl, ap, subst, arith}
+use Rattle.std.proofs.Common.{◌≡◌, ℕ, ◌-◌, ◌^◌, ◌<◌, ◌≤◌, Bool, true, false, ◌&&◌, List, [], ◌∷◌, ◌++◌, length, Option, Some, None, refl, ap, arith}
 use Rattle.std.specs.Prelude.{nat_le, nat_lt}
 use Rattle.std.specs.List.{list_all}
 use Rattle.std.specs.Int.{w64}
-use Rattle.std.proofs.lemmas.Bool.{and_parts, and_from, lt-ltb, ltb-true, leb-true, eqb-true}
+use Rattle.std.proofs.lemmas.Bool.{and_parts, and_from, lt-ltb, ltb-true, leb-true}
 use Rattle.sb_types.specs.declared.entry.Write.{Write}
 use Rattle.sb_types.specs.declared.limits.TheConstants.{PAYLOAD_MOST}
 use Rattle.sb_types.specs.Text.{is_name, is_key, is_prefix}
 use Rattle.sb_types.specs.Value.{Value, Addr, Weight, Flag, Text, is_value}
 use Rattle.sb_types.specs.Limits.{is_slot}
-use Rattle.sb_digest.specs.Digests.{Pair, Digest, plain_pair, covers}
+use Rattle.sb_digest.specs.Digests.{Pair, Digest, covers}
 use Rattle.sb_digest.specs.Lengths.{pair_length, digest_length}
 use Rattle.sb_digest.specs.Limits.{is_bound, is_pair, is_range, are_pairs_above, are_digest_parts, is_digest}
 use Rattle.sb_types.specs.declared.format.TheConstants.{TAG_ADDR, TAG_WEIGHT, TAG_FLAG, TAG_TEXT}
@@ -18,6 +18,7 @@ use Rattle.sb_codec.specs.Records.{Row, Rows}
 use Rattle.sb_codec.specs.Lengths.{row_length, rows_length}
 use Rattle.sb_codec.specs.declared.message.hello.Hello.{Hello}
 use Rattle.sb_codec.specs.Limits.{is_hello, is_reason, is_optional, is_place, is_ask, is_row, are_rows_above, are_page_rows, is_page, is_write, is_version, is_fault_number}
+use Rattle.sb_codec.specs.Fields.{number_field}
 use Rattle.sb_codec.specs.Spelling.{number, text, content, value, optional, hello, pair, digest, place, ask, row, page, write}
 use Rattle.sb_codec.specs.Reading.{hello_of_parts, hello_field, bye_field, write_of_parts, write_field, done_field, refused_field, unless_empty, is_empty_or, optional_field, pair_of_parts, pair_field, digest_of_parts, digest_field, prefix_field, are_alike, place_of, place_field, ask_of, ask_field, value_cases, value_field, addr_field, weight_field, text_value_field, is_written, row_of_parts, row_field, are_page_parts, page_of, page_field}
 use Rattle.sb_codec.proofs.Taken.{Takes, wide64, fits_takes, made_takes, then_takes, where_takes, byte_takes, number_takes, text_takes, list_takes, tagged_takes, made_case}
@@ -92,20 +93,20 @@ optional_again test some (Some (byte ∷ bytes)) fits = made_again unless_empty 
 pair_takes : Takes (λ p. is_pair p ≡ true) pair pair_field
 unfolding pair_field pair
 pair_takes =
-    made_takes pair_of_parts (then_takes name_takes (number_takes wide64))
-    (λ p fits. (and_from _ _ (and_from _ _ (and_from _ _ fits.0 (lt-ltb p.1 (2 ^ 64) fits.1)) refl) refl, refl))
-
-same_pair : (owner : List ℕ) (held floor progress : ℕ) → floor ≡ 0 → progress ≡ 0 → plain_pair owner held ≡ record { owner = owner; held = held; floor = floor; progress = progress }
-same_pair owner held floor progress no_floor no_progress = rw (no_floor, no_progress) refl
+    made_takes pair_of_parts (then_takes name_takes (then_takes (number_takes wide64) (then_takes (number_takes wide64) (number_takes wide64))))
+    (λ p fits.
+    let held = lt-ltb p.1.0 (2 ^ 64) fits.1.0 in
+    let floor = lt-ltb p.1.1.0 (2 ^ 64) fits.1.1.0 in
+    (and_from _ _ (and_from _ _ (and_from _ _ fits.0 held) floor) (lt-ltb p.1.1.1 (2 ^ 64) fits.1.1.1), refl))
 
 pair_again : (p : Pair) → is_pair p ≡ true → Again pair_field (pair p) p
 unfolding pair_field pair
 pair_again p fits =
-    let progress = and_parts (is_name p.owner && nat_lt p.held (2 ^ 64) && p.floor == 0) (p.progress == 0) fits in
-    let floor = and_parts (is_name p.owner && nat_lt p.held (2 ^ 64)) (p.floor == 0) progress.0 in
+    let progress = and_parts (is_name p.owner && nat_lt p.held (2 ^ 64) && nat_lt p.floor (2 ^ 64)) (nat_lt p.progress (2 ^ 64)) fits in
+    let floor = and_parts (is_name p.owner && nat_lt p.held (2 ^ 64)) (nat_lt p.floor (2 ^ 64)) progress.0 in
     let parts = and_parts (is_name p.owner) (nat_lt p.held (2 ^ 64)) floor.0 in
-    let read = then_again (name_again p.owner parts.0) (number_again wide64 p.held (ltb-true p.held (2 ^ 64) parts.1)) in
-    subst (λ (x : Pair). Again pair_field (pair p) x) (same_pair p.owner p.held p.floor p.progress (eqb-true _ _ floor.1) (eqb-true _ _ progress.1)) (made_again pair_of_parts read)
+    let again : (n : ℕ) → nat_lt n (2 ^ 64) ≡ true → Again (number_field w64) (number w64 n) n = λ n lt. number_again wide64 n (ltb-true n (2 ^ 64) lt) in
+    made_again pair_of_parts (then_again (name_again p.owner parts.0) (then_again (again p.held parts.1) (then_again (again p.floor floor.1) (again p.progress progress.1))))
 
 bound_from : (b : Option (List ℕ)) → is_optional is_name b ≡ true → is_bound b ≡ true
 bound_from None fits = refl

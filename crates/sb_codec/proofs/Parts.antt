@@ -1,9 +1,9 @@
 -- The two laws for each part of a message.
-use Rattle.std.proofs.Common.{◌≡◌, ℕ, ◌-◌, ◌^◌, ◌<◌, ◌≤◌, Bool, true, false, ◌&&◌, ◌==◌, List, [], ◌∷◌, length, refl, ap, subst, arith}
+use Rattle.std.proofs.Common.{◌≡◌, ℕ, ◌-◌, ◌^◌, ◌<◌, ◌≤◌, Bool, true, false, ◌&&◌, List, [], ◌∷◌, length, refl, ap, arith}
 use Rattle.std.specs.Prelude.{nat_le, nat_lt, sum_by}
 use Rattle.std.specs.List.{list_all, AllByRecursion}
 use Rattle.std.specs.Str.{is_utf8}
-use Rattle.std.proofs.lemmas.Bool.{and_parts, and_from, le-leb, leb-true, ltb-true, eqb-true, eq-eqb}
+use Rattle.std.proofs.lemmas.Bool.{and_parts, and_from, le-leb, lt-ltb, leb-true, ltb-true}
 use Rattle.std.proofs.lemmas.List.Sums.{sum_by-cons}
 use Rattle.sb_types.specs.declared.entry.Slot.{Slot}
 use Rattle.sb_types.specs.declared.entry.Slot.TheVariants.{Set, Removed}
@@ -13,10 +13,10 @@ use Rattle.sb_types.specs.Value.{Value, Addr, Weight, Flag, Text, is_value}
 use Rattle.sb_types.specs.Records.{Entry, Block}
 use Rattle.sb_types.specs.Runs.{are_ascending, are_distinct, last_version}
 use Rattle.sb_types.specs.Lengths.{block_length, delta_length}
-use Rattle.sb_types.specs.Limits.{is_slot, is_entry, are_block_entries, block_of_entries, is_delta_block, are_owners_above, are_delta_blocks, is_delta}
+use Rattle.sb_types.specs.Limits.{is_slot, is_entry, are_block_parts, is_delta_block, are_owners_above, are_delta_blocks, is_delta}
 use Rattle.sb_types.specs.declared.format.TheConstants.{TAG_REMOVED, TAG_ADDR, TAG_WEIGHT, TAG_FLAG, TAG_TEXT}
-use Rattle.sb_codec.specs.Spelling.{text, long_text, list, flag, tag_of, content, slot, entry, block}
-use Rattle.sb_codec.specs.Reading.{name_field, key_field, addr_field, weight_field, text_value_field, flag_cases, flag_field, flag_slot, slot_cases, slot_field, entry_of_parts, entry_field, are_block_parts, block_of_parts, block_field, delta_field}
+use Rattle.sb_codec.specs.Spelling.{text, list, flag, tag_of, content, slot, entry, block}
+use Rattle.sb_codec.specs.Reading.{name_field, key_field, addr_field, weight_field, text_value_field, flag_cases, flag_field, flag_slot, slot_cases, slot_field, entry_of_parts, entry_field, are_block_fields, block_of_fields, block_field, delta_field}
 use Rattle.sb_codec.proofs.Taken.{Takes, wide64, fits_takes, made_takes, then_takes, where_takes, number_takes, text_takes, long_text_takes, list_takes, tagged_takes, made_case, given_case}
 use Rattle.sb_codec.proofs.Again.{Again, given_again, made_again, then_again, where_again, number_again, text_again, long_text_again, list_again, tagged_again}
 
@@ -126,34 +126,35 @@ all_parts test (x ∷ xs) all = let p = and_parts _ _ all in (p.0, all_parts tes
 pub block_takes : Takes (λ b. is_delta_block b ≡ true) block block_field
 unfolding block_field block
 block_takes =
-    made_takes block_of_parts (where_takes (then_takes name_takes (then_takes (number_takes wide64) (list_takes entry_takes))))
-    (λ b fits. (and_from _ _ (and_from _ _ (and_from _ _ (and_from _ _ fits.0.0 (all_from is_entry b.1.1 fits.0.1.1.1)) fits.1) refl) (eq-eqb _ _ refl), refl))
+    made_takes block_of_fields
+    (where_takes (then_takes name_takes (then_takes (number_takes wide64) (then_takes (number_takes wide64) (then_takes (number_takes wide64) (list_takes entry_takes))))))
+    (λ b fits.
+    let floor = lt-ltb b.1.0 (2 ^ 64) fits.0.1.0 in
+    let upto = lt-ltb b.1.1.1.0 (2 ^ 64) fits.0.1.1.1.0 in
+    (and_from _ _ (and_from _ _ (and_from _ _ (and_from _ _ fits.0.0 floor) upto) (all_from is_entry b.1.1.1.1 fits.0.1.1.1.1.1)) fits.1, refl))
 
-entries_parts : (after : ℕ) (entries : List Entry) → are_block_entries after entries ≡ true → (is_between 1 ENTRIES_MOST (length entries) ≡ true) × (are_ascending after entries ≡ true)
-entries_parts after entries run = and_parts (is_between 1 ENTRIES_MOST (length entries)) (are_ascending after entries) (and_parts _ (are_distinct entries) run).0
-
-after_below : (after : ℕ) (entries : List Entry) → are_block_entries after entries ≡ true → list_all is_entry entries ≡ true → after < 2 ^ 64
-after_below after [] run all = absurd cc
-after_below after (e ∷ entries) run all =
-    let ascending = and_parts (nat_lt after e.version) (are_ascending e.version entries) (entries_parts after (e ∷ entries) run).1 in
-    let version = entry_parts e (and_parts (is_entry e) (list_all is_entry entries) all).0 in
-    omega (arith, ltb-true after e.version ascending.0)
-
-same_block : (owner : List ℕ) (floor after upto : ℕ) (entries : List Entry) → floor ≡ 0 → upto ≡ last_version after entries
-    → block_of_entries owner after entries ≡ record { owner = owner; floor = floor; after = after; upto = upto; entries = entries }
-same_block owner floor after upto entries no_floor last = rw (no_floor, last) refl
+-- few entries, and a reach above where it begins
+parts_within : (after upto : ℕ) (entries : List Entry) → are_block_parts after upto entries ≡ true → (length entries ≤ ENTRIES_MOST) × (after < upto)
+parts_within after upto entries run =
+    let most = and_parts (nat_le (length entries) ENTRIES_MOST && nat_lt after upto && are_ascending after entries && nat_le (last_version after entries) upto) (are_distinct entries) run in
+    let rising = and_parts (nat_le (length entries) ENTRIES_MOST && nat_lt after upto && are_ascending after entries) (nat_le (last_version after entries) upto) most.0 in
+    let order = and_parts (nat_le (length entries) ENTRIES_MOST && nat_lt after upto) (are_ascending after entries) rising.0 in
+    let few = and_parts (nat_le (length entries) ENTRIES_MOST) (nat_lt after upto) order.0 in
+    (leb-true (length entries) ENTRIES_MOST few.0, ltb-true after upto few.1)
 
 pub block_again : (b : Block) → is_delta_block b ≡ true → Again block_field (block b) b
 unfolding block_field block
 block_again b fits =
-    let last = and_parts (is_name b.owner && list_all is_entry b.entries && are_block_entries b.after b.entries && b.floor == 0) (b.upto == last_version b.after b.entries) fits in
-    let floor = and_parts (is_name b.owner && list_all is_entry b.entries && are_block_entries b.after b.entries) (b.floor == 0) last.0 in
-    let run = and_parts (is_name b.owner && list_all is_entry b.entries) (are_block_entries b.after b.entries) floor.0 in
-    let owner = and_parts (is_name b.owner) (list_all is_entry b.entries) run.0 in
-    let few = between_parts 1 ENTRIES_MOST (length b.entries) (entries_parts b.after b.entries run.1).0 in
-    let entries = list_again entry_again b.entries (omega arith) (all_parts is_entry b.entries owner.1) in
-    let parts = then_again (name_again b.owner owner.0) (then_again (number_again wide64 b.after (after_below b.after b.entries run.1 owner.1)) entries) in
-    subst (λ (x : Block). Again block_field (block b) x) (same_block b.owner b.floor b.after b.upto b.entries (eqb-true _ _ floor.1) (eqb-true _ _ last.1)) (made_again block_of_parts (where_again are_block_parts run.1 parts))
+    let run = and_parts (is_name b.owner && nat_lt b.floor (2 ^ 64) && nat_lt b.upto (2 ^ 64) && list_all is_entry b.entries) (are_block_parts b.after b.upto b.entries) fits in
+    let each = and_parts (is_name b.owner && nat_lt b.floor (2 ^ 64) && nat_lt b.upto (2 ^ 64)) (list_all is_entry b.entries) run.0 in
+    let upto = and_parts (is_name b.owner && nat_lt b.floor (2 ^ 64)) (nat_lt b.upto (2 ^ 64)) each.0 in
+    let floor = and_parts (is_name b.owner) (nat_lt b.floor (2 ^ 64)) upto.0 in
+    let within = parts_within b.after b.upto b.entries run.1 in
+    let below = ltb-true b.upto (2 ^ 64) upto.1 in
+    let entries = list_again entry_again b.entries (omega arith) (all_parts is_entry b.entries each.1) in
+    let after = number_again wide64 b.after (omega arith) in
+    let numbers = then_again (number_again wide64 b.floor (ltb-true b.floor (2 ^ 64) floor.1)) (then_again after (then_again (number_again wide64 b.upto below) entries)) in
+    made_again block_of_fields (where_again are_block_fields run.1 (then_again (name_again b.owner floor.0) numbers))
 
 -- ---- deltas
 

@@ -57,7 +57,18 @@ length-list f size each xs = omega (arith, length-append (number w16 (length xs)
 
 block-length : (b : Block) → length (block b) ≡ block_length b
 unfolding block
-block-length b = omega (arith, length-append (text b.owner) (number w64 b.after ++ list entry b.entries), length-append (number w64 b.after) (list entry b.entries), length-number64 b.after, length-list entry entry_length entry-length b.entries)
+block-length b =
+    omega (
+      arith,
+      length-append (text b.owner) (number w64 b.floor ++ (number w64 b.after ++ (number w64 b.upto ++ list entry b.entries))),
+      length-append (number w64 b.floor) (number w64 b.after ++ (number w64 b.upto ++ list entry b.entries)),
+      length-append (number w64 b.after) (number w64 b.upto ++ list entry b.entries),
+      length-append (number w64 b.upto) (list entry b.entries),
+      length-number64 b.floor,
+      length-number64 b.after,
+      length-number64 b.upto,
+      length-list entry entry_length entry-length b.entries,
+    )
 
 optional-length : (t : Option (List ℕ)) → length (optional t) ≡ bound_length t
 optional-length None = refl
@@ -65,7 +76,16 @@ optional-length (Some t) = omega arith
 
 pair-length : (p : digests.Pair) → length (pair p) ≡ pair_length p
 unfolding pair
-pair-length p = omega (arith, length-append (text p.owner) (number w64 p.held), length-number64 p.held)
+pair-length p =
+    omega (
+      arith,
+      length-append (text p.owner) (number w64 p.held ++ (number w64 p.floor ++ number w64 p.progress)),
+      length-append (number w64 p.held) (number w64 p.floor ++ number w64 p.progress),
+      length-append (number w64 p.floor) (number w64 p.progress),
+      length-number64 p.held,
+      length-number64 p.floor,
+      length-number64 p.progress,
+    )
 
 digest-length : (d : digests.Digest) → 1 + length (digest d) ≡ digest_length d
 unfolding digest

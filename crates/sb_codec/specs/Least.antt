@@ -16,11 +16,11 @@ pub entry_reached : (item : Entry) × (entry_field (entry item) ≡ Some (item, 
 unfolding entry slot number entry_field key_field slot_field number_field text_field byte_field bytes_field
 entry_reached = (first_removal, refl, refl)
 
-pub block_reached : (item : Block) × (block_field (block item) ≡ Some (item, [])) × (length (block item) ≡ 23)
-unfolding block entry slot number block_field name_field list_field times_field entry_field key_field slot_field number_field text_field byte_field bytes_field
-block_reached = (record { owner = 97 ∷ []; floor = 0; after = 0; upto = 1; entries = first_removal ∷ [] }, refl, refl)
+pub block_reached : (item : Block) × (block_field (block item) ≡ Some (item, [])) × (length (block item) ≡ 28)
+unfolding block number block_field name_field list_field times_field number_field text_field byte_field bytes_field
+block_reached = (record { owner = 97 ∷ []; floor = 0; after = 0; upto = 1; entries = [] }, refl, refl)
 
-pub pair_reached : (item : Pair) × (pair_field (pair item) ≡ Some (item, [])) × (length (pair item) ≡ 10)
+pub pair_reached : (item : Pair) × (pair_field (pair item) ≡ Some (item, [])) × (length (pair item) ≡ 26)
 unfolding pair number pair_field name_field number_field text_field byte_field bytes_field
 pair_reached = (plain_pair (97 ∷ []) 0, refl, refl)
 

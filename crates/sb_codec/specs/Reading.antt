@@ -9,9 +9,9 @@ use Rattle.sb_types.specs.declared.entry.Slot.TheVariants.{Set, Removed}
 use Rattle.sb_types.specs.Text.{is_name, is_key, is_prefix}
 use Rattle.sb_types.specs.Value.{Value, Addr, Weight, Flag, Text, is_value}
 use Rattle.sb_types.specs.Records.{Entry, Block}
-use Rattle.sb_types.specs.Limits.{are_block_entries, block_of_entries, are_delta_blocks}
+use Rattle.sb_types.specs.Limits.{are_block_parts, block_of_parts, are_delta_blocks}
 use Rattle.sb_types.specs.declared.format.TheConstants.{TAG_REMOVED, TAG_ADDR, TAG_WEIGHT, TAG_FLAG, TAG_TEXT}
-use Rattle.sb_digest.specs.Digests.{Pair, Digest, plain_pair, digest_of}
+use Rattle.sb_digest.specs.Digests.{Pair, Digest, digest_of}
 use Rattle.sb_digest.specs.Limits.{are_digest_parts}
 use Rattle.sb_codec.specs.declared.message.hello.Hello.{Hello}
 use Rattle.sb_codec.specs.declared.message.ask.Ask.{Ask}
@@ -55,14 +55,18 @@ entry_of_parts e = record { key = e.0; version = e.1.0; slot = e.1.1 }
 unfoldable pub entry_field : Field Entry
 entry_field = made_field entry_of_parts (then_field key_field (then_field (where_field (nat_le 1) (number_field w64)) slot_field))
 
-abbrev pub are_block_parts : List ℕ × (ℕ × List Entry) → Bool
-are_block_parts b = are_block_entries b.1.0 b.1.1
+-- the owner, the floor, the versions that it begins after and reaches, and the entries
+abbrev pub BlockFields : Type 0
+BlockFields = List ℕ × (ℕ × (ℕ × (ℕ × List Entry)))
 
-abbrev pub block_of_parts : List ℕ × (ℕ × List Entry) → Block
-block_of_parts b = block_of_entries b.0 b.1.0 b.1.1
+abbrev pub are_block_fields : BlockFields → Bool
+are_block_fields b = are_block_parts b.1.1.0 b.1.1.1.0 b.1.1.1.1
+
+abbrev pub block_of_fields : BlockFields → Block
+block_of_fields b = block_of_parts b.0 b.1.0 b.1.1.0 b.1.1.1.0 b.1.1.1.1
 
 unfoldable pub block_field : Field Block
-block_field = made_field block_of_parts (where_field are_block_parts (then_field name_field (then_field (number_field w64) (list_field entry_field))))
+block_field = made_field block_of_fields (where_field are_block_fields (then_field name_field (then_field (number_field w64) (then_field (number_field w64) (then_field (number_field w64) (list_field entry_field))))))
 
 unfoldable pub delta_field : Field (List Block)
 delta_field = where_field are_delta_blocks (list_field block_field)
@@ -101,11 +105,11 @@ is_empty_or test (byte ∷ bytes) = test (byte ∷ bytes)
 unfoldable pub optional_field : (List ℕ → Bool) → Field (Option (List ℕ))
 optional_field test = made_field unless_empty (where_field (is_empty_or test) text_field)
 
-abbrev pub pair_of_parts : List ℕ × ℕ → Pair
-pair_of_parts p = plain_pair p.0 p.1
+abbrev pub pair_of_parts : List ℕ × (ℕ × (ℕ × ℕ)) → Pair
+pair_of_parts p = record { owner = p.0; held = p.1.0; floor = p.1.1.0; progress = p.1.1.1 }
 
 unfoldable pub pair_field : Field Pair
-pair_field = made_field pair_of_parts (then_field name_field (number_field w64))
+pair_field = made_field pair_of_parts (then_field name_field (then_field (number_field w64) (then_field (number_field w64) (number_field w64))))
 
 abbrev pub digest_of_parts : Bool × (Option (List ℕ) × (Option (List ℕ) × List Pair)) → Digest
 digest_of_parts d = digest_of d.0 d.1.0 d.1.1.0 d.1.1.1

@@ -57,7 +57,7 @@ unfoldable pub entry : Entry → List ℕ
 entry e = text e.key ++ (number w64 e.version ++ slot e.slot)
 
 unfoldable pub block : Block → List ℕ
-block b = text b.owner ++ (number w64 b.after ++ list entry b.entries)
+block b = text b.owner ++ (number w64 b.floor ++ (number w64 b.after ++ (number w64 b.upto ++ list entry b.entries)))
 
 unfoldable pub hello : Hello → List ℕ
 hello h = text h.cluster ++ text h.node
@@ -71,7 +71,7 @@ optional None = text []
 optional (Some bytes) = text bytes
 
 unfoldable pub pair : Pair → List ℕ
-pair p = text p.owner ++ number w64 p.held
+pair p = text p.owner ++ (number w64 p.held ++ (number w64 p.floor ++ number w64 p.progress))
 
 unfoldable pub digest : Digest → List ℕ
 digest d = flag d.want ++ (optional d.from ++ (optional d.until ++ list pair d.pairs))

@@ -254,9 +254,11 @@ impl<'a> Fields<'a> {
         ensures { Reads (λ x. x) (block_field self.old) result self.new }
     {
         let owner = self.name()?;
+        let floor = self.u64()?;
         let after = self.u64()?;
+        let upto = self.u64()?;
         let entries = self.list(alloc)?;
-        Ok(Block::new(owner, after, entries)?)
+        Ok(Block::new(owner, floor, after, upto, entries)?)
     }
 
     #[tactic(auto, unfolding(crate::specs::Reading::delta_field))]
@@ -282,7 +284,14 @@ impl<'a> Fields<'a> {
     {
         let owner = self.name()?;
         let upto = self.u64()?;
-        Ok(Pair { owner, upto })
+        let staged_floor = self.u64()?;
+        let progress = self.u64()?;
+        Ok(Pair {
+            owner,
+            upto,
+            staged_floor,
+            progress,
+        })
     }
 
     #[tactic(auto, unfolding(crate::specs::Reading::digest_field))]

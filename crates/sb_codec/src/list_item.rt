@@ -79,10 +79,10 @@ impl ListItem for Block {
 
     ghost field = { block_field };
 
-    ghost LEAST = { 23 };
+    ghost LEAST = { 28 };
 
-    // An owner of one byte with its length, the version that it begins after, the count, and an entry.
-    const LEAST: usize = 23;
+    // An owner of one byte with its length, the floor, the versions that it begins after and reaches, and the count.
+    const LEAST: usize = 28;
 
     ghost least = { lit< tt };
 
@@ -108,10 +108,10 @@ impl ListItem for Pair {
 
     ghost field = { pair_field };
 
-    ghost LEAST = { 10 };
+    ghost LEAST = { 26 };
 
-    // An owner of one byte with its length, and the version.
-    const LEAST: usize = 10;
+    // An owner of one byte with its length, the version held, and the floor and the progress of a stage.
+    const LEAST: usize = 26;
 
     ghost least = { lit< tt };
 

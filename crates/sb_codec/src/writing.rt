@@ -127,14 +127,25 @@ pub(crate) fn write_entry(out: &mut Vec<u8>, written: &Entry) -> Result<(), Allo
     write_slot(out, written.slot())
 }
 
+/// What a block has behind its floor.
+#[tactic(auto, using(crate::proofs::Standings::stands_on))]
+fn write_range(out: &mut Vec<u8>, written: &Block) -> Result<(), AllocError>
+    ensures written { OnOk result (out.new.items ≡ out.old.items ++ (number w64 written.now.after ++ (number w64 written.now.upto ++ list entry written.now.entries))) }
+    ensures stands { StandsFirst out.old.items out.new.items }
+{
+    write_u64(out, written.after())?;
+    write_u64(out, written.upto())?;
+    write_list(out, written.entries())
+}
+
 #[tactic(auto, using(crate::proofs::Standings::stands_on), unfolding(crate::specs::Spelling::block))]
 pub(crate) fn write_block(out: &mut Vec<u8>, written: &Block) -> Result<(), AllocError>
     ensures written { OnOk result (out.new.items ≡ out.old.items ++ block written.now) }
     ensures stands { StandsFirst out.old.items out.new.items }
 {
     write_text(out, written.owner().bytes())?;
-    write_u64(out, written.after())?;
-    write_list(out, written.entries())
+    write_u64(out, written.floor())?;
+    write_range(out, written)
 }
 
 #[tactic(auto, using(crate::proofs::Standings::stands_on, crate::proofs::Standings::stands_behind))]
@@ -174,13 +185,24 @@ pub(crate) fn write_place(out: &mut Vec<u8>, after: Option<(Name, Key)>) -> Resu
     write_text(out, key.bytes())
 }
 
+/// What a pair has behind the version held.
+#[tactic(auto, using(crate::proofs::Standings::stands_on))]
+fn write_stage(out: &mut Vec<u8>, written: &Pair) -> Result<(), AllocError>
+    ensures written { OnOk result (out.new.items ≡ out.old.items ++ (number w64 written.now.floor ++ number w64 written.now.progress)) }
+    ensures stands { StandsFirst out.old.items out.new.items }
+{
+    write_u64(out, written.staged_floor)?;
+    write_u64(out, written.progress)
+}
+
 #[tactic(auto, using(crate::proofs::Standings::stands_on), unfolding(crate::specs::Spelling::pair))]
 pub(crate) fn write_pair(out: &mut Vec<u8>, written: &Pair) -> Result<(), AllocError>
     ensures written { OnOk result (out.new.items ≡ out.old.items ++ pair written.now) }
     ensures stands { StandsFirst out.old.items out.new.items }
 {
     write_text(out, written.owner.bytes())?;
-    write_u64(out, written.upto)
+    write_u64(out, written.upto)?;
+    write_stage(out, written)
 }
 
 /// What a row has behind its owner.

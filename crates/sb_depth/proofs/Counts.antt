@@ -15,7 +15,7 @@ use Rattle.sb_holdings.specs.Held.{Held}
 use Rattle.sb_digest.specs.Digests.{Digest}
 use Rattle.sb_budget.specs.declared.offered.Offered.{Offered}
 use Rattle.sb_budget.specs.declared.turns.Turns.TheVariants as turns
-use Rattle.sb_budget.specs.Orders.{AscendsByOwner}
+use Rattle.sb_budget.specs.Orders.{version_of, AscendsByOwner}
 use Rattle.sb_budget.specs.Available.{available_for}
 use Rattle.sb_budget.specs.Cut.{items_of_all, IsCut, CanCut}
 use Rattle.sb_budget.specs.Parts.{Part, all_of, IsNextAfter, IsChain, AreParts, IsDeltaBy}
@@ -27,13 +27,13 @@ use Rattle.sb_budget.proofs.TurnLemmas.{in_turns_first, parts_moved}
 use Rattle.sb_depth.specs.Depth.{by_count}
 
 pub by_count_total : IsTotalOrder by_count
-by_count_total = then_total (then_total (on_total (λ (x : Offered). x.count) (back_total nat_cmp_total)) (on_total (λ (x : Offered). x.owner) nat_list_cmp_total)) (on_total (λ (x : Offered). x.entry.version) nat_cmp_total)
+by_count_total = then_total (then_total (on_total (λ (x : Offered). x.count) (back_total nat_cmp_total)) (on_total (λ (x : Offered). x.owner) nat_list_cmp_total)) (on_total (λ (x : Offered). version_of x) nat_cmp_total)
 
 pub follows : (x y : Offered) → x.owner ≡ y.owner → Before x y → by_count x y ≡ Less
 follows x y same b =
     let counts : nat_cmp y.count x.count ≡ Equal = ap (nat_cmp y.count) b.2 ∙ tied_itself nat_cmp_total y.count in
     let names : slice_cmp nat_cmp x.owner y.owner ≡ Equal = ap (slice_cmp nat_cmp x.owner) (sym same) ∙ tied_itself nat_list_cmp_total x.owner in
-    let versions : nat_cmp x.entry.version y.entry.version ≡ Less = cond-true _ _ _ (lt-ltb x.entry.version y.entry.version b.0) in
+    let versions : nat_cmp (version_of x) (version_of y) ≡ Less = cond-true _ _ _ (lt-ltb (version_of x) (version_of y) b.0) in
     ap₂ ordering_then (ap₂ ordering_then counts names) versions
 
 -- the owner with the greater count first, of equal count the one whose name is first
@@ -50,7 +50,7 @@ next_less : (x y : Offered) → IsNextAfter x y → by_count x y ≡ Less
 next_less x y next =
     let counts : nat_cmp y.count x.count ≡ Equal = ap (nat_cmp y.count) (sym next.2) ∙ tied_itself nat_cmp_total y.count in
     let names : slice_cmp nat_cmp x.owner y.owner ≡ Equal = ap (slice_cmp nat_cmp x.owner) next.0 ∙ tied_itself nat_list_cmp_total x.owner in
-    let versions : nat_cmp x.entry.version y.entry.version ≡ Less = cond-true _ _ _ (lt-ltb x.entry.version y.entry.version next.3) in
+    let versions : nat_cmp (version_of x) (version_of y) ≡ Less = cond-true _ _ _ (lt-ltb (version_of x) (version_of y) next.3) in
     ap₂ ordering_then (ap₂ ordering_then counts names) versions
 
 -- the items of one owner, and then others that come behind each of the owner's
@@ -63,7 +63,7 @@ chain_sorted x (o ∷ os) rest chain sorted behind =
 
 key_less : (x y z : Offered) → by_key x z ≡ Less → y.owner ≡ x.owner → y.count ≡ x.count → is_lt (by_count z y) ≡ false
 key_less x y z less owner count =
-    no_less y z (ap (λ o. ordering_then o (nat_cmp y.entry.version z.entry.version)) (ap₂ (λ n m. ordering_then (nat_cmp z.count n) (slice_cmp nat_cmp m z.owner)) count owner ∙ less))
+    no_less y z (ap (λ o. ordering_then o (nat_cmp (version_of y) (version_of z))) (ap₂ (λ n m. ordering_then (nat_cmp z.count n) (slice_cmp nat_cmp m z.owner)) count owner ∙ less))
 
 parts_sorted : (parts : List Part) → AllPairs (λ p q. by_key p.next q.next ≡ Less) parts → All (λ p. IsChain p.next p.later) parts → IsSorted by_count (all_of parts)
 parts_sorted [] apart chains = λ k d low l. absurd (omega arith)

@@ -10,7 +10,7 @@
 //!     let offered = available(alloc, holdings, &nothing)?;
 //!     let mut versions = Vec::new(alloc);
 //!     for item in Depth.arrange(alloc, offered)?.iter() {
-//!         versions.push((item.owner, item.entry.version()))?;
+//!         versions.push((item.owner, item.version()))?;
 //!     }
 //!     Ok(versions)
 //! }
@@ -38,7 +38,7 @@ use std::cmp::Reverse;
 /// let offered = available(alloc, &holdings, &digest)?;
 /// let ordered = Depth.arrange(alloc, offered)?;
 /// for (item, version) in ordered.iter().zip([1, 2, 1]) {
-///     assert_eq!(rt; item.entry.version(), version);
+///     assert_eq!(rt; item.version(), version);
 /// }
 /// ```
 #[derive(Clone, Copy, Debug)]
@@ -53,7 +53,7 @@ impl DeltaOrder for Depth {
         ensures order { IfOk result (λ ordered. IsSorted by_count ordered.items) }
         ensures memory { IfErr result (λ fault. fault ≡ Fault.NoMemory) }
     {
-        items.sort_unstable_by_key(|item| (Reverse(item.count), item.owner, item.entry.version()));
+        items.sort_unstable_by_key(|item| (Reverse(item.count), item.owner, item.version()));
         Ok(items)
     }
 

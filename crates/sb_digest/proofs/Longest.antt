@@ -98,7 +98,7 @@ owner-most p is =
     leb-true (length p.owner) NAME_MOST (and_parts (leb 1 (length p.owner)) _ (and_parts _ (list_all is_name_byte p.owner) name).0).1
 
 abbrev pair_most : ℕ
-pair_most = NAME_LENGTH_MOST + NUMBER_LENGTH
+pair_most = NAME_LENGTH_MOST + 3 * NUMBER_LENGTH
 
 -- a frame without pairs and without an end
 abbrev head_most : ℕ
@@ -113,7 +113,7 @@ pairs_length-most (p ∷ ps) is =
 pub digest_frame_length-most : (want : Bool) (from : Option (List ℕ)) (ps : List Pair) → is_bound from ≡ true → list_all is_pair ps ≡ true → digest_frame_length (digest_of want from None ps) ≤ head_most + pair_most * length ps
 digest_frame_length-most want from ps bound pairs = omega (arith, bound_length-most from bound, pairs_length-most ps pairs)
 
-pairs_length-least : (ps : List Pair) → (BYTE_LENGTH + NUMBER_LENGTH) * length ps ≤ sum_by pair_length ps
+pairs_length-least : (ps : List Pair) → (BYTE_LENGTH + 3 * NUMBER_LENGTH) * length ps ≤ sum_by pair_length ps
 pairs_length-least [] = omega arith
 pairs_length-least (p ∷ ps) = omega (arith, sum_by-cons pair_length p ps, pairs_length-least ps)
 

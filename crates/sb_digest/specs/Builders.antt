@@ -30,10 +30,10 @@ pub record DigestBuilder : Type 0 where
 abbrev pub with_pair : DigestBuilder → Pair → DigestBuilder
 with_pair f pair = record { budget = f.budget; from = f.from; pairs = f.pairs ++ pair ∷ [] }
 
--- how many bytes it saves to end before a pair: its version, and one length byte, since its owner's name becomes
+-- how many bytes it saves to end before a pair: its three numbers, and one length byte, since its owner's name becomes
 -- the end of the range, whose own length byte stands there in any case
 abbrev pub cut_saves : ℕ
-cut_saves = 9
+cut_saves = 25
 
 -- a digest of all pairs but the last is within the budget
 abbrev pub has_room : DigestBuilder → Bool

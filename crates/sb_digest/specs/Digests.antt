@@ -1,5 +1,5 @@
 -- Digests as plain data, and how they are read.
-use Rattle.std.specs.Prelude.{ℕ, Bool, true, ◌&&◌, List, find, count_by, nat_eq, Option, Some, None}
+use Rattle.std.specs.Prelude.{ℕ, Bool, true, ◌&&◌, if◌then◌else◌, List, find, count_by, nat_eq, nat_le, Option, Some, None, unwrap_or}
 use Rattle.std.specs.Option.{option_map_or}
 use Rattle.std.specs.Ordering.{nat_cmp, is_le}
 use Rattle.std.specs.Cmp.Lexicographic.{slice_cmp, pointwise}
@@ -25,6 +25,10 @@ pub record Digest : Type 0 where
 abbrev pub plain_pair : List ℕ → ℕ → Pair
 plain_pair owner held = record { owner = owner; held = held; floor = 0; progress = 0 }
 
+-- the pair of an owner with a stage of this floor and this progress, or with none
+abbrev pub staged_pair : List ℕ → ℕ → Option (ℕ × ℕ) → Pair
+staged_pair owner held staged = let s = unwrap_or staged (0, 0) in record { owner = owner; held = held; floor = s.0; progress = s.1 }
+
 abbrev pub digest_of : Bool → Option (List ℕ) → Option (List ℕ) → List Pair → Digest
 digest_of want from until pairs = record { want = want; from = from; until = until; pairs = pairs }
 
@@ -43,6 +47,14 @@ pair_at owner pairs = find (λ pair. pointwise nat_eq pair.owner owner) pairs
 -- the version up to which an owner's writes are held, 0 where the digest does not name it
 abbrev pub held_in : Digest → List ℕ → ℕ
 held_in d owner = option_map_or (λ pair. pair.held) (pair_at owner d.pairs) 0
+
+-- the number above which a sender with this floor offers
+abbrev pub number_by : ℕ → Option Pair → ℕ
+number_by floor None = 0
+number_by floor (Some p) = if nat_le floor p.held then p.held else (if nat_eq p.floor floor then p.progress else 0)
+
+abbrev pub number_in : Digest → List ℕ → ℕ → ℕ
+number_in d owner floor = number_by floor (pair_at owner d.pairs)
 
 -- how many pairs' owners are the owner or before it
 abbrev pub at_or_below : List ℕ → List Pair → ℕ

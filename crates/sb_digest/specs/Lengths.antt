@@ -8,9 +8,9 @@ abbrev pub bound_length : Option (List ℕ) → ℕ
 bound_length None = 1
 bound_length (Some name) = 1 + length name
 
--- the owner's length byte and text, and the version
+-- the owner's length byte and text, the version held, and the floor and the progress of a stage
 abbrev pub pair_length : Pair → ℕ
-pair_length p = 9 + length p.owner
+pair_length p = 25 + length p.owner
 
 -- the kind, whether an answer is wanted, the two bounds, the number of pairs, and these
 abbrev pub digest_length : Digest → ℕ

@@ -1,5 +1,5 @@
 -- Which parts make a digest.
-use Rattle.std.specs.Prelude.{ℕ, ◌^◌, Bool, true, ◌&&◌, ◌==◌, nat_le, nat_lt, List, [], ◌∷◌, Option, Some, None}
+use Rattle.std.specs.Prelude.{ℕ, ◌^◌, Bool, true, ◌&&◌, nat_le, nat_lt, List, [], ◌∷◌, Option, Some, None}
 use Rattle.std.specs.List.{list_all}
 use Rattle.sb_types.specs.declared.limits.TheConstants.{PAYLOAD_MOST}
 use Rattle.sb_types.specs.Text.{is_name}
@@ -26,7 +26,7 @@ is_bound None = true
 is_bound (Some name) = is_name name
 
 abbrev pub is_pair : Pair → Bool
-is_pair p = is_name p.owner && nat_lt p.held (2 ^ 64) && p.floor == 0 && p.progress == 0
+is_pair p = is_name p.owner && nat_lt p.held (2 ^ 64) && nat_lt p.floor (2 ^ 64) && nat_lt p.progress (2 ^ 64)
 
 abbrev pub is_digest : Digest → Bool
 is_digest d = is_bound d.from && is_bound d.until && list_all is_pair d.pairs && are_digest_parts d

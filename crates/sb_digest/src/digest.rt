@@ -1,9 +1,9 @@
 //! Digests and their pairs: their parts, their lengths, and what they say of an owner.
-ghost use Rattle.std.specs.Prelude.{◌≡◌, ◌≤◌, ◌+◌, ◌&&◌, [], nat_le, true, Some, None, OnSome, sum_by, if◌then◌else◌, Ok, Err};
+ghost use Rattle.std.specs.Prelude.{◌≡◌, ◌≤◌, ◌+◌, ◌*◌, ◌&&◌, [], nat_le, true, Some, None, OnSome, sum_by, if◌then◌else◌, Ok, Err};
 ghost use Rattle.std.specs.List.{list_all};
 ghost use Rattle.std.specs.Option.{option_copied};
 ghost use Rattle.sb_holdings.specs.Plain.{is_from};
-ghost use Rattle.sb_digest.specs.Digests.{digest_of, is_below, covers, held_in, at_or_below};
+ghost use Rattle.sb_digest.specs.Digests.{digest_of, staged_pair, is_below, covers, number_by, number_in, at_or_below};
 ghost use Rattle.sb_digest.specs.Lengths.{bound_length, pair_length, digest_length};
 ghost use Rattle.sb_digest.specs.Limits.{are_pairs_above, is_range, are_digest_parts, is_bound, is_pair, is_digest};
 
@@ -13,11 +13,14 @@ use sb_types::{
 };
 use std::marker::Model;
 
-/// How far one owner's writes are held: the greatest version that is known, 0 where none is.
+/// How far one owner's writes are held: the greatest version that is known, 0 where none is; and where a stage is to take
+/// the place of what is shown, that stage's floor and how far it has come, 0 and 0 where there is none.
 #[derive(Clone, Copy, Debug)]
 pub struct Pair {
     pub owner: Name,
     pub upto: u64,
+    pub staged_floor: u64,
+    pub progress: u64,
 }
 
 impl Model for Pair {
@@ -26,13 +29,11 @@ impl Model for Pair {
 
     ghost Value = { digests.Pair };
 
-    ghost use Rattle.sb_digest.specs.Digests.{plain_pair};
+    ghost view = { λ p. record { owner = p.owner; held = p.upto; floor = p.staged_floor; progress = p.progress } };
 
-    ghost view = { λ p. plain_pair p.owner p.upto };
+    ghost invariant = { λ p. (p.upto < 2 ^ 64) × (p.staged_floor < 2 ^ 64) × (p.progress < 2 ^ 64) };
 
-    ghost invariant = { λ p. p.upto < 2 ^ 64 };
-
-    ghost inverse = { λ p. record { owner = p.owner; upto = p.held } };
+    ghost inverse = { λ p. record { owner = p.owner; upto = p.held; staged_floor = p.floor; progress = p.progress } };
 }
 
 /// How far a node holds the writes of the owners in a range of names: those at or above `from`, and
@@ -43,10 +44,10 @@ impl Model for Pair {
 /// ```
 /// let a = Name::read(b"a")?;
 /// let b = Name::read(b"b")?;
-/// let pairs = vec![in alloc; Pair { owner: a, upto: 3 }]?;
+/// let pairs = vec![in alloc; Pair::new(a, 3, None)]?;
 /// let digest = Digest::new(true, None, Some(b), pairs)?;
 /// assert!(rt; digest.covers(&a) && !digest.covers(&b));
-/// assert_eq!(rt; digest.number(&a), 3);
+/// assert_eq!(rt; digest.number(&a, 0), 3);
 /// assert_eq!(rt; digest.next_from(), Some(b));
 /// ```
 #[derive(Debug, Drop)]
@@ -177,13 +178,40 @@ fn length_within(head: u64, pairs: &[Pair]) -> Option<u64>
 }
 
 impl Pair {
-    /// How many bytes it takes in a message: 10 to 41.
+    /// The pair of an owner that is held up to a version, and of the floor and the progress of its stage, where it has one.
+    pub fn new(owner: Name, upto: u64, staged: Option<(u64, u64)>) -> Pair
+        ensures { result ≡ staged_pair owner upto staged }
+    {
+        let (staged_floor, progress) = staged.unwrap_or((0, 0));
+        Pair {
+            owner,
+            upto,
+            staged_floor,
+            progress,
+        }
+    }
+
+    /// The version above which a sender whose table has this floor offers: the one held, where the floor is not above it;
+    /// how far the stage has come, where it is one of this floor; and else 0, for the whole table.
+    pub fn number(&self, floor: u64) -> u64
+        ensures { result ≡ number_by floor (Some self.now) }
+    {
+        if floor <= self.upto {
+            self.upto
+        } else if self.staged_floor == floor {
+            self.progress
+        } else {
+            0
+        }
+    }
+
+    /// How many bytes it takes in a message: 26 to 57.
     pub fn encoded_length(&self) -> u64
         ensures length { result ≡ pair_length self.now }
-        ensures most { result ≤ NAME_LENGTH_MOST + NUMBER_LENGTH }
+        ensures most { result ≤ NAME_LENGTH_MOST + 3 * NUMBER_LENGTH }
         ensures pair { is_pair self.now ≡ true }
     {
-        BYTE_LENGTH + self.owner.bytes().len() as u64 + NUMBER_LENGTH
+        BYTE_LENGTH + self.owner.bytes().len() as u64 + 3 * NUMBER_LENGTH
     }
 }
 
@@ -294,31 +322,32 @@ impl Digest {
         is_covered(self.from.as_ref(), self.until.as_ref(), owner)
     }
 
-    /// The greatest version that is known of the owner, 0 where it has no pair.
-    pub fn number(&self, owner: &Name) -> u64
-        ensures { result ≡ held_in self.now owner.now }
+    /// The version above which a sender whose table of the owner has this floor offers, as `Pair::number` says; 0 where the
+    /// owner has no pair.
+    pub fn number(&self, owner: &Name, floor: u64) -> u64
+        ensures { result ≡ number_in self.now owner.now floor }
     {
-        let (number, _) = self.number_from(owner, 0);
+        let (number, _) = self.number_from(owner, floor, 0);
         number
     }
 
     /// The same number, and the place of the next pair, at which to look for the next owner's: as many as there are pairs of
     /// owners at or below this one. It takes a step where the owner's pair is at `place`, as it is where all owners in turn
     /// have one, and else a search.
-    pub fn number_from(&self, owner: &Name, place: usize) -> (u64, usize)
-        ensures number { result.0 ≡ held_in self.now owner.now }
+    pub fn number_from(&self, owner: &Name, floor: u64, place: usize) -> (u64, usize)
+        ensures number { result.0 ≡ number_in self.now owner.now floor }
         ensures place { result.1 ≡ at_or_below owner.now self.now.pairs }
     {
         if let Some(pair) = self.pairs.get(place) {
             if pair.owner == *owner {
-                return (pair.upto, place + 1);
+                return (pair.number(floor), place + 1);
             }
         }
         match self
             .pairs
             .binary_search_by_key(owner, |pair| owner_of(pair))
         {
-            Ok(found) => (self.pairs[found].upto, found + 1),
+            Ok(found) => (self.pairs[found].number(floor), found + 1),
             Err(next) => (0, next),
         }
     }

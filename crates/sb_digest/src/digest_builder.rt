@@ -9,8 +9,8 @@ use sb_types::{BUDGET_LEAST, BUDGET_MOST, BYTE_LENGTH, Fault, HEADER_LENGTH, NUM
 use std::alloc::Global;
 use std::marker::Model;
 
-/// How many bytes a digest saves that ends before its last pair: that pair's version and a length byte.
-const CUT_SAVES: u64 = NUMBER_LENGTH + BYTE_LENGTH;
+/// How many bytes a digest saves that ends before its last pair: that pair's three numbers and a length byte.
+const CUT_SAVES: u64 = 3 * NUMBER_LENGTH + BYTE_LENGTH;
 
 /// Pairs from a bound on, as long as a digest that ends before the last of them is within the budget.
 #[derive(Drop)]

@@ -31,10 +31,7 @@ pub fn build(
 {
     let mut front = DigestBuilder::new(alloc, from.as_ref(), budget);
     for (owner, table) in holdings.tables_from(from.as_ref()) {
-        let pair = Pair {
-            owner: *owner,
-            upto: table.upto(),
-        };
+        let pair = Pair::new(*owner, table.upto(), holdings.staged(owner));
         if !front.push(pair)? {
             return Ok(front.cut(want));
         }

@@ -1,12 +1,12 @@
 //! What follows from the definitions alone, for the crates above. The functions do nothing: each clause is
 //! a law.
-ghost use Rattle.std.specs.Prelude.{◌≡◌, ℕ, ◌<◌, ◌^◌, Bool, true, List, length, Option};
+ghost use Rattle.std.specs.Prelude.{◌≡◌, ℕ, ◌<◌, ◌^◌, Bool, true, List, length, Option, Some};
 ghost use Rattle.sb_holdings.specs.Held.{Held, shown_of};
 ghost use Rattle.sb_digest.specs.Digests as digests;
-ghost use Rattle.sb_digest.specs.Digests.{covers, held_in};
+ghost use Rattle.sb_digest.specs.Digests.{covers, held_in, number_by, number_in};
 ghost use Rattle.sb_digest.specs.Limits.{is_digest};
 ghost use Rattle.sb_digest.specs.Builders.{IsLongestFront};
-ghost use Rattle.sb_digest.specs.Pairs.{pairs_from};
+ghost use Rattle.sb_digest.specs.Pairs.{pair_of, pairs_from};
 
 /// A digest has so few pairs that two bytes hold how many there are.
 pub fn digests_have_few_pairs()
@@ -19,10 +19,13 @@ pub fn one_front_is_longest()
         IsLongestFront budget want from pairs a → IsLongestFront budget want from pairs b → a ≡ b }
 {}
 
-/// A digest of what is held tells of each owner that it covers how far that is held, whether it names the
-/// owner or not.
+/// A digest of what is held tells of each owner that it covers how far that is held, and the number above which a sender of
+/// whatever floor offers, whether it names the owner or not.
 pub fn digests_are_true()
-    ensures { (held : Held) (budget : ℕ) (want : Bool) (from : Option (List ℕ)) (d : digests.Digest) (owner : List ℕ) →
+    ensures held { (held : Held) (budget : ℕ) (want : Bool) (from : Option (List ℕ)) (d : digests.Digest) (owner : List ℕ) →
         IsLongestFront budget want from (pairs_from from held) d → covers d owner ≡ true →
         held_in d owner ≡ (shown_of held owner).held }
+    ensures number { (held : Held) (budget : ℕ) (want : Bool) (from : Option (List ℕ)) (d : digests.Digest) (owner : List ℕ) (floor : ℕ) →
+        IsLongestFront budget want from (pairs_from from held) d → covers d owner ≡ true →
+        number_in d owner floor ≡ number_by floor (Some (pair_of held (owner, shown_of held owner))) }
 {}

@@ -1,8 +1,8 @@
 //! Digests: what a node tells a peer of how far it holds each owner's writes.
 //!
-//! A digest has a pair for each owner in a range of names: the owner, and the greatest version that is held. `build` makes the
-//! digest of holdings within a budget, and the next digest begins where it ends. A peer answers a digest with a delta, which
-//! `sb_budget` makes.
+//! A digest has a pair for each owner in a range of names: the owner, the greatest version that is held, and of a stage the
+//! floor and how far it has come. `build` makes the digest of holdings within a budget, and the next digest begins where it
+//! ends. A peer answers a digest with a delta, which `sb_budget` makes.
 //!
 //! ```rust
 //! /// The version up to which a node that made one write tells that it holds its own writes.
@@ -12,7 +12,7 @@
 //!     table.push(Entry::new(key, 1, Slot::Set(Value::flag(true))))?;
 //!     let holdings = Holdings::new(alloc, me, table)?;
 //!     let digest = build(alloc, &holdings, None, true, BUDGET_LEAST)?;
-//!     Ok(digest.number(&me))
+//!     Ok(digest.number(&me, 0))
 //! }
 //! ```
 #![tactic(auto)]

@@ -1,20 +1,20 @@
 -- What views lack leads to the node as it stands.
 use Rattle.std.proofs.Common.{◌≡◌, ℕ, List, sym, subst}
 use Rattle.std.specs.FinMap.{empty}
-use Rattle.sb_types.specs.Records.{Entry}
 use Rattle.sb_holdings.specs.Held.{Held}
 use Rattle.sb_holdings.specs.Nodes.{Node}
 use Rattle.sb_holdings.specs.Plain.{IsHoldings}
+use Rattle.sb_views.specs.declared.change.Change.{Change}
 use Rattle.sb_views.specs.declared.event.Event.{Event}
+use Rattle.sb_views.specs.Changes.{Leads}
 use Rattle.sb_views.specs.Growing.{AreGrown}
-use Rattle.sb_views.specs.NodeViews.{Leads}
 use Rattle.sb_views.specs.Histories.{node_after}
 use Rattle.sb_views.proofs.Growing.{grown-none}
 use Rattle.sb_directory.specs.Behind.{Behind, all_lacked, AreSince}
 use Rattle.sb_directory.proofs.Lacking.{lacked-leads, nothing-since}
 
 module _ (opening core : Node) (upto : List Event) (same : core ≡ node_after opening upto) where
-  pub batch-leads : (queued : List Event) (behind : Behind) (batch : List (List ℕ × Entry)) → IsHoldings core.held → AreGrown (node_after opening queued).held core.held
+  pub batch-leads : (queued : List Event) (behind : Behind) (batch : List (List ℕ × Change)) → IsHoldings core.held → AreGrown (node_after opening queued).held core.held
       → AreSince (node_after opening queued).held core.held behind → batch ≡ all_lacked behind core.held → Leads (node_after opening queued).held (node_after opening upto).held batch
   batch-leads queued behind batch is grown since all =
       let old : Held = (node_after opening queued).held in

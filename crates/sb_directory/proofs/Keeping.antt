@@ -13,8 +13,7 @@ use Rattle.sb_holdings.specs.Held.{Held, shown_of, written}
 use Rattle.sb_holdings.specs.Plain.{IsHoldings, next_version, own_answer}
 use Rattle.sb_holdings.specs.Nodes.{Node, NodeEvent, Wrote, node_after_event, replay_node}
 use Rattle.sb_holdings.specs.Treats.{Treats, took_each}
-use Rattle.sb_holdings.proofs.Changed.{shown-plain}
-use Rattle.sb_holdings.proofs.Lent.{entry-next}
+use Rattle.sb_holdings.proofs.Changed.{entry-next}
 use Rattle.sb_holdings.proofs.Nodes.{replay_node-append}
 use Rattle.sb_node.specs.Cores.{Core, with_node}
 use Rattle.sb_watch.specs.declared.note.Note.{Note}
@@ -23,14 +22,15 @@ use Rattle.sb_watch.specs.Hubs.{AllNotes}
 use Rattle.sb_watch.proofs.KeptNotes.{weaker_keeps}
 use Rattle.sb_views.specs.declared.event.Event.{Event}
 use Rattle.sb_views.specs.declared.event.Event.TheVariants.{TookOwn, Applied}
+use Rattle.sb_views.specs.declared.change.Change.{Change}
+use Rattle.sb_views.specs.declared.change.Change.TheVariants.{Enter}
+use Rattle.sb_views.specs.Changes.{table_with_all}
 use Rattle.sb_views.specs.Growing.{AreGrown}
-use Rattle.sb_views.specs.NodeViews.{table_with_all}
 use Rattle.sb_views.specs.Histories.{node_events_of, node_after}
 use Rattle.sb_views.proofs.Prefixes.{prefix_trans}
-use Rattle.sb_views.proofs.Grown.{grown-held}
 use Rattle.sb_views.proofs.Growing.{grown-on, own-grown, delta-grown}
 use Rattle.sb_views.proofs.Leading.{own-leads}
-use Rattle.sb_directory.specs.Behind.{Behind, with_owner, HasOwners, AreSince}
+use Rattle.sb_directory.specs.Behind.{Behind, since_of, with_owner, HasOwners, AreSince}
 use Rattle.sb_directory.specs.Notes.{note_of, with_notes, entered_of, versions_of, is_held}
 use Rattle.sb_directory.specs.ViewedNodes.{ViewedNode, IsViewedNode, after_own, after_delta, with_published, with_hub}
 use Rattle.sb_directory.proofs.Lacking.{add-has, added-since, own-since, delta-since}
@@ -53,15 +53,13 @@ begins-longer queued history event begins = prefix_trans queued history (history
 
 -- ---- what is noted in watches
 
-raised : (note : Note) (old new : Held) → AreGrown old new → IsHoldings new → is_held old note ≡ true → is_held new note ≡ true
-raised note old new grown is held =
-    let le : (shown_of old note.owner).held ≤ (shown_of new note.owner).held =
-    grown-held (shown_of old note.owner) (shown_of new note.owner) (grown note.owner) (shown-plain new is note.owner) in
-    le-leb note.version (shown_of new note.owner).held (omega (arith, le, leb-true note.version (shown_of old note.owner).held held))
+raised : (note : Note) (old new : Held) → AreGrown old new → is_held old note ≡ true → is_held new note ≡ true
+raised note old new grown held =
+    le-leb note.version (shown_of new note.owner).held (omega (arith, (grown note.owner).held, leb-true note.version (shown_of old note.owner).held held))
 
-pub notes-raised : (old new : Held) (hub : Hub) → AreGrown old new → IsHoldings new → AllNotes (is_held old) hub → AllNotes (is_held new) hub
-notes-raised old new hub grown is notes =
-    weaker_keeps (λ note. is_held old note ≡ true) (λ note. is_held new note ≡ true) hub (λ note held. raised note old new grown is held) notes
+pub notes-raised : (old new : Held) (hub : Hub) → AreGrown old new → AllNotes (is_held old) hub → AllNotes (is_held new) hub
+notes-raised old new hub grown notes =
+    weaker_keeps (λ note. is_held old note ≡ true) (λ note. is_held new note ≡ true) hub (λ note held. raised note old new grown held) notes
 
 -- ---- what is lacked, before more comes
 
@@ -70,14 +68,19 @@ pub noted : (opening : Node) (queued : List Event) (behind more : Behind) (l : V
     → AreSince (node_after opening queued).held l.core.node.held more → IsViewedNode opening queued more l
 noted opening queued behind more l is since = record { node = is.node; begins = is.begins; grown = is.grown; since = since; notes = is.notes }
 
-pub added-locked : (opening : Node) (queued : List Event) (behind more : Behind) (l : ViewedNode) (owner : List ℕ) (version : ℕ) → IsViewedNode opening queued behind l
-    → more ≡ with_owner behind owner version → version ≡ (shown_of l.core.node.held owner).held → IsViewedNode opening queued more l
-added-locked opening queued behind more l owner version is step at =
-    noted opening queued behind more l is (added-since behind owner version (node_after opening queued).held l.core.node.held more step at is.since)
+-- the version of an owner is read of the node, and the floor of what it holds
+pub since-read : (held lent : Held) (owner : List ℕ) (version floor : ℕ) → version ≡ (shown_of held owner).held → floor ≡ (shown_of lent owner).floor → lent ≡ held
+    → (let since : ℕ × ℕ = (version, floor) in since) ≡ since_of held owner
+since-read held lent owner version floor is at same = λ i. (is i, (at ∙ ap (λ (h : Held). (shown_of h owner).floor) same) i)
 
-pub added-there : (behind more : Behind) (owner me : List ℕ) (version : ℕ) → more ≡ with_owner behind owner version → owner ≡ me → contains_key more me ≡ true
-added-there behind more owner me version step same =
-    subst (λ (o : List ℕ). contains_key more o ≡ true) same (subst (λ (m : Behind). contains_key m owner ≡ true) (sym step) (add-has behind owner version))
+pub added-locked : (opening : Node) (queued : List Event) (behind more : Behind) (l : ViewedNode) (owner : List ℕ) (since : ℕ × ℕ) → IsViewedNode opening queued behind l
+    → more ≡ with_owner behind owner since → since ≡ since_of l.core.node.held owner → IsViewedNode opening queued more l
+added-locked opening queued behind more l owner since is step at =
+    noted opening queued behind more l is (added-since behind owner since (node_after opening queued).held l.core.node.held more step at is.since)
+
+pub added-there : (behind more : Behind) (owner me : List ℕ) (since : ℕ × ℕ) → more ≡ with_owner behind owner since → owner ≡ me → contains_key more me ≡ true
+added-there behind more owner me since step same =
+    subst (λ (o : List ℕ). contains_key more o ≡ true) same (subst (λ (m : Behind). contains_key m owner ≡ true) (sym step) (add-has behind owner since))
 
 -- ---- an own write
 
@@ -91,15 +94,15 @@ own-turn held e answer =
 
 own-held : (held : Held) (e : Entry) → e.version ≡ (shown_of held held.me).held + 1 → (shown_of (written held e) held.me).held ≡ e.version
 own-held held e next =
-    ap (λ (t : Table). t.held) (own-leads held e next held.me)
-    ∙ ap (λ (b : Bool). (table_with_all (shown_of held held.me) (map (λ (p : List ℕ × Entry). p.1) (cond b ((held.me, e) ∷ []) []))).held) (text_same held.me held.me refl)
+    sym (own-leads held e next held.me).held
+    ∙ ap (λ (b : Bool). (table_with_all (shown_of held held.me) (map (λ (p : List ℕ × Change). p.1) (cond b ((held.me, Enter e) ∷ []) []))).held) (text_same held.me held.me refl)
 
 own-noted : (held : Held) (e : Entry) → e.version ≡ (shown_of held held.me).held + 1 → is_held (written held e) (note_of (held.me, e)) ≡ true
 own-noted held e next = le-leb e.version (shown_of (written held e) held.me).held (omega (arith, own-held held e next))
 
 module _ (opening : Node) (queued : List Event) (behind : Behind) (old : ViewedNode) (is : IsViewedNode opening queued behind old) (holds : IsHoldings old.core.node.held) where
   module _ (e : Entry) (turn : own_answer old.core.node.held e ≡ Ok tt) (entry : is_entry e ≡ true) (few : (shown_of old.core.node.held old.core.node.held.me).held < 2 ^ 64)
-      (after : IsHoldings (written old.core.node.held e)) (has : contains_key behind old.core.node.held.me ≡ true) where
+      (has : contains_key behind old.core.node.held.me ≡ true) where
     next : e.version ≡ (shown_of old.core.node.held old.core.node.held.me).held + 1
     next = entry-next e _ entry few (own-turn old.core.node.held e turn)
 
@@ -107,10 +110,10 @@ module _ (opening : Node) (queued : List Event) (behind : Behind) (old : ViewedN
     own-locked published = record {
       node = ap (λ (n : Node). node_after_event n (Wrote e)) is.node ∙ sym (node-own opening old.history e);
       begins = begins-longer queued old.history (TookOwn e) is.begins;
-      grown = grown-on (node_after opening queued).held old.core.node.held (written old.core.node.held e) holds is.grown (own-grown old.core.node.held e holds);
+      grown = grown-on (node_after opening queued).held old.core.node.held (written old.core.node.held e) is.grown (own-grown old.core.node.held e holds);
       since = own-since behind (node_after opening queued).held old.core.node.held e has is.since;
       notes = noted-held (written old.core.node.held e) old.hub ((old.core.node.held.me, e) ∷ [])
-          (notes-raised old.core.node.held (written old.core.node.held e) old.hub (own-grown old.core.node.held e holds) after is.notes)
+          (notes-raised old.core.node.held (written old.core.node.held e) old.hub (own-grown old.core.node.held e holds) is.notes)
           (own-noted old.core.node.held e next, tt);
     }
 
@@ -130,10 +133,10 @@ module _ (opening : Node) (queued : List Event) (behind : Behind) (old : ViewedN
         record {
           node = ap (λ (n : Node). replay_node n (took_each blocks ends)) is.node ∙ sym (node-delta opening old.history blocks ends);
           begins = begins-longer queued old.history (Applied blocks ends) is.begins;
-          grown = grown-on (node_after opening queued).held old.core.node.held new.held holds is.grown grown;
+          grown = grown-on (node_after opening queued).held old.core.node.held new.held is.grown grown;
           since = delta-since behind (node_after opening queued).held old.core.node blocks ends has is.since;
           notes = noted-held new.held old.hub (entered_of blocks old.core.node.held new.held)
-              (notes-raised old.core.node.held new.held old.hub grown after is.notes)
+              (notes-raised old.core.node.held new.held old.hub grown is.notes)
               (since-held new.held (versions_of old.core.node.held blocks) after);
         }
 

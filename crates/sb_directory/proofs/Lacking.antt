@@ -1,17 +1,12 @@
 -- What views lack, as owners are added and as more comes to be held.
-use Rattle.std.proofs.Common.{◌≡◌, ℕ, Bool, true, false, cond, ◌&&◌, nat_eq, List, [], ◌∷◌, ◌++◌, map, filter, Option, Some, None, is_some, T, refl, sym, ap, subst, ◌∙◌, append-nil}
+use Rattle.std.proofs.Common.{◌≡◌, ℕ, Bool, true, false, cond, nat_eq, List, [], ◌∷◌, ◌++◌, Option, Some, None, is_some, T, refl, sym, ap, subst, ◌∙◌, append-nil}
 use Rattle.std.proofs.lemmas.Bool.{cond_both, false_from_ne_true}
 use Rattle.std.proofs.lemmas.Cmp.{nat_list_cmp_total, nat_list_eq_equiv}
-use Rattle.std.proofs.lemmas.List.{map-append}
-use Rattle.std.proofs.lemmas.List.Elements.{filter-append}
 use Rattle.std.specs.Cmp.Lexicographic.{slice_cmp, pointwise, texts_ties}
 use Rattle.std.specs.Ordering.{nat_cmp, eq_by_cmp, is_lt}
-use Rattle.std.specs.declared.cmp.Ordering.{Ordering}
-use Rattle.std.specs.declared.cmp.Ordering.TheVariants.{Less, Equal, Greater}
 use Rattle.std.specs.FinMap.{FinMap, get, contains_key, insert, empty, entries, entries_sorted, get-entries, get-empty, get-insert, find, is_sorted}
 use Rattle.std.specs.FinMap.Entries.{below_all}
 use Rattle.sb_types.specs.Records.{Entry, Table, Block, Holder}
-use Rattle.sb_types.specs.Runs.{above}
 use Rattle.sb_types.proofs.Texts.{same_text, text_same, apart-from_Less}
 use Rattle.sb_holdings.specs.declared.ends.BlockEnd.{BlockEnd}
 use Rattle.sb_holdings.specs.declared.ends.BlockEnd.TheVariants.{Own, OwnAhead, Gap, Stale, OwnersFull, Taken, TooManyKeys, NoMemory}
@@ -21,20 +16,22 @@ use Rattle.sb_holdings.specs.Plain.{IsHoldings}
 use Rattle.sb_holdings.specs.Shown.{own}
 use Rattle.sb_holdings.specs.Taken.{holder_after_block}
 use Rattle.sb_holdings.specs.Treats.{took_each}
+use Rattle.sb_holdings.proofs.Changed.{IsHolder-held}
 use Rattle.sb_holdings.proofs.Nodes.{Put, put_with}
+use Rattle.sb_views.specs.declared.change.Change.{Change}
+use Rattle.sb_views.specs.Changes.{Leads, IsAlike, of_owner, table_with_all, lacked_of}
 use Rattle.sb_views.specs.Growing.{AreGrown}
-use Rattle.sb_views.specs.NodeViews.{Leads, of_owner, table_with_all}
-use Rattle.sb_views.proofs.Beginning.{of_owner-above}
+use Rattle.sb_views.proofs.Beginning.{first, second, less, turned, of_owner-owned}
 use Rattle.sb_views.proofs.ByText.{by_text}
-use Rattle.sb_views.proofs.Following.{new-leads}
-use Rattle.sb_directory.specs.Behind.{Behind, with_owner, HasOwners, entries_since, all_lacked, IsSince, AreSince}
+use Rattle.sb_views.proofs.Changing.{same-alike, lacked-alike}
+use Rattle.sb_directory.specs.Behind.{Behind, since_of, with_owner, HasOwners, lacked_since, all_lacked, IsSince, AreSince}
 use Rattle.sb_directory.proofs.Rising.{put-owner}
 
-no-key : (r : Option ℕ) → is_some r ≡ false → r ≡ None
+no-key : (r : Option (ℕ × ℕ)) → is_some r ≡ false → r ≡ None
 no-key None is = refl
 no-key (Some v) is = absurd (cc)
 
-none-there : (r : Option ℕ) → r ≡ None → is_some r ≡ true → ⊥
+none-there : (r : Option (ℕ × ℕ)) → r ≡ None → is_some r ≡ true → ⊥
 none-there None is there = absurd (cc)
 none-there (Some v) is there = absurd (cc)
 
@@ -43,11 +40,11 @@ none-there (Some v) is there = absurd (cc)
 abbrev Includes : Behind → Behind → Type 0
 Includes a b = (q : List ℕ) → contains_key a q ≡ true → contains_key b q ≡ true
 
-module _ (m : Behind) (o : List ℕ) (v : ℕ) where
+module _ (m : Behind) (o : List ℕ) (v : ℕ × ℕ) where
   at-key : eq_by_cmp by_text o o ≡ true
   at-key = sym (texts_ties o o) ∙ text_same o o refl
 
-  add-since : (old held : Held) → v ≡ (shown_of held o).held → AreSince old held m → AreSince old held (with_owner m o v)
+  add-since : (old held : Held) → v ≡ since_of held o → AreSince old held m → AreSince old held (with_owner m o v)
   add-since old held is since =
       cond_both (contains_key m o) m (insert m o v) (AreSince old held) (λ _. since)
       (λ none q.
@@ -55,24 +52,26 @@ module _ (m : Behind) (o : List ℕ) (v : ℕ) where
       (cond_both (eq_by_cmp by_text q o) (Some v) (get m q) (IsSince (shown_of old q) (shown_of held q))
       (λ same.
       let there : q ≡ o = same_text q o (texts_ties q o ∙ same) in
-      let as_was : shown_of held o ≡ shown_of old o = subst (IsSince (shown_of old o) (shown_of held o)) (no-key (get m o) none) (since o) in
-      is ∙ ap (λ (t : Table). t.held) as_was ∙ sym (ap (λ (n : List ℕ). (shown_of old n).held) there))
+      let as_was : shown_of held o ≡ shown_of old o = subst (IsSince (shown_of old o) (shown_of held o)) (no-key (get m o) none) (since o) in (
+        ap (λ (s : ℕ × ℕ). s.0) is ∙ ap (λ (t : Table). t.held) as_was ∙ sym (ap (λ (n : List ℕ). (shown_of old n).held) there),
+        ap (λ (s : ℕ × ℕ). s.1) is ∙ ap (λ (t : Table). t.floor) as_was ∙ sym (ap (λ (n : List ℕ). (shown_of old n).floor) there),
+      ))
       (λ _. since q)))
 
   add-includes : Includes m (with_owner m o v)
   add-includes =
       cond_both (contains_key m o) m (insert m o v) (Includes m) (λ _ q is. is)
       (λ none q is.
-      subst (λ (r : Option ℕ). is_some r ≡ true) (sym (get-insert nat_list_cmp_total m o v q))
-      (cond_both (eq_by_cmp by_text q o) (Some v) (get m q) (λ (r : Option ℕ). is_some r ≡ true) (λ _. refl) (λ _. is)))
+      subst (λ (r : Option (ℕ × ℕ)). is_some r ≡ true) (sym (get-insert nat_list_cmp_total m o v q))
+      (cond_both (eq_by_cmp by_text q o) (Some v) (get m q) (λ (r : Option (ℕ × ℕ)). is_some r ≡ true) (λ _. refl) (λ _. is)))
 
   pub add-has : contains_key (with_owner m o v) o ≡ true
   add-has =
       cond_both (contains_key m o) m (insert m o v) (λ (n : Behind). contains_key n o ≡ true) (λ is. is)
       (λ none. ap is_some (get-insert nat_list_cmp_total m o v o ∙ ap (λ (b : Bool). cond b (Some v) (get m o)) at-key))
 
-  -- so it is wherever the version is that which is held
-  pub added-since : (old held : Held) (new : Behind) → new ≡ with_owner m o v → v ≡ (shown_of held o).held → AreSince old held m → AreSince old held new
+  -- so it is wherever the version and the floor are those of what is held
+  pub added-since : (old held : Held) (new : Behind) → new ≡ with_owner m o v → v ≡ since_of held o → AreSince old held m → AreSince old held new
   added-since old held new step is since = subst (AreSince old held) (sym step) (add-since old held is since)
 
 -- ---- owners of blocks are added
@@ -85,9 +84,9 @@ pub adding-begins : (held : Held) (all : List Block) (from : Behind) (rest : Lis
 adding-begins held all from rest is = record { since = λ old at. at; owners = λ m more has. subst (HasOwners m) is has }
 
 pub adding-goes_on : (held : Held) (all : List Block) (from behind new : Behind) (b : Block) (rest : List Block)
-    → IsAdding held all from behind (b ∷ rest) → new ≡ with_owner behind b.owner (shown_of held b.owner).held → IsAdding held all from new rest
+    → IsAdding held all from behind (b ∷ rest) → new ≡ with_owner behind b.owner (since_of held b.owner) → IsAdding held all from new rest
 adding-goes_on held all from behind new b rest is step =
-    let v = (shown_of held b.owner).held in
+    let v = since_of held b.owner in
     record {
       since = λ old at. added-since behind b.owner v old held new step refl (is.since old at);
       owners = λ m more has.
@@ -133,7 +132,7 @@ module _ (m : Behind) where
   delta-apart node (b ∷ bs) (end ∷ ends) q has none =
       delta-apart (node_after_block node b end) bs ends q has.1 none ∙ block-apart node b end q (key-apart q b.owner none has.0)
 
-  since-case : (old mid new : Table) (r : Option ℕ) → IsSince old mid r → (r ≡ None → new ≡ mid) → IsSince old new r
+  since-case : (old mid new : Table) (r : Option (ℕ × ℕ)) → IsSince old mid r → (r ≡ None → new ≡ mid) → IsSince old new r
   since-case old mid new None at same = same refl ∙ at
   since-case old mid new (Some v) at same = at
 
@@ -158,76 +157,49 @@ nothing-since held q = subst (IsSince (shown_of held q) (shown_of held q)) (sym 
 
 -- ---- what is lacked leads on
 
-first : (a b : Bool) → T (a && b) → T a
-first true b p = tt
-first false b p = p
-
-second : (a b : Bool) → T (a && b) → T b
-second true b p = p
-second false b p = absurd p
-
-less : (r : Ordering) → T (is_lt r) → r ≡ Less
-less Less p = refl
-less Equal p = absurd p
-less Greater p = absurd p
-
 module _ (held : Held) (o : List ℕ) where
-  -- the owner's entries above the version, where there is one
-  abbrev due : Option ℕ → List Entry
+  -- what views lack of the owner, where it stands there
+  abbrev due : Option (ℕ × ℕ) → List Change
   due None = []
-  due (Some v) = above v (shown_of held o).entries
+  due (Some s) = lacked_of s.0 s.1 (shown_of held o)
 
-  mine-case : (b : Bool) (owner : List ℕ) (es : List Entry) → pointwise nat_eq owner o ≡ b → of_owner o (map (λ e. (owner, e)) es) ≡ cond b es []
-  mine-case true owner [] is = refl
-  mine-case false owner [] is = refl
-  mine-case true owner (e ∷ es) is = rw is (ap (λ (xs : List Entry). e ∷ xs) (mine-case true owner es is))
-  mine-case false owner (e ∷ es) is = rw is (mine-case false owner es is)
-
-  of_owner-append : (xs ys : List (List ℕ × Entry)) → of_owner o (xs ++ ys) ≡ of_owner o xs ++ of_owner o ys
-  of_owner-append xs ys =
-      ap (map (λ (p : List ℕ × Entry). p.1)) (filter-append (λ (p : List ℕ × Entry). pointwise nat_eq p.0 o) xs ys)
-      ∙ map-append (λ (p : List ℕ × Entry). p.1) (filter (λ p. pointwise nat_eq p.0 o) xs) (filter (λ p. pointwise nat_eq p.0 o) ys)
-
-  next : (p : List ℕ × ℕ) (ps : List (List ℕ × ℕ)) (b : Bool) → pointwise nat_eq p.0 o ≡ b
-      → of_owner o (entries_since (p ∷ ps) held) ≡ cond b (above p.1 (shown_of held p.0).entries) [] ++ of_owner o (entries_since ps held)
-  next p ps b is =
-      of_owner-append (map (λ e. (p.0, e)) (above p.1 (shown_of held p.0).entries)) (entries_since ps held)
-      ∙ ap (λ (xs : List Entry). xs ++ of_owner o (entries_since ps held)) (mine-case b p.0 (above p.1 (shown_of held p.0).entries) is)
-
-  others : (ps : List (List ℕ × ℕ)) → T (below_all by_text o ps) → of_owner o (entries_since ps held) ≡ []
+  others : (ps : List (List ℕ × (ℕ × ℕ))) → T (below_all by_text o ps) → of_owner o (lacked_since ps held) ≡ []
   others [] below = refl
   others (p ∷ ps) below =
       let apart = apart-from_Less o p.0 (less (by_text o p.0) (first (is_lt (by_text o p.0)) _ below)) in
-      next p ps false (nat_list_eq_equiv.symm p.0 o ∙ apart) ∙ others ps (second (is_lt (by_text o p.0)) _ below)
+      of_owner-owned o p.0 (lacked_of p.1.0 p.1.1 (shown_of held p.0)) (lacked_since ps held) false (nat_list_eq_equiv.symm p.0 o ∙ apart)
+      ∙ others ps (second (is_lt (by_text o p.0)) _ below)
 
-  turned : (owner : List ℕ) (b : Bool) → eq_by_cmp by_text o owner ≡ b → pointwise nat_eq owner o ≡ b
-  turned owner b is = nat_list_eq_equiv.symm owner o ∙ texts_ties o owner ∙ is
-
-  mine-or : (p : List ℕ × ℕ) (ps : List (List ℕ × ℕ)) (b : Bool) → eq_by_cmp by_text o p.0 ≡ b → T (below_all by_text p.0 ps)
-      → of_owner o (entries_since ps held) ≡ due (find by_text o ps)
-      → cond b (above p.1 (shown_of held p.0).entries) [] ++ of_owner o (entries_since ps held) ≡ due (cond b (Some p.1) (find by_text o ps))
+  mine-or : (p : List ℕ × (ℕ × ℕ)) (ps : List (List ℕ × (ℕ × ℕ))) (b : Bool) → eq_by_cmp by_text o p.0 ≡ b → T (below_all by_text p.0 ps)
+      → of_owner o (lacked_since ps held) ≡ due (find by_text o ps)
+      → cond b (lacked_of p.1.0 p.1.1 (shown_of held p.0)) [] ++ of_owner o (lacked_since ps held) ≡ due (cond b (Some p.1) (find by_text o ps))
   mine-or p ps true is below rest =
       let same : p.0 ≡ o = sym (same_text o p.0 (texts_ties o p.0 ∙ is)) in
-      ap (λ (xs : List Entry). above p.1 (shown_of held p.0).entries ++ xs) (others ps (subst (λ (owner : List ℕ). T (below_all by_text owner ps)) same below))
-      ∙ append-nil (above p.1 (shown_of held p.0).entries)
-      ∙ ap (λ (owner : List ℕ). above p.1 (shown_of held owner).entries) same
+      let lacked = lacked_of p.1.0 p.1.1 (shown_of held p.0) in
+      ap (λ (xs : List Change). lacked ++ xs) (others ps (subst (λ (owner : List ℕ). T (below_all by_text owner ps)) same below))
+      ∙ append-nil lacked
+      ∙ ap (λ (owner : List ℕ). lacked_of p.1.0 p.1.1 (shown_of held owner)) same
   mine-or p ps false is below rest = rest
 
-  mine : (ps : List (List ℕ × ℕ)) → T (is_sorted by_text ps) → of_owner o (entries_since ps held) ≡ due (find by_text o ps)
+  mine : (ps : List (List ℕ × (ℕ × ℕ))) → T (is_sorted by_text ps) → of_owner o (lacked_since ps held) ≡ due (find by_text o ps)
   mine [] up = refl
   mine (p ∷ ps) up =
       let b = eq_by_cmp by_text o p.0 in
-      next p ps b (turned p.0 b refl) ∙ mine-or p ps b refl (first (below_all by_text p.0 ps) _ up) (mine ps (second (below_all by_text p.0 ps) _ up))
+      of_owner-owned o p.0 (lacked_of p.1.0 p.1.1 (shown_of held p.0)) (lacked_since ps held) b (turned o p.0 b refl)
+      ∙ mine-or p ps b refl (first (below_all by_text p.0 ps) _ up) (mine ps (second (below_all by_text p.0 ps) _ up))
 
-  lacked-of : (m : Behind) → of_owner o (all_lacked m held) ≡ due (get m o)
-  lacked-of m = mine (entries m) (entries_sorted m) ∙ ap due (sym (get-entries m o))
+  due-lacked : (m : Behind) → due (get m o) ≡ of_owner o (all_lacked m held)
+  due-lacked m = sym (mine (entries m) (entries_sorted m) ∙ ap due (sym (get-entries m o)))
 
-  leads-case : (old : Held) → IsHoldings held → AreGrown old held → (r : Option ℕ) → IsSince (shown_of old o) (shown_of held o) r → shown_of held o ≡ table_with_all (shown_of old o) (due r)
-  leads-case old is grown None at = at
-  leads-case old is grown (Some v) at =
-      new-leads old held is grown o
-      ∙ ap (table_with_all (shown_of old o)) (of_owner-above held (λ owner. (shown_of old owner).held) o ∙ ap (λ (n : ℕ). above n (shown_of held o).entries) (sym at))
+  leads-case : (old : Held) → IsHoldings held → AreGrown old held → (r : Option (ℕ × ℕ)) → IsSince (shown_of old o) (shown_of held o) r
+      → IsAlike (table_with_all (shown_of old o) (due r)) (shown_of held o)
+  leads-case old is grown None at = same-alike (shown_of old o) (shown_of held o) (sym at)
+  leads-case old is grown (Some s) at =
+      let t = shown_of old o in
+      let u = shown_of held o in
+      subst (λ (version : ℕ). IsAlike (table_with_all t (lacked_of version s.1 u)) u) (sym at.0)
+      (subst (λ (floor : ℕ). IsAlike (table_with_all t (lacked_of t.held floor u)) u) (sym at.1) (lacked-alike t u (IsHolder-held held is o).shown (grown o)))
 
 pub lacked-leads : (old new : Held) (m : Behind) → IsHoldings new → AreGrown old new → AreSince old new m → Leads old new (all_lacked m new)
 lacked-leads old new m is grown since =
-    λ o. leads-case new o old is grown (get m o) (since o) ∙ ap (table_with_all (shown_of old o)) (sym (lacked-of new o m))
+    λ o. subst (λ (cs : List Change). IsAlike (table_with_all (shown_of old o) cs) (shown_of new o)) (due-lacked new o m) (leads-case new o old is grown (get m o) (since o))

@@ -8,13 +8,12 @@ use Rattle.sb_types.specs.Runs.{Stands, above}
 use Rattle.sb_types.proofs.Standing.{of_above}
 use Rattle.sb_holdings.specs.Held.{Held, nothing, shown_of}
 use Rattle.sb_holdings.specs.Plain.{IsHoldings, table_of}
-use Rattle.sb_holdings.proofs.Changed.{shown-plain}
+use Rattle.sb_holdings.proofs.Changed.{IsHolder-held}
 use Rattle.sb_holdings.proofs.Order.{run_upto}
 use Rattle.sb_watch.specs.Records.{Hub}
 use Rattle.sb_watch.specs.Hubs.{AllNotes, with_push}
 use Rattle.sb_watch.proofs.KeptNotes.{pushed_keeps}
-use Rattle.sb_directory.specs.Behind.{owned_above, entries_since}
-use Rattle.sb_directory.specs.Notes.{note_of, with_notes, is_held}
+use Rattle.sb_directory.specs.Notes.{note_of, with_notes, owned_above, entries_since, is_held}
 
 pub notes-append : (hub : Hub) (xs ys : List (List ℕ × Entry)) → with_notes hub (xs ++ ys) ≡ with_notes (with_notes hub xs) ys
 notes-append hub [] ys = refl
@@ -49,9 +48,9 @@ pub held-table : (o : Option Holder) (t : Table) → Some t ≡ option_map (λ (
 held-table None t is = absurd (cc)
 held-table (Some h) t is = cc
 
-pub no-table : (v : ℕ) (o : Option Holder) → None ≡ option_map (λ (h : Holder). h.shown) o → above v (unwrap_or o nothing).shown.entries ≡ []
-no-table v None is = refl
-no-table v (Some h) is = absurd (cc)
+pub no-table : (o : Option Holder) → None ≡ option_map (λ (h : Holder). h.shown) o → (unwrap_or o nothing).shown ≡ nothing.shown
+no-table None is = refl
+no-table (Some h) is = absurd (cc)
 
 pub telling_all-goes_on : (held : Held) (from : Hub) (all : List (List ℕ × ℕ)) (hub new : Hub) (p : List ℕ × ℕ) (rest : List (List ℕ × ℕ)) (t : Table)
     → IsTellingAll held from all hub (p ∷ rest) → Some t ≡ table_of held p.0 → new ≡ with_notes hub (owned_above p.1 p.0 t) → IsTellingAll held from all new rest
@@ -66,7 +65,7 @@ pub telling_all-passes : (held : Held) (from : Hub) (all : List (List ℕ × ℕ
     → IsTellingAll held from all hub (p ∷ rest) → None ≡ table_of held p.0 → IsTellingAll held from all hub rest
 telling_all-passes held from all hub p rest is none =
     record {
-      left = sym (ap (λ (es : List Entry). with_notes hub (map (λ e. (p.0, e)) es ++ entries_since rest held)) (no-table p.1 (get held.owners p.0) none)) ∙ is.left;
+      left = sym (ap (λ (t : Table). with_notes hub (owned_above p.1 p.0 t ++ entries_since rest held)) (no-table (get held.owners p.0) none)) ∙ is.left;
     }
 
 pub telling_all-ends : (held : Held) (from : Hub) (all : List (List ℕ × ℕ)) (hub : Hub) (rest : List (List ℕ × ℕ))
@@ -120,5 +119,5 @@ since-held held [] is = tt
 since-held held (p ∷ ps) is =
     both-held held (owned_above p.1 p.0 (shown_of held p.0)) (entries_since ps held)
     (owned-held held p.0 (above p.1 (shown_of held p.0).entries)
-    (λ e s. run_upto e (shown-plain held is p.0).run (of_above p.1 (shown_of held p.0).entries e s).0))
+    (λ e s. run_upto e (IsHolder-held held is p.0).shown.run (of_above p.1 (shown_of held p.0).entries e s).0))
     (since-held held ps is)

@@ -15,7 +15,8 @@ use Rattle.sb_holdings.specs.declared.ends.BlockEnd.{BlockEnd}
 use Rattle.sb_holdings.specs.declared.ends.BlockEnd.TheVariants.{Own, OwnAhead, Gap, Stale, OwnersFull, Taken, TooManyKeys, NoMemory}
 use Rattle.sb_holdings.specs.Blocks.{part_above, front}
 use Rattle.sb_holdings.specs.Shown.{joins_shown, shown_with, stage_beyond, own}
-use Rattle.sb_holdings.specs.Stages.{new_stage, goes_on, begins, stage_for, stage_with, swapped, staged_all, staged_front, staged_refused}
+use Rattle.sb_table.specs.Floors.{swapped}
+use Rattle.sb_holdings.specs.Stages.{new_stage, goes_on, begins, stage_for, stage_with, staged_all, staged_front, staged_refused}
 use Rattle.sb_holdings.specs.Taken.{routed, holder_after_block}
 use Rattle.sb_holdings.specs.Held.{Held, nothing, holder_of, shown_of, with_owner, held_after_taking}
 use Rattle.sb_holdings.specs.Nodes.{Node, NodeEvent, Wrote, Took, held_by, node_after_event, replay_node}

@@ -1,46 +1,47 @@
 -- What views lack.
-use Rattle.std.specs.Prelude.{◌≡◌, ℕ, true, if◌then◌else◌, List, [], ◌∷◌, map, flat_map, Option, Some, None}
+use Rattle.std.specs.Prelude.{◌≡◌, ℕ, true, if◌then◌else◌, List, [], ◌∷◌, flat_map, Option, Some, None}
 use Rattle.std.specs.Ordering.{nat_cmp}
 use Rattle.std.specs.Cmp.Lexicographic.{slice_cmp}
 use Rattle.std.specs.FinMap.{FinMap, get, contains_key, insert, entries, from_sorted}
-use Rattle.sb_types.specs.Records.{Entry, Table, Block}
-use Rattle.sb_types.specs.Runs.{above}
+use Rattle.sb_types.specs.Records.{Table, Block}
 use Rattle.sb_holdings.specs.Held.{Held, shown_of}
+use Rattle.sb_views.specs.declared.change.Change.{Change}
+use Rattle.sb_views.specs.Changes.{owned, lacked_of}
 
--- the owners of whom views may lack writes, each with the version up to which they have them
+-- the owners of whom views may lack something, each with the version up to which they have it and the floor that its table had
 abbrev pub Behind : Type 0
-Behind = FinMap (slice_cmp nat_cmp) ℕ
+Behind = FinMap (slice_cmp nat_cmp) (ℕ × ℕ)
 
 -- of a list in the order of the names
-abbrev pub behind_by : List (List ℕ × ℕ) → Behind
-behind_by versions = from_sorted versions
+abbrev pub behind_by : List (List ℕ × (ℕ × ℕ)) → Behind
+behind_by owners = from_sorted owners
 
--- with an owner added; one that stands there keeps its version
-abbrev pub with_owner : Behind → List ℕ → ℕ → Behind
-with_owner behind owner version = if contains_key behind owner then behind else insert behind owner version
+-- up to which version an owner is held, and the floor of its table
+abbrev pub since_of : Held → List ℕ → ℕ × ℕ
+since_of held owner = ((shown_of held owner).held, (shown_of held owner).floor)
+
+-- with an owner added; one that stands there keeps its version and its floor
+abbrev pub with_owner : Behind → List ℕ → ℕ × ℕ → Behind
+with_owner behind owner since = if contains_key behind owner then behind else insert behind owner since
 
 -- the owners of these blocks all stand there
 abbrev pub HasOwners : Behind → List Block → Type 0
 HasOwners behind [] = Unit {0}
 HasOwners behind (b ∷ bs) = (contains_key behind b.owner ≡ true) × HasOwners behind bs
 
--- an owner's entries above a version, each with the owner
-abbrev pub owned_above : ℕ → List ℕ → Table → List (List ℕ × Entry)
-owned_above version owner t = map (λ e. (owner, e)) (above version t.entries)
-
--- what is held of these owners above these versions
-abbrev pub entries_since : List (List ℕ × ℕ) → Held → List (List ℕ × Entry)
-entries_since versions held = flat_map (λ p. owned_above p.1 p.0 (shown_of held p.0)) versions
+-- what views lack of these owners that have them up to these versions and with these floors
+abbrev pub lacked_since : List (List ℕ × (ℕ × ℕ)) → Held → List (List ℕ × Change)
+lacked_since owners held = flat_map (λ p. owned p.0 (lacked_of p.1.0 p.1.1 (shown_of held p.0))) owners
 
 -- all that views lack, owner by owner
-abbrev pub all_lacked : Behind → Held → List (List ℕ × Entry)
-all_lacked behind held = entries_since (entries behind) held
+abbrev pub all_lacked : Behind → Held → List (List ℕ × Change)
+all_lacked behind held = lacked_since (entries behind) held
 
--- an owner that stands there has the version that was held before; of another all is as it was
-abbrev pub IsSince : Table → Table → Option ℕ → Type 0
+-- an owner that stands there has the version that was held before, and the floor from then; of another all is as it was
+abbrev pub IsSince : Table → Table → Option (ℕ × ℕ) → Type 0
 IsSince old new None = new ≡ old
-IsSince old new (Some version) = version ≡ old.held
+IsSince old new (Some since) = (since.0 ≡ old.held) × (since.1 ≡ old.floor)
 
--- it has each owner of whom more is held now than was held before, with the version from then
+-- it has each owner of whom another table is held now than before, with the version and the floor from then
 abbrev pub AreSince : Held → Held → Behind → Type 0
 AreSince old new behind = (owner : List ℕ) → IsSince (shown_of old owner) (shown_of new owner) (get behind owner)

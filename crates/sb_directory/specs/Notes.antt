@@ -1,11 +1,11 @@
 -- What is noted in watches.
-use Rattle.std.specs.Prelude.{ℕ, Bool, nat_le, List, [], ◌∷◌, map}
-use Rattle.sb_types.specs.Records.{Entry, Block}
+use Rattle.std.specs.Prelude.{ℕ, Bool, nat_le, List, [], ◌∷◌, map, flat_map}
+use Rattle.sb_types.specs.Records.{Entry, Table, Block}
+use Rattle.sb_types.specs.Runs.{above}
 use Rattle.sb_holdings.specs.Held.{Held, shown_of}
 use Rattle.sb_watch.specs.declared.note.Note.{Note}
 use Rattle.sb_watch.specs.Records.{Hub}
 use Rattle.sb_watch.specs.Hubs.{with_push}
-use Rattle.sb_directory.specs.Behind.{entries_since}
 
 -- whose write it is, under which key, and its version
 abbrev pub note_of : List ℕ × Entry → Note
@@ -15,6 +15,14 @@ note_of p = record { owner = p.0; key = p.1.key; version = p.1.version }
 abbrev pub with_notes : Hub → List (List ℕ × Entry) → Hub
 with_notes hub [] = hub
 with_notes hub (p ∷ ps) = with_notes (with_push hub (note_of p)) ps
+
+-- an owner's entries above a version, each with the owner
+abbrev pub owned_above : ℕ → List ℕ → Table → List (List ℕ × Entry)
+owned_above version owner t = map (λ e. (owner, e)) (above version t.entries)
+
+-- what is held of these owners above these versions
+abbrev pub entries_since : List (List ℕ × ℕ) → Held → List (List ℕ × Entry)
+entries_since versions held = flat_map (λ p. owned_above p.1 p.0 (shown_of held p.0)) versions
 
 -- the owners of these blocks, each with the version up to which it is held
 abbrev pub versions_of : Held → List Block → List (List ℕ × ℕ)

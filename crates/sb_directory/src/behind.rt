@@ -1,4 +1,4 @@
-//! Of which owners views may lack writes.
+//! Of which owners views may lack something.
 ghost use Rattle.std.specs.Prelude.{◌≡◌, true, IfErr, OnOk, OnErr};
 ghost use Rattle.std.specs.FinMap.{empty, entries, contains_key};
 ghost use Rattle.sb_holdings.specs.Held.{Held};
@@ -11,10 +11,10 @@ use std::collections::BTreeMap;
 use std::collections::btree_map::Iter;
 use std::marker::Model;
 
-/// Owners of whom views may lack writes, each with the version up to which they have them.
+/// Owners of whom views may lack something, each with the version up to which they have it and the floor that its table had.
 #[derive(Drop)]
 pub(crate) struct Behind {
-    versions: BTreeMap<Name, u64>,
+    owners: BTreeMap<Name, (u64, u64)>,
 }
 
 impl Model for Behind {
@@ -29,9 +29,9 @@ impl Model for Behind {
 
     ghost coded = { Prim.hlevel (codes, code) };
 
-    ghost view = { λ b. spec.behind_by b.versions.entries };
+    ghost view = { λ b. spec.behind_by b.owners.entries };
 
-    ghost invariant = { λ b. IsOrdered (slice_cmp nat_cmp) b.versions };
+    ghost invariant = { λ b. IsOrdered (slice_cmp nat_cmp) b.owners };
 }
 
 impl Behind {
@@ -40,21 +40,21 @@ impl Behind {
         ensures { result ≡ empty }
     {
         Behind {
-            versions: BTreeMap::new(alloc),
+            owners: BTreeMap::new(alloc),
         }
     }
 
-    /// Adds an owner, with the version up to which views have its writes; one that stands here keeps its version.
-    /// `NoMemory`, which changes nothing.
-    pub(crate) fn add(&mut self, owner: Name, version: u64) -> Result<(), Fault>
-        ensures ok { OnOk result (self.new ≡ spec.with_owner self.old owner version) }
+    /// Adds an owner, with the version up to which views have it and the floor that its table had; one that stands here
+    /// keeps its own. `NoMemory`, which changes nothing.
+    pub(crate) fn add(&mut self, owner: Name, since: (u64, u64)) -> Result<(), Fault>
+        ensures ok { OnOk result (self.new ≡ spec.with_owner self.old owner since) }
         ensures err { OnErr result (self.new ≡ self.old) }
         ensures memory { IfErr result (λ fault. fault ≡ Fault.NoMemory) }
     {
-        if self.versions.contains_key(&owner) {
+        if self.owners.contains_key(&owner) {
             return Ok(());
         }
-        match self.versions.insert(owner, version) {
+        match self.owners.insert(owner, since) {
             Ok(earlier) => {
                 drop(earlier);
                 Ok(())
@@ -74,22 +74,23 @@ impl Behind {
         ensures memory { IfErr result (λ fault. fault ≡ Fault.NoMemory) }
     {
         for block in blocks {
-            self.add(*block.owner(), holdings.upto(block.owner()))?;
+            let owner = block.owner();
+            self.add(*owner, (holdings.upto(owner), holdings.floor(owner)))?;
         }
         Ok(())
     }
 
-    /// The owners in ascending order, each with the version up to which views have its writes.
-    pub(crate) fn owners(&self) -> Iter<'_, Name, u64>
+    /// The owners in ascending order, each with the version up to which views have it and the floor that its table had.
+    pub(crate) fn owners(&self) -> Iter<'_, Name, (u64, u64)>
         ensures { result ≡ entries self.now }
     {
-        self.versions.iter()
+        self.owners.iter()
     }
 
     /// Views lack nothing any more.
     pub(crate) fn clear(&mut self)
         ensures { self.new ≡ empty }
     {
-        self.versions.clear();
+        self.owners.clear();
     }
 }

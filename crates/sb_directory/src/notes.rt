@@ -1,7 +1,6 @@
 //! Noting in watches what was entered.
 ghost use Rattle.std.specs.Prelude.{◌≡◌, ◌∷◌, [], IfOk, IfErr};
 ghost use Rattle.sb_directory.specs.Notes as spec;
-ghost use Rattle.sb_directory.specs.Behind.{owned_above, entries_since};
 
 use sb_holdings::Holdings;
 use sb_table::Table;
@@ -22,7 +21,7 @@ pub(crate) fn push_note(hub: &mut Hub, owner: &Name, entry: &Entry)
 
 /// Notes an owner's writes above a version in watches.
 fn push_notes_above(hub: &mut Hub, owner: &Name, table: &Table, version: u64)
-    ensures { hub.new ≡ spec.with_notes hub.old (owned_above version owner.now table.now) }
+    ensures { hub.new ≡ spec.with_notes hub.old (spec.owned_above version owner.now table.now) }
 {
     for entry in table.after(version) {
         push_note(hub, owner, entry);
@@ -31,7 +30,7 @@ fn push_notes_above(hub: &mut Hub, owner: &Name, table: &Table, version: u64)
 
 /// Notes in watches what is held of these owners above these versions.
 pub(crate) fn push_notes_since(hub: &mut Hub, holdings: &Holdings, versions: Vec<(Name, u64)>)
-    ensures { hub.new ≡ spec.with_notes hub.old (entries_since versions.items holdings.now) }
+    ensures { hub.new ≡ spec.with_notes hub.old (spec.entries_since versions.items holdings.now) }
 {
     for (owner, version) in versions {
         if let Some(table) = holdings.table(&owner) {

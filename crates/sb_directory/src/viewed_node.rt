@@ -101,7 +101,8 @@ impl<S: NodeTag, R: Wait + Drop> ViewedNode<S, R> {
         }
         let me = *self.core.name();
         let entry = committed.entry();
-        self.behind.add(me, self.core.upto(&me))?;
+        let since = (self.core.upto(&me), self.core.holdings().floor(&me));
+        self.behind.add(me, since)?;
         self.core.take_own(committed)?;
         add_event(rt, &self.head, &mut self.history, EventRef::TookOwn(entry));
         push_note(&mut self.hub, &me, entry);

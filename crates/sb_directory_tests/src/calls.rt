@@ -150,6 +150,25 @@ fn writes_of_others_are_shown(rt: HostRuntime) {
     answers(&rt, rt.alloc(), &cases);
 }
 
+/// A stage whose floor is above all that is held takes the place of what is shown: keys that it lacks are shown no longer,
+/// and those that it tells of older writes of stay as they were. Then a block without entries tells how far b is held.
+#[test]
+fn a_floor_takes_rows(rt: HostRuntime) {
+    let cases = [
+        (Call::Delta(b"b", 0, b"xyz"), taken(3)),
+        (Call::Rows, Answer::Rows(3)),
+        (Call::Floor(5, 6, b"z"), taken(1)),
+        (Call::Read, Answer::Read(2, 0, 6)),
+        (Call::Rows, Answer::Rows(1)),
+        (Call::Floor(6, 8, b""), taken(0)),
+        (Call::Read, Answer::Read(3, 0, 8)),
+        (Call::Rows, Answer::Rows(1)),
+        (Call::Delta(b"b", 8, b"xy"), taken(2)),
+        (Call::Rows, Answer::Rows(3)),
+    ];
+    answers(&rt, rt.alloc(), &cases);
+}
+
 /// The log's next write, its 4,097th, is under a key that the node has no room for.
 #[test]
 fn a_full_table_takes_no_new_key(rt: HostRuntime) {

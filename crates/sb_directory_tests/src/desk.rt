@@ -1,6 +1,6 @@
 //! A node with its log and watches beside it; and calls of it as data, with what they answer.
 
-use crate::making::{commit, delta_of, first_of, key, name, node_of, prefix};
+use crate::making::{commit, delta_of, delta_with_floor, first_of, key, name, node_of, prefix};
 use crate::reached::Reach;
 use crate::{got, same_at, there};
 use sb_digest::Digest;
@@ -27,6 +27,9 @@ pub(crate) enum Call {
     TakeOfAnother,
     /// A delta of one block is taken: what an owner wrote under these letters, from the version behind the number on.
     Delta(&'static [u8], u64, &'static [u8]),
+    /// A delta of one block of b is taken, of this floor: what b wrote under these letters, from its first version on, up to
+    /// the second number.
+    Floor(u64, u64, &'static [u8]),
     /// What b gives for the node's own digest is taken; b has two writes of a.
     DeltaOfPeer,
     /// A watch of the keys with a prefix is added, with room for so many notes.
@@ -43,6 +46,8 @@ pub(crate) enum Call {
     Keys,
     /// The reader enters, and leaves.
     Read,
+    /// It counts the rows of b.
+    Rows,
     /// A digest of all owners is made, and the delta for a peer that holds nothing.
     Tell,
 }
@@ -62,6 +67,7 @@ pub(crate) enum Answer {
     Keys(usize),
     /// How many events the reader has seen, and how far a and b are held.
     Read(u64, u64, u64),
+    Rows(usize),
     /// How far the digest tells that a and b are held, and how many blocks the delta has.
     Told(u64, u64, usize),
     Refused(Fault),
@@ -153,6 +159,7 @@ impl<S: DirectoryTag, H: Wait + Drop> Desk<S, H> {
             Call::Take => self.take(rt),
             Call::TakeOfAnother => self.take_of_another(rt),
             Call::Delta(owner, after, letters) => self.take_delta(rt, owner, after, letters),
+            Call::Floor(floor, upto, letters) => self.take_floor(rt, floor, upto, letters),
             Call::DeltaOfPeer => self.take_of_peer(rt),
             Call::Watch(text, capacity) => self.watch(rt, text, capacity),
             Call::Watches(count) => self.watch_all(rt, count),
@@ -162,6 +169,7 @@ impl<S: DirectoryTag, H: Wait + Drop> Desk<S, H> {
             Call::Conflict => Answer::Conflict(self.node.conflict(rt)),
             Call::Keys => Answer::Keys(self.node.keys(rt)),
             Call::Read => self.read(rt),
+            Call::Rows => Answer::Rows(self.node.read(rt).2),
             Call::Tell => self.tell(rt),
         }
     }
@@ -196,6 +204,17 @@ impl<S: DirectoryTag, H: Wait + Drop> Desk<S, H> {
         letters: &[u8],
     ) -> Answer {
         let delta = delta_of(rt, self.alloc, owner, after, letters);
+        self.apply(rt, &delta)
+    }
+
+    fn take_floor<Q: Wait + Abort>(
+        &mut self,
+        rt: &Q,
+        floor: u64,
+        upto: u64,
+        letters: &[u8],
+    ) -> Answer {
+        let delta = delta_with_floor(rt, self.alloc, floor, upto, letters);
         self.apply(rt, &delta)
     }
 
@@ -254,7 +273,7 @@ impl<S: DirectoryTag, H: Wait + Drop> Desk<S, H> {
     }
 
     fn read(&mut self, rt: &impl Abort) -> Answer {
-        let (events, [of_a, of_b]) = self.node.read(rt);
+        let (events, [of_a, of_b], _) = self.node.read(rt);
         Answer::Read(events, of_a, of_b)
     }
 
@@ -267,8 +286,8 @@ impl<S: DirectoryTag, H: Wait + Drop> Desk<S, H> {
     fn told<Q: Wait + Abort>(&mut self, rt: &Q) -> (u64, u64) {
         let digest = got(rt, self.node.digest(rt, true));
         (
-            digest.number(&name(rt, b"a")),
-            digest.number(&name(rt, b"b")),
+            digest.number(&name(rt, b"a"), 0),
+            digest.number(&name(rt, b"b"), 0),
         )
     }
 

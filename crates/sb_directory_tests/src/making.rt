@@ -70,6 +70,17 @@ fn entry_behind(rt: &impl Abort, version: u64, text: &[u8]) -> Entry {
     Entry::new(key(rt, text), version.saturating_add(1), weight(rt, 7))
 }
 
+/// What an owner wrote under these letters, from the version behind `after` on.
+fn entries_behind(rt: &impl Abort, alloc: Global, after: u64, letters: &[u8]) -> Vec<Entry> {
+    let mut entries = Vec::new(alloc);
+    let mut version = after;
+    for letter in letters {
+        got(rt, entries.push(entry_behind(rt, version, &[*letter])));
+        version = version.saturating_add(1);
+    }
+    entries
+}
+
 /// A delta of one block: what an owner wrote under these letters, from the version behind `after` on.
 pub(crate) fn delta_of(
     rt: &impl Abort,
@@ -78,13 +89,22 @@ pub(crate) fn delta_of(
     after: u64,
     letters: &[u8],
 ) -> Delta {
-    let mut entries = Vec::new(alloc);
-    let mut version = after;
-    for letter in letters {
-        got(rt, entries.push(entry_behind(rt, version, &[*letter])));
-        version = version.saturating_add(1);
-    }
-    let block = got(rt, Block::new(name(rt, owner), after, entries));
+    let entries = entries_behind(rt, alloc, after, letters);
+    let upto = after.saturating_add(letters.len() as u64);
+    let block = got(rt, Block::new(name(rt, owner), 0, after, upto, entries));
+    got(rt, delta_of_block(alloc, block))
+}
+
+/// A delta of one block of b with this floor: what b wrote under these letters, from its first version on, up to a version.
+pub(crate) fn delta_with_floor(
+    rt: &impl Abort,
+    alloc: Global,
+    floor: u64,
+    upto: u64,
+    letters: &[u8],
+) -> Delta {
+    let entries = entries_behind(rt, alloc, 0, letters);
+    let block = got(rt, Block::new(name(rt, b"b"), floor, 0, upto, entries));
     got(rt, delta_of_block(alloc, block))
 }
 

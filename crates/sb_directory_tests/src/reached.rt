@@ -1,7 +1,7 @@
 //! How calls reach a node: a viewed node itself, or from a seat of its directory.
 ghost use Rattle.std.specs.Prelude.{◌≡◌};
 
-use crate::making::name;
+use crate::making::{name, prefix};
 use crate::{got, same, there};
 use sb_digest::Digest;
 use sb_directory::{Directory, DirectoryTag, ReaderSeat, ViewedNode};
@@ -16,15 +16,17 @@ use std::process::Abort;
 use std::sync::Wait;
 use std::sync::ledger::Blank;
 
-/// What a reader sees: how many events, and how far a and b are held.
-pub(crate) type Seen = (u64, [u64; 2]);
+/// What a reader sees: how many events, how far a and b are held, and how many rows b has.
+pub(crate) type Seen = (u64, [u64; 2], usize);
 
-/// How far a and b are held.
-fn uptos(rt: &impl Abort, snapshot: &Snapshot<'_>) -> [u64; 2] {
-    [
-        snapshot.upto(&name(rt, b"a")),
-        snapshot.upto(&name(rt, b"b")),
-    ]
+/// What is seen after so many events.
+fn seen_of(rt: &impl Abort, events: u64, snapshot: &Snapshot<'_>) -> Seen {
+    let (a, b) = (name(rt, b"a"), name(rt, b"b"));
+    let mut rows: usize = 0;
+    for _ in snapshot.rows(Some(b), prefix(rt, b"")) {
+        rows = rows.saturating_add(1);
+    }
+    (events, [snapshot.upto(&a), snapshot.upto(&b)], rows)
 }
 
 /// A viewed node, and its one reader, which is away only while it reads.
@@ -59,7 +61,7 @@ pub(crate) fn bare_of<S: DirectoryTag, R: Wait + Abort>(
 fn read_once<S: NodeTag>(rt: &impl Abort, reader: Reader<S>) -> (Reader<S>, Seen) {
     match reader.enter() {
         Ok(entered) => {
-            let seen = (entered.seen().len(), uptos(rt, &entered.snapshot()));
+            let seen = seen_of(rt, entered.seen().len(), &entered.snapshot());
             (entered.leave(), seen)
         }
         Err(_) => panic!(rt; "error: not entered"),
@@ -153,7 +155,7 @@ pub(crate) fn seated_of<S: DirectoryTag, R: Wait + Abort>(
 fn read_seated<S: NodeTag>(rt: &impl Abort, seat: ReaderSeat<S>) -> (ReaderSeat<S>, Seen) {
     match seat.enter() {
         Ok(entered) => {
-            let seen = (entered.seen().len(), uptos(rt, &entered.snapshot()));
+            let seen = seen_of(rt, entered.seen().len(), &entered.snapshot());
             (entered.leave(), seen)
         }
         Err(_) => panic!(rt; "error: not entered"),

@@ -72,9 +72,9 @@ fn serve_new<R: Wait + Abort>(rt: &R, alloc: Global, piece: usize) {
 
 #[test]
 fn a_peer_is_served(rt: HostRuntime) {
-    for piece in [1usize, 7, 42] {
+    for piece in [1usize, 7, 58] {
         serve_new(&rt, rt.alloc(), piece);
     }
     // Hello, the delta and the digest.
-    same(&rt, &SAID_BY_B.len(), &67);
+    same(&rt, &SAID_BY_B.len(), &99);
 }

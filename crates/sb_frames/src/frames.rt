@@ -64,7 +64,7 @@ fn take_first(frame: &mut Bytes, buffer: &mut BytesMut) -> Result<Option<Message
 ///
 /// ```
 /// let mut frames = Frames::new(alloc);
-/// frames.feed(b"\xa7\x02\x00\x00\x00")?;
+/// frames.feed(b"\xa7\x03\x00\x00\x00")?;
 /// assert!(frames.next()?.is_none());
 /// frames.feed(b"\x02\x04\x01")?;
 /// let message = frames.next()?;

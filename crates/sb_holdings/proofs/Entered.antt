@@ -5,7 +5,7 @@ use Rattle.std.proofs.lemmas.List.{take_more}
 use Rattle.sb_types.specs.declared.limits.TheConstants.{KEYS_MOST}
 use Rattle.sb_types.specs.Records.{Entry, Table}
 use Rattle.sb_types.specs.Runs.{are_ascending, are_distinct, entered, last_version}
-use Rattle.sb_table.specs.Plain.{IsPlainTable, is_full_for, with_entry}
+use Rattle.sb_table.specs.Plain.{is_full_for, with_entry}
 use Rattle.sb_table.proofs.Ascent.{last_version-push}
 use Rattle.sb_table.proofs.Enter.{length-entered, length-entered_full}
 use Rattle.sb_holdings.specs.Entering.{entered_each}
@@ -48,11 +48,11 @@ module _ (t u : Table) (es : List Entry) (n : ℕ) (x : Entry) (key : List ℕ) 
   keys-next : are_distinct es ≡ true → length (entered u.entries (x ∷ [])) ≡ keys_with (n + 1) es t.entries
   keys-next apart = ap (λ (v : Table). length v.entries) (with_entries-next apart)
 
-  pub keys-so_far : IsPlainTable u → keys_with n es t.entries ≤ KEYS_MOST
-  keys-so_far plain = omega (arith, plain.limit, ap (λ (v : Table). length v.entries) at)
+  pub keys-so_far : length u.entries ≤ KEYS_MOST → keys_with n es t.entries ≤ KEYS_MOST
+  keys-so_far limit = omega (arith, limit, ap (λ (v : Table). length v.entries) at)
 
-  pub keys-room : are_distinct es ≡ true → IsPlainTable u → is_full_for key u.entries ≡ false → keys_with (n + 1) es t.entries ≤ KEYS_MOST
-  keys-room apart plain room = omega (arith, length-entered x u.entries KEYS_MOST plain.limit (ap (λ (k : List ℕ). is_full_for k u.entries) (sym key_is) ∙ room), keys-next apart)
+  pub keys-room : are_distinct es ≡ true → length u.entries ≤ KEYS_MOST → is_full_for key u.entries ≡ false → keys_with (n + 1) es t.entries ≤ KEYS_MOST
+  keys-room apart limit room = omega (arith, length-entered x u.entries KEYS_MOST limit (ap (λ (k : List ℕ). is_full_for k u.entries) (sym key_is) ∙ room), keys-next apart)
 
   pub keys-full : are_distinct es ≡ true → is_full_for key u.entries ≡ true → KEYS_MOST < keys_with (n + 1) es t.entries
   keys-full apart full = omega (arith, length-entered_full x u.entries KEYS_MOST (ap (λ (k : List ℕ). is_full_for k u.entries) (sym key_is) ∙ full), keys-next apart)

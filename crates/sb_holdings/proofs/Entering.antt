@@ -12,7 +12,7 @@ module _ {X : Type 0} (p q : X → Bool) where
   sifted true x xs = refl
   sifted false x xs = refl
 
-  filter-filter : (xs : List X) → filter p (filter q xs) ≡ filter (λ x. q x && p x) xs
+  pub filter-filter : (xs : List X) → filter p (filter q xs) ≡ filter (λ x. q x && p x) xs
   filter-filter [] = refl
   filter-filter (x ∷ xs) = sifted (q x) x (filter q xs) ∙ ap (λ r. cond (q x && p x) (x ∷ r) r) (filter-filter xs)
 
@@ -25,7 +25,7 @@ without_more e es entries =
     filter-filter (λ x. not (has_key x.key es)) (λ x. not (has_key x.key (e ∷ []))) entries
     ∙ filter_agree (λ x. not (has_key x.key (e ∷ [])) && not (has_key x.key es)) (λ x. not (has_key x.key (e ∷ es))) (λ x. neither (pointwise nat_eq e.key x.key) (has_key x.key es)) entries
 
-without_none : (entries : List Entry) → without [] entries ≡ entries
+pub without_none : (entries : List Entry) → without [] entries ≡ entries
 without_none [] = refl
 without_none (x ∷ xs) = ap (λ r. x ∷ r) (without_none xs)
 

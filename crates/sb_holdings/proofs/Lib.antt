@@ -18,9 +18,10 @@ pub mod ByOwner
 pub mod Entered
 pub mod Changed
 pub mod Ended
-pub mod Lent
 pub mod Growing
 pub mod Filling
 pub mod Opened
 pub mod TakenUp
 pub mod Replaced
+pub mod Holding
+pub mod Naming

@@ -25,7 +25,7 @@ no_stage : (o : Option Stage) → is_none o ≡ true → None ≡ o
 no_stage None e = refl
 no_stage (Some s) e = absurd (false≢true e)
 
-is_nothing_is : (h : Holder) → is_nothing h ≡ true → nothing ≡ h
+pub is_nothing_is : (h : Holder) → is_nothing h ≡ true → nothing ≡ h
 is_nothing_is h e =
     let a = and_parts _ _ e in
     let b = and_parts _ _ a.1 in

@@ -1,32 +1,44 @@
 -- What a node holds that has just opened.
 use Rattle.std.proofs.Common.{◌≡◌, ℕ, Bool, true, false, cond, List, [], ◌∷◌, Option, Some, None, unwrap_or, refl, sym, ap, subst, ◌∙◌, nat_eq, arith}
 use Rattle.std.proofs.lemmas.Bool.{cond_both}
-use Rattle.std.specs.Option.{option_map}
+use Rattle.std.specs.FinMap.{get}
 use Rattle.std.specs.Cmp.Lexicographic.{pointwise, texts_ties}
 use Rattle.std.specs.List.Sorted.{IsStrictlySortedBy}
 use Rattle.sb_types.specs.declared.entry.Write.{Write}
 use Rattle.sb_types.specs.Records.{Table, Holder}
 use Rattle.sb_types.specs.Writes.{Holds, HolderHolds}
+use Rattle.sb_table.specs.Floors.{IsKeptTable}
 use Rattle.sb_holdings.specs.Held.{nothing, holder_of}
-use Rattle.sb_holdings.specs.Plain.{alone, held_of}
+use Rattle.sb_holdings.specs.Plain.{alone, IsKeptHolder, IsHoldings}
 use Rattle.sb_holdings.specs.Nodes.{opened_node, NodeHolds}
 use Rattle.sb_types.proofs.Texts.{same_text}
-use Rattle.sb_holdings.proofs.ByOwner.{Ascend, get-held_of}
+use Rattle.sb_holdings.proofs.ByOwner.{Rise, get-from, IsHoldings-own}
 
--- the table, or nothing
-alone-or_nothing : (b : Bool) (t : Table) → unwrap_or (option_map alone (cond b (Some t) None)) nothing ≡ cond b (alone t) nothing
-alone-or_nothing true t = refl
-alone-or_nothing false t = refl
+-- the holder, or nothing
+found-or_nothing : (b : Bool) (h : Holder) → unwrap_or (cond b (Some h) None) nothing ≡ cond b h nothing
+found-or_nothing true h = refl
+found-or_nothing false h = refl
 
-one-ascends : (me : List ℕ) (t : Table) → Ascend ((me, t) ∷ [])
+one-rises : (me : List ℕ) (h : Holder) → Rise ((me, h) ∷ [])
 unfolding IsStrictlySortedBy
-one-ascends me t = (tt, tt)
+one-rises me h = (tt, tt)
 
-holder-opened : (me : List ℕ) (t : Table) (name : List ℕ) → holder_of (held_of me ((me, t) ∷ [])).owners name ≡ cond (pointwise nat_eq name me) (alone t) nothing
-holder-opened me t name =
-    ap (λ (o : Option Holder). unwrap_or o nothing) (get-held_of me ((me, t) ∷ []) (one-ascends me t) name
-    ∙ ap (λ (b : Bool). option_map alone (cond b (Some t) None)) (sym (texts_ties name me)))
-    ∙ alone-or_nothing (pointwise nat_eq name me) t
+get-opened : (me : List ℕ) (t : Table) (name : List ℕ) → get (opened_node me t).held.owners name ≡ cond (pointwise nat_eq name me) (Some (alone t)) None
+get-opened me t name =
+    get-from me ((me, alone t) ∷ []) (one-rises me (alone t)) name ∙ ap (λ (b : Bool). cond b (Some (alone t)) None) (sym (texts_ties name me))
+
+holder-opened : (me : List ℕ) (t : Table) (name : List ℕ) → holder_of (opened_node me t).held.owners name ≡ cond (pointwise nat_eq name me) (alone t) nothing
+holder-opened me t name = ap (λ (o : Option Holder). unwrap_or o nothing) (get-opened me t name) ∙ found-or_nothing (pointwise nat_eq name me) (alone t)
+
+-- ---- the own table alone
+
+kept-table : (t : Table) → IsKeptTable t → IsKeptHolder (alone t)
+kept-table t kept = record { is = record { shown = kept.is; stage = tt }; limit = kept.limit; staged = tt }
+
+pub IsHoldings-alone : (me : List ℕ) (t : Table) → IsKeptTable t → IsHoldings (opened_node me t).held
+IsHoldings-alone me t kept = IsHoldings-own me (alone t) (kept-table t kept) refl
+
+-- ---- what it holds is true
 
 nothing-holds : (writes : List Write) → HolderHolds writes nothing
 nothing-holds writes = record {

@@ -6,7 +6,8 @@ use Rattle.sb_types.specs.declared.entry.Write.{Write}
 use Rattle.sb_types.specs.Records.{Entry, Stage, Block, Holder}
 use Rattle.sb_types.specs.Runs.{entered, IsRun, IsBlock}
 use Rattle.sb_types.specs.Writes.{Tells, HoldsStage, Honest, IsHolder, HolderHolds}
-use Rattle.sb_holdings.specs.Stages.{new_stage, goes_on, begins, stage_for, stage_with, swapped, settled}
+use Rattle.sb_table.specs.Floors.{swapped}
+use Rattle.sb_holdings.specs.Stages.{new_stage, goes_on, begins, stage_for, stage_with, settled}
 use Rattle.sb_holdings.proofs.Order.{run_entered}
 use Rattle.sb_holdings.proofs.Telling.{tells_entered}
 use Rattle.sb_holdings.proofs.Swapping.{swapped_run, swapped_tells, swapped_each}

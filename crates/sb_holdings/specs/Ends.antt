@@ -1,23 +1,39 @@
 -- Which end a block has: the first that fits.
-use Rattle.std.specs.Prelude.{◌≡◌, ℕ, ◌+◌, ◌≤◌, ◌<◌, Bool, true, false, ◌||◌, nat_lt, nat_eq, List, length, take}
+use Rattle.std.specs.Prelude.{◌≡◌, ℕ, ◌+◌, ◌≤◌, ◌<◌, max, Bool, true, false, ◌&&◌, ◌||◌, nat_lt, nat_le, nat_eq, if◌then◌else◌, List, [], ◌⊎◌, length, take, Option, Some, None}
 use Rattle.std.specs.Cmp.Lexicographic.{pointwise}
 use Rattle.std.specs.FinMap.{contains_key, len}
 use Rattle.sb_types.specs.declared.limits.TheConstants.{OWNERS_MOST, KEYS_MOST}
-use Rattle.sb_types.specs.Records.{Entry, Block}
-use Rattle.sb_types.specs.Runs.{above, entered}
+use Rattle.sb_types.specs.Records.{Entry, Table, Stage, Block, Holder}
+use Rattle.sb_types.specs.Runs.{above, entered, live}
 use Rattle.sb_holdings.specs.declared.ends.BlockEnd.{BlockEnd}
 use Rattle.sb_holdings.specs.declared.ends.BlockEnd.TheVariants.{Own, OwnAhead, Gap, Stale, OwnersFull, Taken, TooManyKeys, NoMemory}
-use Rattle.sb_holdings.specs.Held.{Held, shown_of}
+use Rattle.sb_holdings.specs.Shown.{joins_shown}
+use Rattle.sb_holdings.specs.Stages.{stage_for}
+use Rattle.sb_holdings.specs.Held.{Held, holder_of, shown_of}
 
 -- the block is of the node's own name
 abbrev pub is_own : Held → Block → Bool
 is_own held b = pointwise nat_eq b.owner held.me
 
--- of another owner, beginning at or below what is held, and telling of more
+-- all that the block tells is held, its floor too
+abbrev pub is_stale : Table → Block → Bool
+is_stale t b = nat_le b.upto t.held && nat_le b.floor t.held
+
+-- the stage that the block joins: a block of a floor above what is held joins no other table
+abbrev pub joined_stage : Holder → Block → Option Stage
+joined_stage h b = if nat_lt h.shown.held b.floor then stage_for h.stage b else None
+
+-- of another owner, of a floor and beginning at or below what is held, and telling of more
 pub record JoinsOn (held : Held) (b : Block) : Type 0 where
   pub other : is_own held b ≡ false
+  pub floor : b.floor ≤ (shown_of held b.owner).held
   pub after : b.after ≤ (shown_of held b.owner).held
   pub more : (shown_of held b.owner).held < b.upto
+
+-- of another owner, and going on with this stage, or beginning it where nothing of it has come
+pub record JoinsStage (held : Held) (b : Block) (s : Stage) : Type 0 where
+  pub other : is_own held b ≡ false
+  pub stage : joined_stage (holder_of held.owners b.owner) b ≡ Some s
 
 -- the owner is held, or one more may be
 abbrev pub has_place : Held → List ℕ → Bool
@@ -49,20 +65,33 @@ entered_count (Taken n) = n
 entered_count (TooManyKeys n) = n
 entered_count (NoMemory n) = n
 
--- the block joins on, its owner has a place, and its entries above what is held are entered so
+-- entering ended so; or, once all was entered, room was refused for what comes behind that
+abbrev pub EntersOr : List Entry → List Entry → Type 0 → BlockEnd → Type 0
+EntersOr entries new behind end = Enters entries new end ⊎ ((end ≡ NoMemory (length new)) × Enters entries new (Taken (length new)) × behind)
+
+-- the block joins on, its owner has a place, and its entries above what is held are entered so; behind the last entry room
+-- may be refused for a new owner
 pub record IsTaken (held : Held) (b : Block) (end : BlockEnd) : Type 0 where
   pub joins : JoinsOn held b
   pub place : has_place held b.owner ≡ true
-  pub enters : let t = shown_of held b.owner in Enters t.entries (above t.held b.entries) end
+  pub enters : let t = shown_of held b.owner in
+      EntersOr (live (max t.floor b.floor) t.entries) (above t.held b.entries) ((b.entries ≡ []) × (contains_key held.owners b.owner ≡ false)) end
 
--- the end is the first that fits; of floors and stages it says nothing yet: it is for blocks whose floor is 0, at nodes
--- without a stage, as all are until purging comes
+-- the block joins a stage, its owner has a place, and its entries above what has come are entered so; behind the last entry
+-- room may be refused for the swap, or for the beginning of a stage without entries
+pub record IsStaged (held : Held) (b : Block) (end : BlockEnd) : Type 0 where
+  pub stage : Stage
+  pub joins : JoinsStage held b stage
+  pub place : has_place held b.owner ≡ true
+  pub enters : EntersOr stage.entries (above stage.progress b.entries) ((stage.floor ≤ b.upto) ⊎ ((stage.progress ≡ 0) × (b.entries ≡ []))) end
+
+-- the end is the first that fits
 abbrev pub Fits : Held → Block → BlockEnd → Type 0
 Fits held b Own = (is_own held b ≡ true) × (b.upto ≤ (shown_of held b.owner).held)
 Fits held b (OwnAhead upto) = (is_own held b ≡ true) × ((shown_of held b.owner).held < b.upto) × (upto ≡ b.upto)
-Fits held b Gap = (is_own held b ≡ false) × ((shown_of held b.owner).held < b.after)
-Fits held b Stale = (is_own held b ≡ false) × (b.after ≤ (shown_of held b.owner).held) × (b.upto ≤ (shown_of held b.owner).held)
-Fits held b OwnersFull = JoinsOn held b × (has_place held b.owner ≡ false)
-Fits held b (Taken n) = IsTaken held b (Taken n)
-Fits held b (TooManyKeys n) = IsTaken held b (TooManyKeys n)
-Fits held b (NoMemory n) = IsTaken held b (NoMemory n)
+Fits held b Gap = (is_own held b ≡ false) × (is_stale (shown_of held b.owner) b ≡ false) × (joins_shown (shown_of held b.owner) b ≡ false) × (joined_stage (holder_of held.owners b.owner) b ≡ None)
+Fits held b Stale = (is_own held b ≡ false) × (is_stale (shown_of held b.owner) b ≡ true)
+Fits held b OwnersFull = (JoinsOn held b ⊎ ((s : Stage) × JoinsStage held b s)) × (has_place held b.owner ≡ false)
+Fits held b (Taken n) = IsTaken held b (Taken n) ⊎ IsStaged held b (Taken n)
+Fits held b (TooManyKeys n) = IsTaken held b (TooManyKeys n) ⊎ IsStaged held b (TooManyKeys n)
+Fits held b (NoMemory n) = IsTaken held b (NoMemory n) ⊎ IsStaged held b (NoMemory n)

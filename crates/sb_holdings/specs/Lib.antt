@@ -14,3 +14,4 @@ pub mod Ends
 pub mod Growth
 pub mod TakenUp
 pub mod Treats
+pub mod Holders

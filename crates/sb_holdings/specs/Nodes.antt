@@ -7,7 +7,7 @@ use Rattle.sb_types.specs.Writes.{Written, Honest, IsHolder, HolderHolds}
 use Rattle.sb_holdings.specs.declared.ends.BlockEnd.{BlockEnd}
 use Rattle.sb_holdings.specs.declared.ends.BlockEnd.TheVariants.{Own, OwnAhead, Gap, Stale, OwnersFull, Taken, TooManyKeys, NoMemory}
 use Rattle.sb_holdings.specs.Held.{Held, holder_of, written, held_after_block}
-use Rattle.sb_holdings.specs.Plain.{held_of}
+use Rattle.sb_holdings.specs.Plain.{alone, held_of}
 use Rattle.sb_holdings.specs.Progress.{Later}
 
 -- what the node holds, and the greatest version under its name that it did not write
@@ -17,7 +17,7 @@ pub record Node : Type 0 where
 
 -- a node that has just opened: its own name with this table, and nothing of any other owner
 abbrev pub opened_node : List ℕ → Table → Node
-opened_node me table = record { held = held_of me ((me, table) ∷ []); conflict = None }
+opened_node me table = record { held = held_of me ((me, alone table) ∷ []); conflict = None }
 
 -- what it holds of an owner
 abbrev pub held_by : Node → List ℕ → Holder

@@ -1,16 +1,17 @@
--- Holdings whose tables have no floor and no stage, and what is read of them.
-use Rattle.std.specs.Prelude.{◌≡◌, ℕ, ◌+◌, ◌%◌, ◌^◌, ◌≤◌, ◌<◌, Bool, true, false, not, ◌==◌, if◌then◌else◌, nat_eq, List, map, filter, length, Option, Some, None, IfSome, Result, Ok, Err}
+-- What a node keeps, and what is read of it.
+use Rattle.std.specs.Prelude.{◌≡◌, ℕ, ◌+◌, ◌%◌, ◌^◌, ◌≤◌, Bool, true, false, not, ◌==◌, if◌then◌else◌, nat_eq, List, map, filter, length, Option, Some, None, IfSome, IsSomeAnd, Result, Ok, Err}
 use Rattle.std.specs.Option.{option_map}
 use Rattle.std.specs.Ordering.{nat_cmp, is_le}
 use Rattle.std.specs.Cmp.Lexicographic.{slice_cmp, pointwise}
-use Rattle.std.specs.FinMap.{get, contains_key, entries, len, from_sorted}
-use Rattle.sb_types.specs.declared.limits.TheConstants.{OWNERS_MOST}
+use Rattle.std.specs.FinMap.{get, entries, len, from_sorted}
+use Rattle.sb_types.specs.declared.limits.TheConstants.{OWNERS_MOST, KEYS_MOST}
 use Rattle.sb_types.specs.Records.{Entry, Table, Holder}
 use Rattle.sb_types.specs.Runs.{entered, last_version}
+use Rattle.sb_types.specs.Writes.{IsHolder}
 use Rattle.sb_types.specs.declared.fault.Fault.{Fault}
 use Rattle.sb_types.specs.declared.fault.Fault.TheVariants.{OutOfTurn, TableFull}
-use Rattle.sb_table.specs.Plain.{IsPlainTable, is_full_for}
-use Rattle.sb_holdings.specs.Held.{Held, shown_of, with_owner}
+use Rattle.sb_table.specs.Plain.{is_full_for}
+use Rattle.sb_holdings.specs.Held.{Held, is_nothing, shown_of}
 
 -- the table, and no stage beside it
 abbrev pub alone : Table → Holder
@@ -20,28 +21,26 @@ alone t = record { shown = t; stage = None }
 abbrev pub with_entries : Table → List Entry → Table
 with_entries t others = record { held = last_version t.held others; floor = t.floor; entries = entered t.entries others }
 
--- the own name, and these tables, whose owners' names ascend
-abbrev pub held_of : List ℕ → List (List ℕ × Table) → Held
-held_of me tables = record { me = me; owners = from_sorted (map (λ p. (p.0, alone p.1)) tables) }
+-- the own name, and what is held of these owners, whose names ascend
+abbrev pub held_of : List ℕ → List (List ℕ × Holder) → Held
+held_of me holders = record { me = me; owners = from_sorted holders }
 
-pub record IsPlainHolder (h : Holder) : Type 0 where
-  pub shown : IsPlainTable h.shown
-  pub stage : h.stage ≡ None
+-- a shown table and perhaps a stage of a floor that it has not reached, neither too large; of a stage something has come
+pub record IsKeptHolder (h : Holder) : Type 0 where
+  pub is : IsHolder h
+  pub limit : length h.shown.entries ≤ KEYS_MOST
+  pub staged : IfSome h.stage (λ s. (length s.entries ≤ KEYS_MOST) × (1 ≤ s.progress))
 
--- the own name is held, no other owner without an entry, and not too many
+-- the own name is held, without a stage; of every other owner something; and not too many
 pub record IsHoldings (held : Held) : Type 0 where
-  pub own : contains_key held.owners held.me ≡ true
-  pub each : (owner : List ℕ) → IfSome (get held.owners owner) IsPlainHolder
-  pub others : (owner : List ℕ) → pointwise nat_eq owner held.me ≡ false → IfSome (get held.owners owner) (λ h. 0 < length h.shown.entries)
+  pub own : IsSomeAnd (get held.owners held.me) (λ h. h.stage ≡ None)
+  pub each : (owner : List ℕ) → IfSome (get held.owners owner) IsKeptHolder
+  pub others : (owner : List ℕ) → pointwise nat_eq owner held.me ≡ false → IfSome (get held.owners owner) (λ h. is_nothing h ≡ false)
   pub limit : len held.owners ≤ OWNERS_MOST
 
 -- the table that is shown of an owner
 abbrev pub table_of : Held → List ℕ → Option Table
 table_of held owner = option_map (λ h. h.shown) (get held.owners owner)
-
--- with later entries of an owner entered
-abbrev pub with_entered : Held → List ℕ → List Entry → Held
-with_entered held owner others = with_owner held owner (alone (with_entries (shown_of held owner) others))
 
 -- the version of the next write, 0 where all are spent
 abbrev pub next_version : ℕ → ℕ
@@ -59,6 +58,10 @@ abbrev pub is_from : Option (List ℕ) → List ℕ → Bool
 is_from None owner = true
 is_from (Some first) owner = is_le (slice_cmp nat_cmp first owner)
 
+-- each owner with the table that is shown of it
+abbrev pub each_shown : List (List ℕ × Holder) → List (List ℕ × Table)
+each_shown holders = map (λ p. (p.0, p.1.shown)) holders
+
 -- the owners from the first on, each with its table
 abbrev pub tables_from : Option (List ℕ) → Held → List (List ℕ × Table)
-tables_from first held = map (λ p. (p.0, p.1.shown)) (filter (λ p. is_from first p.0) (entries held.owners))
+tables_from first held = each_shown (filter (λ p. is_from first p.0) (entries held.owners))

@@ -1,7 +1,8 @@
 -- How a block of a floor above all that is held joins a stage, and how the stage comes to be shown.
-use Rattle.std.specs.Prelude.{ℕ, zero, suc, Bool, ◌&&◌, nat_lt, nat_le, nat_eq, if◌then◌else◌, [], ◌++◌, length, Option, Some, None}
-use Rattle.sb_types.specs.Records.{Table, Stage, Block, Holder}
-use Rattle.sb_types.specs.Runs.{above, up_to, under_keys_of, entered, live}
+use Rattle.std.specs.Prelude.{ℕ, zero, suc, Bool, ◌&&◌, nat_lt, nat_le, nat_eq, if◌then◌else◌, [], length, Option, Some, None}
+use Rattle.sb_types.specs.Records.{Stage, Block, Holder}
+use Rattle.sb_types.specs.Runs.{above, entered}
+use Rattle.sb_table.specs.Floors.{swapped}
 use Rattle.sb_holdings.specs.Blocks.{part_above, front}
 
 -- a stage of which nothing has come
@@ -22,10 +23,6 @@ stage_for (Some s) b = if goes_on s b then Some s else (if nat_lt s.floor b.floo
 
 abbrev pub stage_with : Stage → Block → Stage
 stage_with s b = record { floor = s.floor; progress = b.upto; entries = entered s.entries b.entries }
-
--- the stage shown: its entries above held, and under its other keys what was shown; markers up to its floor go
-abbrev pub swapped : Table → Stage → Table
-swapped t s = record { held = s.progress; floor = s.floor; entries = live s.floor (under_keys_of (up_to t.held s.entries) t.entries ++ above t.held s.entries) }
 
 -- once the stage has reached its floor it is shown
 abbrev pub settled : Holder → Stage → Holder

@@ -1,11 +1,12 @@
 -- What a block that joins on leaves of its owner.
-use Rattle.std.specs.Prelude.{◌≡◌, ℕ, ◌≤◌, List, take}
-use Rattle.sb_types.specs.Records.{Entry, Table, Block}
+use Rattle.std.specs.Prelude.{◌≡◌, ℕ, ◌≤◌, List, take, ◌⊎◌, None, IsSomeAnd}
+use Rattle.sb_types.specs.Records.{Entry, Table, Stage, Block, Holder}
 use Rattle.sb_types.specs.Runs.{Stands, above, last_version}
+use Rattle.sb_types.specs.Writes.{Gone}
 use Rattle.sb_holdings.specs.declared.ends.BlockEnd.{BlockEnd}
 use Rattle.sb_holdings.specs.declared.ends.BlockEnd.TheVariants.{Own, OwnAhead, Gap, Stale, OwnersFull, Taken, TooManyKeys, NoMemory}
 use Rattle.sb_holdings.specs.Held.{shown_of}
-use Rattle.sb_holdings.specs.Nodes.{Node}
+use Rattle.sb_holdings.specs.Nodes.{Node, held_by}
 
 -- the new table is held up to the last of these entries, as far as the old one where there is none, and has each of them
 pub record HasFront (old : Table) (front : List Entry) (new : Table) : Type 0 where
@@ -33,3 +34,49 @@ IsTakenUp old b Own new = ⊥
 IsTakenUp old b (OwnAhead upto) new = ⊥
 IsTakenUp old b Gap new = ⊥
 IsTakenUp old b Stale new = ⊥
+
+-- ---- by a stage
+
+-- the new stage has come up to the last of these entries, as far as the old one where there is none, and has each of them
+pub record HasStageFront (old : Stage) (front : List Entry) (new : Stage) : Type 0 where
+  pub floor : new.floor ≡ old.floor
+  pub progress : new.progress ≡ last_version old.progress front
+  pub each : (e : Entry) → Stands front e → Stands new.entries e
+
+-- the new stage has come as far as the block tells, and has each of its entries above what had come of the old one
+pub record HasStageAll (old : Stage) (b : Block) (new : Stage) : Type 0 where
+  pub floor : new.floor ≡ old.floor
+  pub progress : new.progress ≡ b.upto
+  pub each : (e : Entry) → Stands (above old.progress b.entries) e → Stands new.entries e
+
+-- the stage took the table's place: held as far as the block tells, of the stage's floor, and with each of the block's entries
+-- above what was held and what had come, but removals up to the floor
+pub record IsShown (old : Holder) (s : Stage) (b : Block) (new : Holder) : Type 0 where
+  pub none : new.stage ≡ None
+  pub held : new.shown.held ≡ b.upto
+  pub floor : new.shown.floor ≡ s.floor
+  pub each : (e : Entry) → Stands (above old.shown.held (above s.progress b.entries)) e → Stands new.shown.entries e ⊎ Gone s.floor e
+
+-- what is shown stands, and the stage has the first n of the block's entries above what had come, and no more; where n is 0
+-- nothing changes
+abbrev pub IsFrontStaged : Holder → Stage → Block → ℕ → Holder → Type 0
+IsFrontStaged old s b n new = (new.shown ≡ old.shown) × (((n ≡ 0) × (new ≡ old)) ⊎ IsSomeAnd new.stage (HasStageFront s (take n (above s.progress b.entries))))
+
+-- of a block that joins this stage: with no room for its owner nothing changes, with none for its next entry the ones before
+-- are taken, and else all of it, by the stage or by the table whose place the stage took; or, with no room for that, the
+-- table stands and there is no stage; it ends in no other way
+abbrev pub IsStagedUp : Node → Block → Stage → BlockEnd → Node → Type 0
+IsStagedUp old b s OwnersFull new = new ≡ old
+IsStagedUp old b s (TooManyKeys n) new = IsFrontStaged (held_by old b.owner) s b n (held_by new b.owner)
+IsStagedUp old b s (NoMemory n) new =
+    let h = held_by old b.owner in
+    let k = held_by new b.owner in
+    IsFrontStaged h s b n k ⊎ ((k.shown ≡ h.shown) × (k.stage ≡ None))
+IsStagedUp old b s (Taken n) new =
+    let h = held_by old b.owner in
+    let k = held_by new b.owner in
+    ((k.shown ≡ h.shown) × IsSomeAnd k.stage (HasStageAll s b)) ⊎ IsShown h s b k
+IsStagedUp old b s Own new = ⊥
+IsStagedUp old b s (OwnAhead upto) new = ⊥
+IsStagedUp old b s Gap new = ⊥
+IsStagedUp old b s Stale new = ⊥

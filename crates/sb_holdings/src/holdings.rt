@@ -1,35 +1,41 @@
-//! A node's own table and those of other owners, and how blocks and own writes enter them.
-ghost use Rattle.std.specs.Prelude.{◌≡◌, ◌<◌, true, false, nat_eq, Err, OnOk, OnErr, IfOk, IfErr, IfSome, IfNone, List, [], ◌∷◌, length, take};
-ghost use Rattle.std.specs.FinMap.{get, keys};
+//! What a node holds of all owners, and how blocks and own writes enter it.
+ghost use Rattle.std.specs.Prelude.{◌≡◌, ◌<◌, ◌≤◌, true, false, nat_eq, [], ◌∷◌, None, Err, OnOk, OnErr, IfOk, IfErr, ◌+◌};
+ghost use Rattle.std.specs.Option.{option_copied, option_map};
+ghost use Rattle.std.specs.FinMap.{get, contains_key, keys, len};
 ghost use Rattle.std.specs.Ordering.{nat_cmp};
 ghost use Rattle.std.specs.Cmp.Lexicographic.{pointwise, slice_cmp};
 ghost use Rattle.std.specs.List.Sorted.{IsStrictlySortedBy};
-ghost use Rattle.std.specs.Option.{option_copied};
-ghost use Rattle.sb_types.specs.Faults.{Gives};
 ghost use Rattle.std.specs.Map.{keys_of};
-ghost use Rattle.sb_types.specs.Runs.{are_ascending, are_distinct};
-ghost use Rattle.sb_holdings.specs.Held.{shown_of, written, held_after_block};
-ghost use Rattle.sb_holdings.specs.Plain.{IsHoldings, held_of, table_of, tables_from, with_entered, own_answer};
-ghost use Rattle.sb_holdings.specs.Ends.{JoinsOn, has_place, Enters, entered_count, Fits};
+ghost use Rattle.std.specs.BTreeMap.{IsOrdered};
+ghost use Rattle.sb_types.specs.declared.limits.TheConstants.{OWNERS_MOST};
+ghost use Rattle.sb_types.specs.Faults.{Gives};
+ghost use Rattle.sb_types.specs.Runs.{IsRun};
+ghost use Rattle.sb_table.specs.Plain.{is_full_for};
+ghost use Rattle.sb_holdings.specs.Held.{holder_of, shown_of, nothing, with_owner, written, held_after_block};
+ghost use Rattle.sb_holdings.specs.Plain.{IsHoldings, alone, held_of, own_answer, table_of, tables_from};
+ghost use Rattle.sb_holdings.specs.Taken.{holder_after_block};
+ghost use Rattle.sb_holdings.specs.Ends.{Fits};
+ghost use Rattle.sb_holdings.specs.Holders.{told, named, FitsHolder, FitsNew, own_end, Dropped};
 
 use crate::ends::BlockEnd;
-use crate::enter::enter_each;
+use crate::holder::Holder;
 use crate::owners::{Owners, Tables};
-use sb_table::{Table, entries_above};
-use sb_types::{Block, Entry, Fault, Name, OWNERS_MOST};
+use sb_table::Table;
+use sb_types::{Block, Entry, Fault, Key, Name, OWNERS_MOST};
 use std::alloc::Global;
 use std::collections::BTreeMap;
 use std::marker::Model;
 use std::ops::Bound;
 
-/// What a node holds: its own table and those of at most 1,023 other owners, none of them empty.
+/// What a node holds: its own table, and of at most 1,023 other owners a table and perhaps a stage that is to take the
+/// table's place, of none of them nothing.
 ///
 /// The test `example_of_holdings` runs these lines:
 /// ```
 /// let a = Name::read(b"a")?;
 /// let mut holdings = Holdings::new(alloc, Name::read(b"b")?, Table::new(alloc))?;
 /// let entry = Entry::new(Key::read(b"up")?, 1, Slot::Set(Value::flag(true)));
-/// let block = Block::new(a, 0, vec![in alloc; entry]?)?;
+/// let block = Block::new(a, 0, 0, 1, vec![in alloc; entry]?)?;
 /// assert_eq!(rt; holdings.apply_block(&block), BlockEnd::Taken(1));
 /// assert_eq!(rt; holdings.apply_block(&block), BlockEnd::Stale);
 /// assert_eq!(rt; holdings.upto(&a), 1);
@@ -37,7 +43,7 @@ use std::ops::Bound;
 #[derive(Drop)]
 pub struct Holdings {
     me: Name,
-    tables: BTreeMap<Name, Table>,
+    holders: BTreeMap<Name, Holder>,
     alloc: Global,
 }
 
@@ -54,23 +60,21 @@ impl Model for Holdings {
 
     ghost coded = { Prim.hlevel (codes, code) };
 
-    ghost view = { λ h. held_of h.me h.tables.entries };
+    ghost view = { λ h. held_of h.me h.holders.entries };
 
-    ghost invariant = { λ h. IsOrdered (slice_cmp nat_cmp) h.tables × IsHoldings (held_of h.me h.tables.entries) };
+    ghost invariant = { λ h. IsOrdered (slice_cmp nat_cmp) h.holders × IsHoldings (held_of h.me h.holders.entries) };
 }
 
 impl Holdings {
     /// Holdings of the own name with its table, and of no other owner. `NoMemory`.
     pub fn new(alloc: Global, me: Name, table: Table) -> Result<Holdings, Fault>
-        ensures held { IfOk result (λ h. h ≡ held_of me ((me, table) ∷ [])) }
+        ensures held { IfOk result (λ h. h ≡ held_of me ((me, alone table) ∷ [])) }
         ensures holdings { IfOk result IsHoldings }
         ensures memory { IfErr result (λ fault. fault ≡ Fault.NoMemory) }
     {
-        // Does nothing: the call tells the prover that the table keeps its limits.
-        let _ = table.upto();
-        let mut tables = BTreeMap::new(alloc);
-        tables.insert(me, table)?;
-        Ok(Holdings { me, tables, alloc })
+        let mut holders = BTreeMap::new(alloc);
+        holders.insert(me, Holder::alone(table))?;
+        Ok(Holdings { me, holders, alloc })
     }
 
     /// The own name.
@@ -81,12 +85,23 @@ impl Holdings {
         &self.me
     }
 
-    /// The table of an owner, where it is held.
+    /// What is held of an owner, where something is.
+    fn holder(&self, owner: &Name) -> Option<&Holder>
+        ensures found { option_copied result ≡ get self.now.owners owner.now }
+        ensures holdings { IsHoldings self.now }
+    {
+        self.holders.get(owner)
+    }
+
+    /// The table of an owner, where it is held: the one that is shown.
     pub fn table(&self, owner: &Name) -> Option<&Table>
         ensures found { option_copied result ≡ table_of self.now owner.now }
         ensures holdings { IsHoldings self.now }
     {
-        self.tables.get(owner)
+        match self.holder(owner) {
+            Some(holder) => Some(holder.shown()),
+            None => None,
+        }
     }
 
     /// The version up to which an owner is held, 0 where it is not.
@@ -94,9 +109,31 @@ impl Holdings {
         ensures version { result ≡ (shown_of self.now owner.now).held }
         ensures holdings { IsHoldings self.now }
     {
-        match self.table(owner) {
-            Some(table) => table.upto(),
+        match self.holders.get(owner) {
+            Some(holder) => holder.shown().upto(),
             None => 0,
+        }
+    }
+
+    /// The floor of an owner's table, up to which it has no removals: 0 where it is not held.
+    pub fn floor(&self, owner: &Name) -> u64
+        ensures floor { result ≡ (shown_of self.now owner.now).floor }
+        ensures holdings { IsHoldings self.now }
+    {
+        match self.holders.get(owner) {
+            Some(holder) => holder.shown().floor(),
+            None => 0,
+        }
+    }
+
+    /// Of an owner's stage its floor and the version up to which it has come, where a stage has begun.
+    pub fn staged(&self, owner: &Name) -> Option<(u64, u64)>
+        ensures staged { result ≡ option_map (λ s. (s.floor, s.progress)) (holder_of self.now.owners owner.now).stage }
+        ensures holdings { IsHoldings self.now }
+    {
+        match self.holders.get(owner) {
+            Some(holder) => holder.staged(),
+            None => None,
         }
     }
 
@@ -106,7 +143,7 @@ impl Holdings {
         ensures ascending { IsStrictlySortedBy (slice_cmp nat_cmp) (keys self.now.owners) }
         ensures holdings { IsHoldings self.now }
     {
-        Owners::new(self.tables.keys())
+        Owners::new(self.holders.keys())
     }
 
     /// The owners from a name on, or all of them, in ascending order of their names, each with its table.
@@ -119,7 +156,7 @@ impl Holdings {
             Some(name) => Bound::Included(*name),
             None => Bound::Unbounded,
         };
-        Tables::new(self.tables.range((start, Bound::Unbounded)))
+        Tables::new(self.holders.range((start, Bound::Unbounded)))
     }
 
     /// Enters an own write. `OutOfTurn` with the next own version, or 0 where there is none, unless the write
@@ -136,91 +173,152 @@ impl Holdings {
         if entry.version() != next {
             return Err(Fault::OutOfTurn(next));
         }
-        self.tables.get_mut(&self.me).unwrap().push(entry)
+        if self.is_own_full_for(entry.key()) {
+            return Err(Fault::TableFull);
+        }
+        self.enter_own(entry)
     }
 
-    /// Takes what a block tells of another owner above what is held, copied entry by entry, and tells how it
-    /// ended. Of these entries the first are entered, as many as `Taken`, `TooManyKeys` or `NoMemory` says;
-    /// every other end leaves everything as it was.
+    /// Takes what a block tells of another owner, copied entry by entry, and tells how it ended. Where the block's floor is
+    /// at or below what is held, the owner's table takes it: its floor rises, the removals up to that go, and the entries
+    /// above what is held are entered. Else a stage takes it, the one of that floor, or a new one where the block begins
+    /// at 0 and there is none of as high a floor; once it has come as far as its floor it takes the table's place. `Taken`,
+    /// `TooManyKeys` and `NoMemory` say how many entries were entered, of those that the table or the stage lacked; where
+    /// `NoMemory` counts them all, it was the swap or the place of a new owner that found none: then the stage is gone, and
+    /// the table stands. Every other end leaves everything as it was.
     pub fn apply_block(&mut self, block: &Block) -> BlockEnd
         ensures effect { self.new ≡ held_after_block self.old block.now result }
         ensures end { Fits self.old block.now result }
         ensures holdings { IsHoldings self.new }
     {
-        if let Some(end) = self.refusal(block) {
-            return end;
-        }
-        let held = self.upto(block.owner());
-        self.enter(block.owner(), entries_above(block.entries(), held))
+        self.apply_parts(
+            block.owner(),
+            block.floor(),
+            block.after(),
+            block.upto(),
+            block.entries(),
+        )
     }
 
-    /// How a block ends of which nothing can be entered.
-    fn refusal(&self, block: &Block) -> Option<BlockEnd>
-        ensures end { IfSome result (Fits self.now block.now) }
-        ensures effect { IfSome result (λ end. held_after_block self.now block.now end ≡ self.now) }
-        ensures joins { IfNone result (JoinsOn self.now block.now) }
-        ensures place { IfNone result (has_place self.now block.now.owner ≡ true) }
+    /// Takes a block in parts.
+    fn apply_parts(
+        &mut self,
+        owner: &Name,
+        floor: u64,
+        after: u64,
+        upto: u64,
+        entries: &[Entry],
+    ) -> BlockEnd
+        requires run { IsRun after upto entries.now }
+        requires order { after < upto }
+        ensures effect { self.new ≡ held_after_block self.old (named owner.now floor after upto entries.now) result }
+        ensures end { Fits self.old (named owner.now floor after upto entries.now) result }
+        ensures holdings { IsHoldings self.new }
+    {
+        if *owner == self.me {
+            return self.own_end(upto);
+        }
+        if self.holders.contains_key(owner) {
+            return self.take_known(owner, floor, after, upto, entries);
+        }
+        if after > 0 {
+            return BlockEnd::Gap;
+        }
+        if self.holders.len() >= OWNERS_MOST {
+            return BlockEnd::OwnersFull;
+        }
+        self.add(owner, floor, upto, entries)
+    }
+
+    /// Whether the own table has no room for a key.
+    fn is_own_full_for(&self, key: &Key) -> bool
+        ensures full { result ≡ is_full_for key.now (shown_of self.now self.now.me).entries }
         ensures holdings { IsHoldings self.now }
     {
-        let owner = block.owner();
-        let upto = block.upto();
-        let held = self.upto(owner);
-        if *owner == self.me {
-            return Some(if upto <= held {
-                BlockEnd::Own
-            } else {
-                BlockEnd::OwnAhead(upto)
-            });
+        match self.holders.get(&self.me) {
+            Some(own) => own.shown().is_full_for(key),
+            None => false,
         }
-        if block.after() > held {
-            return Some(BlockEnd::Gap);
-        }
-        if upto <= held {
-            return Some(BlockEnd::Stale);
-        }
-        if self.tables.len() >= OWNERS_MOST && !self.tables.contains_key(owner) {
-            return Some(BlockEnd::OwnersFull);
-        }
-        None
     }
 
-    /// Enters later entries of another owner one by one, as long as there is room for the next.
-    fn enter(&mut self, owner: &Name, entries: &[Entry]) -> BlockEnd
+    /// Enters the next own write, which has room. `NoMemory`.
+    fn enter_own(&mut self, entry: Entry) -> Result<(), Fault>
+        requires next { entry.version ≡ (shown_of self.old self.old.me).held + 1 }
+        requires room { is_full_for entry.key (shown_of self.old self.old.me).entries ≡ false }
+        ensures ok { OnOk result (self.new ≡ written self.old entry) }
+        ensures err { OnErr result (self.new ≡ self.old) }
+        ensures fault { IfErr result (λ fault. fault ≡ Fault.NoMemory) }
+        ensures holdings { IsHoldings self.new }
+    {
+        self.holders.get_mut(&self.me).unwrap().push(entry)
+    }
+
+    /// How a block of the own name ends.
+    fn own_end(&self, upto: u64) -> BlockEnd
+        ensures end { result ≡ own_end (shown_of self.now self.now.me).held upto }
+        ensures holdings { IsHoldings self.now }
+    {
+        if upto <= self.upto(&self.me) {
+            return BlockEnd::Own;
+        }
+        BlockEnd::OwnAhead(upto)
+    }
+
+    /// Takes what a block tells of an owner that is held.
+    fn take_known(
+        &mut self,
+        owner: &Name,
+        floor: u64,
+        after: u64,
+        upto: u64,
+        entries: &[Entry],
+    ) -> BlockEnd
         requires other { pointwise nat_eq owner.now self.old.me ≡ false }
-        requires place { has_place self.old owner.now ≡ true }
-        requires some { 0 < length entries.now }
-        requires later { are_ascending (shown_of self.old owner.now).held entries.now ≡ true }
-        requires distinct { are_distinct entries.now ≡ true }
-        ensures end { Enters (shown_of self.old owner.now).entries entries.now result }
-        ensures effect { self.new ≡ with_entered self.old owner.now (take (entered_count result) entries.now) }
+        requires known { contains_key self.old.owners owner.now ≡ true }
+        requires run { IsRun after upto entries.now }
+        requires order { after < upto }
+        ensures end { FitsHolder (holder_of self.old.owners owner.now) (told floor after upto entries.now) result }
+        ensures effect { self.new ≡ with_owner self.old owner.now (holder_after_block (holder_of self.old.owners owner.now) (told floor after upto entries.now) result) }
         ensures holdings { IsHoldings self.new }
     {
         let alloc = self.alloc;
-        match self.tables.get_mut(owner) {
-            Some(table) => enter_each(alloc, table, entries),
-            None => self.add(owner, entries),
-        }
+        let holder = self.holders.get_mut(owner).unwrap();
+        let end = holder.take(alloc, floor, after, upto, entries);
+        let gone = holder.is_nothing();
+        drop_if(&mut self.holders, owner, gone);
+        end
     }
 
-    /// Holds a new owner with those of the entries that there is room for, unless there is room for none.
-    fn add(&mut self, owner: &Name, entries: &[Entry]) -> BlockEnd
+    /// Takes what a block tells of a new owner, unless nothing of it comes.
+    fn add(&mut self, owner: &Name, floor: u64, upto: u64, entries: &[Entry]) -> BlockEnd
+        requires other { pointwise nat_eq owner.now self.old.me ≡ false }
         requires unknown { get self.old.owners owner.now ≡ None }
-        requires place { has_place self.old owner.now ≡ true }
-        requires some { 0 < length entries.now }
-        requires later { are_ascending 0 entries.now ≡ true }
-        requires distinct { are_distinct entries.now ≡ true }
-        ensures end { Enters [] entries.now result }
-        ensures effect { self.new ≡ with_entered self.old owner.now (take (entered_count result) entries.now) }
+        requires place { len self.old.owners < OWNERS_MOST }
+        requires run { IsRun 0 upto entries.now }
+        requires order { 0 < upto }
+        ensures end { FitsNew (told floor 0 upto entries.now) result }
+        ensures effect { self.new ≡ with_owner self.old owner.now (holder_after_block nothing (told floor 0 upto entries.now) result) }
         ensures holdings { IsHoldings self.new }
     {
-        let mut table = Table::new(self.alloc);
-        let end = enter_each(self.alloc, &mut table, entries);
-        if table.is_empty() {
+        let mut holder = Holder::nothing(self.alloc);
+        let end = holder.take(self.alloc, floor, 0, upto, entries);
+        if holder.is_nothing() {
             return end;
         }
-        match self.tables.insert(*owner, table) {
+        match self.holders.insert(*owner, holder) {
             Ok(_) => end,
             Err(_) => BlockEnd::NoMemory(0),
         }
+    }
+}
+
+/// Takes an owner out of whom nothing is left.
+fn drop_if(holders: &mut BTreeMap<Name, Holder>, owner: &Name, gone: bool)
+    requires ordered { IsOrdered (slice_cmp nat_cmp) holders.old }
+    ensures ordered { IsOrdered (slice_cmp nat_cmp) holders.new }
+    ensures dropped { Dropped owner.now gone holders.old.entries holders.new.entries }
+{
+    if gone {
+        holders.remove(owner);
     }
 }

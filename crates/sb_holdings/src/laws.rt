@@ -1,6 +1,6 @@
 //! What stays true of the writes that a node holds.
 
-ghost use Rattle.std.specs.Prelude.{◌≡◌, ℕ, ◌+◌, true, List, ◌++◌, ◌↔◌, Option};
+ghost use Rattle.std.specs.Prelude.{◌≡◌, ℕ, ◌+◌, true, false, List, ◌++◌, ◌↔◌, Option};
 ghost use Rattle.sb_types.specs.declared.entry.Write.{Write};
 ghost use Rattle.sb_types.specs.Records.{Entry, Table, Block, Holder};
 ghost use Rattle.sb_types.specs.Limits.{is_delta, is_delta_block};

@@ -1,14 +1,16 @@
 //! What a node holds of each owner's writes, how it takes a block of them, and what stays true.
 //!
 //! Holdings are a node's own table and the tables of other owners. A block enters only where it joins on to what is held, so
-//! that no version is skipped and none goes back. Digests and deltas are made of holdings; `sb_node` changes them.
+//! that no version is skipped and none goes back. A block with a floor above what is held begins a stage, or goes on with it;
+//! once the stage has come as far as its floor it takes the table's place. Digests and deltas are made of holdings; `sb_node`
+//! changes them.
 //!
 //! ```rust
 //! /// How `b` ends a block of the first write of `a`, and then the same block once more.
 //! fn apply_twice(alloc: Global) -> Result<[BlockEnd; 2], Fault> {
 //!     let mut holdings = Holdings::new(alloc, Name::read(b"b")?, Table::new(alloc))?;
 //!     let entry = Entry::new(Key::read(b"web/up")?, 1, Slot::Set(Value::flag(true)));
-//!     let block = Block::new(Name::read(b"a")?, 0, vec![in alloc; entry]?)?;
+//!     let block = Block::new(Name::read(b"a")?, 0, 0, 1, vec![in alloc; entry]?)?;
 //!     Ok([holdings.apply_block(&block), holdings.apply_block(&block)])
 //! }
 //! ```
@@ -16,7 +18,7 @@
 
 mod contents;
 mod ends;
-mod enter;
+mod holder;
 mod holdings;
 mod laws;
 mod node_laws;
@@ -24,7 +26,7 @@ mod owners;
 mod reading;
 mod report;
 
-pub use contents::{contents_grow, contents_hold, tables_are_contents};
+pub use contents::{contents_grow, contents_hold, contents_purge, tables_are_contents};
 pub use ends::BlockEnd;
 pub use holdings::Holdings;
 pub use laws::{

@@ -1,22 +1,21 @@
 //! How nodes open, and what blocks and more writes leave of them.
 
-ghost use Rattle.std.specs.Prelude.{◌≡◌, ℕ, true, if◌then◌else◌, nat_eq, List, ◌++◌, Some, None};
+ghost use Rattle.std.specs.Prelude.{◌≡◌, ℕ, ◌≤◌, if◌then◌else◌, nat_eq, List, ◌++◌, length, Some, None};
 ghost use Rattle.std.specs.Ordering.{nat_cmp};
 ghost use Rattle.std.specs.Cmp.Lexicographic.{pointwise, slice_cmp};
 ghost use Rattle.std.specs.FinMap.{FinMap, get};
 ghost use Rattle.sb_types.specs.declared.entry.Write.{Write};
-ghost use Rattle.sb_types.specs.Records.{Entry, Table, Block, Holder};
-ghost use Rattle.sb_types.specs.Limits.{is_delta_block};
+ghost use Rattle.sb_types.specs.Records.{Entry, Table, Stage, Block, Holder};
 ghost use Rattle.sb_types.specs.Writes.{Written, Holds, Honest};
-ghost use Rattle.sb_table.specs.Plain.{IsPlainTable};
+ghost use Rattle.sb_table.specs.Floors.{IsKeptTable};
 ghost use Rattle.sb_holdings.specs.declared.ends.BlockEnd.{BlockEnd};
 ghost use Rattle.sb_holdings.specs.Contents.{content_table};
 ghost use Rattle.sb_holdings.specs.Held.{holder_of, is_nothing, with_holder};
 ghost use Rattle.sb_holdings.specs.Plain.{IsHoldings};
-ghost use Rattle.sb_holdings.specs.Ends.{JoinsOn, Fits};
+ghost use Rattle.sb_holdings.specs.Ends.{JoinsOn, JoinsStage, Fits};
 ghost use Rattle.sb_holdings.specs.Nodes.{Node, NodeEvent, opened_node, node_after_block, replay_node, NodeHolds};
 ghost use Rattle.sb_holdings.specs.Growth.{Grows};
-ghost use Rattle.sb_holdings.specs.TakenUp.{IsTakenUp};
+ghost use Rattle.sb_holdings.specs.TakenUp.{IsTakenUp, IsStagedUp};
 
 /// What was written, what a block tells and what a node holds stay true as owners write more.
 pub fn growing_keeps_truth()
@@ -29,14 +28,16 @@ pub fn growing_keeps_truth()
 /// of every owner's.
 pub fn opened_nodes_hold()
     ensures table { (writes : List ℕ → List Write) (me : List ℕ) (t : Table) → Holds (writes me) t → NodeHolds writes (opened_node me t) }
-    ensures content { (writes : List ℕ → List Write) (me : List ℕ) (t : Table) → t ≡ content_table 0 (writes me) → NodeHolds writes (opened_node me t) }
-    ensures holdings { (me : List ℕ) (t : Table) → IsPlainTable t → IsHoldings (opened_node me t).held }
+    ensures content { (writes : List ℕ → List Write) (me : List ℕ) (floor : ℕ) (t : Table) → floor ≤ length (writes me) → t ≡ content_table floor (writes me) → NodeHolds writes (opened_node me t) }
+    ensures holdings { (me : List ℕ) (t : Table) → IsKeptTable t → IsHoldings (opened_node me t).held }
 {}
 
-/// A block that joins on is taken up, all of it or as much as there is room for.
+/// A block that joins on is taken up, all of it or as much as there is room for: by the table that is shown, or by a stage.
 pub fn joining_blocks_are_taken_up()
-    ensures { (node : Node) (b : Block) (end : BlockEnd) →
-        is_delta_block b ≡ true → JoinsOn node.held b → Fits node.held b end → IsTakenUp node b end (node_after_block node b end) }
+    ensures shown { (node : Node) (b : Block) (end : BlockEnd) →
+        JoinsOn node.held b → Fits node.held b end → IsTakenUp node b end (node_after_block node b end) }
+    ensures staged { (node : Node) (b : Block) (s : Stage) (end : BlockEnd) →
+        JoinsStage node.held b s → Fits node.held b end → IsStagedUp node b s end (node_after_block node b end) }
 {}
 
 /// Two runs, one after the other, are one run.

@@ -2,7 +2,9 @@
 ghost use Rattle.std.specs.Prelude.{◌≡◌};
 ghost use Rattle.std.specs.Iterator.{YieldsFirstRef, YieldsFirstBy, item_count};
 ghost use Rattle.std.specs.Map.Iter.{deref_pair};
+ghost use Rattle.sb_holdings.specs.Plain.{each_shown};
 
+use crate::holder::Holder;
 use sb_table::Table;
 use sb_types::Name;
 use std::collections::btree_map::{Keys, Range};
@@ -12,7 +14,7 @@ use std::marker::Model;
 /// Names of owners, in ascending order.
 #[derive(Drop)]
 pub struct Owners<'a> {
-    names: Keys<'a, Name, Table>,
+    names: Keys<'a, Name, Holder>,
 }
 
 impl<'a> Model for Owners<'a> {
@@ -24,7 +26,7 @@ impl<'a> Model for Owners<'a> {
 }
 
 impl<'a> Owners<'a> {
-    pub(crate) fn new(names: Keys<'a, Name, Table>) -> Owners<'a>
+    pub(crate) fn new(names: Keys<'a, Name, Holder>) -> Owners<'a>
         ensures { result ≡ names.entry }
     {
         Owners { names }
@@ -48,23 +50,24 @@ impl<'a> FusedIterator for Owners<'a> {}
 /// Owners with their tables, in ascending order of the names.
 #[derive(Drop)]
 pub struct Tables<'a> {
-    tables: Range<'a, Name, Table>,
+    holders: Range<'a, Name, Holder>,
 }
 
 impl<'a> Model for Tables<'a> {
     ghost use Rattle.std.specs.Prelude.{ℕ, List};
     ghost use Rattle.sb_types.specs.Records as records;
+    ghost use Rattle.sb_holdings.specs.Plain.{each_shown};
 
     ghost Value = { List (List ℕ × records.Table) };
 
-    ghost view = { λ it. it.tables };
+    ghost view = { λ it. each_shown it.holders };
 }
 
 impl<'a> Tables<'a> {
-    pub(crate) fn new(tables: Range<'a, Name, Table>) -> Tables<'a>
-        ensures { result ≡ tables.entry }
+    pub(crate) fn new(holders: Range<'a, Name, Holder>) -> Tables<'a>
+        ensures { result ≡ each_shown holders.entry }
     {
-        Tables { tables }
+        Tables { holders }
     }
 }
 
@@ -76,7 +79,8 @@ impl<'a> Iterator for Tables<'a> {
     ghost remaining = { item_count (λ it. it) };
 
     fn next(&mut self) -> Option<(&'a Name, &'a Table)> {
-        self.tables.next()
+        let (name, holder) = self.holders.next()?;
+        Some((name, holder.shown()))
     }
 }
 

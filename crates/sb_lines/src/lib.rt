@@ -1,7 +1,8 @@
-//! What a log holds, in lines for a reader.
+//! What a log holds, in lines for a reader, and what a purge of it prints.
 //!
 //! `log_run` prints a line for each key of a log, in the order of the keys, and then the last version. The crate stands on
 //! `sb_log` and prints any `WriteLog`, in memory or in a database. The program prints a log file by it.
+//! `purge_run` has a log drop its removals up to a version, and prints that version.
 //!
 //! ```rust
 //! /// The lines of a log of `a` with one write.
@@ -18,5 +19,7 @@
 #![tactic(auto)]
 
 mod log_lines;
+mod purge_line;
 
 pub use log_lines::log_run;
+pub use purge_line::purge_run;

@@ -1,6 +1,6 @@
 -- From the upsert of an entry's row to the table with the entry.
-use Rattle.std.proofs.Common.{◌≡◌, inl, inr, ℕ, ◌≤◌, Bool, true, false, cond, not, ◌&&◌, ◌||◌, true≢false, List, [], ◌∷◌, ◌++◌, length, map, filter, Some, refl, sym, ap, subst, ◌∙◌, arith, nat_eq, is_eq, Ordering, Less, Equal, Greater, IsPermutation}
-use Rattle.std.specs.List.{AllByRecursion, list_all}
+use Rattle.std.proofs.Common.{◌≡◌, inl, inr, ℕ, ℤ, ◌≤◌, Bool, true, false, cond, not, ◌&&◌, ◌||◌, true≢false, List, [], ◌∷◌, ◌++◌, length, map, filter, Some, refl, sym, ap, subst, ◌∙◌, arith, nat_eq, is_eq, Ordering, Less, Equal, Greater, IsPermutation}
+use Rattle.std.specs.List.{AllByRecursion, list_all, list_any}
 use Rattle.std.specs.Ordering.{match_ordering}
 use Rattle.std.specs.Cmp.Lexicographic.{pointwise, texts_ties}
 use Rattle.std.proofs.lemmas.Bool.{and_parts, and_from, or_parts, not-true}
@@ -14,7 +14,7 @@ use Rattle.sqlite_value.specs.declared.keys.Collation.TheVariants.{Binary}
 use Rattle.sqlite_value.specs.Keys.{first_key}
 use Rattle.sqlite_value.specs.Order.{Row, column, bytes, value_cmp}
 use Rattle.sqlite_value.proofs.OrderLemmas.{value_cmp-Text}
-use Rattle.sqlite_trees.specs.Tree.{rowid, put_row}
+use Rattle.sqlite_trees.specs.Tree.{rowid, has_rowid, put_row}
 use Rattle.sqlite_trees.specs.View.{is_int}
 use Rattle.sqlite_trees.proofs.ListLemmas.{IsPermutation-filter, IsPermutation-same, all-permutation}
 use Rattle.sqlite_sql.specs.Ops.{binary, from_truth, is_true}
@@ -26,7 +26,8 @@ use Rattle.sb_types.specs.Records.{Entry, Table}
 use Rattle.sb_types.specs.Runs.{are_distinct, has_key, without}
 use Rattle.sb_table.specs.Plain.{IsPlainTable, with_entry}
 use Rattle.sb_log.specs.Form.{log_schema, writes_table}
-use Rattle.sb_log.specs.Rows.{cells, cells_of, is_kept, AreNumbered, AreRowsOf}
+use Rattle.sb_log.specs.Rows.{cells, cells_of, is_kept, AreNumbered, AreNumberedApart, AreRowsOf}
+use Rattle.sb_log.proofs.Updating.{rowid_is}
 
 -- a row whose rowid is free goes in beside the others
 pub put_fresh : (new : Row) (rows : List Row) → is_taken rows new ≡ false → IsPermutation (new ∷ rows) (put_row new rows)
@@ -37,6 +38,30 @@ put_fresh new (r ∷ rows) free = go (value_cmp (rowid r) (rowid new)) (or_parts
     go Less other later = IsPermutation-trans _ _ _ (IsPermutation-middle (new ∷ []) r rows) (IsPermutation-cons r (new ∷ rows) (put_row new rows) later)
     go Equal other later = absurd (true≢false other)
     go Greater other later = IsPermutation-refl (new ∷ r ∷ rows)
+
+-- ---- no rowid stands twice
+
+pub none_filtered : (p : Row → Bool) (rows : List Row) → list_any p rows ≡ false → length (filter p rows) ≡ 0
+none_filtered p [] none = refl
+none_filtered p (r ∷ rows) none =
+    let parts = or_parts (p r) (list_any p rows) none in
+    subst (λ (b : Bool). length (cond b (r ∷ filter p rows) (filter p rows)) ≡ 0) (sym parts.0) (none_filtered p rows parts.1)
+
+one_more : (n : ℤ) (new : Row) (left : List Row) → is_int (rowid new) ≡ true → is_taken left new ≡ false → length (filter (has_rowid n) left) ≤ 1 → length (filter (has_rowid n) (new ∷ left)) ≤ 1
+one_more n new left int free few = go (has_rowid n new) refl
+  where
+    go : (b : Bool) → has_rowid n new ≡ b → length (cond b (new ∷ filter (has_rowid n) left) (filter (has_rowid n) left)) ≤ 1
+    go true has =
+        let none : list_any (has_rowid n) left ≡ false = subst (λ (v : Value). list_any (λ r. is_eq (value_cmp (rowid r) v)) left ≡ false) (rowid_is new n int has) free in
+        omega (arith, none_filtered (has_rowid n) left none)
+    go false has = few
+
+-- of those that are left
+left_apart : (rows left : List Row) (r : Row) → IsPermutation rows (r ∷ left) → AreNumberedApart rows → AreNumberedApart left
+left_apart rows left r split once n = omega (arith, once n, length_permutation _ _ (IsPermutation-filter (has_rowid n) rows (r ∷ left) split), less)
+  where
+    less : length (filter (has_rowid n) left) ≤ length (filter (has_rowid n) (r ∷ left))
+    less = elim (has_rowid n r) as (λ b. length (filter (has_rowid n) left) ≤ length (cond b (r ∷ filter (has_rowid n) left) (filter (has_rowid n) left))) [ true ↦ omega arith | false ↦ omega arith ]
 
 shown_truth : (b : Bool) → is_true (from_truth (Some b)) ≡ b
 shown_truth true = refl
@@ -156,14 +181,15 @@ module _ (e : Entry) where
       go false later = later
 
   module _ (t : Table) (rows : List Row) (are : AreRowsOf t rows) (kept : is_kept e ≡ true) (plain : IsPlainTable (with_entry t e)) (new : Row) (is : cells new ≡ cells_of e) (int : is_int (rowid new) ≡ true) where
-    holds : (left : List Row) → AreNumbered left → IsPermutation (filter keeps (map cells rows)) (map cells left) → is_taken left new ≡ false → AreRowsOf (with_entry t e) (put_row new left)
-    holds left numbered others free =
+    holds : (left : List Row) → AreNumbered left → AreNumberedApart left → IsPermutation (filter keeps (map cells rows)) (map cells left) → is_taken left new ≡ false → AreRowsOf (with_entry t e) (put_row new left)
+    holds left numbered once others free =
         let put = put_fresh new left free in
         record {
           plain = plain;
           kept = filtered_kept _ t.entries are.kept ∙ and_from _ _ kept refl;
           same = IsPermutation-trans _ _ _ (IsPermutation-sym _ _ (IsPermutation-map cells (new ∷ left) (put_row new left) put)) (beside t new left rows are.same is others);
           numbered = all-permutation _ (new ∷ left) (put_row new left) put (int, numbered);
+          apart = λ n. omega (arith, one_more n new left int free (once n), length_permutation _ _ (IsPermutation-filter (has_rowid n) (new ∷ left) (put_row new left) put));
         }
 
     abbrev Meets : Row → Bool
@@ -175,7 +201,7 @@ module _ (e : Entry) where
     pub enters_new : ((r : Row) → Has rows r → Meets r ≡ true → ⊥) → is_taken rows new ≡ false → AreRowsOf (with_entry t e) (put_row new rows)
     enters_new none free =
         let apart : (r : Row) → Has rows r → matches (cells r) ≡ false = λ r h. go (matches (cells r)) (λ m. none r h (matches_is new r key_is (rows_text t rows are r h) ∙ m)) in
-        holds rows are.numbered (IsPermutation-same _ _ (all_keep rows apart)) free
+        holds rows are.numbered are.apart (IsPermutation-same _ _ (all_keep rows apart)) free
       where
         go : (b : Bool) → (b ≡ true → ⊥) → b ≡ false
         go true never = absurd (never refl)
@@ -184,7 +210,7 @@ module _ (e : Entry) where
     pub enters_there : (r : Row) (left : List Row) → Has rows r → Meets r ≡ true → IsPermutation rows (r ∷ left) → is_taken left new ≡ false → AreRowsOf (with_entry t e) (put_row new left)
     enters_there r left here meets split free =
         let has : matches (cells r) ≡ true = sym (matches_is new r key_is (rows_text t rows are r here)) ∙ meets in
-        holds left (all-permutation _ rows (r ∷ left) split are.numbered).1 (others_left t rows left r are split has) free
+        holds left (all-permutation _ rows (r ∷ left) split are.numbered).1 (left_apart rows left r split are.apart) (others_left t rows left r are split has) free
 
     -- a row that is met has the key
     pub key_there : (r : Row) → Has rows r → Meets r ≡ true → column r 1 ≡ Text e.key

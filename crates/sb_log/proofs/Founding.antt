@@ -1,6 +1,6 @@
 -- What was found where a log is opened.
 use Rattle.std.specs.Prelude.{IfOk, OnOk, slice_index_or, ◌==◌, true, false}
-use Rattle.std.proofs.Common.{◌≡◌, ◌⊎◌, inl, inr, true≢false, ℕ, ◌≤◌, ◌<◌, List, [], ◌∷◌, length, map, Result, Ok, Err, refl, sym, ap, subst, ◌∙◌, arith, eqb-true, IsPermutation}
+use Rattle.std.proofs.Common.{◌≡◌, ◌⊎◌, inl, inr, true≢false, ℕ, ◌≤◌, ◌<◌, List, [], ◌∷◌, length, map, Result, Ok, Err, refl, sym, ap, subst, subst₂, ◌∙◌, arith, eqb-true, IsPermutation}
 use Rattle.std.proofs.lemmas.List.Sorted.{IsPermutation-sym, length_permutation}
 use Rattle.sqlite_value.specs.Order.{Row}
 use Rattle.sqlite.specs.Effect.{Database}
@@ -8,14 +8,16 @@ use Rattle.sqlite.proofs.Callers.{one_permutation}
 use Rattle.sb_types.specs.declared.fault.Fault.{Fault}
 use Rattle.sb_types.specs.Records.{Table}
 use Rattle.sb_table.specs.Plain.{plain_table}
-use Rattle.sb_log.specs.Opening.{meta_cells, meta_row, meta_found, writes_found, IsFormOf, IsNamedIn, IsMetaOf, Completes, Opens, Grows, Founds}
+use Rattle.sb_log.specs.Opening.{meta_cells, meta_row, meta_found, writes_found, IsForm, IsFormOf, IsNamedIn, IsNamed, IsSaid, IsMetaOf, IsRaised, IsCleared, SaysStill, Completes, Opens, Grows, Founds}
 use Rattle.sb_log.specs.Form.{log_schema, schema_with}
 use Rattle.sb_log.specs.declared.schema.Made.{Made}
 use Rattle.sb_log.specs.declared.schema.Made.TheVariants.{Neither, Meta, Both}
 use Rattle.sqlite_trees.specs.Tree.{Trees}
 use Rattle.sqlite_schema.specs.declared.schema.Schema.{Schema}
 use Rattle.sqlite_catalog.specs.Listing.{IsSound}
-use Rattle.sb_log.specs.Rows.{AreRowsOf}
+use Rattle.sb_log.specs.Rows.{AreRowsOf, CanSay, Drops, last_in, floor_in}
+use Rattle.sb_log.specs.Standing.{HoldsContent}
+use Rattle.sb_log.proofs.Contents.{holds_plain}
 
 pub was_clean : (a b : ℕ) → b ≡ 0 → a ≤ b → a ≡ 0
 was_clean a b clean le = omega arith
@@ -46,38 +48,50 @@ module _ (owner cluster : List ℕ) (old mid : Database) (shown : List Row) (all
       record {
         made = all.made;
         schema = all.schema;
-        meta = inl (sym all.meta ∙ none_mapped (mid.trees 0) shown same none);
+        table = t;
         rows = subst (AreRowsOf t) (ap (λ (d : Database). d.trees 1) kept ∙ all.rows) rows;
-        empty = λ _. empty;
+        meta = inl (sym all.meta ∙ none_mapped (mid.trees 0) shown same none, empty, empty);
         whole = all.whole;
       }
   opens_new (Err fault) none rows empty = tt
 
-  pub opens_old : (result : Result Table Fault) (row : Row) → shown ≡ row ∷ [] → IfOk result (λ t. (form : ℕ) × IsFormOf form t × (row ≡ meta_row form owner cluster))
-      → IfOk result (λ t. AreRowsOf t (read.trees 1))
+  pub opens_old : (result : Result Table Fault) → IfOk result (λ t. (found : Table) × AreRowsOf found (read.trees 1) × IsSaid owner cluster found t (read.trees 0))
       → IfOk result (Opens owner cluster old)
-  opens_old (Ok t) row one is rows =
-      let has : map meta_cells (meta_found all.made old.trees) ≡ row ∷ [] = ap (map meta_cells) (sym all.meta) ∙ one_mapped (mid.trees 0) shown row same one in
+  opens_old (Ok t) is =
       record {
         made = all.made;
         schema = all.schema;
-        meta = inr (is.0, is.1, has ∙ ap (λ (r : Row). r ∷ []) is.2);
-        rows = subst (AreRowsOf t) (ap (λ (d : Database). d.trees 1) kept ∙ all.rows) rows;
-        empty = λ none. absurd (never (sym (ap (map meta_cells) none) ∙ has));
+        table = is.0;
+        rows = subst (AreRowsOf is.0) (ap (λ (d : Database). d.trees 1) kept ∙ all.rows) is.1;
+        meta = inr (subst (IsSaid owner cluster is.0 t) (ap (λ (d : Database). d.trees 0) kept ∙ all.meta) is.2);
         whole = all.whole;
       }
-    where
-      never : {r : Row} → [] ≡ r ∷ [] → ⊥
-      never e = absurd (cc)
-  opens_old (Err fault) row one is rows = tt
+  opens_old (Err fault) is = tt
 
 pub whatever_came : {A E P : Type 0} (result : Result A E) → P → OnOk result P
 whatever_came (Ok a) p = p
 whatever_came (Err e) p = tt
 
-pub rows_stay : (result : Result Table Fault) (old new : List Row) → IfOk result (λ t. AreRowsOf t old) → OnOk result (new ≡ old) → IfOk result (λ t. AreRowsOf t new)
-rows_stay (Ok t) old new are same = subst (AreRowsOf t) (sym same) are
-rows_stay (Err fault) old new are same = tt
+pub holds_new : (owner cluster : List ℕ) (result : Result Table Fault) (before : List Row) (db : Trees) → IfOk result (λ t. AreRowsOf t before) → OnOk result (db 1 ≡ before)
+    → OnOk result (IsNamedIn 2 owner cluster 0 0 (db 0)) → IfOk result (λ t. HoldsContent owner cluster t t.entries db)
+holds_new owner cluster (Ok t) before db are same named = holds_plain owner cluster t db named (subst (AreRowsOf t) (sym same) are)
+holds_new owner cluster (Err fault) before db are same named = tt
+
+module _ (owner cluster : List ℕ) (old mid : Database) (all : Completes old mid) (now : Trees) where
+  pub still_new : (result : Result Table Fault) → mid.trees 0 ≡ [] → OnOk result (IsNamedIn 2 owner cluster 0 0 (now 0)) → OnOk result (SaysStill owner cluster old now)
+  still_new (Ok t) none named =
+      record { made = all.made; schema = all.schema; meta = subst (λ (m : List Row). IsNamedIn 2 owner cluster (last_in m) (floor_in m) (now 0)) (sym (sym all.meta ∙ none)) named }
+  still_new (Err fault) none named = tt
+
+  pub still_old : (result : Result Table Fault) (read : Database) → read ≡ mid → OnOk result (IsNamedIn 2 owner cluster (last_in (read.trees 0)) (floor_in (read.trees 0)) (now 0))
+      → OnOk result (SaysStill owner cluster old now)
+  still_old (Ok t) read kept named =
+      record {
+        made = all.made;
+        schema = all.schema;
+        meta = subst (λ (m : List Row). IsNamedIn 2 owner cluster (last_in m) (floor_in m) (now 0)) (ap (λ (d : Database). d.trees 0) kept ∙ all.meta) named;
+      }
+  still_old (Err fault) read kept named = tt
 
 -- ---- a log that is whole is not refused
 
@@ -103,28 +117,39 @@ module _ (owner cluster : List ℕ) (old mid : Database) (t : Table) (all : Comp
   one_made = same_made opens.made all.made (sym opens.schema ∙ all.schema)
 
   -- what was made beside it left the rows as they were
-  pub still_rows : (read : Database) → read ≡ mid → AreRowsOf t (read.trees 1)
+  pub still_rows : (read : Database) → read ≡ mid → AreRowsOf opens.table (read.trees 1)
   still_rows read kept =
-      subst (AreRowsOf t) (ap (λ (m : Made). writes_found m old.trees) one_made ∙ sym all.rows ∙ sym (ap (λ (d : Database). d.trees 1) kept)) opens.rows
+      subst (AreRowsOf opens.table) (ap (λ (m : Made). writes_found m old.trees) one_made ∙ sym all.rows ∙ sym (ap (λ (d : Database). d.trees 1) kept)) opens.rows
 
-  pub still_empty : mid.trees 0 ≡ [] → t ≡ plain_table []
-  still_empty none = opens.empty (ap (λ (m : Made). meta_found m old.trees) one_made ∙ sym all.meta ∙ none)
+  still_meta : IsMetaOf owner cluster opens.table t (mid.trees 0)
+  still_meta = subst (IsMetaOf owner cluster opens.table t) (ap (λ (m : Made). meta_found m old.trees) one_made ∙ sym all.meta) opens.meta
 
-  still_meta : IsMetaOf owner cluster t (mid.trees 0)
-  still_meta = subst (IsMetaOf owner cluster t) (ap (λ (m : Made). meta_found m old.trees) one_made ∙ sym all.meta) opens.meta
+  pub still_empty : mid.trees 0 ≡ [] → opens.table ≡ plain_table []
+  still_empty none = elim still_meta [
+    | inl nothing ↦ nothing.1
+    | inr said ↦ absurd (let e = sym (ap (map meta_cells) none) ∙ said.2.2 in cc)
+  ]
 
-  pub still_named : (row : Row) → map meta_cells (mid.trees 0) ≡ row ∷ [] → (form : ℕ) × IsFormOf form t × (row ≡ meta_row form owner cluster)
+  -- what its row says
+  abbrev pub Says : Row → Type 0
+  Says row = (form : ℕ) × (last : ℕ) × (floor : ℕ) × IsFormOf form opens.table × (row ≡ meta_row form owner cluster last floor) × CanSay last floor opens.table.entries
+
+  pub still_named : (row : Row) → map meta_cells (mid.trees 0) ≡ row ∷ [] → Says row
   still_named row one = elim still_meta [
-    | inl none ↦ absurd (let e = sym (ap (map meta_cells) none) ∙ one in cc)
-    | inr named ↦ (named.0, named.1, (let e = sym one ∙ named.2 in cc))
+    | inl nothing ↦ absurd (let e = sym (ap (map meta_cells) nothing.0) ∙ one in cc)
+    | inr said ↦ (
+        let named : IsNamed owner cluster opens.table said.0 said.1 (mid.trees 0) = said.2 in
+        let e = sym one ∙ named.2 in
+        (named.0, said.0, said.1, named.1, cc, named.3)
+        )
   ]
 
   pub never_more : (shown : List Row) → IsPermutation (map meta_cells (mid.trees 0)) shown → 2 ≤ length shown → ⊥
   never_more shown same more =
       let len = length_permutation (map meta_cells (mid.trees 0)) shown same in
       elim still_meta [
-        | inl none ↦ (let e : length (map meta_cells (mid.trees 0)) ≡ 0 = ap (λ (l : List Row). length (map meta_cells l)) none in omega (arith, e, len, more))
-        | inr named ↦ (let e : length (map meta_cells (mid.trees 0)) ≡ 1 = ap length named.2 in omega (arith, e, len, more))
+        | inl nothing ↦ (let e : length (map meta_cells (mid.trees 0)) ≡ 0 = ap (λ (l : List Row). length (map meta_cells l)) nothing.0 in omega (arith, e, len, more))
+        | inr said ↦ (let named : IsNamed owner cluster opens.table said.0 said.1 (mid.trees 0) = said.2 in let e : length (map meta_cells (mid.trees 0)) ≡ 1 = ap length named.2 in omega (arith, e, len, more))
       ]
 
 pub or_grows : {A : Type 0} (owner cluster : List ℕ) (found : Database) (db : Trees) → A ⊎ Grows found db → A ⊎ Founds owner cluster found db
@@ -132,7 +157,7 @@ or_grows owner cluster found db (inl was) = inl was
 or_grows owner cluster found db (inr grows) = inr (inl grows)
 
 pub names_too : (owner cluster : List ℕ) (old mid read : Database) (db : Trees) → Completes old mid → read ≡ mid → mid.trees 0 ≡ []
-    → IsSound log_schema db × (db 1 ≡ read.trees 1) × IsNamedIn 2 owner cluster (db 0) → Founds owner cluster old db
+    → IsSound log_schema db × (db 1 ≡ read.trees 1) × IsNamedIn 2 owner cluster 0 0 (db 0) → Founds owner cluster old db
 names_too owner cluster old mid read db all kept none names =
     inr (inl (record {
       made = all.made;
@@ -143,14 +168,35 @@ names_too owner cluster old mid read db all kept none names =
       rows = names.1 ∙ ap (λ (d : Database). d.trees 1) kept ∙ all.rows;
     }))
 
-pub raises_too : (owner cluster : List ℕ) (old mid read : Database) (db : Trees) (row : Row) → Completes old mid → read ≡ mid → map meta_cells (mid.trees 0) ≡ row ∷ []
-    → (row ≡ meta_row 1 owner cluster) × IsSound log_schema db × (db 1 ≡ read.trees 1) × IsNamedIn 2 owner cluster (db 0) → Founds owner cluster old db
-raises_too owner cluster old mid read db row all kept one raises =
+-- ---- what is accepted is raised, and cleared
+
+module _ (form : ℕ) (owner cluster : List ℕ) (last floor : ℕ) (metas rows : List Row) (named : IsNamedIn form owner cluster last floor metas) where
+  pub raised_in : (db : Trees) → (form ≡ 1) × IsSound log_schema db × (db 1 ≡ rows) × IsNamedIn 2 owner cluster last floor (db 0) → IsRaised owner cluster metas rows db
+  raised_in db did =
+      record { last = last; floor = floor; older = subst (λ (n : ℕ). IsNamedIn n owner cluster last floor metas) did.0 named; sound = did.1; meta = did.3; same = did.2 }
+
+  pub cleared_in : (mid db : Trees) → mid 1 ≡ rows → IsNamedIn 2 owner cluster last floor (mid 0) → IsSound log_schema db × Drops floor (mid 1) (db 1) × (db 0 ≡ mid 0) → IsCleared owner cluster metas rows db
+  cleared_in mid db same raised did =
+      record {
+        form = form;
+        last = last;
+        floor = floor;
+        said = named;
+        sound = did.0;
+        meta = subst (IsNamedIn 2 owner cluster last floor) (sym did.2) raised;
+        left = subst (λ (before : List Row). Drops floor before (db 1)) same did.1;
+      }
+
+pub form_read : (form : ℕ) (t : Table) → IsFormOf form t → IsForm form
+form_read form t (inl first) = inl first.0
+form_read form t (inr second) = inr second
+
+pub accepts_too : (owner cluster : List ℕ) (old mid read : Database) (db : Trees) → Completes old mid → read ≡ mid
+    → IsRaised owner cluster (read.trees 0) (read.trees 1) db ⊎ IsCleared owner cluster (read.trees 0) (read.trees 1) db → Founds owner cluster old db
+accepts_too owner cluster old mid read db all kept did =
     inr (inr (record {
       made = all.made;
       schema = all.schema;
-      older = ap (map meta_cells) (sym all.meta) ∙ one ∙ ap (λ (r : Row). r ∷ []) raises.0;
-      sound = raises.1;
-      meta = raises.3;
-      rows = raises.2 ∙ ap (λ (d : Database). d.trees 1) kept ∙ all.rows;
+      kept = subst₂ (λ (metas rows : List Row). IsRaised owner cluster metas rows db ⊎ IsCleared owner cluster metas rows db)
+          (ap (λ (d : Database). d.trees 0) kept ∙ all.meta) (ap (λ (d : Database). d.trees 1) kept ∙ all.rows) did;
     }))

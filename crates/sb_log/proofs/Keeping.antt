@@ -1,5 +1,5 @@
 -- From what the statements of a log in a database do to what a log promises.
-use Rattle.std.proofs.Common.{◌≡◌, ◌≢◌, ◌⊎◌, inl, inr, ℕ, ◌≤◌, Bool, true, false, cond, nat_le, true≢false, List, Option, Some, None, Result, Ok, Err, IsTrue, refl, sym, ap, subst, ◌∙◌, arith}
+use Rattle.std.proofs.Common.{◌≡◌, ◌≢◌, ◌⊎◌, inl, inr, ℕ, ◌<◌, ◌≤◌, Bool, true, false, cond, nat_le, true≢false, List, Option, Some, None, Result, Ok, Err, IsTrue, refl, sym, ap, subst, ◌∙◌, arith}
 use Rattle.sqlite_trees.specs.declared.store.Store.{Ghosts}
 use Rattle.sqlite_value.specs.Order.{Row}
 use Rattle.sqlite_trees.specs.Tree.{Trees}
@@ -14,15 +14,18 @@ use Rattle.sb_types.specs.declared.entry.Slot.{Slot}
 use Rattle.sb_types.specs.declared.fault.Fault.{Fault}
 use Rattle.sb_types.specs.declared.fault.Fault.TheVariants.{NoMemory, TableFull, VersionsSpent, NothingThere, Closed, StoreFailed, LogDamaged}
 use Rattle.sb_types.specs.Records.{Entry, Table}
-use Rattle.sb_table.specs.Plain.{IsPlainTable, with_entry, is_full_for}
+use Rattle.sb_table.specs.Plain.{plain_table, with_entry, is_full_for}
+use Rattle.sb_table.specs.Contents.{IsContent}
 use Rattle.sb_log.specs.Records.{Committed, Log}
 use Rattle.sb_log.specs.Puts.{is_idle, Puts, Loads, refusal, next_entry, next_content, IsReason}
 use Rattle.sb_log.specs.Form.{log_schema}
-use Rattle.sb_log.specs.Rows.{AreRowsOf, Enters, content_of}
+use Rattle.sb_log.specs.Rows.{AreRowsOf, CanSay, Enters, content_by, content_of}
 use Rattle.sb_log.specs.Opening.{IsNamed, IsNamedIn}
-use Rattle.sb_log.specs.Standing.{IsReady, IsKept, MayLeave}
+use Rattle.sb_log.specs.Standing.{IsReady, HoldsContent, IsKept, Finds, MayLeave}
 use Rattle.sb_log.specs.Sql.{SqlView, log_in}
-use Rattle.sb_log.proofs.Unique.{content_is}
+use Rattle.sb_log.proofs.Contents.{holds_is, holds_content, holds_most, says_again, content_again, entered_holds}
+use Rattle.sb_log.proofs.Refusals.{has_room}
+use Rattle.sb_log.proofs.Unique.{one_table}
 
 pub same_fault : {A : Type 0} {a b : Fault} → ◌≡◌ {A = Result A Fault} (Err a) (Err b) → a ≡ b
 same_fault e = cc
@@ -65,21 +68,23 @@ module _ (old : Log) (up : old.is_open ≡ true) (key : List ℕ) (slot : Slot) 
           (subst (λ (o : Option Fault). IsReason o fault) (sym is) (inl same))
 
 module _ {S : Type 0} (g : Ghosts S) (settled : (s : S) (db : Trees) → IsTrue (g.view s).is_open → g.recovers s db → db ≡ (g.view s).committed) (owner cluster : List ℕ) where
-  in_two : (content : Table) (rows : List Row) → IsNamedIn 2 owner cluster rows → IsNamed owner cluster content rows
-  in_two content rows named = (2, inr refl, named)
+  in_two : (table : Table) (last floor : ℕ) (rows : List Row) → IsNamedIn 2 owner cluster last floor rows → CanSay last floor table.entries → IsNamed owner cluster table last floor rows
+  in_two table last floor rows named can = (2, inr refl, named, can)
+
+  pub found_in : (content : Table) (entries : List Entry) (db : Trees) → IsSound log_schema db → HoldsContent owner cluster content entries db → (left : Table) → Finds owner cluster db left → left ≡ content
+  found_in content entries db sound holds left finds =
+      finds holds.last content.floor (plain_table entries) sound (in_two (plain_table entries) holds.last content.floor (db 0) holds.named holds.can) holds.rows ∙ holds_is owner cluster content entries db holds
 
   -- after a crash what a log that stands holds is found
-  left_is : (conn : Held S) (table : Table) → IsReady (state g conn) → AreRowsOf table ((state g conn).now.trees 1) → IsNamedIn 2 owner cluster ((state g conn).now.trees 0)
-      → (left : Table) → MayLeave g owner cluster conn left → left ≡ table
-  left_is conn table ready are named left may =
+  left_is : (conn : Held S) (table : Table) → IsReady (state g conn) → HoldsContent owner cluster table table.entries (state g conn).now.trees → (left : Table) → MayLeave g owner cluster conn left → left ≡ table
+  left_is conn table ready holds left may =
       let same : may.0 ≡ (state g conn).now.trees = settled conn.store may.0 ready.is_open may.1 ∙ sym (ap (λ (d : Database). d.trees) ready.settled) in
-      may.2 table (subst (λ (trees : Trees). IsSound log_schema trees) (sym same) (subst (λ (s : Schema). IsSound s (state g conn).now.trees) ready.schema ready.sound))
-      (in_two table (may.0 0) (subst (λ (trees : Trees). IsNamedIn 2 owner cluster (trees 0)) (sym same) named)) (subst (λ (trees : Trees). AreRowsOf table (trees 1)) (sym same) are)
+      found_in table table.entries (state g conn).now.trees (subst (λ (s : Schema). IsSound s (state g conn).now.trees) ready.schema ready.sound) holds left (subst (λ (trees : Trees). Finds owner cluster trees left) same may.2)
 
   pub settles : (conn : Held S) (table : Table) (is_open : Bool) → IsKept g owner cluster conn table is_open → (g.view conn.store).is_clean ≡ true → is_open ≡ true
-      → (left : Table) → MayLeave g owner cluster conn left → left ≡ content_of ((g.view conn.store).trees 1)
+      → (left : Table) → MayLeave g owner cluster conn left → left ≡ content_of ((g.view conn.store).trees 0) ((g.view conn.store).trees 1)
   settles conn table is_open kept clean up left may =
-      let stands = kept up (no_doubt _ clean) in left_is conn table stands.0 stands.1 stands.2 left may ∙ sym (content_is _ table stands.1)
+      let stands = kept up (no_doubt _ clean) in left_is conn table stands.0 stands.1 left may ∙ sym (holds_is owner cluster table table.entries (g.view conn.store).trees stands.1)
 
   module _ (most : ℕ) (is_open : Bool) (up : is_open ≡ true) (conn : Held S) (table : Table) (kept : IsKept g owner cluster conn table is_open) where
     abbrev pub view_with : Bool → Held S → SqlView S
@@ -88,10 +93,14 @@ module _ {S : Type 0} (g : Ghosts S) (settled : (s : S) (db : Trees) → IsTrue 
     abbrev before : Log
     before = log_in g (view_with is_open conn)
 
+    -- its content is the table
+    shown : (g.view conn.store).is_clean ≡ true → before.content ≡ table
+    shown clean = holds_is owner cluster table table.entries (g.view conn.store).trees (kept up (no_doubt _ clean)).1
+
     module _ (key : List ℕ) (slot : Slot) where
       -- it is tested on what the log holds
       tested : (g.view conn.store).is_clean ≡ true → refusal most before.content key slot ≡ refusal most table key slot
-      tested clean = ap (λ (t : Table). refusal most t key slot) (content_is _ table (kept up (no_doubt _ clean)).1)
+      tested clean = ap (λ (t : Table). refusal most t key slot) (shown clean)
 
       pub refuses_known : (fault : Fault) → refusal most table key slot ≡ Some fault → Puts before key slot (Err fault) before
       refuses_known fault is =
@@ -147,41 +156,51 @@ module _ {S : Type 0} (g : Ghosts S) (settled : (s : S) (db : Trees) → IsTrue 
               };
             }
 
-        module _ (e : Entry) (entry : e ≡ next_entry table key slot) (plain : IsPlainTable (with_entry table e)) where
+        module _ (e : Entry) (entry : e ≡ next_entry table key slot) (fits : refusal most table key slot ≡ None) where
+          later : table.held < e.version
+          later = omega (arith, ap (λ (x : Entry). x.version) entry)
+
+          room : is_full_for e.key table.entries ≡ false
+          room = subst (λ (k : List ℕ). is_full_for k table.entries ≡ false) (sym (ap (λ (x : Entry). x.key) entry)) (has_room most table key slot fits)
+
           -- with the content before it
           entered_is : (g.view conn.store).is_clean ≡ true → with_entry table e ≡ next_content before key slot
-          entered_is clean =
-              let same = sym (content_is _ table (kept up (no_doubt _ clean)).1) in
-              ap (with_entry table) entry ∙ ap (λ (t : Table). with_entry t (next_entry t key slot)) same
+          entered_is clean = ap (with_entry table) entry ∙ ap (λ (t : Table). with_entry t (next_entry t key slot)) (sym (shown clean))
 
-          pub keeps : (c : Committed) → c ≡ record { owner = owner; entry = e } → refusal most table key slot ≡ None
-              → (HasCleanDisk (state g conn') → IsReady (state g conn) → Enters e ((state g conn).now.trees 1) ((state g conn').now.trees 1))
-              → Puts before key slot (Ok c) (log_in g (view_with is_open conn'))
-          keeps c is free enters =
+          abbrev EntersRow : Type 0
+          EntersRow = HasCleanDisk (state g conn') → IsReady (state g conn) → Enters e ((state g conn).now.trees 1) ((state g conn').now.trees 1)
+
+          abbrev SparesMeta : Type 0
+          SparesMeta = HasCleanDisk (state g conn') → IsReady (state g conn) → (state g conn').now.trees 0 ≡ (state g conn).now.trees 0
+
+          now_holds : EntersRow → SparesMeta → (g.view conn'.store).is_clean ≡ true → HoldsContent owner cluster (with_entry table e) (with_entry table e).entries (g.view conn'.store).trees
+          now_holds enters meta clean =
+              let stands = kept up (no_doubt _ (was_clean clean)) in
+              entered_holds owner cluster table (g.view conn.store).trees stands.1 e later room (g.view conn'.store).trees (enters (no_doubt _ clean) stands.0) (meta (no_doubt _ clean) stands.0)
+
+          pub keeps : (c : Committed) → c ≡ record { owner = owner; entry = e } → EntersRow → SparesMeta → Puts before key slot (Ok c) (log_in g (view_with is_open conn'))
+          keeps c is enters meta =
               record {
                 stays = record { owner = refl; cluster = refl; most = refl; clean = was_clean; sure = λ s. absurd (cc) };
                 closed = (λ e. absurd (never_closed c e), λ shut. absurd (true≢false (sym up ∙ shut)));
                 kept = record {
                   is_open = up;
                   owner = ap (λ (x : Committed). x.owner) is;
-                  fits = λ clean. tested (was_clean clean) ∙ free;
-                  entry = λ clean. ap (λ (x : Committed). x.entry) is ∙ entry ∙ ap (λ (t : Table). next_entry t key slot) (sym (content_is _ table (kept up (no_doubt _ (was_clean clean))).1));
+                  fits = λ clean. tested (was_clean clean) ∙ fits;
+                  entry = λ clean. ap (λ (x : Committed). x.entry) is ∙ entry ∙ ap (λ (t : Table). next_entry t key slot) (sym (shown (was_clean clean)));
                   content = λ clean.
-                      let stands = kept up (no_doubt _ (was_clean clean)) in
-                      content_is _ (with_entry table e) (enters (no_doubt _ clean) stands.0 table plain stands.1)
-                      ∙ sym (λ i. with_entry (content_is _ table stands.1 i) (is i).entry);
+                      holds_is owner cluster (with_entry table e) (with_entry table e).entries (g.view conn'.store).trees (now_holds enters meta clean)
+                      ∙ sym (λ i. with_entry (shown (was_clean clean) i) (is i).entry);
                 };
                 refused = tt;
               }
 
-          pub now_kept : (table' : Table) → table' ≡ with_entry table e → (HasCleanDisk (state g conn') → IsReady (state g conn) → Enters e ((state g conn).now.trees 1) ((state g conn').now.trees 1))
-              → (HasCleanDisk (state g conn') → IsReady (state g conn) → IsReady (state g conn'))
-              → (HasCleanDisk (state g conn') → IsReady (state g conn) → (state g conn').now.trees 0 ≡ (state g conn).now.trees 0) → IsKept g owner cluster conn' table' is_open
+          pub now_kept : (table' : Table) → table' ≡ with_entry table e → EntersRow → (HasCleanDisk (state g conn') → IsReady (state g conn) → IsReady (state g conn')) → SparesMeta
+              → IsKept g owner cluster conn' table' is_open
           now_kept table' is enters ready meta _ clean =
-              let stands = kept up (no_doubt _ (was_clean (clean_of _ clean))) in (
-                ready clean stands.0,
-                subst (λ (t : Table). AreRowsOf t ((state g conn').now.trees 1)) (sym is) (enters clean stands.0 table plain stands.1),
-                subst (IsNamedIn 2 owner cluster) (sym (meta clean stands.0)) stands.2,
+              let clean' = clean_of _ clean in (
+                ready clean (kept up (no_doubt _ (was_clean clean'))).0,
+                subst (λ (t : Table). HoldsContent owner cluster t t.entries (g.view conn'.store).trees) (sym is) (now_holds enters meta clean'),
               )
 
           pub survives : (HasCleanDisk (state g conn') → IsReady (state g conn) → (db : Trees) → g.recovers conn'.store db
@@ -191,7 +210,11 @@ module _ {S : Type 0} (g : Ghosts S) (settled : (s : S) (db : Trees) → IsTrue 
               let stands = kept up (no_doubt _ (was_clean clean)) in
               elim (crash (no_doubt _ clean) stands.0 may.0 may.1) [
                 | inl was ↦ inl (settles conn table is_open kept (was_clean clean) up left (may.0, was, may.2))
-                | inr put ↦ inr (may.2 (with_entry table e) put.2 (in_two (with_entry table e) _ (subst (IsNamedIn 2 owner cluster) (sym put.1) stands.2)) (put.0 table plain stands.1) ∙ entered_is (was_clean clean))
+                | inr put ↦ inr (
+                    found_in (with_entry table e) (with_entry table e).entries may.0 put.2
+                    (entered_holds owner cluster table (g.view conn.store).trees stands.1 e later room may.0 put.0 put.1) left may.2
+                    ∙ entered_is (was_clean clean)
+                    )
               ]
 
     -- ---- reading it again
@@ -203,26 +226,34 @@ module _ {S : Type 0} (g : Ghosts S) (settled : (s : S) (db : Trees) → IsTrue 
       abbrev Read : Type 0
       Read = HasCleanDisk (state g conn') → IsReady (state g conn) → IsReady (state g conn') × ((state g conn').now ≡ (state g conn).now)
 
-      same_content : Read → (g.view conn'.store).is_clean ≡ true → content_of ((g.view conn'.store).trees 1) ≡ before.content
-      same_content read clean = ap (λ (d : Database). content_of (d.trees 1)) (read (no_doubt _ clean) (kept up (no_doubt _ (still_clean clean))).0).1
+      same_content : Read → (g.view conn'.store).is_clean ≡ true → content_of ((g.view conn'.store).trees 0) ((g.view conn'.store).trees 1) ≡ before.content
+      same_content read clean = ap (λ (d : Database). content_of (d.trees 0) (d.trees 1)) (read (no_doubt _ clean) (kept up (no_doubt _ (still_clean clean))).0).1
 
       pub still_kept : Read → IsKept g owner cluster conn' table is_open
       still_kept read _ clean =
           let was = still_clean (clean_of _ clean) in
           let stands = kept up (no_doubt _ was) in
           let now = read clean stands.0 in
-          (now.0, subst (λ (d : Database). AreRowsOf table (d.trees 1)) (sym now.1) stands.1, subst (λ (d : Database). IsNamedIn 2 owner cluster (d.trees 0)) (sym now.1) stands.2)
+          (now.0, subst (λ (d : Database). HoldsContent owner cluster table table.entries d.trees) (sym now.1) stands.1)
 
-      pub gives : (t : Table) → IsPlainTable t → Read → (HasCleanDisk (state g conn') → IsReady (state g conn) → AreRowsOf t ((state g conn).now.trees 1))
-          → Loads before (Ok t) (log_in g (view_with is_open conn'))
-      gives t plain read rows =
+      -- what is read is the content of the same rows
+      abbrev ReadsAs : Table → Type 0
+      ReadsAs t = HasCleanDisk (state g conn') → IsReady (state g conn) → (found : Table) × AreRowsOf found ((state g conn).now.trees 1) × (t ≡ content_by table.held table.floor found.entries)
+
+      pub gives : (t : Table) → IsContent t → Read → ReadsAs t → Loads before (Ok t) (log_in g (view_with is_open conn'))
+      gives t is read reads =
           record {
             stays = record { owner = refl; cluster = refl; most = refl; clean = still_clean; sure = λ s. absurd (cc) };
             closed = (λ e. absurd (never_closed t e), λ shut. absurd (true≢false (sym up ∙ shut)));
             given = record {
               is_open = up;
-              plain = plain;
-              same = λ clean. sym (content_is _ t (rows (no_doubt _ clean) (kept up (no_doubt _ (still_clean clean))).0));
+              is = is;
+              same = λ clean.
+                  let was = still_clean clean in
+                  let stands = kept up (no_doubt _ was) in
+                  let found = reads (no_doubt _ clean) stands.0 in
+                  let same : found.0 ≡ plain_table table.entries = one_table ((state g conn).now.trees 1) (plain_table table.entries) found.0 stands.1.rows found.1 in
+                  found.2 ∙ ap (λ (u : Table). content_by table.held table.floor u.entries) same ∙ content_again table stands.1.table ∙ sym (shown was);
               content = same_content read;
             };
             failed = tt;
@@ -278,7 +309,8 @@ module _ {S : Type 0} (g : Ghosts S) (settled : (s : S) (db : Trees) → IsTrue 
 
       abbrev TakesNoneForDamage : Type 0
       TakesNoneForDamage =
-          HasCleanDisk (state g conn') → IsReady (state g conn) → (t : Table) → AreRowsOf t ((state g conn).now.trees 1) → ◌≢◌ {A = Result Table Fault} (Err LogDamaged) (Err LogDamaged)
+          HasCleanDisk (state g conn') → IsReady (state g conn) → (t : Table) → AreRowsOf t ((state g conn).now.trees 1) → CanSay table.held table.floor t.entries
+          → ◌≢◌ {A = Result Table Fault} (Err LogDamaged) (Err LogDamaged)
 
       -- where a row is taken for damage, the store broke its promise
       broke : TakesNoneForDamage → (g.view conn'.store).is_clean ≡ false
@@ -286,7 +318,11 @@ module _ {S : Type 0} (g : Ghosts S) (settled : (s : S) (db : Trees) → IsTrue 
         where
           go : (b : Bool) → (g.view conn'.store).is_clean ≡ b → b ≡ false
           go false is = refl
-          go true is = let stands = kept up (no_doubt _ (still_clean is)) in absurd (whole (no_doubt _ is) stands.0 table stands.1 refl)
+          go true is =
+              let stands = kept up (no_doubt _ (still_clean is)) in
+              let trees = (g.view conn.store).trees in
+              let can = says_again table (holds_content owner cluster table table.entries trees stands.1) (holds_most owner cluster table table.entries trees stands.1) in
+              absurd (whole (no_doubt _ is) stands.0 (plain_table table.entries) stands.1.rows can refl)
 
       pub gives_damaged : TakesNoneForDamage → Loads before (Err LogDamaged) (log_in g (view_with false conn'))
       gives_damaged whole = gives_damage (broke whole)

@@ -8,9 +8,15 @@ mod Upserting
 mod Unique
 mod Updating
 mod Entering
+mod Numbering
 mod Writing
 mod Keeping
 mod Naming
+mod Changing
 mod Raising
+mod Flooring
+mod Dropping
+mod Contents
 mod Founding
 mod Whole
+mod Floors

@@ -1,7 +1,7 @@
 -- What the statement that says whose log it is does.
-use Rattle.std.proofs.Common.{◌≡◌, inl, inr, ℕ, pos, List, [], ◌∷◌, map, drop, Option, None, Ok, refl, sym, ap, subst, subst₂, ◌∙◌, arith}
+use Rattle.std.proofs.Common.{◌≡◌, inl, inr, ℕ, pos, List, [], ◌∷◌, length, map, drop, Option, None, Ok, refl, sym, ap, subst, subst₂, ◌∙◌, arith}
 use Rattle.sqlite_value.specs.declared.value.Value.TheVariants.{Null, Int, Text}
-use Rattle.sqlite_value.specs.Order.{Row}
+use Rattle.sqlite_value.specs.Order.{Row, column}
 use Rattle.sqlite_trees.specs.Tree.{Trees}
 use Rattle.sqlite_schema.specs.declared.command.Command.{Command}
 use Rattle.sqlite_schema.specs.declared.command.Command.TheVariants.{Insert}
@@ -19,7 +19,7 @@ use Rattle.sqlite.specs.State.{State, Writes, Executes, MayCommit, CommitsBy, mo
 use Rattle.sqlite_catalog.specs.Listing.{IsSound}
 use Rattle.sqlite.proofs.Callers.{IsPlain, command_of, statement_of, runs_as, one_step}
 use Rattle.sb_log.specs.Form.{log_schema, meta_table, meta_row_text}
-use Rattle.sb_log.specs.Opening.{meta_cells, meta_row}
+use Rattle.sb_log.specs.Opening.{meta_cells, meta_row, IsNamedIn}
 use Rattle.sb_log.specs.Standing.{IsReady}
 use Rattle.sb_log.proofs.Making.{went, same_value, commits}
 use Rattle.sb_log.proofs.Texts.{meta_terms, meta_row_is, meta_row_plain}
@@ -28,12 +28,21 @@ use Rattle.sb_log.proofs.Upserting.{cast_null, cast_int}
 apart : ◌≡◌ {A = ℕ} 1 0 → ⊥
 apart e = absurd (omega (arith, e))
 
-module _ (form : ℕ) (owner cluster : List ℕ) where
+module _ (form : ℕ) (owner cluster : List ℕ) (last floor : ℕ) where
   abbrev pub source : Row
-  source = Int (pos 1) ∷ Null ∷ Int (pos form) ∷ Text owner ∷ Text cluster ∷ Int (pos 0) ∷ Int (pos 0) ∷ []
+  source = Int (pos 1) ∷ Null ∷ Int (pos form) ∷ Text owner ∷ Text cluster ∷ Int (pos last) ∷ Int (pos floor) ∷ []
 
   pub cast_source : cast_row meta_table source ≡ source
-  cast_source = λ i. cast_int (pos 1) i ∷ cast_null i ∷ cast_int (pos form) i ∷ Text owner ∷ Text cluster ∷ cast_int (pos 0) i ∷ cast_int (pos 0) i ∷ []
+  cast_source = λ i. cast_int (pos 1) i ∷ cast_null i ∷ cast_int (pos form) i ∷ Text owner ∷ Text cluster ∷ cast_int (pos last) i ∷ cast_int (pos floor) i ∷ []
+
+  -- the one row that is named so
+  pub one_named : (rows : List Row) → IsNamedIn form owner cluster last floor rows → (r : Row) × (rows ≡ r ∷ []) × (meta_cells r ≡ meta_row form owner cluster last floor)
+  one_named [] named = absurd (let few : ◌≡◌ {A = ℕ} 0 1 = ap length named in omega (arith, few))
+  one_named (r ∷ []) named = (r, refl, (let same : meta_cells r ≡ meta_row form owner cluster last floor = cc in same))
+  one_named (r ∷ s ∷ more) named = absurd (let many = ap length named in omega (arith, many))
+
+  pub cell : (r : Row) → meta_cells r ≡ meta_row form owner cluster last floor → (place : ℕ) → column (meta_cells r) place ≡ column (meta_row form owner cluster last floor) place
+  cell r is place = ap (λ (row : Row). column row place) is
 
 module _ (owner cluster : List ℕ) where
   abbrev params : Row
@@ -44,7 +53,7 @@ module _ (owner cluster : List ℕ) where
 
   module _ (limit : Option ℕ) (mode : Mode) where
     named : (text : List ℕ) (db : Database) (tally : Tally) (after : Database) → db.schema ≡ log_schema → Does limit mode params db text None insert (Ok (tally, after))
-        → (after.schema ≡ log_schema) × (after.trees 1 ≡ db.trees 1) × (db.trees 0 ≡ [] → after.trees 0 ≡ source 2 owner cluster ∷ [])
+        → (after.schema ≡ log_schema) × (after.trees 1 ≡ db.trees 1) × (db.trees 0 ≡ [] → after.trees 0 ≡ source 2 owner cluster 0 0 ∷ [])
     named text db tally after has h =
         let done = went (subst (λ (s : Schema). Does limit mode params (record db { schema = s }) text None insert (Ok (tally, after))) has h) in
         let now = ap (λ (p : Tally × Database). p.1) (same_value (went (went done.2).2).2) in
@@ -58,7 +67,7 @@ module _ (owner cluster : List ℕ) where
           ap (λ (d : Database). d.schema) now,
           at 1 ∙ put.tables.1.0 apart,
           λ empty. at 0 ∙ put.rows ∙ (λ i. put_all (empty i) (numbered Chosen (empty i) (map (λ (s : Row). cast_row meta_table (drop 0 s)) (given.1.1 i))))
-              ∙ (λ i. put_all [] (numbered Chosen [] (cast_source 2 owner cluster i ∷ []))),
+              ∙ (λ i. put_all [] (numbered Chosen [] (cast_source 2 owner cluster 0 0 i ∷ []))),
         )
 
   module _ (old new : State) (count : ℕ) (ready : IsReady old) (h : Executes meta_row_text params old new (Ok count)) where
@@ -68,7 +77,7 @@ module _ (owner cluster : List ℕ) where
     ran : Writes old new None insert text_run params count
     ran = runs_as meta_row_text params old new log_schema ready.schema insert meta_row_is meta_row_plain count h
 
-    did : (new.now.schema ≡ log_schema) × (new.now.trees 1 ≡ old.now.trees 1) × (old.now.trees 0 ≡ [] → new.now.trees 0 ≡ source 2 owner cluster ∷ [])
+    did : (new.now.schema ≡ log_schema) × (new.now.trees 1 ≡ old.now.trees 1) × (old.now.trees 0 ≡ [] → new.now.trees 0 ≡ source 2 owner cluster 0 0 ∷ [])
     did = named old.step_limit (mode_of old) text_run old.now ran.tally new.now ready.schema ran.changed
 
     pub name_ready : IsReady new
@@ -79,13 +88,13 @@ module _ (owner cluster : List ℕ) where
     pub name_rows : new.now.trees 1 ≡ old.now.trees 1
     name_rows = did.1
 
-    pub name_meta : old.now.trees 0 ≡ [] → map meta_cells (new.now.trees 0) ≡ meta_row 2 owner cluster ∷ []
+    pub name_meta : old.now.trees 0 ≡ [] → map meta_cells (new.now.trees 0) ≡ meta_row 2 owner cluster 0 0 ∷ []
     name_meta empty = ap (map meta_cells) (did.2 empty)
 
   -- what a crash leaves of it
   module _ (old : State) (ready : IsReady old) where
     abbrev pub NamedIn : Trees → Type 0
-    NamedIn db = IsSound log_schema db × (db 1 ≡ old.now.trees 1) × (old.now.trees 0 ≡ [] → map meta_cells (db 0) ≡ meta_row 2 owner cluster ∷ [])
+    NamedIn db = IsSound log_schema db × (db 1 ≡ old.now.trees 1) × (old.now.trees 0 ≡ [] → map meta_cells (db 0) ≡ meta_row 2 owner cluster 0 0 ∷ [])
 
     abbrev text_left : List ℕ
     text_left = statement_of meta_row_text (understood log_schema meta_row_text)

@@ -1,9 +1,9 @@
 -- The term that nodes stand for, and the nodes that a term needs.
-use Rattle.std.proofs.Common.{◌≡◌, ℕ, zero, suc, pos, length, List, [], ◌∷◌, map, Option, Some, None, Bool, true, false, ◌&&◌, ◌≤◌, negsuc, slice_get, slice_index_or, refl, sym, ap, ◌∙◌, arith, eqb-true}
+use Rattle.std.proofs.Common.{◌≡◌, ℕ, zero, suc, pos, length, List, [], ◌∷◌, Option, Some, None, true, ◌&&◌, ◌≤◌, negsuc, slice_get, slice_index_or, refl, sym, ap, ◌∙◌, arith, eqb-true}
 use Rattle.std.proofs.lemmas.Bool.{and_parts}
 use Rattle.sqlite_value.specs.declared.keys.Collation.TheVariants.{Binary as Bytes, NoCase, RTrim}
 use Rattle.sqlite_value.specs.declared.value.Value.TheVariants.{Null, Int, Real, Text, Blob}
-use Rattle.sqlite_sql.specs.Term.{Term, lit, col, op1, op2, case}
+use Rattle.sqlite_sql.specs.Term.{Term, lit, col, op2}
 use Rattle.sqlite_sql.specs.declared.ops.BinaryOp.{BinaryOp}
 use Rattle.sqlite_sql.specs.declared.ops.BinaryOp.TheVariants.{Arith, Compare, And, Or, Is, Coalesce, Like, Bits, Instr}
 use Rattle.sqlite_sql.specs.declared.ops.CompareOp.TheVariants.{Eq, Ne, Lt, Le, Gt, Ge}

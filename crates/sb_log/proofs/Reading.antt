@@ -1,9 +1,10 @@
 -- What the query of a log's rows answers.
 use Rattle.std.specs.Prelude.{IfOk, OnOk}
 use Rattle.sb_types.specs.declared.fault.Fault.{Fault}
-use Rattle.std.proofs.Common.{◌≡◌, ◌⊎◌, inl, inr, true, false, Result, Ok, Err, drop, subst, List, [], ◌∷◌, map, flat_map, refl, sym, ap, subst₂, ◌∙◌}
+use Rattle.std.proofs.Common.{◌≡◌, ◌⊎◌, inl, inr, ℤ, true, false, Result, Ok, Err, drop, subst, List, [], ◌∷◌, length, map, filter, flat_map, refl, sym, ap, subst₂, ◌∙◌, arith}
 use Rattle.std.specs.List.Sorted.{IsPermutation}
-use Rattle.std.proofs.lemmas.List.Sorted.{IsPermutation-map, IsPermutation-sym}
+use Rattle.std.proofs.lemmas.List.{length-map}
+use Rattle.std.proofs.lemmas.List.Sorted.{IsPermutation-map, IsPermutation-sym, length_permutation}
 use Rattle.sqlite_value.specs.declared.value.Value.TheVariants.{Null}
 use Rattle.sqlite_value.specs.Order.{Row}
 use Rattle.sqlite_sql.specs.Query.{IsAnswer, Output, output}
@@ -13,8 +14,8 @@ use Rattle.sqlite.specs.Effect.{Database, IsDatabase}
 use Rattle.sqlite.specs.Listing.{understood, reads_listing}
 use Rattle.sqlite_schema.specs.declared.schema.Schema.{Schema}
 use Rattle.sqlite_schema.specs.declared.command.Command.TheVariants.{Select}
-use Rattle.sqlite_trees.specs.Tree.{Trees}
-use Rattle.sqlite_trees.proofs.ListLemmas.{all-permutation}
+use Rattle.sqlite_trees.specs.Tree.{Trees, has_rowid}
+use Rattle.sqlite_trees.proofs.ListLemmas.{all-permutation, filter-map, IsPermutation-filter}
 use Rattle.std.specs.List.{list_all}
 use Rattle.sb_types.specs.Records.{Table}
 use Rattle.sb_table.specs.Plain.{IsPlainTable}
@@ -22,7 +23,7 @@ use Rattle.sb_log.specs.Standing.{IsReady, IsPrepared}
 use Rattle.sb_log.specs.Opening.{meta_cells}
 use Rattle.sqlite.proofs.Callers.{reads_as, never_commits, command_of, IsPlain as IsCallPlain}
 use Rattle.sb_log.specs.Form.{rows_text, meta_rows_text, log_schema}
-use Rattle.sb_log.specs.Rows.{cells, cells_of, is_kept, numbered_cells, AreNumbered, AreRowsOf}
+use Rattle.sb_log.specs.Rows.{cells, cells_of, is_kept, numbered_cells, AreNumbered, AreNumberedApart, AreRowsOf}
 use Rattle.sb_log.proofs.Texts.{rows_query, rows_is, rows_plain, meta_query, meta_names, meta_rows_is, meta_rows_plain}
 
 shown_each : (rows : List Row) → map (λ (o : Output). o.1) (map (output rows_query) (flat_map (λ (r : Row). ([] ∷ r ∷ []) ∷ []) rows)) ≡ map numbered_cells rows
@@ -46,15 +47,22 @@ without_numbers : (rows : List Row) → map (drop 1) (map numbered_cells rows) �
 without_numbers [] = refl
 without_numbers (r ∷ rows) = ap (λ (l : List Row). cells r ∷ l) (without_numbers rows)
 
+-- the answer numbers the rows as the table does
+pub counted_alike : (n : ℤ) (rows shown : List Row) → IsPermutation (map numbered_cells rows) shown → length (filter (has_rowid n) shown) ≡ length (filter (has_rowid n) rows)
+counted_alike n rows shown same =
+    length_permutation _ _ (IsPermutation-filter (has_rowid n) (map numbered_cells rows) shown same)
+    ∙ ap length (filter-map (has_rowid n) numbered_cells rows) ∙ length-map (filter (has_rowid n) rows) numbered_cells
+
 -- what is read as a table's rows are the table's rows
-pub are_rows : (rows shown : List Row) (t : Table) → IsPermutation (map numbered_cells rows) shown → IsPlainTable t → list_all is_kept t.entries ≡ true → AreNumbered shown
+pub are_rows : (rows shown : List Row) (t : Table) → IsPermutation (map numbered_cells rows) shown → IsPlainTable t → list_all is_kept t.entries ≡ true → AreNumbered shown → AreNumberedApart shown
     → map cells_of t.entries ≡ map (drop 1) shown → AreRowsOf t rows
-are_rows rows shown t same plain kept numbered is =
+are_rows rows shown t same plain kept numbered once is =
     record {
       plain = plain;
       kept = kept;
       same = subst₂ IsPermutation (without_numbers rows) (sym is) (IsPermutation-map (drop 1) (map numbered_cells rows) shown same);
       numbered = unmapped_numbers rows (all-permutation _ shown (map numbered_cells rows) (IsPermutation-sym _ _ same) numbered);
+      apart = λ n. omega (arith, once n, counted_alike n rows shown same);
     }
 
 pub read_unchanged : (old new : State) (rows : List Row) → IsReady old → Shown rows_text [] old new rows → IsUnchanged old new
@@ -86,9 +94,9 @@ read_commits old db ready (inl left) = left
 read_commits old db ready (inr commits) = absurd (never_commits rows_text [] old db (subst (λ (s : Schema). IsCallPlain (understood s rows_text)) (sym ready.schema) rows_plain) commits)
 
 pub table_is : (rows shown : List Row) (result : Result Table Fault) → IsPermutation (map numbered_cells rows) shown → IfOk result IsPlainTable → IfOk result (λ t. list_all is_kept t.entries ≡ true)
-    → OnOk result (AreNumbered shown) → IfOk result (λ t. map cells_of t.entries ≡ map (drop 1) shown) → IfOk result (λ t. AreRowsOf t rows)
-table_is rows shown (Ok t) same plain kept numbered is = are_rows rows shown t same plain kept numbered is
-table_is rows shown (Err fault) same plain kept numbered is = tt
+    → OnOk result (AreNumbered shown) → OnOk result (AreNumberedApart shown) → IfOk result (λ t. map cells_of t.entries ≡ map (drop 1) shown) → IfOk result (λ t. AreRowsOf t rows)
+table_is rows shown (Ok t) same plain kept numbered once is = are_rows rows shown t same plain kept numbered once is
+table_is rows shown (Err fault) same plain kept numbered once is = tt
 
 -- ---- the row of meta
 

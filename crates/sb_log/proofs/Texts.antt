@@ -3,12 +3,12 @@ use Rattle.std.proofs.Common.{◌≡◌, ℕ, pos, negsuc, List, [], ◌∷◌, 
 use Rattle.sqlite_value.specs.declared.value.Value.TheVariants.{Null, Int}
 use Rattle.sqlite_sql.specs.Term.{Term, lit, col, op2}
 use Rattle.sqlite_sql.specs.Query.{Query, inner, end}
-use Rattle.sqlite_schema.specs.declared.command.Command.TheVariants.{Insert, InsertOr, Select, CreateTable, Update}
+use Rattle.sqlite_schema.specs.declared.command.Command.TheVariants.{Insert, InsertOr, Select, CreateTable, Update, Delete}
 use Rattle.sqlite_schema.specs.declared.command.Source.TheVariants.{Values}
 use Rattle.sqlite_resolve.specs.Compile.{table_defined_by}
 use Rattle.sqlite_tied.specs.Compute.{everything}
 use Rattle.sqlite_sql.specs.declared.ops.BinaryOp.TheVariants.{Compare}
-use Rattle.sqlite_sql.specs.declared.ops.CompareOp.TheVariants.{Eq}
+use Rattle.sqlite_sql.specs.declared.ops.CompareOp.TheVariants.{Eq, Le}
 use Rattle.sqlite_schema.specs.declared.command.Conflict.TheVariants.{Abort}
 use Rattle.sqlite_schema.specs.declared.command.Upsert.{Upsert}
 use Rattle.sqlite_schema.specs.declared.program.Program.{Program}
@@ -18,7 +18,7 @@ use Rattle.sqlite.specs.Listing.{understood, reads_listing}
 use Rattle.sqlite.proofs.Callers.{IsPlain, command_of, statement_of}
 use Rattle.sqlite_schema.specs.declared.schema.Table.{Table}
 use Rattle.sqlite_catalog.specs.Change.{created}
-use Rattle.sb_log.specs.Form.{meta_text, writes_text, rows_text, meta_rows_text, meta_row_text, raise_text, upsert_text, meta_table, writes_table, no_schema, meta_schema, log_schema}
+use Rattle.sb_log.specs.Form.{meta_text, writes_text, rows_text, meta_rows_text, meta_row_text, raise_text, floor_text, drop_text, upsert_text, meta_table, writes_table, no_schema, meta_schema, log_schema}
 
 abbrev pub unplaced : Table
 unplaced = record writes_table { tree = 0 }
@@ -166,3 +166,53 @@ raise_is = refl
 pub raise_plain : IsPlain (understood log_schema raise_text)
 unfolding understood everything
 raise_plain = (refl, refl)
+
+-- what the floor's statement makes of each row of meta: its other columns stay
+abbrev pub floor_query : Query
+floor_query = record {
+  from = inner 0 end;
+  filter = [];
+  group = None;
+  project = col 1 0 ∷ col 1 0 ∷ lit Null ∷ col 1 2 ∷ col 1 3 ∷ col 1 4 ∷ col 0 0 ∷ col 0 1 ∷ [];
+  distinct = false;
+  collations = [];
+  order = [];
+  limit = lit (Int (negsuc 0));
+  offset = lit (Int (pos 0));
+}
+
+abbrev pub floor_program : Program
+floor_program = record { lets = []; body = floor_query }
+
+pub floor_is : command_of (understood log_schema floor_text) ≡ Update 0 floor_program
+unfolding understood everything
+floor_is = refl
+
+pub floor_plain : IsPlain (understood log_schema floor_text)
+unfolding understood everything
+floor_plain = (refl, refl)
+
+-- the rowids of the removals up to a version
+abbrev pub drop_query : Query
+drop_query = record {
+  from = inner 1 end;
+  filter = op2 (Compare Eq Binary) (col 1 3) (lit (Int (pos 0))) ∷ op2 (Compare Le Binary) (col 1 2) (col 0 0) ∷ [];
+  group = None;
+  project = col 1 0 ∷ [];
+  distinct = false;
+  collations = [];
+  order = [];
+  limit = lit (Int (negsuc 0));
+  offset = lit (Int (pos 0));
+}
+
+abbrev pub drop_program : Program
+drop_program = record { lets = []; body = drop_query }
+
+pub drop_is : command_of (understood log_schema drop_text) ≡ Delete 1 drop_program
+unfolding understood everything
+drop_is = refl
+
+pub drop_plain : IsPlain (understood log_schema drop_text)
+unfolding understood everything
+drop_plain = (refl, refl)

@@ -12,7 +12,7 @@ use Rattle.std.proofs.lemmas.Bool.{and_parts, cond_both}
 use Rattle.std.proofs.lemmas.Bool.Decides.{nat_tests}
 use Rattle.sb_types.proofs.DistinctKeys.{by_version, versions_sorted_back}
 use Rattle.sb_table.specs.Plain.{IsPlainTable, plain_table}
-use Rattle.sb_log.specs.Rows.{cells, cells_of, slot_cells, slot_by, number_of, entry_by, put_by_version, in_order, content_of, AreRowsOf}
+use Rattle.sb_log.specs.Rows.{cells, cells_of, slot_cells, slot_by, number_of, entry_by, put_by_version, in_order, AreRowsOf}
 
 -- the cells tell the entry
 pub entry_back : (e : Entry) → entry_by (cells_of e) ≡ e
@@ -33,7 +33,7 @@ entries_back (e ∷ es) = λ i. entry_back e i ∷ entries_back es i
 same_entries : (xs ys : List Entry) → IsPermutation (map cells_of xs) (map cells_of ys) → IsPermutation xs ys
 same_entries xs ys same = subst₂ IsPermutation (entries_back xs) (entries_back ys) (IsPermutation-map entry_by (map cells_of xs) (map cells_of ys) same)
 
-plain_is : (t : Table) → IsPlainTable t → t ≡ plain_table t.entries
+pub plain_is : (t : Table) → IsPlainTable t → t ≡ plain_table t.entries
 plain_is t is = λ i. record { held = is.last i; floor = is.floor i; entries = t.entries }
 
 neighbours : (last : ℕ) (xs : List Entry) → are_ascending last xs ≡ true → (k : ℕ) (d : Entry) → suc k < length xs → is_lt (by_version (get_or xs (suc k) d) (get_or xs k d)) ≡ false
@@ -117,6 +117,6 @@ pub entries_of : (rows : List Row) (t : Table) → AreRowsOf t rows → IsPermut
 entries_of rows t are =
     subst₂ IsPermutation (entries_back t.entries) (mapped rows) (IsPermutation-map entry_by (map cells_of t.entries) (map cells rows) (IsPermutation-sym _ _ are.same))
 
--- so what the rows of a table hold is that table
-pub content_is : (rows : List Row) (t : Table) → AreRowsOf t rows → content_of rows ≡ t
-content_is rows t are = ap plain_table (in_order_is t.entries _ are.plain.run.ascending (entries_of rows t are)) ∙ sym (plain_is t are.plain)
+-- so in the order of their versions the rows of a table hold its entries
+pub entries_are : (rows : List Row) (t : Table) → AreRowsOf t rows → in_order (map (λ (row : Row). entry_by (cells row)) rows) ≡ t.entries
+entries_are rows t are = in_order_is t.entries _ are.plain.run.ascending (entries_of rows t are)

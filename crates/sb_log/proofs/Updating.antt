@@ -53,7 +53,7 @@ and_true false = refl
 int_tie : (m n : ℤ) → is_eq (int_cmp m n) ≡ true → m ≡ n
 int_tie m n h = grind (arith, ints, nat_tests)
 
-rowid_is : (r : Row) (n : ℤ) → is_int (rowid r) ≡ true → has_rowid n r ≡ true → rowid r ≡ Int n
+pub rowid_is : (r : Row) (n : ℤ) → is_int (rowid r) ≡ true → has_rowid n r ≡ true → rowid r ≡ Int n
 rowid_is r n int has =
     let same = int_is (rowid r) int in
     same ∙ ap Int (int_tie _ n (ap is_eq (sym (value_cmp-Int _ n)) ∙ ap (λ (v : Value). is_eq (value_cmp v (Int n))) (sym same) ∙ has))
@@ -69,13 +69,13 @@ all_at n (r ∷ rows) all = go (has_rowid n r) refl (all_at n rows all.1)
     go true has later = (rowid_is r n all.0 has, later)
     go false has later = later
 
-only_one : (xs : List Row) (x : Row) → length xs ≤ 1 → Has xs x → xs ≡ x ∷ []
+pub only_one : (xs : List Row) (x : Row) → length xs ≤ 1 → Has xs x → xs ≡ x ∷ []
 only_one [] x few h = absurd h
 only_one (y ∷ []) x few (inl same) = ap (λ (z : Row). z ∷ []) (sym same)
 only_one (y ∷ []) x few (inr later) = absurd later
 only_one (y ∷ z ∷ more) x few h = absurd (omega arith)
 
-int_same : (n : ℤ) → is_eq (int_cmp n n) ≡ true
+pub int_same : (n : ℤ) → is_eq (int_cmp n n) ≡ true
 int_same n = grind (arith, ints, nat_tests)
 
 -- of rows with one rowid at most one goes in

@@ -30,7 +30,8 @@ use Rattle.sb_types.proofs.DistinctKeys.{by_version, versions_sorted_back}
 use Rattle.sb_table.specs.Plain.{IsPlainTable, version_and_slot}
 use Rattle.sb_table.proofs.Lookup.{entry_at-none}
 use Rattle.sb_log.specs.Form.{rows_text, log_schema}
-use Rattle.sb_log.specs.Rows.{cells, cells_of, entry_by, is_kept, numbered_cells, AreNumbered, AreRowsOf}
+use Rattle.sb_log.specs.Rows.{cells, cells_of, entry_by, is_kept, numbered_cells, AreNumbered, AreNumberedApart, AreRowsOf}
+use Rattle.sb_log.proofs.Reading.{counted_alike}
 use Rattle.sb_log.proofs.Texts.{rows_query, rows_is, rows_plain}
 use Rattle.sb_log.proofs.Unique.{entry_back, entries_of}
 
@@ -107,6 +108,9 @@ numbered_each (r ∷ rows) all = (all.0, numbered_each rows all.1)
 
 pub numbered_whole : (rows shown : List Row) → AreNumbered rows → IsPermutation (map numbered_cells rows) shown → AreNumbered shown
 numbered_whole rows shown all same = all-permutation _ (map numbered_cells rows) shown same (numbered_each rows all)
+
+pub apart_whole : (rows shown : List Row) → AreNumberedApart rows → IsPermutation (map numbered_cells rows) shown → AreNumberedApart shown
+apart_whole rows shown once same n = omega (arith, once n, counted_alike n rows shown same)
 
 -- ---- the next entry of a table fits behind those before it
 

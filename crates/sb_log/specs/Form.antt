@@ -37,6 +37,12 @@ meta_row_text = codes "INSERT INTO meta (id, form, owner, cluster, last, floor) 
 abbrev pub raise_text : List ℕ
 raise_text = codes "UPDATE meta SET form = 2"
 
+abbrev pub floor_text : List ℕ
+floor_text = codes "UPDATE meta SET last = ?1, floor = ?2"
+
+abbrev pub drop_text : List ℕ
+drop_text = codes "DELETE FROM writes WHERE tag = 0 AND version <= ?1"
+
 abbrev pub upsert_text : List ℕ
 upsert_text = codes "INSERT INTO writes (k, version, tag, num, txt) VALUES (?1, ?2, ?3, ?4, ?5) ON CONFLICT (k) DO UPDATE SET version = excluded.version, tag = excluded.tag, num = excluded.num, txt = excluded.txt"
 

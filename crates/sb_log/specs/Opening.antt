@@ -14,19 +14,19 @@ use Rattle.sb_table.specs.Plain.{plain_table}
 use Rattle.sb_log.specs.declared.schema.Made.{Made}
 use Rattle.sb_log.specs.declared.schema.Made.TheVariants.{Neither, Meta, Both}
 use Rattle.sb_log.specs.Form.{schema_with, log_schema}
-use Rattle.sb_log.specs.Rows.{has_texts, AreRowsOf}
+use Rattle.sb_log.specs.Rows.{has_texts, last_in, floor_in, content_by, AreRowsOf, CanSay, Drops}
 
 -- the rowid, form, owner, cluster, last and floor of a row of meta
 abbrev pub meta_cells : Row → Row
 meta_cells row = rowid row ∷ column row 2 ∷ column row 3 ∷ column row 4 ∷ column row 5 ∷ column row 6 ∷ []
 
--- of this form, with no version that was forgotten
-abbrev pub meta_row : ℕ → List ℕ → List ℕ → Row
-meta_row form owner cluster = Int (pos 1) ∷ Int (pos form) ∷ Text owner ∷ Text cluster ∷ Int (pos 0) ∷ Int (pos 0) ∷ []
+-- of this form, with this last version and this floor
+abbrev pub meta_row : ℕ → List ℕ → List ℕ → ℕ → ℕ → Row
+meta_row form owner cluster last floor = Int (pos 1) ∷ Int (pos form) ∷ Text owner ∷ Text cluster ∷ Int (pos last) ∷ Int (pos floor) ∷ []
 
--- the one row says that it is this owner's log, of this cluster, in this form
-abbrev pub IsNamedIn : ℕ → List ℕ → List ℕ → List Row → Type 0
-IsNamedIn form owner cluster rows = map meta_cells rows ≡ meta_row form owner cluster ∷ []
+-- the one row says that it is this owner's log, of this cluster, in this form, with this last version and this floor
+abbrev pub IsNamedIn : ℕ → List ℕ → List ℕ → ℕ → ℕ → List Row → Type 0
+IsNamedIn form owner cluster last floor rows = map meta_cells rows ≡ meta_row form owner cluster last floor ∷ []
 
 -- the forms that are read; the second is that of every log that was opened
 abbrev pub IsForm : ℕ → Type 0
@@ -36,13 +36,17 @@ IsForm form = (form ≡ 1) ⊎ (form ≡ 2)
 abbrev pub IsFormOf : ℕ → Table → Type 0
 IsFormOf form content = ((form ≡ 1) × (has_texts content ≡ false)) ⊎ (form ≡ 2)
 
--- the same in a form that is read and has this content
-abbrev pub IsNamed : List ℕ → List ℕ → Table → List Row → Type 0
-IsNamed owner cluster content rows = (form : ℕ) × IsFormOf form content × IsNamedIn form owner cluster rows
+-- the same in a form that is read and has these entries, beside which both numbers can be said
+abbrev pub IsNamed : List ℕ → List ℕ → Table → ℕ → ℕ → List Row → Type 0
+IsNamed owner cluster table last floor rows = (form : ℕ) × IsFormOf form table × IsNamedIn form owner cluster last floor rows × CanSay last floor table.entries
 
--- it says so, or there is no row yet
-abbrev pub IsMetaOf : List ℕ → List ℕ → Table → List Row → Type 0
-IsMetaOf owner cluster content rows = (rows ≡ []) ⊎ IsNamed owner cluster content rows
+-- it says so, and with the entries that have rows it is this content
+abbrev pub IsSaid : List ℕ → List ℕ → Table → Table → List Row → Type 0
+IsSaid owner cluster table content rows = (last : ℕ) × (floor : ℕ) × IsNamed owner cluster table last floor rows × (content ≡ content_by last floor table.entries)
+
+-- it says so; or there is no row yet, and nothing beside it
+abbrev pub IsMetaOf : List ℕ → List ℕ → Table → Table → List Row → Type 0
+IsMetaOf owner cluster table content rows = ((rows ≡ []) × (table ≡ plain_table []) × (content ≡ plain_table [])) ⊎ IsSaid owner cluster table content rows
 
 -- the rows of each table, and none of a table that is not there
 abbrev pub meta_found : Made → Trees → List Row
@@ -59,9 +63,10 @@ writes_found Both db = db 1
 pub record Opens (owner cluster : List ℕ) (found : Database) (content : Table) : Type 0 where
   pub made : Made
   pub schema : found.schema ≡ schema_with made
-  pub meta : IsMetaOf owner cluster content (meta_found made found.trees)
-  pub rows : AreRowsOf content (writes_found made found.trees)
-  pub empty : meta_found made found.trees ≡ [] → content ≡ plain_table []
+  -- the entries that have rows, removals up to the floor too
+  pub table : Table
+  pub rows : AreRowsOf table (writes_found made found.trees)
+  pub meta : IsMetaOf owner cluster table content (meta_found made found.trees)
   -- where the table of writes is missing, nothing says yet whose the log is
   pub whole : made ≡ Meta → meta_found made found.trees ≡ []
 
@@ -88,21 +93,43 @@ pub record Names (owner cluster : List ℕ) (found : Database) (db : Trees) : Ty
   pub schema : found.schema ≡ schema_with made
   pub none : meta_found made found.trees ≡ []
   pub sound : IsSound log_schema db
-  pub meta : IsNamedIn 2 owner cluster (db 0)
+  pub meta : IsNamedIn 2 owner cluster 0 0 (db 0)
   pub rows : db 1 ≡ writes_found made found.trees
 
--- what was found is there, but that the owner's log, which was of form 1, is of form 2
-pub record Raises (owner cluster : List ℕ) (found : Database) (db : Trees) : Type 0 where
+-- the owner's log of these rows, which was of form 1, is of form 2
+pub record IsRaised (owner cluster : List ℕ) (metas rows : List Row) (db : Trees) : Type 0 where
+  pub last : ℕ
+  pub floor : ℕ
+  pub older : IsNamedIn 1 owner cluster last floor metas
+  pub sound : IsSound log_schema db
+  pub meta : IsNamedIn 2 owner cluster last floor (db 0)
+  pub same : db 1 ≡ rows
+
+-- the owner's log of these rows has none of removals up to the floor that it says, and is of form 2
+pub record IsCleared (owner cluster : List ℕ) (metas rows : List Row) (db : Trees) : Type 0 where
+  pub form : ℕ
+  pub last : ℕ
+  pub floor : ℕ
+  pub said : IsNamedIn form owner cluster last floor metas
+  pub sound : IsSound log_schema db
+  pub meta : IsNamedIn 2 owner cluster last floor (db 0)
+  pub left : Drops floor rows (db 1)
+
+-- what was found is there so
+pub record Accepts (owner cluster : List ℕ) (found : Database) (db : Trees) : Type 0 where
   pub made : Made
   pub schema : found.schema ≡ schema_with made
-  pub older : IsNamedIn 1 owner cluster (meta_found made found.trees)
-  pub sound : IsSound log_schema db
-  pub meta : IsNamedIn 2 owner cluster (db 0)
-  pub rows : db 1 ≡ writes_found made found.trees
+  pub kept : IsRaised owner cluster (meta_found made found.trees) (writes_found made found.trees) db ⊎ IsCleared owner cluster (meta_found made found.trees) (writes_found made found.trees) db
 
 -- what an opening may commit
 abbrev pub Founds : List ℕ → List ℕ → Database → Trees → Type 0
-Founds owner cluster found db = Grows found db ⊎ (Names owner cluster found db ⊎ Raises owner cluster found db)
+Founds owner cluster found db = Grows found db ⊎ (Names owner cluster found db ⊎ Accepts owner cluster found db)
+
+-- the row that was found says in form 2 what it said, or there is one that says no last version and no floor, where there was none
+pub record SaysStill (owner cluster : List ℕ) (found : Database) (now : Trees) : Type 0 where
+  pub made : Made
+  pub schema : found.schema ≡ schema_with made
+  pub meta : IsNamedIn 2 owner cluster (last_in (meta_found made found.trees)) (floor_in (meta_found made found.trees)) (now 0)
 
 -- memory was wanting, or the store failed
 abbrev pub IsWant : Fault → Type 0

@@ -1,12 +1,14 @@
 -- What a log does with a write, and what it gives back.
-use Rattle.std.specs.Prelude.{◌≡◌, ◌≢◌, ◌⊎◌, ◌↔◌, ℕ, ◌+◌, Bool, true, false, nat_le, if◌then◌else◌, List, [], Option, Some, None, Result, Err, IfOk, IfErr}
+use Rattle.std.specs.Prelude.{◌≡◌, ◌≢◌, ◌⊎◌, ◌↔◌, ℕ, ◌+◌, ◌≤◌, Bool, true, false, nat_le, nat_lt, if◌then◌else◌, List, [], Option, Some, None, Result, Ok, Err, IfOk, IfErr, OnOk}
 use Rattle.sb_types.specs.declared.entry.Slot.{Slot}
 use Rattle.sb_types.specs.declared.entry.Slot.TheVariants.{Set, Removed}
 use Rattle.sb_types.specs.declared.fault.Fault.{Fault}
-use Rattle.sb_types.specs.declared.fault.Fault.TheVariants.{NoMemory, TableFull, VersionsSpent, NothingThere, Closed, StoreFailed, LogDamaged}
+use Rattle.sb_types.specs.declared.fault.Fault.TheVariants.{NoMemory, TableFull, VersionsSpent, NothingThere, Closed, StoreFailed, LogDamaged, FloorTooHigh}
 use Rattle.sb_types.specs.Records.{Entry, Table}
-use Rattle.sb_types.specs.Runs.{shown_at}
-use Rattle.sb_table.specs.Plain.{IsPlainTable, plain_table, with_entry, is_full_for}
+use Rattle.sb_types.specs.Runs.{shown_at, live}
+use Rattle.sb_table.specs.Plain.{plain_table, with_entry, is_full_for}
+use Rattle.sb_table.specs.Floors.{raised}
+use Rattle.sb_table.specs.Contents.{IsContent}
 use Rattle.sb_log.specs.Records.{Committed, Log}
 
 -- the write, with the next version
@@ -32,6 +34,10 @@ refusal most content key slot =
 -- the content with the write
 abbrev pub next_content : Log → List ℕ → Slot → Table
 next_content log key slot = with_entry log.content (next_entry log.content key slot)
+
+-- the content once its floor is as high as this: the removals up to it go
+abbrev pub purged : ℕ → Table → Table
+purged floor content = if nat_le floor content.floor then content else raised content.held floor content
 
 -- a log of nothing
 abbrev pub new_log : List ℕ → List ℕ → ℕ → Log
@@ -78,12 +84,41 @@ pub record Puts (old : Log) (key : List ℕ) (slot : Slot) (result : Result Comm
   pub kept : IfOk result (λ c. Keeps old key slot c new)
   pub refused : IfErr result (λ fault. Refuses old key slot fault new)
 
+-- ---- a floor
+
+-- why a floor is not raised: it would be above the last version, and else the store failed
+abbrev pub floor_fault : ℕ → Table → Fault
+floor_fault floor content = if nat_lt content.held floor then FloorTooHigh else StoreFailed
+
+-- the content has the floor, or had as high a one, and the log stands
+pub record RaisesFloor (old : Log) (floor : ℕ) (new : Log) : Type 0 where
+  pub is_open : new.is_open ≡ true
+  pub fits : new.is_clean ≡ true → floor ≤ old.content.held
+  pub content : new.is_clean ≡ true → new.content ≡ purged floor old.content
+  -- no removal up to it is left
+  pub gone : new.is_clean ≡ true → live floor new.content.entries ≡ new.content.entries
+
+-- a fault of the store closes the log, and any other changes nothing
+pub record RefusesFloor (old : Log) (floor : ℕ) (fault : Fault) (new : Log) : Type 0 where
+  pub reason : new.is_clean ≡ true → old.is_open ≡ true → fault ≡ floor_fault floor old.content
+  pub unchanged : fault ≢ StoreFailed → new ≡ old
+  pub closes : fault ≡ StoreFailed → new.is_open ≡ false
+  pub sure : IsSure old → fault ≢ StoreFailed
+
+pub record Purges (old : Log) (floor : ℕ) (result : Result (Unit {0}) Fault) (new : Log) : Type 0 where
+  pub stays : Stays old new
+  pub closed : (result ≡ Err Closed) ↔ (old.is_open ≡ false)
+  -- a floor that is not above the present one changes nothing, and is not refused
+  pub idle : old.is_clean ≡ true → old.is_open ≡ true → floor ≤ old.content.floor → (result ≡ Ok tt) × (new ≡ old)
+  pub done : OnOk result (RaisesFloor old floor new)
+  pub refused : IfErr result (λ fault. RefusesFloor old floor fault new)
+
 -- ---- reading it again
 
 -- the content, in a table
 pub record Gives (old : Log) (table : Table) (new : Log) : Type 0 where
   pub is_open : new.is_open ≡ true
-  pub plain : IsPlainTable table
+  pub is : IsContent table
   pub same : new.is_clean ≡ true → table ≡ old.content
   pub content : new.is_clean ≡ true → new.content ≡ old.content
 
@@ -111,6 +146,10 @@ IsSettled log leaves = log.is_clean ≡ true → log.is_open ≡ true → (left 
 -- a write to a log that stands leaves over a crash the content before it or the content with it
 abbrev pub PutSurvives : Log → List ℕ → Slot → Log → (Table → Type 0) → Type 0
 PutSurvives old key slot new leaves = new.is_clean ≡ true → old.is_open ≡ true → (left : Table) → leaves left → (left ≡ old.content) ⊎ (left ≡ next_content old key slot)
+
+-- so does a floor that is raised: the content before it or the content with it
+abbrev pub PurgeSurvives : Log → ℕ → Log → (Table → Type 0) → Type 0
+PurgeSurvives old floor new leaves = new.is_clean ≡ true → old.is_open ≡ true → (left : Table) → leaves left → (left ≡ old.content) ⊎ (left ≡ purged floor old.content)
 
 -- reading it leaves over a crash what was there
 abbrev pub LoadSurvives : Log → Log → (Table → Type 0) → Type 0

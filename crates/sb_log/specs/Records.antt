@@ -12,7 +12,7 @@ pub record Log : Type 0 where
   pub cluster : List ℕ
   -- the greatest version that it gives
   pub most : ℕ
-  -- the last write of each key, and the version of the last of all
+  -- the last write of each key, but no removal up to the floor, and the version of the last of all
   pub content : Table
   -- no fault of its store has closed it
   pub is_open : Bool

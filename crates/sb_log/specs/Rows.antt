@@ -1,10 +1,10 @@
 -- What the rows of a log's tables hold.
-use Rattle.std.specs.Prelude.{◌≡◌, ℕ, pos, Bool, true, false, ◌&&◌, ◌==◌, if◌then◌else◌, nat_le, nat_lt, List, [], ◌∷◌, map, IsPermutation}
+use Rattle.std.specs.Prelude.{◌≡◌, ◌≤◌, ℕ, max, ℤ, pos, Bool, true, false, ◌&&◌, ◌==◌, if◌then◌else◌, nat_le, nat_lt, List, [], ◌∷◌, map, filter, length, IsPermutation}
 use Rattle.std.specs.List.{list_all, list_any, AllByRecursion}
 use Rattle.sqlite_value.specs.declared.value.Value as cell
 use Rattle.sqlite_value.specs.declared.value.Value.TheVariants.{Null, Int, Text}
 use Rattle.sqlite_value.specs.Order.{Row, column, bytes}
-use Rattle.sqlite_trees.specs.Tree.{rowid}
+use Rattle.sqlite_trees.specs.Tree.{rowid, has_rowid}
 use Rattle.sqlite_trees.specs.View.{is_int}
 use Rattle.sb_types.specs.declared.entry.Slot.{Slot}
 use Rattle.sb_types.specs.declared.entry.Slot.TheVariants.{Set, Removed}
@@ -13,6 +13,7 @@ use Rattle.sb_types.specs.Value as values
 use Rattle.sb_types.specs.Value.{Addr, Weight, Flag}
 use Rattle.sb_types.specs.Limits.{is_entry}
 use Rattle.sb_types.specs.Records.{Entry, Table}
+use Rattle.sb_types.specs.Runs.{last_version, live}
 use Rattle.sb_table.specs.Plain.{IsPlainTable, plain_table, with_entry}
 
 abbrev pub flag_number : Bool → ℕ
@@ -56,16 +57,25 @@ numbered_cells row = rowid row ∷ cells row
 abbrev pub AreNumbered : List Row → Type 0
 AreNumbered rows = AllByRecursion (λ r. is_int (rowid r) ≡ true) rows
 
+-- no rowid stands twice
+abbrev pub AreNumberedApart : List Row → Type 0
+AreNumberedApart rows = (n : ℤ) → length (filter (has_rowid n) rows) ≤ 1
+
 -- the rows are those of the table's entries, one for each, in whatever order
 pub record AreRowsOf (table : Table) (rows : List Row) : Type 0 where
   pub plain : IsPlainTable table
   pub kept : list_all is_kept table.entries ≡ true
   pub same : IsPermutation (map cells rows) (map cells_of table.entries)
   pub numbered : AreNumbered rows
+  pub apart : AreNumberedApart rows
 
 -- where the rows were a table's, they are now that table's with the entry
 abbrev pub Enters : Entry → List Row → List Row → Type 0
 Enters e old new = (t : Table) → IsPlainTable (with_entry t e) → AreRowsOf t old → AreRowsOf (with_entry t e) new
+
+-- where the rows were a table's, they are now those of its entries without the removals up to the floor
+abbrev pub Drops : ℕ → List Row → List Row → Type 0
+Drops floor old new = (t : Table) → AreRowsOf t old → AreRowsOf (plain_table (live floor t.entries)) new
 
 -- ---- the table that rows hold
 
@@ -89,6 +99,26 @@ abbrev pub in_order : List Entry → List Entry
 in_order [] = []
 in_order (e ∷ es) = put_by_version e (in_order es)
 
--- their entries in the order of their versions
-abbrev pub content_of : List Row → Table
-content_of rows = plain_table (in_order (map (λ row. entry_by (cells row)) rows))
+-- the last version and the floor that the row of meta says
+abbrev pub last_in : List Row → ℕ
+last_in [] = 0
+last_in (row ∷ rows) = number_of (column row 5)
+
+abbrev pub floor_in : List Row → ℕ
+floor_in [] = 0
+floor_in (row ∷ rows) = number_of (column row 6)
+
+-- the content of a log that says this last version and this floor beside these entries: the removals up to the floor are none of it
+abbrev pub content_by : ℕ → ℕ → List Entry → Table
+content_by last floor entries = record { held = max last (last_version 0 entries); floor = floor; entries = live floor entries }
+
+-- a log of these entries can say this last version and this floor: the floor is at most the last version, and that at most the greatest of
+-- all, and at most the last entry's or the floor, whichever is higher
+pub record CanSay (last floor : ℕ) (entries : List Entry) : Type 0 where
+  pub order : floor ≤ last
+  pub reach : last ≤ max floor (last_version 0 entries)
+  pub most : last ≤ VERSION_MOST
+
+-- the content that the rows of both tables hold, their entries in the order of their versions
+abbrev pub content_of : List Row → List Row → Table
+content_of metas rows = content_by (last_in metas) (floor_in metas) (in_order (map (λ row. entry_by (cells row)) rows))

@@ -20,13 +20,13 @@ sql_code {S} store =
     (λ p. record { owner = p.0; cluster = p.1.0; most = p.1.1.0; is_open = p.1.1.1.0; conn = p.1.1.1.1 })
     (λ _. refl)
 
--- its content is what the rows of the database hold
+-- its content is what the rows of both tables hold
 abbrev pub log_in : {S : Type 0} → Ghosts S → SqlView S → Log
 log_in g v = record {
   owner = v.owner;
   cluster = v.cluster;
   most = v.most;
-  content = content_of ((state g v.conn).now.trees 1);
+  content = content_of ((state g v.conn).now.trees 0) ((state g v.conn).now.trees 1);
   is_open = v.is_open;
   is_clean = (state g v.conn).is_clean;
   is_sure = false;

@@ -1,7 +1,8 @@
 //! Which writes a log refuses, before anything is kept.
 ghost use Rattle.std.specs.Prelude.{◌≡◌, ◌≤◌, true, None, Some, Err, IfOk, IfErr, OnOk, OnErr};
 ghost use Rattle.sb_types.specs.Limits.{is_entry};
-ghost use Rattle.sb_table.specs.Plain.{IsPlainTable, with_entry};
+ghost use Rattle.sb_table.specs.Plain.{with_entry};
+ghost use Rattle.sb_table.specs.Contents.{IsContent};
 ghost use Rattle.sb_log.specs.Puts as spec;
 
 use sb_table::Table;
@@ -20,7 +21,7 @@ pub(crate) fn accept(
     ensures fits { OnOk result (spec.refusal max_version table.old key.now slot.now ≡ None) }
     ensures entry { IfOk result (λ e. e ≡ spec.next_entry table.old key.now slot.now) }
     ensures entered { IfOk result (λ e. table.new ≡ with_entry table.old e) }
-    ensures plain { OnOk result (IsPlainTable table.new) }
+    ensures table { IsContent table.old → IsContent table.new }
     ensures limits { IfOk result (λ e. is_entry e ≡ true) }
     ensures version { IfOk result (λ e. e.version ≤ max_version) }
     ensures err { OnErr result (table.new ≡ table.old) }

@@ -17,9 +17,11 @@
 
 mod check;
 mod committed;
+mod content;
 mod log;
 mod opening;
 mod plain;
+mod purging;
 mod rows;
 mod schema;
 mod sql;

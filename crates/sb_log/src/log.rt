@@ -3,7 +3,7 @@ ghost use Rattle.std.specs.Prelude.{◌≡◌, false, Ok, IfErr};
 ghost use Rattle.sb_types.specs.Records as records;
 ghost use Rattle.sb_types.specs.Text.{is_name};
 ghost use Rattle.sb_log.specs.Records.{Log};
-ghost use Rattle.sb_log.specs.Puts.{Puts, Loads, IsSure, IsSettled, PutSurvives, LoadSurvives};
+ghost use Rattle.sb_log.specs.Puts.{Puts, Purges, Loads, IsSure, IsSettled, PutSurvives, PurgeSurvives, LoadSurvives};
 
 use crate::committed::Committed;
 use sb_table::Table;
@@ -35,6 +35,17 @@ pub trait WriteLog {
         ensures puts { Puts (seen self.old) key.now slot.now result (seen self.new) }
         ensures closed { (seen self.old).is_open ≡ false → self.new ≡ self.old }
         ensures crash { PutSurvives (seen self.old) key.now slot.now (seen self.new) (leaves self.new) }
+        ensures settled { IsSettled (seen self.new) (leaves self.new) };
+
+    /// Raises the floor: the removals up to it go, and their keys are free again. The last version stays, and the next
+    /// write has the one after it. `Closed` after a fault of the store; `FloorTooHigh` where the floor would be above
+    /// the last version. Each of these leaves everything as it was, and so does a floor that is not above the present
+    /// one, which is not refused. `StoreFailed`, for whatever cause: the floor is raised or isn't, and the log is closed
+    /// until it is opened again. It takes no memory but what the store takes, and then want of it is the store's fault.
+    fn purge(&mut self, floor: u64) -> Result<(), Fault>
+        ensures purges { Purges (seen self.old) floor result (seen self.new) }
+        ensures closed { (seen self.old).is_open ≡ false → self.new ≡ self.old }
+        ensures crash { PurgeSurvives (seen self.old) floor (seen self.new) (leaves self.new) }
         ensures settled { IsSettled (seen self.new) (leaves self.new) };
 
     /// All that it holds, read from where it is kept, as a table. `Closed` after a fault of the store; `NoMemory`,

@@ -9,12 +9,17 @@ ghost use Rattle.sqlite.specs.Effect.{IsDatabase};
 ghost use Rattle.sqlite.specs.State.{HasCleanDisk};
 ghost use Rattle.sqlite_catalog.specs.Listing.{IsSound};
 ghost use Rattle.sb_types.specs.Records as records;
-ghost use Rattle.sb_table.specs.Plain.{plain_table};
+ghost use Rattle.sb_types.specs.declared.limits.TheConstants.{VERSION_MOST};
+ghost use Rattle.sb_types.specs.Runs.{live};
+ghost use Rattle.sb_table.specs.Plain.{IsPlainTable, plain_table};
+ghost use Rattle.sb_table.specs.Contents.{IsContent};
 ghost use Rattle.sb_log.specs.Form.{no_schema, meta_schema, log_schema, schema_with};
-ghost use Rattle.sb_log.specs.Opening.{meta_cells, meta_row, meta_found, IsForm, IsFormOf, IsNamedIn, Completes, Opens, Grows, Founds, IsWant, IsOpeningFault};
-ghost use Rattle.sb_log.specs.Rows.{AreRowsOf};
-ghost use Rattle.sb_log.specs.Standing.{IsPrepared, IsReady};
+ghost use Rattle.sb_log.specs.Opening.{meta_cells, meta_row, meta_found, IsForm, IsFormOf, IsNamedIn, IsSaid, IsRaised, IsCleared, SaysStill, Completes, Opens, Grows, Founds, IsWant, IsOpeningFault};
+ghost use Rattle.sb_log.specs.Rows.{last_in, floor_in, content_by, AreRowsOf, CanSay, Drops};
+ghost use Rattle.sb_log.specs.Standing.{HoldsContent, IsPrepared, IsReady};
 
+use crate::content::content_of;
+use crate::purging::drop_removals;
 use crate::rows::has_texts;
 use crate::schema::{Made, tables_in};
 use crate::statements::{make_meta, make_writes, raise_form, read_meta, read_table, write_meta};
@@ -24,10 +29,10 @@ use sqlite::{Alter, Connection, Row};
 use sqlite_value::value::ValueRef;
 use std::alloc::Global;
 
-/// Opens a log's tables, and makes those that are missing: what their rows hold. In this order: `LogDamaged` where
-/// there is no meta row beside rows, a meta row without the table of writes, or an unknown form or schema;
-/// `WrongOwner`; `LogDamaged` where a row breaks a limit or has a text in form 1, or versions were forgotten.
-/// `StoreFailed` and `NoMemory` wherever they come.
+/// Opens a log's tables, and makes those that are missing: the content that they hold. In this order: `LogDamaged`
+/// where there is no meta row beside rows, a meta row without the table of writes, or an unknown form or schema;
+/// `WrongOwner`; `LogDamaged` where a row breaks a limit or has a text in form 1, or the last version or the floor is none
+/// that can be said. `StoreFailed` and `NoMemory` wherever they come.
 pub(crate) fn open_tables<S: Alter>(
     conn: &mut Connection<S>,
     alloc: Global,
@@ -36,9 +41,12 @@ pub(crate) fn open_tables<S: Alter>(
 ) -> Result<Table, Fault>
     ensures opens { HasCleanDisk (state S.Store conn.new) → IfOk result (Opens owner.now cluster.now (state S.Store conn.old).now) }
     ensures ready { HasCleanDisk (state S.Store conn.new) → OnOk result (IsReady (state S.Store conn.new)) }
-    ensures rows { HasCleanDisk (state S.Store conn.new) → IfOk result (λ t. AreRowsOf t ((state S.Store conn.new).now.trees 1)) }
-    ensures meta { HasCleanDisk (state S.Store conn.new)
-        → OnOk result (IsNamedIn 2 owner.now cluster.now ((state S.Store conn.new).now.trees 0)) }
+    ensures holds { HasCleanDisk (state S.Store conn.new)
+        → IfOk result (λ t. HoldsContent owner.now cluster.now t t.entries (state S.Store conn.new).now.trees) }
+    ensures still { HasCleanDisk (state S.Store conn.new)
+        → OnOk result (SaysStill owner.now cluster.now (state S.Store conn.old).now (state S.Store conn.new).now.trees) }
+    ensures table { IfOk result IsContent }
+    ensures most { IfOk result (λ t. t.held ≤ VERSION_MOST) }
     // What is refused is refused again: at most the tables that were missing are made.
     ensures refused { HasCleanDisk (state S.Store conn.new) → IfErr result (λ fault. fault ≢ Fault.StoreFailed
         → ((state S.Store conn.new).now ≡ (state S.Store conn.old).now) ⊎ Completes (state S.Store conn.old).now (state S.Store conn.new).now) }
@@ -73,12 +81,12 @@ fn open_new<S: Alter>(
     ensures same { HasCleanDisk (state S.Store conn.new) → IsReady (state S.Store conn.old)
         → OnOk result ((state S.Store conn.new).now.trees 1 ≡ (state S.Store conn.old).now.trees 1) }
     ensures meta { HasCleanDisk (state S.Store conn.new) → IsReady (state S.Store conn.old) → (state S.Store conn.old).now.trees 0 ≡ []
-        → OnOk result (IsNamedIn 2 owner.now cluster.now ((state S.Store conn.new).now.trees 0)) }
+        → OnOk result (IsNamedIn 2 owner.now cluster.now 0 0 ((state S.Store conn.new).now.trees 0)) }
     ensures refused { HasCleanDisk (state S.Store conn.new) → IsReady (state S.Store conn.old)
         → IfErr result (λ fault. fault ≢ Fault.StoreFailed → (state S.Store conn.new).now ≡ (state S.Store conn.old).now) }
     ensures crash { HasCleanDisk (state S.Store conn.new) → IsReady (state S.Store conn.old) → (state S.Store conn.old).now.trees 0 ≡ []
         → (db : Trees) → (state S.Store conn.new).may_leave db
-        → (state S.Store conn.old).may_leave db ⊎ (IsSound log_schema db × (db 1 ≡ (state S.Store conn.old).now.trees 1) × IsNamedIn 2 owner.now cluster.now (db 0)) }
+        → (state S.Store conn.old).may_leave db ⊎ (IsSound log_schema db × (db 1 ≡ (state S.Store conn.old).now.trees 1) × IsNamedIn 2 owner.now cluster.now 0 0 (db 0)) }
     ensures whole { HasCleanDisk (state S.Store conn.new) → IsReady (state S.Store conn.old)
         → (t : records.Table) → AreRowsOf t ((state S.Store conn.old).now.trees 1) → t ≡ plain_table [] → IfErr result IsWant }
     ensures clean { doubt (state S.Store conn.old).is_clean ≤ doubt (state S.Store conn.new).is_clean }
@@ -95,7 +103,7 @@ fn open_new<S: Alter>(
     }
 }
 
-/// Opens tables that say whose they are, in this row, and raises their form to 2.
+/// Opens tables that say whose they are, in this row: their form is 2 then, and no removal up to the floor has a row.
 fn open_old<S: Alter>(
     conn: &mut Connection<S>,
     alloc: Global,
@@ -103,60 +111,58 @@ fn open_old<S: Alter>(
     owner: &Name,
     cluster: &Name,
 ) -> Result<Table, Fault>
-    ensures rows { HasCleanDisk (state S.Store conn.new) → IsReady (state S.Store conn.old)
-        → IfOk result (λ t. AreRowsOf t ((state S.Store conn.old).now.trees 1)) }
+    ensures found { HasCleanDisk (state S.Store conn.new) → IsReady (state S.Store conn.old) → map meta_cells ((state S.Store conn.old).now.trees 0) ≡ row.now ∷ []
+        → IfOk result (λ t. (found : records.Table) × AreRowsOf found ((state S.Store conn.old).now.trees 1)
+        × IsSaid owner.now cluster.now found t ((state S.Store conn.old).now.trees 0)) }
+    ensures table { IfOk result IsContent }
+    ensures most { IfOk result (λ t. t.held ≤ VERSION_MOST) }
     ensures ready { HasCleanDisk (state S.Store conn.new) → IsReady (state S.Store conn.old) → map meta_cells ((state S.Store conn.old).now.trees 0) ≡ row.now ∷ []
         → OnOk result (IsReady (state S.Store conn.new)) }
-    ensures same { HasCleanDisk (state S.Store conn.new) → IsReady (state S.Store conn.old) → map meta_cells ((state S.Store conn.old).now.trees 0) ≡ row.now ∷ []
-        → OnOk result ((state S.Store conn.new).now.trees 1 ≡ (state S.Store conn.old).now.trees 1) }
-    ensures found { IfOk result (λ t. (form : ℕ) × IsFormOf form t × (row.now ≡ meta_row form owner.now cluster.now)) }
-    ensures meta { HasCleanDisk (state S.Store conn.new) → IsReady (state S.Store conn.old) → map meta_cells ((state S.Store conn.old).now.trees 0) ≡ row.now ∷ []
-        → OnOk result (IsNamedIn 2 owner.now cluster.now ((state S.Store conn.new).now.trees 0)) }
+    ensures holds { HasCleanDisk (state S.Store conn.new) → IsReady (state S.Store conn.old) → map meta_cells ((state S.Store conn.old).now.trees 0) ≡ row.now ∷ []
+        → IfOk result (λ t. HoldsContent owner.now cluster.now t t.entries (state S.Store conn.new).now.trees) }
+    ensures still { HasCleanDisk (state S.Store conn.new) → IsReady (state S.Store conn.old) → map meta_cells ((state S.Store conn.old).now.trees 0) ≡ row.now ∷ []
+        → OnOk result (IsNamedIn 2 owner.now cluster.now (last_in ((state S.Store conn.old).now.trees 0)) (floor_in ((state S.Store conn.old).now.trees 0))
+        ((state S.Store conn.new).now.trees 0)) }
     ensures refused { HasCleanDisk (state S.Store conn.new) → IsReady (state S.Store conn.old)
         → IfErr result (λ fault. fault ≢ Fault.StoreFailed → (state S.Store conn.new).now ≡ (state S.Store conn.old).now) }
     ensures crash { HasCleanDisk (state S.Store conn.new) → IsReady (state S.Store conn.old) → map meta_cells ((state S.Store conn.old).now.trees 0) ≡ row.now ∷ []
         → (db : Trees) → (state S.Store conn.new).may_leave db → (state S.Store conn.old).may_leave db
-        ⊎ ((row.now ≡ meta_row 1 owner.now cluster.now) × IsSound log_schema db × (db 1 ≡ (state S.Store conn.old).now.trees 1) × IsNamedIn 2 owner.now cluster.now (db 0)) }
-    ensures whole { HasCleanDisk (state S.Store conn.new) → IsReady (state S.Store conn.old) → (form : ℕ) → row.now ≡ meta_row form owner.now cluster.now
-        → (t : records.Table) → IsFormOf form t → AreRowsOf t ((state S.Store conn.old).now.trees 1) → IfErr result IsWant }
+        ⊎ (IsRaised owner.now cluster.now ((state S.Store conn.old).now.trees 0) ((state S.Store conn.old).now.trees 1) db
+        ⊎ IsCleared owner.now cluster.now ((state S.Store conn.old).now.trees 0) ((state S.Store conn.old).now.trees 1) db) }
+    ensures whole { HasCleanDisk (state S.Store conn.new) → IsReady (state S.Store conn.old) → (form last floor : ℕ) → row.now ≡ meta_row form owner.now cluster.now last floor
+        → (t : records.Table) → IsFormOf form t → CanSay last floor t.entries → AreRowsOf t ((state S.Store conn.old).now.trees 1) → IfErr result IsWant }
     ensures clean { doubt (state S.Store conn.old).is_clean ≤ doubt (state S.Store conn.new).is_clean }
     ensures fault { IfErr result IsOpeningFault }
 {
     let meta = test_meta(row, owner, cluster)?;
-    let table = read_whole(conn, alloc, meta.form, meta.has_forgotten)?;
-    match raise_from(conn, meta.form) {
+    let found = read_whole(conn, alloc, meta.form)?;
+    let rows = found.len();
+    let table = content_of(found, meta.last, meta.floor)?;
+    match accept_from(conn, meta.form, meta.floor, table.len() < rows) {
         Ok(()) => Ok(table),
         Err(fault) => Err(fault),
     }
 }
 
-/// The table of the writes of a log of this form. `LogDamaged` also where versions were forgotten, or form 1 has a text, after all that
-/// reading finds.
-fn read_whole<S: Alter>(
-    conn: &mut Connection<S>,
-    alloc: Global,
-    form: u64,
-    has_forgotten: bool,
-) -> Result<Table, Fault>
+/// The table of the rows of a log of this form, removals up to its floor too. `LogDamaged` also where form 1 has a text.
+fn read_whole<S: Alter>(conn: &mut Connection<S>, alloc: Global, form: u64) -> Result<Table, Fault>
     ensures rows { HasCleanDisk (state S.Store conn.new) → IsReady (state S.Store conn.old)
         → IfOk result (λ t. AreRowsOf t ((state S.Store conn.old).now.trees 1)) }
+    ensures plain { IfOk result IsPlainTable }
+    ensures most { IfOk result (λ t. t.held ≤ VERSION_MOST) }
     ensures ready { HasCleanDisk (state S.Store conn.new) → IsReady (state S.Store conn.old)
         → OnOk result (IsReady (state S.Store conn.new) × ((state S.Store conn.new).now ≡ (state S.Store conn.old).now)) }
-    ensures all { OnOk result (has_forgotten ≡ false) }
     ensures form { IsForm form → IfOk result (IsFormOf form) }
     ensures refused { HasCleanDisk (state S.Store conn.new) → IsReady (state S.Store conn.old)
         → IfErr result (λ fault. fault ≢ Fault.StoreFailed → (state S.Store conn.new).now ≡ (state S.Store conn.old).now) }
     ensures crash { HasCleanDisk (state S.Store conn.new) → IsReady (state S.Store conn.old) → (db : Trees) → (state S.Store conn.new).may_leave db
         → (state S.Store conn.old).may_leave db }
-    ensures whole { HasCleanDisk (state S.Store conn.new) → IsReady (state S.Store conn.old) → has_forgotten ≡ false
+    ensures whole { HasCleanDisk (state S.Store conn.new) → IsReady (state S.Store conn.old)
         → (t : records.Table) → IsFormOf form t → AreRowsOf t ((state S.Store conn.old).now.trees 1) → IfErr result IsWant }
     ensures clean { doubt (state S.Store conn.old).is_clean ≤ doubt (state S.Store conn.new).is_clean }
     ensures fault { IfErr result IsOpeningFault }
 {
     let table = read_table(conn, alloc)?;
-    if has_forgotten {
-        return Err(Fault::LogDamaged);
-    }
     if !is_form_of(form, &table) {
         return Err(Fault::LogDamaged);
     }
@@ -174,19 +180,53 @@ fn is_form_of(form: u64, table: &Table) -> bool
     !has_texts(table)
 }
 
+/// Brings a log of this form and this floor to form 2, and then, if there are any, takes out the rows of removals up to
+/// the floor. `StoreFailed`.
+fn accept_from<S: Alter>(
+    conn: &mut Connection<S>,
+    form: u64,
+    floor: u64,
+    has_dead: bool,
+) -> Result<(), Fault>
+    requires { floor ≤ VERSION_MOST }
+    ensures ready { HasCleanDisk (state S.Store conn.new) → IsReady (state S.Store conn.old) → (last : ℕ) (owner cluster : List ℕ)
+        → IsNamedIn form owner cluster last floor ((state S.Store conn.old).now.trees 0) → OnOk result (IsReady (state S.Store conn.new)) }
+    ensures rows { HasCleanDisk (state S.Store conn.new) → IsReady (state S.Store conn.old) → (last : ℕ) (owner cluster : List ℕ)
+        → IsNamedIn form owner cluster last floor ((state S.Store conn.old).now.trees 0)
+        → (t : records.Table) → AreRowsOf t ((state S.Store conn.old).now.trees 1) → (has_dead ≡ false → live floor t.entries ≡ t.entries)
+        → OnOk result (AreRowsOf (plain_table (live floor t.entries)) ((state S.Store conn.new).now.trees 1)) }
+    ensures meta { HasCleanDisk (state S.Store conn.new) → IsReady (state S.Store conn.old) → IsForm form → (last : ℕ) (owner cluster : List ℕ)
+        → IsNamedIn form owner cluster last floor ((state S.Store conn.old).now.trees 0)
+        → OnOk result (IsNamedIn 2 owner cluster last floor ((state S.Store conn.new).now.trees 0)) }
+    ensures crash { HasCleanDisk (state S.Store conn.new) → IsReady (state S.Store conn.old) → IsForm form → (last : ℕ) (owner cluster : List ℕ)
+        → IsNamedIn form owner cluster last floor ((state S.Store conn.old).now.trees 0) → (db : Trees) → (state S.Store conn.new).may_leave db
+        → (state S.Store conn.old).may_leave db
+        ⊎ (IsRaised owner cluster ((state S.Store conn.old).now.trees 0) ((state S.Store conn.old).now.trees 1) db
+        ⊎ IsCleared owner cluster ((state S.Store conn.old).now.trees 0) ((state S.Store conn.old).now.trees 1) db) }
+    ensures clean { doubt (state S.Store conn.old).is_clean ≤ doubt (state S.Store conn.new).is_clean }
+    ensures fault { IfErr result (λ fault. fault ≡ Fault.StoreFailed) }
+{
+    raise_from(conn, form)?;
+    if has_dead {
+        return drop_removals(conn, floor);
+    }
+    Ok(())
+}
+
 /// Raises the form of a log from this one to 2. `StoreFailed`, not of one that has it.
 fn raise_from<S: Alter>(conn: &mut Connection<S>, form: u64) -> Result<(), Fault>
-    ensures ready { HasCleanDisk (state S.Store conn.new) → IsReady (state S.Store conn.old) → (owner cluster : List ℕ)
-        → IsNamedIn form owner cluster ((state S.Store conn.old).now.trees 0) → OnOk result (IsReady (state S.Store conn.new)) }
-    ensures rows { HasCleanDisk (state S.Store conn.new) → IsReady (state S.Store conn.old) → (owner cluster : List ℕ)
-        → IsNamedIn form owner cluster ((state S.Store conn.old).now.trees 0)
+    ensures ready { HasCleanDisk (state S.Store conn.new) → IsReady (state S.Store conn.old) → (last floor : ℕ) (owner cluster : List ℕ)
+        → IsNamedIn form owner cluster last floor ((state S.Store conn.old).now.trees 0) → OnOk result (IsReady (state S.Store conn.new)) }
+    ensures rows { HasCleanDisk (state S.Store conn.new) → IsReady (state S.Store conn.old) → (last floor : ℕ) (owner cluster : List ℕ)
+        → IsNamedIn form owner cluster last floor ((state S.Store conn.old).now.trees 0)
         → OnOk result ((state S.Store conn.new).now.trees 1 ≡ (state S.Store conn.old).now.trees 1) }
-    ensures meta { HasCleanDisk (state S.Store conn.new) → IsReady (state S.Store conn.old) → IsForm form → (owner cluster : List ℕ)
-        → IsNamedIn form owner cluster ((state S.Store conn.old).now.trees 0) → OnOk result (IsNamedIn 2 owner cluster ((state S.Store conn.new).now.trees 0)) }
-    ensures crash { HasCleanDisk (state S.Store conn.new) → IsReady (state S.Store conn.old) → (owner cluster : List ℕ)
-        → IsNamedIn form owner cluster ((state S.Store conn.old).now.trees 0) → (db : Trees) → (state S.Store conn.new).may_leave db
+    ensures meta { HasCleanDisk (state S.Store conn.new) → IsReady (state S.Store conn.old) → IsForm form → (last floor : ℕ) (owner cluster : List ℕ)
+        → IsNamedIn form owner cluster last floor ((state S.Store conn.old).now.trees 0)
+        → OnOk result (IsNamedIn 2 owner cluster last floor ((state S.Store conn.new).now.trees 0)) }
+    ensures crash { HasCleanDisk (state S.Store conn.new) → IsReady (state S.Store conn.old) → (last floor : ℕ) (owner cluster : List ℕ)
+        → IsNamedIn form owner cluster last floor ((state S.Store conn.old).now.trees 0) → (db : Trees) → (state S.Store conn.new).may_leave db
         → (state S.Store conn.old).may_leave db
-        ⊎ ((form ≡ 1) × IsSound log_schema db × (db 1 ≡ (state S.Store conn.old).now.trees 1) × IsNamedIn 2 owner cluster (db 0)) }
+        ⊎ ((form ≡ 1) × IsSound log_schema db × (db 1 ≡ (state S.Store conn.old).now.trees 1) × IsNamedIn 2 owner cluster last floor (db 0)) }
     ensures clean { doubt (state S.Store conn.old).is_clean ≤ doubt (state S.Store conn.new).is_clean }
     ensures fault { IfErr result (λ fault. fault ≡ Fault.StoreFailed) }
 {
@@ -278,17 +318,18 @@ fn make_both<S: Alter>(conn: &mut Connection<S>) -> Result<(), Fault>
 #[derive(Clone, Copy)]
 struct Meta {
     form: u64,
-    has_forgotten: bool,
+    last: u64,
+    floor: u64,
 }
 
 /// Tests the row that says whose log it is. `LogDamaged` where its number is not 1 or its form is unknown; `WrongOwner`
-/// of another owner or cluster.
+/// of another owner or cluster; `LogDamaged` where its last version or its floor is no number.
 #[tactic(auto, using(crate::proofs::Cells::of_six))]
 fn test_meta(row: &Row, owner: &Name, cluster: &Name) -> Result<Meta, Fault>
-    ensures row { IfOk result (λ meta. meta.has_forgotten ≡ false → row.now ≡ meta_row meta.form owner.now cluster.now) }
+    ensures row { IfOk result (λ meta. row.now ≡ meta_row meta.form owner.now cluster.now meta.last meta.floor) }
     ensures form { IfOk result (λ meta. IsForm meta.form) }
-    ensures whole { (form : ℕ) → IsForm form → row.now ≡ meta_row form owner.now cluster.now
-        → IsOkAnd result (λ meta. (meta.form ≡ form) × (meta.has_forgotten ≡ false)) }
+    ensures whole { (form last floor : ℕ) → IsForm form → row.now ≡ meta_row form owner.now cluster.now last floor
+        → IsOkAnd result (λ meta. (meta.form ≡ form) × ((meta.last ≡ last) × (meta.floor ≡ floor))) }
     ensures others { IfErr result (λ fault. fault ≡ Fault.WrongOwner
         → (form : ℕ) × IsForm form × (column row.now 0 ≡ Int (pos 1)) × (column row.now 1 ≡ Int (pos form))
         × ((column row.now 2 ≢ Text owner.now) ⊎ (column row.now 3 ≢ Text cluster.now))) }
@@ -306,10 +347,13 @@ fn test_meta(row: &Row, owner: &Name, cluster: &Name) -> Result<Meta, Fault>
     if !is_text(row, 3, cluster) {
         return Err(Fault::WrongOwner);
     }
-    Ok(Meta {
-        form,
-        has_forgotten: !has_zeros(row),
-    })
+    let Some(last) = number_in(row, 4) else {
+        return Err(Fault::LogDamaged);
+    };
+    let Some(floor) = number_in(row, 5) else {
+        return Err(Fault::LogDamaged);
+    };
+    Ok(Meta { form, last, floor })
 }
 
 /// The form that a row numbered 1 says, where it is one that is read.
@@ -324,14 +368,14 @@ fn form_of(row: &Row) -> Option<u64>
     }
 }
 
-/// Whether no version was forgotten.
-fn has_zeros(row: &Row) -> bool
-    ensures is { IsTrue result → (column row.now 4 ≡ Int (pos 0)) × (column row.now 5 ≡ Int (pos 0)) }
-    ensures whole { column row.now 4 ≡ Int (pos 0) → column row.now 5 ≡ Int (pos 0) → IsTrue result }
+/// The number that a column has, which is not below 0.
+fn number_in(row: &Row, at: usize) -> Option<u64>
+    ensures is { IfSome result (λ number. column row.now at ≡ Int (pos number)) }
+    ensures whole { (number : ℕ) → column row.now at ≡ Int (pos number) → result ≡ Some number }
 {
-    match (row.get_ref(4), row.get_ref(5)) {
-        (Ok(ValueRef::Int(0)), Ok(ValueRef::Int(0))) => true,
-        _ => false,
+    match row.get_ref(at) {
+        Ok(ValueRef::Int(number)) if number >= 0 => Some(number as u64),
+        _ => None,
     }
 }
 

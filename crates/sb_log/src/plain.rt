@@ -24,11 +24,14 @@ pub struct PlainLog {
 
 impl Model for PlainLog {
     ghost use Rattle.std.specs.Prelude.{true};
+    ghost use Rattle.sb_table.specs.Contents.{IsContent};
     ghost use Rattle.sb_log.specs.Records as records;
 
     ghost Value = { records.Log };
 
     ghost view = { λ l. record { owner = l.owner; cluster = l.cluster; most = l.max_version; content = l.table; is_open = true; is_clean = true; is_sure = true } };
+
+    ghost invariant = { λ l. IsContent l.table };
 }
 
 impl PlainLog {
@@ -67,6 +70,17 @@ impl WriteLog for PlainLog {
             Err(fault) => return Err(fault),
         };
         Ok(Committed::new(self.owner, entry))
+    }
+
+    fn purge(&mut self, floor: u64) -> Result<(), Fault> {
+        let (upto, present) = (self.table.upto(), self.table.floor());
+        if floor > upto {
+            return Err(Fault::FloorTooHigh);
+        }
+        if floor > present {
+            self.table.raise(upto, floor);
+        }
+        Ok(())
     }
 
     fn load(&mut self, alloc: Global) -> Result<Table, Fault> {

@@ -1,5 +1,7 @@
 //! Entries as rows of a log's table, and back.
-ghost use Rattle.std.specs.Prelude.{◌≡◌, ◌≢◌, ◌<◌, ◌⊎◌, ◌^◌, true, [], ◌∷◌, ◌++◌, false, pos, map, length, IfOk, IfErr, IfSome, OnOk, Ok, None, drop, IsSome};
+ghost use Rattle.std.specs.Prelude.{◌≡◌, ◌≢◌, ◌<◌, ◌⊎◌, ◌^◌, true, [], ◌∷◌, ◌++◌, false, pos, not, map, length, IfOk, IfErr, IfSome, IsTrue, OnOk, Ok, None, drop, IsSome};
+ghost use Rattle.std.specs.BTreeSet.{contains, Updates};
+ghost use Rattle.std.specs.Ordering.{int_cmp};
 ghost use Rattle.std.specs.List.{list_all};
 ghost use Rattle.sqlite_trees.specs.Tree.{rowid};
 ghost use Rattle.sqlite_trees.specs.View.{is_int};
@@ -11,13 +13,14 @@ ghost use Rattle.sb_types.specs.Limits.{is_slot, is_entry};
 ghost use Rattle.sb_types.specs.Records as records;
 ghost use Rattle.sb_types.specs.Runs.{has_key};
 ghost use Rattle.sb_table.specs.Plain.{IsPlainTable};
-ghost use Rattle.sb_log.specs.Rows.{slot_cells, cells_of, is_kept, sets_text, has_texts, AreNumbered};
+ghost use Rattle.sb_log.specs.Rows.{slot_cells, cells_of, is_kept, sets_text, has_texts, AreNumbered, AreNumberedApart};
 
 use sb_table::Table;
 use sb_types::{Entry, Fault, Key, Slot, VERSION_MOST, Value, ValueRef as Lent};
 use sqlite::Row;
 use sqlite_value::value::ValueRef;
 use std::alloc::Global;
+use std::collections::BTreeSet;
 
 /// The parameters that write an entry.
 pub(crate) fn cells_of(entry: &Entry) -> [ValueRef<'_>; 5]
@@ -154,16 +157,20 @@ fn slot_in(
 }
 
 /// The table of the entries that these rows hold, which come by version. `LogDamaged` where a row breaks a limit,
-/// two have one key or one version, or they are too many; `NoMemory`.
+/// two have one rowid, one key or one version, or they are too many; `NoMemory`.
 pub(crate) fn table_of(alloc: Global, rows: &[Row]) -> Result<Table, Fault>
     ensures plain { IfOk result IsPlainTable }
     ensures rows { IfOk result (λ t. map cells_of t.entries ≡ map (drop 1) rows.now) }
     ensures numbered { OnOk result (AreNumbered rows.now) }
+    ensures apart { OnOk result (AreNumberedApart rows.now) }
     ensures kept { IfOk result (λ t. list_all is_kept t.entries ≡ true) }
     ensures whole { (t : records.Table) → IsPlainTable t → list_all is_kept t.entries ≡ true → map (drop 1) rows.now ≡ map cells_of t.entries → AreNumbered rows.now
-        → IfErr result (λ fault. fault ≡ Fault.NoMemory) }
+        → AreNumberedApart rows.now → IfErr result (λ fault. fault ≡ Fault.NoMemory) }
     ensures fault { IfErr result (λ fault. (fault ≡ Fault.NoMemory) ⊎ (fault ≡ Fault.LogDamaged)) }
 {
+    if !are_numbered_apart(alloc, rows)? {
+        return Err(Fault::LogDamaged);
+    }
     let mut table = Table::new(alloc);
     for row in rows {
         match entry_in(alloc, row)? {
@@ -172,6 +179,33 @@ pub(crate) fn table_of(alloc: Global, rows: &[Row]) -> Result<Table, Fault>
         }
     }
     Ok(table)
+}
+
+/// Whether each row begins with its rowid, and no rowid stands twice. `NoMemory`.
+fn are_numbered_apart(alloc: Global, rows: &[Row]) -> Result<bool, Fault>
+    ensures apart { IfOk result (λ apart. IsTrue apart → AreNumberedApart rows.now) }
+    ensures whole { IfOk result (λ apart. AreNumbered rows.now → AreNumberedApart rows.now → IsTrue apart) }
+    ensures fault { IfErr result (λ fault. fault ≡ Fault.NoMemory) }
+{
+    let mut seen = BTreeSet::new(alloc);
+    for row in rows {
+        let Ok(ValueRef::Int(number)) = row.get_ref(0) else {
+            return Ok(false);
+        };
+        if !add_number(&mut seen, number)? {
+            return Ok(false);
+        }
+    }
+    Ok(true)
+}
+
+/// Adds a number, and says whether it was missing. `NoMemory`.
+fn add_number(seen: &mut BTreeSet<i64>, number: i64) -> Result<bool, Fault>
+    ensures new { IfOk result (λ new. new ≡ not (contains int_cmp seen.old number)) }
+    ensures added { OnOk result (Updates int_cmp seen.old seen.new number true) }
+    ensures fault { IfErr result (λ fault. fault ≡ Fault.NoMemory) }
+{
+    Ok(seen.insert(number)?)
 }
 
 /// Whether one of the entries sets a text.
@@ -204,7 +238,7 @@ fn sets_text(slot: &Slot) -> bool
 #[tactic(auto, using(crate::proofs::Cells::not_found, crate::proofs::Cells::added, crate::proofs::Whole::none_there))]
 fn add(table: &mut Table, entry: Entry) -> Result<(), Fault>
     ensures added { OnOk result (table.new.entries ≡ table.old.entries ++ entry ∷ []) }
-    ensures plain { IsPlainTable table.new }
+    ensures plain { IsPlainTable table.old → IsPlainTable table.new }
     ensures whole { table.old.held < entry.version → has_key entry.key table.old.entries ≡ false → length table.old.entries < KEYS_MOST
         → IfErr result (λ fault. fault ≡ Fault.NoMemory) }
     ensures fault { IfErr result (λ fault. (fault ≡ Fault.NoMemory) ⊎ (fault ≡ Fault.LogDamaged)) }

@@ -1,28 +1,31 @@
 //! A log that is kept in a database.
-ghost use Rattle.std.specs.Prelude.{◌≡◌, ◌≢◌, ◌≤◌, ◌⊎◌, Ok, IfOk, IfErr};
+ghost use Rattle.std.specs.Prelude.{◌≡◌, ◌≢◌, ◌≤◌, ◌⊎◌, false, Ok, IfOk, IfErr, OnOk};
 ghost use Rattle.sqlite_trees.specs.Tree.{Trees};
 ghost use Rattle.sqlite_trees.specs.View.{doubt};
 ghost use Rattle.sqlite.specs.Held.{state};
 ghost use Rattle.sqlite.specs.State.{HasCleanDisk};
 ghost use Rattle.sb_types.specs.Records as records;
-ghost use Rattle.sb_log.specs.Opening.{IsNamedIn, Opens, Completes, Founds, IsWant, IsOpeningFault, IsOpenedAs};
-ghost use Rattle.sb_log.specs.Puts.{IsSettled, IsSure};
+ghost use Rattle.sb_log.specs.Opening.{Opens, SaysStill, Completes, Founds, IsWant, IsOpeningFault, IsOpenedAs};
+ghost use Rattle.sb_log.specs.Puts.{Purges, PurgeSurvives, IsSettled, IsSure};
 ghost use Rattle.sb_log.specs.Sql.{log_in};
-ghost use Rattle.sb_log.specs.Standing.{MayLeave};
+ghost use Rattle.sb_log.specs.Standing.{HoldsContent, MayLeave};
 
 use crate::check::accept;
 use crate::committed::Committed;
+use crate::content::read_content;
 use crate::log::WriteLog;
 use crate::opening::open_tables;
-use crate::statements::{read_table, write_entry};
+use crate::purging::raise_floor;
+use crate::statements::write_entry;
 use sb_table::Table;
 use sb_types::{Fault, Key, Name, Slot, VERSION_MOST};
 use sqlite::{Alter, Connection};
 use std::alloc::Global;
 use std::marker::Model;
 
-/// A log in a database: each key's last write is a row of it, and a write is one statement that commits by itself.
-/// Beside the database it keeps the same writes in memory, so that a write is tested without reading.
+/// A log in a database: each key's last write is a row of it, and a write is one statement that commits by itself. A floor
+/// is raised by two: one says it, and the other takes the rows of removals out. Beside the database it keeps the same
+/// writes in memory, so that a write or a floor is tested without reading.
 #[derive(Drop)]
 pub struct SqlLog<S: Alter> {
     owner: Name,
@@ -38,6 +41,7 @@ pub struct SqlLog<S: Alter> {
 impl<S: Alter> Model for SqlLog<S> {
     ghost use Rattle.std.specs.Prelude.{◌≤◌};
     ghost use Rattle.sb_types.specs.declared.limits.TheConstants.{VERSION_MOST};
+    ghost use Rattle.sb_table.specs.Contents.{IsContent};
     ghost use Rattle.sb_log.specs.Sql.{SqlView, sql_code};
     ghost use Rattle.sb_log.specs.Standing.{IsKept};
 
@@ -47,7 +51,7 @@ impl<S: Alter> Model for SqlLog<S> {
 
     ghost view = { λ l. record { owner = l.owner; cluster = l.cluster; most = l.max_version; is_open = l.is_open; conn = l.conn } };
 
-    ghost invariant = { λ l. IsKept S.Store l.owner l.cluster l.conn l.table l.is_open × (l.max_version ≤ VERSION_MOST) };
+    ghost invariant = { λ l. IsKept S.Store l.owner l.cluster l.conn l.table l.is_open × (l.max_version ≤ VERSION_MOST) × IsContent l.table × (l.table.held ≤ VERSION_MOST) };
 }
 
 impl<S: Alter + Drop> SqlLog<S> {
@@ -55,11 +59,13 @@ impl<S: Alter + Drop> SqlLog<S> {
     /// first of them or both and no rows. It gives versions up to `max_version`, and none above 2^40 - 1. In this order:
     /// `LogDamaged` where rows stand without the row that says whose they are, where that row stands without the table of
     /// writes, where its form is unknown, or where there are other tables than a log's; `WrongOwner` where the log is
-    /// another owner's or of another cluster; `LogDamaged` where a row breaks a limit or two have one key or version,
-    /// where a log of form 1 has a text, where there are more than 4,096, or where versions were forgotten. `NoMemory`
-    /// and `StoreFailed` wherever they come, the latter also inside a transaction. After all of these a log of form 1
-    /// becomes one of form 2. A refusal hands the connection back, and the database is as it was, but that tables which
-    /// were missing may have been made. However it ends, nothing of what was there is lost.
+    /// another owner's or of another cluster; `LogDamaged` where a row breaks a limit or two have one rowid, key or
+    /// version, where a log of form 1 has a text, where there are more than 4,096, or where it says a floor above its last
+    /// version, or a last version above 2^40 - 1, or above both its floor and its last row's. `NoMemory` and `StoreFailed`
+    /// wherever they come, the latter also inside a transaction. After all of these a log of form 1 becomes one of form 2,
+    /// and rows of removals up to the floor go, which a crash may have left: they are none of the content. A refusal hands
+    /// the connection back, and the database is as it was, but that tables which were missing may have been made. However
+    /// it ends, nothing else of what was there is lost.
     pub fn open(
         alloc: Global,
         conn: Connection<S>,
@@ -70,7 +76,10 @@ impl<S: Alter + Drop> SqlLog<S> {
         ensures log { IfOk result (λ l. IsOpenedAs owner cluster max_version (log_in S.Store l)) }
         ensures clean { IfOk result (λ l. doubt (state S.Store conn).is_clean ≤ doubt (state S.Store l.conn).is_clean) }
         ensures found { IfOk result (λ l. HasCleanDisk (state S.Store l.conn) → Opens owner cluster (state S.Store conn).now (log_in S.Store l).content) }
-        ensures meta { IfOk result (λ l. HasCleanDisk (state S.Store l.conn) → IsNamedIn 2 owner cluster ((state S.Store l.conn).now.trees 0)) }
+        // The tables hold that content, in form 2, and no row of a removal up to the floor.
+        ensures rows { IfOk result (λ l. HasCleanDisk (state S.Store l.conn)
+            → HoldsContent owner cluster (log_in S.Store l).content (log_in S.Store l).content.entries (state S.Store l.conn).now.trees) }
+        ensures still { IfOk result (λ l. HasCleanDisk (state S.Store l.conn) → SaysStill owner cluster (state S.Store conn).now (state S.Store l.conn).now.trees) }
         ensures settled { IfOk result (λ l. IsSettled (log_in S.Store l) (MayLeave S.Store owner cluster l.conn)) }
         ensures whole { (t : records.Table) → Opens owner cluster (state S.Store conn).now t
             → IfErr result (λ refused. HasCleanDisk (state S.Store refused.1) → IsWant refused.0) }
@@ -129,11 +138,43 @@ impl<S: Alter + Drop> WriteLog for SqlLog<S> {
         }
     }
 
+    fn purge(&mut self, floor: u64) -> Result<(), Fault>
+        ensures purges { Purges (log_in S.Store self.old) floor result (log_in S.Store self.new) }
+        ensures closed { self.old.is_open ≡ false → self.new ≡ self.old }
+        ensures crash { PurgeSurvives (log_in S.Store self.old) floor (log_in S.Store self.new) (MayLeave S.Store self.new.owner self.new.cluster self.new.conn) }
+        ensures settled { IsSettled (log_in S.Store self.new) (MayLeave S.Store self.new.owner self.new.cluster self.new.conn) }
+        // No removal up to the floor has a row.
+        ensures rows { HasCleanDisk (state S.Store self.new.conn) → OnOk result
+            (HoldsContent self.new.owner self.new.cluster (log_in S.Store self.new).content (log_in S.Store self.new).content.entries (state S.Store self.new.conn).now.trees) }
+    {
+        if !self.is_open {
+            return Err(Fault::Closed);
+        }
+        let (upto, present) = (self.table.upto(), self.table.floor());
+        if floor > upto {
+            return Err(Fault::FloorTooHigh);
+        }
+        if floor <= present {
+            return Ok(());
+        }
+        match raise_floor(&mut self.conn, upto, floor) {
+            Ok(()) => {
+                self.table.raise(upto, floor);
+                Ok(())
+            }
+            Err(fault) => {
+                self.is_open = false;
+                Err(fault)
+            }
+        }
+    }
+
     fn load(&mut self, alloc: Global) -> Result<Table, Fault> {
         if !self.is_open {
             return Err(Fault::Closed);
         }
-        match read_table(&mut self.conn, alloc) {
+        let (last, floor) = (self.table.upto(), self.table.floor());
+        match read_content(&mut self.conn, alloc, last, floor) {
             Ok(table) => Ok(table),
             Err(Fault::NoMemory) => Err(Fault::NoMemory),
             Err(Fault::LogDamaged) => {

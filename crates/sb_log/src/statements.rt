@@ -6,6 +6,7 @@ ghost use Rattle.sqlite.specs.Held.{state};
 ghost use Rattle.sqlite.specs.Effect.{IsDatabase};
 ghost use Rattle.sqlite.specs.State.{HasCleanDisk, IsUnchanged};
 ghost use Rattle.sqlite_catalog.specs.Listing.{IsSound};
+ghost use Rattle.sb_types.specs.declared.limits.TheConstants.{VERSION_MOST};
 ghost use Rattle.sb_types.specs.Records as records;
 ghost use Rattle.sb_table.specs.Plain.{IsPlainTable};
 ghost use Rattle.sb_log.specs.Form.{no_schema, meta_schema, log_schema};
@@ -109,10 +110,10 @@ pub(crate) fn write_meta<S: Alter>(
     ensures rows { HasCleanDisk (state S.Store conn.new) → IsReady (state S.Store conn.old)
         → OnOk result ((state S.Store conn.new).now.trees 1 ≡ (state S.Store conn.old).now.trees 1) }
     ensures meta { HasCleanDisk (state S.Store conn.new) → IsReady (state S.Store conn.old) → (state S.Store conn.old).now.trees 0 ≡ []
-        → OnOk result (IsNamedIn 2 owner.now cluster.now ((state S.Store conn.new).now.trees 0)) }
+        → OnOk result (IsNamedIn 2 owner.now cluster.now 0 0 ((state S.Store conn.new).now.trees 0)) }
     ensures crash { HasCleanDisk (state S.Store conn.new) → IsReady (state S.Store conn.old) → (db : Trees) → (state S.Store conn.new).may_leave db
         → (state S.Store conn.old).may_leave db
-        ⊎ (IsSound log_schema db × (db 1 ≡ (state S.Store conn.old).now.trees 1) × ((state S.Store conn.old).now.trees 0 ≡ [] → IsNamedIn 2 owner.now cluster.now (db 0))) }
+        ⊎ (IsSound log_schema db × (db 1 ≡ (state S.Store conn.old).now.trees 1) × ((state S.Store conn.old).now.trees 0 ≡ [] → IsNamedIn 2 owner.now cluster.now 0 0 (db 0))) }
     ensures clean { doubt (state S.Store conn.old).is_clean ≤ doubt (state S.Store conn.new).is_clean }
     ensures fault { IfErr result (λ fault. fault ≡ Fault.StoreFailed) }
 {
@@ -130,17 +131,17 @@ pub(crate) fn write_meta<S: Alter>(
 
 /// Raises the form of a log that says whose it is to 2. `StoreFailed`.
 pub(crate) fn raise_form<S: Alter>(conn: &mut Connection<S>) -> Result<(), Fault>
-    ensures ready { HasCleanDisk (state S.Store conn.new) → IsReady (state S.Store conn.old) → (form : ℕ) (owner cluster : List ℕ)
-        → IsNamedIn form owner cluster ((state S.Store conn.old).now.trees 0) → OnOk result (IsReady (state S.Store conn.new)) }
-    ensures rows { HasCleanDisk (state S.Store conn.new) → IsReady (state S.Store conn.old) → (form : ℕ) (owner cluster : List ℕ)
-        → IsNamedIn form owner cluster ((state S.Store conn.old).now.trees 0)
+    ensures ready { HasCleanDisk (state S.Store conn.new) → IsReady (state S.Store conn.old) → (form last floor : ℕ) (owner cluster : List ℕ)
+        → IsNamedIn form owner cluster last floor ((state S.Store conn.old).now.trees 0) → OnOk result (IsReady (state S.Store conn.new)) }
+    ensures rows { HasCleanDisk (state S.Store conn.new) → IsReady (state S.Store conn.old) → (form last floor : ℕ) (owner cluster : List ℕ)
+        → IsNamedIn form owner cluster last floor ((state S.Store conn.old).now.trees 0)
         → OnOk result ((state S.Store conn.new).now.trees 1 ≡ (state S.Store conn.old).now.trees 1) }
-    // Owner and cluster stay, and no version counts as forgotten.
-    ensures meta { HasCleanDisk (state S.Store conn.new) → IsReady (state S.Store conn.old) → (form : ℕ) (owner cluster : List ℕ)
-        → IsNamedIn form owner cluster ((state S.Store conn.old).now.trees 0) → OnOk result (IsNamedIn 2 owner cluster ((state S.Store conn.new).now.trees 0)) }
-    ensures crash { HasCleanDisk (state S.Store conn.new) → IsReady (state S.Store conn.old) → (form : ℕ) (owner cluster : List ℕ)
-        → IsNamedIn form owner cluster ((state S.Store conn.old).now.trees 0) → (db : Trees) → (state S.Store conn.new).may_leave db
-        → (state S.Store conn.old).may_leave db ⊎ (IsSound log_schema db × (db 1 ≡ (state S.Store conn.old).now.trees 1) × IsNamedIn 2 owner cluster (db 0)) }
+    // All else that the row says stays.
+    ensures meta { HasCleanDisk (state S.Store conn.new) → IsReady (state S.Store conn.old) → (form last floor : ℕ) (owner cluster : List ℕ)
+        → IsNamedIn form owner cluster last floor ((state S.Store conn.old).now.trees 0) → OnOk result (IsNamedIn 2 owner cluster last floor ((state S.Store conn.new).now.trees 0)) }
+    ensures crash { HasCleanDisk (state S.Store conn.new) → IsReady (state S.Store conn.old) → (form last floor : ℕ) (owner cluster : List ℕ)
+        → IsNamedIn form owner cluster last floor ((state S.Store conn.old).now.trees 0) → (db : Trees) → (state S.Store conn.new).may_leave db
+        → (state S.Store conn.old).may_leave db ⊎ (IsSound log_schema db × (db 1 ≡ (state S.Store conn.old).now.trees 1) × IsNamedIn 2 owner cluster last floor (db 0)) }
     ensures clean { doubt (state S.Store conn.old).is_clean ≤ doubt (state S.Store conn.new).is_clean }
     ensures fault { IfErr result (λ fault. fault ≡ Fault.StoreFailed) }
 {
@@ -204,6 +205,7 @@ pub(crate) fn read_table<S: Alter>(conn: &mut Connection<S>, alloc: Global) -> R
     ensures rows { HasCleanDisk (state S.Store conn.new) → IsReady (state S.Store conn.old)
         → IfOk result (λ t. AreRowsOf t ((state S.Store conn.old).now.trees 1)) }
     ensures plain { IfOk result IsPlainTable }
+    ensures most { IfOk result (λ t. t.held ≤ VERSION_MOST) }
     // No row of a table's is taken for damage.
     ensures whole { HasCleanDisk (state S.Store conn.new) → IsReady (state S.Store conn.old) → (t : records.Table) → AreRowsOf t ((state S.Store conn.old).now.trees 1)
         → result ≢ Err Fault.LogDamaged }

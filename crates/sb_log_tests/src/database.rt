@@ -8,13 +8,14 @@ use sb_types::Fault;
 use std::alloc::Global;
 use std::process::Abort;
 
-const META: &str =
+/// The tables of a log, and the row that says that it is `a`'s.
+pub const META: &str =
     "CREATE TABLE meta (id INTEGER PRIMARY KEY CHECK (id = 1), form INTEGER NOT NULL, owner TEXT NOT NULL, cluster TEXT NOT NULL, last INTEGER NOT NULL, floor INTEGER NOT NULL) STRICT";
 
-const WRITES: &str =
+pub const WRITES: &str =
     "CREATE TABLE writes (k TEXT PRIMARY KEY NOT NULL, version INTEGER NOT NULL UNIQUE, tag INTEGER NOT NULL, num INTEGER, txt TEXT) STRICT";
 
-const OWNERS: &str = "INSERT INTO meta VALUES (1, 2, 'a', 'sim', 0, 0)";
+pub const OWNERS: &str = "INSERT INTO meta VALUES (1, 2, 'a', 'sim', 0, 0)";
 
 /// The same in the form of older releases.
 const OLDER: &str = "INSERT INTO meta VALUES (1, 1, 'a', 'sim', 0, 0)";
@@ -158,7 +159,7 @@ fn tells_of_tables(rt: &impl Abort, alloc: Global) {
     tells(rt, alloc, &[META, WRITES, unowned], 19);
 }
 
-// Logs of each form that is read, of unknown forms, and those from which versions were forgotten.
+// Logs of each form that is read, of unknown forms, and those whose floor is above the last version, or that above all.
 fn tells_of_meta(rt: &impl Abort, alloc: Global) {
     tells_with_tables(rt, alloc, OWNERS, 0);
     tells_with_tables(rt, alloc, OLDER, 0);
@@ -200,7 +201,7 @@ fn tells_of_meta(rt: &impl Abort, alloc: Global) {
     );
 }
 
-// Logs of another owner, and of another cluster, from which versions were forgotten too.
+// Logs of another owner, and of another cluster, which say a last version or a floor that they can't say too.
 fn tells_of_others(rt: &impl Abort, alloc: Global) {
     tells_with_tables(
         rt,
@@ -213,6 +214,35 @@ fn tells_of_others(rt: &impl Abort, alloc: Global) {
         alloc,
         "INSERT INTO meta VALUES (1, 1, 'a', 'other', 0, 7)",
         20,
+    );
+}
+
+// The same of a log that says this last version and this floor in place of both 0, and has one row, of version 3.
+fn tells_of_numbers(rt: &impl Abort, alloc: Global, numbers: &str, fault: u8) {
+    let row = "INSERT INTO writes VALUES ('x', 3, 3, 1, NULL)";
+    tells(rt, alloc, &[META, WRITES, OWNERS, row, numbers], fault);
+}
+
+// Last versions and floors that such a log can say, and others.
+fn tells_of_floors(rt: &impl Abort, alloc: Global) {
+    tells_of_numbers(rt, alloc, "UPDATE meta SET last = 3", 0);
+    tells_of_numbers(rt, alloc, "UPDATE meta SET last = 2, floor = 1", 0);
+    tells_of_numbers(rt, alloc, "UPDATE meta SET last = 9, floor = 9", 0);
+    tells_of_numbers(
+        rt,
+        alloc,
+        "UPDATE meta SET last = 1099511627775, floor = 1099511627775",
+        0,
+    );
+    tells_of_numbers(rt, alloc, "UPDATE meta SET last = 4, floor = 3", 19);
+    tells_of_numbers(rt, alloc, "UPDATE meta SET last = 2, floor = 3", 19);
+    tells_of_numbers(rt, alloc, "UPDATE meta SET last = 3, floor = -1", 19);
+    tells_of_numbers(rt, alloc, "UPDATE meta SET last = -1", 19);
+    tells_of_numbers(
+        rt,
+        alloc,
+        "UPDATE meta SET last = 1099511627776, floor = 1099511627776",
+        19,
     );
 }
 
@@ -274,6 +304,7 @@ fn damage_is_told(rt: HostRuntime) {
     tells_of_tables(&rt, rt.alloc());
     tells_of_meta(&rt, rt.alloc());
     tells_of_others(&rt, rt.alloc());
+    tells_of_floors(&rt, rt.alloc());
     tells_of_writes(&rt, rt.alloc());
     tells_of_texts(&rt, rt.alloc());
 }

@@ -21,6 +21,10 @@ mod openings;
 #[cfg(test)]
 mod plain;
 #[cfg(test)]
+mod purge_crashes;
+#[cfg(test)]
+mod purges;
+#[cfg(test)]
 mod visits;
 #[cfg(test)]
 mod writes;

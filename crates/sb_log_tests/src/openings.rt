@@ -93,7 +93,7 @@ const ANOTHERS: Case = Case {
     fault: 20,
 };
 
-/// Versions that were forgotten are damage.
+/// A last version above both the floor and the last row's is damage.
 const DAMAGED: Case = Case {
     owner: OWNER,
     spoil: &["UPDATE meta SET last = 7"],
@@ -338,7 +338,7 @@ fn a_refused_log_keeps_its_form(rt: HostRuntime) {
     };
     keeps_form(&rt, alloc, anothers, 1);
     keeps_form(&rt, alloc, OF_ANOTHER_FORM, 3);
-    stays_in_form_1(&rt, alloc, &["UPDATE meta SET form = 1, last = 3"], 19);
+    stays_in_form_1(&rt, alloc, &["UPDATE meta SET form = 1, last = 4"], 19);
     stays_in_form_1(&rt, alloc, &["UPDATE meta SET form = 1, floor = 1"], 19);
     stays_in_form_1(
         &rt,

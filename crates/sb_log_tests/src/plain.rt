@@ -1,11 +1,11 @@
 //! A log in memory: what it keeps, and what it refuses.
 use crate::writes::{
-    Answer, CLUSTER, OWNER, held, is_entry, key, many, name, put, remove, set, settled,
+    Answer, CLUSTER, OWNER, fill, held, is_entry, many, name, put, remove, set, settled,
 };
 use crate::{got, same};
 use sb_log::{PlainLog, WriteLog};
 use sb_table::Table;
-use sb_types::{Fault, KEYS_MOST, Key, Slot, Value};
+use sb_types::{Fault, Slot, Value};
 use std::alloc::Global;
 use std::process::Abort;
 
@@ -60,23 +60,6 @@ fn past_the_greatest<L: WriteLog>(rt: &impl Abort, log: &mut L) -> [Answer; 5] {
         remove(rt, log, b"x"),
         remove(rt, log, b"z"),
     ]
-}
-
-fn numbered_key(rt: &impl Abort, alloc: Global, at: u64) -> Key {
-    let text = got(rt, format!(in alloc; "k{at}"));
-    key(rt, text.as_bytes())
-}
-
-// How many of the writes of as many keys as there may be are answered in their turn.
-fn filled<L: WriteLog>(rt: &impl Abort, alloc: Global, log: &mut L) -> u64 {
-    let mut in_turn: u64 = 0;
-    for at in 1..=KEYS_MOST as u64 {
-        let key = numbered_key(rt, alloc, at);
-        if got(rt, set(rt, log, key.bytes(), at)) == at {
-            in_turn = in_turn.saturating_add(1);
-        }
-    }
-    in_turn
 }
 
 // Behind those, with versions up to 4,097: a new key finds no room, one that is there does, and then the versions are spent.
@@ -136,7 +119,7 @@ fn a_plain_log_refuses(rt: HostRuntime) {
 fn a_plain_log_is_filled(rt: HostRuntime) {
     let alloc = rt.alloc();
     let mut log = plain_log(&rt, alloc, 4097);
-    same(&rt, &filled(&rt, alloc, &mut log), &4096);
+    same(&rt, &fill(&rt, alloc, &mut log), &4096);
     let refused = settled(&rt, a_key_too_many(&rt, &mut log));
     same(&rt, &refused, &[FULL, NOTHING, Ok(4097), FULL, SPENT]);
     same(&rt, &held(&rt, alloc, &mut log), &(4096, 4097));

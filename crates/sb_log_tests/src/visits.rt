@@ -172,6 +172,18 @@ pub fn rows_on_disks(rt: &impl Abort, alloc: Global, disks: &mut Files<Memory>) 
     got(rt, on_disks(rt, alloc, disks, ENDLESS, asking))
 }
 
+/// The last version and the floor that a log over disks says.
+pub fn numbers_on_disks(rt: &impl Abort, alloc: Global, disks: &mut Files<Memory>) -> (i64, i64) {
+    let last = Asking {
+        sql: "SELECT last FROM meta",
+    };
+    let floor = Asking {
+        sql: "SELECT floor FROM meta",
+    };
+    let last = got(rt, on_disks(rt, alloc, disks, ENDLESS, last));
+    (last, got(rt, on_disks(rt, alloc, disks, ENDLESS, floor)))
+}
+
 /// The form of a log over disks.
 pub fn form_on_disks(rt: &impl Abort, alloc: Global, disks: &mut Files<Memory>) -> i64 {
     let asking = Asking {

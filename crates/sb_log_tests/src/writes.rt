@@ -1,7 +1,7 @@
 //! Writes to a log, wherever it keeps them, and what it then holds.
 use crate::got;
 use sb_log::{Committed, WriteLog};
-use sb_types::{Entry, Fault, Key, Name, Slot, Value};
+use sb_types::{Entry, Fault, KEYS_MOST, Key, Name, Slot, Value};
 use std::alloc::Global;
 use std::process::Abort;
 
@@ -77,6 +77,31 @@ pub fn settled<const N: usize>(rt: &impl Abort, answers: [Answer; N]) -> [Answer
 pub fn held<L: WriteLog>(rt: &impl Abort, alloc: Global, log: &mut L) -> (usize, u64) {
     let table = got(rt, log.load(alloc));
     (table.len(), table.upto())
+}
+
+/// How many keys a log holds, its last version and its floor.
+pub type Reach = (usize, u64, u64);
+
+pub fn reach<L: WriteLog>(rt: &impl Abort, alloc: Global, log: &mut L) -> Reach {
+    let table = got(rt, log.load(alloc));
+    (table.len(), table.upto(), table.floor())
+}
+
+fn numbered_key(rt: &impl Abort, alloc: Global, at: u64) -> Key {
+    let text = got(rt, format!(in alloc; "k{at}"));
+    key(rt, text.as_bytes())
+}
+
+/// How many of the writes of as many keys as there may be, from k1 on, are answered in their turn.
+pub fn fill<L: WriteLog>(rt: &impl Abort, alloc: Global, log: &mut L) -> u64 {
+    let mut in_turn: u64 = 0;
+    for at in 1..=KEYS_MOST as u64 {
+        let key = numbered_key(rt, alloc, at);
+        if got(rt, set(rt, log, key.bytes(), at)) == at {
+            in_turn = in_turn.saturating_add(1);
+        }
+    }
+    in_turn
 }
 
 /// How many writes are answered in their turn: ten in each round, one of each of ten keys.

@@ -56,7 +56,8 @@ fn round_of(
 {
     let first = below(random, 8);
     let mut entries = Vec::new(alloc);
-    for number in 0..=below(random, 6) {
+    let last = below(random, 6);
+    for number in 0..=last {
         let version = round * 8 + number + 1;
         let key = key_of(rt, first + number);
         push(
@@ -65,7 +66,10 @@ fn round_of(
             Entry::new(key, version, slot_of(rt, alloc, random)),
         );
     }
-    got(rt, Block::new(owner, after, entries))
+    got(
+        rt,
+        Block::new(owner, 0, after, round * 8 + last + 1, entries),
+    )
 }
 
 /// Up to seven own writes, under some of eight keys.
@@ -112,9 +116,13 @@ fn made_pairs(
     let mut pairs = Vec::new(alloc);
     for letter in first..behind {
         if below(random, 2) == 1 {
-            let owner = name(rt, &[letter]);
             let upto = below(random, 40);
-            push(rt, &mut pairs, Pair { owner, upto });
+            let staged = match below(random, 3) {
+                0 => Some((below(random, 40), below(random, 40))),
+                _ => None,
+            };
+            let pair = Pair::new(name(rt, &[letter]), upto, staged);
+            push(rt, &mut pairs, pair);
         }
     }
     pairs

@@ -33,9 +33,9 @@ fn first_delta(alloc: Global, holdings: &Holdings) -> Result<Delta, Fault> {
 fn example_of_sb_budget(rt: HostRuntime) {
     let holdings = got(&rt, one_write(rt.alloc()));
     let delta = got(&rt, first_delta(rt.alloc(), &holdings));
-    // 3 bytes, the block's 12, and the entry's 17.
+    // 3 bytes, the block's 28, and the entry's 17.
     let found = (delta.blocks().len(), delta.encoded_length());
-    same(&rt, &found, &(1, 32));
+    same(&rt, &found, &(1, 48));
 }
 
 /// The owner and the version of each entry that an empty peer lacks, in the order of breadth.
@@ -44,7 +44,7 @@ fn ordered_by_breadth(alloc: Global, holdings: &Holdings) -> Result<Vec<(Name, u
     let offered = available(alloc, holdings, &nothing)?;
     let mut versions = Vec::new(alloc);
     for item in Breadth.arrange(alloc, offered)?.iter() {
-        versions.push((item.owner, item.entry.version()))?;
+        versions.push((item.owner, item.version()))?;
     }
     Ok(versions)
 }
@@ -74,7 +74,7 @@ fn ordered_by_depth(alloc: Global, holdings: &Holdings) -> Result<Vec<(Name, u64
     let offered = available(alloc, holdings, &nothing)?;
     let mut versions = Vec::new(alloc);
     for item in Depth.arrange(alloc, offered)?.iter() {
-        versions.push((item.owner, item.entry.version()))?;
+        versions.push((item.owner, item.version()))?;
     }
     Ok(versions)
 }

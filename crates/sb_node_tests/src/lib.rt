@@ -9,6 +9,8 @@ mod budget;
 #[cfg(test)]
 mod examples;
 #[cfg(test)]
+mod floors;
+#[cfg(test)]
 mod making;
 #[cfg(test)]
 mod node;

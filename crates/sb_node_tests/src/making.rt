@@ -18,7 +18,7 @@ pub(crate) fn block_of(rt: &impl Abort, alloc: Global, owner: Name, letters: &[u
         let entry = Entry::new(key(rt, &[*letter]), index as u64 + 1, slot);
         push(rt, &mut entries, entry);
     }
-    got(rt, Block::new(owner, 0, entries))
+    got(rt, Block::new(owner, 0, 0, letters.len() as u64, entries))
 }
 
 /// How the block ends; where it finds no memory, the end of the test.

@@ -112,7 +112,8 @@ fn block(rt: &impl Abort, alloc: Global, owner: Name, after: u64, letters: &[u8]
         let entry = Entry::new(key(rt, &[*letter]), version, weight(rt, version));
         push(rt, &mut entries, entry);
     }
-    got(rt, Block::new(owner, after, entries))
+    let upto = after + letters.len() as u64;
+    got(rt, Block::new(owner, 0, after, upto, entries))
 }
 
 /// How the blocks end; where one finds no memory, the end of the test.
@@ -374,7 +375,7 @@ fn removals_are_told(rt: HostRuntime) {
     let mut to = node(&rt, alloc, name(&rt, b"b"), 1_024, Order::Depth);
     let told = tell_of_a_removal(&rt, &mut from, &mut log, &mut to);
     let again = Err(Fault::NothingThere);
-    let wanted = (again, (32, 2, None, None), true, (40, 3, Some(3), None));
+    let wanted = (again, (48, 2, None, None), true, (56, 3, Some(3), None));
     same(&rt, &told, &wanted);
 }
 
@@ -391,8 +392,8 @@ fn a_peer_learns_what_fits(rt: HostRuntime) {
     let from = writer(&rt, alloc, b"a", 1_024, Order::Breadth, &keys);
     let mut to = least(&rt, alloc, b"b");
     let told = tell_thrice(&rt, &from, &mut to);
-    let first = (546, 2, None, Some(2));
-    let second = (546, 3, Some(3), Some(2));
+    let first = (562, 2, None, Some(2));
+    let second = (562, 3, Some(3), Some(2));
     same(&rt, &told, &[first, second, (9, 3, Some(3), Some(2))]);
 }
 
@@ -436,10 +437,10 @@ fn tell_of_two(
 #[test]
 fn deltas_come_in_the_order_of_the_settings(rt: HostRuntime) {
     let alloc = rt.alloc();
-    tell_of_two(&rt, alloc, Order::Depth, 1_209, 1_197, (2, 0));
-    tell_of_two(&rt, alloc, Order::Breadth, 1_209, 1_209, (1, 1));
-    tell_of_two(&rt, alloc, Order::Depth, 1_208, 1_197, (2, 0));
-    tell_of_two(&rt, alloc, Order::Breadth, 1_208, 609, (1, 0));
+    tell_of_two(&rt, alloc, Order::Depth, 1_241, 1_213, (2, 0));
+    tell_of_two(&rt, alloc, Order::Breadth, 1_241, 1_241, (1, 1));
+    tell_of_two(&rt, alloc, Order::Depth, 1_240, 1_213, (2, 0));
+    tell_of_two(&rt, alloc, Order::Breadth, 1_240, 625, (1, 0));
 }
 
 /// Of a digest: whether it wants one in answer, its bytes, its pairs, and how far it tells that a and b are held.
@@ -448,7 +449,7 @@ type Read = (bool, u64, usize, u64, u64);
 fn read_digest(rt: &impl Abort, core: &NodeCore, from: Option<Name>, want: bool) -> Read {
     let (a, b) = (name(rt, b"a"), name(rt, b"b"));
     let digest = got(rt, core.digest(from, want));
-    let held = (digest.number(&a), digest.number(&b));
+    let held = (digest.number(&a, 0), digest.number(&b, 0));
     (
         digest.want(),
         digest.encoded_length(),
@@ -479,8 +480,8 @@ fn digests_tell_what_is_held(rt: HostRuntime) {
     let mut core = least(&rt, alloc, b"a");
     same(&rt, &(*core.name(), core.settings().budget()), &(a, 1_024));
     let found = digests(&rt, alloc, &mut core, b);
-    let after = [(false, 26, 2, 0, 2), (false, 17, 1, 0, 2)];
-    same(&rt, &found, &((true, 16, 1, 0, 0), true, after));
+    let after = [(false, 58, 2, 0, 2), (false, 33, 1, 0, 2)];
+    same(&rt, &found, &((true, 32, 1, 0, 0), true, after));
 }
 
 /// How the first block of a delta ends, where there is room to say so.

@@ -22,7 +22,7 @@ fn long_block(rt: &impl Abort, alloc: Global, owner: Name, letters: &[u8]) -> Bl
         let entry = Entry::new(key, index as u64 + 1, longest(rt, alloc));
         push(rt, &mut entries, entry);
     }
-    got(rt, Block::new(owner, 0, entries))
+    got(rt, Block::new(owner, 0, 0, letters.len() as u64, entries))
 }
 
 /// Enters such a block.
@@ -102,7 +102,7 @@ fn come(
     let ordered = arranged_by(rt, alloc, &holdings, order);
     let mut are_equal = ordered.len() == wanted.len();
     for (item, place) in ordered.iter().zip(wanted) {
-        are_equal &= (item.owner, item.entry.version()) == *place;
+        are_equal &= (item.owner, item.version()) == *place;
     }
     same_at(rt, &order, &are_equal, &true);
 }
@@ -156,13 +156,13 @@ fn what_fits_is_told_of(rt: HostRuntime) {
         alloc,
         &holdings,
         Order::Breadth,
-        1_209,
-        1_209,
+        1_241,
+        1_241,
         &[(a, 1), (b, 1)],
     );
-    tell(&rt, alloc, &holdings, Order::Breadth, 1_208, 609, &[(a, 1)]);
-    tell(&rt, alloc, &holdings, Order::Depth, 1_209, 1_197, &deep);
-    tell(&rt, alloc, &holdings, Order::Depth, 1_208, 1_197, &deep);
+    tell(&rt, alloc, &holdings, Order::Breadth, 1_240, 625, &[(a, 1)]);
+    tell(&rt, alloc, &holdings, Order::Depth, 1_241, 1_213, &deep);
+    tell(&rt, alloc, &holdings, Order::Depth, 1_240, 1_213, &deep);
 }
 
 /// How many blocks and entries a delta has, and how long its frame is.
@@ -195,13 +195,13 @@ fn a_thousand_owners_are_cut(rt: HostRuntime) {
     let alloc = rt.alloc();
     let (wide, deep) = (Order::Breadth, Order::Depth);
     let holdings = thousand_owners(&rt, alloc);
-    extend(&rt, alloc, &holdings, wide, 65_536, (1_000, 2_000, 39_009));
-    extend(&rt, alloc, &holdings, wide, 30_000, (1_000, 1_249, 29_997));
-    extend(&rt, alloc, &holdings, wide, 1_024, (37, 37, 1_008));
-    extend(&rt, alloc, &holdings, deep, 65_536, (1_000, 2_000, 39_009));
-    extend(&rt, alloc, &holdings, deep, 30_000, (769, 1_538, 30_000));
-    extend(&rt, alloc, &holdings, deep, 29_999, (769, 1_537, 29_988));
-    extend(&rt, alloc, &holdings, deep, 1_024, (26, 52, 1_023));
+    extend(&rt, alloc, &holdings, wide, 65_536, (1_000, 2_000, 55_009));
+    extend(&rt, alloc, &holdings, wide, 46_000, (1_000, 1_249, 45_997));
+    extend(&rt, alloc, &holdings, wide, 1_024, (23, 23, 998));
+    extend(&rt, alloc, &holdings, deep, 65_536, (1_000, 2_000, 55_009));
+    extend(&rt, alloc, &holdings, deep, 29_984, (545, 1_090, 29_984));
+    extend(&rt, alloc, &holdings, deep, 29_983, (545, 1_089, 29_972));
+    extend(&rt, alloc, &holdings, deep, 1_024, (18, 36, 999));
 }
 
 /// What a wrote under x and y, and b under x.
@@ -219,7 +219,7 @@ fn come_by<O: DeltaOrder>(rt: &impl Abort, alloc: Global, order: &O, wanted: &[u
     let ordered = got(rt, arranged(alloc, &holdings, &digest, order));
     let mut are_equal = ordered.len() == wanted.len();
     for (item, version) in ordered.iter().zip(wanted) {
-        are_equal &= item.entry.version() == *version;
+        are_equal &= item.version() == *version;
     }
     are_equal
 }

@@ -16,10 +16,11 @@ use std::process::Abort;
 use std::sync::ledger::{Blank, Ledger};
 
 /// Hello and the digest of a, a delta of no block, and Bye.
-const DIALED_BY_A: &[u8] = b"\xa7\x02\x00\x00\x00\x06\x01\x02c1\x01a\
-    \xa7\x02\x00\x00\x00\x10\x02\x01\x00\x00\x00\x01\x01a\x00\x00\x00\x00\x00\x00\x00\x00\
-    \xa7\x02\x00\x00\x00\x03\x03\x00\x00\
-    \xa7\x02\x00\x00\x00\x02\x04\x01";
+const DIALED_BY_A: &[u8] = b"\xa7\x03\x00\x00\x00\x06\x01\x02c1\x01a\
+    \xa7\x03\x00\x00\x00\x20\x02\x01\x00\x00\x00\x01\
+    \x01a\x00\x00\x00\x00\x00\x00\x00\x00\x00\x00\x00\x00\x00\x00\x00\x00\x00\x00\x00\x00\x00\x00\x00\x00\
+    \xa7\x03\x00\x00\x00\x03\x03\x00\x00\
+    \xa7\x03\x00\x00\x00\x02\x04\x01";
 
 /// One block of a, after 0, with the weight 5 under w as version 1.
 const FRAME: &[u8] = &DELTA_A;
@@ -141,7 +142,7 @@ fn two_nodes_talk(rt: HostRuntime) {
     let alloc = rt.alloc();
     serve_pieces(&rt, alloc, 1);
     serve_pieces(&rt, alloc, 7);
-    serve_pieces(&rt, alloc, 42);
+    serve_pieces(&rt, alloc, 58);
     let told = talk_of_b(&rt, alloc, peer_terms(b"", Some(0)), HELLO_AND_BYE_B);
     same(&rt, &told, &(Ok(Ended::RoundsDone), true));
     let asked = talk_of_a(&rt, alloc);
@@ -164,7 +165,7 @@ fn peers_that_give_out(rt: HostRuntime) {
     let alloc = rt.alloc();
     fill(&rt, alloc, 20, 8);
     fill(&rt, alloc, 12, 0);
-    fill(&rt, alloc, 45, 0);
+    fill(&rt, alloc, 61, 0);
     let terms = Terms {
         breaks: true,
         ..peer_terms(HELLO_A, None)
@@ -204,7 +205,7 @@ fn a_delta_in_any_pieces(rt: HostRuntime) {
     let front = there(&rt, FRAME.get(..17));
     let found = [
         heard(&rt, alloc, &[FRAME], 1, 99),
-        heard(&rt, alloc, &[FRAME], 51, 99),
+        heard(&rt, alloc, &[FRAME], 67, 99),
         heard(&rt, alloc, &[FRAME, FRAME], 4_096, 99),
         heard(&rt, alloc, &[front], 4_096, 99),
         heard(&rt, alloc, &[FRAME], 4_096, 0),
@@ -226,9 +227,9 @@ fn faulty_frames_enter_nothing(rt: HostRuntime) {
     let alloc = rt.alloc();
     refuse(&rt, alloc, b"\xa6", Fault::BadMark);
     refuse(&rt, alloc, b"\xa7\x09", Fault::BadVersion);
-    refuse(&rt, alloc, b"\xa7\x02\x00\x00\x00\x00", Fault::BadLength);
-    refuse(&rt, alloc, b"\xa7\x02\x00\x00\xff\xfb", Fault::BadLength);
-    let unknown = b"\xa7\x02\x00\x00\x00\x01\x55";
+    refuse(&rt, alloc, b"\xa7\x03\x00\x00\x00\x00", Fault::BadLength);
+    refuse(&rt, alloc, b"\xa7\x03\x00\x00\xff\xfb", Fault::BadLength);
+    let unknown = b"\xa7\x03\x00\x00\x00\x01\x55";
     refuse(&rt, alloc, unknown, Fault::UnknownKind(0x55));
     refuse(&rt, alloc, DELTA_DESCENDING, Fault::Malformed(3));
 }
@@ -236,7 +237,10 @@ fn faulty_frames_enter_nothing(rt: HostRuntime) {
 /// The flag true under k, the first write of an owner.
 fn write_of(rt: &impl Abort, alloc: Global, owner: &[u8]) -> Block {
     let entry = Entry::new(key(rt, b"k"), 1, Slot::Set(Value::flag(true)));
-    got(rt, Block::new(name(rt, owner), 0, one(rt, alloc, entry)))
+    got(
+        rt,
+        Block::new(name(rt, owner), 0, 0, 1, one(rt, alloc, entry)),
+    )
 }
 
 /// One write of each of so many owners, in the order of their names.
@@ -296,10 +300,10 @@ fn node_of_writes(rt: &impl Abort, alloc: Global, owners: u64) -> NodeCore {
 fn each_owner_is_told_of_in_turn(rt: HostRuntime) {
     let mut session = Session::new(name(&rt, b"c1"), name(&rt, b"a"));
     let mut core = node_of_writes(&rt, rt.alloc(), 1_023);
-    // 72 owners in the first digest, 71 in each of the next 13, and 29 in the last; then all once more.
+    // 33 owners in each of the first 31 digests, and one in the last; then all once more.
     let found = [
         asked_in_turn(&rt, &mut core, &mut session),
         asked_in_turn(&rt, &mut core, &mut session),
     ];
-    same(&rt, &found, &[Some((15, 1_024)), Some((15, 1_024))]);
+    same(&rt, &found, &[Some((32, 1_024)), Some((32, 1_024))]);
 }

@@ -17,7 +17,7 @@ use std::sync::ledger::{Blank, Ledger};
 
 /// The row of the weight 5 that a wrote under w, and no more.
 pub(crate) const ROWS: &[u8] =
-    b"\xa7\x02\x00\x00\x00\x19\x11\x00\x00\x01\x01a\x01w\x00\x00\x00\x00\x00\x00\x00\x01\x02\x00\x00\x00\x00\x00\x00\x00\x05";
+    b"\xa7\x03\x00\x00\x00\x19\x11\x00\x00\x01\x01a\x01w\x00\x00\x00\x00\x00\x00\x00\x01\x02\x00\x00\x00\x00\x00\x00\x00\x05";
 
 /// A write that takes so many bytes, and then none.
 #[derive(Drop)]
@@ -148,7 +148,7 @@ fn ends_with(rt: &impl Abort, alloc: Global, held: &[u8], max_reads: u64, fault:
 #[test]
 fn no_whole_answer_is_a_fault(rt: HostRuntime) {
     let alloc = rt.alloc();
-    let unknown = b"\xa7\x02\x00\x00\x00\x01\x55";
+    let unknown = b"\xa7\x03\x00\x00\x00\x01\x55";
     ends_with(&rt, alloc, b"", 1, Fault::Truncated);
     ends_with(&rt, alloc, &DONE[..14], 2, Fault::Truncated);
     ends_with(&rt, alloc, &DONE, 0, Fault::TurnsSpent);

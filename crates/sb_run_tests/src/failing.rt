@@ -15,7 +15,7 @@ use std::sync::Wait;
 const READS_MOST: u64 = 64;
 
 /// Done, with the version 16.
-const DONE_16: &[u8] = b"\xa7\x02\x00\x00\x00\x09\x13\x00\x00\x00\x00\x00\x00\x00\x10";
+const DONE_16: &[u8] = b"\xa7\x03\x00\x00\x00\x09\x13\x00\x00\x00\x00\x00\x00\x00\x10";
 
 /// A writer that takes a byte a write, and is closed once it has taken so many.
 fn closing(left: usize) -> Closing {

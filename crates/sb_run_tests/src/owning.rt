@@ -13,7 +13,7 @@ use std::process::Abort;
 use std::sync::Wait;
 
 /// The answer to a Bye, which has no place here: Refused, with the number 13.
-const UNKNOWN: &[u8] = b"\xa7\x02\x00\x00\x00\x02\x14\x0d";
+const UNKNOWN: &[u8] = b"\xa7\x03\x00\x00\x00\x02\x14\x0d";
 
 #[test]
 fn requests_are_answered(rt: HostRuntime) {

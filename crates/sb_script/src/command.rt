@@ -68,6 +68,9 @@ impl Command {
             Line::Crash { write, is_kept } => Ok(Command::Step(write.crash(alloc, is_kept)?)),
             Line::Write { write } => Command::of_write(alloc, &write),
             Line::Take { node } => Ok(Command::Step(Event::Take(Name::read(node)?))),
+            Line::Purge { node, floor } => {
+                Ok(Command::Step(Event::Purge(Name::read(node)?, floor)))
+            }
             Line::Restart { node } => Ok(Command::Step(Event::Restart(Name::read(node)?))),
             Line::Connect { node, connection } => {
                 Ok(Command::Step(Event::Connect(Name::read(node)?, connection)))

@@ -9,7 +9,7 @@ use crate::print::Text;
 use crate::sim::Detail;
 use crate::words::words_of;
 use sb_codec::Message;
-use sb_digest::Digest;
+use sb_digest::{Digest, Pair};
 use sb_frames::Frames;
 use sb_log::PlainLog;
 use sb_types::{Block, Delta, Entry, Fault, Name, Slot};
@@ -38,13 +38,22 @@ fn add_entry(words: &mut String, owner: &Name, entry: &Entry) -> Result<(), Faul
     }
 }
 
-fn add_block(words: &mut String, block: &Block) -> Result<(), Fault> {
+/// Adds the head of a block, and its floor where it has one.
+fn add_head(words: &mut String, block: &Block) -> Result<(), Fault> {
     let owner = Text(block.owner().bytes());
+    match block.floor() {
+        0 => add(words, format_args!("    block of {owner}")),
+        floor => add(words, format_args!("    block of {owner}, floor {floor}")),
+    }
+}
+
+fn add_block(words: &mut String, block: &Block) -> Result<(), Fault> {
+    add_head(words, block)?;
     let entries = block.entries();
     add(
         words,
         format_args!(
-            "    block of {owner}, after {}, upto {}, entries {}\n",
+            ", after {}, upto {}, entries {}\n",
             block.after(),
             block.upto(),
             entries.len()
@@ -78,6 +87,19 @@ fn add_bound(
     }
 }
 
+/// Adds how far an owner is held, and of which floor its stage is and how far that has come, where there is one.
+fn add_pair(words: &mut String, pair: &Pair) -> Result<(), Fault> {
+    let owner = Text(pair.owner.bytes());
+    let (upto, floor, progress) = (pair.upto, pair.staged_floor, pair.progress);
+    if floor == 0 && progress == 0 {
+        return add(words, format_args!("    {owner} upto {upto}\n"));
+    }
+    add(
+        words,
+        format_args!("    {owner} upto {upto}, stage of floor {floor} up to {progress}\n"),
+    )
+}
+
 fn add_digest(words: &mut String, digest: &Digest) -> Result<(), Fault> {
     add(
         words,
@@ -92,8 +114,7 @@ fn add_digest(words: &mut String, digest: &Digest) -> Result<(), Fault> {
     let pairs = digest.pairs();
     add(words, format_args!(", pairs {}\n", pairs.len()))?;
     for pair in pairs {
-        let owner = Text(pair.owner.bytes());
-        add(words, format_args!("    {owner} upto {}\n", pair.upto))?;
+        add_pair(words, pair)?;
     }
     Ok(())
 }

@@ -22,6 +22,11 @@ pub(crate) enum Line<'a> {
     Take {
         node: &'a [u8],
     },
+    /// `purge N F`: the log of node N lets go of its removals up to the version F, and the node goes down.
+    Purge {
+        node: &'a [u8],
+        floor: u64,
+    },
     /// `restart N`
     Restart {
         node: &'a [u8],
@@ -128,6 +133,10 @@ fn parse_connection<'a>(words: &[&'a [u8]]) -> Option<Line<'a>> {
 fn parse_node<'a>(words: &[&'a [u8]]) -> Option<Line<'a>> {
     match *words {
         [b"take", node] => Some(Line::Take { node }),
+        [b"purge", node, floor] => Some(Line::Purge {
+            node,
+            floor: number_of(floor)?,
+        }),
         [b"restart", node] => Some(Line::Restart { node }),
         [b"offer", node, owner, after] => Some(Line::Offer {
             node,

@@ -193,6 +193,7 @@ impl fmt::Display for AnswerLines<'_> {
             Answer::Committed(version) => writeln!(f, "committed {version}"),
             Answer::Took(version) => writeln!(f, "took {version}"),
             Answer::Crashed => writeln!(f, "crashed"),
+            Answer::Purged(floor) => writeln!(f, "purged {floor}"),
             Answer::Restarted(version) => writeln!(f, "restarted {version}"),
             Answer::Sent(number) => writeln!(f, "frame {number}"),
             Answer::Shut => writeln!(f, "closed"),

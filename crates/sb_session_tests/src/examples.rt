@@ -24,8 +24,8 @@ fn have_come(alloc: Global, first: &[u8], second: &[u8]) -> Result<[bool; 2], Fa
 #[test]
 fn example_of_sb_frames(rt: HostRuntime) {
     let frame = got(&rt, bye_frame(rt.alloc()));
-    let (first, second) = (b"\xa7\x02\x00\x00", b"\x00\x02\x04\x01");
-    let whole = b"\xa7\x02\x00\x00\x00\x02\x04\x01";
+    let (first, second) = (b"\xa7\x03\x00\x00", b"\x00\x02\x04\x01");
+    let whole = b"\xa7\x03\x00\x00\x00\x02\x04\x01";
     same(&rt, &frame.as_slice(), &whole.as_slice());
     let have_come = got(&rt, have_come(rt.alloc(), first, second));
     same(&rt, &have_come, &[false, true]);

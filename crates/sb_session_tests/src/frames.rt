@@ -14,7 +14,7 @@ use std::process::Abort;
 pub(crate) const FRAME: &[u8] = &DELTA_A;
 
 /// Hello of a node of a cluster whose name has 33 bytes.
-const LONG_CLUSTER: &[u8] = b"\xa7\x02\x00\x00\x00\x25\x01\
+const LONG_CLUSTER: &[u8] = b"\xa7\x03\x00\x00\x00\x25\x01\
     \x21abcdefghijklmnopqrstuvwxyz-012345\x01a";
 
 /// Takes a few bytes in each write, and fails once it has no room. Before each of them it is interrupted so often.
@@ -133,7 +133,7 @@ fn block(rt: &impl Abort, alloc: Global) -> Block {
     let (key, weight) = (got(rt, Key::read(b"w")), got(rt, Value::weight(5)));
     let entry = Entry::new(key, 1, Slot::Set(weight));
     let entries = got(rt, vec![in alloc; entry]);
-    got(rt, Block::new(name(rt, b"a"), 0, entries))
+    got(rt, Block::new(name(rt, b"a"), 0, 0, 1, entries))
 }
 
 /// The message that `FRAME` spells.
@@ -181,7 +181,7 @@ fn count_in_bytes(rt: &impl Abort, alloc: Global, frames: &mut Frames) -> [usize
 
 /// How many messages come behind the front of `FRAME`, its last byte, two of it at once, and nothing.
 fn count_in_pieces(rt: &impl Abort, alloc: Global, frames: &mut Frames) -> [usize; 4] {
-    let (front, last) = FRAME.split_at(39);
+    let (front, last) = FRAME.split_at(55);
     [
         count_behind(rt, alloc, frames, front),
         count_behind(rt, alloc, frames, last),
@@ -193,7 +193,7 @@ fn count_in_pieces(rt: &impl Abort, alloc: Global, frames: &mut Frames) -> [usiz
 #[test]
 fn a_frame_in_any_pieces(rt: HostRuntime) {
     let alloc = rt.alloc();
-    same(&rt, &FRAME.len(), &40);
+    same(&rt, &FRAME.len(), &56);
     let mut frames = Frames::new(alloc);
     same(&rt, &count_in_bytes(&rt, alloc, &mut frames), &[0, 1]);
     let found = count_in_pieces(&rt, alloc, &mut frames);
@@ -220,8 +220,8 @@ fn what_was_not_handed_out_is_held(rt: HostRuntime) {
     feed(&rt, &mut frames, FRAME);
     feed(&rt, &mut frames, FRAME);
     feed(&rt, &mut frames, &FRAME[..17]);
-    is_held(&rt, &mut frames, 97, true);
-    is_held(&rt, &mut frames, 57, true);
+    is_held(&rt, &mut frames, 129, true);
+    is_held(&rt, &mut frames, 73, true);
     is_held(&rt, &mut frames, 17, false);
     let wanted = (Err(Fault::Truncated), Some(Fault::Malformed(3)), 0);
     same(&rt, &broken_off(&rt, &mut frames), &wanted);
@@ -253,7 +253,8 @@ fn is_digest(message: Message) -> bool {
         return false;
     };
     let is_whole = digest.from().is_none() && digest.until().is_none();
-    digest.want() && is_whole && pair.owner.bytes() == b"a".as_slice() && pair.upto == 0
+    let is_new = [pair.upto, pair.staged_floor, pair.progress] == [0, 0, 0];
+    digest.want() && is_whole && pair.owner.bytes() == b"a".as_slice() && is_new
 }
 
 /// Whether it is the Bye that `BYE` spells.
@@ -283,7 +284,7 @@ fn is_spelled(rt: &impl Abort, alloc: Global, message: Message, frame: &[u8]) {
 #[test]
 fn frames_of_other_kinds(rt: HostRuntime) {
     let alloc = rt.alloc();
-    same(&rt, &DIGEST_A.len(), &22);
+    same(&rt, &DIGEST_A.len(), &38);
     is_spelled(&rt, alloc, hello(&rt), HELLO_A);
     is_spelled(&rt, alloc, read(&rt, alloc, DIGEST_A), DIGEST_A);
     is_spelled(&rt, alloc, bye(&rt), BYE);
@@ -306,12 +307,13 @@ fn closes(rt: &impl Abort, alloc: Global, bytes: &[u8], fault: Fault) {
 #[test]
 fn faulty_frames_close(rt: HostRuntime) {
     let alloc = rt.alloc();
-    let unknown = b"\xa7\x02\x00\x00\x00\x01\x55";
+    let unknown = b"\xa7\x03\x00\x00\x00\x01\x55";
     closes(&rt, alloc, b"\xa6", Fault::BadMark);
     closes(&rt, alloc, b"\xa7\x01", Fault::BadVersion);
+    closes(&rt, alloc, b"\xa7\x02", Fault::BadVersion);
     closes(&rt, alloc, b"\xa7\x09", Fault::BadVersion);
-    closes(&rt, alloc, b"\xa7\x02\x00\x00\x00\x00", Fault::BadLength);
-    closes(&rt, alloc, b"\xa7\x02\x00\x00\xff\xfb", Fault::BadLength);
+    closes(&rt, alloc, b"\xa7\x03\x00\x00\x00\x00", Fault::BadLength);
+    closes(&rt, alloc, b"\xa7\x03\x00\x00\xff\xfb", Fault::BadLength);
     closes(&rt, alloc, unknown, Fault::UnknownKind(0x55));
     closes(&rt, alloc, DELTA_DESCENDING, Fault::Malformed(3));
     closes(&rt, alloc, LONG_CLUSTER, Fault::Malformed(1));
@@ -392,8 +394,8 @@ fn is_told(
 fn what_the_last_write_answered(rt: HostRuntime) {
     let alloc = rt.alloc();
     let message = message(&rt, alloc);
-    is_told(&rt, alloc, &message, 40, Ok(()));
-    is_told(&rt, alloc, &message, 39, Err(Fault::WriteFailed(39)));
+    is_told(&rt, alloc, &message, 56, Ok(()));
+    is_told(&rt, alloc, &message, 55, Err(Fault::WriteFailed(55)));
     is_told(&rt, alloc, &message, 0, Err(Fault::WriteFailed(0)));
 }
 
@@ -451,7 +453,7 @@ fn the_greatest_frame_is_interrupted(rt: HostRuntime) {
     goes_out_interrupted(&rt, alloc, &frame, (4_096, 1_000));
 }
 
-/// Takes 20 bytes a write, but for one, which fails; and counts the writes.
+/// Takes 28 bytes a write, but for one, which fails; and counts the writes.
 #[derive(Drop)]
 struct Broken {
     fails_at: u32,
@@ -464,7 +466,7 @@ impl Write for Broken {
         if self.writes == self.fails_at {
             return Err(ErrorKind::BrokenPipe.into());
         }
-        Ok(buf.len().min(20))
+        Ok(buf.len().min(28))
     }
 
     fn flush(&mut self) -> io::Result<()> {
@@ -488,7 +490,7 @@ fn a_failed_write_is_the_last(rt: HostRuntime) {
     let alloc = rt.alloc();
     let message = message(&rt, alloc);
     let first = (Err(Fault::WriteFailed(0)), 1);
-    let second = (Err(Fault::WriteFailed(20)), 2);
+    let second = (Err(Fault::WriteFailed(28)), 2);
     same(&rt, &sent_broken(alloc, &message, 1), &first);
     same(&rt, &sent_broken(alloc, &message, 2), &second);
     same(&rt, &sent_broken(alloc, &message, 3), &(Ok(()), 2));
@@ -498,7 +500,7 @@ fn a_failed_write_is_the_last(rt: HostRuntime) {
 #[test]
 fn the_example_of_frames(rt: HostRuntime) {
     let mut frames = Frames::new(rt.alloc());
-    feed(&rt, &mut frames, b"\xa7\x02\x00\x00\x00");
+    feed(&rt, &mut frames, b"\xa7\x03\x00\x00\x00");
     same(&rt, &has_next(&rt, &mut frames), &false);
     feed(&rt, &mut frames, b"\x02\x04\x01");
     same(&rt, &is_bye(next(&rt, &mut frames)), &true);

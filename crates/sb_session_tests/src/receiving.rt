@@ -14,7 +14,7 @@ use std::process::Abort;
 use std::sync::ledger::{Blank, Ledger};
 
 /// Bye, since the rounds are done, twice.
-const BYES: &[u8] = b"\xa7\x02\x00\x00\x00\x02\x04\x01\xa7\x02\x00\x00\x00\x02\x04\x01";
+const BYES: &[u8] = b"\xa7\x03\x00\x00\x00\x02\x04\x01\xa7\x03\x00\x00\x00\x02\x04\x01";
 
 /// How many Byes come, and what then: another message, which is no Bye, or the end, or a fault.
 type Received = (usize, Result<Option<bool>, Fault>);
@@ -166,7 +166,7 @@ fn readers_that_give_out(rt: HostRuntime) {
     gives_out(&rt, alloc, (16, true), 9, (2, Fault::ReadFailed));
     gives_out(&rt, alloc, (12, true), 9, (1, Fault::ReadFailed));
     is_faulty(&rt, alloc, b"\xa6", Fault::BadMark);
-    let unknown = b"\xa7\x02\x00\x00\x00\x01\x55";
+    let unknown = b"\xa7\x03\x00\x00\x00\x01\x55";
     is_faulty(&rt, alloc, unknown, Fault::UnknownKind(0x55));
     // A delta that does not come whole, and one that may not be read.
     is_faulty(&rt, alloc, &FRAME[..17], Fault::Truncated);

@@ -17,10 +17,10 @@ use std::alloc::Global;
 use std::process::Abort;
 
 /// Hello of a node a of the cluster c2.
-pub(crate) const HELLO_C2: &[u8] = b"\xa7\x02\x00\x00\x00\x06\x01\x02c2\x01a";
+pub(crate) const HELLO_C2: &[u8] = b"\xa7\x03\x00\x00\x00\x06\x01\x02c2\x01a";
 
 /// Rows, of which there are none.
-pub(crate) const ROWS: &[u8] = b"\xa7\x02\x00\x00\x00\x04\x11\x00\x00\x00";
+pub(crate) const ROWS: &[u8] = b"\xa7\x03\x00\x00\x00\x04\x11\x00\x00\x00";
 
 /// What a node holds, told and taken up without an order and a budget of deltas, in so many calls.
 #[derive(Drop)]
@@ -30,13 +30,13 @@ pub(crate) struct Node {
     pub(crate) holdings: Holdings,
 }
 
-/// What stands in an owner's table above a version.
+/// What stands in an owner's table above a version, up to what is held.
 fn block_above(alloc: Global, owner: Name, table: &Table, after: u64) -> Result<Block, Fault> {
     let mut entries = Vec::new(alloc);
     for entry in table.after(after) {
         entries.push(entry.copy(alloc)?)?;
     }
-    Block::new(owner, after, entries)
+    Block::new(owner, table.floor(), after, table.upto(), entries)
 }
 
 /// The table of one that wrote nothing, or the flag true under w.
@@ -79,7 +79,7 @@ impl Node {
     fn lacking(&self, theirs: &Digest) -> Result<Delta, Fault> {
         let mut blocks = Vec::new(self.alloc);
         for (owner, table) in self.holdings.tables_from(None) {
-            let number = theirs.number(owner);
+            let number = theirs.number(owner, table.floor());
             if !theirs.covers(owner) || table.upto() <= number {
                 continue;
             }

@@ -194,8 +194,8 @@ const SERVED: Course<'static> = Course {
     heard: [HELLO_A, DIGEST_A, BYE],
     written: &[HELLO_B, DELTA_B, DIGEST_B],
     early: 12,
-    turn: 34,
-    late: 67,
+    turn: 50,
+    late: 99,
     ended: Ended::Bye(1),
 };
 
@@ -205,9 +205,9 @@ const DIALED: Course<'static> = Course {
     rounds: Some(1),
     heard: [HELLO_B, DELTA_B, DIGEST_B],
     written: &[HELLO_A, DIGEST_A, DELTA_NONE, BYE],
-    early: 34,
-    turn: 67,
-    late: 51,
+    early: 50,
+    turn: 99,
+    late: 67,
     ended: Ended::RoundsDone,
 };
 
@@ -257,7 +257,7 @@ fn ends_in_pieces(rt: &impl Abort, alloc: Global, course: &Course<'_>, piece: us
 fn ends_in_any_pieces(rt: &impl Abort, alloc: Global, course: &Course<'_>) {
     ends_in_pieces(rt, alloc, course, 1);
     ends_in_pieces(rt, alloc, course, 7);
-    ends_in_pieces(rt, alloc, course, 42);
+    ends_in_pieces(rt, alloc, course, 58);
     ends_in_pieces(rt, alloc, course, 4_096);
 }
 
@@ -308,15 +308,15 @@ fn unread(rt: &impl Abort, alloc: Global, course: &Course<'_>, room: usize) -> u
     reader.bytes.len()
 }
 
-/// A Hello that fails is behind no read; the delta for the digest, whose last byte is the 34th, behind five of seven bytes.
+/// A Hello that fails is behind no read; the delta for the digest, whose last byte is the 50th, behind eight of seven bytes.
 #[test]
 fn nothing_is_read_behind_a_failed_write(rt: HostRuntime) {
     let alloc = rt.alloc();
-    same(&rt, &unread(&rt, alloc, &SERVED, 0), &42);
-    same(&rt, &unread(&rt, alloc, &SERVED, 11), &42);
-    same(&rt, &unread(&rt, alloc, &SERVED, 12), &7);
-    same(&rt, &unread(&rt, alloc, &SERVED, 44), &7);
-    same(&rt, &unread(&rt, alloc, &DIALED, 12), &67);
+    same(&rt, &unread(&rt, alloc, &SERVED, 0), &58);
+    same(&rt, &unread(&rt, alloc, &SERVED, 11), &58);
+    same(&rt, &unread(&rt, alloc, &SERVED, 12), &2);
+    same(&rt, &unread(&rt, alloc, &SERVED, 60), &2);
+    same(&rt, &unread(&rt, alloc, &DIALED, 12), &99);
 }
 
 /// How many bytes of its piece stand before the byte at a place, of pieces that stand one after the other.
@@ -452,10 +452,10 @@ fn serving_fails(rt: &impl Abort, alloc: Global, course: &Course<'_>) {
 /// The same of one that dials.
 fn dialing_fails(rt: &impl Abort, alloc: Global, course: &Course<'_>) {
     is_told_everywhere(rt, alloc, course);
-    is_spent(rt, alloc, course, (3, 9), 34);
+    is_spent(rt, alloc, course, (3, 9), 50);
     is_spent(rt, alloc, course, (99, 0), 12);
-    is_spent(rt, alloc, course, (99, 1), 34);
-    is_spent(rt, alloc, course, (99, 2), 34);
+    is_spent(rt, alloc, course, (99, 1), 50);
+    is_spent(rt, alloc, course, (99, 2), 50);
 }
 
 #[test]
@@ -508,10 +508,10 @@ fn the_other_end_asks(rt: HostRuntime) {
     no_round_is_asked(&rt, alloc);
     let pieces = [HELLO_A, DIGEST_A, DELTA_NONE, BYE];
     let found = learn_of_one(&rt, alloc, 1, &pieces);
-    same(&rt, &found, &(Ok(Ended::RoundsDone), true, 51, 1));
+    same(&rt, &found, &(Ok(Ended::RoundsDone), true, 67, 1));
     // A second round asks again, and the peer's bytes end.
     let (ended, _, written, _) = learn_of_one(&rt, alloc, 2, &[]);
-    same(&rt, &(ended, written), &(Ok(Ended::End), 12 + 22 + 9 + 32));
+    same(&rt, &(ended, written), &(Ok(Ended::End), 12 + 38 + 9 + 64));
 }
 
 /// How a talk ends, how many bytes it wrote, and how far the other owner is then held.
@@ -549,7 +549,7 @@ fn endings_of(rt: &impl Abort, alloc: Global, pieces: &[&[u8]]) -> [Ending; 2] {
 
 /// The talks with one that says these pieces end with this fault, and nothing is learned.
 fn ends_with(rt: &impl Abort, alloc: Global, pieces: &[&[u8]], fault: Fault) {
-    let wanted = [(Err(fault), 12, 0), (Err(fault), 34, 0)];
+    let wanted = [(Err(fault), 12, 0), (Err(fault), 50, 0)];
     same_at(rt, &pieces, &endings_of(rt, alloc, pieces), &wanted);
 }
 
@@ -583,11 +583,11 @@ fn messages_end(rt: &impl Abort, alloc: Global) {
 
 /// Bytes that are no frame end the talks.
 fn bytes_end(rt: &impl Abort, alloc: Global) {
-    let no_length = b"\xa7\x02\x00\x00\x00\x00";
-    let no_kind = b"\xa7\x02\x00\x00\x00\x01\x55";
-    let no_reason = b"\xa7\x02\x00\x00\x00\x02\x04\x06";
+    let no_length = b"\xa7\x03\x00\x00\x00\x00";
+    let no_kind = b"\xa7\x03\x00\x00\x00\x01\x55";
+    let no_reason = b"\xa7\x03\x00\x00\x00\x02\x04\x06";
     ends_with(rt, alloc, &[b"\xa6"], Fault::BadMark);
-    ends_with(rt, alloc, &[HELLO_A, b"\xa7\x09"], Fault::BadVersion);
+    ends_with(rt, alloc, &[HELLO_A, b"\xa7\x02"], Fault::BadVersion);
     ends_with(rt, alloc, &[HELLO_A, no_length], Fault::BadLength);
     ends_with(rt, alloc, &[no_kind], Fault::UnknownKind(0x55));
     ends_with(rt, alloc, &[HELLO_A, no_reason], Fault::Malformed(4));
@@ -616,7 +616,7 @@ fn a_flood_before_hello_is_not_taken(rt: HostRuntime) {
     let input = flood(&rt, rt.alloc());
     let fault = Err(Fault::NoHello);
     let found = endings(&rt, rt.alloc(), b"a", (&input, 7), b"b");
-    same(&rt, &found, &[(fault, 12, 0), (fault, 34, 0)]);
+    same(&rt, &found, &[(fault, 12, 0), (fault, 50, 0)]);
 }
 
 /// Hello of a, the greatest frame, and Bye.
@@ -630,7 +630,7 @@ fn the_greatest_frame_is_taken(rt: HostRuntime) {
     let input = greatest_talk(&rt, rt.alloc());
     same(&rt, &input.len(), &(12 + 65_536 + 8));
     let [served, dialed] = endings(&rt, rt.alloc(), b"b", (&input, 4_099), b"a");
-    let whole = (Ok(Ended::Bye(1)), 1_311);
+    let whole = (Ok(Ended::Bye(1)), 1_310);
     same(&rt, &(served.0, served.2), &whole);
     same(&rt, &(dialed.0, dialed.2), &whole);
 }

@@ -26,18 +26,17 @@ fn add_entry(rt: &impl Abort, alloc: Global, frame: &mut Vec<u8>, version: u64) 
     add(rt, frame, b"\x02\x00\x00\x00\x00\x00\x00\x00\x05");
 }
 
-/// A frame of 65,536 bytes: a delta of 1,310 entries of 50 bytes and one of 15, behind 15 of its payload.
+/// A frame of 65,536 bytes: a delta of 1,309 entries of 50 bytes and one of 49, behind 31 of its payload.
 pub(crate) fn greatest_frame(rt: &impl Abort, alloc: Global) -> Vec<u8> {
     let mut frame = Vec::new(alloc);
-    add(rt, &mut frame, b"\xa7\x02\x00\x00\xff\xfa\x03\x00\x01\x01a");
-    add(rt, &mut frame, b"\x00\x00\x00\x00\x00\x00\x00\x00\x05\x1f");
-    for version in 1..=1_310u64 {
+    add(rt, &mut frame, b"\xa7\x03\x00\x00\xff\xfa\x03\x00\x01\x01a");
+    add(rt, &mut frame, &[0; 16]);
+    add(rt, &mut frame, b"\x00\x00\x00\x00\x00\x00\x05\x1e\x05\x1e");
+    for version in 1..=1_309u64 {
         add_entry(rt, alloc, &mut frame, version);
     }
-    add(
-        rt,
-        &mut frame,
-        b"\x05zzzzz\x00\x00\x00\x00\x00\x00\x05\x1f\x00",
-    );
+    add(rt, &mut frame, b"\x27");
+    add(rt, &mut frame, &[b'z'; 39]);
+    add(rt, &mut frame, b"\x00\x00\x00\x00\x00\x00\x05\x1e\x00");
     frame
 }

@@ -1,6 +1,12 @@
 //! Payloads by hand, the greatest of each kind, and what is no payload.
 ghost use Rattle.std.specs.Prelude.{◌≤◌};
 
+use crate::words::{
+    ASK, ASK_BEHIND, BELOW_ITS_FLOOR, BYE, DIGEST, DIGEST_OF_A_RANGE, DONE, EVERY_SLOT,
+    GREATEST_HEAD, GREATEST_NUMBERS, HELLO, LAST_ENTRY, LAST_ROW, LONGEST_ASK, LONGEST_ENTRY,
+    LONGEST_HELLO, LONGEST_PUT, LONGEST_ROW, NO_BLOCK, NO_ENTRY, ONE_ENTRY, ONE_TEXT, PUT,
+    PUT_OF_A_REMOVAL, REFUSED, ROWS, UP_TO_ITS_FLOOR, WRONG,
+};
 use crate::{entry, got, holds, key, name, one, push, refusal, same, same_at, weighing, weight};
 use bytes::Bytes;
 use sb_codec::{
@@ -11,172 +17,6 @@ use sb_digest::{Digest, Pair};
 use sb_types::{Block, Delta, Entry, Fault, KIND_DELTA, Key, Name, Prefix, Slot, Value, Write};
 use std::alloc::{AllocError, Global};
 use std::process::Abort;
-
-/// One block of the owner a, after 0, with the weight 5 under w as version 1.
-const ONE_ENTRY: &str =
-    "03 0001 0161 0000000000000000 0001 0177 0000000000000001 02 0000000000000005";
-
-/// The same with the text of h and the two bytes of an e with an accent, under t.
-const ONE_TEXT: &str = "03 0001 0161 0000000000000000 0001 0174 0000000000000001 04 0003 68c3a9";
-
-const NO_BLOCK: &str = "03 0000";
-
-const EVERY_SLOT: &str = "03 0001 026e31 0000000000000000 0005 \
-    0161 0000000000000001 00 \
-    0162 0000000000000002 01 03683a31 \
-    0163 0000000000000003 03 00 \
-    0164 0000000000000104 03 01 \
-    0165 0000000000000105 04 0003 68c3a9";
-
-const HELLO: &str = "01 02 63 31 01 61";
-
-/// Of a node a that holds only itself, an answer wanted.
-const DIGEST: &str = "02 01 00 00 0001 01 61 0000000000000000";
-
-const DIGEST_OF_A_RANGE: &str = "02 00 0162 0164 0002 0162 0000000000000005 0163 0000000000000007";
-
-const BYE: &str = "04 01";
-
-const ASK: &str = "10 00 00 00 00";
-
-/// For the keys of a that begin with w/, behind its key w.
-const ASK_BEHIND: &str = "10 0161 02772f 0161 0177";
-
-const ROWS: &str = "11 00 0001 01 61 01 77 0000000000000001 02 0000000000000005";
-
-const PUT: &str = "12 01 77 02 0000000000000005";
-
-const PUT_OF_A_REMOVAL: &str = "12 01 77 00";
-
-const DONE: &str = "13 0000000000000001";
-
-const REFUSED: &str = "14 0d";
-
-// The longest of their kinds: names of 32 bytes, keys of 64, and a text of 512.
-
-const LONGEST_HELLO: &str = "01 \
-    20 6161616161616161616161616161616161616161616161616161616161616161 \
-    20 6161616161616161616161616161616161616161616161616161616161616161";
-
-const LONGEST_ASK: &str = "10 \
-    20 6161616161616161616161616161616161616161616161616161616161616161 \
-    40 6b6b6b6b6b6b6b6b6b6b6b6b6b6b6b6b6b6b6b6b6b6b6b6b6b6b6b6b6b6b6b6b6b6b6b6b6b6b6b6b6b6b6b6b6b6b6b6b6b6b6b6b6b6b6b6b6b6b6b6b6b6b6b6b \
-    20 6161616161616161616161616161616161616161616161616161616161616161 \
-    40 6b6b6b6b6b6b6b6b6b6b6b6b6b6b6b6b6b6b6b6b6b6b6b6b6b6b6b6b6b6b6b6b6b6b6b6b6b6b6b6b6b6b6b6b6b6b6b6b6b6b6b6b6b6b6b6b6b6b6b6b6b6b6b6b";
-
-const LONGEST_ROW: &str = "11 00 0001 \
-    20 6161616161616161616161616161616161616161616161616161616161616161 \
-    40 6b6b6b6b6b6b6b6b6b6b6b6b6b6b6b6b6b6b6b6b6b6b6b6b6b6b6b6b6b6b6b6b6b6b6b6b6b6b6b6b6b6b6b6b6b6b6b6b6b6b6b6b6b6b6b6b6b6b6b6b6b6b6b6b \
-    0000000000000001 04 \
-    0200 68686868686868686868686868686868686868686868686868686868686868686868686868686868686868686868686868686868686868686868686868686868 \
-    68686868686868686868686868686868686868686868686868686868686868686868686868686868686868686868686868686868686868686868686868686868 \
-    68686868686868686868686868686868686868686868686868686868686868686868686868686868686868686868686868686868686868686868686868686868 \
-    68686868686868686868686868686868686868686868686868686868686868686868686868686868686868686868686868686868686868686868686868686868 \
-    68686868686868686868686868686868686868686868686868686868686868686868686868686868686868686868686868686868686868686868686868686868 \
-    68686868686868686868686868686868686868686868686868686868686868686868686868686868686868686868686868686868686868686868686868686868 \
-    68686868686868686868686868686868686868686868686868686868686868686868686868686868686868686868686868686868686868686868686868686868 \
-    68686868686868686868686868686868686868686868686868686868686868686868686868686868686868686868686868686868686868686868686868686868";
-
-const LONGEST_PUT: &str = "12 \
-    40 6b6b6b6b6b6b6b6b6b6b6b6b6b6b6b6b6b6b6b6b6b6b6b6b6b6b6b6b6b6b6b6b6b6b6b6b6b6b6b6b6b6b6b6b6b6b6b6b6b6b6b6b6b6b6b6b6b6b6b6b6b6b6b6b \
-    04 \
-    0200 68686868686868686868686868686868686868686868686868686868686868686868686868686868686868686868686868686868686868686868686868686868 \
-    68686868686868686868686868686868686868686868686868686868686868686868686868686868686868686868686868686868686868686868686868686868 \
-    68686868686868686868686868686868686868686868686868686868686868686868686868686868686868686868686868686868686868686868686868686868 \
-    68686868686868686868686868686868686868686868686868686868686868686868686868686868686868686868686868686868686868686868686868686868 \
-    68686868686868686868686868686868686868686868686868686868686868686868686868686868686868686868686868686868686868686868686868686868 \
-    68686868686868686868686868686868686868686868686868686868686868686868686868686868686868686868686868686868686868686868686868686868 \
-    68686868686868686868686868686868686868686868686868686868686868686868686868686868686868686868686868686868686868686868686868686868 \
-    68686868686868686868686868686868686868686868686868686868686868686868686868686868686868686868686868686868686868686868686868686868";
-
-const LONGEST_ENTRY: &str = "03 0001 \
-    20 6161616161616161616161616161616161616161616161616161616161616161 \
-    0000000000000000 0001 \
-    40 6b6b6b6b6b6b6b6b6b6b6b6b6b6b6b6b6b6b6b6b6b6b6b6b6b6b6b6b6b6b6b6b6b6b6b6b6b6b6b6b6b6b6b6b6b6b6b6b6b6b6b6b6b6b6b6b6b6b6b6b6b6b6b6b \
-    0000000000000001 04 \
-    0200 68686868686868686868686868686868686868686868686868686868686868686868686868686868686868686868686868686868686868686868686868686868 \
-    68686868686868686868686868686868686868686868686868686868686868686868686868686868686868686868686868686868686868686868686868686868 \
-    68686868686868686868686868686868686868686868686868686868686868686868686868686868686868686868686868686868686868686868686868686868 \
-    68686868686868686868686868686868686868686868686868686868686868686868686868686868686868686868686868686868686868686868686868686868 \
-    68686868686868686868686868686868686868686868686868686868686868686868686868686868686868686868686868686868686868686868686868686868 \
-    68686868686868686868686868686868686868686868686868686868686868686868686868686868686868686868686868686868686868686868686868686868 \
-    68686868686868686868686868686868686868686868686868686868686868686868686868686868686868686868686868686868686868686868686868686868 \
-    68686868686868686868686868686868686868686868686868686868686868686868686868686868686868686868686868686868686868686868686868686868";
-
-/// Not one of these is a payload.
-const WRONG: &[&str] = &[
-    // no entry; versions 2, then 1; a first version that is not above after; a version of 0
-    "03 0001 0161 0000000000000000 0000",
-    "03 0001 0161 0000000000000000 0002 0176 0000000000000002 00 0177 0000000000000001 00",
-    "03 0001 0161 0000000000000001 0001 0177 0000000000000001 00",
-    "03 0001 0161 0000000000000000 0001 0177 0000000000000000 00",
-    // owners b, then a; a twice; a key twice
-    "03 0002 0162 0000000000000000 0001 0177 0000000000000001 00 0161 0000000000000000 0001 0177 0000000000000001 00",
-    "03 0002 0161 0000000000000000 0001 0177 0000000000000001 00 0161 0000000000000000 0001 0177 0000000000000001 00",
-    "03 0001 0161 0000000000000000 0002 0177 0000000000000001 00 0177 0000000000000002 00",
-    // the tag 5; an empty text; one that is no UTF-8; one that is cut short; a flag of 2; a weight of 2^63; an address with a space
-    "03 0001 0161 0000000000000000 0001 0177 0000000000000001 05 01",
-    "03 0001 0161 0000000000000000 0001 0177 0000000000000001 04 0000",
-    "03 0001 0161 0000000000000000 0001 0177 0000000000000001 04 0003 68ffa9",
-    "03 0001 0161 0000000000000000 0001 0177 0000000000000001 04 0004 68c3a9",
-    "03 0001 0161 0000000000000000 0001 0177 0000000000000001 03 02",
-    "03 0001 0161 0000000000000000 0001 0177 0000000000000001 02 8000000000000000",
-    "03 0001 0161 0000000000000000 0001 0177 0000000000000001 01 0120",
-    // a name with a capital; an empty key
-    "03 0001 0141 0000000000000000 0001 0177 0000000000000001 00",
-    "03 0001 0161 0000000000000000 0001 00 0000000000000001 00",
-    // one more byte; counts of what is not there
-    "03 0000 00",
-    "03 ffff",
-    "03 0001 0161 0000000000000000 ffff",
-    // a cluster of 33 bytes; no node; a node with a capital; one more byte
-    "01 21 616161616161616161616161616161616161616161616161616161616161616161 0161",
-    "01 026331",
-    "01 026331 0141",
-    "01 026331 0161 00",
-    // want 2; a pair at until; above it; below from; bounds that are equal; owners twice, descending; one more
-    // byte
-    "02 02 00 00 0000",
-    "02 00 00 0162 0001 0162 0000000000000000",
-    "02 00 00 0162 0001 0163 0000000000000000",
-    "02 00 0162 00 0001 0161 0000000000000000",
-    "02 00 0162 0162 0000",
-    "02 00 00 00 0002 0161 0000000000000000 0161 0000000000000000",
-    "02 00 00 00 0002 0162 0000000000000000 0161 0000000000000000",
-    "02 01 00 00 0001 0161 0000000000000000 00",
-    // the reasons 0 and 6; none; one more byte
-    "04 00",
-    "04 06",
-    "04",
-    "04 01 00",
-    // an owner with no key; a key with no owner; an owner, a prefix and a key with a capital; one more byte
-    "10 00 00 0161 00",
-    "10 00 00 00 0177",
-    "10 0141 00 00 00",
-    "10 00 0141 00 00",
-    "10 00 00 0161 0141",
-    "10 00 00 00 00 00",
-    // more is 2; a version of 0; the tag 0; owners b, then a; keys w, then v; w twice; one more byte
-    "11 02 0000",
-    "11 00 0001 0161 0177 0000000000000000 03 00",
-    "11 00 0001 0161 0177 0000000000000001 00",
-    "11 00 0002 0162 0177 0000000000000001 03 00 0161 0177 0000000000000001 03 00",
-    "11 00 0002 0161 0177 0000000000000001 03 00 0161 0176 0000000000000001 03 00",
-    "11 00 0002 0161 0177 0000000000000001 03 00 0161 0177 0000000000000002 03 00",
-    "11 00 0001 0161 0177 0000000000000001 02 0000000000000005 00",
-    // a flag of 2; an empty key; a text that is not there; one more byte
-    "12 0177 03 02",
-    "12 00 00",
-    "12 0177 04",
-    "12 0177 02 0000000000000005 00",
-    // the version 0; one more byte
-    "13 0000000000000000",
-    "13 0000000000000001 00",
-    // the numbers 0 and 32; one more byte
-    "14 00",
-    "14 20",
-    "14 0d 00",
-];
 
 /// The byte of two hexadecimal digits.
 fn byte_of(rt: &impl Abort, digits: &[u8]) -> u8 {
@@ -252,7 +92,7 @@ fn assert_payload(rt: &impl Abort, alloc: Global, message: Message, words: &str)
 
 fn one_block(rt: &impl Abort, alloc: Global) -> Result<Block, Fault> {
     let entries = vec![in alloc; weighing(rt, b"w", 1, 5)]?;
-    Block::new(name(rt, b"a"), 0, entries)
+    Block::new(name(rt, b"a"), 0, 0, 1, entries)
 }
 
 /// The message of `ONE_ENTRY`, unless memory ran out.
@@ -286,7 +126,28 @@ fn five_entries(rt: &impl Abort, alloc: Global) -> Vec<Entry> {
 
 fn every_slot(rt: &impl Abort, alloc: Global) -> Message {
     let entries = five_entries(rt, alloc);
-    let block = got(rt, Block::new(name(rt, b"n1"), 0, entries));
+    let block = got(rt, Block::new(name(rt, b"n1"), 0, 0, 261, entries));
+    delta(rt, one(rt, alloc, block))
+}
+
+/// A block of a without an entry.
+fn no_entry(rt: &impl Abort, alloc: Global, floor: u64, after: u64, upto: u64) -> Message {
+    let block = Block::new(name(rt, b"a"), floor, after, upto, Vec::new(alloc));
+    delta(rt, one(rt, alloc, got(rt, block)))
+}
+
+/// A block of a of the floor 3 and up to 3, with the weight 2 under y as version 2.
+fn up_to_its_floor(rt: &impl Abort, alloc: Global) -> Message {
+    let entries = one(rt, alloc, weighing(rt, b"y", 2, 2));
+    let block = got(rt, Block::new(name(rt, b"a"), 3, 0, 3, entries));
+    delta(rt, one(rt, alloc, block))
+}
+
+/// A block of a of the floor 5 and up to 3, with the weights 2 and 3 under y and z.
+fn below_its_floor(rt: &impl Abort, alloc: Global) -> Message {
+    let mut entries = one(rt, alloc, weighing(rt, b"y", 2, 2));
+    push(rt, &mut entries, weighing(rt, b"z", 3, 3));
+    let block = got(rt, Block::new(name(rt, b"a"), 5, 0, 3, entries));
     delta(rt, one(rt, alloc, block))
 }
 
@@ -295,18 +156,18 @@ fn hello(rt: &impl Abort) -> Message {
     Message::Hello(Hello { cluster, node })
 }
 
-fn pair(rt: &impl Abort, owner: &[u8], upto: u64) -> Pair {
-    let owner = name(rt, owner);
-    Pair { owner, upto }
+fn pair(rt: &impl Abort, owner: &[u8], upto: u64, staged: Option<(u64, u64)>) -> Pair {
+    Pair::new(name(rt, owner), upto, staged)
 }
 
 fn digest(rt: &impl Abort, alloc: Global) -> Message {
-    let pairs = one(rt, alloc, pair(rt, b"a", 0));
+    let pairs = one(rt, alloc, pair(rt, b"a", 0, None));
     Message::Digest(got(rt, Digest::new(true, None, None, pairs)))
 }
 
 fn digest_of_a_range(rt: &impl Abort, alloc: Global) -> Message {
-    let pairs = got(rt, vec![in alloc; pair(rt, b"b", 5), pair(rt, b"c", 7)]);
+    let staged = pair(rt, b"c", 7, Some((9, 8)));
+    let pairs = got(rt, vec![in alloc; pair(rt, b"b", 5, None), staged]);
     let (from, until) = (Some(name(rt, b"b")), Some(name(rt, b"d")));
     Message::Digest(got(rt, Digest::new(false, from, until, pairs)))
 }
@@ -375,10 +236,20 @@ fn assert_client_payloads(rt: &impl Abort, alloc: Global) {
     assert_payload(rt, alloc, refused(rt, 13), REFUSED);
 }
 
+/// Blocks with a floor, above what they reach too, that reach further than their last entry, and that have none.
+fn assert_floored_payloads(rt: &impl Abort, alloc: Global) {
+    assert_payload(rt, alloc, up_to_its_floor(rt, alloc), UP_TO_ITS_FLOOR);
+    assert_payload(rt, alloc, below_its_floor(rt, alloc), BELOW_ITS_FLOOR);
+    assert_payload(rt, alloc, no_entry(rt, alloc, 2, 0, 2), NO_ENTRY);
+    let greatest = no_entry(rt, alloc, u64::MAX, u64::MAX - 1, u64::MAX);
+    assert_payload(rt, alloc, greatest, GREATEST_NUMBERS);
+}
+
 #[test]
 fn the_payload_of_each_message(rt: HostRuntime) {
     assert_peer_payloads(&rt, rt.alloc());
     assert_client_payloads(&rt, rt.alloc());
+    assert_floored_payloads(&rt, rt.alloc());
 }
 
 /// The reason of a bye; nothing of another message.
@@ -399,8 +270,8 @@ fn the_example_of_a_message(rt: HostRuntime) {
     same(&rt, &reason_of(&message), &Some(1));
 }
 
-/// Of an entry the owner, what its block begins after, the key, the version and the weight.
-type Said = (Name, u64, Key, u64, Option<u64>);
+/// Of an entry the owner, the floor of its block and what that begins after and reaches, the key, the version and the weight.
+type Said = (Name, [u64; 3], Key, u64, Option<u64>);
 
 /// What a block of one entry says; nothing of another.
 fn said_by(block: &Block) -> Option<Said> {
@@ -412,7 +283,8 @@ fn said_by(block: &Block) -> Option<Said> {
         Slot::Removed => None,
     };
     let (owner, key) = (*block.owner(), *entry.key());
-    Some((owner, block.after(), key, entry.version(), weight))
+    let numbers = [block.floor(), block.after(), block.upto()];
+    Some((owner, numbers, key, entry.version(), weight))
 }
 
 /// What a delta of one entry says; nothing of another message.
@@ -445,8 +317,30 @@ fn said_in(rt: &impl Abort, alloc: Global, words: &str) -> Option<Said> {
 #[test]
 fn what_a_delta_says(rt: HostRuntime) {
     same(&rt, &blocks_in(&rt, rt.alloc(), NO_BLOCK), &Some(0));
-    let entry = (name(&rt, b"a"), 0, key(&rt, b"w"), 1, Some(5));
+    let a = name(&rt, b"a");
+    let entry = (a, [0, 0, 1], key(&rt, b"w"), 1, Some(5));
     same(&rt, &said_in(&rt, rt.alloc(), ONE_ENTRY), &Some(entry));
+    let floored = (a, [3, 0, 3], key(&rt, b"y"), 2, Some(2));
+    let found = said_in(&rt, rt.alloc(), UP_TO_ITS_FLOOR);
+    same(&rt, &found, &Some(floored));
+}
+
+/// Of the last pair of a digest the owner, how far that is held, and the floor and the progress of its stage; nothing of
+/// another message.
+fn last_pair(message: &Message) -> Option<(Name, [u64; 3])> {
+    match message {
+        Message::Digest(digest) => match digest.pairs() {
+            [.., pair] => Some((pair.owner, [pair.upto, pair.staged_floor, pair.progress])),
+            [] => None,
+        },
+        _ => None,
+    }
+}
+
+#[test]
+fn what_a_digest_says(rt: HostRuntime) {
+    let found = last_pair(&read(&rt, rt.alloc(), DIGEST_OF_A_RANGE));
+    same(&rt, &found, &Some((name(&rt, b"c"), [7, 9, 8])));
 }
 
 fn append(rt: &impl Abort, out: &mut Vec<u8>, message: Message) {
@@ -476,12 +370,16 @@ fn assert_length(rt: &impl Abort, alloc: Global, words: &str, wanted: u32) {
 
 const LENGTHS: &[(&str, u32)] = &[
     (HELLO, 12),
-    (DIGEST, 22),
-    (DIGEST_OF_A_RANGE, 34),
-    (ONE_ENTRY, 40),
-    (ONE_TEXT, 37),
+    (DIGEST, 38),
+    (DIGEST_OF_A_RANGE, 66),
+    (ONE_ENTRY, 56),
+    (ONE_TEXT, 53),
+    (UP_TO_ITS_FLOOR, 56),
+    (NO_ENTRY, 37),
+    (BELOW_ITS_FLOOR, 75),
+    (GREATEST_NUMBERS, 37),
     (NO_BLOCK, 9),
-    (EVERY_SLOT, 88),
+    (EVERY_SLOT, 104),
     (BYE, 8),
     (ASK, 11),
     (ASK_BEHIND, 16),
@@ -494,7 +392,7 @@ const LENGTHS: &[(&str, u32)] = &[
     (LONGEST_ASK, 203),
     (LONGEST_ROW, 631),
     (LONGEST_PUT, 587),
-    (LONGEST_ENTRY, 640),
+    (LONGEST_ENTRY, 656),
 ];
 
 #[test]
@@ -534,17 +432,13 @@ fn append_list(rt: &impl Abort, out: &mut Vec<u8>, count: u64, before: &str, beh
     append_numbered(rt, out, count, &before, &behind);
 }
 
-/// 1,310 entries of 50 bytes and one of 15, behind 15: 65,530 bytes.
+/// 1,309 entries of 50 bytes and one of 49, behind 31: 65,530 bytes.
 fn greatest_delta(rt: &impl Abort, alloc: Global) -> Vec<u8> {
-    let mut out = bytes(rt, alloc, "03 0001 0161 0000000000000000 051f");
-    append_list(rt, &mut out, 1_310, "20", "02 0000000000000005");
-    append_words(rt, &mut out, "05 7a7a7a7a7a 000000000000051f 00");
+    let mut out = bytes(rt, alloc, GREATEST_HEAD);
+    append_list(rt, &mut out, 1_309, "20", "02 0000000000000005");
+    append_words(rt, &mut out, LAST_ENTRY);
     out
 }
-
-/// The last row of the greatest, with 44 bytes of address.
-const LAST_ROW: &str = "0161 017a 00000000000004ec 01 2c \
-    68686868686868686868686868686868686868686868686868686868686868686868686868686868686868 68";
 
 /// 1,259 rows of 52 bytes and one of 58, behind 4: 65,530 bytes.
 fn greatest_rows(rt: &impl Abort, alloc: Global) -> Vec<u8> {
@@ -554,10 +448,16 @@ fn greatest_rows(rt: &impl Abort, alloc: Global) -> Vec<u8> {
     out
 }
 
-/// 1,024 pairs of 41 bytes, behind 6: 41,990 bytes.
+/// 1,024 pairs of 57 bytes, behind 6: 58,374 bytes.
 fn greatest_digest(rt: &impl Abort, alloc: Global) -> Vec<u8> {
     let mut out = bytes(rt, alloc, "02 00 00 00 0400");
-    append_list(rt, &mut out, 1_024, "20", "");
+    append_list(
+        rt,
+        &mut out,
+        1_024,
+        "20",
+        "0000000000000000 0000000000000000",
+    );
     out
 }
 
@@ -571,7 +471,7 @@ fn assert_lengths(rt: &impl Abort, alloc: Global, payload: &[u8], wanted: (usize
 #[test]
 fn the_greatest_payloads(rt: HostRuntime) {
     let alloc = rt.alloc();
-    let [full, digest] = [(65_530, 65_536), (41_990, 41_996)];
+    let [full, digest] = [(65_530, 65_536), (58_374, 58_380)];
     assert_lengths(&rt, alloc, &greatest_delta(&rt, alloc), full);
     assert_lengths(&rt, alloc, &greatest_rows(&rt, alloc), full);
     assert_lengths(&rt, alloc, &greatest_digest(&rt, alloc), digest);
@@ -640,7 +540,8 @@ fn payloads_that_break_the_format(rt: HostRuntime) {
 
 /// A delta of one entry, with a text that is a byte too long.
 fn too_long_a_text(rt: &impl Abort, alloc: Global) -> Vec<u8> {
-    let front = "03 0001 0161 0000000000000000 0001 0174 0000000000000001 04 0201";
+    let front =
+        "03 0001 0161 0000000000000000 0000000000000000 0000000000000001 0001 0174 0000000000000001 04 0201";
     let mut out = bytes(rt, alloc, front);
     got(rt, out.extend_from_slice(&[b'h'; 513]));
     out
@@ -709,9 +610,9 @@ fn assert_shared(rt: &impl Abort, alloc: Global, words: &str, wanted: Result<u32
 #[test]
 fn payloads_in_shared_bytes(rt: HostRuntime) {
     let alloc = rt.alloc();
-    assert_shared(&rt, alloc, ONE_ENTRY, Ok(40));
+    assert_shared(&rt, alloc, ONE_ENTRY, Ok(56));
     assert_shared(&rt, alloc, HELLO, Ok(12));
-    assert_shared(&rt, alloc, DIGEST, Ok(22));
+    assert_shared(&rt, alloc, DIGEST, Ok(38));
     assert_shared(&rt, alloc, BYE, Ok(8));
     assert_shared(&rt, alloc, ROWS, Ok(31));
     assert_shared(&rt, alloc, PUT, Ok(18));
@@ -748,10 +649,10 @@ fn assert_read(rt: &impl Abort, alloc: Global, words: &str, wanted: u32) {
 fn refused_allocations(rt: HostRuntime) {
     let alloc = rt.alloc();
     holds(&rt, ONE_ENTRY, is_found(is_one_written(&rt, alloc), true));
-    assert_read(&rt, alloc, ONE_ENTRY, 40);
-    assert_read(&rt, alloc, ONE_TEXT, 37);
+    assert_read(&rt, alloc, ONE_ENTRY, 56);
+    assert_read(&rt, alloc, ONE_TEXT, 53);
     assert_read(&rt, alloc, HELLO, 12);
-    assert_read(&rt, alloc, DIGEST_OF_A_RANGE, 34);
+    assert_read(&rt, alloc, DIGEST_OF_A_RANGE, 66);
     assert_read(&rt, alloc, BYE, 8);
     assert_read(&rt, alloc, ASK_BEHIND, 16);
     assert_read(&rt, alloc, ROWS, 31);

@@ -13,8 +13,7 @@ use std::process::Abort;
 fn gathered(alloc: Global, owners: &[Name]) -> Result<Vec<Pair>, AllocError> {
     let mut pairs = Vec::new(alloc);
     for (upto, owner) in (1..).zip(owners) {
-        let owner = *owner;
-        pairs.push(Pair { owner, upto })?;
+        pairs.push(Pair::new(*owner, upto, None))?;
     }
     Ok(pairs)
 }
@@ -45,7 +44,7 @@ fn six_owners(rt: &impl Abort) -> [Name; 6] {
 
 /// A digest up to b, which tells that a is held up to 3.
 fn example(rt: &impl Abort, alloc: Global, a: Name, b: Name) -> Digest {
-    let pairs = one(rt, alloc, Pair { owner: a, upto: 3 });
+    let pairs = one(rt, alloc, Pair::new(a, 3, None));
     got(rt, Digest::new(true, None, Some(b), pairs))
 }
 
@@ -55,7 +54,7 @@ fn example_of_digest(rt: HostRuntime) {
     let [a, b] = [name(&rt, b"a"), name(&rt, b"b")];
     let digest = example(&rt, rt.alloc(), a, b);
     let are_covered = [digest.covers(&a), digest.covers(&b)];
-    let found = (are_covered, digest.number(&a), digest.next_from());
+    let found = (are_covered, digest.number(&a, 0), digest.next_from());
     same(&rt, &found, &([true, false], 3, Some(b)));
 }
 
@@ -85,7 +84,7 @@ fn lengths_of_payloads(rt: HostRuntime) {
     same(
         &rt,
         &[first_five, from_sixth, all],
-        &[Ok(243), Ok(79), Ok(252)],
+        &[Ok(323), Ok(95), Ok(348)],
     );
 }
 
@@ -119,7 +118,7 @@ fn parts_that_make_no_digest(rt: HostRuntime) {
     assert_none(&rt, alloc, None, None, [a, a]);
     assert_none(&rt, alloc, None, None, [b, a]);
     let whole = length(&rt, alloc, Some(a), Some(c), &[a, b]);
-    same(&rt, &whole, &Ok(28));
+    same(&rt, &whole, &Ok(60));
 }
 
 /// Whether a digest wants one in answer, its bounds and the next one's first name, how many pairs it has, and the length
@@ -147,7 +146,7 @@ fn wanting(from: Option<Name>, until: Option<Name>, pairs: usize, length: u64) -
 fn are_told(digest: &Digest, owners: &[Name], wanted: &[(bool, u64)]) -> bool {
     let mut are_right = owners.len() == wanted.len();
     for (owner, (is_covered, held)) in owners.iter().zip(wanted) {
-        are_right &= digest.covers(owner) == *is_covered && digest.number(owner) == *held;
+        are_right &= digest.covers(owner) == *is_covered && digest.number(owner, 0) == *held;
     }
     are_right
 }
@@ -170,8 +169,43 @@ fn a_digest_is_read(rt: HostRuntime) {
     let digest = of_b_and_c(&rt, rt.alloc(), owners);
     let told = [(false, 0), (true, 1), (true, 2), (false, 0)];
     let found = (extent(&digest), are_told(&digest, &owners, &told));
-    let wanted = (false, Some(b), Some(d), Some(d), 2, 28);
+    let wanted = (false, Some(b), Some(d), Some(d), 2, 60);
     same(&rt, &found, &(wanted, true));
+}
+
+/// A pair of a, held up to 5, with a stage of the floor 9 that has come as far as 7.
+fn staged(rt: &impl Abort) -> Pair {
+    Pair::new(name(rt, b"a"), 5, Some((9, 7)))
+}
+
+/// Above which version of a senders of these floors offer, and of b, of which the digest has no pair.
+fn numbers(rt: &impl Abort, digest: &Digest, floors: [u64; 5]) -> ([u64; 5], u64) {
+    let [a, b] = [name(rt, b"a"), name(rt, b"b")];
+    let [first, second, third, fourth, fifth] = floors;
+    let low = [digest.number(&a, first), digest.number(&a, second)];
+    let high = [digest.number(&a, fourth), digest.number(&a, fifth)];
+    let numbers = [low[0], low[1], digest.number(&a, third), high[0], high[1]];
+    (numbers, digest.number(&b, third))
+}
+
+/// A sender of a floor up to what is held offers what is above that; one of the stage's floor goes on with the stage; and
+/// every other offers all.
+#[test]
+fn a_number_is_that_of_the_floor(rt: HostRuntime) {
+    let pairs = one(&rt, rt.alloc(), staged(&rt));
+    let digest = got(&rt, Digest::new(true, None, None, pairs));
+    let found = numbers(&rt, &digest, [0, 5, 6, 9, 10]);
+    same(&rt, &found, &([5, 5, 0, 7, 0], 0));
+}
+
+/// The two numbers of a stage may be any.
+#[test]
+fn a_stage_of_any_numbers_is_told(rt: HostRuntime) {
+    let pairs = one(&rt, rt.alloc(), Pair::new(name(&rt, b"a"), 3, Some((0, 5))));
+    let digest = got(&rt, Digest::new(true, None, None, pairs));
+    let found = numbers(&rt, &digest, [0, 3, 4, 5, u64::MAX]);
+    same(&rt, &found, &([3, 3, 0, 0, 0], 0));
+    same(&rt, &digest.encoded_length(), &32);
 }
 
 /// The digest, asked for once more where memory was refused.
@@ -247,7 +281,7 @@ fn a_new_node_tells_of_itself(rt: HostRuntime) {
     let alloc = rt.alloc();
     let [a, b] = [name(&rt, b"a"), name(&rt, b"b")];
     let holdings = alone(&rt, alloc, a);
-    assert_paired(&rt, alloc, &holdings, None, &[(a, 0)], 16);
+    assert_paired(&rt, alloc, &holdings, None, &[(a, 0)], 32);
     assert_paired(&rt, alloc, &holdings, Some(&b), &[], 7);
 }
 
@@ -272,7 +306,7 @@ fn write(rt: &impl Abort, alloc: Global, owner: &Name, version: u64) -> Result<B
     requires { 1 ≤ version }
 {
     let entries = vec![in alloc; flag(rt, version)]?;
-    Block::new(*owner, version - 1, entries)
+    Block::new(*owner, 0, version - 1, version, entries)
 }
 
 fn flag(rt: &impl Abort, version: u64) -> Entry
@@ -304,10 +338,10 @@ fn a_digest_tells_how_far_blocks_are_held(rt: HostRuntime) {
     let alloc = rt.alloc();
     let mut holdings = alone(&rt, alloc, name(&rt, b"b"));
     // A gap first.
-    assert_held(&rt, alloc, &mut holdings, 3, (1, 16, 0));
-    assert_held(&rt, alloc, &mut holdings, 1, (2, 26, 1));
-    assert_held(&rt, alloc, &mut holdings, 2, (2, 26, 2));
-    assert_held(&rt, alloc, &mut holdings, 3, (2, 26, 3));
+    assert_held(&rt, alloc, &mut holdings, 3, (1, 32, 0));
+    assert_held(&rt, alloc, &mut holdings, 1, (2, 58, 1));
+    assert_held(&rt, alloc, &mut holdings, 2, (2, 58, 2));
+    assert_held(&rt, alloc, &mut holdings, 3, (2, 58, 3));
 }
 
 /// What b holds that wrote one flag, entered once more where memory was refused.
@@ -325,7 +359,28 @@ fn a_node_with_a_write_answers(rt: HostRuntime) {
     let holdings = with_a_write(&rt, rt.alloc(), b);
     let digest = asked(&rt, rt.alloc(), &holdings, None, false, 1_024);
     let found = (extent(&digest), are_pairs(&digest, &[(b, 1)]));
-    same(&rt, &found, &((false, None, None, None, 1, 16), true));
+    same(&rt, &found, &((false, None, None, None, 1, 32), true));
+}
+
+/// b holds of a the first part of a stage: the floor 5, the version 2, and all up to 3.
+fn with_a_stage(rt: &impl Abort, alloc: Global, a: Name, b: Name) -> Holdings {
+    let mut holdings = alone(rt, alloc, b);
+    let block = got(rt, Block::new(a, 5, 0, 3, one(rt, alloc, flag(rt, 2))));
+    holdings.apply_block(&block);
+    // Once more, so that it is held also where memory was refused; else it is a gap.
+    holdings.apply_block(&block);
+    holdings
+}
+
+#[test]
+fn a_digest_tells_how_far_a_stage_has_come(rt: HostRuntime) {
+    let [a, b] = [name(&rt, b"a"), name(&rt, b"b")];
+    let holdings = with_a_stage(&rt, rt.alloc(), a, b);
+    let digest = asked(&rt, rt.alloc(), &holdings, None, true, 1_024);
+    let found = (are_pairs(&digest, &[(a, 0), (b, 0)]), extent(&digest));
+    same(&rt, &found, &(true, wanting(None, None, 2, 58)));
+    let told = numbers(&rt, &digest, [0, 4, 5, 6, 3]);
+    same(&rt, &told, &([0, 0, 3, 0, 0], 0));
 }
 
 /// What a node holds beside the first write of each of these.
@@ -377,8 +432,8 @@ fn assert_ranges(rt: &impl Abort, alloc: Global, holdings: &Holdings) {
         [BELOW, BELOW, BELOW, AT_1, AT_0],
         [BELOW, BELOW, BELOW, BELOW, AT_0],
     ];
-    assert_range(rt, alloc, holdings, b"ab", (2, 28), from_ab);
-    assert_range(rt, alloc, holdings, b"c", (1, 17), from_c);
+    assert_range(rt, alloc, holdings, b"ab", (2, 60), from_ab);
+    assert_range(rt, alloc, holdings, b"c", (1, 33), from_c);
     assert_range(rt, alloc, holdings, b"ca", (0, 8), from_ca);
 }
 
@@ -410,9 +465,9 @@ fn assert_part(
     same_at(rt, &budget, &found, &(wanted, true));
 }
 
-/// 25 names of 32 letters, each of one letter.
-fn many_owners(rt: &impl Abort) -> [Name; 25] {
-    let mut owners = [long_name(rt, b'a'); 25];
+/// 18 names of 32 letters, each of one letter.
+fn many_owners(rt: &impl Abort) -> [Name; 18] {
+    let mut owners = [long_name(rt, b'a'); 18];
     let mut letter = b'a';
     for owner in owners.iter_mut() {
         *owner = long_name(rt, letter);
@@ -423,68 +478,49 @@ fn many_owners(rt: &impl Abort) -> [Name; 25] {
 
 // What is told of the first owner, and of the last three.
 
-const FIRST_23: Part<'static> = (23, 981, &[AT_0, AT_1, BELOW, BELOW]);
+const FIRST_17: Part<'static> = (17, 1_007, &[AT_0, AT_1, AT_1, BELOW]);
 
-const LAST_TWO: Part<'static> = (2, 120, &[BELOW, BELOW, AT_1, AT_1]);
+const LAST_ONE: Part<'static> = (1, 95, &[BELOW, BELOW, BELOW, AT_1]);
 
-const FIRST_24: Part<'static> = (24, 1_022, &[AT_0, AT_1, AT_1, BELOW]);
-
-const LAST_ONE: Part<'static> = (1, 79, &[BELOW, BELOW, BELOW, AT_1]);
-
-const ALL: Part<'static> = (25, 1_031, &[AT_0, AT_1, AT_1, AT_1]);
+const ALL: Part<'static> = (18, 1_032, &[AT_0, AT_1, AT_1, AT_1]);
 
 fn assert_many(rt: &impl Abort, alloc: Global, held: &Holdings, ends: &[Name; 4]) {
-    let [_, _, before_last, last] = ends;
-    assert_part(
-        rt,
-        alloc,
-        held,
-        1_024,
-        ends,
-        (None, Some(before_last)),
-        FIRST_23,
-    );
-    assert_part(
-        rt,
-        alloc,
-        held,
-        1_024,
-        ends,
-        (Some(before_last), None),
-        LAST_TWO,
-    );
-    assert_part(
-        rt,
-        alloc,
-        held,
-        1_027,
-        ends,
-        (None, Some(before_last)),
-        FIRST_23,
-    );
-    assert_part(rt, alloc, held, 1_028, ends, (None, Some(last)), FIRST_24);
-    assert_part(rt, alloc, held, 1_036, ends, (None, Some(last)), FIRST_24);
-    assert_part(rt, alloc, held, 1_036, ends, (Some(last), None), LAST_ONE);
-    assert_part(rt, alloc, held, 1_037, ends, (None, None), ALL);
+    let last = &ends[3];
+    assert_part(rt, alloc, held, 1_024, ends, (None, Some(last)), FIRST_17);
+    assert_part(rt, alloc, held, 1_024, ends, (Some(last), None), LAST_ONE);
+    assert_part(rt, alloc, held, 1_037, ends, (None, Some(last)), FIRST_17);
+    assert_part(rt, alloc, held, 1_038, ends, (None, None), ALL);
 }
 
 #[test]
 fn many_owners_take_two_digests(rt: HostRuntime) {
     let owners = many_owners(&rt);
-    let ends = [owners[0], owners[22], owners[23], owners[24]];
+    let ends = [owners[0], owners[15], owners[16], owners[17]];
     let holdings = holding(&rt, rt.alloc(), owners[0], &owners);
     assert_many(&rt, rt.alloc(), &holdings, &ends);
 }
 
-/// What is told of the last of 23 owners, the next and the last of all.
-const FRONT: Part<'static> = (23, 981, &[AT_1, BELOW, BELOW]);
+// What is told of the last of 17 owners, the next and the last of all.
 
-const REST: Part<'static> = (3, 161, &[BELOW, AT_1, AT_0]);
+const FRONT: Part<'static> = (17, 1_007, &[AT_1, BELOW, BELOW]);
+
+const REST: Part<'static> = (2, 152, &[BELOW, AT_1, AT_0]);
+
+const ALL_BUT_OWN: Part<'static> = (18, 1_064, &[AT_1, AT_1, BELOW]);
+
+const OWN: Part<'static> = (1, 95, &[BELOW, BELOW, AT_0]);
+
+const WITH_OWN: Part<'static> = (19, 1_089, &[AT_1, AT_1, AT_0]);
 
 fn assert_ended(rt: &impl Abort, alloc: Global, held: &Holdings, ends: &[Name; 3]) {
-    let next = &ends[1];
+    let [_, next, own] = ends;
     assert_part(rt, alloc, held, 1_024, ends, (None, Some(next)), FRONT);
     assert_part(rt, alloc, held, 1_024, ends, (Some(next), None), REST);
+    assert_part(rt, alloc, held, 1_069, ends, (None, Some(next)), FRONT);
+    assert_part(rt, alloc, held, 1_070, ends, (None, Some(own)), ALL_BUT_OWN);
+    assert_part(rt, alloc, held, 1_094, ends, (None, Some(own)), ALL_BUT_OWN);
+    assert_part(rt, alloc, held, 1_094, ends, (Some(own), None), OWN);
+    assert_part(rt, alloc, held, 1_095, ends, (None, None), WITH_OWN);
 }
 
 /// Owners behind those that there is room for are met before the digest is cut, the own name last.
@@ -493,7 +529,7 @@ fn the_own_name_may_be_last(rt: HostRuntime) {
     let owners = many_owners(&rt);
     let own = long_name(&rt, b'z');
     let holdings = holding(&rt, rt.alloc(), own, &owners);
-    let ends = [owners[22], owners[23], own];
+    let ends = [owners[16], owners[17], own];
     assert_ended(&rt, rt.alloc(), &holdings, &ends);
 }
 
@@ -527,7 +563,7 @@ fn assert_all(rt: &impl Abort, alloc: Global, holdings: &Holdings) {
     let ends = [numbered_name(rt, 0), numbered_name(rt, 1_023)];
     let numbers = [AT_0, AT_1];
     let all = told(rt, alloc, holdings, None, 65_536, &ends, &numbers);
-    same(rt, &all, &(wanting(None, None, 1_024, 41_990), true));
+    same(rt, &all, &(wanting(None, None, 1_024, 58_374), true));
 }
 
 /// At the least budget the digest of this turn, from a name on, has a few owners. Answers where the next one begins.
@@ -540,9 +576,9 @@ fn assert_turn(
 ) -> Option<Name> {
     let digest = asked(rt, alloc, holdings, from, true, 1_024);
     let (pairs, length) = match turn {
-        0 => (23, 981),
-        44 => (12, 530),
-        _ => (23, 1_013),
+        0 => (17, 1_007),
+        63 => (15, 893),
+        _ => (16, 982),
     };
     let wanted = wanting(from.copied(), digest.until(), pairs, length);
     same_at(rt, &turn, &extent(&digest), &wanted);
@@ -551,7 +587,7 @@ fn assert_turn(
 
 fn assert_turns(rt: &impl Abort, alloc: Global, holdings: &Holdings) {
     let mut from = None;
-    for turn in 0..45_u32 {
+    for turn in 0..64_u32 {
         let next_from = assert_turn(rt, alloc, holdings, from.as_ref(), turn);
         from = next_from;
     }
@@ -587,7 +623,7 @@ fn a_digest_is_whole_or_not_there(rt: HostRuntime) {
     let [a, z] = [name(&rt, b"a"), name(&rt, b"z")];
     match first_and_rest(rt.alloc(), a, z) {
         Ok(found) => {
-            let first = wanting(Some(a), None, 1, 17);
+            let first = wanting(Some(a), None, 1, 33);
             let rest = (false, Some(z), None, None, 0, 7);
             same(&rt, &found, &(first, rest));
         }

@@ -58,7 +58,7 @@ fn example_of_sb_table(rt: HostRuntime) {
 fn apply_twice(alloc: Global) -> Result<[BlockEnd; 2], Fault> {
     let mut holdings = Holdings::new(alloc, Name::read(b"b")?, Table::new(alloc))?;
     let entry = Entry::new(Key::read(b"web/up")?, 1, Slot::Set(Value::flag(true)));
-    let block = Block::new(Name::read(b"a")?, 0, vec![in alloc; entry]?)?;
+    let block = Block::new(Name::read(b"a")?, 0, 0, 1, vec![in alloc; entry]?)?;
     Ok([holdings.apply_block(&block), holdings.apply_block(&block)])
 }
 
@@ -75,7 +75,7 @@ fn own_version_in_digest(alloc: Global, me: Name) -> Result<u64, Fault> {
     table.push(Entry::new(key, 1, Slot::Set(Value::flag(true))))?;
     let holdings = Holdings::new(alloc, me, table)?;
     let digest = build(alloc, &holdings, None, true, BUDGET_LEAST)?;
-    Ok(digest.number(&me))
+    Ok(digest.number(&me, 0))
 }
 
 #[test]

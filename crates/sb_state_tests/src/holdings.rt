@@ -47,7 +47,12 @@ fn entries(rt: &impl Abort, alloc: Global, run: Run) -> Vec<Entry> {
 }
 
 fn block_of(rt: &impl Abort, alloc: Global, owner: Name, run: Run) -> Block {
-    got(rt, Block::new(owner, run.0, entries(rt, alloc, run)))
+    let (after, first, count, _) = run;
+    let upto = (u64::from(first) + u64::from(count)).saturating_sub(1);
+    got(
+        rt,
+        Block::new(owner, 0, after, upto, entries(rt, alloc, run)),
+    )
 }
 
 /// How a block ends; where memory ran out, the end of the test.
@@ -95,7 +100,10 @@ fn assert_takes(
 /// A block of a's first write, a flag.
 fn first_flag(rt: &impl Abort, alloc: Global) -> Block {
     let flag = entry(rt, b"up", 1, Slot::Set(Value::flag(true)));
-    got(rt, Block::new(name(rt, b"a"), 0, one(rt, alloc, flag)))
+    got(
+        rt,
+        Block::new(name(rt, b"a"), 0, 0, 1, one(rt, alloc, flag)),
+    )
 }
 
 /// How a block ends, how it ends once more, and how far its owner is then held.
@@ -154,7 +162,7 @@ fn assert_shown(
     let (owner, key, after, is_set) = write;
     let version = if after == 0 { 2 } else { 3 };
     let entries = one(rt, alloc, self::write(rt, key, version, is_set));
-    let block = got(rt, Block::new(name(rt, owner), after, entries));
+    let block = got(rt, Block::new(name(rt, owner), 0, after, version, entries));
     same(rt, &take_entry(rt, holdings, &block), &wanted);
 }
 
@@ -413,7 +421,7 @@ fn three_addresses(rt: &impl Abort, alloc: Global) -> Result<Vec<Entry>, Fault> 
 }
 
 fn three_writes(rt: &impl Abort, alloc: Global) -> Result<Block, Fault> {
-    Block::new(name(rt, b"a"), 0, three_addresses(rt, alloc)?)
+    Block::new(name(rt, b"a"), 0, 0, 3, three_addresses(rt, alloc)?)
 }
 
 /// How a block ends, what is then held, how it ends the next time, and what is held then.

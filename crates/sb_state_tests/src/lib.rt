@@ -15,9 +15,13 @@ mod faults;
 #[cfg(test)]
 mod holdings;
 #[cfg(test)]
+mod stages;
+#[cfg(test)]
 mod table;
 #[cfg(test)]
 mod types;
+#[cfg(test)]
+mod words;
 
 #[cfg(test)]
 use sb_types::{Entry, Fault, Key, Name, Slot, Value};

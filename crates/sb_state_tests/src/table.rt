@@ -3,8 +3,8 @@ ghost use Rattle.std.specs.Prelude.{◌≡◌, IfOk, map};
 ghost use Rattle.sb_types.specs.Runs.{above};
 ghost use Rattle.sb_table.specs.Order.{by_key, under};
 
-use crate::{entry, got, key, same, same_at, settled, weighing};
-use sb_table::Table;
+use crate::{entry, got, key, push, refusal, same, same_at, settled, weighing, weight};
+use sb_table::{Stage, Table};
 use sb_types::{Entry, Fault, KEYS_MOST, Key, Prefix, Slot};
 use std::alloc::{AllocError, Global};
 use std::process::Abort;
@@ -33,7 +33,7 @@ fn remove(rt: &impl Abort, table: &mut Table, key: &[u8], version: u64) {
 }
 
 /// The version and the weight under a key.
-type Shown = Option<(u64, Option<u64>)>;
+type Found = Option<(u64, Option<u64>)>;
 
 pub fn shown(table: &Table, key: &[u8]) -> Option<(u64, Option<u64>)> {
     match table.get(&Key::read(key).ok()?) {
@@ -44,7 +44,7 @@ pub fn shown(table: &Table, key: &[u8]) -> Option<(u64, Option<u64>)> {
 }
 
 /// How many keys there are, the last version, and what is shown under each of these keys.
-fn shown_under(table: &Table, keys: [&[u8]; 3]) -> (usize, u64, [Shown; 3]) {
+fn shown_under(table: &Table, keys: [&[u8]; 3]) -> (usize, u64, [Found; 3]) {
     let [first, second, third] = keys;
     let found = [
         shown(table, first),
@@ -159,6 +159,10 @@ fn example_of_a_table(rt: HostRuntime) {
     remove(&rt, &mut table, b"port", 2);
     let port = key(&rt, b"port");
     same(&rt, &ends_removed(&table, &port), &(1, 2, true));
+    got(&rt, raise(&mut table, 3, 2));
+    let counts = (table.len(), table.upto(), table.floor());
+    same(&rt, &counts, &(0, 3, 2));
+    same(&rt, &table.get(&port).is_none(), &true);
 }
 
 /// A write of a version under the key of a number, its weight the version.
@@ -179,7 +183,7 @@ fn full_table(rt: &impl Abort, alloc: Global) -> Table {
 
 /// How a write of the weight 1 is answered; how many keys there are and the last version; and what is then under the
 /// key.
-type Answered = (Result<(), Fault>, usize, u64, Shown);
+type Answered = (Result<(), Fault>, usize, u64, Found);
 
 fn write_one(rt: &impl Abort, table: &mut Table, key: &[u8], version: u64) -> Answered {
     let entry = weighing(rt, key, version.max(1), 1);
@@ -269,7 +273,7 @@ fn a_full_table_gives_all_that_it_has(rt: HostRuntime) {
 }
 
 /// The last version, what is shown under a, and how many entries are above the last version but one, and above the last.
-fn last_two(table: &Table) -> (u64, Shown, (usize, usize)) {
+fn last_two(table: &Table) -> (u64, Found, (usize, usize)) {
     let upto = table.upto();
     let last = table.after(upto.saturating_sub(1)).count();
     (upto, shown(table, b"a"), (last, table.after(upto).count()))
@@ -340,7 +344,7 @@ fn many_keys_are_found(rt: HostRuntime) {
 }
 
 /// How many entries there are, by version and by key, the last version, and what is under a key.
-type Held = (usize, usize, usize, u64, Shown);
+type Held = (usize, usize, usize, u64, Found);
 
 fn held(table: &Table, key: &[u8]) -> Held {
     let mut by_key: usize = 0;
@@ -389,4 +393,319 @@ fn assert_left(rt: &impl Abort, table: &mut Table) {
 fn a_write_without_memory_leaves_the_table(rt: HostRuntime) {
     let mut table = Table::new(rt.alloc());
     assert_left(&rt, &mut table);
+}
+
+/// A write of at least version 1: the letter that is its key, its version, and its weight; or none for a removal.
+pub type Listed = (u8, u64, Option<u64>);
+
+fn listed(rt: &impl Abort, write: Listed) -> Entry {
+    let (letter, version, number) = write;
+    let slot = match number {
+        Some(number) => Slot::Set(weight(rt, number)),
+        None => Slot::Removed,
+    };
+    entry(rt, &[letter], version.max(1), slot)
+}
+
+pub fn all_listed(rt: &impl Abort, alloc: Global, writes: &[Listed]) -> Vec<Entry> {
+    let mut entries = Vec::new(alloc);
+    for write in writes {
+        push(rt, &mut entries, listed(rt, *write));
+    }
+    entries
+}
+
+fn listing(alloc: Global, shown: &Table) -> Result<Vec<Listed>, AllocError> {
+    let mut writes = Vec::new(alloc);
+    for entry in shown.after(0) {
+        let letter = entry.key().bytes().first().copied().unwrap_or(0);
+        let number = match entry.slot() {
+            Slot::Set(value) => value.as_weight(),
+            Slot::Removed => None,
+        };
+        writes.push((letter, entry.version(), number))?;
+    }
+    Ok(writes)
+}
+
+/// How many entries stand in the table by key.
+fn count_by_key(rt: &impl Abort, shown: &Table) -> usize {
+    let mut count = 0_usize;
+    for _ in shown.prefix(&got(rt, Prefix::read(b""))) {
+        count = count.saturating_add(1);
+    }
+    count
+}
+
+/// It holds up to this version, has this floor, and just these entries, also by key.
+fn assert_holds(
+    rt: &impl Abort,
+    alloc: Global,
+    shown: &Table,
+    upto: u64,
+    floor: u64,
+    writes: &[Listed],
+) {
+    let counts = (shown.len(), count_by_key(rt, shown));
+    let wanted = (upto, floor, (writes.len(), writes.len()));
+    same(rt, &(shown.upto(), shown.floor(), counts), &wanted);
+    let found = got(rt, listing(alloc, shown));
+    same_at(rt, &(upto, floor), &found.as_slice(), &writes);
+}
+
+fn restored(rt: &impl Abort, alloc: Global, upto: u64, floor: u64, writes: &[Listed]) -> Table {
+    got(
+        rt,
+        Table::restored(alloc, upto, floor, all_listed(rt, alloc, writes)),
+    )
+}
+
+/// Raises what does not fall, to a floor within what is held, and refuses all else.
+fn raise(shown: &mut Table, upto: u64, floor: u64) -> Result<(), Fault> {
+    if upto < shown.upto() || floor < shown.floor() || upto < floor {
+        return Err(Fault::FloorTooHigh);
+    }
+    shown.raise(upto, floor);
+    Ok(())
+}
+
+const FIVE: &[Listed] = &[
+    (b'a', 1, Some(7)),
+    (b'b', 2, None),
+    (b'c', 3, Some(9)),
+    (b'd', 4, None),
+    (b'e', 5, None),
+];
+
+const FLOOR_4: &[Listed] = &[(b'a', 1, Some(7)), (b'c', 3, Some(9)), (b'e', 5, None)];
+
+const FLOOR_5: &[Listed] = &[(b'a', 1, Some(7)), (b'c', 3, Some(9))];
+
+const WRITTEN_AGAIN: &[Listed] = &[(b'c', 3, Some(9)), (b'b', 9, Some(1)), (b'a', 10, None)];
+
+fn assert_raised(rt: &impl Abort, alloc: Global, shown: &mut Table) {
+    got(rt, raise(shown, 7, 4));
+    assert_holds(rt, alloc, shown, 7, 4, FLOOR_4);
+    got(rt, raise(shown, 8, 4));
+    assert_holds(rt, alloc, shown, 8, 4, FLOOR_4);
+    got(rt, raise(shown, 8, 5));
+    assert_holds(rt, alloc, shown, 8, 5, FLOOR_5);
+}
+
+fn assert_written_again(rt: &impl Abort, alloc: Global, shown: &mut Table) {
+    got(rt, enter(shown, listed(rt, (b'b', 9, Some(1)))));
+    got(rt, enter(shown, listed(rt, (b'a', 10, None))));
+    assert_holds(rt, alloc, shown, 10, 5, WRITTEN_AGAIN);
+    let copy = got(rt, shown.copy(alloc));
+    assert_holds(rt, alloc, &copy, 10, 5, WRITTEN_AGAIN);
+}
+
+#[test]
+fn removals_up_to_the_floor_go(rt: HostRuntime) {
+    let mut shown = restored(&rt, rt.alloc(), 5, 0, FIVE);
+    assert_holds(&rt, rt.alloc(), &shown, 5, 0, FIVE);
+    assert_raised(&rt, rt.alloc(), &mut shown);
+    assert_written_again(&rt, rt.alloc(), &mut shown);
+}
+
+fn fault_of(
+    rt: &impl Abort,
+    alloc: Global,
+    upto: u64,
+    floor: u64,
+    writes: &[Listed],
+) -> Option<Fault> {
+    let entries = all_listed(rt, alloc, writes);
+    refusal(rt, Table::restored(alloc, upto, floor, entries))
+}
+
+fn assert_damaged(rt: &impl Abort, alloc: Global, upto: u64, floor: u64, writes: &[Listed]) {
+    let found = fault_of(rt, alloc, upto, floor, writes);
+    same_at(rt, &(upto, floor), &found, &Some(Fault::LogDamaged));
+}
+
+fn assert_restored(rt: &impl Abort, alloc: Global, upto: u64, floor: u64, writes: &[Listed]) {
+    let shown = restored(rt, alloc, upto, floor, writes);
+    assert_holds(rt, alloc, &shown, upto, floor, writes);
+}
+
+#[test]
+fn what_is_no_table_is_not_restored(rt: HostRuntime) {
+    let alloc = rt.alloc();
+    let twice = [(b'a', 1, Some(1)), (b'b', 2, None), (b'a', 3, None)];
+    assert_restored(&rt, alloc, 5, 4, FLOOR_4);
+    assert_restored(&rt, alloc, 7, 0, FIVE);
+    assert_restored(&rt, alloc, 9, 9, &[]);
+    assert_damaged(&rt, alloc, 4, 4, FLOOR_4);
+    assert_damaged(&rt, alloc, 5, 5, FLOOR_4);
+    assert_damaged(&rt, alloc, 8, 9, &[]);
+    assert_damaged(&rt, alloc, 9, 0, &[(b'a', 2, None), (b'b', 1, None)]);
+    assert_damaged(&rt, alloc, 9, 0, &[(b'a', 2, None), (b'b', 2, None)]);
+    assert_damaged(&rt, alloc, 9, 0, &twice);
+}
+
+/// A write of a version under the key of a number, its weight the version.
+fn numbered(rt: &impl Abort, alloc: Global, number: u64, version: u64) -> Entry {
+    let key = got(rt, format!(in alloc; "k{number:04}"));
+    weighing(rt, key.as_bytes(), version.max(1), version)
+}
+
+/// The keys from k0001 on, each at the version of its number.
+fn many_numbered(rt: &impl Abort, alloc: Global, count: u64) -> Vec<Entry> {
+    let mut entries = Vec::new(alloc);
+    for place in 0..count {
+        let number = place.saturating_add(1);
+        push(rt, &mut entries, numbered(rt, alloc, number, number));
+    }
+    entries
+}
+
+/// What is restored of these entries up to version 9,999: how many keys, or the fault.
+fn restored_count(rt: &impl Abort, alloc: Global, entries: Vec<Entry>) -> Result<usize, Fault> {
+    match Table::restored(alloc, 9_999, 0, entries) {
+        Ok(shown) => Ok(shown.len()),
+        Err(Fault::NoMemory) => panic!(rt; "error: NoMemory"),
+        Err(fault) => Err(fault),
+    }
+}
+
+#[test]
+fn more_than_4096_keys_are_not_restored(rt: HostRuntime) {
+    let alloc = rt.alloc();
+    let mut twice = many_numbered(&rt, alloc, 4096);
+    push(&rt, &mut twice, numbered(&rt, alloc, 1, 4097));
+    let found = [
+        restored_count(&rt, alloc, many_numbered(&rt, alloc, 4096)),
+        restored_count(&rt, alloc, many_numbered(&rt, alloc, 4097)),
+        restored_count(&rt, alloc, twice),
+    ];
+    let wanted = [Ok(4096), Err(Fault::TableFull), Err(Fault::LogDamaged)];
+    same(&rt, &found, &wanted);
+}
+
+/// How a write of a new key at 4,098 is answered, how many keys there are then, and up to which version.
+fn with_new(rt: &impl Abort, shown: &mut Table) -> (Result<(), Fault>, usize, u64) {
+    let answer = settled(rt, enter(shown, listed(rt, (b'n', 4098, Some(1)))));
+    (answer, shown.len(), shown.upto())
+}
+
+#[test]
+fn a_floor_makes_room(rt: HostRuntime) {
+    let entries = many_numbered(&rt, rt.alloc(), 4096);
+    let mut shown = got(&rt, Table::restored(rt.alloc(), 4096, 0, entries));
+    let removal = entry(&rt, b"k0007", 4097, Slot::Removed);
+    got(&rt, enter(&mut shown, removal));
+    let refused = (Err(Fault::TableFull), 4096, 4097);
+    same(&rt, &with_new(&rt, &mut shown), &refused);
+    got(&rt, raise(&mut shown, 4097, 4097));
+    same(&rt, &with_new(&rt, &mut shown), &(Ok(()), 4096, 4098));
+}
+
+/// Enters what is of a later version than the progress, and refuses all else as `OutOfTurn`.
+fn enter_staged(stage: &mut Stage, entry: Entry) -> Result<(), Fault> {
+    let version = entry.version();
+    if version <= stage.progress() {
+        return Err(Fault::OutOfTurn(version));
+    }
+    stage.push(entry)
+}
+
+/// A stage of these entries that has come up to a version, or to its last one's.
+fn staged(rt: &impl Abort, alloc: Global, floor: u64, progress: u64, writes: &[Listed]) -> Stage {
+    let mut stage = Stage::new(alloc, floor);
+    for write in writes {
+        got(rt, enter_staged(&mut stage, listed(rt, *write)));
+    }
+    let least = stage.progress();
+    stage.raise(progress.max(least));
+    stage
+}
+
+/// What is shown once the stage is, where it has come as far as its floor and as what is held.
+fn swapped(alloc: Global, shown: &Table, stage: &Stage) -> Result<Table, Fault> {
+    if stage.progress() < stage.floor() || stage.progress() < shown.upto() {
+        return Err(Fault::FloorTooHigh);
+    }
+    shown.swapped(alloc, stage)
+}
+
+const HELD: &[Listed] = &[
+    (b'a', 1, Some(1)),
+    (b'b', 2, Some(2)),
+    (b'c', 3, None),
+    (b'h', 4, Some(4)),
+    (b'd', 5, Some(5)),
+];
+
+// Of what is held it has a, h at an older version and c; k is below what is held, and new.
+const COMING: &[Listed] = &[
+    (b'a', 1, Some(99)),
+    (b'h', 2, Some(2)),
+    (b'c', 3, None),
+    (b'k', 5, Some(5)),
+    (b'f', 7, Some(7)),
+    (b'd', 8, None),
+    (b'e', 9, Some(9)),
+    (b'g', 10, None),
+];
+
+const SWAPPED: &[Listed] = &[
+    (b'a', 1, Some(1)),
+    (b'h', 4, Some(4)),
+    (b'f', 7, Some(7)),
+    (b'e', 9, Some(9)),
+    (b'g', 10, None),
+];
+
+fn assert_swapped(rt: &impl Abort, alloc: Global, shown: &Table) {
+    let whole = staged(rt, alloc, 8, 11, COMING);
+    let new = got(rt, swapped(alloc, shown, &whole));
+    assert_holds(rt, alloc, &new, 11, 8, SWAPPED);
+    let none = staged(rt, alloc, 9, 9, &[]);
+    let new = got(rt, swapped(alloc, shown, &none));
+    assert_holds(rt, alloc, &new, 9, 9, &[]);
+}
+
+fn assert_swapped_low(rt: &impl Abort, alloc: Global, shown: &Table) {
+    let low = staged(rt, alloc, 2, 0, &[(b'c', 3, Some(3)), (b'a', 6, Some(6))]);
+    let new = got(rt, swapped(alloc, shown, &low));
+    let wanted = [(b'c', 3, None), (b'a', 6, Some(6))];
+    assert_holds(rt, alloc, &new, 6, 2, &wanted);
+}
+
+#[test]
+fn a_stage_takes_the_place_of_what_is_shown(rt: HostRuntime) {
+    let shown = restored(&rt, rt.alloc(), 5, 0, HELD);
+    assert_swapped(&rt, rt.alloc(), &shown);
+    assert_swapped_low(&rt, rt.alloc(), &shown);
+    assert_holds(&rt, rt.alloc(), &shown, 5, 0, HELD);
+}
+
+/// The floor and the progress, and whether a new key and k0001 have no room.
+fn stage_ends(rt: &impl Abort, stage: &Stage) -> (u64, u64, bool, bool) {
+    let (new, first) = (key(rt, b"new"), key(rt, b"k0001"));
+    let full = (stage.is_full_for(&new), stage.is_full_for(&first));
+    (stage.floor(), stage.progress(), full.0, full.1)
+}
+
+fn fill_stage(rt: &impl Abort, alloc: Global, stage: &mut Stage) {
+    for place in 0..4096u64 {
+        let number = place.saturating_add(1);
+        let entry = numbered(rt, alloc, number, number);
+        got(rt, enter_staged(stage, entry));
+    }
+}
+
+#[test]
+fn a_stage_takes_4096_keys(rt: HostRuntime) {
+    let mut stage = Stage::new(rt.alloc(), 5000);
+    same(&rt, &stage_ends(&rt, &stage), &(5000, 0, false, false));
+    fill_stage(&rt, rt.alloc(), &mut stage);
+    let new = listed(&rt, (b'n', 4097, Some(1)));
+    let answer = settled(&rt, enter_staged(&mut stage, new));
+    same(&rt, &answer, &Err(Fault::TableFull));
+    same(&rt, &stage_ends(&rt, &stage), &(5000, 4096, true, false));
+    let again = numbered(&rt, rt.alloc(), 1, 4098);
+    got(&rt, enter_staged(&mut stage, again));
+    same(&rt, &stage_ends(&rt, &stage), &(5000, 4098, true, false));
 }

@@ -350,14 +350,17 @@ fn entries(rt: &impl Abort, alloc: Global, writes: &[(&str, u64)]) -> Vec<Entry>
     entries
 }
 
-/// Whether a block's owner is a, what it begins after and reaches, how many entries it has, and its length.
-type Parts = (bool, u64, u64, usize, u64);
+/// The floor of a block, what it begins after, and what it reaches.
+type Range = (u64, u64, u64);
+
+/// Whether a block's owner is a, its range, how many entries it has, and its length.
+type Parts = (bool, Range, usize, u64);
 
 fn parts_of(block: &Block) -> Parts {
     let is_a = block.owner().bytes() == b"a".as_slice();
-    let range = (block.after(), block.upto());
+    let range = (block.floor(), block.after(), block.upto());
     let count = block.entries().len();
-    (is_a, range.0, range.1, count, block.encoded_length())
+    (is_a, range, count, block.encoded_length())
 }
 
 /// What is said of a block, or why there is none; where memory ran out, the end of the test.
@@ -368,31 +371,58 @@ fn made(rt: &impl Abort, block: Result<Block, Fault>) -> Result<Parts, Fault> {
     }
 }
 
-fn assert_block(
+fn made_of(
     rt: &impl Abort,
     alloc: Global,
-    after: u64,
+    range: Range,
     writes: &[(&str, u64)],
-    wanted: Result<Parts, Fault>,
-) {
-    let block = Block::new(name(rt, b"a"), after, entries(rt, alloc, writes));
-    same(rt, &made(rt, block), &wanted);
+) -> Result<Parts, Fault> {
+    let (owner, entries) = (name(rt, b"a"), entries(rt, alloc, writes));
+    let (floor, after, upto) = range;
+    made(rt, Block::new(owner, floor, after, upto, entries))
 }
 
+/// These make a block of this length.
+fn assert_block(rt: &impl Abort, alloc: Global, range: Range, writes: &[(&str, u64)], length: u64) {
+    let wanted = (true, range, writes.len(), length);
+    same_at(rt, &range, &made_of(rt, alloc, range, writes), &Ok(wanted));
+}
+
+/// These make none.
+fn assert_no_block(rt: &impl Abort, alloc: Global, range: Range, writes: &[(&str, u64)]) {
+    let found = made_of(rt, alloc, range, writes);
+    same_at(rt, &range, &found, &Err(Fault::Malformed(3)));
+}
+
+/// Each takes 28 bytes of head, and 19 for each entry.
 #[test]
 fn blocks_within_their_limits(rt: HostRuntime) {
     let alloc = rt.alloc();
-    let no_block = Err(Fault::Malformed(3));
-    let two = (true, 0, 3, 2, 12 + 19 + 19);
-    let last = (true, u64::MAX - 1, u64::MAX, 1, 12 + 19);
-    let last_version = 18_446_744_073_709_551_615;
-    assert_block(&rt, alloc, 0, &[("x", 1), ("y", 3)], Ok(two));
-    assert_block(&rt, alloc, u64::MAX - 1, &[("x", last_version)], Ok(last));
-    assert_block(&rt, alloc, 0, &[("x", 2), ("y", 1)], no_block);
-    assert_block(&rt, alloc, 0, &[("x", 2), ("y", 2)], no_block);
-    assert_block(&rt, alloc, 1, &[("x", 1)], no_block);
-    assert_block(&rt, alloc, 0, &[("x", 1), ("y", 2), ("x", 3)], no_block);
-    assert_block(&rt, alloc, 0, &[], no_block);
+    let (most, last) = (u64::MAX, 18_446_744_073_709_551_615);
+    assert_block(&rt, alloc, (0, 0, 3), &[("x", 1), ("y", 3)], 66);
+    assert_block(&rt, alloc, (0, most - 1, most), &[("x", last)], 47);
+    // It reaches further than its last entry; its floor is at that, and above all that it reaches.
+    assert_block(&rt, alloc, (0, 0, 7), &[("x", 1), ("y", 3)], 66);
+    assert_block(&rt, alloc, (3, 0, 3), &[("y", 2)], 47);
+    assert_block(&rt, alloc, (5, 0, 3), &[("y", 2), ("z", 3)], 66);
+    // It has no entry.
+    assert_block(&rt, alloc, (2, 0, 2), &[], 28);
+    assert_block(&rt, alloc, (most, most - 1, most), &[], 28);
+}
+
+#[test]
+fn parts_that_make_no_block(rt: HostRuntime) {
+    let alloc = rt.alloc();
+    assert_no_block(&rt, alloc, (0, 0, 2), &[("x", 2), ("y", 1)]);
+    assert_no_block(&rt, alloc, (0, 0, 2), &[("x", 2), ("y", 2)]);
+    assert_no_block(&rt, alloc, (0, 1, 2), &[("x", 1)]);
+    let x_twice = &[("x", 1), ("y", 2), ("x", 3)];
+    assert_no_block(&rt, alloc, (0, 0, 3), x_twice);
+    assert_no_block(&rt, alloc, (0, 0, 2), &[("x", 1), ("y", 3)]);
+    // It reaches what it begins after, or less.
+    assert_no_block(&rt, alloc, (0, 3, 3), &[]);
+    assert_no_block(&rt, alloc, (0, 4, 3), &[]);
+    assert_no_block(&rt, alloc, (5, 0, 0), &[]);
 }
 
 /// An entry of 23 bytes, its key its version in hexadecimal.
@@ -415,13 +445,14 @@ fn long_entries(rt: &impl Abort, alloc: Global, count: u32) -> Vec<Entry> {
 /// A block of this many entries of 23 bytes.
 fn long_block(rt: &impl Abort, alloc: Global, count: u32) -> Result<Parts, Fault> {
     let entries = long_entries(rt, alloc, count);
-    made(rt, Block::new(name(rt, b"a"), 0, entries))
+    let upto = u64::from(count);
+    made(rt, Block::new(name(rt, b"a"), 0, 0, upto, entries))
 }
 
 #[test]
 fn the_longest_block(rt: HostRuntime) {
     let alloc = rt.alloc();
-    let longest = (true, 0, 65_535, 65_535, 12 + 65_535 * 23);
+    let longest = (true, (0, 0, 65_535), 65_535, 28 + 65_535 * 23);
     same(&rt, &long_block(&rt, alloc, 65_535), &Ok(longest));
     let too_long = Err(Fault::Malformed(3));
     same(&rt, &long_block(&rt, alloc, 65_536), &too_long);
@@ -430,7 +461,7 @@ fn the_longest_block(rt: HostRuntime) {
 /// The weight 5 under w, the first write of this owner.
 fn first_block(rt: &impl Abort, alloc: Global, owner: &str) -> Block {
     let entries = one(rt, alloc, weighing(rt, b"w", 1, 5));
-    got(rt, Block::new(name(rt, owner.as_bytes()), 0, entries))
+    got(rt, Block::new(name(rt, owner.as_bytes()), 0, 0, 1, entries))
 }
 
 fn first_blocks(rt: &impl Abort, alloc: Global, owners: &[&str]) -> Vec<Block> {
@@ -450,7 +481,7 @@ fn lends(delta: &Delta, owners: &[&str]) -> bool {
     is_lent
 }
 
-/// The length of a delta of one block for each of these owners, 30 bytes and the owner's name, and whether it lends
+/// The length of a delta of one block for each of these owners, 46 bytes and the owner's name, and whether it lends
 /// them.
 fn delta_of(rt: &impl Abort, alloc: Global, owners: &[&str]) -> Result<(u64, bool), Fault> {
     match Delta::new(first_blocks(rt, alloc, owners)) {
@@ -463,7 +494,7 @@ fn delta_of(rt: &impl Abort, alloc: Global, owners: &[&str]) -> Result<(u64, boo
 fn deltas_within_their_limits(rt: HostRuntime) {
     let alloc = rt.alloc();
     let no_delta = Err(Fault::Malformed(3));
-    let three = Ok((3 + 31 + 32 + 31, true));
+    let three = Ok((3 + 47 + 48 + 47, true));
     same(&rt, &delta_of(&rt, alloc, &[]), &Ok((3, true)));
     same(&rt, &delta_of(&rt, alloc, &["a", "a-", "b"]), &three);
     same(&rt, &delta_of(&rt, alloc, &["b", "a"]), &no_delta);
@@ -495,18 +526,18 @@ fn addresses(rt: &impl Abort, alloc: Global, last: usize) -> Vec<Entry> {
     entries
 }
 
-/// A delta of 15 bytes of heads and those entries.
+/// A delta of 31 bytes of heads and those entries.
 fn long_delta(rt: &impl Abort, alloc: Global, last: usize) -> Result<Delta, Fault> {
     let entries = addresses(rt, alloc, last);
-    let block = got(rt, Block::new(name(rt, b"a"), 0, entries));
+    let block = got(rt, Block::new(name(rt, b"a"), 0, 0, 1_004, entries));
     delta_of_block(alloc, block)
 }
 
 #[test]
 fn the_longest_delta(rt: HostRuntime) {
-    let longest = got(&rt, long_delta(&rt, rt.alloc(), 71));
+    let longest = got(&rt, long_delta(&rt, rt.alloc(), 55));
     same(&rt, &longest.encoded_length(), &65_530);
-    let too_long = refusal(&rt, long_delta(&rt, rt.alloc(), 72));
+    let too_long = refusal(&rt, long_delta(&rt, rt.alloc(), 56));
     same(&rt, &too_long, &Some(Fault::Malformed(3)));
 }
 

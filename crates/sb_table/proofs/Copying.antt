@@ -10,7 +10,7 @@ use Rattle.sb_table.specs.Plain.{IsPlainTable, plain_table, with_entry, is_full_
 use Rattle.sb_table.proofs.Enter.{without-none}
 use Rattle.sb_table.proofs.Plain.{plain_table-entered}
 
-above_all : (least last : ℕ) (es : List Entry) → least ≤ last → are_ascending last es ≡ true → above least es ≡ es
+pub above_all : (least last : ℕ) (es : List Entry) → least ≤ last → are_ascending last es ≡ true → above least es ≡ es
 above_all least last [] le up = refl
 above_all least last (x ∷ xs) le up = grind (arith, nat_tests, above_all least x.version xs)
 
@@ -55,7 +55,7 @@ module _ (t copy : Table) (e : Entry) (rest : List Entry) (is : IsPlainTable t) 
         ∙ ap plain_table refl;
   }
 
-plain-entries : (t : Table) → IsPlainTable t → t ≡ plain_table t.entries
+pub plain-entries : (t : Table) → IsPlainTable t → t ≡ plain_table t.entries
 plain-entries t is =
     ap (λ (n : ℕ). let u : Table = record { held = n; floor = t.floor; entries = t.entries } in u) is.last
     ∙ ap (λ (n : ℕ). let u : Table = record { held = last_version 0 t.entries; floor = n; entries = t.entries } in u) is.floor

@@ -7,3 +7,9 @@ pub mod Sorting
 pub mod Maps
 pub mod Reached
 pub mod Copying
+pub mod Order
+pub mod Markers
+pub mod Merging
+pub mod Dropping
+pub mod Removing
+pub mod Keeping

@@ -27,7 +27,7 @@ pub values-with_versions : (es : List Entry) → values_of (with_versions es) �
 values-with_versions [] = refl
 values-with_versions (x ∷ xs) = ap (λ (ys : List Entry). x ∷ ys) (values-with_versions xs)
 
-above_stands : (low : ℕ) (es : List Entry) (e : Entry) → are_ascending low es ≡ true → Stands es e → low < e.version
+pub above_stands : (low : ℕ) (es : List Entry) (e : Entry) → are_ascending low es ≡ true → Stands es e → low < e.version
 above_stands low [] e up stands = absurd stands
 above_stands low (x ∷ xs) e up (inl same) = grind (arith, nat_tests)
 above_stands low (x ∷ xs) e up (inr behind) = grind (arith, nat_tests, above_stands x.version xs e)
@@ -129,10 +129,10 @@ version-last (x ∷ xs) v e found =
 
 -- ---- a write
 
-greater : (m n : ℕ) → n < m → nat_cmp m n ≡ Greater
+pub greater : (m n : ℕ) → n < m → nat_cmp m n ≡ Greater
 greater m n lt = grind (arith, nat_tests)
 
-in_front-of : (x : Entry) {ps qs : List (ℕ × Entry)} → ps ≡ qs → (x.version, x) ∷ ps ≡ (x.version, x) ∷ qs
+pub in_front-of : (x : Entry) {ps qs : List (ℕ × Entry)} → ps ≡ qs → (x.version, x) ∷ ps ≡ (x.version, x) ∷ qs
 in_front-of x is = ap (λ rest. (x.version, x) ∷ rest) is
 
 insert-last : (low : ℕ) (es : List Entry) (e : Entry) → are_ascending low es ≡ true → last_version low es < e.version
@@ -204,7 +204,7 @@ pub record AreOf (entries : List (ℕ × Entry)) (versions : List (List ℕ × �
   pub values : values_of entries ≡ es
   pub agree : Agree entries versions
 
-AreOf-with_versions : (entries : List (ℕ × Entry)) (versions : List (List ℕ × ℕ)) (es : List Entry) → entries ≡ with_versions es → Keyed versions es → AreOf entries versions es
+pub AreOf-with_versions : (entries : List (ℕ × Entry)) (versions : List (List ℕ × ℕ)) (es : List Entry) → entries ≡ with_versions es → Keyed versions es → AreOf entries versions es
 AreOf-with_versions entries versions es is keyed =
     let values : values_of entries ≡ es = ap values_of is ∙ values-with_versions es in
     record { values = values; agree = record { with_versions = is ∙ ap with_versions (sym values); keyed = subst (Keyed versions) (sym values) keyed } }

@@ -1,5 +1,5 @@
 -- A table stays one when an entry is entered.
-use Rattle.std.proofs.Common.{◌≡◌, ℕ, ◌<◌, false, List, [], ◌∷◌, ◌++◌, Result, Ok, Err, sym, ap, subst, ◌∙◌, arith, not, OnOk, OnErr}
+use Rattle.std.proofs.Common.{◌≡◌, ℕ, ◌<◌, false, List, [], ◌∷◌, ◌++◌, Result, Ok, Err, refl, sym, ap, subst, ◌∙◌, arith, not, OnOk, OnErr}
 use Rattle.sb_types.specs.declared.fault.Fault.{Fault}
 use Rattle.sb_types.specs.declared.limits.TheConstants.{KEYS_MOST}
 use Rattle.sb_types.specs.Records.{Entry, Table}
@@ -29,6 +29,9 @@ IsPlainTable-with_entry t e plain later room =
       last = sym last;
       limit = length-entered e t.entries KEYS_MOST plain.limit room;
     }
+
+pub nothing_plain : IsPlainTable (plain_table [])
+nothing_plain = record { run = record { ascending = refl; most = omega arith; distinct = refl }; floor = refl; last = refl; limit = omega arith }
 
 -- what `push` leaves, whichever way it ends
 pub IsPlainTable-pushed : (r : Result (Unit {0}) Fault) (old new : List Entry) (e : Entry) → OnOk r (new ≡ entered old (e ∷ [])) → OnErr r (new ≡ old)

@@ -1,3 +1,5 @@
 pub mod Plain
 pub mod Order
 pub mod Maps
+pub mod Floors
+pub mod Contents

@@ -1,6 +1,6 @@
 //! What follows from the definitions alone, for the crates above. The functions do nothing: each clause is
 //! a law.
-ghost use Rattle.std.specs.Prelude.{◌≡◌, ◌≢◌, ◌<◌, ℕ, List, [], ◌∷◌, false, true, Some, None, IsPermutation};
+ghost use Rattle.std.specs.Prelude.{◌≡◌, ◌≢◌, ◌<◌, ◌≤◌, ℕ, List, [], ◌∷◌, false, true, Some, None, IsPermutation};
 ghost use Rattle.std.specs.Cmp.Lexicographic.{slice_cmp};
 ghost use Rattle.std.specs.Ordering.{nat_cmp};
 ghost use Rattle.std.specs.List.Sorted.{IsSortedByKey};
@@ -8,12 +8,22 @@ ghost use Rattle.sb_types.specs.Records as records;
 ghost use Rattle.sb_types.specs.Runs.{IsTable, Stands, are_distinct, entered, entry_at, has_key};
 ghost use Rattle.sb_table.specs.Plain.{IsPlainTable, is_full_for, with_entry};
 ghost use Rattle.sb_table.specs.Order.{by_key};
+ghost use Rattle.sb_table.specs.Floors.{IsKeptTable, IsKeptStage, raised, swapped};
 
 /// A table in which a later entry is entered is a table, and each keeps what crates above ask of tables with
 /// a floor.
 pub fn entering_keeps_tables()
     ensures entered { (t : records.Table) (e : records.Entry) → IsPlainTable t → t.held < e.version → is_full_for e.key t.entries ≡ false → IsPlainTable (with_entry t e) }
     ensures table { (t : records.Table) → IsPlainTable t → IsTable t }
+{}
+
+/// A table without a floor is one with floor 0; and a table with a floor stays one when a later entry is entered, when it
+/// is raised, and when a stage that has come as far takes its place.
+pub fn floors_keep_tables()
+    ensures plain { (t : records.Table) → IsPlainTable t → IsKeptTable t }
+    ensures entered { (t : records.Table) (e : records.Entry) → IsKeptTable t → t.held < e.version → is_full_for e.key t.entries ≡ false → IsKeptTable (with_entry t e) }
+    ensures raised { (upto floor : ℕ) (t : records.Table) → IsKeptTable t → t.held ≤ upto → floor ≤ upto → IsKeptTable (raised upto floor t) }
+    ensures swapped { (t : records.Table) (s : records.Stage) → IsKeptTable t → IsKeptStage s → t.held ≤ s.progress → s.floor ≤ s.progress → IsKeptTable (swapped t s) }
 {}
 
 /// What is found under a key stands under it, and what stands is found.

@@ -4,6 +4,9 @@
 //! gives the entry of a key, the entries above a version, and those under a prefix. The crate stands on `sb_types`; holdings
 //! and logs keep writes in tables.
 //!
+//! A table may have a floor, up to which the removals are gone: `raise` lets them go, and a `Stage` is what has come of a
+//! table with a floor that is to take the place of the one that is shown. A new table has none.
+//!
 //! ```rust
 //! /// Enters a write whose version is above all that the table has.
 //! fn enter(table: &mut Table, entry: Entry) -> Result<(), Fault> {
@@ -25,13 +28,20 @@
 #![tactic(auto)]
 
 mod after;
+mod entries;
 mod laws;
 mod prefixed;
+mod restore;
+mod stage;
+mod swap;
 mod table;
 
 pub use after::After;
+pub use entries::entries_above;
 pub use laws::{
-    by_key_sorts, entering_keeps_tables, what_is_entered_is_found, what_stands_is_found,
+    by_key_sorts, entering_keeps_tables, floors_keep_tables, what_is_entered_is_found,
+    what_stands_is_found,
 };
 pub use prefixed::Prefixed;
-pub use table::{Table, entries_above};
+pub use stage::Stage;
+pub use table::Table;

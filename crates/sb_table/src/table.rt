@@ -1,24 +1,25 @@
-//! The table of one owner, and the entries of a list above a version.
+//! The table of one owner.
 
-ghost use Rattle.std.specs.Prelude.{◌≡◌, ◌<◌, ◌≤◌, ◌==◌, ℕ, List, true, [], if◌then◌else◌, Ok, Err, OnOk, OnErr, IfErr, ◌∷◌, length, drop};
+ghost use Rattle.std.specs.Prelude.{◌≡◌, ◌==◌, ◌≤◌, ◌<◌, true, [], if◌then◌else◌, Ok, Err, OnOk, OnErr, IfOk, length};
 ghost use Rattle.std.specs.Option.{option_map};
-ghost use Rattle.std.specs.Map.{values_of};
 ghost use Rattle.sb_types.specs.Faults.{Gives};
-ghost use Rattle.sb_types.specs.Runs.{above, are_ascending, entered, entry_at, last_version};
+ghost use Rattle.sb_types.specs.Runs.{above, entry_at};
 ghost use Rattle.sb_table.specs.Plain.{IsPlainTable, plain_table, with_entry, is_full_for, version_and_slot};
 ghost use Rattle.sb_table.specs.Order.{by_key, under};
-ghost use Rattle.sb_table.specs.Maps.{Agree};
+ghost use Rattle.sb_table.specs.Floors.{IsKeptTable, are_table_entries, raised, restored, swapped};
 
 use crate::after::After;
+use crate::entries::{Entries, drop_between, push_later};
 use crate::prefixed::Prefixed;
+use crate::restore::{are_table_entries, fill};
+use crate::stage::Stage;
+use crate::swap::{add_staged, keep_shown};
 use sb_types::{Entry, Fault, KEYS_MOST, Key, Prefix, Slot};
 use std::alloc::Global;
-use std::collections::BTreeMap;
 use std::marker::Model;
-use std::ops::Bound;
 
-/// What one owner last wrote under each of its keys, removals included: at most 4,096 entries, in ascending
-/// version, one a key.
+/// What one owner last wrote under each of its keys up to a version, removals included but for those up to the floor: at
+/// most 4,096 entries, in ascending version, one a key.
 ///
 /// ```
 /// let mut table = Table::new(alloc);
@@ -27,93 +28,116 @@ use std::ops::Bound;
 /// push(&mut table, Entry::new(key, 2, Slot::Removed))?;
 /// assert_eq!(rt; (table.len(), table.upto()), (1, 2));
 /// assert!(rt; matches!(table.get(&key), Some((2, Slot::Removed))));
+/// table.raise(3, 2);
+/// assert_eq!(rt; (table.len(), table.upto(), table.floor()), (0, 3, 2));
+/// assert!(rt; table.get(&key).is_none());
 /// ```
 ///
-/// The test `example_of_a_table` runs these lines; its `push` first tests that the version is the greatest.
+/// The test `example_of_a_table` runs these lines; `push` and `raise` stand there behind tests of what they require.
 #[derive(Debug, Drop)]
 pub struct Table {
-    // By version.
-    entries: BTreeMap<u64, Entry>,
-    // The version of the entry under each key.
-    versions: BTreeMap<Key, u64>,
+    upto: u64,
+    floor: u64,
+    entries: Entries,
 }
 
 impl Model for Table {
-    ghost use Rattle.std.specs.Map.{values_of};
     ghost use Rattle.sb_types.specs.Records as records;
-    ghost use Rattle.sb_table.specs.Plain.{IsPlainTable, plain_table};
-    ghost use Rattle.sb_table.specs.Maps.{Agree};
+    ghost use Rattle.sb_table.specs.Floors.{IsKeptTable};
 
     ghost Value = { records.Table };
 
-    ghost view = { λ t. plain_table (values_of t.entries.entries) };
+    ghost view = { λ t. record { held = t.upto; floor = t.floor; entries = t.entries.entries } };
 
-    ghost invariant = { λ t. IsPlainTable (plain_table (values_of t.entries.entries)) × Agree t.entries.entries t.versions.entries };
+    ghost invariant = { λ t. IsKeptTable (record { held = t.upto; floor = t.floor; entries = t.entries.entries }) };
 }
 
 impl Table {
-    /// A table of nothing. It takes no memory.
+    /// A table of nothing, of floor 0. It takes no memory.
     pub fn new(alloc: Global) -> Table
         ensures nothing { result ≡ plain_table [] }
-        ensures table { IsPlainTable result }
+        ensures table { IsKeptTable result }
+        ensures plain { IsPlainTable result }
     {
         Table {
-            entries: BTreeMap::new(alloc),
-            versions: BTreeMap::new(alloc),
+            upto: 0,
+            floor: 0,
+            entries: Entries::new(alloc),
         }
     }
 
-    /// Enters a write of a later version than any before, in place of what its key had. `TableFull` where
-    /// the key is new beside 4,096 others; then `NoMemory`. Both leave the table as it was.
-    pub fn push(&mut self, entry: Entry) -> Result<(), Fault>
-        requires { self.old.held < entry.version }
-        ensures answer { Gives result (if is_full_for entry.key self.old.entries then Err Fault.TableFull else Ok tt) }
-        ensures full { is_full_for entry.key self.old.entries ≡ true → result ≡ Err Fault.TableFull }
-        ensures ok { OnOk result (self.new ≡ with_entry self.old entry) }
-        ensures err { OnErr result (self.new ≡ self.old) }
-        ensures table { IsPlainTable self.new }
+    /// A table of these entries, as it was kept elsewhere. `LogDamaged` unless the floor is at most `upto`, the
+    /// versions ascend from 1 to at most `upto`, no removal stands at or below the floor, and no key stands twice;
+    /// then `TableFull` where there are more than 4,096; then `NoMemory`. With a fault the entries are dropped.
+    pub fn restored(
+        alloc: Global,
+        upto: u64,
+        floor: u64,
+        mut entries: Vec<Entry>,
+    ) -> Result<Table, Fault>
+        ensures restored { Gives result (restored upto floor entries.items) }
+        ensures table { IfOk result IsKeptTable }
     {
-        if self.is_full_for(entry.key()) {
+        if !are_table_entries(upto, floor, &mut entries) {
+            return Err(Fault::LogDamaged);
+        }
+        if entries.len() > KEYS_MOST {
             return Err(Fault::TableFull);
         }
-        enter(&mut self.entries, &mut self.versions, entry)
+        Table::from_entries(alloc, upto, floor, entries)
+    }
+
+    /// A table of entries that can stand in it: nothing is tested. `NoMemory`.
+    fn from_entries(
+        alloc: Global,
+        upto: u64,
+        floor: u64,
+        entries: Vec<Entry>,
+    ) -> Result<Table, Fault>
+        requires entries { are_table_entries upto floor entries.items ≡ true }
+        requires limit { length entries.items ≤ KEYS_MOST }
+        ensures filled { Gives result (Ok (record { held = upto; floor = floor; entries = entries.items })) }
+        ensures table { IfOk result IsKeptTable }
+    {
+        Ok(Table {
+            upto,
+            floor,
+            entries: fill(alloc, entries)?,
+        })
     }
 
     /// An equal table. `NoMemory`.
     pub fn copy(&self, alloc: Global) -> Result<Table, Fault>
         ensures copy { Gives result (Ok self.now) }
-        ensures table { IsPlainTable self.now }
+        ensures table { IsKeptTable self.now }
     {
-        let mut copy = Table::new(alloc);
-        for entry in self.after(0) {
-            copy.push(entry.copy(alloc)?)?;
-        }
-        Ok(copy)
+        Ok(Table {
+            upto: self.upto,
+            floor: self.floor,
+            entries: self.entries.copy(alloc)?,
+        })
     }
 
-    /// Whether there is no room for a key: it is new beside 4,096 others.
-    pub fn is_full_for(&self, key: &Key) -> bool
-        ensures full { result ≡ is_full_for key.now self.now.entries }
-        ensures table { IsPlainTable self.now }
-    {
-        self.len() >= KEYS_MOST && !self.versions.contains_key(key)
-    }
-
-    /// The version of the last write, 0 where there is none.
+    /// The version up to which it holds.
     pub fn upto(&self) -> u64
         ensures version { result ≡ self.now.held }
-        ensures table { IsPlainTable self.now }
+        ensures table { IsKeptTable self.now }
     {
-        match self.entries.last_key_value() {
-            Some((version, _)) => *version,
-            None => 0,
-        }
+        self.upto
     }
 
-    /// How many keys there are, removed ones counted.
+    /// The version up to which it has no removals.
+    pub fn floor(&self) -> u64
+        ensures floor { result ≡ self.now.floor }
+        ensures table { IsKeptTable self.now }
+    {
+        self.floor
+    }
+
+    /// How many keys there are, those of removals above the floor counted.
     pub fn len(&self) -> usize
         ensures count { result ≡ length self.now.entries }
-        ensures table { IsPlainTable self.now }
+        ensures table { IsKeptTable self.now }
     {
         self.entries.len()
     }
@@ -121,83 +145,90 @@ impl Table {
     /// Whether there is no key, not even a removed one.
     pub fn is_empty(&self) -> bool
         ensures count { result ≡ (length self.now.entries == 0) }
-        ensures table { IsPlainTable self.now }
+        ensures table { IsKeptTable self.now }
     {
         self.entries.is_empty()
     }
 
-    /// The version and the slot under a key, a removal too; nothing where it was never written.
+    /// The version and the slot under a key, a removal above the floor too; nothing where none stands there.
     pub fn get(&self, key: &Key) -> Option<(u64, &Slot)>
         ensures found { option_map (λ p. (p.0, p.1.now)) result ≡ option_map version_and_slot (entry_at key.now self.now.entries) }
-        ensures table { IsPlainTable self.now }
+        ensures table { IsKeptTable self.now }
     {
-        let version = self.versions.get(key)?;
-        let entry = self.entries.get(version)?;
-        Some((*version, entry.slot()))
+        self.entries.get(key)
     }
 
     /// The entries above a version, in ascending version.
     pub fn after(&self, version: u64) -> After<'_>
         ensures entries { result ≡ above version self.now.entries }
-        ensures table { IsPlainTable self.now }
+        ensures table { IsKeptTable self.now }
     {
-        let above = (Bound::Excluded(version), Bound::Unbounded);
-        After::new(self.entries.range(above))
+        self.entries.after(version)
     }
 
     /// The entries under the keys that begin with the prefix, in ascending order of their keys.
     pub fn prefix(&self, prefix: &Prefix) -> Prefixed<'_>
         ensures entries { result ≡ by_key (under prefix.now self.now.entries) }
-        ensures table { IsPlainTable self.now }
+        ensures table { IsKeptTable self.now }
     {
-        let from_start = (prefix.start(), Bound::Unbounded);
-        Prefixed::new(&self.entries, self.versions.range(from_start), *prefix)
+        self.entries.prefix(prefix)
     }
-}
 
-/// Puts an entry behind all others, and takes out what its key had.
-fn enter(
-    entries: &mut BTreeMap<u64, Entry>,
-    versions: &mut BTreeMap<Key, u64>,
-    entry: Entry,
-) -> Result<(), Fault>
-    requires table { IsPlainTable (plain_table (values_of entries.old.entries)) }
-    requires agree { Agree entries.old.entries versions.old.entries }
-    requires later { last_version 0 (values_of entries.old.entries) < entry.version }
-    ensures ok { OnOk result (values_of entries.new.entries ≡ entered (values_of entries.old.entries) (entry ∷ [])) }
-    ensures err { OnErr result (values_of entries.new.entries ≡ values_of entries.old.entries) }
-    ensures agree { Agree entries.new.entries versions.new.entries }
-    ensures fault { IfErr result (λ fault. fault ≡ Fault.NoMemory) }
-{
-    let key = *entry.key();
-    let version = entry.version();
-    entries.insert(version, entry)?;
-    match versions.insert(key, version) {
-        Ok(Some(earlier)) => {
-            entries.remove(&earlier);
-            Ok(())
-        }
-        Ok(None) => Ok(()),
-        Err(_) => {
-            entries.remove(&version);
-            Err(Fault::NoMemory)
-        }
+    /// Whether there is no room for a key: it is new beside 4,096 others.
+    pub fn is_full_for(&self, key: &Key) -> bool
+        ensures full { result ≡ is_full_for key.now self.now.entries }
+        ensures table { IsKeptTable self.now }
+    {
+        self.entries.is_full_for(key)
     }
-}
 
-/// Those above a version, of entries in ascending version.
-pub fn entries_above(entries: &[Entry], version: u64) -> &[Entry]
-    requires { are_ascending 0 entries.now ≡ true }
-    ensures { result.now ≡ above version entries.now }
-{
-    &entries[first_above(entries, version)..]
-}
+    /// Enters a write of a version above what it holds, in place of what its key had, and holds up to it. `TableFull`
+    /// where the key is new beside 4,096 others; then `NoMemory`. Both leave the table as it was.
+    pub fn push(&mut self, entry: Entry) -> Result<(), Fault>
+        requires { self.old.held < entry.version }
+        ensures answer { Gives result (if is_full_for entry.key self.old.entries then Err Fault.TableFull else Ok tt) }
+        ensures full { is_full_for entry.key self.old.entries ≡ true → result ≡ Err Fault.TableFull }
+        ensures ok { OnOk result (self.new ≡ with_entry self.old entry) }
+        ensures err { OnErr result (self.new ≡ self.old) }
+        ensures table { IsKeptTable self.new }
+        ensures plain { IsPlainTable self.old → IsPlainTable self.new }
+    {
+        let version = entry.version();
+        // Does nothing: the call tells the prover that the entries keep their limits.
+        let _ = self.entries.upto();
+        push_later(&mut self.entries, &mut self.upto, version, entry)
+    }
 
-/// Where the entries above a version begin.
-fn first_above(entries: &[Entry], version: u64) -> usize
-    requires { are_ascending 0 entries.now ≡ true }
-    ensures place { result ≤ length entries.now }
-    ensures entries { drop result entries.now ≡ above version entries.now }
-{
-    entries.partition_point(|entry| entry.version() <= version)
+    /// Holds up to a version, and raises the floor: the removals up to it go. It takes no memory.
+    pub fn raise(&mut self, upto: u64, floor: u64)
+        requires held { self.old.held ≤ upto }
+        requires floor { self.old.floor ≤ floor }
+        requires order { floor ≤ upto }
+        ensures raised { self.new ≡ raised upto floor self.old }
+        ensures table { IsKeptTable self.new }
+    {
+        drop_between(&mut self.entries, self.floor, floor);
+        self.upto = upto;
+        self.floor = floor;
+    }
+
+    /// What is shown once the stage takes its place: the stage's entries above what is held, and under each other key
+    /// of the stage what is held of it, if anything, without removals up to the stage's floor. `NoMemory`. Both stay
+    /// as they are, and the new table is one more beside them.
+    pub fn swapped(&self, alloc: Global, stage: &Stage) -> Result<Table, Fault>
+        requires reach { stage.now.floor ≤ stage.now.progress }
+        requires beyond { self.now.held ≤ stage.now.progress }
+        ensures shown { Gives result (Ok (swapped self.now stage.now)) }
+        ensures table { IfOk result IsKeptTable }
+    {
+        let mut entries = Entries::new(alloc);
+        let (old, new) = (&self.entries, &stage.entries);
+        keep_shown(alloc, &mut entries, old, new, self.upto, stage.floor)?;
+        add_staged(alloc, &mut entries, new, self.upto, stage.floor)?;
+        Ok(Table {
+            upto: stage.progress,
+            floor: stage.floor,
+            entries,
+        })
+    }
 }

@@ -43,7 +43,8 @@ pub fn delta_of_block(alloc: Global, block: Block) -> Result<Delta, Fault> {
 
 /// A delta of one write of an owner, behind the version before it.
 pub fn delta_of_write(alloc: Global, owner: Name, entry: Entry) -> Result<Delta, Fault> {
-    let before = entry.version().saturating_sub(1);
-    let block = Block::new(owner, before, vec![in alloc; entry]?)?;
+    let version = entry.version();
+    let before = version.saturating_sub(1);
+    let block = Block::new(owner, 0, before, version, vec![in alloc; entry]?)?;
     delta_of_block(alloc, block)
 }

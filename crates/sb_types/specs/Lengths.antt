@@ -23,9 +23,9 @@ entry_length e = 10 + length e.key + slot_length e.slot
 abbrev pub entries_length : List Entry → ℕ
 entries_length entries = sum_by entry_length entries
 
--- the owner's length byte and text, the version that it begins after, the number of entries, and these
+-- the owner's length byte and text, the floor, the versions that it begins after and reaches, the number of entries, and these
 abbrev pub block_length : Block → ℕ
-block_length b = 11 + length b.owner + entries_length b.entries
+block_length b = 27 + length b.owner + entries_length b.entries
 
 -- the kind, the number of blocks, and these
 abbrev pub delta_length : List Block → ℕ

@@ -1,5 +1,5 @@
 -- Which parts make an entry, a block, a delta or settings.
-use Rattle.std.specs.Prelude.{ℕ, ◌-◌, ◌^◌, Bool, true, false, ◌&&◌, ◌==◌, nat_le, List, [], ◌∷◌, length}
+use Rattle.std.specs.Prelude.{ℕ, ◌-◌, ◌^◌, Bool, true, false, ◌&&◌, nat_lt, nat_le, List, [], ◌∷◌, length}
 use Rattle.std.specs.List.{list_all}
 use Rattle.std.specs.Ordering.{nat_cmp, is_lt}
 use Rattle.std.specs.Cmp.Lexicographic.{slice_cmp}
@@ -23,17 +23,17 @@ slot_holds_text Removed = false
 abbrev pub is_entry : Entry → Bool
 is_entry e = is_key e.key && is_between 1 (2 ^ 64 - 1) e.version && is_slot e.slot
 
--- from 1 to 65,535 entries, ascending above after, each key once
-abbrev pub are_block_entries : ℕ → List Entry → Bool
-are_block_entries after entries = is_between 1 ENTRIES_MOST (length entries) && are_ascending after entries && are_distinct entries
+-- at most 65,535 entries, ascending above after, at most upto, each key once; the block reaches further than it begins
+abbrev pub are_block_parts : ℕ → ℕ → List Entry → Bool
+are_block_parts after upto entries = nat_le (length entries) ENTRIES_MOST && nat_lt after upto && are_ascending after entries && nat_le (last_version after entries) upto && are_distinct entries
 
--- the block of these entries
-abbrev pub block_of_entries : List ℕ → ℕ → List Entry → Block
-block_of_entries owner after entries = record { owner = owner; floor = 0; after = after; upto = last_version after entries; entries = entries }
+-- the block of these parts
+abbrev pub block_of_parts : List ℕ → ℕ → ℕ → ℕ → List Entry → Block
+block_of_parts owner floor after upto entries = record { owner = owner; floor = floor; after = after; upto = upto; entries = entries }
 
 -- a block that a delta may carry
 abbrev pub is_delta_block : Block → Bool
-is_delta_block b = is_name b.owner && list_all is_entry b.entries && are_block_entries b.after b.entries && b.floor == 0 && b.upto == last_version b.after b.entries
+is_delta_block b = is_name b.owner && nat_lt b.floor (2 ^ 64) && nat_lt b.upto (2 ^ 64) && list_all is_entry b.entries && are_block_parts b.after b.upto b.entries
 
 -- the text is before the other, byte by byte
 abbrev pub text_lt : List ℕ → List ℕ → Bool

@@ -2,9 +2,9 @@
 
 ghost use Rattle.std.specs.Prelude.{◌≡◌, ◌≤◌, ◌+◌, ◌*◌, length, true, if◌then◌else◌, Ok, Err};
 ghost use Rattle.std.specs.List.{list_all};
-ghost use Rattle.sb_types.specs.Runs.{are_ascending};
+ghost use Rattle.sb_types.specs.Runs.{are_ascending, last_version};
 ghost use Rattle.sb_types.specs.Lengths.{entries_length, block_length};
-ghost use Rattle.sb_types.specs.Limits.{is_entry, are_block_entries, block_of_entries, is_delta_block};
+ghost use Rattle.sb_types.specs.Limits.{is_entry, are_block_parts, block_of_parts, is_delta_block};
 
 use crate::distinct::are_keys_distinct;
 use crate::entry::Entry;
@@ -16,12 +16,15 @@ use crate::limits::ENTRIES_MOST;
 use crate::text::Name;
 use std::marker::Model;
 
-/// A part of one owner's writes: its entries above the version `after`, in ascending version, each key
-/// once. It has 1 to 65,535 entries.
+/// A part of one owner's writes: its entries above the version `after` and at most the version `upto`, in ascending
+/// version, each key once, and the floor at or below which it leaves removals out. It has at most 65,535 entries, and
+/// maybe none; `upto` is above `after`.
 #[derive(Debug, Drop)]
 pub struct Block {
     owner: Name,
+    floor: u64,
     after: u64,
+    upto: u64,
     entries: Vec<Entry>,
     /// How many bytes the entries take.
     length: u64,
@@ -34,13 +37,13 @@ impl Model for Block {
     ghost Value = { records.Block };
 
     ghost use Rattle.sb_types.specs.Lengths.{entries_length};
-    ghost use Rattle.sb_types.specs.Limits.{block_of_entries, is_delta_block};
+    ghost use Rattle.sb_types.specs.Limits.{block_of_parts, is_delta_block};
     ghost use Rattle.sb_types.specs.declared.limits.TheConstants.{ENTRIES_MOST};
     ghost use Rattle.sb_types.specs.declared.format.TheConstants.{ENTRY_LENGTH_MOST};
 
-    ghost view = { λ b. block_of_entries b.owner b.after b.entries.items };
+    ghost view = { λ b. block_of_parts b.owner b.floor b.after b.upto b.entries.items };
 
-    ghost invariant = { λ b. (is_delta_block (block_of_entries b.owner b.after b.entries.items) ≡ true) × (b.length ≡ entries_length b.entries.items) × (b.length ≤ ENTRY_LENGTH_MOST * ENTRIES_MOST) };
+    ghost invariant = { λ b. (is_delta_block (block_of_parts b.owner b.floor b.after b.upto b.entries.items) ≡ true) × (b.length ≡ entries_length b.entries.items) × (b.length ≤ ENTRY_LENGTH_MOST * ENTRIES_MOST) };
 }
 
 /// Whether each version is above the one before, and the first above `after`.
@@ -58,6 +61,16 @@ fn are_versions_ascending(after: u64, entries: &[Entry]) -> bool
     true
 }
 
+/// The version of the last entry, or `after` where there is none.
+fn last_version(after: u64, entries: &[Entry]) -> u64
+    ensures { result ≡ last_version after entries.now }
+{
+    match entries {
+        [.., last] => last.version(),
+        [] => after,
+    }
+}
+
 /// How many bytes the entries take in a message.
 fn length_of(entries: &[Entry]) -> u64
     requires { length entries.now ≤ ENTRIES_MOST }
@@ -73,35 +86,44 @@ fn length_of(entries: &[Entry]) -> u64
 }
 
 impl Block {
-    /// A block of these entries. `Malformed(KIND_DELTA)`, the entries dropped, where there are none or more than
-    /// 65,535, where a version is not above the one before, the first not above `after`, or where a key
-    /// stands twice. It takes no memory.
+    /// A block of these parts. `Malformed(KIND_DELTA)`, the entries dropped, where there are more than 65,535 entries,
+    /// where `upto` is not above `after`, where a version is not above the one before, the first not above `after` or the
+    /// last above `upto`, or where a key stands twice. It takes no memory.
     #[tactic(auto, using(crate::proofs::DistinctKeys::ascending_from_zero))]
-    pub fn new(owner: Name, after: u64, mut entries: Vec<Entry>) -> Result<Block, Fault>
-        ensures { result ≡ (if are_block_entries after entries.items then Ok (block_of_entries owner after entries.items) else Err (Fault.Malformed KIND_DELTA)) }
+    pub fn new(
+        owner: Name,
+        floor: u64,
+        after: u64,
+        upto: u64,
+        mut entries: Vec<Entry>,
+    ) -> Result<Block, Fault>
+        ensures { result ≡ (if are_block_parts after upto entries.items then Ok (block_of_parts owner floor after upto entries.items) else Err (Fault.Malformed KIND_DELTA)) }
     {
-        if entries.is_empty()
-            || entries.len() > ENTRIES_MOST
+        if entries.len() > ENTRIES_MOST
+            || upto <= after
             || !are_versions_ascending(after, &entries)
+            || last_version(after, &entries) > upto
             || !are_keys_distinct(&mut entries)
         {
             return Err(Fault::Malformed(KIND_DELTA));
         }
-        Ok(Block::from_entries(owner, after, entries))
+        Ok(Block::from_parts(owner, floor, after, upto, entries))
     }
 
-    /// A block of these entries, which have to be those of a block, as `new` tells them: nothing is tested. It takes no
+    /// A block of these parts, which have to be those of a block, as `new` tells them: nothing is tested. It takes no
     /// memory.
-    pub fn from_entries(owner: Name, after: u64, entries: Vec<Entry>) -> Block
-        requires { are_block_entries after entries.items ≡ true }
-        ensures { result ≡ block_of_entries owner after entries.items }
+    pub fn from_parts(owner: Name, floor: u64, after: u64, upto: u64, entries: Vec<Entry>) -> Block
+        requires { are_block_parts after upto entries.items ≡ true }
+        ensures { result ≡ block_of_parts owner floor after upto entries.items }
     {
         // Does nothing: the call tells the prover that the name keeps its limits.
         let _ = owner.bytes();
         let length = length_of(&entries);
         Block {
             owner,
+            floor,
             after,
+            upto,
             entries,
             length,
         }
@@ -115,6 +137,15 @@ impl Block {
         &self.owner
     }
 
+    /// The version at or below which the block leaves removals out, and whoever takes it lets go of them. 0 where the
+    /// owner never purged.
+    pub fn floor(&self) -> u64
+        ensures floor { result ≡ self.now.floor }
+        ensures block { is_delta_block self.now ≡ true }
+    {
+        self.floor
+    }
+
     /// The version that the block begins after.
     pub fn after(&self) -> u64
         ensures after { result ≡ self.now.after }
@@ -123,15 +154,13 @@ impl Block {
         self.after
     }
 
-    /// The version that the block reaches: that of its last entry.
+    /// The version that the block reaches. It may be above that of its last entry: what lies between was written again,
+    /// or is a removal at or below the floor.
     pub fn upto(&self) -> u64
         ensures upto { result ≡ self.now.upto }
         ensures block { is_delta_block self.now ≡ true }
     {
-        match self.entries() {
-            [.., last] => last.version(),
-            [] => self.after,
-        }
+        self.upto
     }
 
     /// Its entries, in ascending version.
@@ -142,13 +171,13 @@ impl Block {
         &self.entries
     }
 
-    /// How many bytes it takes in a message: its head of 12 to 43, and its entries.
+    /// How many bytes it takes in a message: its head of 28 to 59, and its entries.
     pub fn encoded_length(&self) -> u64
         ensures length { result ≡ block_length self.now }
         ensures block { is_delta_block self.now ≡ true }
         ensures most { result ≤ ENTRY_LENGTH_MOST * ENTRIES_MOST + BLOCK_HEAD_MOST }
     {
         let owner_length = BYTE_LENGTH + self.owner.bytes().len() as u64;
-        owner_length + NUMBER_LENGTH + COUNT_LENGTH + self.length
+        owner_length + 3 * NUMBER_LENGTH + COUNT_LENGTH + self.length
     }
 }

@@ -7,7 +7,7 @@ use crate::entry::Entry;
 
 /// Whether no two entries have the same key, of entries in order of version. It takes no memory: the
 /// entries are sorted by key, neighbours compared, and sorted back.
-pub(crate) fn are_keys_distinct(entries: &mut [Entry]) -> bool
+pub fn are_keys_distinct(entries: &mut [Entry]) -> bool
     requires { are_ascending 0 entries.old ≡ true }
     ensures value { result ≡ are_distinct entries.old }
     ensures same { entries.new ≡ entries.old }

@@ -7,7 +7,7 @@ use crate::limits::{KEY_MOST, NAME_MOST, TEXT_MOST};
 pub const FRAME_MARK: u8 = 0xa7;
 
 /// The second byte of a frame, the version of the format.
-pub const FRAME_VERSION: u8 = 2;
+pub const FRAME_VERSION: u8 = 3;
 
 /// How many bytes of a frame stand before its payload.
 pub const HEADER_LENGTH: u64 = 6;
@@ -85,5 +85,5 @@ pub const ENTRY_LENGTH_MOST: u64 = KEY_LENGTH_MOST
     + BYTE_LENGTH
     + VALUE_LENGTH_MOST;
 
-/// The most bytes that a block takes before its entries: a name, a version and a count.
-pub const BLOCK_HEAD_MOST: u64 = NAME_LENGTH_MOST + NUMBER_LENGTH + COUNT_LENGTH;
+/// The most bytes that a block takes before its entries: a name, three versions and a count.
+pub const BLOCK_HEAD_MOST: u64 = NAME_LENGTH_MOST + 3 * NUMBER_LENGTH + COUNT_LENGTH;

@@ -38,7 +38,7 @@ pub fn limits_are_these_numbers()
 /// Each mark, kind, tag and reason of the format, as a number.
 pub fn marks_are_these_numbers()
     ensures frame_mark { FRAME_MARK ≡ 167 }
-    ensures frame_version { FRAME_VERSION ≡ 2 }
+    ensures frame_version { FRAME_VERSION ≡ 3 }
     ensures kind_hello { KIND_HELLO ≡ 1 }
     ensures kind_digest { KIND_DIGEST ≡ 2 }
     ensures kind_delta { KIND_DELTA ≡ 3 }
@@ -67,7 +67,7 @@ pub fn lengths_are_these_numbers()
     ensures key_length_most { KEY_LENGTH_MOST ≡ 65 }
     ensures value_length_most { VALUE_LENGTH_MOST ≡ 514 }
     ensures entry_length_most { ENTRY_LENGTH_MOST ≡ 588 }
-    ensures block_head_most { BLOCK_HEAD_MOST ≡ 43 }
+    ensures block_head_most { BLOCK_HEAD_MOST ≡ 59 }
 {}
 
 /// No two values have the same words, and a printed value, cut at its first space, is its words. So what

@@ -30,6 +30,7 @@ mod value;
 
 pub use block::Block;
 pub use delta::Delta;
+pub use distinct::are_keys_distinct;
 pub use entry::{Entry, Slot, Write};
 pub use fault::Fault;
 pub use format::{

@@ -1,30 +1,20 @@
 -- What is new of grown tables leads on.
-use Rattle.std.proofs.Common.{◌≡◌, ℕ, true, nat_lt, List, [], ◌∷◌, refl, sym, ap, ◌∙◌}
-use Rattle.sb_types.specs.Records.{Entry, Table}
-use Rattle.sb_types.specs.Runs.{are_distinct, last_version, above}
-use Rattle.sb_table.specs.Plain.{with_entry}
-use Rattle.sb_holdings.specs.Entering.{entered_each}
+use Rattle.std.proofs.Common.{ℕ, List, sym, subst}
+use Rattle.sb_types.specs.Records.{Table}
 use Rattle.sb_holdings.specs.Held.{Held, shown_of}
-use Rattle.sb_holdings.specs.Plain.{with_entries, IsHoldings}
-use Rattle.sb_holdings.proofs.Changed.{shown-plain}
-use Rattle.sb_holdings.proofs.Entering.{one_by_one}
-use Rattle.sb_holdings.proofs.Order.{distinct_kept}
-use Rattle.sb_views.specs.NodeViews.{of_owner, table_with_all, Leads}
-use Rattle.sb_views.specs.Growing.{AreGrown, new_entries}
-use Rattle.sb_views.proofs.Beginning.{of_owner-above}
+use Rattle.sb_holdings.specs.Plain.{IsHoldings}
+use Rattle.sb_holdings.proofs.Changed.{IsHolder-held}
+use Rattle.sb_views.specs.declared.change.Change.{Change}
+use Rattle.sb_views.specs.Changes.{table_with_all, IsAlike, Leads, lacked_of}
+use Rattle.sb_views.specs.Growing.{AreGrown, new_changes}
+use Rattle.sb_views.proofs.Beginning.{of_owner-each}
+use Rattle.sb_views.proofs.Changing.{lacked-alike, nothing-lacked}
 
-each-in-turn : (t : Table) (es : List Entry) → table_with_all t es ≡ record { held = last_version t.held es; floor = t.floor; entries = entered_each t.entries es }
-each-in-turn t [] = refl
-each-in-turn t (e ∷ es) = each-in-turn (with_entry t e) es
-
-in-turn : (t : Table) (es : List Entry) → are_distinct es ≡ true → table_with_all t es ≡ with_entries t es
-in-turn t es apart =
-    each-in-turn t es ∙ ap (λ (xs : List Entry). let u : Table = record { held = last_version t.held es; floor = t.floor; entries = xs } in u) (one_by_one t.entries es apart)
-
-pub new-leads : (old new : Held) → IsHoldings new → AreGrown old new → Leads old new (new_entries old new)
+pub new-leads : (old new : Held) → IsHoldings new → AreGrown old new → Leads old new (new_changes old new)
 new-leads old new is grown =
     λ o.
     let t = shown_of old o in
-    let es = above t.held (shown_of new o).entries in
-    let apart : are_distinct es ≡ true = distinct_kept (λ e. nat_lt t.held e.version) (shown_of new o).entries (shown-plain new is o).run.distinct in
-    grown o ∙ sym (in-turn t es apart) ∙ ap (table_with_all t) (sym (of_owner-above new (λ owner. (shown_of old owner).held) o))
+    let lacked : List ℕ → Table → List Change = λ owner u. lacked_of (shown_of old owner).held (shown_of old owner).floor u in
+    subst (λ (cs : List Change). IsAlike (table_with_all t cs) (shown_of new o))
+    (sym (of_owner-each new lacked (λ owner. nothing-lacked (shown_of old owner).held (shown_of old owner).floor) o))
+    (lacked-alike t (shown_of new o) (IsHolder-held new is o).shown (grown o))

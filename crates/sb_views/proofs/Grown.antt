@@ -1,15 +1,13 @@
 -- One table that grows.
-use Rattle.std.proofs.Common.{◌≡◌, ℕ, ◌+◌, ◌≤◌, ◌<◌, Bool, true, false, cond, not, ◌&&◌, ◌||◌, nat_lt, List, [], ◌∷◌, ◌++◌, filter, inl, inr, ⊎_elim, refl, sym, ap, ap₂, subst, ◌∙◌, arith, append_assoc, append-nil, ltb-true, lt-ltb}
+use Rattle.std.proofs.Common.{◌≡◌, ℕ, ◌≤◌, ◌<◌, Bool, true, false, cond, not, ◌&&◌, ◌||◌, nat_lt, List, [], ◌∷◌, ◌++◌, filter, inl, inr, ⊎_elim, refl, sym, ap, ap₂, ◌∙◌, arith, append_assoc, ltb-true, lt-ltb}
 use Rattle.std.proofs.lemmas.Bool.{cond-true, false_from_ne_true, or_cases, or_left, or_right}
 use Rattle.std.proofs.lemmas.List.Elements.{filter-append, filter_agree}
 use Rattle.sb_types.specs.Records.{Entry, Table}
-use Rattle.sb_types.specs.Runs.{Stands, are_ascending, last_version, has_key, above, without, entered}
+use Rattle.sb_types.specs.Runs.{Stands, IsTable, has_key, above, without, entered}
 use Rattle.sb_types.proofs.Standing.{right, of_above, of_entered, in_entered, keyed, has}
-use Rattle.sb_table.specs.Plain.{IsPlainTable}
 use Rattle.sb_table.proofs.ByKey.{none_left}
-use Rattle.sb_holdings.specs.Plain.{with_entries}
-use Rattle.sb_holdings.proofs.Entered.{with_entries-nil}
-use Rattle.sb_holdings.proofs.Order.{least, ascending_kept, ascending_above, run_upto}
+use Rattle.sb_holdings.proofs.Entering.{one_by_one}
+use Rattle.sb_holdings.proofs.Order.{run_upto}
 use Rattle.sb_views.specs.Growing.{IsGrown}
 
 -- ---- tests on entries
@@ -74,45 +72,41 @@ above-entered v es bs each =
     ∙ ap₂ (λ (xs ys : List Entry). xs ++ ys) (swapped (λ e. nat_lt v e.version) (λ e. not (has_key e.key bs)) es)
     (all_kept (λ e. nat_lt v e.version) bs (λ e s. lt-ltb v e.version (each e s)))
 
-last_version-append : (v : ℕ) (xs ys : List Entry) → last_version v (xs ++ ys) ≡ last_version (last_version v xs) ys
-last_version-append v [] ys = refl
-last_version-append v (x ∷ xs) ys = last_version-append x.version xs ys
-
-without_none : (es : List Entry) → without [] es ≡ es
-without_none [] = refl
-without_none (x ∷ xs) = ap (λ (r : List Entry). x ∷ r) (without_none xs)
-
-pub last_version-entered : (v : ℕ) (es bs : List Entry) → last_version v (entered es bs) ≡ last_version (last_version v es) bs
-last_version-entered v es [] = ap (last_version v) (append-nil (without [] es) ∙ without_none es)
-last_version-entered v es (b ∷ bs) = last_version-append v (without (b ∷ bs) es) (b ∷ bs)
-
-with_entries-twice : (t : Table) (early bs : List Entry) → with_entries (with_entries t early) bs ≡ with_entries t (entered early bs)
-with_entries-twice t early bs = λ i. record { held = sym (last_version-entered t.held early bs) i; floor = t.floor; entries = entered-twice t.entries early bs i }
-
 -- ---- one table
 
--- with more entered it is still the first with what is above it
-pub grown-step : (t u w : Table) (bs : List Entry) → IsGrown t u → w ≡ with_entries u bs → ((e : Entry) → Stands bs e → t.held < e.version) → IsGrown t w
-grown-step t u w bs grown step each =
-    let early = above t.held u.entries in
-    let new : above t.held w.entries ≡ entered early bs = ap (λ (x : Table). above t.held x.entries) step ∙ above-entered t.held u.entries bs each in
-    step ∙ ap (λ (x : Table). with_entries x bs) grown ∙ with_entries-twice t early bs ∙ ap (with_entries t) (sym new)
+-- with others entered above the version, the entries are still the first ones with those above it entered
+more-entered : (held : ℕ) (first second third others : List Entry) → second ≡ entered first (above held second) → third ≡ entered second others
+    → ((e : Entry) → Stands others e → held < e.version) → third ≡ entered first (above held third)
+more-entered held first second third others grown step each =
+    let early = above held second in
+    let new : above held third ≡ entered early others = ap (λ (es : List Entry). above held es) step ∙ above-entered held second others each in
+    step ∙ ap (λ (es : List Entry). entered es others) grown ∙ entered-twice first early others ∙ ap (λ (es : List Entry). entered first es) (sym new)
 
-pub grown-self : (t : Table) → IsPlainTable t → IsGrown t t
+pub grown-self : (t : Table) → IsTable t → IsGrown t t
 grown-self t is =
     let none : above t.held t.entries ≡ [] =
     none_left (λ e. nat_lt t.held e.version) t.entries
     (λ e s. false_from_ne_true (nat_lt t.held e.version) (λ more. absurd (omega (arith, ltb-true t.held e.version more, run_upto e is.run s)))) in
-    sym (ap (with_entries t) none ∙ with_entries-nil t)
+    record {
+      held = omega arith;
+      floor = omega arith;
+      grown = λ _. one_by_one t.entries [] refl ∙ ap (λ (es : List Entry). entered t.entries es) (sym none);
+    }
 
-pub grown-held : (t u : Table) → IsGrown t u → IsPlainTable u → t.held ≤ u.held
-grown-held t u grown is =
-    let early = above t.held u.entries in
-    let up : are_ascending t.held early ≡ true =
-    ascending_above 0 t.held early (ascending_kept (λ e. nat_lt t.held e.version) 0 u.entries is.run.ascending) (λ e s. (of_above t.held u.entries e s).1) in
-    omega (arith, least t.held early up, ap (λ (x : Table). x.held) grown)
+-- a table with others entered, where its floor stays; they are above all that it holds
+pub grown-entered : (t u : Table) (others : List Entry) → IsTable t → t.held ≤ u.held → t.floor ≤ u.floor → (u.floor ≡ t.floor → u.entries ≡ entered t.entries others)
+    → ((e : Entry) → Stands others e → t.held < e.version) → IsGrown t u
+grown-entered t u others is held floor step each =
+    record { held = held; floor = floor; grown = λ same. more-entered t.held t.entries t.entries u.entries others ((grown-self t is).grown refl) (step same) each }
 
-pub grown-further : (t u w : Table) → IsGrown t u → IsGrown u w → IsPlainTable u → IsGrown t w
-grown-further t u w first second is =
-    let le = grown-held t u first is in
-    grown-step t u w (above u.held w.entries) first second (λ e s. omega (arith, le, (of_above u.held w.entries e s).1))
+pub grown-further : (t u w : Table) → IsGrown t u → IsGrown u w → IsGrown t w
+grown-further t u w first second =
+    record {
+      held = omega (arith, first.held, second.held);
+      floor = omega (arith, first.floor, second.floor);
+      grown = λ same.
+          let stayed : u.floor ≡ t.floor = omega (arith, first.floor, second.floor, same) in
+          let stays : w.floor ≡ u.floor = omega (arith, stayed, same) in
+          more-entered t.held t.entries u.entries w.entries (above u.held w.entries) (first.grown stayed) (second.grown stays)
+          (λ e s. omega (arith, first.held, (of_above u.held w.entries e s).1));
+    }

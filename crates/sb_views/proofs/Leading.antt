@@ -11,45 +11,52 @@ use Rattle.sb_table.specs.Plain.{with_entry}
 use Rattle.sb_holdings.specs.Held.{Held, nothing, holder_of, shown_of, written}
 use Rattle.sb_holdings.specs.Shown.{own}
 use Rattle.sb_holdings.specs.Nodes.{Node}
+use Rattle.sb_views.specs.declared.change.Change.{Change}
+use Rattle.sb_views.specs.declared.change.Change.TheVariants.{Enter}
 use Rattle.sb_views.specs.declared.event.Event.{Event}
 use Rattle.sb_views.specs.declared.event.Event.TheVariants.{TookOwn}
 use Rattle.sb_views.specs.Histories.{node_after}
-use Rattle.sb_views.specs.NodeViews.{Leads, of_owner, table_with_all}
+use Rattle.sb_views.specs.Changes.{Leads, of_owner, table_with_all}
 use Rattle.sb_views.proofs.ByText.{by_text}
+use Rattle.sb_views.proofs.Changing.{same-alike}
 use Rattle.sb_views.proofs.Showing.{tied}
 
-module _ (held : Held) (e : Entry) (next : e.version ≡ (shown_of held held.me).held + 1) where
+module _ (held : Held) (e : Entry) where
   abbrev mine : Holder
   mine = holder_of held.owners held.me
-
-  shown-own : (own mine e).shown ≡ with_entry mine.shown e
-  shown-own = ap (λ (h : Holder). h.shown) (cond-true (nat_eq e.version (mine.shown.held + 1)) _ mine (eq-eqb e.version _ next))
 
   shown-cond : (b : Bool) (o : Option Holder) → (unwrap_or (cond b (Some (own mine e)) o) nothing).shown ≡ cond b (own mine e).shown (unwrap_or o nothing).shown
   shown-cond true o = refl
   shown-cond false o = refl
 
-  shown-written : (owner : List ℕ) → shown_of (written held e) owner ≡ cond (pointwise nat_eq held.me owner) (own mine e).shown (shown_of held owner)
+  -- a write of the node changes no other owner
+  pub shown-written : (owner : List ℕ) → shown_of (written held e) owner ≡ cond (pointwise nat_eq held.me owner) (own mine e).shown (shown_of held owner)
   shown-written owner =
       ap (λ (o : Option Holder). (unwrap_or o nothing).shown) (get-insert nat_list_cmp_total held.owners held.me (own mine e) owner)
       ∙ shown-cond (eq_by_cmp by_text owner held.me) (get held.owners owner)
       ∙ ap (λ (b : Bool). cond b (own mine e).shown (shown_of held owner)) (tied held.me owner)
 
-  lead-case : (owner : List ℕ) (b : Bool) → pointwise nat_eq held.me owner ≡ b
-      → cond b (own mine e).shown (shown_of held owner) ≡ table_with_all (shown_of held owner) (of_owner owner ((held.me, e) ∷ []))
-  lead-case owner true is = rw is (shown-own ∙ ap (λ (o : List ℕ). with_entry (shown_of held o) e) (same_text held.me owner is))
-  lead-case owner false is = rw is refl
+  module _ (next : e.version ≡ (shown_of held held.me).held + 1) where
+    shown-own : (own mine e).shown ≡ with_entry mine.shown e
+    shown-own = ap (λ (h : Holder). h.shown) (cond-true (nat_eq e.version (mine.shown.held + 1)) _ mine (eq-eqb e.version _ next))
 
-  pub own-leads : Leads held (written held e) ((held.me, e) ∷ [])
-  own-leads owner = shown-written owner ∙ lead-case owner (pointwise nat_eq held.me owner) refl
+    lead-case : (owner : List ℕ) (b : Bool) → pointwise nat_eq held.me owner ≡ b
+        → cond b (own mine e).shown (shown_of held owner) ≡ table_with_all (shown_of held owner) (of_owner owner ((held.me, Enter e) ∷ []))
+    lead-case owner true is = rw is (shown-own ∙ ap (λ (o : List ℕ). with_entry (shown_of held o) e) (same_text held.me owner is))
+    lead-case owner false is = rw is refl
+
+    pub own-leads : Leads held (written held e) ((held.me, Enter e) ∷ [])
+    own-leads owner =
+        same-alike (table_with_all (shown_of held owner) (of_owner owner ((held.me, Enter e) ∷ []))) (shown_of (written held e) owner)
+        (sym (shown-written owner ∙ lead-case owner (pointwise nat_eq held.me owner) refl))
 
 -- the first own write of a node leads from the node as it was opened
-pub first-leads : (opening : Node) (held : Held) (e : Entry) (queued upto : List Event) (batch : List (List ℕ × Entry)) → opening.held ≡ held
-    → e.version ≡ (shown_of held held.me).held + 1 → queued ≡ [] → upto ≡ TookOwn e ∷ [] → batch ≡ (held.me, e) ∷ []
+pub first-leads : (opening : Node) (held : Held) (e : Entry) (queued upto : List Event) (batch : List (List ℕ × Change)) → opening.held ≡ held
+    → e.version ≡ (shown_of held held.me).held + 1 → queued ≡ [] → upto ≡ TookOwn e ∷ [] → batch ≡ (held.me, Enter e) ∷ []
     → Leads (node_after opening queued).held (node_after opening upto).held batch
 first-leads opening held e queued upto batch same next none one alone =
-    let leads : Leads opening.held (written opening.held e) ((held.me, e) ∷ []) =
-    subst (λ (h : Held). Leads h (written h e) ((held.me, e) ∷ [])) (sym same) (own-leads held e next) in
-    subst (λ (b : List (List ℕ × Entry)). Leads (node_after opening queued).held (node_after opening upto).held b) (sym alone)
-    (subst (λ (l : List Event). Leads (node_after opening l).held (node_after opening upto).held ((held.me, e) ∷ [])) (sym none)
-    (subst (λ (l : List Event). Leads opening.held (node_after opening l).held ((held.me, e) ∷ [])) (sym one) leads))
+    let leads : Leads opening.held (written opening.held e) ((held.me, Enter e) ∷ []) =
+    subst (λ (h : Held). Leads h (written h e) ((held.me, Enter e) ∷ [])) (sym same) (own-leads held e next) in
+    subst (λ (b : List (List ℕ × Change)). Leads (node_after opening queued).held (node_after opening upto).held b) (sym alone)
+    (subst (λ (l : List Event). Leads (node_after opening l).held (node_after opening upto).held ((held.me, Enter e) ∷ [])) (sym none)
+    (subst (λ (l : List Event). Leads opening.held (node_after opening l).held ((held.me, Enter e) ∷ [])) (sym one) leads))

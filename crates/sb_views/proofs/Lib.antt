@@ -2,6 +2,7 @@ pub mod Prefixes
 pub mod Adding
 pub mod ByText
 pub mod Turning
+pub mod Changing
 pub mod Showing
 pub mod Appending
 pub mod Beginning

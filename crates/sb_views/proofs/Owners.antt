@@ -5,7 +5,7 @@ use Rattle.std.specs.declared.alloc.AllocError.{AllocError}
 use Rattle.std.specs.BTreeMap.{BTreeMap, WritesThrough}
 use Rattle.std.specs.FinMap.{FinMap, get, insert, get-empty}
 use Rattle.sb_types.specs.Value.{Value}
-use Rattle.sb_types.specs.Records.{Entry}
+use Rattle.sb_views.specs.declared.change.Change.{Change}
 use Rattle.sb_views.specs.NodeViews.{OwnerView, NodeView, rows_of, view_of, no_view, owner_view_of, row_of, owner_view_with, view_with}
 use Rattle.sb_views.proofs.ByText.{by_text, Ascend, found, get-found, with_inserted, from_nothing}
 
@@ -29,22 +29,22 @@ module _ (owner : List ℕ) (old new : BTreeMap (List ℕ) OwnerView) (t w : Own
       with_inserted old.entries new.entries owner w up through.4 (through.3 (ap is_some at)).0
       ∙ ap (λ (p : NodeView). insert p owner w) viewed
 
-  pub lent-ok : (e : Entry) (r : Result (Unit {0}) AllocError) → OnOk r (w ≡ owner_view_with t e) → OnOk r (view_of new.entries ≡ view_with view owner e)
-  lent-ok e (Err fault) ok = tt
-  lent-ok e (Ok u) ok =
-      lent-with ∙ ap (insert view owner) (ok ∙ ap (λ (s : OwnerView). owner_view_with s e) (sym (owner_view-is owner old.entries up view viewed t at)))
+  pub lent-ok : (c : Change) (r : Result (Unit {0}) AllocError) → OnOk r (w ≡ owner_view_with t c) → OnOk r (view_of new.entries ≡ view_with view owner c)
+  lent-ok c (Err fault) ok = tt
+  lent-ok c (Ok u) ok =
+      lent-with ∙ ap (insert view owner) (ok ∙ ap (λ (s : OwnerView). owner_view_with s c) (sym (owner_view-is owner old.entries up view viewed t at)))
 
   pub lent-err : (r : Result (Unit {0}) AllocError) → OnErr r (w ≡ t) → OnErr r (view_of new.entries ≡ view)
   lent-err (Ok u) err = tt
   lent-err (Err fault) err = ap view_of (through.0 ∙ set_value_same _ old.entries w (at ∙ ap (λ (s : OwnerView). Some s) (sym err))) ∙ viewed
 
 -- the sheet of a new owner
-module _ (owner : List ℕ) (view new : NodeView) (e : Entry) (w : OwnerView) (unknown : get view owner ≡ None) (entered : w ≡ owner_view_with no_view e) where
-  pub added-ok : (r : Result (Unit {0}) AllocError) (old : NodeView) → old ≡ view → OnOk r (new ≡ insert old owner w) → OnOk r (new ≡ view_with view owner e)
+module _ (owner : List ℕ) (view new : NodeView) (c : Change) (w : OwnerView) (unknown : get view owner ≡ None) (changed : w ≡ owner_view_with no_view c) where
+  pub added-ok : (r : Result (Unit {0}) AllocError) (old : NodeView) → old ≡ view → OnOk r (new ≡ insert old owner w) → OnOk r (new ≡ view_with view owner c)
   added-ok (Err fault) old viewed ok = tt
   added-ok (Ok u) old viewed ok =
       ok ∙ ap (λ (p : NodeView). insert p owner w) viewed
-      ∙ ap (insert view owner) (entered ∙ ap (λ (o : Option OwnerView). owner_view_with (unwrap_or o no_view) e) (sym unknown))
+      ∙ ap (insert view owner) (changed ∙ ap (λ (o : Option OwnerView). owner_view_with (unwrap_or o no_view) c) (sym unknown))
 
 pub added-err : (view : NodeView) (old new : List (List ℕ × OwnerView)) (r : Result (Unit {0}) AllocError) → view_of old ≡ view → OnErr r (new ≡ old) → OnErr r (view_of new ≡ view)
 added-err view old new (Ok u) viewed err = tt

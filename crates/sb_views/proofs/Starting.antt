@@ -6,7 +6,8 @@ use Rattle.sb_holdings.specs.Held.{Held, shown_of}
 use Rattle.sb_holdings.specs.Nodes.{Node}
 use Rattle.sb_holdings.specs.Plain.{IsHoldings}
 use Rattle.sb_views.specs.Histories.{Position}
-use Rattle.sb_views.specs.NodeViews.{NodeView, ShowsTables, view_with_all, all_owned}
+use Rattle.sb_views.specs.Changes.{all_owned}
+use Rattle.sb_views.specs.NodeViews.{NodeView, ShowsTables, view_with_all}
 use Rattle.sb_views.specs.Copies.{ViewCopy}
 use Rattle.sb_views.specs.Publishing.{IsView, IsCopyOf}
 use Rattle.sb_views.proofs.Beginning.{first-view}

@@ -1,6 +1,7 @@
 pub mod Histories
 pub mod Rules
 pub mod NodeViews
+pub mod Changes
 pub mod Growing
 pub mod Copies
 pub mod LiveRows

@@ -1,16 +1,15 @@
 -- The view of a node: what its readers get.
-use Rattle.std.specs.Prelude.{◌≡◌, ℕ, nat_eq, List, [], ◌∷◌, map, filter, flat_map, Option, None, unwrap_or}
+use Rattle.std.specs.Prelude.{◌≡◌, ℕ, List, [], ◌∷◌, Option, unwrap_or}
 use Rattle.std.specs.Ordering.{nat_cmp}
-use Rattle.std.specs.Cmp.Lexicographic.{slice_cmp, pointwise}
+use Rattle.std.specs.Cmp.Lexicographic.{slice_cmp}
 use Rattle.std.specs.FinMap.{FinMap, empty, get, insert, remove, from_sorted}
 use Rattle.sb_types.specs.declared.entry.Slot.{Slot}
 use Rattle.sb_types.specs.declared.entry.Slot.TheVariants.{Set, Removed}
 use Rattle.sb_types.specs.Value.{Value}
 use Rattle.sb_types.specs.Records.{Entry, Table}
-use Rattle.sb_types.specs.Runs.{shown_at, above}
-use Rattle.sb_table.specs.Plain.{with_entry}
-use Rattle.sb_holdings.specs.Held.{Held, shown_of}
-use Rattle.sb_holdings.specs.Plain.{tables_from}
+use Rattle.sb_types.specs.Runs.{shown_at}
+use Rattle.sb_views.specs.declared.change.Change.{Change}
+use Rattle.sb_views.specs.declared.change.Change.TheVariants.{Enter, Clear, Hold}
 
 -- the view of one owner: up to which version it is held, and under each key that is live its value, with the version of its write
 pub record OwnerView : Type 0 where
@@ -49,35 +48,16 @@ abbrev pub rows_with : FinMap (slice_cmp nat_cmp) (Value × ℕ) → Entry → S
 rows_with rows e (Set value) = insert rows e.key (value, e.version)
 rows_with rows e Removed = remove rows e.key
 
--- the owner's view once the owner wrote this
-abbrev pub owner_view_with : OwnerView → Entry → OwnerView
-owner_view_with owner_view e = record { upto = e.version; rows = rows_with owner_view.rows e e.slot }
+-- the owner's view with the change: what the write puts under its key, no rows, or held up to the version
+abbrev pub owner_view_with : OwnerView → Change → OwnerView
+owner_view_with owner_view (Enter e) = record { upto = e.version; rows = rows_with owner_view.rows e e.slot }
+owner_view_with owner_view Clear = record { upto = owner_view.upto; rows = empty }
+owner_view_with owner_view (Hold upto) = record { upto = upto; rows = owner_view.rows }
 
-abbrev pub view_with : NodeView → List ℕ → Entry → NodeView
-view_with view owner e = insert view owner (owner_view_with (owner_view_of view owner) e)
+abbrev pub view_with : NodeView → List ℕ → Change → NodeView
+view_with view owner change = insert view owner (owner_view_with (owner_view_of view owner) change)
 
--- the view with entries of owners entered in turn
-abbrev pub view_with_all : NodeView → List (List ℕ × Entry) → NodeView
+-- the view with changes of owners made in turn
+abbrev pub view_with_all : NodeView → List (List ℕ × Change) → NodeView
 view_with_all view [] = view
 view_with_all view (p ∷ ps) = view_with_all (view_with view p.0 p.1) ps
-
--- those of one owner
-abbrev pub of_owner : List ℕ → List (List ℕ × Entry) → List Entry
-of_owner owner batch = map (λ p. p.1) (filter (λ p. pointwise nat_eq p.0 owner) batch)
-
--- the table with entries entered in turn
-abbrev pub table_with_all : Table → List Entry → Table
-table_with_all t [] = t
-table_with_all t (e ∷ es) = table_with_all (with_entry t e) es
-
--- of each owner the one has the table of the other, with the batch's entries of that owner entered in turn
-abbrev pub Leads : Held → Held → List (List ℕ × Entry) → Type 0
-Leads old new batch = (owner : List ℕ) → shown_of new owner ≡ table_with_all (shown_of old owner) (of_owner owner batch)
-
--- the entries of an owner's table, each with the owner
-abbrev pub owned : List ℕ → Table → List (List ℕ × Entry)
-owned owner t = map (λ e. (owner, e)) (above 0 t.entries)
-
--- the entries of all owners
-abbrev pub all_owned : Held → List (List ℕ × Entry)
-all_owned held = flat_map (λ p. owned p.0 p.1) (tables_from None held)

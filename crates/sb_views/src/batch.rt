@@ -1,29 +1,30 @@
-//! Entries of owners, as they are to be shown.
+//! Changes of owners, as they are to be shown.
 ghost use Rattle.std.specs.Prelude.{◌≡◌, ◌++◌, ◌∷◌, [], true, OnOk, OnErr, IfErr};
-ghost use Rattle.sb_views.specs.Operations.{entries_of, are_entries};
+ghost use Rattle.sb_views.specs.Operations.{changes_of, are_changes};
 
+use crate::change::Change;
 use crate::view_copy::Operation;
 use sb_types::{Entry, Fault, Name};
 use std::alloc::Global;
 use std::collections::VecDeque;
 use std::marker::Model;
 
-/// Entries, each with its owner, in the order in which they are to be shown.
+/// Changes, each of an owner, in the order in which they are to be shown.
 #[derive(Drop)]
 pub struct Batch {
-    entries: VecDeque<Operation>,
+    operations: VecDeque<Operation>,
 }
 
 impl Model for Batch {
     ghost use Rattle.std.specs.Prelude.{◌≡◌, ℕ, List, true};
-    ghost use Rattle.sb_types.specs.Records as records;
-    ghost use Rattle.sb_views.specs.Operations.{entries_of, are_entries};
+    ghost use Rattle.sb_views.specs.declared.change.Change.{Change};
+    ghost use Rattle.sb_views.specs.Operations.{changes_of, are_changes};
 
-    ghost Value = { List (List ℕ × records.Entry) };
+    ghost Value = { List (List ℕ × Change) };
 
-    ghost view = { λ b. entries_of b.entries.items };
+    ghost view = { λ b. changes_of b.operations.items };
 
-    ghost invariant = { λ b. are_entries b.entries.items ≡ true };
+    ghost invariant = { λ b. are_changes b.operations.items ≡ true };
 }
 
 /// Puts an operation behind the others. Where memory is wanting nothing changes.
@@ -42,38 +43,65 @@ fn push_operation(steps: &mut VecDeque<Operation>, step: Operation) -> Result<()
 }
 
 impl Batch {
-    /// A batch without entries. It takes no memory; what it allocates later it allocates by `alloc`.
+    /// A batch without changes. It takes no memory; what it allocates later it allocates by `alloc`.
     pub fn new(alloc: Global) -> Batch
         ensures { result ≡ [] }
     {
         Batch {
-            entries: VecDeque::new(alloc),
+            operations: VecDeque::new(alloc),
         }
     }
 
-    /// Puts an entry of an owner behind the others. `NoMemory`, which leaves the batch as it was.
+    /// Puts behind the others that an entry of an owner is entered. `NoMemory`, which leaves the batch as it was.
     pub fn push(&mut self, owner: Name, entry: Entry) -> Result<(), Fault>
-        ensures ok { OnOk result (self.new ≡ self.old ++ (owner, entry) ∷ []) }
+        ensures ok { OnOk result (self.new ≡ self.old ++ (owner, Change.Enter entry) ∷ []) }
         ensures err { OnErr result (self.new ≡ self.old) }
         ensures memory { IfErr result (λ fault. fault ≡ Fault.NoMemory) }
     {
-        push_operation(&mut self.entries, Operation::Enter(owner, entry))
+        self.push_change(owner, Change::Enter(entry))
     }
 
-    /// The entries as operations on a copy.
-    pub(crate) fn into_operations(self) -> VecDeque<Operation>
-        ensures entries { entries_of result.items ≡ self }
-        ensures alone { are_entries result.items ≡ true }
+    /// Puts behind the others that nothing stands under any key of an owner. `NoMemory`, which leaves the batch as it
+    /// was.
+    pub fn push_clear(&mut self, owner: Name) -> Result<(), Fault>
+        ensures ok { OnOk result (self.new ≡ self.old ++ (owner, Change.Clear) ∷ []) }
+        ensures err { OnErr result (self.new ≡ self.old) }
+        ensures memory { IfErr result (λ fault. fault ≡ Fault.NoMemory) }
     {
-        let Batch { entries } = self;
-        entries
+        self.push_change(owner, Change::Clear)
+    }
+
+    /// Puts behind the others that an owner is held up to a version. `NoMemory`, which leaves the batch as it was.
+    pub fn push_hold(&mut self, owner: Name, upto: u64) -> Result<(), Fault>
+        ensures ok { OnOk result (self.new ≡ self.old ++ (owner, Change.Hold upto) ∷ []) }
+        ensures err { OnErr result (self.new ≡ self.old) }
+        ensures memory { IfErr result (λ fault. fault ≡ Fault.NoMemory) }
+    {
+        self.push_change(owner, Change::Hold(upto))
+    }
+
+    fn push_change(&mut self, owner: Name, change: Change) -> Result<(), Fault>
+        ensures ok { OnOk result (self.new ≡ self.old ++ (owner, change) ∷ []) }
+        ensures err { OnErr result (self.new ≡ self.old) }
+        ensures memory { IfErr result (λ fault. fault ≡ Fault.NoMemory) }
+    {
+        push_operation(&mut self.operations, Operation::Make(owner, change))
+    }
+
+    /// The changes as operations on a copy.
+    pub(crate) fn into_operations(self) -> VecDeque<Operation>
+        ensures changes { changes_of result.items ≡ self }
+        ensures alone { are_changes result.items ≡ true }
+    {
+        let Batch { operations } = self;
+        operations
     }
 
     /// The batch of these operations.
-    pub(crate) fn from_operations(entries: VecDeque<Operation>) -> Batch
-        requires { are_entries entries.items ≡ true }
-        ensures { result ≡ entries_of entries.items }
+    pub(crate) fn from_operations(operations: VecDeque<Operation>) -> Batch
+        requires { are_changes operations.items ≡ true }
+        ensures { result ≡ changes_of operations.items }
     {
-        Batch { entries }
+        Batch { operations }
     }
 }

@@ -8,7 +8,9 @@ ghost use Rattle.sb_holdings.specs.Held.{Held, shown_of, written};
 ghost use Rattle.sb_holdings.specs.Nodes.{Node, replay_node};
 ghost use Rattle.sb_holdings.specs.Plain.{IsHoldings};
 ghost use Rattle.sb_holdings.specs.Treats.{Treats, took_each};
-ghost use Rattle.sb_views.specs.Growing.{AreGrown, new_entries};
+ghost use Rattle.sb_views.specs.declared.change.Change.TheVariants as changes;
+ghost use Rattle.sb_views.specs.Changes.{Leads};
+ghost use Rattle.sb_views.specs.Growing.{AreGrown, new_changes};
 ghost use Rattle.sb_views.specs.NodeViews as node_views;
 ghost use Rattle.sb_views.specs.LiveRows as rows;
 ghost use Rattle.sb_views.specs.Publishing.{IsView};
@@ -23,7 +25,7 @@ pub fn views_show_what_is_held()
 
 /// A node's own write leads on by itself: with it entered, the tables are those after the write.
 pub fn own_writes_lead()
-    ensures { (held : Held) (e : records.Entry) → e.version ≡ (shown_of held held.me).held + 1 → node_views.Leads held (written held e) ((held.me, e) ∷ []) }
+    ensures { (held : Held) (e : records.Entry) → e.version ≡ (shown_of held held.me).held + 1 → Leads held (written held e) ((held.me, changes.Enter e) ∷ []) }
 {}
 
 /// Rows come in ascending order: each stands behind those before it, by owner and then by key.
@@ -32,17 +34,18 @@ pub fn rows_ascend()
         rows.AreAscending (rows.rows_behind place wanted prefix view) }
 {}
 
-/// Tables grow: after any own writes and deltas, however their blocks end, the table of each owner is the earlier one
-/// with the entries entered that it now has above that one's version.
+/// Tables grow: after any own writes and deltas, however their blocks end, of each owner neither the version that is held
+/// nor the floor is lower, and where the floor is the same the entries are the earlier ones with those entered that the
+/// owner now has above the earlier version.
 pub fn tables_grow()
     ensures none { (held : Held) → IsHoldings held → AreGrown held held }
     ensures own { (held : Held) (e : records.Entry) → IsHoldings held → AreGrown held (written held e) }
     ensures delta { (node : Node) (blocks : List records.Block) (ends : List BlockEnd) →
         IsHoldings node.held → is_delta blocks ≡ true → Treats node blocks ends → AreGrown node.held (replay_node node (took_each blocks ends)).held }
-    ensures further { (first second third : Held) → IsHoldings second → AreGrown first second → AreGrown second third → AreGrown first third }
+    ensures further { (first second third : Held) → AreGrown first second → AreGrown second third → AreGrown first third }
 {}
 
-/// What is new of tables that grew leads on: with it entered, owner by owner, the earlier tables are the later ones.
-pub fn new_entries_lead()
-    ensures { (old new : Held) → IsHoldings new → AreGrown old new → node_views.Leads old new (new_entries old new) }
+/// What is new of tables that grew leads on: with it made, owner by owner, the earlier tables are alike to the later ones.
+pub fn new_changes_lead()
+    ensures { (old new : Held) → IsHoldings new → AreGrown old new → Leads old new (new_changes old new) }
 {}

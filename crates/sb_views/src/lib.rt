@@ -17,6 +17,7 @@
 #![tactic(auto)]
 
 mod batch;
+mod change;
 mod event;
 mod history;
 mod laws;
@@ -33,10 +34,11 @@ mod view_copy;
 mod writer;
 
 pub use batch::Batch;
+pub use change::{Change, ChangeRef};
 pub use event::{Event, EventRef};
 pub use history::{HistoryHead, HistoryPrefix, NewHistory, NodeTag, Position};
 pub use laws::{
-    new_entries_lead, own_writes_lead, rows_ascend, tables_grow, views_show_what_is_held,
+    new_changes_lead, own_writes_lead, rows_ascend, tables_grow, views_show_what_is_held,
 };
 pub use live::LiveValue;
 pub use opening::views;

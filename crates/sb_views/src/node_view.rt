@@ -8,13 +8,15 @@ ghost use Rattle.std.specs.BTreeMap.{IsOrdered};
 ghost use Rattle.std.specs.BTreeMap.Range.{range_contains, IsLeBy, IsLtBy};
 ghost use Rattle.std.specs.Range.Bound.{IsForward};
 ghost use Rattle.std.specs.declared.ops.Bound.TheVariants.{Included};
+ghost use Rattle.sb_views.specs.Changes.{change_of};
 ghost use Rattle.sb_views.specs.NodeViews as node_views;
 ghost use Rattle.sb_views.specs.LiveRows as spec;
 
+use crate::change::ChangeRef;
 use crate::owner_view::OwnerView;
 use crate::owner_views::OwnerViews;
 use crate::rows::{LiveRows, OwnerRows};
-use sb_types::{Entry, Key, Name, Prefix, Value};
+use sb_types::{Key, Name, Prefix, Value};
 use std::alloc::{AllocError, Global};
 use std::collections::BTreeMap;
 use std::collections::btree_map::Range;
@@ -79,26 +81,26 @@ impl NodeView {
         }
     }
 
-    /// Shows a write of an owner. Where memory is wanting nothing changes.
-    pub(crate) fn enter(&mut self, owner: &Name, entry: &Entry) -> Result<(), AllocError>
-        ensures ok { OnOk result (self.new ≡ node_views.view_with self.old owner.now entry.now) }
+    /// Shows a change of an owner. Where memory is wanting nothing changes.
+    pub(crate) fn change(&mut self, owner: &Name, change: ChangeRef<'_>) -> Result<(), AllocError>
+        ensures ok { OnOk result (self.new ≡ node_views.view_with self.old owner.now (change_of change.entry)) }
         ensures err { OnErr result (self.new ≡ self.old) }
     {
         let alloc = self.alloc;
         match self.owners.get_mut(owner) {
-            Some(owner_view) => owner_view.enter(alloc, entry),
-            None => self.add(owner, entry),
+            Some(owner_view) => owner_view.change(alloc, change),
+            None => self.add(owner, change),
         }
     }
 
-    /// Shows the first write of an owner. Where memory is wanting nothing changes.
-    fn add(&mut self, owner: &Name, entry: &Entry) -> Result<(), AllocError>
+    /// Shows the first change of an owner. Where memory is wanting nothing changes.
+    fn add(&mut self, owner: &Name, change: ChangeRef<'_>) -> Result<(), AllocError>
         requires { get self.old owner.now ≡ None }
-        ensures ok { OnOk result (self.new ≡ node_views.view_with self.old owner.now entry.now) }
+        ensures ok { OnOk result (self.new ≡ node_views.view_with self.old owner.now (change_of change.entry)) }
         ensures err { OnErr result (self.new ≡ self.old) }
     {
         let mut owner_view = OwnerView::new(self.alloc);
-        owner_view.enter(self.alloc, entry)?;
+        owner_view.change(self.alloc, change)?;
         put_owner_view(&mut self.owners, *owner, owner_view)
     }
 

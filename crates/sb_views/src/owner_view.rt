@@ -8,8 +8,11 @@ ghost use Rattle.std.specs.BTreeMap.Range.{is_from_start};
 ghost use Rattle.sb_views.specs.LiveRows as spec;
 ghost use Rattle.std.specs.Cmp.Lexicographic.{slice_cmp};
 ghost use Rattle.std.specs.BTreeMap.{IsOrdered};
+ghost use Rattle.sb_views.specs.declared.change.Change.TheVariants as changes;
+ghost use Rattle.sb_views.specs.Changes.{change_of};
 ghost use Rattle.sb_views.specs.NodeViews as node_views;
 
+use crate::change::ChangeRef;
 use crate::live::LiveValue;
 use crate::rows::OwnerRows;
 use sb_types::{Entry, Key, Name, Prefix, Slot, Value};
@@ -112,9 +115,27 @@ impl OwnerView {
         }
     }
 
+    /// Shows a change. Where memory is wanting nothing changes.
+    pub(crate) fn change(&mut self, alloc: Global, change: ChangeRef<'_>) -> Result<(), AllocError>
+        ensures ok { OnOk result (self.new ≡ node_views.owner_view_with self.old (change_of change.entry)) }
+        ensures err { OnErr result (self.new ≡ self.old) }
+    {
+        match change {
+            ChangeRef::Enter(entry) => self.enter(alloc, entry),
+            ChangeRef::Clear => {
+                self.clear();
+                Ok(())
+            }
+            ChangeRef::Hold(upto) => {
+                self.hold(upto);
+                Ok(())
+            }
+        }
+    }
+
     /// Shows a write. Where memory is wanting nothing changes.
-    pub(crate) fn enter(&mut self, alloc: Global, entry: &Entry) -> Result<(), AllocError>
-        ensures ok { OnOk result (self.new ≡ node_views.owner_view_with self.old entry.now) }
+    fn enter(&mut self, alloc: Global, entry: &Entry) -> Result<(), AllocError>
+        ensures ok { OnOk result (self.new ≡ node_views.owner_view_with self.old (changes.Enter entry.now)) }
         ensures err { OnErr result (self.new ≡ self.old) }
     {
         match enter_row(alloc, &mut self.rows, entry) {
@@ -124,6 +145,20 @@ impl OwnerView {
             }
             Err(refused) => Err(refused),
         }
+    }
+
+    /// Shows no rows.
+    fn clear(&mut self)
+        ensures { self.new ≡ node_views.owner_view_with self.old changes.Clear }
+    {
+        self.rows.clear();
+    }
+
+    /// Shows up to which version the owner is held.
+    fn hold(&mut self, upto: u64)
+        ensures { self.new ≡ node_views.owner_view_with self.old (changes.Hold upto) }
+    {
+        self.upto = upto;
     }
 
     /// The version up to which the owner is held.

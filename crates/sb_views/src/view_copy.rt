@@ -1,10 +1,11 @@
 //! One of the two copies of the view, and the operations by which both follow.
 ghost use Rattle.std.specs.Prelude.{◌≡◌};
 
+use crate::change::Change;
 use crate::history::Position;
 use crate::node_view::NodeView;
 use left_right::Absorb;
-use sb_types::{Entry, Name};
+use sb_types::Name;
 use std::alloc::AllocError;
 use std::marker::Model;
 
@@ -30,8 +31,8 @@ impl Model for ViewCopy {
 /// An operation on a copy.
 #[derive(Drop)]
 pub enum Operation {
-    /// A write of an owner is entered.
-    Enter(Name, Entry),
+    /// An owner is changed so.
+    Make(Name, Change),
     /// The copy is the view of these events.
     Reach(Position),
 }
@@ -47,7 +48,7 @@ impl Absorb<Operation> for ViewCopy {
 
     fn absorb_first(&mut self, operation: &Operation, _other: &ViewCopy) -> Result<(), AllocError> {
         match operation {
-            Operation::Enter(owner, entry) => self.view.enter(owner, entry),
+            Operation::Make(owner, change) => self.view.change(owner, change.lent()),
             Operation::Reach(position) => {
                 self.position = position.copy();
                 Ok(())

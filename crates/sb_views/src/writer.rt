@@ -1,7 +1,7 @@
 //! The writer of views.
 ghost use Rattle.std.specs.Prelude.{◌≡◌, ◌++◌, ◌∷◌, ◌<◌, ◌^◌, drop, replicate, [], IfOk, IfErr, OnOk, MatchResult};
 ghost use mathlib.Core.List.{IsPrefix};
-ghost use Rattle.sb_views.specs.NodeViews.{Leads};
+ghost use Rattle.sb_views.specs.Changes.{Leads};
 ghost use Rattle.sb_views.specs.Histories.{node_after};
 ghost use Rattle.sb_views.specs.Publishing as spec;
 

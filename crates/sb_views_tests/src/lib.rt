@@ -7,6 +7,8 @@ mod answers;
 #[cfg(test)]
 mod examples;
 #[cfg(test)]
+mod floors;
+#[cfg(test)]
 mod lines;
 #[cfg(test)]
 mod listings;

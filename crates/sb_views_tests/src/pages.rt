@@ -48,7 +48,7 @@ fn block_of_b(rt: &impl Abort, alloc: Global) -> Block {
     let mut entries = Vec::new(alloc);
     got(rt, entries.push(flag(rt, b"net/a", 1)));
     got(rt, entries.push(long_text(rt, alloc, b"y", 2)));
-    got(rt, Block::new(name(rt, b"b"), 0, entries))
+    got(rt, Block::new(name(rt, b"b"), 0, 0, 2, entries))
 }
 
 /// The four writes of a, the last a removal.

@@ -2,6 +2,7 @@
 ghost use Rattle.std.specs.Prelude.{◌≡◌};
 
 use crate::examples::{key_is_looked_up, rows_are_printed};
+use crate::floors::beyond_is_shown;
 use crate::pages::{pages_follow, rows_are_answered};
 use crate::views::live_is_shown;
 use crate::{got, there};
@@ -17,6 +18,8 @@ use std::sync::Wait;
 pub(crate) enum Look {
     /// What stands under keys, and rows in order.
     Live,
+    /// How far owners are held that have no entry of that version.
+    Beyond,
     /// Pages at exact budgets and behind places.
     Pages,
     /// Pages that follow one another.
@@ -56,6 +59,7 @@ fn look_at<S: NodeTag>(rt: &impl Abort, alloc: Global, entered: &Entered<S>, loo
     let snapshot = entered.snapshot();
     match look {
         Look::Live => live_is_shown(rt, &snapshot),
+        Look::Beyond => beyond_is_shown(rt, &snapshot),
         Look::Pages => rows_are_answered(rt, alloc, &snapshot),
         Look::Following => pages_follow(rt, alloc, &snapshot),
         Look::Key => key_is_looked_up(rt, entered),

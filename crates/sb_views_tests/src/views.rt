@@ -19,20 +19,20 @@ use std::sync::Wait;
 
 // A write of a weight, or its removal where there is none.
 #[derive(Clone, Copy)]
-struct Case {
+pub(crate) struct Case {
     key: &'static [u8],
     version: u64,
     weight: Option<u64>,
 }
 
 // The write of b, and those of a in turn.
-const OF_B: Case = Case {
+pub(crate) const OF_B: Case = Case {
     key: b"net/a",
     version: 1,
     weight: Some(7),
 };
 
-const NET_B: Case = Case {
+pub(crate) const NET_B: Case = Case {
     key: b"net/b",
     version: 1,
     weight: Some(1),
@@ -44,7 +44,7 @@ const NET_A: Case = Case {
     weight: Some(2),
 };
 
-const W: Case = Case {
+pub(crate) const W: Case = Case {
     key: b"w",
     version: 3,
     weight: Some(3),
@@ -56,7 +56,7 @@ const NET_B_REMOVED: Case = Case {
     weight: None,
 };
 
-fn entry_of(rt: &impl Abort, case: Case) -> Entry {
+pub(crate) fn entry_of(rt: &impl Abort, case: Case) -> Entry {
     let value = match case.weight {
         Some(number) => Some(weight(rt, number)),
         None => None,
@@ -66,7 +66,7 @@ fn entry_of(rt: &impl Abort, case: Case) -> Entry {
 
 fn block_of_b(rt: &impl Abort, alloc: Global) -> Block {
     let entries = got(rt, vec![in alloc; entry_of(rt, OF_B)]);
-    got(rt, Block::new(name(rt, b"b"), 0, entries))
+    got(rt, Block::new(name(rt, b"b"), 0, 0, OF_B.version, entries))
 }
 
 /// A write of the node is entered.
@@ -109,12 +109,12 @@ fn shown_under(snapshot: &Snapshot<'_>, owner: &Name, key: &Key) -> Shown {
 }
 
 /// An owner is shown so far.
-fn is_upto(rt: &impl Abort, snapshot: &Snapshot<'_>, owner: &[u8], upto: u64) {
+pub(crate) fn is_upto(rt: &impl Abort, snapshot: &Snapshot<'_>, owner: &[u8], upto: u64) {
     same(rt, &snapshot.upto(&name(rt, owner)), &upto);
 }
 
 /// This weight and its version stand under an owner's key.
-fn is_found(
+pub(crate) fn is_found(
     rt: &impl Abort,
     snapshot: &Snapshot<'_>,
     owner: &[u8],
@@ -244,7 +244,7 @@ fn a_removal_is_shown_once_published(rt: HostRuntime) {
 }
 
 /// What a reader sees of a key, and of how many events.
-type Seen = (Shown, u64);
+pub(crate) type Seen = (Shown, u64);
 
 /// What is seen under the key of a write behind what is held, before it is published and then.
 fn publish_behind<R: Wait + Abort>(
@@ -313,7 +313,7 @@ fn append_own<S: NodeTag, R: Wait + Abort>(
 }
 
 /// What a reader sees before all is published, and then.
-fn look_around<S: NodeTag, R: Wait + Abort>(
+pub(crate) fn look_around<S: NodeTag, R: Wait + Abort>(
     rt: &R,
     writer: &mut ViewWriter<S, &R>,
     reader: Reader<S>,

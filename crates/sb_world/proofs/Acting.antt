@@ -13,11 +13,11 @@ use Rattle.sb_types.specs.Records.{Entry, Table, Block, Settings}
 use Rattle.sb_types.specs.Runs.{Stands}
 use Rattle.sb_types.specs.Writes.{Written}
 use Rattle.sb_table.specs.Plain.{with_entry}
-use Rattle.sb_holdings.specs.Contents.{entry_of_write, content_table}
+use Rattle.sb_holdings.specs.Contents.{entry_of_write}
 use Rattle.sb_holdings.specs.Growth.{Grows}
 use Rattle.sb_holdings.specs.Nodes.{Wrote, replay_node, IsNodeEvent, TrueAt, AreNodeEvents, AllTrueAt}
 use Rattle.sb_types.proofs.Standing.{either, of_kept}
-use Rattle.sb_holdings.proofs.Growing.{content-grown, written-grown}
+use Rattle.sb_holdings.proofs.Growing.{written-grown}
 use Rattle.sb_digest.specs.Digests.{Digest}
 use Rattle.sb_codec.specs.declared.message.Message.{Message}
 use Rattle.sb_codec.specs.declared.message.Message.TheVariants as messages
@@ -27,7 +27,7 @@ use Rattle.sb_frames.specs.Frames.{frame}
 use Rattle.sb_frames.specs.Streams.{Stream, TakesNext}
 use Rattle.sb_frames.proofs.Splitting.{length-frame}
 use Rattle.sb_log.specs.Records.{Committed, Log}
-use Rattle.sb_log.specs.Puts.{Puts, Loads, IsSure, next_entry}
+use Rattle.sb_log.specs.Puts.{Puts, Purges as LogPurges, Loads, IsSure, next_entry}
 use Rattle.sb_node.specs.Answers.{IsAnswer}
 use Rattle.sb_node.specs.Cores.{Core, with_node}
 use Rattle.sb_node.specs.Steps.{Steps}
@@ -38,32 +38,34 @@ use Rattle.sb_node.proofs.Truth.{calls_are, calls_true}
 use Rattle.sb_session.specs.Sessions.{Session, hello_of}
 use Rattle.sb_session.specs.Taking.{Asks}
 use Rattle.sb_world.specs.declared.event.Event.{Event}
-use Rattle.sb_world.specs.declared.event.Event.TheVariants.{Commit, Take, CrashInCommit, Restart, Connect, Close, Line, Piece, Ask, Offer, Read, Upto}
+use Rattle.sb_world.specs.declared.event.Event.TheVariants.{Commit, Take, CrashInCommit, Purge, Restart, Connect, Close, Line, Piece, Ask, Offer, Read, Upto}
 use Rattle.sb_world.specs.declared.event.Answer.{Answer}
 use Rattle.sb_world.specs.Places.{Place, frame_at}
-use Rattle.sb_world.specs.Turns.{Effect, rests, logs, goes, listens, opens, Turn, still, with_core, write_of, IsLogged, commit_turn, crash_turn, waiting_after, Crashes, TakesFirst, take_turn, RestartEnds, reopened_turn, refused_turn, sent_turn}
+use Rattle.sb_world.specs.Turns.{Effect, rests, logs, goes, listens, opens, Turn, still, with_core, write_of, IsLogged, commit_turn, crash_turn, purge_turn, waiting_after, Crashes, TakesFirst, take_turn, RestartEnds, reopened_turn, refused_turn, sent_turn}
 use Rattle.sb_world.specs.Connections.{Connection, connection_at, with_connection, without_connection, of_others}
 use Rattle.sb_world.specs.Hearing.{Tells, calls_in, events_in}
 use Rattle.sb_world.specs.Connecting.{Stays, begun, new_connection, Connects, Closes, lined, LinesUp, in_session, Asked, AsksOn, fed, listener, heard_by, connections_after, piece_turn, Delivers, Pieces}
 use Rattle.sb_world.specs.Events.{Acts, ActsWhere, Does, answers_to}
 use Rattle.sb_world.specs.Lines.{IsLine, IsTrueConnection}
 use Rattle.sb_world.specs.States.{Past, put_at, writes_after, past_after}
-use Rattle.sb_world.specs.Truth.{IsTrueFrame, IsTruePlace}
+use Rattle.sb_world.specs.Truth.{IsTrueFrame, IsContentOf, IsTruePlace}
 use Rattle.sb_world.proofs.Names.{put_same}
+use Rattle.sb_world.proofs.Floors.{content_more, content_purged, failure, err_is, LogStays, same_stays, put_stays, purge_stays, load_stays}
 use Rattle.sb_world.proofs.Going.{grown, events_on}
 use Rattle.sb_world.proofs.Lines.{line_empty, line_joined, line_fed, line_later, connection_later}
 use Rattle.sb_world.proofs.Listening.{IsTrueListener, Listened, listened, asked_true, asked_within, nothing_next, tells_core, tells_end, tells_frames}
 use Rattle.sb_world.proofs.Keeping.{AreWaiting, waiting_more, waiting_on, relogged, went, reopened}
 
--- ---- the node stays the same, and so does what is trusted
+-- ---- the node stays the same, and so does what is trusted; and its log's floor does not fall
 
 pub record Same (p : Place) (turn : Turn) : Type 0 where
   pub me : turn.place.me ≡ p.me
   pub clean : turn.place.log.is_clean ≡ true → p.log.is_clean ≡ true
   pub sure : IsSure p.log → IsSure turn.place.log
+  pub log : LogStays p.log turn.place.log
 
 still_same : (p : Place) (answer : Result Answer Fault) → Same p (still p answer)
-still_same p answer = record { me = refl; clean = λ e. e; sure = λ s. s }
+still_same p answer = record { me = refl; clean = λ e. e; sure = λ s. s; log = same_stays p.log p.log refl }
 
 turned_same : (p : Place) (turn : Turn) (other : Turn) → turn ≡ other → Same p other → Same p turn
 turned_same p turn other is same = subst (Same p) (sym is) same
@@ -73,32 +75,39 @@ takes_same p [] turn takes = turned_same p turn _ takes (still_same p _)
 takes_same p (c ∷ others) turn takes = turned_same p turn _ takes.3 (one takes.0)
   where
     one : (result : Result (Unit {0}) Fault) → Same p (take_turn p c others result)
-    one (Ok done) = record { me = refl; clean = λ e. e; sure = λ s. s }
+    one (Ok done) = record { me = refl; clean = λ e. e; sure = λ s. s; log = same_stays p.log p.log refl }
     one (Err fault) = still_same p _
 
 restarts_same : (p : Place) (result : Result Table Fault) (log : Log) (turn : Turn) → Loads p.log result log → RestartEnds p log result turn → Same p turn
 restarts_same p (Ok table) log turn loads ends =
+    let stays = load_stays p.log log (Ok table) loads in
     ⊎_elim
-    (λ is. turned_same p turn (reopened_turn p log table) is (record { me = refl; clean = loads.stays.clean; sure = loads.stays.sure }))
-    (λ is. turned_same p turn (refused_turn p log NoMemory) is (record { me = refl; clean = loads.stays.clean; sure = loads.stays.sure }))
+    (λ is. turned_same p turn (reopened_turn p log table) is (record { me = refl; clean = loads.stays.clean; sure = loads.stays.sure; log = stays }))
+    (λ is. turned_same p turn (refused_turn p log NoMemory) is (record { me = refl; clean = loads.stays.clean; sure = loads.stays.sure; log = stays }))
     ends
-restarts_same p (Err fault) log turn loads ends = turned_same p turn (refused_turn p log fault) ends (record { me = refl; clean = loads.stays.clean; sure = loads.stays.sure })
+restarts_same p (Err fault) log turn loads ends =
+    turned_same p turn (refused_turn p log fault) ends (record { me = refl; clean = loads.stays.clean; sure = loads.stays.sure; log = load_stays p.log log (Err fault) loads })
 
 crashes_same : (p : Place) (key : List ℕ) (slot : Slot) (is_kept : Bool) (turn : Turn) → Crashes p key slot is_kept turn → Same p turn
-crashes_same p key slot false turn is = turned_same p turn (crash_turn p rests p.log) is (record { me = refl; clean = λ e. e; sure = λ s. s })
+crashes_same p key slot false turn is = turned_same p turn (crash_turn p rests p.log) is (record { me = refl; clean = λ e. e; sure = λ s. s; log = same_stays p.log p.log refl })
 crashes_same p key slot true turn crashes =
-    ⊎_elim (λ is. turned_same p turn _ is (still_same p _)) (λ c. turned_same p turn (crash_turn p c.1 c.2) c.6 (record { me = refl; clean = c.3.stays.clean; sure = c.3.stays.sure })) crashes
+    ⊎_elim (λ is. turned_same p turn _ is (still_same p _))
+    (λ c. turned_same p turn (crash_turn p c.1 c.2) c.6 (record { me = refl; clean = c.3.stays.clean; sure = c.3.stays.sure; log = put_stays p.log c.2 key slot c.0 c.3 })) crashes
+
+purges_same : (p : Place) (floor : ℕ) (result : Result (Unit {0}) Fault) (log : Log) → LogPurges p.log floor result log → Same p (purge_turn p floor result log)
+purges_same p floor (Ok done) log purges = record { me = refl; clean = purges.stays.clean; sure = purges.stays.sure; log = purge_stays p.log log floor (Ok done) purges }
+purges_same p floor (Err fault) log purges = record { me = refl; clean = purges.stays.clean; sure = purges.stays.sure; log = purge_stays p.log log floor (Err fault) purges }
 
 stays_same : (p : Place) (conns : List Connection) (answer : Result Answer Fault) (turn : Turn) (new : List Connection) → Stays p conns answer turn new → Same p turn
 stays_same p conns answer turn new stays = turned_same p turn _ stays.0 (still_same p answer)
 
 -- only what the node holds changed, whatever was sent and answered
 core_same : (p : Place) (core : Core) (answer : Result Answer Fault) (effect : Effect) (frames : List (List ℕ)) → Same p (record { answer = answer; effect = effect; place = with_core p core; frames = frames })
-core_same p core answer effect frames = record { me = refl; clean = λ e. e; sure = λ s. s }
+core_same p core answer effect frames = record { me = refl; clean = λ e. e; sure = λ s. s; log = same_stays p.log p.log refl }
 
 connects_same : (found : Option Connection) (p : Place) (number : ℕ) (conns : List Connection) (sent : List (List ℕ)) (turn : Turn) (new : List Connection) → Connects found p number conns sent turn new → Same p turn
 connects_same (Some c) p number conns sent turn new stays = stays_same p conns _ turn new stays
-connects_same None p number conns sent turn new acts = ⊎_elim (stays_same p conns _ turn new) (λ is. turned_same p turn (sent_turn p sent (hello_of (begun p))) is.2 (record { me = refl; clean = λ e. e; sure = λ s. s })) acts
+connects_same None p number conns sent turn new acts = ⊎_elim (stays_same p conns _ turn new) (λ is. turned_same p turn (sent_turn p sent (hello_of (begun p))) is.2 (record { me = refl; clean = λ e. e; sure = λ s. s; log = same_stays p.log p.log refl })) acts
 
 closes_same : (found : Option Connection) (p : Place) (number : ℕ) (conns : List Connection) (turn : Turn) (new : List Connection) → Closes found p number conns turn new → Same p turn
 closes_same None p number conns turn new stays = stays_same p conns _ turn new stays
@@ -125,9 +134,11 @@ pieces_same (Some c) p number count conns sent turn new d = turned_same p turn _
 
 acts_same : (event : Event) (p : Place) (conns : List Connection) (sent : List (List ℕ)) (turn : Turn) (new : List Connection) → Acts event p conns sent turn new → Same p turn
 acts_same (Commit me key slot) p conns sent turn new acts =
-    ⊎_elim (λ is. turned_same p turn _ is (still_same p _)) (λ c. turned_same p turn (commit_turn p c.0 c.1 c.2) c.5 (record { me = refl; clean = c.3.stays.clean; sure = c.3.stays.sure })) acts.0
+    ⊎_elim (λ is. turned_same p turn _ is (still_same p _))
+    (λ c. turned_same p turn (commit_turn p c.0 c.1 c.2) c.5 (record { me = refl; clean = c.3.stays.clean; sure = c.3.stays.sure; log = put_stays p.log c.2 key slot c.0 c.3 })) acts.0
 acts_same (Take me) p conns sent turn new acts = takes_same p p.waiting turn acts.0
 acts_same (CrashInCommit me key slot is_kept) p conns sent turn new acts = crashes_same p key slot is_kept turn acts.0
+acts_same (Purge me floor) p conns sent turn new acts = let r = acts.0 in turned_same p turn (purge_turn p floor r.0 r.1) r.3 (purges_same p floor r.0 r.1 r.2)
 acts_same (Restart me) p conns sent turn new acts = let r = acts.0 in restarts_same p r.0 r.1 turn r.2 r.3
 acts_same (Connect me number) p conns sent turn new acts = connects_same (connection_at conns number) p number conns sent turn new acts
 acts_same (Close number) p conns sent turn new acts = closes_same (connection_at conns number) p number conns turn new acts
@@ -135,7 +146,7 @@ acts_same (Line number index) p conns sent turn new acts = lines_same (connectio
 acts_same (Piece number count) p conns sent turn new acts = pieces_same (connection_at conns number) p number count conns sent turn new acts
 acts_same (Ask number) p conns sent turn new acts = asks_same (connection_at conns number) p number conns sent turn new acts
 acts_same (Offer me owner after) p conns sent turn new acts =
-    ⊎_elim (λ is. turned_same p turn _ is (still_same p _)) (λ o. turned_same p turn (sent_turn p sent (messages.Delta o.0)) o.4 (record { me = refl; clean = λ e. e; sure = λ s. s })) acts.0
+    ⊎_elim (λ is. turned_same p turn _ is (still_same p _)) (λ o. turned_same p turn (sent_turn p sent (messages.Delta o.0)) o.4 (record { me = refl; clean = λ e. e; sure = λ s. s; log = same_stays p.log p.log refl })) acts.0
 acts_same (Read me owner key) p conns sent turn new acts = ⊎_elim (λ is. turned_same p turn _ is (still_same p _)) (λ is. turned_same p turn _ is (still_same p _)) acts.0
 acts_same (Upto me owner) p conns sent turn new acts = turned_same p turn _ acts.0 (still_same p _)
 
@@ -147,17 +158,6 @@ does_same event p conns sent turn new does = where_same (answers_to event p.is_u
     where_same false is = turned_same p turn _ is.0 (still_same p _)
 
 -- ---- what was true of the node is true of it afterwards
-
-fault_in : Result Table Fault → Fault → Fault
-fault_in (Ok x) other = other
-fault_in (Err fault) other = fault
-
-abbrev failure : Fault → Result Table Fault
-failure fault = Err fault
-
-err_is : (a b : Fault) → failure a ≡ failure b → a ≡ b
-unfolding fault_in
-err_is a b e = ap (λ (r : Result Table Fault). fault_in r a) e
 
 -- what is found in a list stands in it
 found_stands : {X : Type 0} (xs : List X) (k : ℕ) (x : X) → slice_get xs k ≡ Some x → Stands xs x
@@ -185,8 +185,12 @@ module _ (writes : List ℕ → List Write) (past : Past) (settings : Settings) 
     pub frames : (bytes : List ℕ) → Stands turn.frames bytes → IsTrueFrame writes settings.budget bytes
 
   -- no write was added
-  same_content : (log : Log) (effect : Effect) → writes_after (writes p.me) effect ≡ writes p.me → (log.is_open ≡ true → log.content ≡ content_table 0 (writes p.me)) → log.is_open ≡ true → log.content ≡ content_table 0 (after effect p.me)
-  same_content log effect none content unshut = content unshut ∙ ap (content_table 0) (sym (now effect ∙ none))
+  same_content : (log : Log) (effect : Effect) → writes_after (writes p.me) effect ≡ writes p.me → (log.is_open ≡ true → IsContentOf (writes p.me) log.content) → log.is_open ≡ true → IsContentOf (after effect p.me) log.content
+  same_content log effect none content unshut = subst (λ (ws : List Write). IsContentOf ws log.content) (sym (now effect ∙ none)) (content unshut)
+
+  -- of a log that did not change
+  unchanged_content : (log : Log) → log ≡ p.log → log.is_open ≡ true → IsContentOf (writes p.me) log.content
+  unchanged_content log same unshut = subst (λ (l : Log). IsContentOf (writes p.me) l.content) (sym same) (t.content (ap (λ (l : Log). l.is_open) (sym same) ∙ unshut))
 
   still_place : IsTruePlace (after rests) past settings p
   still_place = relogged writes (after rests) (grows rests) past settings p t p.log p.waiting p.is_up t.owner (same_content p.log rests refl t.content) (waiting_on writes (after rests) (grows rests) past settings p t)
@@ -208,15 +212,12 @@ module _ (writes : List ℕ → List Write) (past : Past) (settings : Settings) 
       stood = ⊎_elim (λ e. e) (λ e. absurd (let shut : Ok c ≡ Err Closed = puts.closed.1 e in cc)) (cases_Bool p.log.is_open)
 
       entry_is : c.entry ≡ entry_of_write (length (writes p.me) + 1) w
-      entry_is = puts.kept.entry clean ∙ ap (λ (content : Table). next_entry content key slot) (t.content stood)
+      entry_is = puts.kept.entry clean ∙ ap (λ (content : Table). next_entry content key slot) (t.content stood).content
 
-      content_is : log.content ≡ content_table 0 (after (logs w) p.me)
+      content_is : IsContentOf (after (logs w) p.me) log.content
       content_is =
-          puts.kept.content clean
-          ∙ ap (with_entry p.log.content) entry_is
-          ∙ ap (λ (content : Table). with_entry content (entry_of_write (length (writes p.me) + 1) w)) (t.content stood)
-          ∙ sym (content-grown (writes p.me) w)
-          ∙ ap (content_table 0) (sym (now (logs w)))
+          subst (λ (ws : List Write). IsContentOf ws log.content) (sym (now (logs w)))
+          (subst (IsContentOf (writes p.me ++ w ∷ [])) (sym (puts.kept.content clean ∙ ap (with_entry p.log.content) entry_is)) (content_more (writes p.me) w p.log.content (t.content stood)))
 
       written_is : Written (after (logs w) p.me) c.entry
       written_is = subst (λ (ws : List Write). Written ws c.entry) (sym (now (logs w))) (subst (Written (writes p.me ++ w ∷ [])) (sym entry_is) (written-grown (writes p.me) w))
@@ -226,13 +227,13 @@ module _ (writes : List ℕ → List Write) (past : Past) (settings : Settings) 
     refused_same fault log puts unshut = puts.refused.unchanged (λ failed. true≢false (sym unshut ∙ puts.refused.closes failed))
 
     logged_content : (put : Result Committed Fault) (effect : Effect) (log : Log) → Puts p.log key slot put log → IsLogged key slot put effect → log.is_clean ≡ true →
-        log.is_open ≡ true → log.content ≡ content_table 0 (after effect p.me)
-    logged_content (Ok c) effect log puts logged clean unshut = content_is c log puts clean ∙ ap (λ e. content_table 0 (after e p.me)) (sym logged)
+        log.is_open ≡ true → IsContentOf (after effect p.me) log.content
+    logged_content (Ok c) effect log puts logged clean unshut = subst (λ (e : Effect). IsContentOf (after e p.me) log.content) (sym logged) (content_is c log puts clean)
     logged_content (Err fault) effect log puts logged clean unshut =
         ⊎_elim
         (λ (is : effect ≡ rests).
-        let same = refused_same fault log puts unshut in
-        ap (λ (l : Log). l.content) same ∙ t.content (ap (λ (l : Log). l.is_open) (sym same) ∙ unshut) ∙ ap (content_table 0) (sym (now rests)) ∙ ap (λ e. content_table 0 (after e p.me)) (sym is))
+        subst (λ (e : Effect). IsContentOf (after e p.me) log.content) (sym is)
+        (same_content log rests refl (unchanged_content log (refused_same fault log puts unshut)) unshut))
         (λ failed. absurd (true≢false (sym unshut ∙ puts.refused.closes failed.0)))
         logged
 
@@ -268,6 +269,28 @@ module _ (writes : List ℕ → List Write) (past : Past) (settings : Settings) 
       frames = λ bytes stands. absurd stands;
     })
 
+  -- ---- a purge
+
+  module _ (floor : ℕ) (done : Unit {0}) (log : Log) (purges : LogPurges p.log floor (Ok done) log) where
+    purge_stood : p.log.is_open ≡ true
+    purge_stood = ⊎_elim (λ e. e) (λ e. absurd (let shut : Ok done ≡ Err Closed = purges.closed.1 e in cc)) (cases_Bool p.log.is_open)
+
+    purged_so : log.is_clean ≡ true → IsContentOf (writes p.me) log.content
+    purged_so clean =
+        subst (IsContentOf (writes p.me)) (sym (purges.done.content clean)) (content_purged (writes p.me) p.log.content floor (t.content purge_stood) (purges.done.fits clean))
+
+  purges_kept : (floor : ℕ) (result : Result (Unit {0}) Fault) (log : Log) → LogPurges p.log floor result log → Kept (purge_turn p floor result log)
+  purges_kept floor (Ok done) log purges = record {
+    place = λ clean. relogged writes (after rests) (grows rests) past settings p t log p.waiting false (purges.stays.owner ∙ t.owner)
+        (same_content log rests refl (λ unshut. purged_so floor done log purges clean)) (waiting_on writes (after rests) (grows rests) past settings p t);
+    frames = λ bytes stands. absurd stands;
+  }
+  purges_kept floor (Err fault) log purges = record {
+    place = λ clean. relogged writes (after rests) (grows rests) past settings p t log p.waiting p.is_up (purges.stays.owner ∙ t.owner)
+        (same_content log rests refl (λ unshut. unchanged_content log (purges.refused.unchanged (λ failed. true≢false (sym unshut ∙ purges.refused.closes failed))) unshut)) (waiting_on writes (after rests) (grows rests) past settings p t);
+    frames = λ bytes stands. absurd stands;
+  }
+
   -- ---- an own write enters
 
   wrote_events : (e : Entry) → AreNodeEvents (Wrote e ∷ [])
@@ -298,7 +321,7 @@ module _ (writes : List ℕ → List Write) (past : Past) (settings : Settings) 
 
   -- ---- a restart
 
-  refused_kept : (log : Log) (fault : Fault) → log.owner ≡ p.log.owner → (log.is_clean ≡ true → log.is_open ≡ true → log.content ≡ content_table 0 (writes p.me)) → Kept (refused_turn p log fault)
+  refused_kept : (log : Log) (fault : Fault) → log.owner ≡ p.log.owner → (log.is_clean ≡ true → log.is_open ≡ true → IsContentOf (writes p.me) log.content) → Kept (refused_turn p log fault)
   refused_kept log fault owner content = record {
     place = λ clean. relogged writes (after rests) (grows rests) past settings p t log [] false (owner ∙ t.owner) (same_content log rests refl (content clean)) (λ c stands. absurd stands);
     frames = λ bytes stands. absurd stands;
@@ -308,22 +331,25 @@ module _ (writes : List ℕ → List Write) (past : Past) (settings : Settings) 
     stands : p.log.is_open ≡ true
     stands = ⊎_elim (λ e. e) (λ e. absurd (let shut : Ok table ≡ Err Closed = loads.closed.1 e in cc)) (cases_Bool p.log.is_open)
 
-    loaded : log.is_clean ≡ true → log.content ≡ content_table 0 (writes p.me)
-    loaded clean = loads.given.content clean ∙ t.content stands
+    loaded : log.is_clean ≡ true → IsContentOf (writes p.me) log.content
+    loaded clean = subst (IsContentOf (writes p.me)) (sym (loads.given.content clean)) (t.content stands)
 
     reopened_kept : Kept (reopened_turn p log table)
-    reopened_kept = record {
-      place = λ clean. reopened writes (after opens) (grows opens) past settings p t (writes p.me) (now opens) log table (past.openings + 1) (loads.stays.owner ∙ t.owner) (same_content log opens refl (λ unshut. loaded clean)) loads.given.plain
-          (loads.given.same clean ∙ t.content stands);
-      frames = λ bytes stands. absurd stands;
-    }
+    reopened_kept =
+        let effect : Effect = opens table.floor in
+        let kept : log.is_clean ≡ true → IsContentOf (writes p.me) table = λ clean. subst (IsContentOf (writes p.me)) (sym (loads.given.same clean)) (t.content stands) in
+        record {
+          place = λ clean. reopened writes (after effect) (grows effect) past settings p t (writes p.me) (now effect) log table (past.openings + 1) (loads.stays.owner ∙ t.owner)
+              (same_content log effect refl (λ unshut. loaded clean)) loads.given.is.table (kept clean);
+          frames = λ bytes stands. absurd stands;
+        }
 
-  failed_content : (fault : Fault) (log : Log) → Loads p.log (Err fault) log → log.is_clean ≡ true → log.is_open ≡ true → log.content ≡ content_table 0 (writes p.me)
+  failed_content : (fault : Fault) (log : Log) → Loads p.log (Err fault) log → log.is_clean ≡ true → log.is_open ≡ true → IsContentOf (writes p.me) log.content
   failed_content fault log loads clean unshut =
       ⊎_elim
       (λ (stood : p.log.is_open ≡ true).
       ⊎_elim
-      (λ (memory : fault ≡ NoMemory). loads.failed.content memory clean ∙ t.content stood)
+      (λ (memory : fault ≡ NoMemory). subst (IsContentOf (writes p.me)) (sym (loads.failed.content memory clean)) (t.content stood))
       (λ others. absurd (true≢false (sym unshut ∙ loads.failed.closes (⊎_elim (λ failed. inl failed) (λ damaged. inr damaged.0) others))))
       (loads.failed.reason stood))
       (λ (shut : p.log.is_open ≡ false).
@@ -559,6 +585,8 @@ module _ (writes : List ℕ → List Write) (past : Past) (settings : Settings) 
         alone turn new (⊎_elim (λ is. turned_kept turn _ is (still_kept _)) (λ c. turned_kept turn (commit_turn p c.0 c.1 c.2) c.5 (commit_kept key slot c.0 c.1 c.2 c.3 c.4)) acts.0) acts.1
     acts_kept (Take me) turn new acts = alone turn new (takes_kept p.waiting refl turn acts.0) acts.1
     acts_kept (CrashInCommit me key slot is_kept) turn new acts = some_left turn.place.is_up turn new (crashes_kept key slot is_kept turn acts.0) acts.1
+    acts_kept (Purge me floor) turn new acts =
+        let r = acts.0 in some_left turn.place.is_up turn new (turned_kept turn (purge_turn p floor r.0 r.1) r.3 (purges_kept floor r.0 r.1 r.2)) acts.1
     acts_kept (Restart me) turn new acts = let r = acts.0 in fewer turn new (restarts_kept r.0 r.1 turn r.2 r.3) acts.1
     acts_kept (Connect me number) turn new acts = connects_kept (connection_at conns number) number turn new acts
     acts_kept (Close number) turn new acts = closes_kept (connection_at conns number) number turn new acts

@@ -18,7 +18,6 @@ use Rattle.sb_holdings.specs.Plain.{IsHoldings, is_from, tables_from}
 use Rattle.sb_digest.specs.Digests.{Pair, Digest, digest_of, covers}
 use Rattle.sb_digest.specs.Lengths.{pair_length, digest_length}
 use Rattle.sb_digest.specs.Limits.{are_pairs_above, are_digest_parts}
-use Rattle.sb_digest.specs.Pairs.{pair_of, pairs_from}
 use Rattle.sb_codec.proofs.Parts.{between_parts}
 use Rattle.sb_types.specs.declared.fault.Fault.{Fault}
 use Rattle.sb_world.specs.Turns.{numbered_pair, asked}
@@ -47,7 +46,7 @@ all_covered : (d : Digest) (ps : List Pair) → ((name : List ℕ) → covers d 
 all_covered d [] each = refl
 all_covered d (p ∷ ps) each = and_from _ _ (each p.owner) (all_covered d ps each)
 
-short_pairs : (ps : List Pair) → list_all is_named ps ≡ true → sum_by pair_length ps ≤ 41 * length ps
+short_pairs : (ps : List Pair) → list_all is_named ps ≡ true → sum_by pair_length ps ≤ 57 * length ps
 short_pairs [] named = omega arith
 short_pairs (p ∷ ps) named =
     let parts = and_parts (is_named p) (list_all is_named ps) named in
@@ -61,7 +60,7 @@ digest_fits ps rises named few =
     let short : digest_length d ≤ PAYLOAD_MOST = omega (arith, short_pairs ps named, few) in
     and_from _ _ (and_from _ _ (pairs_above [] ps (names_behind ps named) rises) (all_covered d ps (λ name. refl))) (le-leb _ _ short)
 
-owners_asked : (owner : List ℕ) (after : ℕ) (ts : List (List ℕ × Table)) → map owner_of (map (numbered_pair owner after) (map pair_of ts)) ≡ keys_of ts
+owners_asked : (owner : List ℕ) (after : ℕ) (ts : List (List ℕ × Table)) → map owner_of (map (numbered_pair owner after) ts) ≡ keys_of ts
 owners_asked owner after [] = refl
 owners_asked owner after (t ∷ ts) = ap (λ names. t.0 ∷ names) (owners_asked owner after ts)
 
@@ -73,7 +72,7 @@ few_asked : (held : Held) (owner : List ℕ) (after : ℕ) → IsHoldings held �
 few_asked held owner after is =
     let limit = is.limit in
     let same : length (asked held owner after).pairs ≡ length (entries held.owners) =
-    length-map (pairs_from None held) (numbered_pair owner after) ∙ length-map (tables_from None held) pair_of ∙ length-map (filter (λ e. is_from None e.0) (entries held.owners)) (λ e. (e.0, e.1.shown)) ∙ ap length (all_from (entries held.owners)) in
+    length-map (tables_from None held) (numbered_pair owner after) ∙ length-map (filter (λ e. is_from None e.0) (entries held.owners)) (λ e. (e.0, e.1.shown)) ∙ ap length (all_from (entries held.owners)) in
     omega (arith, limit, same, len-entries held.owners)
 
 pub asked_fits : (held : Held) (owner : List ℕ) (after : ℕ) → IsHoldings held → IsStrictlySortedBy (slice_cmp nat_cmp) (keys_of (tables_from None held)) → list_all is_named (asked held owner after).pairs ≡ true → are_digest_parts (asked held owner after) ≡ true

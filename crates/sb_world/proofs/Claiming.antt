@@ -2,7 +2,7 @@
 use Rattle.std.specs.Prelude.{option_map, option_and_then}
 use Rattle.std.specs.List.{flat_map}
 use Rattle.std.proofs.lemmas.List.{append-nil}
-use Rattle.std.proofs.Common.{◌≡◌, ◌⊎◌, ℕ, Bool, true, false, List, [], ◌∷◌, ◌++◌, append_assoc, length, map, inl, inr, ⊎_elim, Option, Some, None, IfSome, Result, Ok, Err, refl, sym, ap, subst, ◌∙◌}
+use Rattle.std.proofs.Common.{◌≡◌, ◌⊎◌, ℕ, Bool, true, false, List, [], ◌∷◌, ◌++◌, append_assoc, length, inl, inr, ⊎_elim, Option, Some, None, IfSome, Result, Ok, Err, refl, sym, ap, subst, ◌∙◌}
 use Rattle.sb_types.specs.declared.entry.Slot.TheVariants.{Set}
 use Rattle.sb_types.specs.declared.fault.Fault.{Fault}
 use Rattle.sb_types.specs.declared.fault.Fault.TheVariants.{NoMemory, Closed}
@@ -15,7 +15,7 @@ use Rattle.sb_holdings.specs.declared.ends.BlockEnd.{BlockEnd}
 use Rattle.sb_holdings.specs.Held.{shown_of}
 use Rattle.sb_holdings.specs.Nodes.{Node, node_after_block, replay_node}
 use Rattle.sb_holdings.proofs.Shown.{read_written, read_exact}
-use Rattle.sb_holdings.proofs.TakenUp.{taken_up}
+use Rattle.sb_holdings.proofs.TakenUp.{taken_up, staged_up}
 use Rattle.sb_codec.specs.declared.message.Message.TheVariants as messages
 use Rattle.sb_codec.specs.declared.message.Message.{Message}
 use Rattle.sb_codec.specs.Messages.{is_message}
@@ -66,6 +66,7 @@ given_or other answers.Nothing = other
 given_or other (answers.Committed version) = other
 given_or other (answers.Took version) = other
 given_or other answers.Crashed = other
+given_or other (answers.Purged floor) = other
 given_or other (answers.Restarted version) = other
 given_or other (answers.Sent number) = other
 given_or other (answers.Delivered items fault) = other
@@ -151,7 +152,7 @@ taken_each node [] [] are treats = refl
 taken_each node [] (end ∷ ends) are treats = absurd treats
 taken_each node (b ∷ bs) [] are treats = absurd treats
 taken_each node (b ∷ bs) (end ∷ ends) are treats =
-    (λ joins. taken_up node b end (are b (inl refl)) joins treats.0, taken_each (node_after_block node b end) bs ends (λ c stands. are c (inr stands)) treats.1)
+    ((λ joins. taken_up node b end joins treats.0, λ s joins. staged_up node b s end joins treats.0), taken_each (node_after_block node b end) bs ends (λ c stands. are c (inr stands)) treats.1)
 
 -- a message of each kind, as it was taken
 message_taken : (s : Session) (core : Core) (m : Message) (answer : Replies) (t : Session) (new : Core) → is_message m ≡ true → Takes Steps s core m (Ok answer) t new →

@@ -22,14 +22,14 @@ more_by rests = []
 more_by (logs w) = w ∷ []
 more_by (goes events) = []
 more_by (listens bytes heard) = []
-more_by opens = []
+more_by (opens floor) = []
 
 pub after_is : (writes : List Write) (effect : Effect) → writes_after writes effect ≡ writes ++ more_by effect
 after_is writes rests = sym (append-nil writes)
 after_is writes (logs w) = refl
 after_is writes (goes events) = sym (append-nil writes)
 after_is writes (listens bytes heard) = sym (append-nil writes)
-after_is writes opens = sym (append-nil writes)
+after_is writes (opens floor) = sym (append-nil writes)
 
 -- the writes of one name go on, and no others
 pub grown : (writes : List ℕ → List Write) (me : List ℕ) (effect : Effect) → Grows writes (put_at writes me (writes_after (writes me) effect))
@@ -57,7 +57,9 @@ module _ (old new : List ℕ → List Write) (grows : Grows old new) where
   opening_on me node o = record {
     front = o.front;
     rest = o.rest ++ (grows me).0;
+    floor = o.floor;
     all = (grows me).1 ∙ ap (λ ws. ws ++ (grows me).0) o.all ∙ append_assoc o.front o.rest (grows me).0;
+    low = o.low;
     node = o.node;
     is = o.is;
   }

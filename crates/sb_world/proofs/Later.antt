@@ -35,7 +35,7 @@ by_effect me writes a rests = inr (refl, [], refl, sym (append-nil a.since))
 by_effect me writes a (logs w) = inr (refl, [], refl, sym (append-nil a.since))
 by_effect me writes a (goes events) = inr (refl, events, refl, refl)
 by_effect me writes a (listens bytes heard) = inr (refl, events_in heard, refl, refl)
-by_effect me writes a opens = inl (omega arith)
+by_effect me writes a (opens floor) = inl (omega arith)
 
 chained : (a b c : Past) → Follows a b → Follows b c → Follows a c
 chained a b c (inl one) (inl two) = inl (omega (arith, one, two))

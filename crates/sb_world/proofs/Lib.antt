@@ -1,4 +1,5 @@
 pub mod Names
+pub mod Floors
 pub mod Going
 pub mod Keeping
 pub mod Lines
@@ -11,6 +12,7 @@ pub mod Running
 pub mod Staying
 pub mod Later
 pub mod Claiming
+pub mod Purging
 pub mod Choosing
 pub mod Asking
 pub mod Looking

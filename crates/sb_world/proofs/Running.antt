@@ -1,12 +1,12 @@
 -- Runs of the machine: each state of one is true, and so is what follows from that.
-use Rattle.std.proofs.Common.{◌≡◌, ℕ, List, [], ◌∷◌, Result, sym, ap, subst, ◌∙◌, arith}
+use Rattle.std.proofs.Common.{◌≡◌, ℕ, ◌≤◌, List, [], ◌∷◌, length, Result, sym, ap, subst, ◌∙◌, arith}
 use Rattle.std.proofs.lemmas.List.{append-nil}
 use Rattle.sb_types.specs.declared.fault.Fault.{Fault}
+use Rattle.sb_types.specs.Records.{Table}
 use Rattle.sb_types.specs.Writes.{Written}
 use Rattle.sb_holdings.specs.Contents.{content_table}
 use Rattle.sb_holdings.specs.Nodes.{Node, opened_node, replay_node, AreNodeEvents, AllTrueAt, IsNode, NodeHolds}
-use Rattle.sb_holdings.proofs.Opened.{opened-holds}
-use Rattle.sb_holdings.proofs.ByOwner.{IsHoldings-alone}
+use Rattle.sb_holdings.proofs.Opened.{opened-holds, IsHoldings-alone}
 use Rattle.sb_holdings.proofs.Changed.{IsHolder-held}
 use Rattle.sb_holdings.proofs.Content.{content_tells}
 use Rattle.sb_types.specs.Runs.{Stands}
@@ -32,6 +32,15 @@ clean_run old [] (a ∷ rs) states run clean = absurd run
 clean_run old (e ∷ es) [] states run clean = absurd run
 clean_run old (e ∷ es) (a ∷ rs) [] run clean = absurd run
 clean_run old (e ∷ es) (a ∷ rs) (s ∷ ss) run clean = clean_moved old e a s run.0 (clean_run s es rs ss run.1 clean)
+
+-- so in each state
+pub clean_each : (old : State) (events : List Event) (answers : List (Result Answer Fault)) (states : List State) → Run old events answers states → IsClean (last_of old states).now.places → EachState (λ s. IsClean s.now.places) old states
+clean_each old [] [] [] run clean = clean
+clean_each old [] [] (s ∷ ss) run clean = absurd run
+clean_each old [] (a ∷ rs) states run clean = absurd run
+clean_each old (e ∷ es) [] states run clean = absurd run
+clean_each old (e ∷ es) (a ∷ rs) [] run clean = absurd run
+clean_each old (e ∷ es) (a ∷ rs) (s ∷ ss) run clean = (clean_run old (e ∷ es) (a ∷ rs) (s ∷ ss) run clean, clean_each s es rs ss run.1 clean)
 
 -- and one that can't break it keeps it to the end
 pub sure_run : (old : State) (events : List Event) (answers : List (Result Answer Fault)) (states : List State) → Run old events answers states → AreSure old.now.places → AreSure (last_of old states).now.places
@@ -65,35 +74,38 @@ pub first_state : (P : State → Type 0) (first : State) (states : List State) �
 first_state P first [] each = each
 first_state P first (s ∷ ss) each = each.0
 
--- a property of each step between states that are true
-pub each_step : (P : State → Event → Result Answer Fault → State → Type 0) → ((old : State) (event : Event) (answer : Result Answer Fault) (new : State) → Moves old event answer new → IsTrueState old → IsTrueState new → P old event answer new) →
-    (old : State) (events : List Event) (answers : List (Result Answer Fault)) (states : List State) → Run old events answers states → EachState IsTrueState old states → EachStep P old events answers states
-each_step P f old [] [] [] run each = tt
-each_step P f old [] [] (s ∷ ss) run each = absurd run
-each_step P f old [] (a ∷ rs) states run each = absurd run
-each_step P f old (e ∷ es) [] states run each = absurd run
-each_step P f old (e ∷ es) (a ∷ rs) [] run each = absurd run
-each_step P f old (e ∷ es) (a ∷ rs) (s ∷ ss) run each = (f old e a s run.0 each.0 (first_state IsTrueState s ss each.1), each_step P f s es rs ss run.1 each.1)
+-- a property of each step between states of which all have another
+pub each_step : (Q : State → Type 0) (P : State → Event → Result Answer Fault → State → Type 0) → ((old : State) (event : Event) (answer : Result Answer Fault) (new : State) → Moves old event answer new → Q old → Q new → P old event answer new) →
+    (old : State) (events : List Event) (answers : List (Result Answer Fault)) (states : List State) → Run old events answers states → EachState Q old states → EachStep P old events answers states
+each_step Q P f old [] [] [] run each = tt
+each_step Q P f old [] [] (s ∷ ss) run each = absurd run
+each_step Q P f old [] (a ∷ rs) states run each = absurd run
+each_step Q P f old (e ∷ es) [] states run each = absurd run
+each_step Q P f old (e ∷ es) (a ∷ rs) [] run each = absurd run
+each_step Q P f old (e ∷ es) (a ∷ rs) (s ∷ ss) run each = (f old e a s run.0 each.0 (first_state Q s ss each.1), each_step Q P f s es rs ss run.1 each.1)
 
 -- ---- starts
 
 fresh_true : (s : State) (p : Place) → IsFresh s p → IsTruePlace s.writes (s.past p.me) s.now.settings p
 fresh_true s p f =
-    let node : opened_node p.me p.log.content ≡ opened_node p.me (content_table 0 (s.writes p.me)) = ap (opened_node p.me) f.content in
-    let is : IsNode p.core.node = subst IsNode (sym f.node) (IsHolder-held (opened_node p.me p.log.content).held (IsHoldings-alone p.me p.log.content f.plain)) in
+    let floor = p.log.content.floor in
+    let held : p.log.content.held ≡ length (s.writes p.me) = ap (λ (t : Table). t.held) f.content in
+    let low : floor ≤ length (s.writes p.me) = omega (arith, f.kept.is.floor, held) in
+    let node : opened_node p.me p.log.content ≡ opened_node p.me (content_table floor (s.writes p.me)) = ap (opened_node p.me) f.content in
+    let is : IsNode p.core.node = subst IsNode (sym f.node) (IsHolder-held (opened_node p.me p.log.content).held (IsHoldings-alone p.me p.log.content f.kept)) in
     let opening : (s.past p.me).opening ≡ p.core.node = ap (λ (h : Past). h.opening) f.past in
     let since : (s.past p.me).since ≡ [] = ap (λ (h : Past). h.since) f.past in
     record {
       owner = f.owner;
-      content = λ unshut. f.content;
+      content = λ unshut. record { floor = low; content = f.content };
       settings = f.settings;
       me = ap (λ (n : Node). n.held.me) f.node;
-      opening = record { front = s.writes p.me; rest = []; all = sym (append-nil (s.writes p.me)); node = opening ∙ f.node ∙ node; is = subst IsNode (sym opening) is };
+      opening = record { front = s.writes p.me; rest = []; floor = floor; all = sym (append-nil (s.writes p.me)); low = low; node = opening ∙ f.node ∙ node; is = subst IsNode (sym opening) is };
       replay = sym (ap (λ (h : Past). replay_node h.opening h.since) f.past);
       events = subst AreNodeEvents (sym since) (λ event stands. absurd stands);
       honest = subst (AllTrueAt s.writes p.me) (sym since) (λ event stands. absurd stands);
       is = is;
-      holds = subst (NodeHolds s.writes) (sym (f.node ∙ node)) (opened-holds s.writes p.me (content_table 0 (s.writes p.me)) (content_tells (s.writes p.me) 0 (omega arith)));
+      holds = subst (NodeHolds s.writes) (sym (f.node ∙ node)) (opened-holds s.writes p.me (content_table floor (s.writes p.me)) (content_tells (s.writes p.me) floor low));
       waiting = subst (λ (ws : List Committed). (c : Committed) → Stands ws c → (c.owner ≡ p.me) × Written (s.writes p.me) c.entry) (sym f.waiting) (λ c stands. absurd stands);
     }
 

@@ -4,7 +4,6 @@ use Rattle.std.specs.Prelude.{option_and_then}
 use Rattle.std.specs.Cmp.Lexicographic.{pointwise}
 use Rattle.sb_types.specs.declared.entry.Write.{Write}
 use Rattle.sb_types.specs.declared.fault.Fault.{Fault}
-use Rattle.sb_holdings.specs.Contents.{content_table}
 use Rattle.sb_holdings.specs.Growth.{Grows}
 use Rattle.sb_world.specs.declared.event.Event.{Event}
 use Rattle.sb_world.specs.declared.event.Answer.{Answer}
@@ -14,7 +13,7 @@ use Rattle.sb_world.specs.Turns.{Effect}
 use Rattle.sb_world.specs.Events.{node_of, place_for, Does}
 use Rattle.sb_world.specs.Steps.{StepAt, seen_after}
 use Rattle.sb_world.specs.States.{Past, State, put_at, writes_after, past_after, remembered, Moves}
-use Rattle.sb_world.specs.Truth.{IsTrueFrame, IsTruePlace, IsTrueState}
+use Rattle.sb_world.specs.Truth.{IsContentOf, IsTrueFrame, IsTruePlace, IsTrueState}
 use Rattle.sb_world.proofs.Names.{found_me, put_same, put_other, each_placed, clean_before, sure_after, clean_there}
 use Rattle.sb_world.proofs.Going.{grown, frame_on}
 use Rattle.sb_world.proofs.Keeping.{joined, relogged, waiting_on}
@@ -56,7 +55,7 @@ module _ (event : Event) (answer : Result Answer Fault) (effect : Effect) (old :
       let grows : Grows old.writes new = grown old.writes me effect in
       let same : new p.me ≡ old.writes p.me = put_other old.writes me p.me (writes_after (old.writes me) effect) other in
       subst (λ (h : Past). IsTruePlace new h old.now.settings p) (sym (put_other old.past me p.me (past_after me (old.writes me) (old.past me) effect) other))
-      (relogged old.writes new grows (old.past p.me) old.now.settings p t p.log p.waiting p.is_up t.owner (λ unshut. t.content unshut ∙ ap (content_table 0) (sym same)) (waiting_on old.writes new grows (old.past p.me) old.now.settings p t))
+      (relogged old.writes new grows (old.past p.me) old.now.settings p t p.log p.waiting p.is_up t.owner (λ unshut. subst (λ (ws : List Write). IsContentOf ws p.log.content) (sym same) (t.content unshut)) (waiting_on old.writes new grows (old.past p.me) old.now.settings p t))
 
   module _ (laws : Laws) (p q : Place) (conns : List Connection) (frames : List (List ℕ)) (found : place_at old.now.places p.me ≡ Some p)
       (does : Does event p old.now.connections old.now.sent (record { answer = answer; effect = effect; place = q; frames = frames }) conns) (clean : IsClean (with_place old.now.places p.me q)) (t : IsTrueState old) where

@@ -1,5 +1,5 @@
 -- What came and went on the connections, as events happen.
-use Rattle.std.proofs.Common.{◌≡◌, ◌≢◌, ◌⊎◌, ℕ, Bool, true, false, cond, not, nat_eq, List, [], ◌∷◌, ◌++◌, map, filter, take, drop, length, inl, inr, ⊎_elim, Option, Some, None, Result, Ok, Err, refl, sym, ap, subst, ◌∙◌, eqb-true, eq-eqb, ne_eqb}
+use Rattle.std.proofs.Common.{◌≡◌, ◌≢◌, ◌⊎◌, ℕ, Bool, true, false, cond, not, nat_eq, List, [], ◌∷◌, ◌++◌, filter, take, drop, length, inl, inr, ⊎_elim, Option, Some, None, Result, Ok, Err, refl, sym, ap, subst, ◌∙◌, eqb-true, eq-eqb, ne_eqb}
 use Rattle.std.specs.Prelude.{unwrap_or}
 use Rattle.std.specs.List.{flat_map}
 use Rattle.std.specs.Cmp.Lexicographic.{pointwise}
@@ -15,15 +15,13 @@ use Rattle.sb_frames.specs.Frames.{frame}
 use Rattle.sb_frames.specs.Streams.{Stream, open_with, TakesNext, Hands}
 use Rattle.sb_session.specs.Sessions.{Session, hello_of}
 use Rattle.sb_world.specs.declared.event.Event.{Event}
-use Rattle.sb_world.specs.declared.event.Event.TheVariants.{Commit, Take, CrashInCommit, Restart, Connect, Close, Line, Piece, Ask, Offer, Read, Upto}
-use Rattle.sb_world.specs.declared.event.Answer.{Answer}
+use Rattle.sb_world.specs.declared.event.Event.TheVariants.{Commit, Take, CrashInCommit, Purge, Restart, Connect, Close, Line, Piece, Ask, Offer, Read, Upto}
 use Rattle.sb_world.specs.Connections.{Connection, connection_at, with_connection, without_connection, of_others}
-use Rattle.sb_world.specs.Connecting.{Stays, begun, new_connection, Connects, Closes, lined, LinesUp, in_session, Asked, AsksOn, fed, listener, heard_by, connections_after, piece_turn, Delivers, Pieces}
+use Rattle.sb_world.specs.Connecting.{begun, new_connection, Connects, Closes, lined, LinesUp, in_session, Asked, AsksOn, fed, listener, heard_by, connections_after, Delivers, Pieces}
 use Rattle.sb_world.specs.Events.{answers_to, Acts, ActsWhere, Does}
 use Rattle.sb_world.specs.Hearing.{Listener, Heard, Hears, Tells}
-use Rattle.sb_world.specs.Lines.{laid_out}
 use Rattle.sb_world.specs.Places.{Place, frame_at}
-use Rattle.sb_world.specs.Turns.{Turn, rests, listens, still, sent_turn, with_core}
+use Rattle.sb_world.specs.Turns.{Turn, rests, with_core}
 use Rattle.sb_world.specs.Wires.{Wire, new_wire, messages_in, begun_by, lined_by, heard_on, wired, wires_by, IsHistory, IsTrueWire, IsPastWire, AreDistinct, AreTrueWires}
 use Rattle.sb_world.proofs.Acting.{frame_stands}
 use Rattle.sb_world.proofs.Keeping.{joined}
@@ -383,6 +381,7 @@ module _ (sent : List (List ℕ)) (conns : List Connection) (wires : ℕ → Wir
     acts_wires (Commit me key slot) turn new acts = alone turn.frames new wires (λ n. refl) acts.1
     acts_wires (Take me) turn new acts = alone turn.frames new wires (λ n. refl) acts.1
     acts_wires (CrashInCommit me key slot is_kept) turn new acts = some_left turn.place.is_up turn.frames new p.me acts.1
+    acts_wires (Purge me floor) turn new acts = some_left turn.place.is_up turn.frames new p.me acts.1
     acts_wires (Restart me) turn new acts = fewer turn.frames new p.me acts.1
     acts_wires (Connect me number) turn new acts = connects_wires (connection_at conns number) number refl turn new acts
     acts_wires (Close number) turn new acts = closes_wires (connection_at conns number) number turn new acts

@@ -1,23 +1,23 @@
 -- What a run of the machine keeps, claim by claim.
-use Rattle.std.specs.Prelude.{◌≡◌, ◌⊎◌, ℕ, ◌≤◌, false, List, [], ◌∷◌, ◌++◌, length, map, take, Option, Some, None, IfSome, Result, Ok, Err}
-use Rattle.sb_types.specs.declared.entry.Slot.TheVariants.{Set}
+use Rattle.std.specs.Prelude.{◌≡◌, ◌⊎◌, ℕ, ◌≤◌, true, false, List, [], ◌∷◌, ◌++◌, length, map, take, Option, Some, None, IfSome, IsSomeAnd, Result, Ok, Err}
+use Rattle.sb_types.specs.declared.entry.Slot.TheVariants.{Set, Removed}
 use Rattle.sb_types.specs.declared.entry.Write.{Write}
 use Rattle.sb_types.specs.declared.fault.Fault.{Fault}
 use Rattle.sb_types.specs.declared.fault.Fault.TheVariants.{NoMemory, Closed}
 use Rattle.sb_types.specs.Value.{Value}
-use Rattle.sb_types.specs.Records.{Entry, Block}
+use Rattle.sb_types.specs.Records.{Entry, Table, Stage, Block}
 use Rattle.sb_types.specs.Runs.{Stands, shown_slot, shown_at}
-use Rattle.sb_types.specs.Writes.{Written, Superseded}
+use Rattle.sb_types.specs.Writes.{Written, Superseded, Gone}
 use Rattle.sb_holdings.specs.declared.ends.BlockEnd.{BlockEnd}
 use Rattle.sb_holdings.specs.Held.{shown_of}
-use Rattle.sb_holdings.specs.Ends.{JoinsOn}
-use Rattle.sb_holdings.specs.Nodes.{Node, node_after_block, NodeLater}
-use Rattle.sb_holdings.specs.TakenUp.{IsTakenUp}
+use Rattle.sb_holdings.specs.Ends.{JoinsOn, JoinsStage}
+use Rattle.sb_holdings.specs.Nodes.{Node, opened_node, node_after_block, NodeLater}
+use Rattle.sb_holdings.specs.TakenUp.{IsTakenUp, IsStagedUp}
 use Rattle.sb_codec.specs.declared.message.Message.{Message}
 use Rattle.sb_frames.specs.Streams.{Stream, open_with, shut, Splits}
 use Rattle.sb_node.specs.Calls.{Call, TookOwn, Applied}
 use Rattle.sb_world.specs.declared.event.Event.{Event}
-use Rattle.sb_world.specs.declared.event.Event.TheVariants.{Piece, Read}
+use Rattle.sb_world.specs.declared.event.Event.TheVariants.{Purge, Restart, Piece, Read}
 use Rattle.sb_world.specs.declared.event.Answer.{Answer}
 use Rattle.sb_world.specs.declared.event.Answer.TheVariants as answers
 use Rattle.sb_world.specs.declared.event.Item.{Item}
@@ -75,13 +75,18 @@ AreExact old events answers states = EachStep ReadIsExact old events answers sta
 
 -- ---- whatever joins on is taken up
 
+-- by the table that is shown where it joins on there, and by the stage where it joins on there
+abbrev pub BlockIsTakenUp : Node → Block → BlockEnd → Type 0
+BlockIsTakenUp node b end =
+    (JoinsOn node.held b → IsTakenUp node b end (node_after_block node b end))
+    × ((s : Stage) → JoinsStage node.held b s → IsStagedUp node b s end (node_after_block node b end))
+
 -- each block in its turn, at the node that the blocks before it left
 abbrev pub AreTakenUp : Node → List Block → List BlockEnd → Node → Type 0
 AreTakenUp node [] [] new = new ≡ node
 AreTakenUp node [] (end ∷ ends) new = ⊥
 AreTakenUp node (b ∷ bs) [] new = ⊥
-AreTakenUp node (b ∷ bs) (end ∷ ends) new =
-    (JoinsOn node.held b → IsTakenUp node b end (node_after_block node b end)) × AreTakenUp (node_after_block node b end) bs ends new
+AreTakenUp node (b ∷ bs) (end ∷ ends) new = BlockIsTakenUp node b end × AreTakenUp (node_after_block node b end) bs ends new
 
 -- and each delta in its turn
 abbrev pub AllTakenUp : Node → List Call → Node → Type 0
@@ -145,6 +150,77 @@ NothingFalls first states = ((later : State) → Stands states later → FallsNo
 abbrev pub IsWithinBudget : State → Type 0
 IsWithinBudget s = (bytes : List ℕ) → Stands s.now.sent bytes → length bytes ≤ s.now.settings.budget
 
+-- ---- a removed key does not come back
+
+abbrev pub removal_of : List ℕ → ℕ → Entry
+removal_of key version = record { key = key; version = version; slot = Removed }
+
+-- the last write of the key is a removal, of this version
+pub record IsRemoved (writes : List Write) (key : List ℕ) (version : ℕ) : Type 0 where
+  pub written : Written writes (removal_of key version)
+  pub last : Superseded writes (removal_of key version) → ⊥
+
+-- a node that holds the owner up to it shows nothing of the key
+abbrev pub HidesRemovedAt : (List ℕ → List Write) → Place → Type 0
+HidesRemovedAt writes p =
+    (owner key : List ℕ) (version : ℕ) → IsRemoved (writes owner) key version → version ≤ (shown_of p.core.node.held owner).held →
+    shown_at key (shown_of p.core.node.held owner).entries ≡ None
+
+-- at each node
+abbrev pub HidesRemoved : State → Type 0
+HidesRemoved s = (name : List ℕ) → IfSome (place_at s.now.places name) (HidesRemovedAt s.writes)
+
+-- and a read of the key there gives nothing
+abbrev pub RemovedIsNotRead : State → Event → Result Answer Fault → State → Type 0
+RemovedIsNotRead old event answer new =
+    (me owner key : List ℕ) (version : ℕ) → event ≡ Read me owner key → IsRemoved (old.writes owner) key version →
+    IfSome (place_at old.now.places me) (λ p. version ≤ (shown_of p.core.node.held owner).held → IsShown None p answer)
+
+-- so it is of each read, and of look-up in each state, whatever frames come
+abbrev pub StayRemoved : State → List Event → List (Result Answer Fault) → List State → Type 0
+StayRemoved old events answers states = EachStep RemovedIsNotRead old events answers states × EachState HidesRemoved old states
+
+-- ---- what was purged is gone
+
+-- no removal up to its floor stands in the table
+abbrev pub IsPurged : Table → Type 0
+IsPurged t = (e : Entry) → Stands t.entries e → Gone t.floor e → ⊥
+
+-- neither in what the log of a node has, where it stands, nor in a table that the node shows
+abbrev pub ArePurgedAt : Place → Type 0
+ArePurgedAt p = (p.log.is_open ≡ true → IsPurged p.log.content) × ((owner : List ℕ) → IsPurged (shown_of p.core.node.held owner))
+
+-- at each node
+abbrev pub ArePurged : State → Type 0
+ArePurged s = (name : List ℕ) → IfSome (place_at s.now.places name) ArePurgedAt
+
+-- a purge that is answered leaves the node down, and its log of that floor or of a higher one
+abbrev pub PurgeIsDone : Event → Result Answer Fault → State → Type 0
+PurgeIsDone event answer new =
+    (me : List ℕ) (floor told : ℕ) → event ≡ Purge me floor → answer ≡ Ok (answers.Purged told) →
+    (told ≡ floor) × IsSomeAnd (place_at new.now.places me) (λ p. (p.is_up ≡ false) × (p.log.is_open ≡ true) × (floor ≤ p.log.content.floor))
+
+-- a restart that is answered opens the node with what its log has
+abbrev pub RestartIsOfLog : Event → Result Answer Fault → State → Type 0
+RestartIsOfLog event answer new =
+    (me : List ℕ) (version : ℕ) → event ≡ Restart me → answer ≡ Ok (answers.Restarted version) →
+    IsSomeAnd (place_at new.now.places me) (λ p. (p.log.is_open ≡ true) × (p.core.node ≡ opened_node me p.log.content))
+
+-- a log that stands stood before, and its floor did not fall
+abbrev pub FloorsStay : State → State → Type 0
+FloorsStay old new =
+    (name : List ℕ) → IfSome (place_at old.now.places name) (λ p. IfSome (place_at new.now.places name) (λ q.
+    q.log.is_open ≡ true → (p.log.is_open ≡ true) × (p.log.content.floor ≤ q.log.content.floor)))
+
+pub record KeepsPurged (old : State) (event : Event) (answer : Result Answer Fault) (new : State) : Type 0 where
+  pub done : PurgeIsDone event answer new
+  pub opened : RestartIsOfLog event answer new
+  pub stays : FloorsStay old new
+
+-- so it is of each step, and of each state
+abbrev pub StayPurged : State → List Event → List (Result Answer Fault) → List State → Type 0
+StayPurged old events answers states = EachStep KeepsPurged old events answers states × EachState ArePurged old states
+
 -- ---- all of them, of one run
 
 pub record Promise (old : State) (events : List Event) (answers : List (Result Answer Fault)) (states : List State) : Type 0 where
@@ -153,6 +229,9 @@ pub record Promise (old : State) (events : List Event) (answers : List (Result A
   pub taken : EachStep JoinedIsTaken old events answers states
   pub later : NothingFalls old states
   pub budget : EachState IsWithinBudget old states
+  -- and what purging adds
+  pub removed : StayRemoved old events answers states
+  pub purged : StayPurged old events answers states
 
 -- ---- a claim on every run from a state that fits the world, as long as each store keeps its promise
 

@@ -6,7 +6,7 @@ use Rattle.sb_types.specs.declared.fault.Fault.{Fault}
 use Rattle.sb_types.specs.declared.fault.Fault.TheVariants.{NoMemory, BadSetting, SameName, WrongCluster}
 use Rattle.sb_types.specs.declared.limits.TheConstants.{OWNERS_MOST}
 use Rattle.sb_types.specs.Records.{Settings}
-use Rattle.sb_table.specs.Plain.{IsPlainTable}
+use Rattle.sb_table.specs.Contents.{IsContent}
 use Rattle.sb_holdings.specs.Nodes.{opened_node}
 use Rattle.sb_types.specs.Runs.{Stands}
 use Rattle.sb_log.specs.Records.{Log}
@@ -55,7 +55,7 @@ AreSureLogs logs = (log : Log) → Stands logs log → IsSure log
 pub record IsNew (of_world : Settings) (p : Place) : Type 0 where
   pub owner : p.log.owner ≡ p.me
   pub is_open : p.log.is_open ≡ true
-  pub plain : p.log.is_clean ≡ true → IsPlainTable p.log.content
+  pub table : p.log.is_clean ≡ true → IsContent p.log.content
   pub settings : p.core.settings ≡ of_world
   pub node : p.log.is_clean ≡ true → p.core.node ≡ opened_node p.me p.log.content
   pub waiting : p.waiting ≡ []

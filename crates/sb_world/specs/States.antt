@@ -1,9 +1,10 @@
 -- The machine of worlds: a world with the history that it does not store.
 use Rattle.std.specs.Prelude.{◌≡◌, ℕ, ◌+◌, true, if◌then◌else◌, nat_eq, List, [], ◌∷◌, ◌++◌, Option, Some, None, Result, IfSome}
+use Rattle.std.specs.Option.{option_map_or}
 use Rattle.std.specs.Cmp.Lexicographic.{pointwise}
 use Rattle.sb_types.specs.declared.entry.Write.{Write}
 use Rattle.sb_types.specs.declared.fault.Fault.{Fault}
-use Rattle.sb_table.specs.Plain.{IsPlainTable}
+use Rattle.sb_table.specs.Floors.{IsKeptTable}
 use Rattle.sb_holdings.specs.Contents.{content_table}
 use Rattle.sb_holdings.specs.Nodes.{Node, NodeEvent, opened_node}
 use Rattle.sb_world.specs.declared.event.Event.{Event}
@@ -37,14 +38,14 @@ writes_after writes rests = writes
 writes_after writes (logs w) = writes ++ w ∷ []
 writes_after writes (goes events) = writes
 writes_after writes (listens bytes heard) = writes
-writes_after writes opens = writes
+writes_after writes (opens floor) = writes
 
 abbrev pub past_after : List ℕ → List Write → Past → Effect → Past
 past_after me writes past rests = past
 past_after me writes past (logs w) = past
 past_after me writes past (goes events) = record { opening = past.opening; since = past.since ++ events; openings = past.openings }
 past_after me writes past (listens bytes heard) = record { opening = past.opening; since = past.since ++ events_in heard; openings = past.openings }
-past_after me writes past opens = record { opening = opened_node me (content_table 0 writes); since = []; openings = past.openings + 1 }
+past_after me writes past (opens floor) = record { opening = opened_node me (content_table floor writes); since = []; openings = past.openings + 1 }
 
 -- the history goes on by an effect at a node, where there is one
 abbrev pub writes_then : State → Option Place → Effect → List ℕ → List Write
@@ -80,11 +81,11 @@ abbrev pub last_of : State → List State → State
 last_of first [] = first
 last_of first (state ∷ states) = last_of state states
 
--- a node that has just opened with the content of its log, which is that of its owner's writes
+-- a node that has just opened with the content of its log, which is that of its owner's writes, purged up to some floor
 pub record IsFresh (s : State) (p : Place) : Type 0 where
   pub owner : p.log.owner ≡ p.me
-  pub content : p.log.content ≡ content_table 0 (s.writes p.me)
-  pub plain : IsPlainTable p.log.content
+  pub content : p.log.content ≡ content_table p.log.content.floor (s.writes p.me)
+  pub kept : IsKeptTable p.log.content
   pub settings : p.core.settings ≡ s.now.settings
   pub node : p.core.node ≡ opened_node p.me p.log.content
   pub waiting : p.waiting ≡ []
@@ -113,15 +114,19 @@ pub record FitsWorld (s : State) (world : Seen) : Type 0 where
   pub reached : IsReached s
   pub now : s.now ≡ world
 
--- the logs' contents are those of these writes
+-- the logs' contents are those of these writes, each with the floor that it has
 abbrev pub AreContents : (List ℕ → List Write) → List Place → Type 0
-AreContents writes places = (name : List ℕ) → IfSome (place_at places name) (λ p. p.log.content ≡ content_table 0 (writes p.me))
+AreContents writes places = (name : List ℕ) → IfSome (place_at places name) (λ p. p.log.content ≡ content_table p.log.content.floor (writes p.me))
+
+-- the floor of a name's log, 0 where none has that name
+abbrev pub floor_at : List Place → List ℕ → ℕ
+floor_at places name = option_map_or (λ (p : Place). p.log.content.floor) (place_at places name) 0
 
 -- a world that has just been made, of owners that wrote so
 abbrev pub start_of : (List ℕ → List Write) → Seen → State
 start_of writes world = record {
   now = world;
   writes = writes;
-  past = λ name. record { opening = opened_node name (content_table 0 (writes name)); since = []; openings = 0 };
+  past = λ name. record { opening = opened_node name (content_table (floor_at world.places name) (writes name)); since = []; openings = 0 };
   wires = λ number. new_wire;
 }

@@ -1,7 +1,7 @@
 -- What is true of each state of a run.
 use Rattle.std.specs.Prelude.{◌≡◌, ℕ, ◌≤◌, true, List, ◌++◌, length, IfSome}
 use Rattle.sb_types.specs.declared.entry.Write.{Write}
-use Rattle.sb_types.specs.Records.{Settings}
+use Rattle.sb_types.specs.Records.{Table, Settings}
 use Rattle.sb_types.specs.Runs.{Stands}
 use Rattle.sb_types.specs.Writes.{Written}
 use Rattle.sb_holdings.specs.Contents.{content_table}
@@ -25,18 +25,25 @@ pub record IsTrueFrame (writes : List ℕ → List Write) (budget : ℕ) (bytes 
   pub honest : TrueMessage writes message
   pub fits : length bytes ≤ budget
 
--- a node that opened with the content that its owner's writes had then
+-- what a log of these writes has, purged up to the floor that it has
+pub record IsContentOf (writes : List Write) (t : Table) : Type 0 where
+  pub floor : t.floor ≤ length writes
+  pub content : t ≡ content_table t.floor writes
+
+-- a node that opened with the content that its owner's log had then: that of the first of its writes, purged up to some floor
 pub record IsOpening (writes : List Write) (me : List ℕ) (opened : Node) : Type 0 where
   pub front : List Write
   pub rest : List Write
+  pub floor : ℕ
   pub all : writes ≡ front ++ rest
-  pub node : opened ≡ opened_node me (content_table 0 front)
+  pub low : floor ≤ length front
+  pub node : opened ≡ opened_node me (content_table floor front)
   pub is : IsNode opened
 
 pub record IsTruePlace (writes : List ℕ → List Write) (past : Past) (of_world : Settings) (p : Place) : Type 0 where
   pub owner : p.log.owner ≡ p.me
   -- of a log that a fault of its store closed nothing is said
-  pub content : p.log.is_open ≡ true → p.log.content ≡ content_table 0 (writes p.me)
+  pub content : p.log.is_open ≡ true → IsContentOf (writes p.me) p.log.content
   pub settings : p.core.settings ≡ of_world
   pub me : p.core.node.held.me ≡ p.me
   pub opening : IsOpening (writes p.me) p.me past.opening

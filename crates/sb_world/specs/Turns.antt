@@ -10,13 +10,13 @@ use Rattle.sb_types.specs.Limits.{is_delta}
 use Rattle.sb_types.specs.Records.{Table, Block}
 use Rattle.sb_holdings.specs.Held.{Held}
 use Rattle.sb_holdings.specs.Nodes.{NodeEvent, Wrote, opened_node, node_after_event}
-use Rattle.sb_digest.specs.Digests.{Pair, Digest, digest_of, plain_pair}
-use Rattle.sb_digest.specs.Pairs.{pairs_from}
+use Rattle.sb_holdings.specs.Plain.{tables_from}
+use Rattle.sb_digest.specs.Digests.{Pair, Digest, digest_of, staged_pair}
 use Rattle.sb_codec.specs.declared.message.Message.{Message}
 use Rattle.sb_codec.specs.declared.message.Message.TheVariants as messages
 use Rattle.sb_frames.specs.Frames.{frame}
 use Rattle.sb_log.specs.Records.{Committed, Log}
-use Rattle.sb_log.specs.Puts.{Puts, Loads}
+use Rattle.sb_log.specs.Puts.{Puts, Purges as LogPurges, Loads}
 use Rattle.sb_node.specs.Answers.{IsDelta, IsAnswer}
 use Rattle.sb_node.specs.Cores.{Core, with_node, committed_answer}
 use Rattle.sb_world.specs.declared.event.Answer.{Answer}
@@ -24,13 +24,13 @@ use Rattle.sb_world.specs.declared.event.Answer.TheVariants as answers
 use Rattle.sb_world.specs.Hearing.{Heard}
 use Rattle.sb_world.specs.Places.{Place}
 
--- what an event adds to the history: nothing, a write of the node's owner, events of the node, bytes that came and what was heard of them, or that the node opened anew
+-- what an event adds to the history: nothing, a write of the node's owner, events of the node, bytes that came and what was heard of them, or that the node opened anew, with a content of this floor
 pub data Effect : Type 0 where
   rests : Effect
   logs : Write → Effect
   goes : List NodeEvent → Effect
   listens : List ℕ → List Heard → Effect
-  opens : Effect
+  opens : ℕ → Effect
 
 -- what comes of an event at its node
 pub record Turn : Type 0 where
@@ -105,6 +105,27 @@ Crashes p key slot true turn =
     (turn ≡ still p (Err NoMemory))
     ⊎ ((put : Result Committed Fault) × (effect : Effect) × (log : Log) × Puts p.log key slot put log × (put ≢ Err NoMemory) × IsLogged key slot put effect × (turn ≡ crash_turn p effect log))
 
+-- ---- a purge
+
+-- where the log took the floor the node is down, and where it did not the log alone may have changed
+abbrev pub purge_turn : Place → ℕ → Result (Unit {0}) Fault → Log → Turn
+purge_turn p floor (Ok done) log = record {
+  answer = Ok (answers.Purged floor);
+  effect = rests;
+  place = record { me = p.me; log = log; core = p.core; waiting = p.waiting; is_up = false };
+  frames = [];
+}
+purge_turn p floor (Err fault) log = record {
+  answer = Err fault;
+  effect = rests;
+  place = record { me = p.me; log = log; core = p.core; waiting = p.waiting; is_up = p.is_up };
+  frames = [];
+}
+
+-- the log is asked to let go of its removals up to a floor
+abbrev pub Purges : Place → ℕ → Turn → Type 0
+Purges p floor turn = (result : Result (Unit {0}) Fault) × (log : Log) × LogPurges p.log floor result log × (turn ≡ purge_turn p floor result log)
+
 -- ---- an own write enters
 
 -- the oldest that waited is entered
@@ -133,7 +154,7 @@ TakesFirst p (c ∷ others) turn =
 abbrev pub reopened_turn : Place → Log → Table → Turn
 reopened_turn p log table = record {
   answer = Ok (answers.Restarted table.held);
-  effect = opens;
+  effect = opens table.floor;
   place = record { me = p.me; log = log; core = record { settings = p.core.settings; node = opened_node p.me table }; waiting = []; is_up = true };
   frames = [];
 }
@@ -157,12 +178,13 @@ Restarts p turn = (result : Result Table Fault) × (log : Log) × Loads p.log re
 
 -- ---- a delta is sent
 
-abbrev pub numbered_pair : List ℕ → ℕ → Pair → Pair
-numbered_pair owner after pair = plain_pair pair.owner (if pointwise nat_eq pair.owner owner then after else pair.held)
+-- of a table that is shown: the number for the owner, how far it is held for each other, and no stage
+abbrev pub numbered_pair : List ℕ → ℕ → List ℕ × Table → Pair
+numbered_pair owner after p = staged_pair p.0 (if pointwise nat_eq p.0 owner then after else p.1.held) None
 
 -- a digest of the whole range that has this number for the owner, and of each other what the node itself holds
 abbrev pub asked : Held → List ℕ → ℕ → Digest
-asked held owner after = digest_of false None None (map (numbered_pair owner after) (pairs_from None held))
+asked held owner after = digest_of false None None (map (numbered_pair owner after) (tables_from None held))
 
 -- the node's delta in answer to such a digest is sent, as one frame
 abbrev pub Offers : Place → List (List ℕ) → List ℕ → ℕ → Turn → Type 0

@@ -1,6 +1,6 @@
 //! A connection: a session at a node, and a line of bytes towards it.
 
-ghost use Rattle.std.specs.Prelude.{◌≡◌, ◌<◌, ◌≤◌, ℕ, nat_eq, List, [], ◌++◌, length, drop, remove, slice_set, slice_get, Some, None, IfSome, IfNone, IfErr, OnOk, OnErr};
+ghost use Rattle.std.specs.Prelude.{◌≡◌, ◌<◌, ◌≤◌, ℕ, nat_eq, if◌then◌else◌, List, [], ◌++◌, length, drop, remove, slice_set, slice_get, Some, None, IfSome, IfNone, IfErr, OnOk, OnErr};
 ghost use Rattle.sb_frames.specs.Streams.{open_with};
 ghost use Rattle.sb_world.specs.declared.event.Item as event;
 ghost use Rattle.sb_world.specs.Connections as spec;
@@ -72,6 +72,7 @@ pub(crate) fn node_of(connections: &[Connection], event: &Event) -> Option<Name>
         Event::Commit(me, _, _)
         | Event::Take(me)
         | Event::CrashInCommit(me, _, _, _)
+        | Event::Purge(me, _)
         | Event::Restart(me)
         | Event::Connect(me, _)
         | Event::Offer(me, _, _)
@@ -90,6 +91,15 @@ pub(crate) fn drop_those_of(connections: &mut Vec<Connection>, me: &Name)
 {
     let me = *me;
     connections.retain(|connection| connection.node() != me);
+}
+
+/// Drops the connections of a node, unless it is up.
+pub(crate) fn drop_those_of_down(connections: &mut Vec<Connection>, me: &Name, is_up: bool)
+    ensures { connections.new.items ≡ (if is_up then connections.old.items else of_others me.now connections.old.items) }
+{
+    if !is_up {
+        drop_those_of(connections, me);
+    }
 }
 
 impl Connection {

@@ -18,6 +18,9 @@ pub enum Event {
     /// It goes down: behind a write where the last part is true, else before its log is asked. Its connections are gone.
     /// Where the log finds no memory for the write nothing happens.
     CrashInCommit(Name, Key, Slot, bool),
+    /// Its log lets go of its removals up to a floor, and the node goes down, with its connections gone. Where the log
+    /// does not take the floor the node goes on.
+    Purge(Name, u64),
     /// What waits is dropped, its connections too, and the node opens anew with what its log has.
     Restart(Name),
     /// A connection of this number begins, and its Hello is sent.
@@ -89,6 +92,8 @@ pub enum Answer {
     Took(u64),
     /// The node is down.
     Crashed,
+    /// The floor that was asked for. The node is down.
+    Purged(u64),
     /// The version up to which the node's own writes are held.
     Restarted(u64),
     /// The number of the frame that was sent.

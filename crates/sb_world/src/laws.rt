@@ -9,13 +9,13 @@ ghost use Rattle.sb_world.specs.States.{State, Moves, Run, last_of, FitsWorld};
 ghost use Rattle.sb_world.specs.Steps.{Step, Passes};
 ghost use Rattle.sb_world.specs.Turns.{Effect};
 ghost use Rattle.sb_world.specs.Truth.{IsTrueState};
-ghost use Rattle.sb_world.specs.Claims.{EachState, EachStep, GivenIsWritten, AreExact, JoinedIsTaken, NothingFalls, IsWithinBudget, OnEachRun};
+ghost use Rattle.sb_world.specs.Claims.{EachState, EachStep, GivenIsWritten, AreExact, JoinedIsTaken, NothingFalls, IsWithinBudget, StayRemoved, StayPurged, OnEachRun};
 
 use sb_node::{answers_are_honest, calls_keep_truth};
 
 /// On every run of the machine of worlds from a state that fits a world, for every list of events, as long as each
 /// log's store keeps its promise: each state is true (`sound`), and the claims of `World::run` hold (`given`, `exact`,
-/// `taken`, `later`, `budget`).
+/// `taken`, `later`, `budget`, and of purging `removed` and `purged`).
 pub fn worlds_keep_their_promise()
     ensures sound { (world : Seen) (events : List Event) (answers : List (Result Answer Fault)) → OnEachRun world events answers (λ old states. EachState IsTrueState old states) }
     ensures given { (world : Seen) (events : List Event) (answers : List (Result Answer Fault)) → OnEachRun world events answers (λ old states. EachStep GivenIsWritten old events answers states) }
@@ -23,6 +23,8 @@ pub fn worlds_keep_their_promise()
     ensures taken { (world : Seen) (events : List Event) (answers : List (Result Answer Fault)) → OnEachRun world events answers (λ old states. EachStep JoinedIsTaken old events answers states) }
     ensures later { (world : Seen) (events : List Event) (answers : List (Result Answer Fault)) → OnEachRun world events answers (λ old states. NothingFalls old states) }
     ensures budget { (world : Seen) (events : List Event) (answers : List (Result Answer Fault)) → OnEachRun world events answers (λ old states. EachState IsWithinBudget old states) }
+    ensures removed { (world : Seen) (events : List Event) (answers : List (Result Answer Fault)) → OnEachRun world events answers (λ old states. StayRemoved old events answers states) }
+    ensures purged { (world : Seen) (events : List Event) (answers : List (Result Answer Fault)) → OnEachRun world events answers (λ old states. StayPurged old events answers states) }
 {
     answers_are_honest();
     calls_keep_truth();

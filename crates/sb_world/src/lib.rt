@@ -1,7 +1,7 @@
 //! A world of nodes that take their steps in any order, and the promise to readers over every such order.
 //!
 //! A `World` has nodes, their logs, their connections and all frames that they sent. Each step is an event with an answer; a
-//! crash and a restart are events too. As long as the stores of the logs keep their promise, the promise to readers holds for
+//! crash, a purge and a restart are events too. As long as the stores of the logs keep their promise, the promise to readers holds for
 //! every list of events.
 //!
 //! ```rust

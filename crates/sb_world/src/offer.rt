@@ -8,8 +8,8 @@ use sb_holdings::Holdings;
 use sb_types::{Fault, Name};
 use std::alloc::Global;
 
-/// A digest of the whole range that has this number for the owner, and of each other what the node holds.
-/// `NoMemory`.
+/// A digest of the whole range that has this number for the owner, and of each other how far the node holds it. It tells
+/// of no stage. `NoMemory`.
 pub(crate) fn asked(
     alloc: Global,
     holdings: &Holdings,
@@ -24,7 +24,7 @@ pub(crate) fn asked(
         // Does nothing: the call tells the prover that the name keeps its limits.
         let _ = name.bytes();
         let upto = if name == owner { after } else { table.upto() };
-        pairs.push(Pair { owner: *name, upto })?;
+        pairs.push(Pair::new(*name, upto, None))?;
     }
     Digest::new(false, None, None, pairs)
 }

@@ -10,7 +10,7 @@ ghost use Rattle.sb_node.specs.Answers.{IsDelta, IsAnswer};
 ghost use Rattle.sb_types.specs.Faults.{Gives};
 ghost use Rattle.sb_types.specs.Runs.{shown_at};
 ghost use Rattle.sb_holdings.specs.Held.{shown_of};
-ghost use Rattle.sb_world.specs.Turns.{Effect, Commits, Crashes, TakesFirst, Restarts};
+ghost use Rattle.sb_world.specs.Turns.{Effect, rests, Commits, Crashes, Purges, TakesFirst, Restarts};
 ghost use Rattle.sb_world.specs.Turns as spec;
 ghost use Rattle.sb_world.specs.declared.event.Answer.TheVariants as answers;
 
@@ -109,6 +109,20 @@ impl<L: WriteLog> Place<L> {
         lose(self.log.put(key, slot))?;
         self.is_up = false;
         Ok(Answer::Crashed)
+    }
+
+    /// The log lets go of its removals up to a floor, and the node goes down. Where the log does not take the floor the
+    /// node goes on.
+    pub(crate) fn purge(&mut self, floor: u64) -> Result<Answer, Fault>
+        ensures { Purges self.old floor (record { answer = result; effect = rests; place = self.new; frames = [] }) }
+    {
+        match self.log.purge(floor) {
+            Ok(()) => {
+                self.is_up = false;
+                Ok(Answer::Purged(floor))
+            }
+            Err(fault) => Err(fault),
+        }
     }
 
     /// The oldest write that waits is entered.

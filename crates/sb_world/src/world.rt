@@ -13,9 +13,9 @@ ghost use Rattle.sb_world.specs.Making.{refusal, IsMakingFault, HaveNodes, IsMad
 ghost use Rattle.sb_types.specs.declared.entry.Write.{Write};
 ghost use Rattle.sb_log.specs.Records as records;
 ghost use Rattle.sb_world.specs.Truth.{IsTrueState};
-ghost use Rattle.sb_world.specs.Claims.{EachState, EachStep, GivenIsWritten, AreExact, JoinedIsTaken, NothingFalls, IsWithinBudget, OnEachRun};
+ghost use Rattle.sb_world.specs.Claims.{EachState, EachStep, GivenIsWritten, AreExact, JoinedIsTaken, NothingFalls, IsWithinBudget, StayRemoved, StayPurged, OnEachRun};
 
-use crate::connection::{Connection, drop_those_of, node_of};
+use crate::connection::{Connection, drop_those_of, drop_those_of_down, node_of};
 use crate::event::{Answer, Event};
 use crate::laws::{sure_stores_are_trusted, worlds_are_reached, worlds_keep_their_promise};
 use crate::making::places_of;
@@ -103,9 +103,13 @@ fn perform<L: WriteLog>(
         Event::CrashInCommit(_, key, slot, is_kept) => {
             let me = place.name();
             let answer = place.crash(key, slot, *is_kept);
-            if !place.is_up() {
-                drop_those_of(connections, &me);
-            }
+            drop_those_of_down(connections, &me, place.is_up());
+            answer
+        }
+        Event::Purge(_, floor) => {
+            let me = place.name();
+            let answer = place.purge(*floor);
+            drop_those_of_down(connections, &me, place.is_up());
             answer
         }
         Event::Restart(_) => {
@@ -173,11 +177,12 @@ impl<L: WriteLog> World<L> {
     /// node is down, unless it restarts; `Nothing` where the number of a new connection is in use, a frame is not there, or
     /// no write waits; then what it asks for.
     ///
-    /// Its faults: of a commit `NoMemory`, and those of `WriteLog::put`; of a take those of `NodeCore::take_own`; of a
-    /// restart those of `WriteLog::load`, and `NoMemory`; of an ask `Closed` after a Bye; and `NoMemory` of a crash behind a
-    /// write, a new connection, an ask, a frame that is lined up, an offer and a read. A fault of a piece is told in its
-    /// answer, and a crash tells no other fault of its log. A node whose restart has a fault is down, with nothing that waits
-    /// and no connection; `StoreFailed` of a commit closes the log; every other fault leaves everything as it was.
+    /// Its faults: of a commit `NoMemory`, and those of `WriteLog::put`; of a purge those of `WriteLog::purge`; of a take
+    /// those of `NodeCore::take_own`; of a restart those of `WriteLog::load`, and `NoMemory`; of an ask `Closed` after a Bye;
+    /// and `NoMemory` of a crash behind a write, a new connection, an ask, a frame that is lined up, an offer and a read. A
+    /// fault of a piece is told in its answer, and a crash tells no other fault of its log. A node whose restart has a fault
+    /// is down, with nothing that waits and no connection; `StoreFailed` of a commit or of a purge closes the log; every other
+    /// fault leaves everything as it was.
     pub fn step(&mut self, event: &Event) -> Result<Answer, Fault>
         ensures step { (effect : Effect) × Step self.old event.now result effect self.new }
         ensures fits { (old : State) → FitsWorld old self.old → (new : State) × Moves old event.now result new × FitsWorld new self.new }
@@ -212,7 +217,10 @@ impl<L: WriteLog> World<L> {
     /// For all that the owners wrote before, and for every list of events, as long as each log's store keeps its promise:
     /// what a reader is given was written by its owner under that version (`given`); a reader that holds an owner up to a
     /// version gets of each key that was last written at or below it exactly that write (`exact`); whatever joins on is
-    /// taken up (`taken`); within a node's run no version falls (`later`); no frame exceeds its budget (`budget`).
+    /// taken up (`taken`); within a node's run no version falls (`later`); no frame exceeds its budget (`budget`). So a key
+    /// whose last write is a removal is shown nowhere where the owner is held up to that, whatever old frames come
+    /// (`removed`); and what was purged stays gone: out of the log, the node that opens with it, and every table of that
+    /// floor (`purged`).
     pub fn run(&mut self, events: &[Event]) -> Result<Vec<Result<Answer, Fault>>, Fault>
         ensures passes { IfOk result (λ answers. Passes self.old events.now answers.items self.new) }
         ensures err { OnErr result (self.new ≡ self.old) }
@@ -230,6 +238,8 @@ impl<L: WriteLog> World<L> {
         ensures taken { IfOk result (λ answers. OnEachRun self.old events.now answers.items (λ old states. EachStep JoinedIsTaken old events.now answers.items states)) }
         ensures later { IfOk result (λ answers. OnEachRun self.old events.now answers.items (λ old states. NothingFalls old states)) }
         ensures budget { IfOk result (λ answers. OnEachRun self.old events.now answers.items (λ old states. EachState IsWithinBudget old states)) }
+        ensures removed { IfOk result (λ answers. OnEachRun self.old events.now answers.items (λ old states. StayRemoved old events.now answers.items states)) }
+        ensures purged { IfOk result (λ answers. OnEachRun self.old events.now answers.items (λ old states. StayPurged old events.now answers.items states)) }
     {
         worlds_are_reached();
         worlds_keep_their_promise();

@@ -53,6 +53,17 @@ impl WriteLog for Damaged {
         Err(Fault::StoreFailed)
     }
 
+    fn purge(&mut self, floor: u64) -> Result<(), Fault> {
+        if !self.is_open {
+            return Err(Fault::Closed);
+        }
+        if floor == 0 {
+            return Ok(());
+        }
+        self.is_open = false;
+        Err(Fault::StoreFailed)
+    }
+
     fn load(&mut self, _alloc: Global) -> Result<Table, Fault> {
         if !self.is_open {
             return Err(Fault::Closed);

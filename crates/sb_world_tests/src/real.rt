@@ -1,5 +1,7 @@
 //! A run of a world over logs in databases.
-use crate::world::{SEVEN_ANSWERS, Told, settings, seven_events, told_by_seven};
+use crate::world::{
+    PURGING_ANSWERS, SEVEN_ANSWERS, Told, purging_events, settings, seven_events, told_by_seven,
+};
 use crate::{got, name, same};
 use sb_log::SqlLog;
 use sb_types::Fault;
@@ -54,4 +56,13 @@ fn a_run_over_databases_answers_each_event(rt: HostRuntime) {
     let b = got(&rt, Connection::open_in_memory(alloc));
     let found = told_of_run(&rt, alloc, a, b, &seven_events(&rt));
     same(&rt, &found, &SEVEN_ANSWERS);
+}
+
+#[test]
+fn a_run_over_databases_answers_each_purge(rt: HostRuntime) {
+    let alloc = rt.alloc();
+    let a = got(&rt, Connection::open_in_memory(alloc));
+    let b = got(&rt, Connection::open_in_memory(alloc));
+    let found = told_of_run(&rt, alloc, a, b, &purging_events(&rt));
+    same(&rt, &found, &PURGING_ANSWERS);
 }

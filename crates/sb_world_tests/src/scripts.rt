@@ -16,7 +16,7 @@ read b a w
 ";
 
 const PRINTED: &str = "version 1
-a7020000002203000101610000000000000000000101770000000000000001020000000000000005
+a703000000320300010161000000000000000000000000000000000000000000000001000101770000000000000001020000000000000005
 taken 1
 a w 1 weight 5
 ";
@@ -24,14 +24,14 @@ a w 1 weight 5
 /// A writer that takes no memory, of so many bytes at most.
 #[derive(Drop)]
 struct Page {
-    bytes: [u8; 2048],
+    bytes: [u8; 4096],
     used: usize,
 }
 
 impl Page {
     fn new() -> Page {
         Page {
-            bytes: [0; 2048],
+            bytes: [0; 4096],
             used: 0,
         }
     }
@@ -133,9 +133,9 @@ impl Read for BreakingReader<'_> {
 
 /// The frame of a delta of one weight, and that of an empty delta.
 const FRAME: &str =
-    "a7020000002203000101610000000000000000000101770000000000000001020000000000000005";
+    "a703000000320300010161000000000000000000000000000000000000000000000001000101770000000000000001020000000000000005";
 
-const EMPTY_FRAME: &str = "a70200000003030000";
+const EMPTY_FRAME: &str = "a70300000003030000";
 
 const P: &str = "pppppppppppppppppppppppppppppppppppppppppppppppppppppppppppppppp\
 pppppppppppppppppppppppppppppppppppppppppppppppppppppppppppppppp";
@@ -252,6 +252,20 @@ fn lines_with_texts(rt: HostRuntime) {
     line_ends_with(&rt, alloc, "crash a t text lost lost", 0, "crashed\n");
 }
 
+/// A purge has a node and a floor, which is a number as others are.
+#[test]
+fn lines_with_floors(rt: HostRuntime) {
+    let alloc = rt.alloc();
+    line_ends_with(&rt, alloc, "purge a", 2, "line 2\n");
+    line_ends_with(&rt, alloc, "purge a 0 0", 2, "line 2\n");
+    line_ends_with(&rt, alloc, "purge a -1", 2, "line 2\n");
+    line_ends_with(&rt, alloc, "purge a 000", 0, "purged 0\n");
+    line_ends_with(&rt, alloc, "purge a 1", 0, "fault 30\n");
+    line_ends_with(&rt, alloc, "purge A 0", 0, "fault 2\n");
+    line_ends_with(&rt, alloc, "purge a 18446744073709551615", 0, "fault 30\n");
+    line_ends_with(&rt, alloc, "purge a 18446744073709551616", 2, "line 2\n");
+}
+
 /// The example ends so in so many reads.
 fn ends_within(rt: &impl Abort, alloc: Global, max_reads: u64, wanted: Result<Ending, Fault>) {
     let script = EXAMPLE.as_bytes();
@@ -310,8 +324,8 @@ fn ends_at_writer(
 fn a_failed_write_says_how_much_was_written(rt: HostRuntime) {
     let alloc = rt.alloc();
     ends_at_writer(&rt, alloc, (17, true), Err(Fault::WriteFailed(17)), 1);
-    ends_at_writer(&rt, alloc, (500, false), Err(Fault::WriteFailed(114)), 0);
-    ends_at_writer(&rt, alloc, (114, true), Ok(Ending::Whole), 0);
+    ends_at_writer(&rt, alloc, (500, false), Err(Fault::WriteFailed(146)), 0);
+    ends_at_writer(&rt, alloc, (146, true), Ok(Ending::Whole), 0);
 }
 
 fn are_lines(printed: &[u8], lines: &[&str]) -> bool {

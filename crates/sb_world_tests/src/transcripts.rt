@@ -17,7 +17,7 @@ pub(crate) fn lines_behind(line: &[u8]) -> &[u8] {
     }
 }
 
-pub(crate) const TRANSCRIPTS: [Transcript; 15] = [
+pub(crate) const TRANSCRIPTS: [Transcript; 19] = [
     (
         "a write is committed, taken and offered",
         Detail::Plain,
@@ -45,7 +45,7 @@ OFFERED
 show 2
 > FRAME
 LINED
-piece 2 53
+piece 2 69
 > taken 1
 read b a w
 > a w 1 weight 5
@@ -71,7 +71,7 @@ put a x text T
 > version 3
 OFFERED
 LINED
-piece 2 558
+piece 2 574
 > nothing
 piece 2 1
 > taken 1
@@ -116,7 +116,7 @@ take a
 offer a a 3
 > frame 1
 show 1
-> a7020000002a0300010161000000000000000300020175000000000000000404000368c3a90174000000000000000500
+> a7030000003a030001016100000000000000000000000000000003000000000000000500020175000000000000000404000368c3a90174000000000000000500
 ",
     ),
     (
@@ -134,7 +134,7 @@ del a x
 offer a a 0
 > frame 1
 show 1
-> a7020000001a0300010161000000000000000000010178000000000000000200
+> a7030000002a030001016100000000000000000000000000000000000000000000000200010178000000000000000200
 put a x weight 2
 > version 3
 connect a 1
@@ -242,15 +242,15 @@ line 2 0
 > nothing
 line 2 2
 > lined
-piece 2 40
+piece 2 56
 > taken 1
 line 2 2
 > lined
-piece 2 40
+piece 2 56
 > stale
 line 2 3
 > lined
-piece 2 40
+piece 2 56
 > taken 1
 upto b a
 > 2
@@ -294,7 +294,7 @@ line 2 5
 > lined
 piece 2 13
 > nothing
-piece 2 39
+piece 2 55
 > nothing
 piece 2 1
 > taken 1
@@ -330,7 +330,7 @@ connect b 3
 > frame 4
 line 3 2
 > lined
-piece 3 300
+piece 3 316
 > fault 22
 piece 3 1
 > nothing
@@ -340,7 +340,7 @@ line 4 1
 > lined
 line 4 2
 > lined
-piece 4 313
+piece 4 329
 > taken 2
 upto b a
 > 2
@@ -379,7 +379,7 @@ connect b 1
 ask 1
 > frame 8
 show 8
-> a7020000001002010000000101610000000000000000
+> a703000000200201000000010161000000000000000000000000000000000000000000000000
 ",
     ),
     (
@@ -416,7 +416,7 @@ offer a a 4
 > frame 5
 >   frame 5: delta, blocks 0
 show 5
-> a70200000003030000
+> EMPTY
 >   frame 5: delta, blocks 0
 show 6
 > nothing
@@ -478,6 +478,239 @@ piece 1 999
 >   frame 7: delta, blocks 0
 >   frame 8: digest, wants no answer, from the first name, to the last name, pairs 1
 >     a upto 1
+",
+    ),
+    (
+        "a purge lets removals go, and the node goes down",
+        Detail::Plain,
+        "world 1024 breadth 100 a b
+put a x weight 1
+> version 1
+put a y weight 2
+> version 2
+give a b 0
+> a70300000045030001016100000000000000000000000000000000000000000000000200020178000000000000000102000000000000000101790000000000000002020000000000000002
+> taken 2
+del a x
+> version 3
+purge a 4
+> fault 30
+purge a 3
+> purged 3
+upto a a
+> fault 15
+restart a
+> restarted 3
+give a b 2
+> a703000000320300010161000000000000000300000000000000000000000000000003000101790000000000000002020000000000000002
+> taken 1
+upto b a
+> 3
+read b a x
+> none
+read b a y
+> a y 2 weight 2
+connect b 1
+> frame 7
+line 1 1
+> lined
+line 1 2
+> lined
+piece 1 88
+> stale
+put a x weight 9
+> version 4
+",
+    ),
+    (
+        "which purges change what",
+        Detail::Plain,
+        "world 1024 breadth 100 a b
+purge c 0
+> nothing
+purge a 1
+> fault 30
+read a a x
+> none
+purge a 0
+> purged 0
+purge a 0
+> fault 15
+restart a
+> restarted 0
+put a x weight 1
+> version 1
+del a x
+> version 2
+commit a y weight 3
+> committed 3
+connect a 1
+> frame 1
+purge a 2
+> purged 2
+ask 1
+> nothing
+take a
+> fault 15
+purge a 1
+> fault 15
+crash a x weight 1 kept
+> fault 15
+restart a
+> restarted 3
+purge a 1
+> purged 1
+restart a
+> restarted 3
+put a z weight 4
+> version 4
+put a x weight 5
+> version 5
+purge A 1
+> fault 2
+upto b a
+> 0
+",
+    ),
+    (
+        "a removed key does not come back by old frames",
+        Detail::Plain,
+        "world 1024 breadth 100 a b c
+put a x weight 1
+> version 1
+OFFERED
+del a x
+> version 2
+offer a a 0
+> frame 3
+purge a 2
+> purged 2
+restart a
+> restarted 2
+give a b 0
+> a7030000001f03000101610000000000000002000000000000000000000000000000020000
+> taken 0
+connect b 2
+> frame 7
+line 2 1
+> lined
+line 2 2
+> lined
+line 2 3
+> lined
+piece 2 999
+> stale
+> stale
+upto b a
+> 2
+read b a x
+> none
+connect c 3
+> frame 8
+line 3 1
+> lined
+line 3 2
+> lined
+line 3 5
+> lined
+line 3 2
+> lined
+line 3 3
+> lined
+piece 3 68
+> nothing
+read c a x
+> none
+piece 3 999
+> taken 1
+> taken 0
+> stale
+> stale
+read c a x
+> none
+upto c a
+> 2
+",
+    ),
+    (
+        "a table of a floor is shown once all of it has come",
+        Detail::Explained,
+        "world 1024 breadth 100 a b
+WRITTEN
+give a b 0
+> FRAME
+> taken 1
+>   frame 1: hello, cluster sim, node a
+>   frame 2: delta, blocks 1
+>     block of a, after 0, upto 1, entries 1
+>       a w 1 weight 5
+>   frame 3: hello, cluster sim, node b
+put a y text T
+> version 2
+put a z text T
+> version 3
+del a w
+> version 4
+purge a 4
+> purged 4
+restart a
+> restarted 4
+connect a 1
+> frame 4
+>   frame 4: hello, cluster sim, node a
+connect b 2
+> frame 5
+>   frame 5: hello, cluster sim, node b
+ask 2
+> frame 6
+>   frame 6: digest, wants an answer, from the first name, to the last name, pairs 2
+>     a upto 1
+>     b upto 0
+line 1 5
+> lined
+line 1 6
+> lined
+piece 1 999
+> frame 7
+> frame 8
+>   frame 7: delta, blocks 1
+>     block of a, floor 4, after 0, upto 2, entries 1
+>       a y 2 text T
+>   frame 8: digest, wants no answer, from the first name, to the last name, pairs 1
+>     a upto 4
+line 2 4
+> lined
+line 2 7
+> lined
+piece 2 999
+> taken 1
+upto b a
+> 1
+read b a w
+> a w 1 weight 5
+ask 2
+> frame 9
+>   frame 9: digest, wants an answer, from the first name, to the last name, pairs 2
+>     a upto 1, stage of floor 4 up to 2
+>     b upto 0
+line 1 9
+> lined
+piece 1 999
+> frame 10
+> frame 11
+>   frame 10: delta, blocks 1
+>     block of a, floor 4, after 2, upto 4, entries 1
+>       a z 3 text T
+>   frame 11: digest, wants no answer, from the first name, to the last name, pairs 1
+>     a upto 4
+line 2 10
+> lined
+piece 2 999
+> taken 1
+upto b a
+> 4
+read b a w
+> none
 ",
     ),
 ];

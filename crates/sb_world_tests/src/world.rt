@@ -48,10 +48,25 @@ pub(crate) fn seven_events(rt: &impl Abort) -> [Event; 7] {
     ]
 }
 
+/// A removal that is purged, with a floor that is too high before it and one that comes while the node is down, and a restart.
+pub(crate) fn purging_events(rt: &impl Abort) -> [Event; 7] {
+    let a = name(rt, b"a");
+    [
+        Event::Commit(a, key(rt, b"x"), weight(rt, 1)),
+        Event::Commit(a, key(rt, b"x"), Slot::Removed),
+        Event::Purge(a, 3),
+        Event::Purge(a, 2),
+        Event::Purge(a, 2),
+        Event::Restart(a),
+        Event::Upto(a, a),
+    ]
+}
+
 /// What is told of an answer.
 #[derive(Clone, Copy, Debug, PartialEq, Eq)]
 pub(crate) enum Told {
     Crashed,
+    Purged(u64),
     Restarted(u64),
     Committed(u64),
     Took(u64),
@@ -71,9 +86,21 @@ pub(crate) const SEVEN_ANSWERS: [Told; 7] = [
     Told::Number(2),
 ];
 
+/// What the events with a purge are answered.
+pub(crate) const PURGING_ANSWERS: [Told; 7] = [
+    Told::Committed(1),
+    Told::Committed(2),
+    Told::Failed(Fault::FloorTooHigh),
+    Told::Purged(2),
+    Told::Failed(Fault::Closed),
+    Told::Restarted(2),
+    Told::Number(2),
+];
+
 fn told_by(answer: &Result<Answer, Fault>) -> Told {
     match answer {
         Ok(Answer::Crashed) => Told::Crashed,
+        Ok(Answer::Purged(floor)) => Told::Purged(*floor),
         Ok(Answer::Restarted(version)) => Told::Restarted(*version),
         Ok(Answer::Committed(version)) => Told::Committed(*version),
         Ok(Answer::Took(version)) => Told::Took(*version),
@@ -110,4 +137,10 @@ fn told_of_run(rt: &impl Abort, alloc: Global, events: &[Event]) -> [Told; 7] {
 fn a_run_answers_each_event(rt: HostRuntime) {
     let found = told_of_run(&rt, rt.alloc(), &seven_events(&rt));
     same(&rt, &found, &SEVEN_ANSWERS);
+}
+
+#[test]
+fn a_run_answers_each_purge(rt: HostRuntime) {
+    let found = told_of_run(&rt, rt.alloc(), &purging_events(&rt));
+    same(&rt, &found, &PURGING_ANSWERS);
 }

@@ -3,13 +3,13 @@ use Rattle.std.specs.Prelude.{None}
 use Rattle.std.specs.List.Sorted.{IsStrictlySortedBy}
 use Rattle.std.specs.Map.{keys_of}
 use Rattle.sb_holdings.specs.Plain.{tables_from}
-use Rattle.sb_digest.specs.Digests.{covers, held_in}
-use Rattle.sb_budget.specs.Available.{AreRanked}
+use Rattle.sb_digest.specs.Digests.{covers}
+use Rattle.sb_budget.specs.Available.{number_for, AreRanked}
 use Rattle.sb_budget.specs.Cut.{items_of_all, CanCut}
 use Rattle.sb_budget.specs.Orders.{IsOffer}
 use Rattle.sb_budget.specs.Parts.{all_of, AreParts}
 use Rattle.sb_budget.proofs.PlaceLemmas.{text_cmp}
-use Rattle.sb_budget.proofs.AvailableLemmas.{all_parts, items_held, plain_tables, can_cut, is_offer, are_ranked}
+use Rattle.sb_budget.proofs.AvailableLemmas.{all_parts, items_held, rising_tables, can_cut, is_offer, are_ranked}
 use Rattle.sb_budget.proofs.PartLemmas.{all_pieces, all_pieced, items_of_pieces, chains_of_pieces, names_of_pieces}
 use Rattle.sb_budget.proofs.cursor.cursors.Goals as goal
 
@@ -19,14 +19,14 @@ returns-clause-parts c =
     let digest = c.args.digest.now in
     let tables = tables_from None held in
     let up : IsStrictlySortedBy text_cmp (keys_of tables) = rw c.tables_from-owner-items.ensures.tables at c.tables_from-owner-items.ensures.ascending in
-    let plain = plain_tables held c.tables_from-owner-items.ensures.holdings up in
-    let made = all_pieced (covers digest) (held_in digest) c.loop-owner.cursors.items c.loop-owner.owner-iterator tables c.loop-owner.invariant c.in-None.ensures.steps.0 in
-    let all : all_of (all_pieces (covers digest) (held_in digest) tables) ≡ all_parts (covers digest) (held_in digest) tables = items_of_pieces (covers digest) (held_in digest) tables in
+    let each = rising_tables held up c.tables_from-owner-items.ensures.holdings in
+    let made = all_pieced (covers digest) (number_for digest) c.loop-owner.cursors.items c.loop-owner.owner-iterator tables c.loop-owner.invariant c.in-None.ensures.steps.0 in
+    let all : all_of (all_pieces (covers digest) (number_for digest) tables) ≡ all_parts (covers digest) (number_for digest) tables = items_of_pieces (covers digest) (number_for digest) tables in
     subst (AreParts held digest) (sym made) (record {
-      items = ap items_of_all all ∙ items_held held c.tables_from-owner-items.ensures.holdings up digest;
-      ranks = subst AreRanked (sym all) (are_ranked (covers digest) (held_in digest) tables up plain);
-      offer = subst IsOffer (sym all) (is_offer (covers digest) (held_in digest) tables up plain);
-      cut = subst CanCut (sym all) (can_cut (covers digest) (held_in digest) tables up plain);
-      chains = chains_of_pieces (covers digest) (held_in digest) tables plain;
-      names = names_of_pieces (covers digest) (held_in digest) tables up;
+      items = ap items_of_all all ∙ items_held held digest;
+      ranks = subst AreRanked (sym all) (are_ranked (covers digest) (number_for digest) tables up each);
+      offer = subst IsOffer (sym all) (is_offer (covers digest) (number_for digest) tables up each);
+      cut = subst CanCut (sym all) (can_cut (covers digest) (number_for digest) tables up each);
+      chains = chains_of_pieces (covers digest) (number_for digest) tables each;
+      names = names_of_pieces (covers digest) (number_for digest) tables up;
     })

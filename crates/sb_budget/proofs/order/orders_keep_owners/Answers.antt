@@ -13,4 +13,5 @@ returns-clause-items c = λ offered ordered owner offer moved ascends.
 
 pub returns-clause-cut : goal.returns-clause-cut
 returns-clause-cut c = λ offered ordered offer moved ascends can owner.
-    ((can owner).0, (can owner).1, subst (IsPart (can owner).0 (can owner).1) (sym (owner_kept owner offered ordered offer moved ascends)) (can owner).2)
+    let is = can owner in
+    (is.0, is.1, is.2, subst (IsPart is.0 is.1 is.2) (sym (owner_kept owner offered ordered offer moved ascends)) is.3)

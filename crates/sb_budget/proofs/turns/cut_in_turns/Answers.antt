@@ -1,41 +1,44 @@
-use Rattle.std.proofs.Common.{◌≡◌, ◌<◌, ◌++◌, ◌∷◌, [], suc, true, false, List, length, refl, sym, subst, ap, ◌∙◌, arith, Result, IfOk}
+use Rattle.std.proofs.Common.{◌≡◌, ◌<◌, ◌++◌, ◌∷◌, [], suc, true, false, Bool, ℕ, List, map, length, refl, sym, subst, ap, ap₂, ◌∙◌, arith}
 use Rattle.std.proofs.lemmas.Result.{IfOk-weaker}
-use Rattle.sb_types.specs.declared.fault.Fault.{Fault}
-use Rattle.sb_types.specs.Records.{Entry, Block}
+use Rattle.std.proofs.lemmas.List.{map-append, length-map}
+use Rattle.sb_types.specs.Records.{Block}
 use Rattle.sb_budget.specs.declared.offered.Offered.{Offered}
-use Rattle.sb_budget.specs.Cut.{items_of_all, IsCut, CanCut}
-use Rattle.sb_budget.specs.Making.{IsFrontOf, AfterNext}
+use Rattle.sb_budget.specs.Offers.{Item}
+use Rattle.sb_budget.specs.Cut.{item_of, items_of_all, blocks_of, IsCut, CanCut}
+use Rattle.sb_budget.specs.BlocksByOwner.{item_at, lowered_of}
+use Rattle.sb_budget.specs.Making.{Making, AfterNext, IsTaking}
 use Rattle.sb_budget.specs.Parts.{Part, all_of}
 use Rattle.sb_budget.specs.Turns.{rejoined, in_turns}
-use Rattle.sb_budget.proofs.TurnLemmas.{IsTurn, rejoined_length, turn_taken, turn_left, none_later, later_first, later_last}
-use Rattle.sb_budget.proofs.turns.cut_in_turns.Goals.{In-Some, In_ok-push, In_ok-push_front-in-First, In_ok-push_back-in-Last}
+use Rattle.sb_budget.proofs.CutLemmas.{cut_taken, some_taken, taken_fits, taken_parts}
+use Rattle.sb_budget.proofs.TurnLemmas.{IsTurn, rejoined_length, left_part, turn_taken, turn_left, turn_ends, none_later, later_first, later_last}
+use Rattle.sb_budget.proofs.turns.cut_in_turns.Goals.{In-Some, In_default, In_ok-push, After-leave_all, In_ok-push_front-in-First, In_ok-push_back-in-Last}
 use Rattle.sb_budget.proofs.turns.cut_in_turns.Goals as goal
 
 pub loop-cursor-init : goal.loop-cursor-init
-loop-cursor-init c = ([], refl, c.new-making.ensures.begins (in_turns c.args.turns c.from-queue.result.items))
+loop-cursor-init c = ([], refl, c.new-making.ensures.begins)
 
--- ---- one entry is offered
-
-can : (c : In-Some) → CanCut (in_turns c.args.turns c.from-queue.result.items)
-can c = subst (λ (ps : List Part). CanCut (in_turns c.args.turns ps)) (sym c.from-queue.ensures.0) c.requires.items
+-- ---- one item is offered
 
 stands : (c : In-Some) → IsTurn c.args.budget c.args.turns (in_turns c.args.turns c.from-queue.result.items) (c.in-Some.cursor ∷ c.pop_front.new.self.items) c.loop-cursor.making
 stands c =
     subst (λ (ps : List Part). IsTurn c.args.budget c.args.turns (in_turns c.args.turns c.from-queue.result.items) ps c.loop-cursor.making) c.in-Some.ensures.items c.loop-cursor.invariant
 
-next : (c : In_ok-push) (front rest : List Offered) → CanCut (front ++ c.in-Some.cursor.next ∷ rest) → IsFrontOf c.args.budget front (c.in-Some.cursor.next ∷ rest) c.loop-cursor.making
-    → AfterNext c.args.budget front c.in-Some.cursor.next rest c.in_ok-push.field-0 c.push.new.self
-next c front rest can is =
-    let entry : c.in_ok-entry.entry ≡ c.split_first-later.result.0.now = sym (subst (λ (r : Result Entry Fault). IfOk r (λ z. c.split_first-later.result.0.now ≡ z)) c.in_ok-entry.ensures.copied refl) in
-    c.in_ok-push.ensures.next c.args.budget front rest c.in-Some.cursor.next
-    (sym c.owner-owner.ensures.owner, sym c.after-after.ensures.after, sym (entry ∙ c.split_first-later.ensures.entry)) can is
+item : (c : In_ok-push) → item_at c.head-head.result c.in_ok-entry.entry ≡ item_of c.in-Some.cursor.next
+item c = ap₂ item_at c.head-head.ensures.head (c.in_ok-entry.ensures.copied ∙ c.split_first-later.ensures.entry)
+
+next : (c : In_ok-push) (taken : Bool) → c.in_ok-push.field-0 ≡ taken → AfterNext c.args.budget (items_of_all (stands (goal.at.In_ok-push c).In-Some).0) (item_of c.in-Some.cursor.next) taken c.push.new.self
+next c taken is =
+    let front = (stands (goal.at.In_ok-push c).In-Some).0 in
+    subst (λ (t : Bool). AfterNext c.args.budget (items_of_all front) (item_of c.in-Some.cursor.next) t c.push.new.self) is
+    (subst (λ (i : Item). AfterNext c.args.budget (items_of_all front) i c.in_ok-push.field-0 c.push.new.self) (item c)
+    (c.in_ok-push.ensures.next c.args.budget (items_of_all front) (stands (goal.at.In_ok-push c).In-Some).2))
 
 -- it was taken
 taken : (c : In_ok-push) → c.in_ok-push.field-0 ≡ true
     → IsTurn c.args.budget c.args.turns (in_turns c.args.turns c.from-queue.result.items) (rejoined c.args.turns c.pop_front.new.self.items c.in-Some.cursor.later) c.push.new.self
 taken c fits =
-    turn_taken c.args.budget c.args.turns (in_turns c.args.turns c.from-queue.result.items) c.in-Some.cursor c.pop_front.new.self.items c.loop-cursor.making c.push.new.self
-    (can (goal.at.In_ok-push c).In-Some) (stands (goal.at.In_ok-push c).In-Some) c.in_ok-push.field-0 (next c) fits
+    turn_taken c.args.budget c.args.turns (in_turns c.args.turns c.from-queue.result.items) c.in-Some.cursor c.pop_front.new.self.items c.loop-cursor.making
+    (stands (goal.at.In_ok-push c).In-Some) c.push.new.self (next c true fits)
 
 -- and what is left of its owner goes to the front, or to the back
 first : (c : In_ok-push_front-in-First) → rejoined c.args.turns c.pop_front.new.self.items c.in-Some.cursor.later ≡ c.push_front.new.self.items
@@ -50,39 +53,24 @@ last c =
     ∙ later_last c.pop_front.new.self.items c.in-Some.cursor.later c.in-Some-later.later (sym c.split_first-later.ensures.later ∙ c.in-Some-later.is)
     ∙ sym c.in_ok-push_back-in-Last.ensures.items
 
+-- it did not fit, and all that is left was left
+stopped : (c : After-leave_all) → c.in_ok-push.field-0 ≡ false → IsTaking c.args.budget (items_of_all (in_turns c.args.turns c.from-queue.result.items)) true c.leave_all.new.making
+stopped c full =
+    let at = goal.at.After-leave_all c in
+    let is = stands at.In-Some in
+    let front = items_of_all is.0 in
+    let p = c.in-Some.cursor in
+    let others = c.pop_front.new.self.items in
+    let these = items_of_all (p.next ∷ p.later) in
+    let after : AfterNext c.args.budget front (item_of p.next) false c.push.new.self = next at.In_ok-push false full in
+    let own : c.leave.new.self.blocks ≡ blocks_of front these =
+    ap (λ (m : Making). m.blocks) c.leave.ensures ∙ ap (λ (o : List ℕ). map (λ b. lowered_of o b) c.push.new.self.blocks) c.owner-owner.ensures.owner
+    ∙ ap (map (λ b. lowered_of p.next.owner b)) after.0.blocks ∙ left_part p front [] c.owner-owner.ensures.later in
+    let all : c.leave_all.new.making.blocks ≡ blocks_of front (items_of_all (all_of (p ∷ others))) =
+    c.leave_all.ensures.left front these own ∙ ap (blocks_of front) (sym (map-append item_of (p.next ∷ p.later) (all_of others))) in
+    turn_left c.args.budget c.args.turns (in_turns c.args.turns c.from-queue.result.items) p others c.loop-cursor.making is c.push.new.self c.leave_all.new.making after all
+
 -- ---- the turns
-
-pub finish-requires : goal.finish-requires
-finish-requires c =
-    let is = c.loop-cursor.invariant in
-    let rest = in_turns c.args.turns c.loop-cursor.queue.items in (
-      c.args.budget,
-      is.0,
-      rest,
-      subst CanCut (sym is.1) (can (goal.at.finish-requires c).In-Some),
-      subst (IsFrontOf c.args.budget is.0 rest) (sym (c.in_ok-push.ensures.left c.if-not-branch.true)) is.2,
-    )
-
--- it did not fit, so that the front is the longest
-ends : (c : In_ok-push) → c.in_ok-push.field-0 ≡ false
-    → IsCut c.args.budget (items_of_all (in_turns c.args.turns c.from-queue.result.items)) c.push.new.self.blocks × (0 < length c.push.new.self.blocks)
-ends c left =
-    turn_left c.args.budget c.args.turns (in_turns c.args.turns c.from-queue.result.items) c.in-Some.cursor c.pop_front.new.self.items c.loop-cursor.making c.push.new.self
-    (can (goal.at.In_ok-push c).In-Some) (stands (goal.at.In_ok-push c).In-Some) c.in_ok-push.field-0 (next c) left
-
-pub returns-then-not-branch-clause-cut : goal.returns-then-not-branch-clause-cut
-returns-then-not-branch-clause-cut c =
-    let t = c.args.turns in
-    let made = ends (goal.at.returns-then-not-branch-clause-cut c).In_ok-push c.if-not-branch.true in
-    IfOk-weaker c.finish.result _ _
-    (λ delta same. subst (IsCut c.args.budget (items_of_all (in_turns t c.args.owners.items))) (sym same)
-    (subst (λ (ps : List Part). IsCut c.args.budget (items_of_all (in_turns t ps)) c.push.new.self.blocks) c.from-queue.ensures.0 made.0))
-    c.finish.ensures.blocks
-
-pub returns-then-not-branch-clause-some : goal.returns-then-not-branch-clause-some
-returns-then-not-branch-clause-some c =
-    let made = ends (goal.at.returns-then-not-branch-clause-some c).In_ok-push c.if-not-branch.true in
-    IfOk-weaker c.finish.result _ _ (λ delta same some. subst (λ (bs : List Block). 0 < length bs) (sym same) made.1) c.finish.ensures.blocks
 
 pub loop-cursor-preserved-in_default-later : goal.loop-cursor-preserved-in_default-later
 loop-cursor-preserved-in_default-later c =
@@ -101,13 +89,6 @@ loop-cursor-preserved c =
     let at = goal.at.loop-cursor-preserved c in
     subst (λ (ps : List Part). IsTurn c.args.budget c.args.turns (in_turns c.args.turns c.from-queue.result.items) ps c.push.new.self) (last at.In_ok-push_back-in-Last)
     (taken at.In_ok-push c.if-not-branch.false)
-
-pub finish-requires-2 : goal.finish-requires-2
-finish-requires-2 c =
-    let t = c.args.turns in
-    let whole : CanCut (in_turns t c.from-queue.result.items) = subst (λ (ps : List Part). CanCut (in_turns t ps)) (sym c.from-queue.ensures.0) c.requires.items in
-    let is = c.loop-cursor.invariant in
-    (c.args.budget, is.0, in_turns t c.loop-cursor.queue.items, subst CanCut (sym is.1) whole, is.2)
 
 begins : (c : In-Some) → length (all_of c.loop-cursor.queue.items) ≡ suc (length (c.in-Some.cursor.later ++ all_of c.pop_front.new.self.items))
 begins c = ap (λ (ps : List Part). length (all_of ps)) c.in-Some.ensures.items
@@ -131,3 +112,71 @@ loop-cursor-smaller c =
       rejoined_length c.args.turns c.pop_front.new.self.items c.in-Some.cursor.later,
       ap (λ (ps : List Part). length (all_of ps)) (last at.In_ok-push_back-in-Last),
     )
+
+-- ---- its ends
+
+pub finish-requires : goal.finish-requires
+finish-requires c =
+    let made = stopped (goal.at.finish-requires c).After-leave_all c.if-not-branch.true in
+    let whole : List Offered = in_turns c.args.turns c.from-queue.result.items in
+    record {
+      blocks = taken_parts c.args.budget whole true c.leave_all.new.making
+          (subst (λ (ps : List Part). CanCut (in_turns c.args.turns ps)) (sym c.from-queue.ensures.0) c.requires.items) made;
+      fits = taken_fits c.args.budget (items_of_all whole) true c.leave_all.new.making made;
+    }
+
+pub returns-then-not-branch-clause-cut : goal.returns-then-not-branch-clause-cut
+returns-then-not-branch-clause-cut c =
+    let made = stopped (goal.at.returns-then-not-branch-clause-cut c).After-leave_all c.if-not-branch.true in
+    let cut : IsCut c.args.budget (items_of_all (in_turns c.args.turns c.args.owners.items)) c.leave_all.new.making.blocks =
+    subst (λ (ps : List Part). IsCut c.args.budget (items_of_all (in_turns c.args.turns ps)) c.leave_all.new.making.blocks) c.from-queue.ensures.0
+    (cut_taken c.args.budget (items_of_all (in_turns c.args.turns c.from-queue.result.items)) true c.leave_all.new.making made) in
+    IfOk-weaker c.finish.result _ _ (λ delta same. subst (IsCut c.args.budget (items_of_all (in_turns c.args.turns c.args.owners.items))) (sym same) cut) c.finish.ensures.blocks
+
+pub returns-then-not-branch-clause-some : goal.returns-then-not-branch-clause-some
+returns-then-not-branch-clause-some c =
+    let made = stopped (goal.at.returns-then-not-branch-clause-some c).After-leave_all c.if-not-branch.true in
+    let whole : List Offered = in_turns c.args.turns c.from-queue.result.items in
+    IfOk-weaker c.finish.result _ _
+    (λ delta same some. subst (λ (bs : List Block). 0 < length bs) (sym same)
+    (some_taken c.args.budget (items_of_all whole) true c.leave_all.new.making made
+    (omega (arith, some, length-map whole item_of, ap (λ (ps : List Part). length (in_turns c.args.turns ps)) c.from-queue.ensures.0))))
+    c.finish.ensures.blocks
+
+-- no owner has anything left
+empty : (ps : List Part) → length ps ≡ 0 → ps ≡ []
+empty [] e = refl
+empty (p ∷ ps) e = absurd (omega (arith, e))
+
+ended : (c : In_default) → IsTaking c.args.budget (items_of_all (in_turns c.args.turns c.from-queue.result.items)) false c.loop-cursor.making
+ended c =
+    turn_ends c.args.budget c.args.turns (in_turns c.args.turns c.from-queue.result.items) c.loop-cursor.queue.items c.loop-cursor.making c.loop-cursor.invariant
+    (empty c.loop-cursor.queue.items (omega (arith, c.in_default.ensures.cases, c.loop-cursor.queue.ok)))
+
+pub finish-requires-2 : goal.finish-requires-2
+finish-requires-2 c =
+    let made = ended c in
+    let whole : List Offered = in_turns c.args.turns c.from-queue.result.items in
+    record {
+      blocks = taken_parts c.args.budget whole false c.loop-cursor.making
+          (subst (λ (ps : List Part). CanCut (in_turns c.args.turns ps)) (sym c.from-queue.ensures.0) c.requires.items) made;
+      fits = taken_fits c.args.budget (items_of_all whole) false c.loop-cursor.making made;
+    }
+
+pub returns-clause-cut : goal.returns-clause-cut
+returns-clause-cut c =
+    let made = ended (goal.at.returns-clause-cut c).In_default in
+    let cut : IsCut c.args.budget (items_of_all (in_turns c.args.turns c.args.owners.items)) c.loop-cursor.making.blocks =
+    subst (λ (ps : List Part). IsCut c.args.budget (items_of_all (in_turns c.args.turns ps)) c.loop-cursor.making.blocks) c.from-queue.ensures.0
+    (cut_taken c.args.budget (items_of_all (in_turns c.args.turns c.from-queue.result.items)) false c.loop-cursor.making made) in
+    IfOk-weaker c.finish-2.result _ _ (λ delta same. subst (IsCut c.args.budget (items_of_all (in_turns c.args.turns c.args.owners.items))) (sym same) cut) c.finish-2.ensures.blocks
+
+pub returns-clause-some : goal.returns-clause-some
+returns-clause-some c =
+    let made = ended (goal.at.returns-clause-some c).In_default in
+    let whole : List Offered = in_turns c.args.turns c.from-queue.result.items in
+    IfOk-weaker c.finish-2.result _ _
+    (λ delta same some. subst (λ (bs : List Block). 0 < length bs) (sym same)
+    (some_taken c.args.budget (items_of_all whole) false c.loop-cursor.making made
+    (omega (arith, some, length-map whole item_of, ap (λ (ps : List Part). length (in_turns c.args.turns ps)) c.from-queue.ensures.0))))
+    c.finish-2.ensures.blocks

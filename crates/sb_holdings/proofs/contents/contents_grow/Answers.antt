@@ -1,5 +1,5 @@
-use Rattle.sb_holdings.proofs.Growing.{content-grown, written-grown}
+use Rattle.sb_holdings.proofs.Growing.{content-grown_from, written-grown}
 use Rattle.sb_holdings.proofs.contents.contents_grow.Goals as goal
 
 pub returns : goal.returns
-returns c = record { table = content-grown; written = written-grown }
+returns c = record { table = content-grown_from; written = written-grown }

@@ -1,10 +1,9 @@
 use Rattle.std.proofs.Common.{map, inl, inr, sym, ap, ◌∙◌}
-use Rattle.sqlite_value.specs.Order.{Row}
 use Rattle.sqlite.specs.Effect.{Database}
 use Rattle.sqlite.specs.Held.{state}
 use Rattle.sqlite.specs.State.{HasCleanDisk}
 use Rattle.sb_log.specs.Opening.{meta_cells}
-use Rattle.sb_log.proofs.Founding.{was_clean, no_item, one_item, none_mapped, one_mapped, opens_new, opens_old, rows_stay, or_grows, names_too, raises_too, still_rows, still_empty, still_named, never_more}
+use Rattle.sb_log.proofs.Founding.{was_clean, no_item, one_item, none_mapped, one_mapped, opens_new, opens_old, holds_new, or_grows, names_too, accepts_too, still_new, still_old, still_rows, still_empty, still_named, never_more}
 use Rattle.sb_log.proofs.opening.open_tables.Goals as goal
 
 pub returns-in-empty-clause-opens : goal.returns-in-empty-clause-opens
@@ -15,47 +14,40 @@ returns-in-empty-clause-opens g c clean =
     let clean2 : HasCleanDisk read = was_clean _ _ clean c.open_new.ensures.clean in
     let clean1 : HasCleanDisk mid = was_clean _ _ clean2 c.read_meta.ensures.clean in
     let prepared = c.in_ok-make_tables.ensures.prepared clean1 in
+    let completes = c.in_ok-make_tables.ensures.completes clean1 in
     let ready = c.in_ok-found.ensures.ready clean2 prepared in
     let none = no_item c.in_ok-found.found.items (rw c.as_slice.ensures.value at c.in-empty.len_below) in
-    opens_new c.args.owner.now c.args.cluster.now old.now mid.now c.in_ok-found.found.items (c.in_ok-make_tables.ensures.completes clean1) (c.in_ok-found.ensures.rows clean2 prepared) read.now ready.1 c.open_new.result none
+    opens_new c.args.owner.now c.args.cluster.now old.now mid.now c.in_ok-found.found.items completes (c.in_ok-found.ensures.rows clean2 prepared) read.now ready.1 c.open_new.result none
     (c.open_new.ensures.rows clean ready.0) c.open_new.ensures.empty
 
-pub returns-in-empty-clause-meta : goal.returns-in-empty-clause-meta
-returns-in-empty-clause-meta g c clean =
+pub returns-in-empty-clause-holds : goal.returns-in-empty-clause-holds
+returns-in-empty-clause-holds g c clean =
     let mid = state g.S.Store c.make_tables.new.conn in
     let read = state g.S.Store c.read_meta.new.conn in
     let clean2 : HasCleanDisk read = was_clean _ _ clean c.open_new.ensures.clean in
     let clean1 : HasCleanDisk mid = was_clean _ _ clean2 c.read_meta.ensures.clean in
     let prepared = c.in_ok-make_tables.ensures.prepared clean1 in
+    let completes = c.in_ok-make_tables.ensures.completes clean1 in
     let ready = c.in_ok-found.ensures.ready clean2 prepared in
     let none = no_item c.in_ok-found.found.items (rw c.as_slice.ensures.value at c.in-empty.len_below) in
     let empty = none_mapped (mid.now.trees 0) c.in_ok-found.found.items (c.in_ok-found.ensures.rows clean2 prepared) none in
-    c.open_new.ensures.meta clean ready.0 (ap (λ (d : Database). d.trees 0) ready.1 ∙ empty)
+    let named = c.open_new.ensures.meta clean ready.0 (ap (λ (d : Database). d.trees 0) ready.1 ∙ empty) in
+    holds_new c.args.owner.now c.args.cluster.now c.open_new.result (read.now.trees 1) (state g.S.Store c.open_new.new.conn).now.trees (c.open_new.ensures.rows clean ready.0) (c.open_new.ensures.same clean ready.0) named
 
-pub returns-in-len1-clause-opens : goal.returns-in-len1-clause-opens
-returns-in-len1-clause-opens g c clean =
+pub returns-in-empty-clause-still : goal.returns-in-empty-clause-still
+returns-in-empty-clause-still g c clean =
     let old = state g.S.Store c.args.conn.now in
     let mid = state g.S.Store c.make_tables.new.conn in
     let read = state g.S.Store c.read_meta.new.conn in
-    let clean2 : HasCleanDisk read = was_clean _ _ clean c.open_old.ensures.clean in
+    let clean2 : HasCleanDisk read = was_clean _ _ clean c.open_new.ensures.clean in
     let clean1 : HasCleanDisk mid = was_clean _ _ clean2 c.read_meta.ensures.clean in
     let prepared = c.in_ok-make_tables.ensures.prepared clean1 in
+    let completes = c.in_ok-make_tables.ensures.completes clean1 in
     let ready = c.in_ok-found.ensures.ready clean2 prepared in
-    let one = sym c.as_slice.ensures.value ∙ one_item c.as_slice.result.now c.row-item.result c.in-len1.len_at_least c.in-len1.len_below c.row-item.is in
-    opens_old c.args.owner.now c.args.cluster.now old.now mid.now c.in_ok-found.found.items (c.in_ok-make_tables.ensures.completes clean1) (c.in_ok-found.ensures.rows clean2 prepared) read.now ready.1 c.open_old.result
-    c.row-item.result one c.open_old.ensures.found (c.open_old.ensures.rows clean ready.0)
-
-pub returns-in-len1-clause-meta : goal.returns-in-len1-clause-meta
-returns-in-len1-clause-meta g c clean =
-    let mid = state g.S.Store c.make_tables.new.conn in
-    let read = state g.S.Store c.read_meta.new.conn in
-    let clean2 : HasCleanDisk read = was_clean _ _ clean c.open_old.ensures.clean in
-    let clean1 : HasCleanDisk mid = was_clean _ _ clean2 c.read_meta.ensures.clean in
-    let prepared = c.in_ok-make_tables.ensures.prepared clean1 in
-    let ready = c.in_ok-found.ensures.ready clean2 prepared in
-    let one = sym c.as_slice.ensures.value ∙ one_item c.as_slice.result.now c.row-item.result c.in-len1.len_at_least c.in-len1.len_below c.row-item.is in
-    let has = one_mapped (mid.now.trees 0) c.in_ok-found.found.items c.row-item.result (c.in_ok-found.ensures.rows clean2 prepared) one in
-    c.open_old.ensures.meta clean ready.0 (ap (λ (d : Database). map meta_cells (d.trees 0)) ready.1 ∙ has)
+    let none = no_item c.in_ok-found.found.items (rw c.as_slice.ensures.value at c.in-empty.len_below) in
+    let empty = none_mapped (mid.now.trees 0) c.in_ok-found.found.items (c.in_ok-found.ensures.rows clean2 prepared) none in
+    let named = c.open_new.ensures.meta clean ready.0 (ap (λ (d : Database). d.trees 0) ready.1 ∙ empty) in
+    still_new c.args.owner.now c.args.cluster.now old.now mid.now completes (state g.S.Store c.open_new.new.conn).now.trees c.open_new.result empty named
 
 pub returns-in-empty-clause-crash : goal.returns-in-empty-clause-crash
 returns-in-empty-clause-crash g c clean db left =
@@ -74,36 +66,35 @@ returns-in-empty-clause-crash g c clean db left =
       | inr names ↦ inr (names_too c.args.owner.now c.args.cluster.now old.now mid.now read.now db completes ready.1 empty names)
     ]
 
-pub returns-in-len1-clause-crash : goal.returns-in-len1-clause-crash
-returns-in-len1-clause-crash g c clean db left =
+pub returns-in-empty-clause-whole : goal.returns-in-empty-clause-whole
+returns-in-empty-clause-whole g c clean t opens =
+    let old = state g.S.Store c.args.conn.now in
+    let mid = state g.S.Store c.make_tables.new.conn in
+    let read = state g.S.Store c.read_meta.new.conn in
+    let clean2 : HasCleanDisk read = was_clean _ _ clean c.open_new.ensures.clean in
+    let clean1 : HasCleanDisk mid = was_clean _ _ clean2 c.read_meta.ensures.clean in
+    let prepared = c.in_ok-make_tables.ensures.prepared clean1 in
+    let completes = c.in_ok-make_tables.ensures.completes clean1 in
+    let ready = c.in_ok-found.ensures.ready clean2 prepared in
+    let none = no_item c.in_ok-found.found.items (rw c.as_slice.ensures.value at c.in-empty.len_below) in
+    let empty = none_mapped (mid.now.trees 0) c.in_ok-found.found.items (c.in_ok-found.ensures.rows clean2 prepared) none in
+    c.open_new.ensures.whole clean ready.0 opens.table (still_rows c.args.owner.now c.args.cluster.now old.now mid.now t completes opens read.now ready.1)
+    (still_empty c.args.owner.now c.args.cluster.now old.now mid.now t completes opens empty)
+
+pub returns-in-len1-clause-opens : goal.returns-in-len1-clause-opens
+returns-in-len1-clause-opens g c clean =
     let old = state g.S.Store c.args.conn.now in
     let mid = state g.S.Store c.make_tables.new.conn in
     let read = state g.S.Store c.read_meta.new.conn in
     let clean2 : HasCleanDisk read = was_clean _ _ clean c.open_old.ensures.clean in
     let clean1 : HasCleanDisk mid = was_clean _ _ clean2 c.read_meta.ensures.clean in
     let prepared = c.in_ok-make_tables.ensures.prepared clean1 in
-    let ready = c.in_ok-found.ensures.ready clean2 prepared in
-    let one = sym c.as_slice.ensures.value ∙ one_item c.as_slice.result.now c.row-item.result c.in-len1.len_at_least c.in-len1.len_below c.row-item.is in
-    let has = one_mapped (mid.now.trees 0) c.in_ok-found.found.items c.row-item.result (c.in_ok-found.ensures.rows clean2 prepared) one in
-    let says = ap (λ (d : Database). map meta_cells (d.trees 0)) ready.1 ∙ has in
     let completes = c.in_ok-make_tables.ensures.completes clean1 in
-    elim (c.open_old.ensures.crash clean ready.0 says db left) [
-      | inl was ↦ or_grows c.args.owner.now c.args.cluster.now old.now db (c.make_tables.ensures.crash clean1 db (c.read_meta.ensures.crash clean2 prepared db was))
-      | inr raises ↦ inr (raises_too c.args.owner.now c.args.cluster.now old.now mid.now read.now db c.row-item.result completes ready.1 has raises)
-    ]
-
-pub returns-in-len1-clause-rows : goal.returns-in-len1-clause-rows
-returns-in-len1-clause-rows g c clean =
-    let mid = state g.S.Store c.make_tables.new.conn in
-    let read = state g.S.Store c.read_meta.new.conn in
-    let clean2 : HasCleanDisk read = was_clean _ _ clean c.open_old.ensures.clean in
-    let clean1 : HasCleanDisk mid = was_clean _ _ clean2 c.read_meta.ensures.clean in
-    let prepared = c.in_ok-make_tables.ensures.prepared clean1 in
     let ready = c.in_ok-found.ensures.ready clean2 prepared in
     let one = sym c.as_slice.ensures.value ∙ one_item c.as_slice.result.now c.row-item.result c.in-len1.len_at_least c.in-len1.len_below c.row-item.is in
     let has = one_mapped (mid.now.trees 0) c.in_ok-found.found.items c.row-item.result (c.in_ok-found.ensures.rows clean2 prepared) one in
     let says = ap (λ (d : Database). map meta_cells (d.trees 0)) ready.1 ∙ has in
-    rows_stay c.open_old.result _ _ (c.open_old.ensures.rows clean ready.0) (c.open_old.ensures.same clean ready.0 says)
+    opens_old c.args.owner.now c.args.cluster.now old.now mid.now c.in_ok-found.found.items completes (c.in_ok-found.ensures.rows clean2 prepared) read.now ready.1 c.open_old.result (c.open_old.ensures.found clean ready.0 says)
 
 pub returns-in-len1-clause-ready : goal.returns-in-len1-clause-ready
 returns-in-len1-clause-ready g c clean =
@@ -118,20 +109,51 @@ returns-in-len1-clause-ready g c clean =
     let says = ap (λ (d : Database). map meta_cells (d.trees 0)) ready.1 ∙ has in
     c.open_old.ensures.ready clean ready.0 says
 
-pub returns-in-empty-clause-whole : goal.returns-in-empty-clause-whole
-returns-in-empty-clause-whole g c clean t opens =
+pub returns-in-len1-clause-holds : goal.returns-in-len1-clause-holds
+returns-in-len1-clause-holds g c clean =
+    let mid = state g.S.Store c.make_tables.new.conn in
+    let read = state g.S.Store c.read_meta.new.conn in
+    let clean2 : HasCleanDisk read = was_clean _ _ clean c.open_old.ensures.clean in
+    let clean1 : HasCleanDisk mid = was_clean _ _ clean2 c.read_meta.ensures.clean in
+    let prepared = c.in_ok-make_tables.ensures.prepared clean1 in
+    let ready = c.in_ok-found.ensures.ready clean2 prepared in
+    let one = sym c.as_slice.ensures.value ∙ one_item c.as_slice.result.now c.row-item.result c.in-len1.len_at_least c.in-len1.len_below c.row-item.is in
+    let has = one_mapped (mid.now.trees 0) c.in_ok-found.found.items c.row-item.result (c.in_ok-found.ensures.rows clean2 prepared) one in
+    let says = ap (λ (d : Database). map meta_cells (d.trees 0)) ready.1 ∙ has in
+    c.open_old.ensures.holds clean ready.0 says
+
+pub returns-in-len1-clause-still : goal.returns-in-len1-clause-still
+returns-in-len1-clause-still g c clean =
     let old = state g.S.Store c.args.conn.now in
     let mid = state g.S.Store c.make_tables.new.conn in
     let read = state g.S.Store c.read_meta.new.conn in
-    let clean2 : HasCleanDisk read = was_clean _ _ clean c.open_new.ensures.clean in
+    let clean2 : HasCleanDisk read = was_clean _ _ clean c.open_old.ensures.clean in
     let clean1 : HasCleanDisk mid = was_clean _ _ clean2 c.read_meta.ensures.clean in
     let prepared = c.in_ok-make_tables.ensures.prepared clean1 in
     let completes = c.in_ok-make_tables.ensures.completes clean1 in
     let ready = c.in_ok-found.ensures.ready clean2 prepared in
-    let none = no_item c.in_ok-found.found.items (rw c.as_slice.ensures.value at c.in-empty.len_below) in
-    let empty = none_mapped (mid.now.trees 0) c.in_ok-found.found.items (c.in_ok-found.ensures.rows clean2 prepared) none in
-    c.open_new.ensures.whole clean ready.0 t (still_rows c.args.owner.now c.args.cluster.now old.now mid.now t completes opens read.now ready.1)
-    (still_empty c.args.owner.now c.args.cluster.now old.now mid.now t completes opens empty)
+    let one = sym c.as_slice.ensures.value ∙ one_item c.as_slice.result.now c.row-item.result c.in-len1.len_at_least c.in-len1.len_below c.row-item.is in
+    let has = one_mapped (mid.now.trees 0) c.in_ok-found.found.items c.row-item.result (c.in_ok-found.ensures.rows clean2 prepared) one in
+    let says = ap (λ (d : Database). map meta_cells (d.trees 0)) ready.1 ∙ has in
+    still_old c.args.owner.now c.args.cluster.now old.now mid.now completes (state g.S.Store c.open_old.new.conn).now.trees c.open_old.result read.now ready.1 (c.open_old.ensures.still clean ready.0 says)
+
+pub returns-in-len1-clause-crash : goal.returns-in-len1-clause-crash
+returns-in-len1-clause-crash g c clean db left =
+    let old = state g.S.Store c.args.conn.now in
+    let mid = state g.S.Store c.make_tables.new.conn in
+    let read = state g.S.Store c.read_meta.new.conn in
+    let clean2 : HasCleanDisk read = was_clean _ _ clean c.open_old.ensures.clean in
+    let clean1 : HasCleanDisk mid = was_clean _ _ clean2 c.read_meta.ensures.clean in
+    let prepared = c.in_ok-make_tables.ensures.prepared clean1 in
+    let completes = c.in_ok-make_tables.ensures.completes clean1 in
+    let ready = c.in_ok-found.ensures.ready clean2 prepared in
+    let one = sym c.as_slice.ensures.value ∙ one_item c.as_slice.result.now c.row-item.result c.in-len1.len_at_least c.in-len1.len_below c.row-item.is in
+    let has = one_mapped (mid.now.trees 0) c.in_ok-found.found.items c.row-item.result (c.in_ok-found.ensures.rows clean2 prepared) one in
+    let says = ap (λ (d : Database). map meta_cells (d.trees 0)) ready.1 ∙ has in
+    elim (c.open_old.ensures.crash clean ready.0 says db left) [
+      | inl was ↦ or_grows c.args.owner.now c.args.cluster.now old.now db (c.make_tables.ensures.crash clean1 db (c.read_meta.ensures.crash clean2 prepared db was))
+      | inr did ↦ inr (accepts_too c.args.owner.now c.args.cluster.now old.now mid.now read.now db completes ready.1 did)
+    ]
 
 pub returns-in-len1-clause-whole : goal.returns-in-len1-clause-whole
 returns-in-len1-clause-whole g c clean t opens =
@@ -146,7 +168,7 @@ returns-in-len1-clause-whole g c clean t opens =
     let one = sym c.as_slice.ensures.value ∙ one_item c.as_slice.result.now c.row-item.result c.in-len1.len_at_least c.in-len1.len_below c.row-item.is in
     let has = one_mapped (mid.now.trees 0) c.in_ok-found.found.items c.row-item.result (c.in_ok-found.ensures.rows clean2 prepared) one in
     let named = still_named c.args.owner.now c.args.cluster.now old.now mid.now t completes opens c.row-item.result has in
-    c.open_old.ensures.whole clean ready.0 named.0 named.2 t named.1
+    c.open_old.ensures.whole clean ready.0 named.0 named.1 named.2 named.4 opens.table named.3 named.5
     (still_rows c.args.owner.now c.args.cluster.now old.now mid.now t completes opens read.now ready.1)
 
 pub returns-clause-whole : goal.returns-clause-whole

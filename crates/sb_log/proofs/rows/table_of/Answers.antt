@@ -4,7 +4,7 @@ use Rattle.sb_log.proofs.Whole.{IsNext, next_of_rows, next_fits, cells_found}
 use Rattle.sb_log.proofs.rows.table_of.Goals as goal
 
 pub returns-in_err-add-in-Some-clause-whole : goal.returns-in_err-add-in-Some-clause-whole
-returns-in_err-add-in-Some-clause-whole c t plain kept is numbered =
+returns-in_err-add-in-Some-clause-whole c t plain kept is numbered once =
     let front = c.loop-row.table.entries in
     let next = subst (λ (row : Row). IsNext row front t.entries) (sym c.row-item.is) (next_of_rows c.args.rows.now c.loop-row.row-index c.row-item.result front t.entries (search rules) c.loop-row.invariant.1 is kept numbered) in
     let some = c.in-Some.is in
@@ -14,7 +14,7 @@ returns-in_err-add-in-Some-clause-whole c t plain kept is numbered =
     search (rules, none)
 
 pub returns-in-None-clause-whole : goal.returns-in-None-clause-whole
-returns-in-None-clause-whole c t plain kept is numbered =
+returns-in-None-clause-whole c t plain kept is numbered once =
     let front = c.loop-row.table.entries in
     let next = subst (λ (row : Row). IsNext row front t.entries) (sym c.row-item.is) (next_of_rows c.args.rows.now c.loop-row.row-index c.row-item.result front t.entries (search rules) c.loop-row.invariant.1 is kept numbered) in
     let none = c.in-None.is in

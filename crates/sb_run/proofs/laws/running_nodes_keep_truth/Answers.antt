@@ -27,12 +27,12 @@ returns-clause-honest c = λ writes opening settings history digest blocks b is 
 
 pub returns-clause-digests : goal.returns-clause-digests
 returns-clause-digests c = λ opening settings history from want digest owner answer reached.
-    c.digests_are_true.ensures (node_after opening history).held settings.budget want from digest owner answer reached
+    c.digests_are_true.ensures.held (node_after opening history).held settings.budget want from digest owner answer reached
 
 pub returns-clause-reached : goal.returns-clause-reached
 returns-clause-reached c = λ writes opening settings history from want digest owner is holds are true answer reached.
     let after = c.nodes_hold.ensures.holds writes opening _ is are holds true in
-    subst (λ (n : ℕ). n ≤ length (writes owner)) (sym (c.digests_are_true.ensures (node_after opening history).held settings.budget want from digest owner answer reached)) (after owner).shown.reach
+    subst (λ (n : ℕ). n ≤ length (writes owner)) (sym (c.digests_are_true.ensures.held (node_after opening history).held settings.budget want from digest owner answer reached)) (after owner).shown.reach
 
 pub returns-clause-later : goal.returns-clause-later
 returns-clause-later c = history-later c.nodes_hold.ensures.is c.nodes_hold.ensures.later c.runs_join.ensures

@@ -1,5 +1,6 @@
 use Rattle.std.proofs.Common.{◌≡◌, ℕ, List, [], ◌∷◌, ◌++◌, ap, ◌∙◌}
-use Rattle.sb_types.specs.Records.{Entry}
+use Rattle.sb_views.specs.declared.change.Change.{Change}
+use Rattle.sb_views.specs.declared.change.Change.TheVariants.{Enter}
 use Rattle.sb_views.specs.declared.event.Event.{Event}
 use Rattle.sb_views.specs.declared.event.Event.TheVariants.{TookOwn}
 use Rattle.sb_views.proofs.Leading.{first-leads}
@@ -10,8 +11,8 @@ append-requires-clause-leads g c =
     let entry = c.args.entry in
     let upto : c.add-added.new.self ≡ TookOwn entry ∷ [] =
     c.if-not-added.ensures ∙ ap (λ (l : List Event). l ++ TookOwn entry ∷ []) c.requires.start in
-    let batch : c.push.new.self ≡ (c.args.holdings.now.me, entry) ∷ [] =
-    c.in-Ok.ensures.ok ∙ ap (λ (b : List (List ℕ × Entry)). b ++ (c.me.result.now, entry) ∷ []) c.new-batch.ensures
-    ∙ ap (λ (o : List ℕ). (o, entry) ∷ []) c.me.ensures.name in
+    let batch : c.push.new.self ≡ (c.args.holdings.now.me, Enter entry) ∷ [] =
+    c.in-Ok.ensures.ok ∙ ap (λ (b : List (List ℕ × Change)). b ++ (c.me.result.now, Enter entry) ∷ []) c.new-batch.ensures
+    ∙ ap (λ (o : List ℕ). (o, Enter entry) ∷ []) c.me.ensures.name in
     first-leads g.S.NodeTag.opening c.args.holdings.now entry c.args.writer.now.queued c.add-added.new.self c.push.new.self
     c.requires.opening c.requires.next c.requires.queued upto batch

@@ -1,4 +1,4 @@
-use Rattle.std.proofs.Common.{inl, inr, refl}
+use Rattle.std.proofs.Common.{inl}
 use Rattle.sb_world.proofs.Lining.{read_stood}
 use Rattle.sb_world.proofs.making.opened.Goals as goal
 

@@ -14,4 +14,6 @@ returns-clause-promise c =
       taken = law.taken c.args.world.now c.args.events.now answers.items old states fits run clean;
       later = law.later c.args.world.now c.args.events.now answers.items old states fits run clean;
       budget = law.budget c.args.world.now c.args.events.now answers.items old states fits run clean;
+      removed = law.removed c.args.world.now c.args.events.now answers.items old states fits run clean;
+      purged = law.purged c.args.world.now c.args.events.now answers.items old states fits run clean;
     }) c.run.ensures.passes

@@ -10,7 +10,7 @@ returns-then-eq c =
     let digest = digest_of c.self.inside.want c.self.inside.from c.self.inside.until c.self.inside.pairs.items in
     let same = sym (rw (ap (λ (p : Pair). p.owner) c.pair.view_is) at c.if-eq.ensures) in
     record {
-      number = rw (← c.self.view_is) (ap (λ (p : Pair). p.held) c.pair.view_is ∙ sym (number-at digest c.args.owner.now c.args.place c.in-Some.pair.now c.self.invariant.0 at.3.0 at.3.1 same));
+      number = rw (← c.self.view_is) (c.number.ensures ∙ sym (number-at digest c.args.owner.now c.args.floor c.args.place c.in-Some.pair.now c.self.invariant.0 at.3.0 at.3.1 same));
       place = rw (← c.self.view_is) (sym (place-at digest c.args.owner.now c.args.place c.in-Some.pair.now c.self.invariant.0 at.3.0 at.3.1 same));
     }
 
@@ -21,7 +21,7 @@ returns-in-Ok c =
     let bound = rw c.deref-2.ensures.value at c.in-Ok.ensures.bound in
     let at = rw c.deref-2.ensures.value at held in
     record {
-      number = rw (← c.self.view_is) (ap (λ (p : Pair). p.held) c.behind-self.view_is ∙ sym (number-found digest c.args.owner.now _ _ c.self.invariant.0 bound at c.index.ensures));
+      number = rw (← c.self.view_is) (c.number-in-Ok.ensures ∙ sym (number-found digest c.args.owner.now c.args.floor _ _ c.self.invariant.0 bound at c.index.ensures));
       place = rw (← c.self.view_is) (sym (place-found digest c.args.owner.now _ c.self.invariant.0 bound at));
     }
 
@@ -32,6 +32,6 @@ returns-in-Err c =
     let bound = rw c.deref-2.ensures.value at c.in-Err.ensures.bound in
     let at = rw c.deref-2.ensures.value at held in
     record {
-      number = rw (← c.self.view_is) (sym (number-missing digest c.args.owner.now _ c.self.invariant.0 bound at));
+      number = rw (← c.self.view_is) (sym (number-missing digest c.args.owner.now c.args.floor _ c.self.invariant.0 bound at));
       place = rw (← c.self.view_is) (sym (place-missing digest c.args.owner.now _ c.self.invariant.0 bound at));
     }

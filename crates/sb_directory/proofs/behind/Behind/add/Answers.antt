@@ -11,20 +11,20 @@ returns-then-contains_key-clause-ok c =
     let m = c.args.self.now in
     let has : contains_key m c.args.owner ≡ true =
     ap (λ (b : Behind). is_some (get b c.args.owner)) (sym c.self.view_is)
-    ∙ ap is_some (get-found c.self.inside.versions.entries c.self.invariant c.args.owner) ∙ sym c.contains_key.ensures ∙ c.if-contains_key.true in
-    sym (cond-true (contains_key m c.args.owner) m (insert m c.args.owner c.args.version) has)
+    ∙ ap is_some (get-found c.self.inside.owners.entries c.self.invariant c.args.owner) ∙ sym c.contains_key.ensures ∙ c.if-contains_key.true in
+    sym (cond-true (contains_key m c.args.owner) m (insert m c.args.owner c.args.since) has)
 
 pub returns-clause-ok : goal.returns-clause-ok
 returns-clause-ok c =
     let m = c.args.self.now in
     let none : contains_key m c.args.owner ≡ false =
     ap (λ (b : Behind). is_some (get b c.args.owner)) (sym c.self.view_is)
-    ∙ ap is_some (get-found c.self.inside.versions.entries c.self.invariant c.args.owner) ∙ sym c.contains_key.ensures ∙ c.if-contains_key.false in
+    ∙ ap is_some (get-found c.self.inside.owners.entries c.self.invariant c.args.owner) ∙ sym c.contains_key.ensures ∙ c.if-contains_key.false in
     elim c.match-insert.branch [
       | in-Ok w ↦ rw w.result-is
-          (with_inserted c.self.inside.versions.entries c.insert.new.self.entries c.args.owner c.args.version c.self.invariant c.insert.ensures.ordered w.in-Ok.ensures.updates.0
-          ∙ ap (λ (r : Behind). insert r c.args.owner c.args.version) c.self.view_is
-          ∙ sym (cond-false (contains_key m c.args.owner) m (insert m c.args.owner c.args.version) none))
+          (with_inserted c.self.inside.owners.entries c.insert.new.self.entries c.args.owner c.args.since c.self.invariant c.insert.ensures.ordered w.in-Ok.ensures.updates.0
+          ∙ ap (λ (r : Behind). insert r c.args.owner c.args.since) c.self.view_is
+          ∙ sym (cond-false (contains_key m c.args.owner) m (insert m c.args.owner c.args.since) none))
       | in-Err w ↦ rw w.result-is tt
     ]
 

@@ -1,8 +1,7 @@
 use Rattle.std.proofs.Common.{◌≡◌, ℕ, ◌+◌, List, ◌∷◌, drop, sym, ap, subst, ◌∙◌}
 use Rattle.std.proofs.lemmas.List.{drop_more, drop_all}
 use Rattle.sb_types.specs.Records.{Block}
-use Rattle.sb_holdings.specs.Held.{shown_of}
-use Rattle.sb_directory.specs.Behind.{with_owner, AreSince}
+use Rattle.sb_directory.specs.Behind.{since_of, with_owner, AreSince}
 use Rattle.sb_directory.proofs.Lacking.{IsAdding, adding-goes_on, adding-ends}
 use Rattle.sb_directory.proofs.behind.Behind.add_owners.Goals as goal
 
@@ -14,9 +13,10 @@ pub loop-block-preserved : goal.loop-block-preserved
 loop-block-preserved c =
     let held = c.args.holdings.now in
     let b = c.block-item.result in
-    let version : c.upto.result ≡ (shown_of held b.owner).held = c.upto.ensures.version ∙ ap (λ (o : List ℕ). (shown_of held o).held) c.owner-in-loop-block.ensures.owner in
-    let step : c.add.new.self ≡ with_owner c.loop-block.self b.owner (shown_of held b.owner).held =
-    c.in_ok-add.ensures.ok ∙ (λ i. with_owner c.loop-block.self (c.owner.ensures.owner i) (version i)) in
+    let owner : c.owner-owner.result.now ≡ b.owner = c.owner-owner.ensures.owner in
+    let step : c.add.new.self ≡ with_owner c.loop-block.self b.owner (since_of held b.owner) =
+    c.in_ok-add.ensures.ok ∙ (λ i. with_owner c.loop-block.self c.owner-owner.result.now (c.upto.ensures.version i, c.floor.ensures.floor i))
+    ∙ ap (λ (o : List ℕ). with_owner c.loop-block.self o (since_of held o)) owner in
     let blocks = c.args.blocks.now in
     let i = c.loop-block.block-index in
     let left : IsAdding held blocks c.args.self.now c.loop-block.self (b ∷ drop (i + 1) blocks) =

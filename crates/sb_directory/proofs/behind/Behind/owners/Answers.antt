@@ -5,5 +5,5 @@ use Rattle.sb_directory.proofs.behind.Behind.owners.Goals as goal
 
 pub returns : goal.returns
 returns c =
-    let es = c.self.inside.versions.entries in
+    let es = c.self.inside.owners.entries in
     c.iter.ensures.rest ∙ sym (entries-from_sorted by_text es (sorted es c.self.invariant)) ∙ ap entries c.self.view_is

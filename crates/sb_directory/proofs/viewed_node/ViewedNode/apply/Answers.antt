@@ -6,8 +6,8 @@ use Rattle.sb_holdings.specs.Treats.{took_each}
 use Rattle.sb_node.specs.Cores.{Core}
 use Rattle.sb_watch.specs.Records.{Hub}
 use Rattle.sb_views.specs.Histories.{node_after}
-use Rattle.sb_directory.specs.Behind.{HasOwners, entries_since, AreSince}
-use Rattle.sb_directory.specs.Notes.{with_notes, versions_of, entered_of}
+use Rattle.sb_directory.specs.Behind.{HasOwners, AreSince}
+use Rattle.sb_directory.specs.Notes.{with_notes, entries_since, versions_of, entered_of}
 use Rattle.sb_directory.specs.ViewedNodes.{ViewedNode, IsViewedNode}
 use Rattle.sb_directory.proofs.Keeping.{noted, delta-there, moved}
 use Rattle.sb_directory.proofs.viewed_node.ViewedNode.apply.Given.{Over}
@@ -29,7 +29,8 @@ entered g c hub seen =
     let ends = c.in_ok-ends.ends in
     let taken = c.in_ok-ends.ensures.ok in
     let more = c.add_owners.new.self in
-    let after : IsHoldings (replay_node node (took_each blocks ends)).held = subst (λ (k : Core). IsHoldings k.node.held) taken c.in_ok-ends.ensures.holdings in
+    let new = (replay_node node (took_each blocks ends)).held in
+    let after : IsHoldings new = subst (λ (k : Core). IsHoldings k.node.held) taken c.in_ok-ends.ensures.holdings in
     let since : AreSince (node_after opening queued).held node.held more =
     subst (λ (h : Held). AreSince (node_after opening queued).held h more) c.holdings-2.ensures.held
     (c.in_ok-add_owners.ensures.since (node_after opening queued).held

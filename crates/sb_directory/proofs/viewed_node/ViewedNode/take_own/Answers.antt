@@ -1,13 +1,12 @@
 use Rattle.std.proofs.Common.{◌≡◌, ℕ, ◌<◌, ◌^◌, List, [], ◌∷◌, ◌++◌, refl, sym, ap, subst, ◌∙◌, arith}
 use Rattle.sb_types.specs.Records.{Entry}
-use Rattle.sb_holdings.specs.Held.{shown_of, written}
-use Rattle.sb_holdings.specs.Plain.{IsHoldings}
+use Rattle.sb_holdings.specs.Held.{Held, shown_of}
 use Rattle.sb_node.specs.Cores.{Core}
 use Rattle.sb_watch.specs.Records.{Hub}
 use Rattle.sb_views.specs.declared.event.Event.TheVariants.{TookOwn}
 use Rattle.sb_directory.specs.Notes.{with_notes}
 use Rattle.sb_directory.specs.ViewedNodes.{ViewedNode, IsViewedNode}
-use Rattle.sb_directory.proofs.Keeping.{added-locked, added-there, own-there, moved}
+use Rattle.sb_directory.proofs.Keeping.{since-read, added-locked, added-there, own-there, moved}
 use Rattle.sb_directory.proofs.viewed_node.ViewedNode.take_own.Given.{Over}
 use Rattle.sb_directory.proofs.viewed_node.ViewedNode.take_own.Goals.{After-add_event}
 use Rattle.sb_directory.proofs.viewed_node.ViewedNode.take_own.Goals as goal
@@ -26,11 +25,10 @@ entered g c hub seen =
     let taken = c.in_ok-take_own.ensures.ok in
     let few : (shown_of node.held node.held.me).held < 2 ^ 64 =
     subst (λ (owner : List ℕ). (shown_of node.held owner).held < 2 ^ 64) c.name.ensures.name (omega (arith, c.upto.ensures.version, c.upto.type_inv)) in
-    let after : IsHoldings (written node.held e) = subst (λ (k : Core). IsHoldings k.node.held) taken c.in_ok-take_own.ensures.holdings in
     let longer : c.add_event.new.history ≡ inside.history ++ TookOwn e ∷ [] = c.add_event.ensures ∙ ap (λ (x : Entry). inside.history ++ TookOwn x ∷ []) c.entry-entry.ensures.entry in
-    let is = added-locked opening queued inside.behind c.add.new.self old c.name.result.now c.upto.result c.self.invariant c.in_ok-add.ensures.ok c.upto.ensures.version in
-    let has = added-there inside.behind c.add.new.self c.name.result.now node.held.me c.upto.result c.in_ok-add.ensures.ok c.name.ensures.name in
-    own-there opening queued c.add.new.self old is c.refusal.ensures.holdings e c.in_ok-take_own.ensures.next c.entry-entry.ensures.limits few after has
+    let is = added-locked opening queued inside.behind c.add.new.self old c.name.result.now _ c.self.invariant c.in_ok-add.ensures.ok (since-read _ _ _ _ _ c.upto.ensures.version c.floor.ensures.floor c.holdings.ensures.held) in
+    let has = added-there inside.behind c.add.new.self c.name.result.now node.held.me _ c.in_ok-add.ensures.ok c.name.ensures.name in
+    own-there opening queued c.add.new.self old is c.refusal.ensures.holdings e c.in_ok-take_own.ensures.next c.entry-entry.ensures.limits few has
     c.take_own.new.self c.add_event.new.history hub inside.views.published taken longer seen
 
 pub show-requires-clause-node : goal.show-requires-clause-node
@@ -60,4 +58,4 @@ invariant_of-self-in_err-take_own g c =
     let old : ViewedNode = record { core = inside.core; hub = inside.hub; history = inside.history; published = inside.views.published } in
     subst (λ (core : Core). IsViewedNode g.S.NodeTag.opening queued c.add.new.self (record { core = core; hub = inside.hub; history = inside.history; published = inside.views.published }))
     (sym c.in_err-take_own.ensures.err)
-    (added-locked g.S.NodeTag.opening queued inside.behind c.add.new.self old c.name.result.now c.upto.result c.self.invariant c.in_ok-add.ensures.ok c.upto.ensures.version)
+    (added-locked g.S.NodeTag.opening queued inside.behind c.add.new.self old c.name.result.now _ c.self.invariant c.in_ok-add.ensures.ok (since-read _ _ _ _ _ c.upto.ensures.version c.floor.ensures.floor c.holdings.ensures.held))

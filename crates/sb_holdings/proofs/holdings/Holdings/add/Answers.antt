@@ -1,40 +1,38 @@
-use Rattle.std.proofs.Common.{◌≡◌, ◌<◌, [], ℕ, false, length, take, refl, sym, ap, subst, ◌∙◌, arith, eqb-true, ◌==◌}
-use Rattle.std.proofs.lemmas.Bool.Decides.{nat_tests}
-use Rattle.sb_types.specs.Records.{Table}
-use Rattle.sb_holdings.specs.Plain.{held_of, with_entries, IsHoldings}
-use Rattle.sb_holdings.specs.Ends.{entered_count}
-use Rattle.sb_holdings.proofs.Lent.{added-nothing, with_entered-added, IsHoldings-added}
+use Rattle.std.proofs.Common.{◌≡◌, true, sym, ap, subst, ◌∙◌}
+use Rattle.sb_types.specs.Records.{Holder}
+use Rattle.sb_holdings.specs.Held.{is_nothing, with_owner}
+use Rattle.sb_holdings.specs.Taken.{holder_after_block}
+use Rattle.sb_holdings.specs.Plain.{held_of, IsHoldings}
+use Rattle.sb_holdings.specs.Holders.{told}
+use Rattle.sb_holdings.proofs.Nodes.{is_nothing_is}
+use Rattle.sb_holdings.proofs.ByOwner.{added, IsHoldings-added}
+use Rattle.sb_holdings.proofs.Naming.{with_nothing, refused-nothing}
 use Rattle.sb_holdings.proofs.holdings.Holdings.add.Goals as goal
 
-pub returns-then-is_empty-clause-effect : goal.returns-then-is_empty-clause-effect
-returns-then-is_empty-clause-effect c =
-    let others = take (entered_count c.enter_each-end.result) c.args.entries.now in
-    let entered : length c.enter_each-end.new.table.entries ≡ length others =
-    ap (λ (u : Table). length u.entries) c.enter_each-end.ensures.effect ∙ ap (λ (t : Table). length (with_entries t others).entries) c.new-table.ensures.nothing in
-    sym (added-nothing c.args.self.now c.args.owner.now others c.requires.unknown (sym entered ∙ eqb-true (length c.enter_each-end.new.table.entries) 0 (sym c.if-is_empty.ensures.count)))
-
-some : (n : ℕ) → false ≡ (n == 0) → 0 < n
-some n test = grind (arith, nat_tests)
+pub returns-then-is_nothing-clause-effect : goal.returns-then-is_nothing-clause-effect
+returns-then-is_nothing-clause-effect c =
+    let w_is = c.take-end.ensures.effect ∙ ap (λ (h : Holder). holder_after_block h (told c.args.floor 0 c.args.upto c.args.entries.now) c.take-end.result) c.nothing-holder.ensures.nothing in
+    let none : is_nothing c.take-end.new.self ≡ true = sym c.is_nothing.ensures.nothing ∙ c.if-is_nothing.true in
+    sym (with_nothing c.args.self.now c.args.owner.now c.args.floor c.args.upto c.args.entries.now c.requires.unknown (subst IsHoldings c.self.view_is c.self.invariant.1) c.requires.other)
+    ∙ ap (with_owner c.args.self.now c.args.owner.now) (is_nothing_is c.take-end.new.self none ∙ w_is)
 
 pub invariant_of-self : goal.invariant_of-self
-invariant_of-self c =
-    let others = take (entered_count c.enter_each-end.result) c.args.entries.now in
-    let entered = c.enter_each-end.ensures.effect ∙ ap (λ (t : Table). with_entries t others) c.new-table.ensures.nothing in (
-      c.insert.ensures.ordered,
-      IsHoldings-added c.args.self.now c.self.inside.me c.args.owner.now c.self.inside.tables c.insert.new.self c.enter_each-end.new.table others c.self.invariant.0 c.insert.ensures.ordered c.in-Ok.ensures.updates
-          (some _ c.if-is_empty.ensures.count) entered c.self.view_is (subst IsHoldings c.self.view_is c.self.invariant.1) c.enter_each-end.ensures.table c.requires.place,
-    )
-
-pub returns-in-Ok-clause-effect : goal.returns-in-Ok-clause-effect
-returns-in-Ok-clause-effect c =
-    let others = take (entered_count c.enter_each-end.result) c.args.entries.now in
-    let entered = c.enter_each-end.ensures.effect ∙ ap (λ (t : Table). with_entries t others) c.new-table.ensures.nothing in
-    with_entered-added c.args.self.now c.self.inside.me c.args.owner.now c.self.inside.tables c.insert.new.self c.enter_each-end.new.table others c.self.invariant.0 c.insert.ensures.ordered c.in-Ok.ensures.updates
-    (some _ c.if-is_empty.ensures.count) entered c.self.view_is c.requires.unknown
+invariant_of-self c = (
+  c.insert.ensures.ordered,
+  IsHoldings-added c.args.self.now c.self.inside.me c.args.owner.now c.self.inside.holders c.insert.new.self c.take-end.new.self c.self.invariant.0 c.insert.ensures.ordered c.self.view_is (sym c.is_nothing.ensures.nothing ∙ c.if-is_nothing.false) c.in-Ok.ensures.updates
+      (subst IsHoldings c.self.view_is c.self.invariant.1) c.requires.other c.take-end.ensures.kept c.requires.place,
+)
 
 pub returns-in-Ok-clause-holdings : goal.returns-in-Ok-clause-holdings
 returns-in-Ok-clause-holdings c = (invariant_of-self c).1
 
+pub returns-in-Ok-clause-effect : goal.returns-in-Ok-clause-effect
+returns-in-Ok-clause-effect c =
+    added c.args.self.now c.self.inside.me c.args.owner.now c.self.inside.holders c.insert.new.self c.take-end.new.self c.self.invariant.0 c.insert.ensures.ordered c.self.view_is (sym c.is_nothing.ensures.nothing ∙ c.if-is_nothing.false) c.in-Ok.ensures.updates
+    ∙ ap (with_owner c.args.self.now c.args.owner.now) (c.take-end.ensures.effect ∙ ap (λ (h : Holder). holder_after_block h (told c.args.floor 0 c.args.upto c.args.entries.now) c.take-end.result) c.nothing-holder.ensures.nothing)
+
 pub returns-clause-effect : goal.returns-clause-effect
 returns-clause-effect c =
-    ap (held_of c.self.inside.me) c.in-Err.ensures.err ∙ c.self.view_is ∙ sym (added-nothing c.args.self.now c.args.owner.now [] c.requires.unknown refl)
+    ap (held_of c.self.inside.me) c.in-Err.ensures.err ∙ c.self.view_is
+    ∙ sym (with_nothing c.args.self.now c.args.owner.now c.args.floor c.args.upto c.args.entries.now c.requires.unknown (subst IsHoldings c.self.view_is c.self.invariant.1) c.requires.other)
+    ∙ ap (with_owner c.args.self.now c.args.owner.now) (sym (refused-nothing c.args.floor c.args.upto c.args.entries.now))

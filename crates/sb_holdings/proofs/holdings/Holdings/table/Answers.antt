@@ -1,8 +1,11 @@
-use Rattle.std.proofs.Common.{ap, sym, ◌∙◌}
-use Rattle.sb_holdings.specs.Held.{Held}
-use Rattle.sb_holdings.specs.Plain.{table_of}
-use Rattle.sb_holdings.proofs.ByOwner.{table_of-held_of}
+use Rattle.std.proofs.Common.{Some, ap, ◌∙◌}
+use Rattle.std.specs.Option.{option_map}
+use Rattle.sb_types.specs.Records.{Table, Holder}
 use Rattle.sb_holdings.proofs.holdings.Holdings.table.Goals as goal
 
-pub returns-clause-found : goal.returns-clause-found
-returns-clause-found c = c.get.ensures.value ∙ sym (table_of-held_of c.self.inside.me c.args.owner.now c.self.inside.tables.entries c.self.invariant.0) ∙ ap (λ (h : Held). table_of h c.args.owner.now) c.self.view_is
+pub returns-in-Some-clause-found : goal.returns-in-Some-clause-found
+returns-in-Some-clause-found c =
+    ap (λ (t : Table). Some t) c.shown.ensures.shown ∙ ap (option_map (λ (h : Holder). h.shown)) c.in-Some.ensures.found
+
+pub returns-in-None-clause-found : goal.returns-in-None-clause-found
+returns-in-None-clause-found c = ap (option_map (λ (h : Holder). h.shown)) c.in-None.ensures.found

@@ -5,28 +5,28 @@ use Rattle.sb_log.proofs.sql.SqlLogWriteLog.load.Goals as goal
 pub returns-in-Ok-clause-loads : goal.returns-in-Ok-clause-loads
 returns-in-Ok-clause-loads g c =
     let i = c.self.inside in
-    let r = c.read_table in
+    let r = c.read_content in
     rw (← c.self.view_is)
-    (gives g.S.Store g.met.S.Store.settled i.owner i.cluster i.max_version i.is_open c.if-not-self.false i.conn i.table c.self.invariant.0 r.new.conn r.ensures.clean c.in-Ok.table c.in-Ok.ensures.plain
-    (λ clean ready. c.in-Ok.ensures.ready clean ready (λ e. cc)) c.in-Ok.ensures.rows)
+    (gives g.S.Store g.met.S.Store.settled i.owner i.cluster i.max_version i.is_open c.if-not-self.false i.conn i.table c.self.invariant.0 r.new.conn r.ensures.clean c.in-Ok.table c.in-Ok.ensures.table
+    (λ clean ready. c.in-Ok.ensures.ready clean ready (λ e. cc)) (rw (c.upto-last.ensures.version, c.floor-floor.ensures.floor) at c.in-Ok.ensures.rows))
 
 pub returns-in-Ok-clause-crash : goal.returns-in-Ok-clause-crash
 returns-in-Ok-clause-crash g c clean _ =
     let i = c.self.inside in
-    let r = c.read_table in
+    let r = c.read_content in
     rw (← c.self.view_is) (same_left g.S.Store g.met.S.Store.settled i.owner i.cluster i.max_version i.is_open c.if-not-self.false i.conn i.table c.self.invariant.0 r.new.conn r.ensures.clean r.ensures.crash clean)
 
 pub returns-in-Ok-clause-settled : goal.returns-in-Ok-clause-settled
 returns-in-Ok-clause-settled g c =
     let i = c.self.inside in
-    let r = c.read_table in
+    let r = c.read_content in
     settles g.S.Store g.met.S.Store.settled i.owner i.cluster r.new.conn i.table i.is_open
     (still_kept g.S.Store g.met.S.Store.settled i.owner i.cluster i.max_version i.is_open c.if-not-self.false i.conn i.table c.self.invariant.0 r.new.conn r.ensures.clean (λ clean ready. c.in-Ok.ensures.ready clean ready (λ e. cc)))
 
 pub returns-in-Err-NoMemory-clause-loads : goal.returns-in-Err-NoMemory-clause-loads
 returns-in-Err-NoMemory-clause-loads g c =
     let i = c.self.inside in
-    let r = c.read_table in
+    let r = c.read_content in
     rw (← c.self.view_is)
     (gives_no_memory g.S.Store g.met.S.Store.settled i.owner i.cluster i.max_version i.is_open c.if-not-self.false i.conn i.table c.self.invariant.0 r.new.conn r.ensures.clean
     (λ clean ready. c.in-Err-NoMemory.ensures.ready clean ready (λ e. cc)))
@@ -34,20 +34,20 @@ returns-in-Err-NoMemory-clause-loads g c =
 pub returns-in-Err-NoMemory-clause-crash : goal.returns-in-Err-NoMemory-clause-crash
 returns-in-Err-NoMemory-clause-crash g c clean _ =
     let i = c.self.inside in
-    let r = c.read_table in
+    let r = c.read_content in
     rw (← c.self.view_is) (same_left g.S.Store g.met.S.Store.settled i.owner i.cluster i.max_version i.is_open c.if-not-self.false i.conn i.table c.self.invariant.0 r.new.conn r.ensures.clean r.ensures.crash clean)
 
 pub returns-in-Err-NoMemory-clause-settled : goal.returns-in-Err-NoMemory-clause-settled
 returns-in-Err-NoMemory-clause-settled g c =
     let i = c.self.inside in
-    let r = c.read_table in
+    let r = c.read_content in
     settles g.S.Store g.met.S.Store.settled i.owner i.cluster r.new.conn i.table i.is_open
     (still_kept g.S.Store g.met.S.Store.settled i.owner i.cluster i.max_version i.is_open c.if-not-self.false i.conn i.table c.self.invariant.0 r.new.conn r.ensures.clean (λ clean ready. c.in-Err-NoMemory.ensures.ready clean ready (λ e. cc)))
 
 pub returns-in-Err : goal.returns-in-Err
 returns-in-Err g c =
     let i = c.self.inside in
-    let r = c.read_table in
+    let r = c.read_content in
     let was_open : c.args.self.now.is_open ≡ true = rw (← c.self.view_is) c.if-not-self.false in
     record {
       loads = rw (← c.self.view_is) (gives_nothing g.S.Store g.met.S.Store.settled i.owner i.cluster i.max_version i.is_open c.if-not-self.false i.conn i.table c.self.invariant.0 r.new.conn r.ensures.clean);
@@ -60,11 +60,11 @@ returns-in-Err g c =
 pub returns-in-Err-LogDamaged : goal.returns-in-Err-LogDamaged
 returns-in-Err-LogDamaged g c =
     let i = c.self.inside in
-    let r = c.read_table in
+    let r = c.read_content in
     let was_open : c.args.self.now.is_open ≡ true = rw (← c.self.view_is) c.if-not-self.false in
     record {
       loads = rw (← c.self.view_is) (gives_damaged g.S.Store g.met.S.Store.settled i.owner i.cluster i.max_version i.is_open c.if-not-self.false i.conn i.table c.self.invariant.0 r.new.conn r.ensures.clean
-          (λ clean ready t are e. c.in-Err-LogDamaged.ensures.whole clean ready t are (cc)));
+          (λ clean ready t are can e. (rw (c.upto-last.ensures.version, c.floor-floor.ensures.floor) at c.in-Err-LogDamaged.ensures.whole) clean ready t are can (cc)));
       closed = λ shut. absurd (true≢false (sym was_open ∙ shut));
       crash = λ clean _. rw (← c.self.view_is)
           (same_left g.S.Store g.met.S.Store.settled i.owner i.cluster i.max_version i.is_open c.if-not-self.false i.conn i.table c.self.invariant.0 r.new.conn r.ensures.clean r.ensures.crash clean);

@@ -1,23 +1,21 @@
-use Rattle.std.proofs.Common.{◌≡◌, ◌<◌, false, arith}
-use Rattle.std.proofs.lemmas.Grind.{common_steps}
-use Rattle.std.specs.Map.{values_of}
-use Rattle.sb_types.specs.Runs.{last_version}
-use Rattle.sb_table.specs.Plain.{is_full_for}
-use Rattle.sb_table.proofs.Plain.{IsPlainTable-pushed, plain_table-pushed}
+use Rattle.std.proofs.Common.{◌<◌, sym, subst}
+use Rattle.sb_table.specs.Plain.{IsPlainTable, is_full_for}
+use Rattle.sb_table.proofs.Keeping.{had_room, kept-pushed, plain-pushed}
 use Rattle.sb_table.proofs.table.Table.push.Goals as goal
-
-pub returns-clause-ok : goal.returns-clause-ok
-returns-clause-ok c =
-    rw (← c.self.view_is) (plain_table-pushed c.enter.result (values_of c.self.inside.entries.entries) (values_of c.enter.new.entries.entries) c.args.entry c.enter.ensures.ok)
 
 pub invariant_of-self : goal.invariant_of-self
 invariant_of-self c =
-    let old = values_of c.self.inside.entries.entries in
-    let later : last_version 0 old < c.args.entry.version = rw (← c.self.view_is) at c.requires in
-    let room : is_full_for c.args.entry.key old ≡ false = grind (arith, common_steps) in (
-      IsPlainTable-pushed c.enter.result old (values_of c.enter.new.entries.entries) c.args.entry c.enter.ensures.ok c.enter.ensures.err c.self.invariant.0 later room,
-      c.enter.ensures.agree,
-    )
+    let later : c.self.inside.upto < c.args.entry.version = rw (← c.self.view_is) at c.requires in
+    let room = had_room c.push_later.result (is_full_for c.args.entry.key c.self.inside.entries.entries) c.push_later.ensures.answer in
+    kept-pushed c.push_later.result c.self.inside.entries c.push_later.new.entries c.args.entry c.self.inside.upto c.self.inside.floor c.push_later.new.upto
+    c.push_later.ensures.ok c.push_later.ensures.err c.self.invariant later room
 
 pub returns-clause-table : goal.returns-clause-table
-returns-clause-table c = (invariant_of-self c).0
+returns-clause-table c = invariant_of-self c
+
+pub returns-clause-plain : goal.returns-clause-plain
+returns-clause-plain c plain =
+    let later : c.self.inside.upto < c.args.entry.version = rw (← c.self.view_is) at c.requires in
+    let room = had_room c.push_later.result (is_full_for c.args.entry.key c.self.inside.entries.entries) c.push_later.ensures.answer in
+    plain-pushed c.push_later.result c.self.inside.entries c.push_later.new.entries c.args.entry c.self.inside.upto c.self.inside.floor c.push_later.new.upto
+    c.push_later.ensures.ok c.push_later.ensures.err (subst IsPlainTable (sym c.self.view_is) plain) later room

@@ -1,4 +1,4 @@
-use Rattle.std.proofs.Common.{◌≡◌, ◌≤◌, ◌<◌, Bool, true, false, nat_le, leb-true, leb-false, MatchBool, ap, subst, arith, length, List, refl}
+use Rattle.std.proofs.Common.{◌≡◌, ◌<◌, Bool, true, false, nat_le, leb-true, leb-false, MatchBool, ap, subst, arith, length, List, refl}
 use mathlib.Core.List.{IsPrefix}
 use Rattle.sb_views.specs.declared.event.Event.{Event}
 use Rattle.sb_views.specs.Histories.{IsLonger}

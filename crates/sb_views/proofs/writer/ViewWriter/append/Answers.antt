@@ -4,8 +4,8 @@ use Rattle.sb_views.specs.declared.event.Event.{Event}
 use Rattle.sb_views.specs.declared.view_copy.Operation.{Operation}
 use Rattle.sb_views.specs.declared.view_copy.Operation.TheVariants.{Reach}
 use Rattle.sb_views.specs.Histories.{Position, node_after}
-use Rattle.sb_views.specs.NodeViews.{Leads}
-use Rattle.sb_views.specs.Operations.{after_operation, entries_of}
+use Rattle.sb_views.specs.Changes.{Leads}
+use Rattle.sb_views.specs.Operations.{after_operation, changes_of}
 use Rattle.sb_views.specs.Publishing.{Views, IsQueued}
 use Rattle.sb_views.proofs.Appending.{appended}
 use Rattle.sb_views.proofs.writer.ViewWriter.append.Goals as goal
@@ -24,10 +24,10 @@ invariant_of-self g c =
     let position : Position = record { book = history; events = upto } in
     let same : c.args.self.now.queued ≡ queued = sym (ap (λ (v : Views). v.queued) c.self.view_is) in
     let begins : IsPrefix queued upto = subst (λ (l : List Event). IsPrefix l upto) same c.requires.begins in
-    let entries : Leads (node_after opening c.args.self.now.queued).held (node_after opening upto).held (entries_of operations) =
-    subst (Leads (node_after opening c.args.self.now.queued).held (node_after opening upto).held) (sym c.into_operations-steps.ensures.entries) c.requires.leads in
-    let leads : Leads (node_after opening queued).held (node_after opening upto).held (entries_of operations) =
-    subst (λ (l : List Event). Leads (node_after opening l).held (node_after opening upto).held (entries_of operations)) same entries in
+    let changes : Leads (node_after opening c.args.self.now.queued).held (node_after opening upto).held (changes_of operations) =
+    subst (Leads (node_after opening c.args.self.now.queued).held (node_after opening upto).held) (sym c.into_operations-steps.ensures.changes) c.requires.leads in
+    let leads : Leads (node_after opening queued).held (node_after opening upto).held (changes_of operations) =
+    subst (λ (l : List Event). Leads (node_after opening l).held (node_after opening upto).held (changes_of operations)) same changes in
     let is_queued : dropped ++ c.queue_all.new.queue.items ≡ (dropped ++ queue) ++ (operations ++ Reach position ∷ []) =
     ap (λ (q : List Operation). dropped ++ q) (c.in-Ok.ensures ∙ ap (λ (m : Position). queue ++ (operations ++ Reach m ∷ [])) c.position.ensures)
     ∙ sym (append_assoc dropped queue (operations ++ Reach position ∷ [])) in

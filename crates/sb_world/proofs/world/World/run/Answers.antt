@@ -10,5 +10,11 @@ returns-clause-exact g c = IfOk-weaker c.run_each.result _ _ (λ answers passes.
 pub returns-clause-later : goal.returns-clause-later
 returns-clause-later g c = IfOk-weaker c.run_each.result _ _ (λ answers passes. c.worlds_keep_their_promise.ensures.later c.args.self.now c.args.events.now answers.items) c.run_each.ensures.passes
 
+pub returns-clause-removed : goal.returns-clause-removed
+returns-clause-removed g c = IfOk-weaker c.run_each.result _ _ (λ answers passes. c.worlds_keep_their_promise.ensures.removed c.args.self.now c.args.events.now answers.items) c.run_each.ensures.passes
+
+pub returns-clause-purged : goal.returns-clause-purged
+returns-clause-purged g c = IfOk-weaker c.run_each.result _ _ (λ answers passes. c.worlds_keep_their_promise.ensures.purged c.args.self.now c.args.events.now answers.items) c.run_each.ensures.passes
+
 pub returns-clause-sure : goal.returns-clause-sure
 returns-clause-sure g c = IfOk-weaker c.run_each.result _ _ (λ answers passes. c.sure_stores_are_trusted.ensures.passes c.args.self.now c.run_each.new.self c.args.events.now answers.items passes) c.run_each.ensures.passes

@@ -1,0 +1,154 @@
+-- Which end a block has at one owner, and what it leaves there.
+use Rattle.std.specs.Prelude.{◌≡◌, ℕ, ◌≤◌, ◌<◌, max, Bool, true, false, ◌&&◌, nat_lt, nat_le, if◌then◌else◌, List, [], ◌⊎◌, take, Option, Some, None}
+use Rattle.std.specs.Ordering.{nat_cmp}
+use Rattle.std.specs.Cmp.Lexicographic.{slice_cmp}
+use Rattle.std.specs.Map.{lookup}
+use Rattle.std.specs.BTreeMap.{is_at}
+use Rattle.sb_types.specs.Records.{Entry, Table, Stage, Block, Holder}
+use Rattle.sb_types.specs.Runs.{IsRun, above, are_ascending, entered, last_version, live}
+use Rattle.sb_table.specs.Floors.{raised, swapped}
+use Rattle.sb_holdings.specs.declared.ends.BlockEnd.{BlockEnd}
+use Rattle.sb_holdings.specs.declared.ends.BlockEnd.TheVariants.{Own, OwnAhead, Gap, Stale, OwnersFull, Taken, TooManyKeys, NoMemory}
+use Rattle.sb_holdings.specs.Shown.{joins_shown, stage_beyond}
+use Rattle.sb_holdings.specs.Stages.{goes_on, staged_all, staged_front, staged_refused}
+use Rattle.sb_holdings.specs.Held.{nothing}
+use Rattle.sb_holdings.specs.Ends.{Enters, entered_count, EntersOr, is_stale, joined_stage}
+
+-- ---- blocks in parts
+
+abbrev pub named : List ℕ → ℕ → ℕ → ℕ → List Entry → Block
+named owner floor after upto entries = record { owner = owner; floor = floor; after = after; upto = upto; entries = entries }
+
+-- without its owner's name
+abbrev pub told : ℕ → ℕ → ℕ → List Entry → Block
+told floor after upto entries = record { owner = []; floor = floor; after = after; upto = upto; entries = entries }
+
+-- ---- which end a block has
+
+pub record IsShownTaken (h : Holder) (b : Block) (end : BlockEnd) : Type 0 where
+  pub joins : joins_shown h.shown b ≡ true
+  pub enters : Enters (live (max h.shown.floor b.floor) h.shown.entries) (above h.shown.held b.entries) end
+
+-- behind the last entry room may be refused for the swap
+pub record IsStageTaken (h : Holder) (b : Block) (end : BlockEnd) : Type 0 where
+  pub stage : Stage
+  pub joins : joined_stage h b ≡ Some stage
+  pub enters : EntersOr stage.entries (above stage.progress b.entries) (stage.floor ≤ b.upto) end
+
+abbrev pub FitsHolder : Holder → Block → BlockEnd → Type 0
+FitsHolder h b Own = ⊥
+FitsHolder h b (OwnAhead upto) = ⊥
+FitsHolder h b Gap = (is_stale h.shown b ≡ false) × (joins_shown h.shown b ≡ false) × (joined_stage h b ≡ None)
+FitsHolder h b Stale = is_stale h.shown b ≡ true
+FitsHolder h b OwnersFull = ⊥
+FitsHolder h b (Taken n) = IsShownTaken h b (Taken n) ⊎ IsStageTaken h b (Taken n)
+FitsHolder h b (TooManyKeys n) = IsShownTaken h b (TooManyKeys n) ⊎ IsStageTaken h b (TooManyKeys n)
+FitsHolder h b (NoMemory n) = IsShownTaken h b (NoMemory n) ⊎ IsStageTaken h b (NoMemory n)
+
+-- ---- what entering new entries leaves
+
+-- how far it came: to upto where all were entered, else to the last that was
+abbrev pub reached : ℕ → ℕ → List Entry → BlockEnd → ℕ
+reached before upto new Own = before
+reached before upto new (OwnAhead ahead) = before
+reached before upto new Gap = before
+reached before upto new Stale = before
+reached before upto new OwnersFull = before
+reached before upto new (Taken n) = upto
+reached before upto new (TooManyKeys n) = last_version before (take n new)
+reached before upto new (NoMemory n) = last_version before (take n new)
+
+abbrev pub table_ended : Table → ℕ → List Entry → BlockEnd → Table
+table_ended t upto new end = record { held = reached t.held upto new end; floor = t.floor; entries = entered t.entries (take (entered_count end) new) }
+
+abbrev pub stage_ended : Stage → ℕ → List Entry → BlockEnd → Stage
+stage_ended s upto new end = record { floor = s.floor; progress = reached s.progress upto new end; entries = entered s.entries (take (entered_count end) new) }
+
+-- the stage with others entered, each in place of its key's
+abbrev pub stage_with_entries : Stage → List Entry → Stage
+stage_with_entries s others = record { floor = s.floor; progress = last_version s.progress others; entries = entered s.entries others }
+
+-- the shown table with its floor raised and new entries entered; a stage that it reaches goes
+abbrev pub shown_taken : Holder → ℕ → ℕ → List Entry → BlockEnd → Holder
+shown_taken h floor upto new end =
+    let t = table_ended (raised h.shown.held (max h.shown.floor floor) h.shown) upto new end in
+    record { shown = t; stage = stage_beyond t.held h.stage }
+
+-- all was entered, and the stage has reached its floor
+abbrev pub is_due : Stage → BlockEnd → Bool
+is_due s Own = false
+is_due s (OwnAhead ahead) = false
+is_due s Gap = false
+is_due s Stale = false
+is_due s OwnersFull = false
+is_due s (Taken n) = nat_le s.floor s.progress
+is_due s (TooManyKeys n) = false
+is_due s (NoMemory n) = false
+
+-- a stage that is due is shown, unless room is refused for that; then it goes
+abbrev pub shown_stage : Table → Stage → BlockEnd → Holder
+shown_stage t s Own = record { shown = t; stage = None }
+shown_stage t s (OwnAhead ahead) = record { shown = t; stage = None }
+shown_stage t s Gap = record { shown = t; stage = None }
+shown_stage t s Stale = record { shown = t; stage = None }
+shown_stage t s OwnersFull = record { shown = t; stage = None }
+shown_stage t s (Taken n) = record { shown = swapped t s; stage = None }
+shown_stage t s (TooManyKeys n) = record { shown = t; stage = None }
+shown_stage t s (NoMemory n) = record { shown = t; stage = None }
+
+-- the stage in its place, or shown where it is due
+abbrev pub placed : Table → Stage → Bool → BlockEnd → Holder
+placed t s due end = if due then shown_stage t s end else record { shown = t; stage = Some s }
+
+-- it ends as entering did, or room was refused for the swap
+abbrev pub Settles : Stage → BlockEnd → BlockEnd → Type 0
+Settles s entering end = (end ≡ entering) ⊎ ((is_due s entering ≡ true) × (end ≡ NoMemory (entered_count entering)))
+
+-- what a block leaves that goes to this stage
+abbrev pub staged_by : Holder → Block → Option Stage → BlockEnd → Holder
+staged_by h b s Own = h
+staged_by h b s (OwnAhead ahead) = h
+staged_by h b s Gap = h
+staged_by h b s Stale = h
+staged_by h b s OwnersFull = h
+staged_by h b s (Taken n) = staged_all h b s
+staged_by h b s (TooManyKeys n) = staged_front n h b s
+staged_by h b s (NoMemory n) = staged_refused n h b s
+
+-- the block goes on with the stage that is there
+abbrev pub goes_on_with : Option Stage → Block → Bool
+goes_on_with None b = false
+goes_on_with (Some s) b = goes_on s b
+
+-- a stage of this floor may begin beside what is there
+abbrev pub may_begin : Option Stage → ℕ → Bool
+may_begin None floor = true
+may_begin (Some s) floor = nat_lt s.floor floor
+
+-- of the entries those that the stage lacks reach up to this version
+abbrev pub GoesOn : Stage → ℕ → List Entry → Type 0
+GoesOn s upto entries = (are_ascending 0 entries ≡ true) × IsRun s.progress upto (above s.progress entries) × (s.progress < upto)
+
+-- how a stage takes them
+abbrev pub FillsStage : Stage → ℕ → List Entry → BlockEnd → Type 0
+FillsStage s upto entries end = EntersOr s.entries (above s.progress entries) (s.floor ≤ upto) end
+
+-- what a block with a floor above what is held ends as, and what of the stage it joins
+abbrev pub FitsStage : Option Stage → Block → BlockEnd → Type 0
+FitsStage None b end = end ≡ Gap
+FitsStage (Some s) b end = FillsStage s b.upto b.entries end
+
+-- ---- among the owners
+
+-- how a block of the own name ends
+abbrev pub own_end : ℕ → ℕ → BlockEnd
+own_end held upto = if nat_le upto held then Own else OwnAhead upto
+
+-- what stands under a name, or nothing of one owner any more
+abbrev pub Dropped : List ℕ → Bool → List (List ℕ × Holder) → List (List ℕ × Holder) → Type 0
+Dropped owner gone old new = (q : List ℕ) →
+    lookup (is_at (slice_cmp nat_cmp q)) new ≡ (if gone && is_at (slice_cmp nat_cmp owner) q then None else lookup (is_at (slice_cmp nat_cmp q)) old)
+
+-- how a block that begins at 0 ends at an owner that is not held: as there, or without room for the owner
+abbrev pub FitsNew : Block → BlockEnd → Type 0
+FitsNew b end = FitsHolder nothing b end ⊎ (end ≡ NoMemory 0)

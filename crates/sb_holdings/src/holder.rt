@@ -1,0 +1,375 @@
+//! What is held of one owner: the table that is shown, and perhaps a stage that is to take its place.
+ghost use Rattle.std.specs.Prelude.{◌≡◌, ℕ, ◌≤◌, ◌<◌, max, true, false, List, [], OnOk, OnErr, IfErr, None, Some, IfSome, IsSomeAnd, take};
+ghost use Rattle.std.specs.Option.{option_copied, option_map};
+ghost use Rattle.sb_types.specs.Runs.{IsRun, above, live, are_ascending, are_distinct};
+ghost use Rattle.sb_table.specs.Plain.{is_full_for, with_entry};
+ghost use Rattle.sb_table.specs.Floors.{IsKeptTable, IsKeptStage, raised, stage_with_entry};
+ghost use Rattle.sb_holdings.specs.Held.{nothing, is_nothing};
+ghost use Rattle.sb_holdings.specs.Plain.{alone, with_entries, IsKeptHolder};
+ghost use Rattle.sb_holdings.specs.Shown.{stage_beyond};
+ghost use Rattle.sb_holdings.specs.Stages.{new_stage, stage_for};
+ghost use Rattle.sb_holdings.specs.Taken.{holder_after_block};
+ghost use Rattle.sb_holdings.specs.Ends.{Enters, entered_count};
+ghost use Rattle.sb_holdings.specs.Holders.{told, FitsHolder, FitsStage, FillsStage, GoesOn, table_ended, stage_ended, stage_with_entries, shown_taken, is_due, placed, shown_stage, Settles, staged_by, goes_on_with, may_begin};
+
+use crate::ends::BlockEnd;
+use sb_table::{Stage, Table, entries_above};
+use sb_types::{Entry, Fault};
+use std::alloc::Global;
+use std::marker::Model;
+
+/// What is held of one owner: the table that is shown, and a stage of a floor above what is held, where one has begun.
+#[derive(Drop)]
+pub(crate) struct Holder {
+    shown: Table,
+    stage: Option<Stage>,
+}
+
+impl Model for Holder {
+    ghost use Rattle.sb_types.specs.Records as records;
+    ghost use Rattle.sb_holdings.specs.Plain.{IsKeptHolder};
+
+    ghost Value = { records.Holder };
+
+    ghost view = { λ h. record { shown = h.shown; stage = h.stage } };
+
+    ghost invariant = { λ h. IsKeptHolder (record { shown = h.shown; stage = h.stage }) };
+}
+
+impl Holder {
+    /// Of an owner that is not known. It takes no memory.
+    pub(crate) fn nothing(alloc: Global) -> Holder
+        ensures nothing { result ≡ nothing }
+        ensures kept { IsKeptHolder result }
+    {
+        Holder {
+            shown: Table::new(alloc),
+            stage: None,
+        }
+    }
+
+    /// Of an owner of whom this is shown, and who has no stage. It takes no memory.
+    pub(crate) fn alone(shown: Table) -> Holder
+        ensures alone { result ≡ alone shown }
+        ensures kept { IsKeptHolder result }
+    {
+        // Does nothing: the call tells the prover that the table keeps its limits.
+        let _ = shown.upto();
+        Holder { shown, stage: None }
+    }
+
+    /// The table that is shown.
+    pub(crate) fn shown(&self) -> &Table
+        ensures shown { result.now ≡ self.now.shown }
+        ensures kept { IsKeptHolder self.now }
+    {
+        &self.shown
+    }
+
+    /// The floor of the stage and how far it has come, where there is one.
+    pub(crate) fn staged(&self) -> Option<(u64, u64)>
+        ensures staged { result ≡ option_map (λ s. (s.floor, s.progress)) self.now.stage }
+        ensures kept { IsKeptHolder self.now }
+    {
+        let stage = self.stage.as_ref()?;
+        Some((stage.floor(), stage.progress()))
+    }
+
+    /// Enters an own write that has room, where there is no stage. `NoMemory`, which leaves all as it was.
+    pub(crate) fn push(&mut self, entry: Entry) -> Result<(), Fault>
+        requires later { self.old.shown.held < entry.version }
+        requires room { is_full_for entry.key self.old.shown.entries ≡ false }
+        requires alone { self.old.stage ≡ None }
+        ensures ok { OnOk result (self.new ≡ alone (with_entry self.old.shown entry)) }
+        ensures err { OnErr result (self.new ≡ self.old) }
+        ensures fault { IfErr result (λ fault. fault ≡ Fault.NoMemory) }
+        ensures kept { IsKeptHolder self.new }
+    {
+        self.shown.push(entry)
+    }
+
+    /// Whether nothing is held, not even a version.
+    pub(crate) fn is_nothing(&self) -> bool
+        ensures nothing { result ≡ is_nothing self.now }
+        ensures kept { IsKeptHolder self.now }
+    {
+        self.shown.upto() == 0
+            && self.shown.floor() == 0
+            && self.shown.is_empty()
+            && self.stage.is_none()
+    }
+
+    /// Takes what a block tells, and tells how it ended: entries of versions above `after` and at most `upto`, that
+    /// leave out no write between but superseded ones and markers up to `floor`.
+    pub(crate) fn take(
+        &mut self,
+        alloc: Global,
+        floor: u64,
+        after: u64,
+        upto: u64,
+        entries: &[Entry],
+    ) -> BlockEnd
+        requires run { IsRun after upto entries.now }
+        requires order { after < upto }
+        ensures effect { self.new ≡ holder_after_block self.old (told floor after upto entries.now) result }
+        ensures end { FitsHolder self.old (told floor after upto entries.now) result }
+        ensures kept { IsKeptHolder self.new }
+    {
+        let held = self.shown.upto();
+        if floor > held {
+            return self.take_staged(alloc, floor, after, upto, entries);
+        }
+        if upto <= held {
+            return BlockEnd::Stale;
+        }
+        if after > held {
+            return BlockEnd::Gap;
+        }
+        self.take_shown(alloc, floor, upto, entries_above(entries, held))
+    }
+
+    /// Takes later entries into the table that is shown, whose floor rises first.
+    fn take_shown(&mut self, alloc: Global, floor: u64, upto: u64, new: &[Entry]) -> BlockEnd
+        requires run { IsRun self.old.shown.held upto new.now }
+        requires floor { floor ≤ self.old.shown.held }
+        ensures end { Enters (live (max self.old.shown.floor floor) self.old.shown.entries) new.now result }
+        ensures effect { self.new ≡ shown_taken self.old floor upto new.now result }
+        ensures kept { IsKeptHolder self.new }
+    {
+        let end = join(alloc, &mut self.shown, floor, upto, new);
+        drop_reached(&mut self.stage, self.shown.upto());
+        end
+    }
+
+    /// Takes what a block tells of a floor above what is held.
+    fn take_staged(
+        &mut self,
+        alloc: Global,
+        floor: u64,
+        after: u64,
+        upto: u64,
+        entries: &[Entry],
+    ) -> BlockEnd
+        requires run { IsRun after upto entries.now }
+        requires order { after < upto }
+        requires beyond { self.old.shown.held < floor }
+        ensures effect { self.new ≡ staged_by self.old (told floor after upto entries.now) (stage_for self.old.stage (told floor after upto entries.now)) result }
+        ensures end { FitsStage (stage_for self.old.stage (told floor after upto entries.now)) (told floor after upto entries.now) result }
+        ensures kept { IsKeptHolder self.new }
+    {
+        if goes_on_with(self.stage.as_ref(), floor, after, upto) {
+            return self.go_on(alloc, upto, entries);
+        }
+        if after == 0 && may_begin(self.stage.as_ref(), floor) {
+            return self.begin(alloc, floor, upto, entries);
+        }
+        BlockEnd::Gap
+    }
+
+    /// Takes of these entries those that the stage lacks into it.
+    fn go_on(&mut self, alloc: Global, upto: u64, entries: &[Entry]) -> BlockEnd
+        requires stage { IsSomeAnd self.old.stage (λ s. GoesOn s upto entries.now) }
+        ensures effect { self.new ≡ staged_by self.old (told 0 0 upto entries.now) self.old.stage result }
+        ensures end { IfSome self.old.stage (λ s. FillsStage s upto entries.now result) }
+        ensures kept { IsKeptHolder self.new }
+    {
+        match self.stage.take() {
+            Some(mut stage) => {
+                let new = entries_above(entries, stage.progress());
+                let end = fill(alloc, &mut stage, upto, new);
+                self.settle(alloc, stage, end)
+            }
+            None => BlockEnd::Gap,
+        }
+    }
+
+    /// Begins a stage with these entries, in place of what stage there is, unless nothing of it comes.
+    fn begin(&mut self, alloc: Global, floor: u64, upto: u64, entries: &[Entry]) -> BlockEnd
+        requires run { IsRun 0 upto entries.now }
+        requires more { 0 < upto }
+        requires beyond { self.old.shown.held < floor }
+        ensures effect { self.new ≡ staged_by self.old (told floor 0 upto entries.now) (Some (new_stage floor)) result }
+        ensures end { FillsStage (new_stage floor) upto entries.now result }
+        ensures kept { IsKeptHolder self.new }
+    {
+        let _ = &self.shown;
+        let mut stage = Stage::new(alloc, floor);
+        let end = fill(alloc, &mut stage, upto, entries);
+        if stage.progress() == 0 {
+            return end;
+        }
+        self.settle(alloc, stage, end)
+    }
+
+    /// Puts a stage in place, or shows it where all was entered and it has reached its floor.
+    fn settle(&mut self, alloc: Global, stage: Stage, end: BlockEnd) -> BlockEnd
+        requires stage { IsKeptStage stage }
+        requires some { 1 ≤ stage.progress }
+        requires beyond { self.old.shown.held < stage.floor }
+        ensures end { Settles stage end result }
+        ensures effect { self.new ≡ placed self.old.shown stage (is_due stage end) result }
+        ensures kept { IsKeptHolder self.new }
+    {
+        match end {
+            BlockEnd::Taken(count) if stage.floor() <= stage.progress() => {
+                self.show(alloc, stage, count)
+            }
+            end => {
+                self.stage = Some(stage);
+                end
+            }
+        }
+    }
+
+    /// Shows a stage in place of what was shown, unless there is no memory for that: then what was shown stays.
+    fn show(&mut self, alloc: Global, stage: Stage, count: u64) -> BlockEnd
+        requires stage { IsKeptStage stage }
+        requires beyond { self.old.shown.held < stage.floor }
+        requires reach { stage.floor ≤ stage.progress }
+        ensures end { Settles stage (BlockEnd.Taken count) result }
+        ensures effect { self.new ≡ shown_stage self.old.shown stage result }
+        ensures kept { IsKeptHolder self.new }
+    {
+        self.stage = None;
+        match self.shown.swapped(alloc, &stage) {
+            Ok(shown) => {
+                self.shown = shown;
+                BlockEnd::Taken(count)
+            }
+            Err(_) => BlockEnd::NoMemory(count),
+        }
+    }
+}
+
+/// Whether a block of this floor, above one version and up to another, goes on with the stage that is there.
+fn goes_on_with(stage: Option<&Stage>, floor: u64, after: u64, upto: u64) -> bool
+    ensures { result ≡ goes_on_with (option_copied stage.entry) (told floor after upto []) }
+{
+    match stage {
+        Some(stage) => {
+            stage.floor() == floor && after <= stage.progress() && stage.progress() < upto
+        }
+        None => false,
+    }
+}
+
+/// Whether a stage of this floor may begin beside what is there.
+fn may_begin(stage: Option<&Stage>, floor: u64) -> bool
+    ensures { result ≡ may_begin (option_copied stage.entry) floor }
+{
+    match stage {
+        Some(stage) => stage.floor() < floor,
+        None => true,
+    }
+}
+
+/// A stage goes once what is shown has reached its floor.
+fn drop_reached(stage: &mut Option<Stage>, held: u64)
+    ensures { stage.new ≡ stage_beyond held stage.old }
+{
+    let Some(staged) = stage.as_ref() else { return };
+    if staged.floor() <= held {
+        *stage = None;
+    }
+}
+
+/// Raises the floor, and enters later entries; the table then reaches up to a version where all were entered.
+fn join(alloc: Global, shown: &mut Table, floor: u64, upto: u64, new: &[Entry]) -> BlockEnd
+    requires run { IsRun shown.old.held upto new.now }
+    requires floor { floor ≤ shown.old.held }
+    ensures end { Enters (live (max shown.old.floor floor) shown.old.entries) new.now result }
+    ensures effect { shown.new ≡ table_ended (raised shown.old.held (max shown.old.floor floor) shown.old) upto new.now result }
+    ensures table { IsKeptTable shown.new }
+{
+    let held = shown.upto();
+    let floor = shown.floor().max(floor);
+    shown.raise(held, floor);
+    match enter_shown(alloc, shown, new) {
+        BlockEnd::Taken(count) => {
+            shown.raise(upto, floor);
+            BlockEnd::Taken(count)
+        }
+        end => end,
+    }
+}
+
+/// Enters later entries; the stage then reaches up to a version where all were entered.
+fn fill(alloc: Global, stage: &mut Stage, upto: u64, new: &[Entry]) -> BlockEnd
+    requires stage { IsKeptStage stage.old }
+    requires run { IsRun stage.old.progress upto new.now }
+    ensures end { Enters stage.old.entries new.now result }
+    ensures effect { stage.new ≡ stage_ended stage.old upto new.now result }
+    ensures stage { IsKeptStage stage.new }
+{
+    match enter_staged(alloc, stage, new) {
+        BlockEnd::Taken(count) => {
+            stage.raise(upto);
+            BlockEnd::Taken(count)
+        }
+        end => end,
+    }
+}
+
+/// Enters a copy of a later entry that has room.
+fn push_shown(alloc: Global, shown: &mut Table, entry: &Entry) -> Result<(), Fault>
+    requires later { shown.old.held < entry.now.version }
+    requires room { is_full_for entry.now.key shown.old.entries ≡ false }
+    ensures ok { OnOk result (shown.new ≡ with_entry shown.old entry.now) }
+    ensures err { OnErr result (shown.new ≡ shown.old) }
+    ensures fault { IfErr result (λ fault. fault ≡ Fault.NoMemory) }
+    ensures table { OnOk result (IsKeptTable shown.new) }
+{
+    shown.push(entry.copy(alloc)?)
+}
+
+/// Enters later entries one by one, copied, as long as there is room for the next.
+fn enter_shown(alloc: Global, shown: &mut Table, entries: &[Entry]) -> BlockEnd
+    requires table { IsKeptTable shown.old }
+    requires later { are_ascending shown.old.held entries.now ≡ true }
+    requires distinct { are_distinct entries.now ≡ true }
+    ensures end { Enters shown.old.entries entries.now result }
+    ensures effect { shown.new ≡ with_entries shown.old (take (entered_count result) entries.now) }
+    ensures table { IsKeptTable shown.new }
+{
+    for (count, entry) in entries.iter().enumerate() {
+        if shown.is_full_for(entry.key()) {
+            return BlockEnd::TooManyKeys(count as u64);
+        }
+        if push_shown(alloc, shown, entry).is_err() {
+            return BlockEnd::NoMemory(count as u64);
+        }
+    }
+    BlockEnd::Taken(entries.len() as u64)
+}
+
+/// Enters a copy of a later entry that has room.
+fn push_staged(alloc: Global, stage: &mut Stage, entry: &Entry) -> Result<(), Fault>
+    requires later { stage.old.progress < entry.now.version }
+    requires room { is_full_for entry.now.key stage.old.entries ≡ false }
+    ensures ok { OnOk result (stage.new ≡ stage_with_entry stage.old entry.now) }
+    ensures err { OnErr result (stage.new ≡ stage.old) }
+    ensures fault { IfErr result (λ fault. fault ≡ Fault.NoMemory) }
+    ensures stage { OnOk result (IsKeptStage stage.new) }
+{
+    stage.push(entry.copy(alloc)?)
+}
+
+/// Enters later entries one by one, copied, as long as there is room for the next.
+fn enter_staged(alloc: Global, stage: &mut Stage, entries: &[Entry]) -> BlockEnd
+    requires stage { IsKeptStage stage.old }
+    requires later { are_ascending stage.old.progress entries.now ≡ true }
+    requires distinct { are_distinct entries.now ≡ true }
+    ensures end { Enters stage.old.entries entries.now result }
+    ensures effect { stage.new ≡ stage_with_entries stage.old (take (entered_count result) entries.now) }
+    ensures stage { IsKeptStage stage.new }
+{
+    for (number, entry) in entries.iter().enumerate() {
+        if stage.is_full_for(entry.key()) {
+            return BlockEnd::TooManyKeys(number as u64);
+        }
+        if push_staged(alloc, stage, entry).is_err() {
+            return BlockEnd::NoMemory(number as u64);
+        }
+    }
+    BlockEnd::Taken(entries.len() as u64)
+}

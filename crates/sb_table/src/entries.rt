@@ -1,0 +1,296 @@
+//! The entries of one owner, by version and by key, and those of a list above a version.
+
+ghost use Rattle.std.specs.Prelude.{◌≡◌, ◌<◌, ◌≤◌, ◌==◌, ℕ, List, true, [], if◌then◌else◌, Ok, Err, OnOk, OnErr, IfErr, Some, ◌∷◌, length, drop, find};
+ghost use Rattle.std.specs.Option.{option_map};
+ghost use Rattle.std.specs.Map.{values_of};
+ghost use Rattle.sb_types.specs.Faults.{Gives};
+ghost use Rattle.sb_types.specs.Runs.{above, up_to, live, has_key, are_ascending, entered, entry_at, last_version};
+ghost use Rattle.sb_table.specs.Plain.{IsPlainTable, plain_table, with_entry, is_full_for, version_and_slot};
+ghost use Rattle.sb_table.specs.Order.{by_key, under};
+ghost use Rattle.sb_table.specs.Maps.{Agree, version_at};
+ghost use Rattle.sb_table.specs.Floors.{is_dead, outside};
+
+use crate::after::After;
+use crate::prefixed::Prefixed;
+use sb_types::{Entry, Fault, KEYS_MOST, Key, Prefix, Slot};
+use std::alloc::Global;
+use std::collections::BTreeMap;
+use std::marker::Model;
+use std::ops::Bound;
+
+/// The entries of a table or of a stage: at most 4,096, in ascending version, one a key. They are seen as the table of
+/// these entries that has no floor.
+#[derive(Debug, Drop)]
+pub(crate) struct Entries {
+    // By version.
+    entries: BTreeMap<u64, Entry>,
+    // The version of the entry under each key.
+    versions: BTreeMap<Key, u64>,
+}
+
+impl Model for Entries {
+    ghost use Rattle.std.specs.Map.{values_of};
+    ghost use Rattle.sb_types.specs.Records as records;
+    ghost use Rattle.sb_table.specs.Plain.{IsPlainTable, plain_table};
+    ghost use Rattle.sb_table.specs.Maps.{Agree};
+
+    ghost Value = { records.Table };
+
+    ghost view = { λ t. plain_table (values_of t.entries.entries) };
+
+    ghost invariant = { λ t. IsPlainTable (plain_table (values_of t.entries.entries)) × Agree t.entries.entries t.versions.entries };
+}
+
+impl Entries {
+    /// No entries. It takes no memory.
+    pub(crate) fn new(alloc: Global) -> Entries
+        ensures nothing { result ≡ plain_table [] }
+        ensures table { IsPlainTable result }
+    {
+        Entries {
+            entries: BTreeMap::new(alloc),
+            versions: BTreeMap::new(alloc),
+        }
+    }
+
+    /// Enters a write of a later version than any before, in place of what its key had. `TableFull` where
+    /// the key is new beside 4,096 others; then `NoMemory`. Both leave the entries as they were.
+    pub(crate) fn push(&mut self, entry: Entry) -> Result<(), Fault>
+        requires { self.old.held < entry.version }
+        ensures answer { Gives result (if is_full_for entry.key self.old.entries then Err Fault.TableFull else Ok tt) }
+        ensures full { is_full_for entry.key self.old.entries ≡ true → result ≡ Err Fault.TableFull }
+        ensures ok { OnOk result (self.new ≡ with_entry self.old entry) }
+        ensures err { OnErr result (self.new ≡ self.old) }
+        ensures table { IsPlainTable self.new }
+    {
+        if self.is_full_for(entry.key()) {
+            return Err(Fault::TableFull);
+        }
+        enter(&mut self.entries, &mut self.versions, entry)
+    }
+
+    /// Equal entries. `NoMemory`.
+    pub(crate) fn copy(&self, alloc: Global) -> Result<Entries, Fault>
+        ensures copy { Gives result (Ok self.now) }
+        ensures table { IsPlainTable self.now }
+    {
+        let mut copy = Entries::new(alloc);
+        for entry in self.after(0) {
+            copy.push(entry.copy(alloc)?)?;
+        }
+        Ok(copy)
+    }
+
+    /// Whether there is no room for a key: it is new beside 4,096 others.
+    pub(crate) fn is_full_for(&self, key: &Key) -> bool
+        ensures full { result ≡ is_full_for key.now self.now.entries }
+        ensures table { IsPlainTable self.now }
+    {
+        self.len() >= KEYS_MOST && !self.versions.contains_key(key)
+    }
+
+    /// The version of the last write, 0 where there is none.
+    pub(crate) fn upto(&self) -> u64
+        ensures version { result ≡ self.now.held }
+        ensures table { IsPlainTable self.now }
+    {
+        match self.entries.last_key_value() {
+            Some((version, _)) => *version,
+            None => 0,
+        }
+    }
+
+    /// How many keys there are, removed ones counted.
+    pub(crate) fn len(&self) -> usize
+        ensures count { result ≡ length self.now.entries }
+        ensures table { IsPlainTable self.now }
+    {
+        self.entries.len()
+    }
+
+    /// Whether there is no key, not even a removed one.
+    pub(crate) fn is_empty(&self) -> bool
+        ensures count { result ≡ (length self.now.entries == 0) }
+        ensures table { IsPlainTable self.now }
+    {
+        self.entries.is_empty()
+    }
+
+    /// The version and the slot under a key, a removal too; nothing where it was never written.
+    pub(crate) fn get(&self, key: &Key) -> Option<(u64, &Slot)>
+        ensures found { option_map (λ p. (p.0, p.1.now)) result ≡ option_map version_and_slot (entry_at key.now self.now.entries) }
+        ensures table { IsPlainTable self.now }
+    {
+        let version = self.versions.get(key)?;
+        let entry = self.entries.get(version)?;
+        Some((*version, entry.slot()))
+    }
+
+    /// The entries above a version, in ascending version.
+    pub(crate) fn after(&self, version: u64) -> After<'_>
+        ensures entries { result ≡ above version self.now.entries }
+        ensures table { IsPlainTable self.now }
+    {
+        let above = (Bound::Excluded(version), Bound::Unbounded);
+        After::new(self.entries.range(above))
+    }
+
+    /// Whether a key has an entry at or below a version.
+    pub(crate) fn has_up_to(&self, key: &Key, version: u64) -> bool
+        ensures has { result ≡ has_key key.now (up_to version self.now.entries) }
+        ensures table { IsPlainTable self.now }
+    {
+        match self.get(key) {
+            Some((at, _)) => at <= version,
+            None => false,
+        }
+    }
+
+    /// Takes out the markers at or below a version. It takes no memory.
+    pub(crate) fn drop_markers(&mut self, floor: u64)
+        ensures dropped { self.new ≡ plain_table (live floor self.old.entries) }
+        ensures table { IsPlainTable self.new }
+    {
+        let _ = &self.entries;
+        let mut from = 0;
+        while let Some((key, version)) = self.first_marker(from, floor) {
+            self.remove(&key, version);
+            from = version;
+        }
+    }
+
+    /// The key and the version of the first marker above one version and at or below another.
+    fn first_marker(&self, from: u64, floor: u64) -> Option<(Key, u64)>
+        ensures first { result ≡ option_map (λ e. (e.key, e.version)) (find (λ e. is_dead floor e) (above from self.now.entries)) }
+        ensures table { IsPlainTable self.now }
+    {
+        for entry in self.after(from) {
+            if is_dead(entry, floor) {
+                return Some((*entry.key(), entry.version()));
+            }
+        }
+        None
+    }
+
+    /// Takes out what a key has, at its version.
+    fn remove(&mut self, key: &Key, version: u64)
+        requires { version_at key.now self.old.entries ≡ Some version }
+        ensures gone { self.new ≡ plain_table (outside key.now self.old.entries) }
+        ensures table { IsPlainTable self.new }
+    {
+        take_out(&mut self.entries, &mut self.versions, key, version);
+    }
+
+    /// The entries under the keys that begin with the prefix, in ascending order of their keys.
+    pub(crate) fn prefix(&self, prefix: &Prefix) -> Prefixed<'_>
+        ensures entries { result ≡ by_key (under prefix.now self.now.entries) }
+        ensures table { IsPlainTable self.now }
+    {
+        let from_start = (prefix.start(), Bound::Unbounded);
+        Prefixed::new(&self.entries, self.versions.range(from_start), *prefix)
+    }
+}
+
+/// Enters a write of a later version, and raises a version to it. Both faults leave both as they were.
+pub(crate) fn push_later(
+    entries: &mut Entries,
+    upto: &mut u64,
+    version: u64,
+    entry: Entry,
+) -> Result<(), Fault>
+    requires later { entries.old.held < entry.version }
+    requires version { version ≡ entry.version }
+    ensures answer { Gives result (if is_full_for entry.key entries.old.entries then Err Fault.TableFull else Ok tt) }
+    ensures full { is_full_for entry.key entries.old.entries ≡ true → result ≡ Err Fault.TableFull }
+    ensures ok { OnOk result ((entries.new.entries ≡ entered entries.old.entries (entry ∷ [])) × (upto.new ≡ entry.version)) }
+    ensures err { OnErr result ((entries.new ≡ entries.old) × (upto.new ≡ upto.old)) }
+{
+    entries.push(entry)?;
+    *upto = version;
+    Ok(())
+}
+
+/// Takes out the removals above one floor and at or below another.
+pub(crate) fn drop_between(entries: &mut Entries, before: u64, floor: u64)
+    requires order { before ≤ floor }
+    requires whole { live before entries.old.entries ≡ entries.old.entries }
+    ensures dropped { entries.new.entries ≡ live floor entries.old.entries }
+{
+    if floor > before {
+        entries.drop_markers(floor);
+    }
+}
+
+/// Puts an entry behind all others, and takes out what its key had.
+fn enter(
+    entries: &mut BTreeMap<u64, Entry>,
+    versions: &mut BTreeMap<Key, u64>,
+    entry: Entry,
+) -> Result<(), Fault>
+    requires table { IsPlainTable (plain_table (values_of entries.old.entries)) }
+    requires agree { Agree entries.old.entries versions.old.entries }
+    requires later { last_version 0 (values_of entries.old.entries) < entry.version }
+    ensures ok { OnOk result (values_of entries.new.entries ≡ entered (values_of entries.old.entries) (entry ∷ [])) }
+    ensures err { OnErr result (values_of entries.new.entries ≡ values_of entries.old.entries) }
+    ensures agree { Agree entries.new.entries versions.new.entries }
+    ensures fault { IfErr result (λ fault. fault ≡ Fault.NoMemory) }
+{
+    let key = *entry.key();
+    let version = entry.version();
+    entries.insert(version, entry)?;
+    match versions.insert(key, version) {
+        Ok(Some(earlier)) => {
+            entries.remove(&earlier);
+            Ok(())
+        }
+        Ok(None) => Ok(()),
+        Err(_) => {
+            entries.remove(&version);
+            Err(Fault::NoMemory)
+        }
+    }
+}
+
+/// Takes out what a key has, at its version.
+fn take_out(
+    entries: &mut BTreeMap<u64, Entry>,
+    versions: &mut BTreeMap<Key, u64>,
+    key: &Key,
+    version: u64,
+)
+    requires table { IsPlainTable (plain_table (values_of entries.old.entries)) }
+    requires agree { Agree entries.old.entries versions.old.entries }
+    requires stands { version_at key.now (values_of entries.old.entries) ≡ Some version }
+    ensures values { values_of entries.new.entries ≡ outside key.now (values_of entries.old.entries) }
+    ensures agree { Agree entries.new.entries versions.new.entries }
+{
+    versions.remove(key);
+    entries.remove(&version);
+}
+
+/// Whether an entry is a marker at or below a version.
+pub(crate) fn is_dead(entry: &Entry, floor: u64) -> bool
+    ensures { result ≡ is_dead floor entry.now }
+{
+    match entry.slot() {
+        Slot::Set(_) => false,
+        Slot::Removed => entry.version() <= floor,
+    }
+}
+
+/// Those above a version, of entries in ascending version.
+pub fn entries_above(entries: &[Entry], version: u64) -> &[Entry]
+    requires { are_ascending 0 entries.now ≡ true }
+    ensures { result.now ≡ above version entries.now }
+{
+    &entries[first_above(entries, version)..]
+}
+
+/// Where the entries above a version begin.
+fn first_above(entries: &[Entry], version: u64) -> usize
+    requires { are_ascending 0 entries.now ≡ true }
+    ensures place { result ≤ length entries.now }
+    ensures entries { drop result entries.now ≡ above version entries.now }
+{
+    entries.partition_point(|entry| entry.version() <= version)
+}

@@ -1,0 +1,62 @@
+//! What a swap copies of the shown table and of the stage.
+
+ghost use Rattle.std.specs.Prelude.{◌≡◌, ◌<◌, false, ◌++◌, OnOk, IfErr};
+ghost use Rattle.sb_types.specs.Runs.{above, up_to, under_keys_of, live};
+ghost use Rattle.sb_table.specs.Plain.{IsPlainTable, plain_table, with_entry, is_full_for};
+
+use crate::entries::{Entries, is_dead};
+use sb_types::{Entry, Fault};
+use std::alloc::Global;
+
+/// Enters a copy of a later entry that has room.
+fn push_copy(alloc: Global, into: &mut Entries, entry: &Entry) -> Result<(), Fault>
+    requires later { into.old.held < entry.now.version }
+    requires room { is_full_for entry.now.key into.old.entries ≡ false }
+    ensures ok { OnOk result (into.new ≡ with_entry into.old entry.now) }
+    ensures fault { IfErr result (λ fault. fault ≡ Fault.NoMemory) }
+{
+    into.push(entry.copy(alloc)?)
+}
+
+/// Copies what is shown under the keys that the stage has at or below a version, without markers up to the floor.
+pub(crate) fn keep_shown(
+    alloc: Global,
+    into: &mut Entries,
+    shown: &Entries,
+    staged: &Entries,
+    upto: u64,
+    floor: u64,
+) -> Result<(), Fault>
+    requires whole { IsPlainTable (plain_table (into.old.entries ++ live floor (under_keys_of (up_to upto staged.now.entries) shown.now.entries))) }
+    requires into { IsPlainTable into.old }
+    ensures ok { OnOk result (into.new ≡ plain_table (into.old.entries ++ live floor (under_keys_of (up_to upto staged.now.entries) shown.now.entries))) }
+    ensures fault { IfErr result (λ fault. fault ≡ Fault.NoMemory) }
+{
+    for entry in shown.after(0) {
+        if staged.has_up_to(entry.key(), upto) && !is_dead(entry, floor) {
+            push_copy(alloc, into, entry)?;
+        }
+    }
+    Ok(())
+}
+
+/// Copies what the stage has above a version, without markers up to the floor.
+pub(crate) fn add_staged(
+    alloc: Global,
+    into: &mut Entries,
+    staged: &Entries,
+    upto: u64,
+    floor: u64,
+) -> Result<(), Fault>
+    requires whole { IsPlainTable (plain_table (into.old.entries ++ live floor (above upto staged.now.entries))) }
+    requires into { IsPlainTable into.old }
+    ensures ok { OnOk result (into.new ≡ plain_table (into.old.entries ++ live floor (above upto staged.now.entries))) }
+    ensures fault { IfErr result (λ fault. fault ≡ Fault.NoMemory) }
+{
+    for entry in staged.after(upto) {
+        if !is_dead(entry, floor) {
+            push_copy(alloc, into, entry)?;
+        }
+    }
+    Ok(())
+}

@@ -1,0 +1,131 @@
+//! Views of tables that are held beyond their last entries, and an owner whose rows are all shown anew.
+
+ghost use Rattle.std.specs.Prelude.{◌≡◌, ◌∷◌, [], OnOk};
+ghost use Rattle.sb_holdings.specs.Held.{shown_of};
+
+use crate::making::{apply, holdings_of_a, name};
+use crate::reading::{Look, read};
+use crate::views::{Case, NET_B, OF_B, Seen, W, entry_of, is_found, is_upto, look_around};
+use crate::{got, same, there};
+use sb_holdings::Holdings;
+use sb_table::Table;
+use sb_types::{Block, Entry, Fault, Name};
+use sb_views::{
+    Batch, Change, EventRef, HistoryHead, HistoryPrefix, NewHistory, NodeTag, Snapshot, ViewWriter,
+    views,
+};
+use std::alloc::Global;
+use std::marker::Brand;
+use std::process::Abort;
+use std::sync::Wait;
+
+/// What is held of a, a write of version 3 up to version 5 with floor 4, and of b, whose stage of floor 2 with a write of
+/// version 1 came up to version 3.
+fn held_beyond(rt: &impl Abort, alloc: Global) -> Holdings {
+    let entries = got(rt, vec![in alloc; entry_of(rt, W)]);
+    let own = got(rt, Table::restored(alloc, 5, 4, entries));
+    let mut holdings = got(rt, Holdings::new(alloc, name(rt, b"a"), own));
+    let entries = got(rt, vec![in alloc; entry_of(rt, OF_B)]);
+    let block = got(rt, Block::new(name(rt, b"b"), 2, 0, 3, entries));
+    apply(rt, &mut holdings, &block);
+    holdings
+}
+
+/// Each owner is shown as far as it is held, and with its rows.
+pub(crate) fn beyond_is_shown(rt: &impl Abort, snapshot: &Snapshot<'_>) {
+    is_upto(rt, snapshot, b"a", 5);
+    is_upto(rt, snapshot, b"b", 3);
+    is_found(rt, snapshot, b"a", b"w", Some((3, 3)));
+    is_found(rt, snapshot, b"b", b"net/a", Some((7, 1)));
+}
+
+#[test]
+fn what_is_held_beyond_the_entries_is_shown(rt: HostRuntime) {
+    let holdings = held_beyond(&rt, rt.alloc());
+    read(&rt, rt.alloc(), &holdings, Look::Beyond);
+}
+
+#[test]
+fn an_owner_is_shown_anew_once_published(rt: HostRuntime) {
+    let holdings = holdings_of_a(&rt, rt.alloc());
+    let seen = publish_anew(&rt, rt.alloc(), &holdings, NET_B);
+    same(&rt, &seen, &[((0, None), 0), ((1, Some((1, 1))), 1)]);
+}
+
+/// What is seen under the key of the first write, before all of the node's is shown anew and then.
+fn publish_anew<R: Wait + Abort>(
+    rt: &R,
+    alloc: Global,
+    holdings: &Holdings,
+    write: Case,
+) -> [Seen; 2] {
+    let entry = entry_of(rt, write);
+    if holdings.upto(holdings.me()) != 0 || entry.version() != 1 {
+        panic!(rt; "error: the first write");
+    }
+    publish_first::<Brand, _>(rt, alloc, NewHistory::new(), holdings, entry)
+}
+
+fn publish_first<S: NodeTag, R: Wait + Abort>(
+    rt: &R,
+    alloc: Global,
+    new_history: NewHistory,
+    holdings: &Holdings,
+    entry: Entry,
+) -> [Seen; 2]
+    requires history { new_history.seen.book ≡ S.history }
+    requires opening { S.opening.held ≡ holdings.now }
+    requires nothing { (shown_of holdings.now holdings.now.me).held ≡ 0 }
+    requires first { entry.version ≡ 1 }
+{
+    let key = *entry.key();
+    let (head, start) = new_history.named::<S>();
+    let (mut writer, mut readers) = match views::<S, &R>(alloc, rt, start.copy(), holdings, 2) {
+        Ok(made) => made,
+        Err(fault) => panic!(rt; "error: {fault:?}"),
+    };
+    append_anew(rt, alloc, &head, start, &mut writer, holdings, entry);
+    let reader = there(rt, readers.pop());
+    look_around(rt, &mut writer, reader, holdings.me(), &key)
+}
+
+/// Puts behind the others that the owner has this one entry and no other.
+fn push_anew(batch: &mut Batch, owner: Name, entry: Entry) -> Result<(), Fault>
+    requires { batch.old ≡ [] }
+    ensures { OnOk result (batch.new ≡ (owner, Change.Clear) ∷ (owner, Change.Enter entry) ∷ (owner, Change.Hold entry.version) ∷ []) }
+{
+    let version = entry.version();
+    batch.push_clear(owner)?;
+    batch.push(owner, entry)?;
+    batch.push_hold(owner, version)
+}
+
+/// Adds the first event of a history, an own write, with which all of the node's is shown anew.
+fn append_anew<S: NodeTag, R: Wait + Abort>(
+    rt: &R,
+    alloc: Global,
+    head: &HistoryHead<S>,
+    mut upto: HistoryPrefix<S>,
+    writer: &mut ViewWriter<S, &R>,
+    holdings: &Holdings,
+    entry: Entry,
+)
+    requires start { upto ≡ [] }
+    requires queued { writer.old.queued ≡ [] }
+    requires opening { S.opening.held ≡ holdings.now }
+    requires nothing { (shown_of holdings.now holdings.now.me).held ≡ 0 }
+    requires first { entry.version ≡ 1 }
+{
+    let added = upto.add(head, EventRef::TookOwn(&entry));
+    let mut batch = Batch::new(alloc);
+    match push_anew(&mut batch, *holdings.me(), entry) {
+        Ok(()) => {}
+        Err(fault) => panic!(rt; "error: {fault:?}"),
+    }
+    if !added {
+        panic!(rt; "error: a write is not added");
+    }
+    if writer.append(batch, &upto).is_err() {
+        panic!(rt; "error: NoMemory");
+    }
+}
