@@ -113,7 +113,7 @@ def ended_name(check):
     away.start()
     away.awaits("that its rows go", lambda found: found == ["b kept 1 weight 7"])
     owners = run(check.program, "owners", "--sock", str(peer.sock), "--cluster", "c")[1]
-    want("how far the name is held", owners, "b 1\nd 0\nold 5000\n")
+    want("how far the name is held", owners, "b 1\nold 5000\n")
 
 
 PARTS = (begin_words, lost_log, ended_name)

@@ -232,7 +232,7 @@ fn greatest_of(pairs: &[Pair], owner: &Name) -> u64 {
     let mut greatest = 0;
     for pair in pairs {
         if pair.owner == *owner {
-            greatest = pair.upto.max(pair.floor).max(pair.progress);
+            greatest = pair.upto.max(pair.staged_floor).max(pair.progress);
         }
     }
     greatest
