@@ -9,7 +9,7 @@ use crate::{got, same, same_at};
 use sb_log::WriteLog;
 use sb_types::{Fault, VERSION_MOST};
 use sqlite::Files;
-use sqlite_disk::Memory;
+use sqlite_disk::{Crash, Memory};
 use std::alloc::Global;
 use std::process::Abort;
 
