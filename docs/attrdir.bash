@@ -27,7 +27,7 @@ _attrdir() {
 
   case $value_of in
     '') ;;
-    --log | --sock | --control | --metrics)
+    --log | --sock | --control | --metrics | --from)
       compopt -o filenames 2>/dev/null
       mapfile -t COMPREPLY < <(compgen -f -- "$word")
       return
@@ -49,7 +49,7 @@ _attrdir() {
 
   local options=''
   case $command in
-    '') options='serve set del get watch owners log purge sim --help --version' ;;
+    '') options='serve set del get watch owners log purge begin sim --help --version' ;;
     serve)
       options='--name --cluster --log --sock --control --budget --order --max-version --seats --workers --rounds --pause --fanout --idle --dial-idle --request --max-reads --on-log-fault --purge-removals --log-time --metrics --help'
       ;;
@@ -60,6 +60,7 @@ _attrdir() {
     owners) options='--sock --cluster --name --help' ;;
     log) options='--log --name --cluster --help' ;;
     purge) options='--log --name --cluster --all --help' ;;
+    begin) options='--log --name --cluster --after --from --help' ;;
     sim) options='--explain --help' ;;
   esac
 

@@ -58,12 +58,24 @@ class History:
         self.lock = threading.Lock()
         # the greatest version that was acknowledged, and how many were
         self.last, self.count = 0, 0
+        # the versions behind which its log began anew: what was written before is gone there
+        self.begun = []
         # the number of the write of each version, 0 where it is not known
         self.numbers = array("Q", [0])
         # when each version was answered
         self.answered = {}
         self.versions = {key: array("Q") for key in self.keys}
         self.open = {key: {} for key in self.keys}
+
+    def lose(self, version):
+        """Its log was lost, and begins anew behind this version."""
+        with self.lock:
+            self.begun.append(version)
+            self.last = max(self.last, version)
+
+    def lost_before(self, upto):
+        """The last version up to this one behind which its log began anew; 0 where there is none."""
+        return max((it for it in self.begun if it <= upto), default=0)
 
     def asked(self, number):
         """What write NUMBER is. Each number is of one writer, and each key of one writer too. Some keys are written often, some hardly."""
@@ -124,11 +136,11 @@ class History:
             return False
 
     def newest(self, key, upto):
-        """The last version up to this one that was acknowledged under the key; 0 where there is none."""
+        """The last version up to this one that was acknowledged under the key; 0 where there is none, or where it was lost."""
         with self.lock:
             versions = self.versions[key]
             at = bisect_right(versions, upto)
-            return versions[at - 1] if at else 0
+            return versions[at - 1] if at and versions[at - 1] > self.lost_before(upto) else 0
 
     def may_be_above(self, key, upto):
         """Whether the key may have been written above this version."""
@@ -139,6 +151,8 @@ class History:
     def may_be_gone(self, key, version):
         """Whether nothing may stand under the key, of which this version is held."""
         with self.lock:
+            if any(it > version for it in self.begun):
+                return True
             versions = self.versions[key]
             later = range(bisect_left(versions, version), len(versions))
             return any(self.asked(self.numbers[versions[at]]).kind == REMOVED for at in later) or any(
@@ -181,6 +195,8 @@ class Sight:
             version = versions.get(key)
             upto = max(upto, version or 0)
             newest = history.newest(key, upto)
+            if version and version < history.lost_before(upto):
+                yield f"{history.owner} {key} is of version {version}, and its log began anew behind {history.lost_before(upto)}, where {upto} is held"
             if history.owner not in self.whole and history.may_be_above(key, upto):
                 continue
             if version is None:

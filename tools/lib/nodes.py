@@ -242,6 +242,22 @@ class Node:
         want(f"purge {floor} of {self.name}", (found[0], found[1].split()[:1], found[2]), (0, ["purged"], ""))
         return int(found[1].split()[1])
 
+    def begin(self, sock):
+        """Has a log begin in the place of its own, which is lost, while it does not run, behind what the node at a socket heard of it: the version.
+        Where that node can't be asked it keeps the log that it had."""
+        places = [(self.log.with_name(self.log.name + end), self.log.with_name("lost-" + self.log.name + end)) for end in ("", "-wal")]
+        for path, kept in places:
+            if path.exists():
+                path.replace(kept)
+        status, printed, said = run(self.program, "begin", "--log", str(self.log), "--name", self.name, "--cluster", "c", "--from", str(sock))
+        for path, kept in places:
+            if status != 0:
+                path.unlink(missing_ok=True)
+            if kept.exists():
+                kept.replace(path) if status != 0 else kept.unlink()
+        want(f"begin of {self.name}", (status, printed.split()[:1], said), (0, ["begun"], ""))
+        return int(printed.split()[1])
+
     def command(self, name, *words):
         """The status, what was printed and what was said by one of the program's commands to this node."""
         return run(self.program, name, "--control", str(self.control), *words)

@@ -1,6 +1,7 @@
 //! What the program does by its command line.
 use crate::asking::{Form, print_all, put};
 use crate::batch::write_lines;
+use crate::beginning::{Start, begin_log};
 use crate::commands::command;
 use crate::failure::Failure;
 use crate::log_file::{Floor, print_log, purge_log};
@@ -54,6 +55,9 @@ const WATCH_NUMBERS: [&str; 2] = ["every", "count"];
 
 /// The word of `purge` that is a number.
 const PURGE_NUMBERS: [&str; 1] = ["FLOOR"];
+
+/// The option of `begin` that takes a number.
+const BEGIN_NUMBERS: [&str; 1] = ["after"];
 
 /// What is left to do behind the command line.
 #[derive(Drop)]
@@ -333,6 +337,26 @@ fn run_purge<'a>(rt: &HostRuntime, given: &ArgMatches<'a>) -> Result<u8, Failure
     Ok(0)
 }
 
+/// Says what `begin` wants.
+fn tell_starts(rt: &HostRuntime) -> u8 {
+    let _ = eprintln!(rt; "error: give --after or --from, one of the two");
+    USAGE_STATUS
+}
+
+fn run_begin<'a>(rt: &HostRuntime, given: &ArgMatches<'a>) -> Result<u8, Failure<'a>> {
+    if has_wrong_number(rt, given, &BEGIN_NUMBERS) {
+        return Ok(USAGE_STATUS);
+    }
+    let start = match (given.get_one::<u64>("after"), given.get_str("from")) {
+        (Some(version), None) => Start::After(version),
+        (None, Some(sock)) => Start::From(sock),
+        _ => return Ok(tell_starts(rt)),
+    };
+    let (name, cluster) = (value(given, "name"), value(given, "cluster"));
+    begin_log(rt, value(given, "log"), name, cluster, start)?;
+    Ok(0)
+}
+
 fn run_sim<'a>(rt: &HostRuntime, given: &ArgMatches<'a>) -> Result<u8, Failure<'a>> {
     Ok(play(rt, detail_of(given))?)
 }
@@ -351,6 +375,7 @@ fn status_of<'a>(
         "owners" => run_owners(rt, given),
         "log" => run_log(rt, given),
         "purge" => run_purge(rt, given),
+        "begin" => run_begin(rt, given),
         "sim" => run_sim(rt, given),
         _ => Ok(USAGE_STATUS),
     }

@@ -210,6 +210,28 @@ const ALL: Part = Part {
     help: "Up to the last version of the log, in place of FLOOR",
 };
 
+const NEW_LOG: Part = Part {
+    name: "log",
+    form: Form::Needed,
+    value: "FILE",
+    help: "The file of the log, which is made where it is not there",
+};
+
+const AFTER: Part = Part {
+    name: "after",
+    form: Form::Number,
+    value: "V",
+    help: "The version behind which the log begins, 1 to 1099511627775",
+};
+
+const FROM: Part = Part {
+    name: "from",
+    form: Form::Value,
+    value: "PATH",
+    help: "The socket for other nodes of a node that heard of the name, in place of --after: the version is the last that it heard of, and \
+1,048,576 more",
+};
+
 const EXPLAIN: Part = Part {
     name: "explain",
     form: Form::Flag,
@@ -450,6 +472,13 @@ const PURGE_TASK: Task = Task {
     parts: &[LOG, LOG_NAME, LOG_CLUSTER, FLOOR, ALL],
 };
 
+const BEGIN_TASK: Task = Task {
+    name: "begin",
+    about: "Makes a log for a name whose log is lost, or that is to end",
+    more: help::BEGIN,
+    parts: &[NEW_LOG, LOG_NAME, LOG_CLUSTER, AFTER, FROM],
+};
+
 const SIM_TASK: Task = Task {
     name: "sim",
     about: "Runs a script of nodes, from standard input to standard output",
@@ -458,7 +487,7 @@ const SIM_TASK: Task = Task {
 };
 
 /// The commands, in the order of the help.
-const TASKS: [Task; 9] = [
+const TASKS: [Task; 10] = [
     SERVE_TASK,
     SET_TASK,
     DEL_TASK,
@@ -467,6 +496,7 @@ const TASKS: [Task; 9] = [
     OWNERS_TASK,
     LOG_TASK,
     PURGE_TASK,
+    BEGIN_TASK,
     SIM_TASK,
 ];
 

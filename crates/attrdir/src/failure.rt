@@ -11,6 +11,7 @@ pub(crate) enum Setting {
     MaxVersion,
     Workers,
     Seats,
+    After,
 }
 
 impl Setting {
@@ -22,6 +23,7 @@ impl Setting {
             Setting::MaxVersion => "--max-version",
             Setting::Workers => "--workers",
             Setting::Seats => "--seats",
+            Setting::After => "--after",
         }
     }
 
@@ -33,6 +35,7 @@ impl Setting {
             Setting::MaxVersion => "give 1 to 1099511627775",
             Setting::Workers => "give 1 to 62",
             Setting::Seats => "give at least the workers and 2 more, and at most 64",
+            Setting::After => "give 1 to 1099511627775",
         }
     }
 }
@@ -154,6 +157,13 @@ fn write_text<W: fmt::Write>(
         ),
         (Fault::LogDamaged, _) => f.write_str(
             "the file is no log that this release reads, or a damaged one",
+        ),
+        (Fault::NothingThere, Place::Session(_)) => f.write_str(
+            "the node heard nothing of this name",
+        ),
+        (Fault::OutOfTurn(next), Place::Log(_)) => write!(
+            f,
+            "the log has writes, or began so before: its next write has version {next}"
         ),
         (fault, _) => write!(f, "{fault}"),
     }
@@ -280,6 +290,9 @@ fn about_fault(fault: &Fault, place: Place<'_>) -> &'static str {
             "start the node again with a greater --max-version, of at most 1099511627775, or under a new name"
         }
         Fault::NothingThere => "get prints the keys that the node has",
+        Fault::OutOfTurn(_) if matches!(place, Place::Log(_)) => {
+            "a log that is there goes on by itself: start the node with it; else give a file that is not there, or an empty one"
+        }
         Fault::FloorTooHigh =>
             "give a FLOOR of at most the last version, which `attrdir log` prints last, or --all",
         Fault::StoreFailed => about_store(place),
@@ -310,6 +323,8 @@ fn about_session(fault: &Fault) -> &'static str {
         Fault::NoMemory => about_fault(fault, Place::Line),
         Fault::WrongCluster => "give --cluster as the node has it",
         Fault::SameName => "give another --name than that of the node",
+        Fault::NothingThere =>
+            "give the --sock of a node that heard of it, or --after; a name that is new needs no more than an empty file",
         Fault::ReadFailed | Fault::WriteFailed(_) | Fault::Truncated => {
             "the node ended the session, or fell silent: see whether it runs, and try again"
         }

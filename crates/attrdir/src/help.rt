@@ -2,7 +2,8 @@
 
 pub(crate) const EXAMPLE: &str =
     "A node runs by `serve`; `set`, `del`, `get`, `watch` and `owners` talk to one that runs. `sim` plays many nodes in memory; `log` reads the
-log of a node that does not run, and `purge` drops its removals. `attrdir COMMAND --help` says more of each.
+log of a node that does not run, `purge` drops its removals, and `begin` makes one for a name whose log is lost. `attrdir COMMAND --help` says
+more of each.
 
 Example of a node, which is then asked from a second terminal:
   $ touch a.log
@@ -118,6 +119,30 @@ Examples:
   purged 2
   $ attrdir purge --log a.log --name a --cluster c --all
   purged 3";
+
+pub(crate) const BEGIN: &str =
+    "A node whose log is lost must not write under its old versions again: the others hold what it wrote, and would pass its new writes over. This
+makes a log that begins behind a version V. It holds nothing, and its next write has the version behind V. Once the node runs with it, the others
+drop what they hold of the name, and take what it writes then.
+
+V has to be at least 4,096 above the last version that the lost log gave. With --from it is the last version that the node behind PATH heard of,
+and 1,048,576 more, since the lost log may have had writes of which that node never heard. To end a name for good, run the node once with such
+a log and write nothing.
+
+It prints `begun V`. A log that has writes, or began so before, is refused and stays as it is.
+
+A fault ends the run, with `fault N`, its text and what to do about it on standard error: 1 no memory, 2 a name, 5 V is none of 1 to
+1099511627775, 9 the node behind PATH heard nothing of the name, 17 the line cannot be written, 18 the file cannot be read or written, or is
+open elsewhere, 19 the file is no log of this release, or a damaged one, 20 it belongs to another owner or cluster, 31 it has writes, or
+began so before; and those of `attrdir owners`, of the node behind PATH.
+
+The exit status is 0, 2 after a command line that is wrong, and 3 after a fault.
+
+Examples, where the file of node a is gone, and node b heard of its version 4:
+  $ attrdir begin --log a.log --name a --cluster c --from b.sock
+  begun 1048580
+  $ attrdir begin --log old.log --name old --cluster c --after 5000
+  begun 5000";
 
 pub(crate) const SERVE: &str =
     "The log is a file that is there; an empty one becomes a new log. The node makes both sockets, each at a path where no file is or where

@@ -45,24 +45,21 @@ fn fault_of(error: &Error) -> Fault {
     }
 }
 
-/// A connection to a file that is there. `StoreFailed` where it is not there, or where it can't be opened or another has
-/// it open; `LogDamaged` where it is no database; `NoMemory`.
+/// A connection to a file, which is made where it is not there. `StoreFailed` where it can't be opened or another has it open;
+/// `LogDamaged` where it is no database; `NoMemory`.
 fn connect<'a>(
     rt: &HostRuntime,
     path: &'a str,
 ) -> Result<Connection<FileStore<File>>, Failure<'a>> {
-    if fs::File::open(rt, path).is_err() {
-        return Err(Failure::at(Place::NoLog(path), Fault::StoreFailed));
-    }
     match Connection::open(rt, path) {
         Ok(conn) => Ok(conn),
         Err(error) => Err(failure(path, fault_of(&error))),
     }
 }
 
-/// The log of an owner of a cluster, in a file that is there; an empty one becomes a new log. It gives versions up to
+/// The log of an owner of a cluster, in a file that is made where it is not there; an empty one becomes a new log. It gives versions up to
 /// `max_version`. The faults of `connect` and of `SqlLog::open`.
-pub(crate) fn open_log<'a>(
+fn log_in<'a>(
     rt: &HostRuntime,
     path: &'a str,
     owner: Name,
@@ -74,6 +71,30 @@ pub(crate) fn open_log<'a>(
         Ok(log) => Ok(log),
         Err((fault, _)) => Err(failure(path, fault)),
     }
+}
+
+/// The log of an owner of a cluster, in a file that is there. `StoreFailed` where it is not; the faults of `log_in`.
+pub(crate) fn open_log<'a>(
+    rt: &HostRuntime,
+    path: &'a str,
+    owner: Name,
+    cluster: Name,
+    max_version: u64,
+) -> Result<FileLog, Failure<'a>> {
+    if fs::File::open(rt, path).is_err() {
+        return Err(Failure::at(Place::NoLog(path), Fault::StoreFailed));
+    }
+    log_in(rt, path, owner, cluster, max_version)
+}
+
+/// The log of an owner of a cluster, in a file that is made where it is not there. It gives all versions. The faults of `log_in`.
+pub(crate) fn make_log<'a>(
+    rt: &HostRuntime,
+    path: &'a str,
+    owner: Name,
+    cluster: Name,
+) -> Result<FileLog, Failure<'a>> {
+    log_in(rt, path, owner, cluster, VERSION_MOST)
 }
 
 /// Prints what a log holds, and ends it. The faults of `log_run`, then those of `close`.

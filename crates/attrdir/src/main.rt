@@ -3,6 +3,7 @@
 
 mod asking;
 mod batch;
+mod beginning;
 mod command_line;
 mod commands;
 mod console;

@@ -194,14 +194,14 @@ fn print_pairs(rt: &HostRuntime, pairs: &[Pair]) -> Result<(), Fault> {
     Ok(())
 }
 
-/// Asks the node behind a socket for peers how far it holds each owner, as a peer of this name, and prints that, in ascending owner. It
-/// writes nothing at the node. `ReadFailed` where it can't be reached, or is silent for a minute; the faults of a session; `WriteFailed`.
-pub(crate) fn print_owners<'a>(
+/// Asks the node behind a socket for peers how far it holds each owner, as a peer of this name: a pair of each, in ascending owner. It
+/// writes nothing at the node. `ReadFailed` where it can't be reached, or is silent for a minute; the faults of a session.
+fn ask_pairs<'a>(
     rt: &HostRuntime,
     sock: &'a str,
     cluster: Name,
     name: Name,
-) -> Result<(), Failure<'a>> {
+) -> Result<Vec<Pair>, Failure<'a>> {
     let Ok(stream) = UnixStream::connect(rt, sock) else {
         return Err(Failure::at(Place::NoPeer(sock), Fault::ReadFailed));
     };
@@ -211,7 +211,44 @@ pub(crate) fn print_owners<'a>(
     let mut heard = Heard::new(rt.alloc(), Name::read(LEAST_NAME)?);
     let session = Session::new(cluster, name);
     match hear_from::<Brand>(&stream, session, &mut heard, Blank::new(1)) {
-        Ok(()) => Ok(print_pairs(rt, &heard.pairs)?),
+        Ok(()) => Ok(heard.pairs),
         Err(fault) => Err(Failure::at(Place::Session(sock), fault)),
+    }
+}
+
+/// Asks the same, and prints how far each owner is held. The faults of `ask_pairs`; `WriteFailed`.
+pub(crate) fn print_owners<'a>(
+    rt: &HostRuntime,
+    sock: &'a str,
+    cluster: Name,
+    name: Name,
+) -> Result<(), Failure<'a>> {
+    let pairs = ask_pairs(rt, sock, cluster, name)?;
+    Ok(print_pairs(rt, &pairs)?)
+}
+
+/// The greatest version of an owner that is told of these.
+fn greatest_of(pairs: &[Pair], owner: &Name) -> u64 {
+    let mut greatest = 0;
+    for pair in pairs {
+        if pair.owner == *owner {
+            greatest = pair.upto.max(pair.staged_floor).max(pair.progress);
+        }
+    }
+    greatest
+}
+
+/// Asks the same under the name of an owner, and answers the greatest version that the node heard of it, be it of a table that has not come
+/// whole. The faults of `ask_pairs`; `NothingThere` where it heard of none.
+pub(crate) fn ask_greatest<'a>(
+    rt: &HostRuntime,
+    sock: &'a str,
+    cluster: Name,
+    owner: Name,
+) -> Result<u64, Failure<'a>> {
+    let pairs = ask_pairs(rt, sock, cluster, owner)?;
+    match greatest_of(&pairs, &owner) {
+        0 => Err(Failure::at(Place::Session(sock), Fault::NothingThere)),
+        version => Ok(version),
     }
 }

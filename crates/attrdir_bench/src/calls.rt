@@ -48,7 +48,7 @@ pub(crate) fn taken(end: BlockEnd) -> u64 {
 }
 
 /// Enters the blocks, and answers how many entries were taken.
-fn enter_all(holdings: &mut Holdings, blocks: &[Block]) -> u64 {
+pub(crate) fn enter_all(holdings: &mut Holdings, blocks: &[Block]) -> u64 {
     let mut entries: u64 = 0;
     for block in blocks {
         entries = entries.saturating_add(taken(holdings.apply_block(block)));

@@ -4,7 +4,7 @@ use crate::plan::Plan;
 use crate::problem::Problem;
 use crate::report::{tell, tell_count};
 use crate::sample::{Kinds, blocks};
-use crate::{catch_up, logs, memory};
+use crate::{catch_up, logs, memory, staging};
 use sb_types::Block;
 
 /// A line: its name, the call that it tells of, and the unit that this is told by.
@@ -67,6 +67,7 @@ pub(crate) fn measure(rt: &HostRuntime, plan: Plan, log: Option<&str>) -> Result
     let blocks = blocks(rt.alloc(), plan.owners, plan.keys, Kinds::Short)?;
     measure_lines(rt, plan, &blocks, &LINES)?;
     measure_texts(rt, plan)?;
+    staging::measure(rt, plan)?;
     measure_session(rt, plan, &blocks)?;
     logs::measure(rt, plan, log)
 }

@@ -13,6 +13,7 @@ mod readers;
 mod reading;
 mod report;
 mod sample;
+mod staging;
 mod writing;
 
 use crate::command_line::{Next, follow};

@@ -88,14 +88,37 @@ fn scattered(owner: u64, turn: u64, keys: u64) -> u64 {
     at.checked_rem(keys).unwrap_or(0)
 }
 
-/// An owner's first writes, one under each of its keys.
-pub(crate) fn block_of(alloc: Global, owner: u64, keys: u64, kinds: Kinds) -> Result<Block, Fault> {
+/// An owner's writes behind a version, one under each of its keys.
+fn entries_of(
+    alloc: Global,
+    owner: u64,
+    after: u64,
+    keys: u64,
+    kinds: Kinds,
+) -> Result<Vec<Entry>, Fault> {
     let mut entries = Vec::new(alloc);
     for turn in 0..keys {
         let key = key_at(alloc, scattered(owner, turn, keys))?;
         let value = value_at(alloc, kinds, turn.wrapping_mul(31).wrapping_add(owner))?;
-        entries.push(Entry::new(key, turn + 1, Slot::Set(value)))?;
+        let version = after.saturating_add(turn + 1);
+        entries.push(Entry::new(key, version, Slot::Set(value)))?;
     }
+    Ok(entries)
+}
+
+/// The same, of values that are no texts.
+pub(crate) fn later_entries(
+    alloc: Global,
+    owner: u64,
+    after: u64,
+    keys: u64,
+) -> Result<Vec<Entry>, Fault> {
+    entries_of(alloc, owner, after, keys, Kinds::Short)
+}
+
+/// An owner's first writes, one under each of its keys.
+pub(crate) fn block_of(alloc: Global, owner: u64, keys: u64, kinds: Kinds) -> Result<Block, Fault> {
+    let entries = entries_of(alloc, owner, 0, keys, kinds)?;
     Block::new(owner_at(alloc, owner)?, 0, 0, keys, entries)
 }
 

@@ -1,5 +1,5 @@
 -- What `attrdir log` prints of a log, and `attrdir purge` of a purge.
-use Rattle.std.specs.Prelude.{◌≡◌, ◌⊎◌, ℕ, List, [], ◌∷◌, ◌++◌, codes, decimal, Option, Result, Ok, Err}
+use Rattle.std.specs.Prelude.{◌≡◌, ◌≢◌, ◌⊎◌, ℕ, List, [], ◌∷◌, ◌++◌, codes, decimal, Option, Result, Ok, Err}
 use Rattle.std.specs.List.{flat_map}
 use Rattle.std.specs.Io.KnownBytes.{Keeps}
 use Rattle.sb_types.specs.declared.entry.Slot.{Slot}
@@ -40,10 +40,10 @@ PrintsLog log log' old new result = (loaded : Result Table Fault) × Loads log l
 abbrev pub purged_line : ℕ → List ℕ
 purged_line floor = codes "purged" ++ 32 ∷ (decimal floor ++ 10 ∷ [])
 
--- of a purge that was made the line is printed, or so many of its first bytes, where the last write failed; a fault of it is
--- passed on, with nothing printed
+-- of a purge that was made the line is printed, or so many of its first bytes, where the last write failed, and no memory is said to have been
+-- wanting; a fault of it is passed on, with nothing printed
 abbrev pub PrintsPurge : ℕ → Result (Unit {0}) Fault → Option (List ℕ) → Option (List ℕ) → Result (Unit {0}) Fault → Outcome → Type 0
-PrintsPurge floor (Ok u) old new result last = Sends old new (purged_line floor) result × OnlyWhereFailed result last
+PrintsPurge floor (Ok u) old new result last = Sends old new (purged_line floor) result × OnlyWhereFailed result last × (result ≢ Err NoMemory)
 PrintsPurge floor (Err fault) old new result last = (result ≡ Err fault) × Keeps old new
 
 -- the log is purged, and that is printed; or there was no memory for the line, and nothing changed

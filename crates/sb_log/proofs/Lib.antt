@@ -20,3 +20,4 @@ mod Contents
 mod Founding
 mod Whole
 mod Floors
+mod Beginning

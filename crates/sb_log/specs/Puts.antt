@@ -1,9 +1,10 @@
 -- What a log does with a write, and what it gives back.
-use Rattle.std.specs.Prelude.{◌≡◌, ◌≢◌, ◌⊎◌, ◌↔◌, ℕ, ◌+◌, ◌≤◌, Bool, true, false, nat_le, nat_lt, if◌then◌else◌, List, [], Option, Some, None, Result, Ok, Err, IfOk, IfErr, OnOk}
+use Rattle.std.specs.Prelude.{◌≡◌, ◌≢◌, ◌⊎◌, ◌↔◌, ℕ, ◌+◌, ◌≤◌, ◌==◌, ◌||◌, Bool, true, false, nat_le, nat_lt, if◌then◌else◌, List, [], Option, Some, None, Result, Ok, Err, IfOk, IfErr, OnOk}
 use Rattle.sb_types.specs.declared.entry.Slot.{Slot}
 use Rattle.sb_types.specs.declared.entry.Slot.TheVariants.{Set, Removed}
 use Rattle.sb_types.specs.declared.fault.Fault.{Fault}
-use Rattle.sb_types.specs.declared.fault.Fault.TheVariants.{NoMemory, TableFull, VersionsSpent, NothingThere, Closed, StoreFailed, LogDamaged, FloorTooHigh}
+use Rattle.sb_types.specs.declared.fault.Fault.TheVariants.{NoMemory, BadSetting, TableFull, VersionsSpent, NothingThere, Closed, StoreFailed, LogDamaged, FloorTooHigh, OutOfTurn}
+use Rattle.sb_types.specs.declared.limits.TheConstants.{VERSION_MOST}
 use Rattle.sb_types.specs.Records.{Entry, Table}
 use Rattle.sb_types.specs.Runs.{shown_at, live}
 use Rattle.sb_table.specs.Plain.{plain_table, with_entry, is_full_for}
@@ -113,6 +114,37 @@ pub record Purges (old : Log) (floor : ℕ) (result : Result (Unit {0}) Fault) (
   pub done : OnOk result (RaisesFloor old floor new)
   pub refused : IfErr result (λ fault. RefusesFloor old floor fault new)
 
+-- ---- a log that begins behind a version
+
+-- what such a log holds: nothing, up to the version, which is its floor
+abbrev pub nothing_up_to : ℕ → Table
+nothing_up_to after = record { held = after; floor = after; entries = [] }
+
+-- why a log does not begin behind a version, the first that holds: the version is outside the limits, the log has writes or began so before, or
+-- else the store failed
+abbrev pub begin_fault : ℕ → Table → Fault
+begin_fault after content =
+    if (after == 0) || nat_lt VERSION_MOST after then BadSetting else (if content.held == 0 then StoreFailed else OutOfTurn (content.held + 1))
+
+-- it had nothing, and holds nothing up to the version now
+pub record BeginsAfter (old : Log) (after : ℕ) (new : Log) : Type 0 where
+  pub is_open : new.is_open ≡ true
+  pub limits : (1 ≤ after) × (after ≤ VERSION_MOST)
+  pub none : new.is_clean ≡ true → old.content ≡ plain_table []
+  pub content : new.is_clean ≡ true → new.content ≡ nothing_up_to after
+
+-- a fault of the store closes the log, and any other changes nothing
+pub record RefusesToBegin (old : Log) (after : ℕ) (fault : Fault) (new : Log) : Type 0 where
+  pub reason : new.is_clean ≡ true → old.is_open ≡ true → fault ≡ begin_fault after old.content
+  pub unchanged : fault ≢ StoreFailed → new ≡ old
+  pub closes : fault ≡ StoreFailed → new.is_open ≡ false
+
+pub record Begins (old : Log) (after : ℕ) (result : Result (Unit {0}) Fault) (new : Log) : Type 0 where
+  pub stays : Stays old new
+  pub closed : (result ≡ Err Closed) ↔ (old.is_open ≡ false)
+  pub done : OnOk result (BeginsAfter old after new)
+  pub refused : IfErr result (λ fault. RefusesToBegin old after fault new)
+
 -- ---- reading it again
 
 -- the content, in a table
@@ -150,6 +182,10 @@ PutSurvives old key slot new leaves = new.is_clean ≡ true → old.is_open ≡ 
 -- so does a floor that is raised: the content before it or the content with it
 abbrev pub PurgeSurvives : Log → ℕ → Log → (Table → Type 0) → Type 0
 PurgeSurvives old floor new leaves = new.is_clean ≡ true → old.is_open ≡ true → (left : Table) → leaves left → (left ≡ old.content) ⊎ (left ≡ purged floor old.content)
+
+-- so does a log that begins behind a version: what it held before, or nothing up to that version
+abbrev pub BeginSurvives : Log → ℕ → Log → (Table → Type 0) → Type 0
+BeginSurvives old after new leaves = new.is_clean ≡ true → old.is_open ≡ true → (left : Table) → leaves left → (left ≡ old.content) ⊎ (left ≡ nothing_up_to after)
 
 -- reading it leaves over a crash what was there
 abbrev pub LoadSurvives : Log → Log → (Table → Type 0) → Type 0

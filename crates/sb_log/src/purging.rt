@@ -1,4 +1,4 @@
-//! The statements that raise a log's floor, each of which commits by itself.
+//! The statements that raise a log's floor, and the one by which a log begins behind a version; each commits by itself.
 ghost use Rattle.std.specs.Prelude.{◌≡◌, ℕ, List, ◌<◌, ◌≤◌, ◌^◌, ◌⊎◌, [], ◌∷◌, pos, IfErr, OnOk};
 ghost use Rattle.sqlite_value.specs.declared.value.Value.TheVariants.{Int};
 ghost use Rattle.sqlite_trees.specs.Tree.{Trees};
@@ -8,10 +8,12 @@ ghost use Rattle.sqlite.specs.State.{HasCleanDisk};
 ghost use Rattle.sqlite.specs.Values.{bound};
 ghost use Rattle.sqlite_catalog.specs.Listing.{IsSound};
 ghost use Rattle.sb_types.specs.Records as records;
+ghost use Rattle.sb_types.specs.declared.limits.TheConstants.{VERSION_MOST};
+ghost use Rattle.sb_table.specs.Plain.{plain_table};
 ghost use Rattle.sb_log.specs.Form.{log_schema};
 ghost use Rattle.sb_log.specs.Rows.{Drops};
 ghost use Rattle.sb_log.specs.Opening.{IsNamedIn};
-ghost use Rattle.sb_log.specs.Puts.{purged};
+ghost use Rattle.sb_log.specs.Puts.{nothing_up_to, purged};
 ghost use Rattle.sb_log.specs.Standing.{HoldsContent, IsReady};
 
 use sb_types::Fault;
@@ -42,6 +44,24 @@ pub(crate) fn raise_floor<S: Alter>(
 {
     write_floor(conn, held, floor)?;
     drop_removals(conn, floor)
+}
+
+/// Has a log of nothing say a last version, which is its floor too. `StoreFailed`.
+pub(crate) fn begin_after<S: Alter>(conn: &mut Connection<S>, after: u64) -> Result<(), Fault>
+    requires { after ≤ VERSION_MOST }
+    ensures ready { HasCleanDisk (state S.Store conn.new) → IsReady (state S.Store conn.old) → (owner cluster : List ℕ)
+        → HoldsContent owner cluster (plain_table []) [] (state S.Store conn.old).now.trees → OnOk result (IsReady (state S.Store conn.new)) }
+    ensures content { HasCleanDisk (state S.Store conn.new) → IsReady (state S.Store conn.old) → (owner cluster : List ℕ)
+        → HoldsContent owner cluster (plain_table []) [] (state S.Store conn.old).now.trees
+        → OnOk result (HoldsContent owner cluster (nothing_up_to after) [] (state S.Store conn.new).now.trees) }
+    // However it ends, a crash leaves what was there, or nothing up to the version.
+    ensures crash { HasCleanDisk (state S.Store conn.new) → IsReady (state S.Store conn.old) → (owner cluster : List ℕ)
+        → HoldsContent owner cluster (plain_table []) [] (state S.Store conn.old).now.trees → (db : Trees) → (state S.Store conn.new).may_leave db
+        → (state S.Store conn.old).may_leave db ⊎ (IsSound log_schema db × HoldsContent owner cluster (nothing_up_to after) [] db) }
+    ensures clean { doubt (state S.Store conn.old).is_clean ≤ doubt (state S.Store conn.new).is_clean }
+    ensures fault { IfErr result (λ fault. fault ≡ Fault.StoreFailed) }
+{
+    write_floor(conn, after, after)
 }
 
 /// Says the last version and the floor of a log that says whose it is. `StoreFailed`.

@@ -6,7 +6,7 @@ ghost use Rattle.sqlite.specs.Held.{state};
 ghost use Rattle.sqlite.specs.State.{HasCleanDisk};
 ghost use Rattle.sb_types.specs.Records as records;
 ghost use Rattle.sb_log.specs.Opening.{Opens, SaysStill, Completes, Founds, IsWant, IsOpeningFault, IsOpenedAs};
-ghost use Rattle.sb_log.specs.Puts.{Purges, PurgeSurvives, IsSettled, IsSure};
+ghost use Rattle.sb_log.specs.Puts.{Begins, BeginSurvives, Purges, PurgeSurvives, IsSettled, IsSure};
 ghost use Rattle.sb_log.specs.Sql.{log_in};
 ghost use Rattle.sb_log.specs.Standing.{HoldsContent, MayLeave};
 
@@ -15,7 +15,7 @@ use crate::committed::Committed;
 use crate::content::read_content;
 use crate::log::WriteLog;
 use crate::opening::open_tables;
-use crate::purging::raise_floor;
+use crate::purging::{begin_after, raise_floor};
 use crate::statements::write_entry;
 use sb_table::Table;
 use sb_types::{Fault, Key, Name, Slot, VERSION_MOST};
@@ -104,6 +104,40 @@ impl<S: Alter + Drop> SqlLog<S> {
             is_open: true,
             alloc,
         })
+    }
+
+    /// Has a log of nothing begin behind a version, 1 to 2^40 - 1: it holds nothing up to there, as that of an owner who wrote so
+    /// often, removed each key and purged to that version. So the name of an owner whose log is lost goes on, or ends. The next
+    /// write has the version after it. In this order: `Closed` after a fault of the store; `BadSetting` of another version;
+    /// `OutOfTurn` where the log has writes or began so before, with the version of its next write. Each of these leaves
+    /// everything as it was. `StoreFailed`, for whatever cause: the log begins so or holds nothing still, and is closed until it
+    /// is opened again.
+    pub fn begin(&mut self, after: u64) -> Result<(), Fault>
+        ensures begins { Begins (log_in S.Store self.old) after result (log_in S.Store self.new) }
+        ensures closed { self.old.is_open ≡ false → self.new ≡ self.old }
+        ensures crash { BeginSurvives (log_in S.Store self.old) after (log_in S.Store self.new) (MayLeave S.Store self.new.owner self.new.cluster self.new.conn) }
+        ensures settled { IsSettled (log_in S.Store self.new) (MayLeave S.Store self.new.owner self.new.cluster self.new.conn) }
+    {
+        if !self.is_open {
+            return Err(Fault::Closed);
+        }
+        if after == 0 || after > VERSION_MOST {
+            return Err(Fault::BadSetting);
+        }
+        let upto = self.table.upto();
+        if upto > 0 {
+            return Err(Fault::OutOfTurn(upto + 1));
+        }
+        match begin_after(&mut self.conn, after) {
+            Ok(()) => {
+                self.table.raise(after, after);
+                Ok(())
+            }
+            Err(fault) => {
+                self.is_open = false;
+                Err(fault)
+            }
+        }
     }
 }
 

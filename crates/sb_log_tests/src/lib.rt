@@ -3,6 +3,8 @@
 #![tactic(auto)]
 
 #[cfg(test)]
+mod begins;
+#[cfg(test)]
 mod crashes;
 #[cfg(test)]
 mod database;

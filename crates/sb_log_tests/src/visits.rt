@@ -1,7 +1,7 @@
 //! A log that is opened in a database, in memory alone or over two disks, and what is done with it there.
 use crate::disks::{Calls, DatabaseVisit, ENDLESS, in_memory, on_disks};
-use crate::got;
 use crate::writes::{CLUSTER, OWNER, name};
+use crate::{got, same};
 use sb_log::{SqlLog, WriteLog};
 use sb_types::Fault;
 use sqlite::{Alter, Connection, Error, Files};
@@ -10,18 +10,21 @@ use sqlite_value::value::ValueRef;
 use std::alloc::Global;
 use std::process::Abort;
 
-/// As whose log a database is opened, up to which version, and which statements are run in it before.
+/// As whose log a database is opened, up to which version, which statements are run in it before, and behind which version the log begins,
+/// where it is to.
 #[derive(Clone, Copy)]
 pub struct Opening<'a> {
     pub owner: &'a [u8],
     pub max_version: u64,
     pub statements: &'a [&'a str],
+    pub begin: Option<u64>,
 }
 
 pub const OWN: Opening<'static> = Opening {
     owner: OWNER,
     max_version: 9,
     statements: &[],
+    begin: None,
 };
 
 /// What is done with an open log, wherever it keeps its writes.
@@ -52,6 +55,28 @@ fn run_each<S: Alter>(rt: &impl Abort, conn: &mut Connection<S>, statements: &[&
     }
 }
 
+/// Has a log begin behind a version, where one is given, and visits it. A log whose store failed at that takes no other call.
+fn begin_and_visit<S: Alter + Drop, V: LogVisit + Drop>(
+    rt: &impl Abort,
+    alloc: Global,
+    mut log: SqlLog<S>,
+    begin: Option<u64>,
+    visitor: V,
+) -> Result<V::Outcome, Fault> {
+    let Some(after) = begin else {
+        return Ok(visitor.visit(rt, alloc, log));
+    };
+    match log.begin(after) {
+        Ok(()) => Ok(visitor.visit(rt, alloc, log)),
+        Err(fault) => {
+            if fault == Fault::StoreFailed {
+                same(rt, &log.begin(after), &Err(Fault::Closed));
+            }
+            Err(fault)
+        }
+    }
+}
+
 /// Opens a database as a log: the one place that has a log in a database, and that drops what a refused opening hands back.
 fn open<S: Alter + Drop, V: LogVisit + Drop>(
     rt: &impl Abort,
@@ -62,12 +87,12 @@ fn open<S: Alter + Drop, V: LogVisit + Drop>(
 ) -> Result<V::Outcome, Fault> {
     let owner = name(rt, opening.owner);
     match SqlLog::open(alloc, conn, owner, name(rt, CLUSTER), opening.max_version) {
-        Ok(log) => Ok(visitor.visit(rt, alloc, log)),
+        Ok(log) => begin_and_visit(rt, alloc, log, opening.begin, visitor),
         Err((fault, _)) => Err(fault),
     }
 }
 
-/// Runs statements, opens a log, and visits it.
+/// Runs statements, opens a log, has it begin behind a version where one is given, and visits it.
 #[derive(Drop)]
 struct Visiting<'a, V> {
     opening: Opening<'a>,

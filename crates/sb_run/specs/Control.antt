@@ -74,6 +74,11 @@ Answers seen opening budget old owed before (kinds.Rows x) new owes after reply 
 Answers seen opening budget old owed before (kinds.Done x) new owes after reply = (new ≡ old) × (owes ≡ owed) × (after ≡ before) × IsUnknown reply
 Answers seen opening budget old owed before (kinds.Refused x) new owes after reply = (new ≡ old) × (owes ≡ owed) × (after ≡ before) × IsUnknown reply
 
+-- nothing changes, or one request is answered
+abbrev pub AnswersOne : {L : Type 0} → (L → Log) → Node → ℕ → L → Option Committed → Seat → L → Option Committed → Seat → Type 0
+AnswersOne seen opening budget old owed before new owes after =
+    ((new ≡ old) × (owes ≡ owed) × (after ≡ before)) ⊎ ((request : Message) × ((reply : Message) × Answers seen opening budget old owed before request new owes after reply))
+
 -- where no request is received all stays the same and nothing is written; else one answer is written, or its first bytes
 abbrev pub Controls : Type 0 → (Message → Message → Type 0) → Option (List ℕ) → Option (List ℕ) → Option (List ℕ) → Option (List ℕ)
     → ℕ → ℕ → Result (Unit {0}) Fault → Type 0

@@ -1,5 +1,6 @@
 //! The calling thread of a running node, at its control socket.
 ghost use Rattle.std.specs.Prelude.{◌≡◌, ◌+◌, ◌<◌, ◌≤◌, true};
+ghost use Rattle.sb_run.specs.Control.{AnswersOne};
 ghost use Rattle.sb_run.specs.Running.{IsOpenedFrom};
 
 use crate::accepting::Acceptor;
@@ -33,6 +34,8 @@ fn answer_one<L: WriteLog, S: RoundsTag, H: Wait + Drop, Q: Wait + Clock, K: Led
     steps: &mut Steps<K>,
 ) -> (ReaderSeat<S>, bool)
     ensures reads { steps.new ≤ steps.old + node.now.pace.max_reads }
+    // A request was answered, or nothing came of what was read.
+    ensures answers { AnswersOne L.seen S.opening S.settings.budget writes.old.log writes.old.owed seat writes.new.log writes.new.owed result.0 }
 {
     let pace = &node.pace;
     let mut request = Timed::new(node.rt, input, pace.idle, pace.request);
@@ -54,6 +57,7 @@ fn serve_accepted<L: WriteLog, S: RoundsTag, H: Wait + Drop, Q: Wait + Clock, K:
     requires name { blank.name ≡ K.name }
     requires parts { blank.parts ≡ K.parts }
     requires some { 0 < blank.parts }
+    ensures answers { AnswersOne L.seen S.opening S.settings.budget writes.old.log writes.old.owed seat writes.new.log writes.new.owed result.0 }
 {
     let Ok((_, input, output)) = accepted else {
         return (seat, true);
@@ -79,7 +83,9 @@ fn report_writes<L: WriteLog, S: RoundsTag, H: Wait + Drop, Q, O: Observer>(
     writes: &mut OwnWrites<L>,
     observer: &O,
 ) -> bool
-    ensures { result ≡ true → node.now.pace.on_log_fault ≡ OnLogFault.Exit }
+    ensures exits { result ≡ true → node.now.pace.on_log_fault ≡ OnLogFault.Exit }
+    ensures failed { result ≡ true → writes.old.has_failed ≡ true }
+    ensures same { (writes.new.log ≡ writes.old.log) × (writes.new.owed ≡ writes.old.owed) }
 {
     if let Some(version) = writes.take_stored() {
         node.bell.ring(version == 1);

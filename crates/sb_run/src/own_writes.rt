@@ -1,5 +1,5 @@
 //! A node's own writes: its log takes each before the directory does.
-ghost use Rattle.std.specs.Prelude.{◌≡◌, ◌+◌, true, None, OnOk, IfOk, IfErr};
+ghost use Rattle.std.specs.Prelude.{◌≡◌, ◌+◌, ◌⊎◌, true, false, None, Some, Err, OnOk, OnErr, IfOk, IfErr};
 ghost use Rattle.sb_codec.specs.Limits.{is_version};
 ghost use Rattle.sb_log.specs.Puts.{Puts, IsSettled};
 ghost use Rattle.sb_directory.specs.Seats.{with_last_call};
@@ -58,12 +58,18 @@ impl<L: WriteLog> OwnWrites<L> {
     }
 
     /// The version of the last write that the log took since this was last asked; none where it took none.
-    pub(crate) fn take_stored(&mut self) -> Option<u64> {
+    pub(crate) fn take_stored(&mut self) -> Option<u64>
+        ensures stored { (result ≡ self.old.stored) × (self.new.stored ≡ None) }
+        ensures same { (self.new.log ≡ self.old.log) × (self.new.owed ≡ self.old.owed) × (self.new.has_failed ≡ self.old.has_failed) }
+    {
         self.stored.take()
     }
 
     /// Whether a fault of its store closed the log since this was last asked.
-    pub(crate) fn take_failure(&mut self) -> bool {
+    pub(crate) fn take_failure(&mut self) -> bool
+        ensures failed { (result ≡ self.old.has_failed) × (self.new.has_failed ≡ false) }
+        ensures same { (self.new.log ≡ self.old.log) × (self.new.owed ≡ self.old.owed) × (self.new.stored ≡ self.old.stored) }
+    {
         let has_failed = self.has_failed;
         self.has_failed = false;
         has_failed
@@ -74,6 +80,11 @@ impl<L: WriteLog> OwnWrites<L> {
         ensures puts { Puts (L.seen self.old.log) key.now slot.now result (L.seen self.new.log) }
         ensures settled { IsSettled (L.seen self.new.log) (L.leaves self.new.log) }
         ensures owed { self.new.owed ≡ self.old.owed }
+        ensures stored { IfOk result (λ committed. self.new.stored ≡ Some committed.entry.version) }
+        ensures unstored { OnErr result (self.new.stored ≡ self.old.stored) }
+        // A log is said to have failed only where this write closed it by a fault of its store.
+        ensures failed { self.new.has_failed ≡ true → (self.old.has_failed ≡ true) ⊎ (result ≡ Err Fault.StoreFailed) }
+        ensures fails { result ≡ Err Fault.StoreFailed → self.new.has_failed ≡ true }
     {
         let kept = self.log.put(key, slot);
         match &kept {
@@ -93,6 +104,7 @@ impl<L: WriteLog> OwnWrites<L> {
         seat: &mut ReaderSeat<S>,
     ) -> Result<(), Fault>
         ensures log { self.new.log ≡ self.old.log }
+        ensures same { (self.new.stored ≡ self.old.stored) × (self.new.has_failed ≡ self.old.has_failed) }
         ensures owed { OnOk result (self.new.owed ≡ None) }
         ensures handed { OnOk result (IsHandedIn S.opening seat.old self.old.owed seat.new) }
         ensures count { OnOk result (seat.new.events ≡ seat.old.events + count_owed self.old.owed) }
@@ -137,6 +149,8 @@ impl<L: WriteLog> OwnWrites<L> {
             self.new.log self.new.owed seat.new fault) }
         ensures settled { IsSettled (L.seen self.old.log) (L.leaves self.old.log) → IsSettled (L.seen self.new.log) (L.leaves self.new.log) }
         ensures later { IsLater seat.old seat.new }
+        ensures last { IfOk result (λ stored. self.new.stored ≡ Some (version_of stored)) }
+        ensures failed { self.new.has_failed ≡ true → (self.old.has_failed ≡ true) ⊎ (result ≡ Err Fault.StoreFailed) }
     {
         self.hand_in(rt, directory, seat)?;
         let committed = self.keep(key, slot)?;

@@ -1,5 +1,5 @@
 //! The peers of a node, and whose turn it is to be dialed.
-ghost use Rattle.std.specs.Prelude.{◌≡◌, ◌≢◌, ◌⊎◌, ◌+◌, ◌<◌, ◌&&◌, true, false, nat_lt, None, Some, is_err, slice_get, vec_len, if◌then◌else◌, IfSome, IfErr};
+ghost use Rattle.std.specs.Prelude.{◌≡◌, ◌≢◌, ◌⊎◌, ◌+◌, ◌-◌, ◌<◌, ℕ, ◌&&◌, true, false, nat_lt, None, Some, is_err, slice_get, vec_len, if◌then◌else◌, IfSome, IfErr};
 ghost use Rattle.sb_run.specs.Turns as spec;
 ghost use Rattle.sb_run.specs.declared.peers.LastRound.TheVariants as lasts;
 
@@ -81,6 +81,7 @@ impl<'a> Peer<'a> {
     /// ended otherwise than the round before, and not by a write that failed behind a refused Hello, which is the same
     /// refusal.
     fn note(&mut self, round: u64, ended: &Result<Ended, Fault>, has_waited: bool) -> bool
+        ensures path { self.new.path ≡ self.old.path }
         ensures round { self.new.round ≡ round }
         ensures turns { self.new.turns_out ≡ spec.turns_after (has_waited && is_err ended.now) self.old.turns_out }
         ensures last { self.new.last ≡ (if result then spec.last_of ended.now else self.old.last) }
@@ -149,6 +150,10 @@ impl<'a> Peers<'a> {
         ensures out { IfSome result (λ taken. IfSome (slice_get self.old.all.items taken.0) (λ peer. taken.1 ≡ nat_lt 0 peer.turns_out)) }
         ensures within { IfSome result (λ taken. taken.0 < vec_len self.new.all) }
         ensures burst { self.new.burst_turn ≡ self.old.burst_turn }
+        // One turn of those in which it is passed over is over, and all else of the peers is as it was.
+        ensures passed { IfSome result (λ taken. IfSome (slice_get self.old.all.items taken.0) (λ before. IfSome (slice_get self.new.all.items taken.0)
+            (λ after. (after.turns_out ≡ before.turns_out - 1) × (after.path ≡ before.path) × (after.last ≡ before.last) × (after.round ≡ before.round)))) }
+        ensures others { IfSome result (λ taken. (index : ℕ) → index ≢ taken.0 → slice_get self.new.all.items index ≡ slice_get self.old.all.items index) }
     {
         let turn = turn_of(self.all.len(), self.turn);
         self.turn = turn.saturating_add(1);
@@ -165,6 +170,7 @@ impl<'a> Peers<'a> {
             (λ peer. peer.turns_out ≡ 0 → result ≡ Some (spec.turn_of (vec_len self.old.all) self.old.turn)) }
         ensures within { IfSome result (λ index. index < vec_len self.new.all) }
         ensures next { IfSome result (λ index. self.new.turn ≡ index + 1) }
+        ensures burst { self.new.burst_turn ≡ self.old.burst_turn }
     {
         let (turn, is_out) = self.take_turn()?;
         if is_out { self.pass_over() } else { Some(turn) }
@@ -174,6 +180,7 @@ impl<'a> Peers<'a> {
     fn pass_over(&mut self) -> Option<usize>
         ensures within { IfSome result (λ index. index < vec_len self.new.all) }
         ensures next { IfSome result (λ index. self.new.turn ≡ index + 1) }
+        ensures burst { self.new.burst_turn ≡ self.old.burst_turn }
     {
         let most = self.all.len().saturating_mul(TURNS_OUT as usize + 1);
         for _ in 0..most {
@@ -208,6 +215,7 @@ impl<'a> Peers<'a> {
         ensures fit { IfSome result (λ index. IfSome (slice_get self.new.all.items index) (λ peer. spec.has_failed peer.last ≡ false)) }
         ensures within { IfSome result (λ index. index < vec_len self.new.all) }
         ensures next { IfSome result (λ index. self.new.burst_turn ≡ index + 1) }
+        ensures turns { (self.new.turn ≡ self.old.turn) × (self.new.all ≡ self.old.all) }
     {
         let (turn, has_failed) = self.take_burst_turn()?;
         if has_failed {
@@ -222,6 +230,7 @@ impl<'a> Peers<'a> {
         ensures fit { IfSome result (λ index. IfSome (slice_get self.new.all.items index) (λ peer. spec.has_failed peer.last ≡ false)) }
         ensures within { IfSome result (λ index. index < vec_len self.new.all) }
         ensures next { IfSome result (λ index. self.new.burst_turn ≡ index + 1) }
+        ensures turns { (self.new.turn ≡ self.old.turn) × (self.new.all ≡ self.old.all) }
     {
         for _ in 0..self.all.len() {
             let (turn, has_failed) = self.take_burst_turn()?;
@@ -244,7 +253,9 @@ impl<'a> Peers<'a> {
     }
 
     /// The path of a peer; the empty one where there is none.
-    pub(crate) fn path(&self, index: usize) -> &'a str {
+    pub(crate) fn path(&self, index: usize) -> &'a str
+        ensures { IfSome (slice_get self.now.all.items index) (λ peer. result ≡ peer.path) }
+    {
         match self.all.get(index) {
             Some(peer) => peer.path,
             None => "",

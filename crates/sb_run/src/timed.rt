@@ -1,6 +1,6 @@
 //! Connections with a limit on how long a request or its answer takes.
 
-ghost use Rattle.std.specs.Prelude.{◌≡◌, ◌≢◌, ◌⊎◌, ◌*◌, ◌≤◌, None, Some, Ok, IfOk, IfSome};
+ghost use Rattle.std.specs.Prelude.{◌≡◌, ◌≢◌, ◌⊎◌, ◌*◌, ◌≤◌, None, Some, Ok, IfOk, IfSome, IsSome};
 ghost use Rattle.std.specs.Duration.{as_nanos};
 
 use std::io;
@@ -52,6 +52,8 @@ impl<'a, Q: Clock> Timed<'a, Q> {
     fn left(&mut self) -> io::Result<Option<Duration>>
         ensures unlimited { self.old.whole ≡ 0 → (result ≡ Ok None) }
         ensures limited { self.old.until ≢ None → IfOk result (λ left. left ≡ None → self.old.whole ≡ 0) }
+        // Where it has not begun yet it begins now, and ends at most so long from now.
+        ensures begins { self.old.until ≡ None → IfOk result (λ left. IfSome left (λ left. IsSome self.new.until × (as_nanos left ≤ self.old.whole * 1_000_000))) }
         ensures until { IfSome self.old.until (λ until. self.new.until ≡ Some until) }
         ensures idle { IfOk result (λ left. IfSome left (λ left. self.old.idle ≢ 0 → as_nanos left ≤ self.old.idle * 1_000_000)) }
     {

@@ -163,7 +163,8 @@ fn ask_for_the_last<R: Net + Abort>(
     );
     got(rt, of_b.apply(&delta_of(rt, alloc, b'y', 2)));
     let first = next_of(rt, listener);
-    talk(rt, alloc, &mut of_c, &reach(rt, sock), Some(1));
+    // (a second exchange, which is answered once what the first one brought is taken)
+    talk(rt, alloc, &mut of_c, &reach(rt, sock), Some(2));
     talk(rt, alloc, &mut silent_b(rt, alloc), &first, None);
     talk(rt, alloc, &mut of_b, &next_of(rt, listener), None);
     let third = next_of(rt, listener);
@@ -172,7 +173,7 @@ fn ask_for_the_last<R: Net + Abort>(
     of_c.upto(&owner(rt, b'y'))
 }
 
-/// The second and the third round have two exchanges, and so two deltas come in each; two come of c, and one in the first round.
+/// The second and the third round have two exchanges, and so two deltas come in each; three come of c, and one in the first round.
 #[test]
 fn owners_behind_the_first_digest_are_asked_for(rt: HostRuntime) {
     let paths = paths_of("owners.sock", "owners.control", &["owners.b"]);
@@ -185,6 +186,6 @@ fn owners_behind_the_first_digest_are_asked_for(rt: HostRuntime) {
     );
     got(&rt, fs::remove_file(&rt, "owners.b"));
     same(&rt, &last, &2);
-    let whole = ran_of(3, 0, 7);
+    let whole = ran_of(3, 0, 8);
     same(&rt, &got(&rt, ran), &whole);
 }

@@ -20,3 +20,4 @@ pub mod Connected
 pub mod Reaching
 pub mod Fitting
 pub mod Lining
+mod Clearing

@@ -1,7 +1,12 @@
 //! What holds of every run of a world.
 
-ghost use Rattle.std.specs.Prelude.{◌≡◌, ℕ, List, [], ◌++◌, Result, IfSome};
+ghost use Rattle.std.specs.Prelude.{◌≡◌, ℕ, ◌+◌, ◌≤◌, List, [], ◌++◌, length, true, Result, Ok, IfSome};
+ghost use Rattle.sb_types.specs.declared.entry.Write.{Write};
 ghost use Rattle.sb_types.specs.declared.fault.Fault.{Fault};
+ghost use Rattle.sb_types.specs.declared.limits.TheConstants.{KEYS_MOST};
+ghost use Rattle.sb_holdings.specs.Contents.{content_table};
+ghost use Rattle.sb_log.specs.Records.{Log};
+ghost use Rattle.sb_log.specs.Puts.{Begins};
 ghost use Rattle.sb_world.specs.declared.event.Event.{Event};
 ghost use Rattle.sb_world.specs.declared.event.Answer.{Answer};
 ghost use Rattle.sb_world.specs.Places.{Seen, IsClean, AreSure};
@@ -47,4 +52,13 @@ pub fn worlds_are_reached()
         (old : State) → FitsWorld old world → (state : State) × Moves old event answer state × FitsWorld state new }
     ensures run { (world new : Seen) (events : List Event) (answers : List (Result Answer Fault)) → Passes world events answers new →
         (old : State) → FitsWorld old world → (states : List State) × Run old events answers states × FitsWorld (last_of old states) new }
+{}
+
+/// A log that begins behind a version goes on with one that is lost: whatever was written to that, as long as it had at most 4,096
+/// keys, and so many writes less than the version or fewer, the new one has the content of those writes and of some behind them. So all that
+/// is promised of an owner's writes holds of it.
+pub fn lost_logs_go_on()
+    ensures { (old new : Log) (after : ℕ) → Begins old after (Ok tt) new → new.is_clean ≡ true →
+        (writes : List Write) (floor : ℕ) → length (content_table floor writes).entries ≤ KEYS_MOST → length writes + KEYS_MOST ≤ after →
+        (more : List Write) × (new.content ≡ content_table after (writes ++ more)) }
 {}

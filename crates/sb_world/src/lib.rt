@@ -34,6 +34,8 @@ mod sent;
 mod world;
 
 pub use event::{Answer, Event, Item, Items};
-pub use laws::{sure_stores_are_trusted, worlds_are_reached, worlds_keep_their_promise};
+pub use laws::{
+    lost_logs_go_on, sure_stores_are_trusted, worlds_are_reached, worlds_keep_their_promise,
+};
 pub use real::{run_in_databases, run_in_memory};
 pub use world::World;

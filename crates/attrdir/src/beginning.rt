@@ -1,0 +1,58 @@
+//! The log of a name whose log is lost, or that is to end.
+use crate::failure::{Failure, Place, Setting};
+use crate::log_file::make_log;
+use crate::owners::ask_greatest;
+use crate::words::name_of;
+use sb_log::WriteLog;
+use sb_types::{Fault, Name, VERSION_MOST};
+
+/// How many versions more than a node heard of the lost log may have had.
+const UNHEARD_MOST: u64 = 1 << 20;
+
+/// Behind which version a log begins.
+#[derive(Clone, Copy)]
+pub(crate) enum Start<'a> {
+    After(u64),
+    /// As far as the node behind this socket for peers heard of the owner, and as much further as nobody may have heard.
+    From(&'a str),
+}
+
+/// The version that is meant. `BadSetting` outside the limits; the faults of `ask_greatest`.
+fn version_of<'a>(
+    rt: &HostRuntime,
+    start: Start<'a>,
+    owner: Name,
+    cluster: Name,
+) -> Result<u64, Failure<'a>> {
+    let version = match start {
+        Start::After(version) => version,
+        Start::From(sock) => ask_greatest(rt, sock, cluster, owner)?.saturating_add(UNHEARD_MOST),
+    };
+    if version == 0 || version > VERSION_MOST {
+        return Err(Failure::at(Place::Setting(Setting::After), Fault::BadSetting));
+    }
+    Ok(version)
+}
+
+/// Makes the log of an owner of a cluster begin behind a version, and prints that. `BadName` of either name, then the faults of `version_of`,
+/// before the file is looked for; then those of `make_log`, of `SqlLog::begin` and of `close`; `WriteFailed`, behind which the log has begun.
+pub(crate) fn begin_log<'a>(
+    rt: &HostRuntime,
+    path: &'a str,
+    owner: &'a str,
+    cluster: &'a str,
+    start: Start<'a>,
+) -> Result<(), Failure<'a>> {
+    let owner = name_of("--name", owner)?;
+    let cluster = name_of("--cluster", cluster)?;
+    let version = version_of(rt, start, owner, cluster)?;
+    let mut log = make_log(rt, path, owner, cluster)?;
+    let begun = log.begin(version);
+    match begun.and(log.close()) {
+        Ok(()) => match println!(rt; "begun {version}") {
+            Ok(()) => Ok(()),
+            Err(_) => Err(Failure::from(Fault::WriteFailed(0))),
+        },
+        Err(fault) => Err(Failure::at(Place::Log(path), fault)),
+    }
+}

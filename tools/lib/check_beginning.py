@@ -1,0 +1,119 @@
+"""The parts of tools/check-node that look at `begin`: at what it takes and refuses, at a node whose log is lost, and at a name that is to end."""
+import subprocess
+
+from nodes import SECONDS, run, want
+
+# what --from adds to the last version that a node heard of
+MORE = 1_048_576
+
+GREATEST = 2**40 - 1
+
+
+def begin(check, node, *words, name=None, log=None):
+    """The status of `begin` for a node, what it printed, and the lines that it said."""
+    places = ["--log", str(log or node.log), "--name", name or node.name, "--cluster", "c"]
+    status, printed, said = run(check.program, "begin", *places, *map(str, words))
+    return status, printed, said.splitlines()
+
+
+def want_fault(what, found, fault, about=""):
+    """It ended with this fault, its text and what to do about it; both have these words."""
+    status, printed, said = found
+    want(what, (status, printed, said[:1], len(said)), (3, "", [f"fault {fault}"], 3))
+    want(f"what is said of {what} ({said})", about in " ".join(said), True)
+
+
+def lines_of(check, node):
+    return run(check.program, "log", "--log", str(node.log), "--name", node.name, "--cluster", "c")[1]
+
+
+def begin_words(check):
+    """What begin prints and makes, and which logs, versions and lines it refuses."""
+    node = check.node("a")
+    for wrong in ([], ["--after", "7", "--from", "b.sock"], ["--after", "+7"], ["--after", "x"], ["--after", "18446744073709551616"], ["--after"], ["7"]):
+        want(f"begin {wrong}", begin(check, node, *wrong)[:2], (2, ""))
+    for outside in (0, GREATEST + 1):
+        want_fault(f"a version of {outside}", begin(check, node, "--after", outside), 5, "1099511627775")
+    want("the file that was not opened", node.log.stat().st_size, 0)
+    want_fault("a name that is none", begin(check, node, "--after", 7, name="A"), 2, "--name")
+    made = node.log.with_name("made.log")
+    want("in a file that is not there", (begin(check, node, "--after", 7, log=made), made.exists()), ((0, "begun 7\n", []), True))
+    want("in an empty file", begin(check, node, "--after", 7), (0, "begun 7\n", []))
+    want("what its log holds", lines_of(check, node), "last 7\n")
+    want_fault("a log that began", begin(check, node, "--after", 9), 31, "its next write has version 8")
+    want_fault("the log of another", begin(check, node, "--after", 9, name="b"), 20)
+    node.start()
+    want_fault("a log of a node that runs", begin(check, node, "--after", 9), 18)
+    want("the next version", node.put("x", 1), 8)
+    node.kill()
+    want_fault("a log with writes", begin(check, node, "--after", 99), 31, "its next write has version 9")
+    want("what its log holds", lines_of(check, node), "a x 8 weight 1\nlast 8\n")
+    text = node.log.with_name("text.log")
+    text.write_text("no log, but a text that is long enough to be read as one, were it one\n" * 20)
+    want_fault("a file that is no log", begin(check, node, "--after", 9, log=text), 19)
+    last = node.log.with_name("last.log")
+    want("the greatest version", begin(check, node, "--after", GREATEST, log=last), (0, f"begun {GREATEST}\n", []))
+
+
+def lost_log(check):
+    """A node whose log is gone begins behind what a peer heard of it: the others drop its old rows, take its new writes, and its rows are
+    written back from a peer's."""
+    folder = check.folder()
+    lost, peer = check.node("a", folder=folder), check.node("b", folder=folder, peers=[folder / "a.sock"])
+    far = check.node("d", folder=folder, peers=[folder / "b.sock"])
+    for node in (lost, peer, far):
+        node.start()
+    want("writes", [lost.put("x", 1), lost.put("y/note", 2), lost.put("x", 3)], [1, 2, 3])
+    want("a text", lost.command("set", "y/text", "text", "zone b, rack 7"), (0, "version 4\n", ""))
+    want("a removal", lost.command("del", "y/note"), (0, "version 5\n", ""))
+    rows = ["a x 3 weight 3", "a y/text 4 text zone b, rack 7"]
+    for node in (peer, far):
+        node.awaits("the rows of a", lambda found: found == rows)
+    lost.kill()
+    lost.log.unlink()
+    want_fault("a node that is not there", begin(check, lost, "--from", lost.sock), 16)
+    want_fault("the name of the node that is asked", begin(check, lost, "--from", peer.sock, name="b"), 24)
+    want_fault("a name of which nothing was heard", begin(check, lost, "--from", peer.sock, name="zz"), 9, "heard nothing of this name")
+    want("nothing was made", lost.log.exists(), False)
+    want("what begin prints", begin(check, lost, "--from", far.sock), (0, f"begun {5 + MORE}\n", []))
+    # the rows of a peer, as lines that `set -` takes
+    recipe = f"{check.program} get --control {peer.control} --owner a | cut -d ' ' -f 2,4-"
+    lines = subprocess.run(["bash", "-c", recipe], capture_output=True, text=True, timeout=SECONDS).stdout
+    want("the lines of the recipe", lines, "x weight 3\ny/text text zone b, rack 7\n")
+    lost.start()
+    for node in (peer, far):
+        node.awaits("that the old rows go", lambda found: found == [])
+    back = subprocess.run([check.program, "set", "--control", str(lost.control), "-"], input=lines, capture_output=True, text=True, timeout=SECONDS)
+    want("the writes of the recipe", (back.returncode, back.stdout), (0, f"version {6 + MORE}\nversion {7 + MORE}\n"))
+    rows = [f"a x {6 + MORE} weight 3", f"a y/text {7 + MORE} text zone b, rack 7"]
+    for node in (lost, peer, far):
+        node.awaits("the rows of a", lambda found: found == rows)
+
+
+def ended_name(check):
+    """A name that begins anew and writes nothing ends: its rows go everywhere, also where a node was away meanwhile."""
+    folder = check.folder()
+    ended, peer = check.node("old", "--rounds", "3", "--pause", "50", folder=folder, peers=[folder / "b.sock"]), check.node("b", folder=folder)
+    away = check.node("d", folder=folder, peers=[folder / "b.sock"])
+    peer.start()
+    away.start()
+    first = check.node("old", folder=folder, peers=[folder / "b.sock"]).start()
+    want("writes", [first.put("x", 1), first.put("y", 2)], [1, 2])
+    want("a write of another", peer.put("kept", 7), 1)
+    rows = ["b kept 1 weight 7", "old x 1 weight 1", "old y 2 weight 2"]
+    for node in (peer, away):
+        node.awaits("the rows", lambda found: found == rows)
+    first.kill()
+    away.kill()
+    ended.log.unlink()
+    want("what begin prints", begin(check, ended, "--after", 5000), (0, "begun 5000\n", []))
+    ended.start()
+    want("its end", ended.ended()[0], 0)
+    peer.awaits("that its rows go", lambda found: found == ["b kept 1 weight 7"])
+    away.start()
+    away.awaits("that its rows go", lambda found: found == ["b kept 1 weight 7"])
+    owners = run(check.program, "owners", "--sock", str(peer.sock), "--cluster", "c")[1]
+    want("how far the name is held", owners, "b 1\nold 5000\n")
+
+
+PARTS = (begin_words, lost_log, ended_name)
