@@ -1,7 +1,8 @@
 """The parts of tools/check-node that look at `begin`: at what it takes and refuses, at a node whose log is lost, and at a name that is to end."""
 import subprocess
+import threading
 
-from nodes import SECONDS, run, want
+from nodes import SECONDS, exchange, long_text, put, run, want
 
 # what --from adds to the last version that a node heard of
 MORE = 1_048_576
@@ -116,4 +117,41 @@ def ended_name(check):
     want("how far the name is held", owners, "b 1\nold 5000\n")
 
 
-PARTS = (begin_words, lost_log, ended_name)
+def written_back(node, lines):
+    """How many writes `set -` made of these lines at a node."""
+    back = subprocess.run([node.program, "set", "--control", str(node.control), "-"], input=lines, capture_output=True, text=True, timeout=SECONDS)
+    want("the status of set -", (back.returncode, back.stderr), (0, ""))
+    return len(back.stdout.splitlines())
+
+
+def without_a_gap(check):
+    """More rows than a frame has room for are written back before others hear of it, and purged: these show the old ones until all new ones came."""
+    folder, count = check.folder(), 600
+    peer = check.node("b", folder=folder).start()
+    lost = check.node("a", folder=folder, peers=[peer.sock]).start()
+    for at in range(count):
+        exchange(lost.control, put(f"k{at:03}", long_text(f"{at:03} " + 200 * "x")))
+    versions = lambda: [int(it.split()[2]) for it in peer.get("--owner", "a")]
+    peer.awaits("the rows of a", lambda _: versions() == list(range(1, count + 1)))
+    lost.kill()
+    lost.log.unlink()
+    lines = "".join(f"{it.split(' ', 3)[1]} {it.split(' ', 3)[3]}\n" for it in peer.get("--owner", "a"))
+    want("what begin prints", begin(check, lost, "--from", peer.sock), (0, f"begun {count + MORE}\n", []))
+    quiet = check.node("a", folder=folder)
+    quiet.sock = folder / "new.sock"
+    want("how many are written back", written_back(quiet.start(), lines), count)
+    quiet.kill()
+    want("up to where it is purged", lost.purge(), 2 * count + MORE)
+    looks, is_over = [], threading.Event()
+    looking = threading.Thread(target=lambda: [looks.append(len(versions())) for _ in iter(is_over.is_set, True)])
+    looking.start()
+    try:
+        lost.start()
+        peer.awaits("the new rows", lambda _: versions() == list(range(count + MORE + 1, 2 * count + MORE + 1)))
+    finally:
+        is_over.set()
+        looking.join()
+    want("how many rows the peer had meanwhile", set(looks), {count})
+
+
+PARTS = (begin_words, lost_log, without_a_gap, ended_name)
