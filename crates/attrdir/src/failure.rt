@@ -291,19 +291,21 @@ fn about_fault(fault: &Fault, place: Place<'_>) -> &'static str {
         }
         Fault::NothingThere => "get prints the keys that the node has",
         Fault::OutOfTurn(_) if matches!(place, Place::Log(_)) => {
-            "a log that is there goes on by itself: start the node with it; else give a file that is not there, or an empty one"
+            "a log that is there goes on by itself: start the node with it; where that ends in fault 21, move the file and its -wal away, \
+and begin anew"
         }
         Fault::FloorTooHigh =>
             "give a FLOOR of at most the last version, which `attrdir log` prints last, or --all",
         Fault::StoreFailed => about_store(place),
         Fault::LogDamaged => {
-            "see that this is the log; one of a later release wants that release; where it is damaged keep it, and put its newest copy \
-in its place, since an older one would give versions a second time"
+            "see that this is the log; one of a later release wants that release; where it is damaged move it and its -wal away, and see \
+`attrdir begin --help`; a copy of it is of use only where its node wrote nothing since"
         }
         Fault::WrongOwner =>
             "give --name and --cluster as the log has them (sqlite3 FILE 'SELECT owner, cluster FROM meta'), or give this node's log",
         Fault::OwnerConflict(_) => {
-            "end the other node of this name, or give this one a new name and a new log; an older copy of a log leads here too"
+            "end the other node of this name; where there is none, the log is an older copy, or began too low: end this node, move its log and \
+its -wal away, and see `attrdir begin --help`"
         }
         Fault::NoHello
         | Fault::WrongCluster
@@ -322,7 +324,8 @@ fn about_session(fault: &Fault) -> &'static str {
     match fault {
         Fault::NoMemory => about_fault(fault, Place::Line),
         Fault::WrongCluster => "give --cluster as the node has it",
-        Fault::SameName => "give another --name than that of the node",
+        Fault::SameName =>
+            "the node has this very name: give another --name; for `begin` end that node, and ask another one",
         Fault::NothingThere =>
             "give the --sock of a node that heard of it, or --after; a name that is new needs no more than an empty file",
         Fault::ReadFailed | Fault::WriteFailed(_) | Fault::Truncated => {

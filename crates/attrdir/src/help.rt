@@ -125,11 +125,12 @@ pub(crate) const BEGIN: &str =
 makes a log that begins behind a version V. It holds nothing, and its next write has the version behind V. Once the node runs with it, the others
 drop what they hold of the name, and take what it writes then.
 
-V has to be at least 4,096 above the last version that the lost log gave. With --from it is the last version that the node behind PATH heard of,
+End the node first, where it still runs: a process keeps a file that was removed, and takes writes that are lost. V has to be at least 4,096 above the
+last version that the lost log gave, one for each key that it may have had. With --from it is the last version that the node behind PATH heard of,
 and 1,048,576 more, since the lost log may have had writes of which that node never heard. To end a name for good, run the node once with such
 a log and write nothing.
 
-It prints `begun V`. A log that has writes, or began so before, is refused and stays as it is.
+It prints `begun V`. A log that has writes, or began so before, is refused and stays as it is: move it and its -wal away, to begin in its place.
 
 A fault ends the run, with `fault N`, its text and what to do about it on standard error: 1 no memory, 2 a name, 5 V is none of 1 to
 1099511627775, 9 the node behind PATH heard nothing of the name, 17 the line cannot be written, 18 the file cannot be read or written, or is
