@@ -7,6 +7,7 @@ use sb_table::Table;
 use sb_types::{Fault, Name, Slot, VERSION_MOST};
 use sqlite::{Connection, Error, ErrorCode, File, FileStore};
 use std::fs;
+use std::io::ErrorKind;
 
 /// A log in a file of the system.
 pub(crate) type FileLog = SqlLog<FileStore<File>>;
@@ -34,14 +35,26 @@ fn failure(path: &str, fault: Fault) -> Failure<'_> {
     }
 }
 
+/// Whether the folder of a path is there.
+pub(crate) fn has_folder(rt: &HostRuntime, path: &str) -> bool {
+    match path.rsplit_once('/') {
+        Some(("", _)) | None => true,
+        Some((folder, _)) => fs::metadata(rt, folder).is_ok_and(|found| found.is_dir()),
+    }
+}
+
 /// Why a file was not opened.
-fn fault_of(error: &Error) -> Fault {
+fn failure_of<'a>(rt: &HostRuntime, path: &'a str, error: &Error) -> Failure<'a> {
     match error {
-        Error::SqliteFailure(ErrorCode::OutOfMemory) => Fault::NoMemory,
+        Error::SqliteFailure(ErrorCode::OutOfMemory) => failure(path, Fault::NoMemory),
         Error::SqliteFailure(ErrorCode::NotADatabase | ErrorCode::DatabaseCorrupt) => {
-            Fault::LogDamaged
+            failure(path, Fault::LogDamaged)
         }
-        _ => Fault::StoreFailed,
+        Error::SqliteFailure(ErrorCode::DatabaseBusy) => {
+            Failure::at(Place::LockedLog(path), Fault::StoreFailed)
+        }
+        _ if !has_folder(rt, path) => Failure::at(Place::NoLogFolder(path), Fault::StoreFailed),
+        _ => failure(path, Fault::StoreFailed),
     }
 }
 
@@ -53,7 +66,7 @@ fn connect<'a>(
 ) -> Result<Connection<FileStore<File>>, Failure<'a>> {
     match Connection::open(rt, path) {
         Ok(conn) => Ok(conn),
-        Err(error) => Err(failure(path, fault_of(&error))),
+        Err(error) => Err(failure_of(rt, path, &error)),
     }
 }
 
@@ -73,7 +86,8 @@ fn log_in<'a>(
     }
 }
 
-/// The log of an owner of a cluster, in a file that is there. `StoreFailed` where it is not; the faults of `log_in`.
+/// The log of an owner of a cluster, in a file that is there. `StoreFailed` where it is not, or may not be read; the faults of
+/// `log_in`.
 pub(crate) fn open_log<'a>(
     rt: &HostRuntime,
     path: &'a str,
@@ -81,8 +95,12 @@ pub(crate) fn open_log<'a>(
     cluster: Name,
     max_version: u64,
 ) -> Result<FileLog, Failure<'a>> {
-    if fs::File::open(rt, path).is_err() {
-        return Err(Failure::at(Place::NoLog(path), Fault::StoreFailed));
+    if let Err(error) = fs::File::open(rt, path) {
+        let place = match error.kind() {
+            ErrorKind::NotFound => Place::NoLog(path),
+            _ => Place::UnreadableLog(path),
+        };
+        return Err(Failure::at(place, Fault::StoreFailed));
     }
     log_in(rt, path, owner, cluster, max_version)
 }
