@@ -223,7 +223,8 @@ fn about_store(place: Place<'_>) -> &'static str {
         Place::NoLog(_) => {
             "there is no such file; to begin a new log, make an empty file, as with touch, and start again"
         }
-        Place::NoLogFolder(_) => "the folder of this path is not there: make it, or give another path",
+        Place::NoLogFolder(_) =>
+            "the folder of this path is not there: make it, or give another path",
         Place::UnreadableLog(_) => {
             "see that it is a file that you may read and write, as the user that made it, and that the process may open more files (ulimit -n)"
         }
