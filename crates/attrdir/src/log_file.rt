@@ -1,4 +1,8 @@
 //! An owner's log in a file.
+ghost use Rattle.std.specs.Prelude.{◌≡◌, ◌≤◌, ◌<◌, ◌⊎◌, true, Ok, None, IfOk, IfSome, IfNone, OnOk};
+ghost use Rattle.sb_log.specs.Puts.{purged};
+ghost use Rattle.attrdir.specs.Removals as spec;
+
 use crate::failure::{Failure, Place};
 use crate::words::name_of;
 use sb_lines::{log_run, purge_run};
@@ -141,7 +145,10 @@ pub(crate) fn print_log<'a>(
 
 /// Drops the removals of a log up to a version, and prints that version. The faults of `load`, where the version is the last; then
 /// those of `purge_run`.
-fn purge_to<L: WriteLog>(rt: &HostRuntime, log: &mut L, floor: Floor) -> Result<(), Fault> {
+fn purge_to<L: WriteLog>(rt: &HostRuntime, log: &mut L, floor: Floor) -> Result<(), Fault>
+    ensures { OnOk result ((L.seen log.new).is_clean ≡ true
+        → (L.seen log.new).content ≡ purged (spec.floor_of floor (L.seen log.old).content) (L.seen log.old).content) }
+{
     let version = match floor {
         Floor::At(version) => version,
         Floor::Last => log.load(rt.alloc())?.upto(),
@@ -176,11 +183,16 @@ pub(crate) fn purge_log<'a>(
 }
 
 /// How many keys of a table are removed ones.
-fn count_removals(table: &Table) -> usize {
-    table
-        .after(0)
-        .filter(|entry| matches!(entry.slot(), Slot::Removed))
-        .count()
+fn count_removals(table: &Table) -> usize
+    ensures { result ≡ spec.removals_in table.now.entries }
+{
+    let mut count = 0;
+    for entry in table.after(0) {
+        if matches!(entry.slot(), Slot::Removed) {
+            count += 1;
+        }
+    }
+    count
 }
 
 /// Drops the removals of a log up to its last version, where it has `least` of them or more, and tells what went. Nothing goes where
@@ -189,7 +201,14 @@ pub(crate) fn purge_removals<L: WriteLog>(
     rt: &HostRuntime,
     log: &mut L,
     least: u64,
-) -> Result<Option<Purged>, Fault> {
+) -> Result<Option<Purged>, Fault>
+    ensures never { least ≡ 0 → (result ≡ Ok None) × (log.new ≡ log.old) }
+    ensures few { IfOk result (λ done. IfNone done ((L.seen log.new).is_clean ≡ true → ((L.seen log.new).content ≡ (L.seen log.old).content)
+        × ((least ≡ 0) ⊎ (spec.removals_in (L.seen log.old).content.entries < least)))) }
+    ensures many { IfOk result (λ done. IfSome done (λ p. (L.seen log.new).is_clean ≡ true
+        → (least ≤ p.removals) × ((p.removals ≡ spec.removals_in (L.seen log.old).content.entries)
+        × ((p.floor ≡ (L.seen log.old).content.held) × ((L.seen log.new).content ≡ purged p.floor (L.seen log.old).content))))) }
+{
     if least == 0 {
         return Ok(None);
     }
