@@ -44,7 +44,9 @@ def begin_words(check):
     want_fault("a log that began", begin(check, node, "--after", 9), 31, "its next write has version 8")
     want_fault("the log of another", begin(check, node, "--after", 9, name="b"), 20)
     node.start()
-    want_fault("a log of a node that runs", begin(check, node, "--after", 9), 18)
+    want_fault("a log of a node that runs", begin(check, node, "--after", 9), 18, "another process has the log open")
+    nowhere = node.log.with_name("nowhere") / "a.log"
+    want_fault("a log in no folder", begin(check, node, "--after", 9, log=nowhere), 18, "the folder of this path is not there")
     want("the next version", node.put("x", 1), 8)
     node.kill()
     want_fault("a log with writes", begin(check, node, "--after", 99), 31, "its next write has version 9")
@@ -53,7 +55,8 @@ def begin_words(check):
     text.write_text("no log, but a text that is long enough to be read as one, were it one\n" * 20)
     want_fault("a file that is no log", begin(check, node, "--after", 9, log=text), 19)
     last = node.log.with_name("last.log")
-    want("the greatest version", begin(check, node, "--after", GREATEST, log=last), (0, f"begun {GREATEST}\n", []))
+    warned = f"attrdir: warning log {last}: no version is left, so nothing can be written under this name any more"
+    want("the greatest version", begin(check, node, "--after", GREATEST, log=last), (0, f"begun {GREATEST}\n", [warned]))
 
 
 def lost_log(check):

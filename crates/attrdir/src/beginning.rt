@@ -34,6 +34,19 @@ fn version_of<'a>(
     Ok(version)
 }
 
+/// Prints behind which version a log began, and warns where there is none behind it. `WriteFailed`.
+fn print_begun<'a>(rt: &HostRuntime, path: &'a str, version: u64) -> Result<(), Failure<'a>> {
+    if version == VERSION_MOST {
+        let _ = eprintln!(rt;
+            "attrdir: warning log {path}: no version is left, so nothing can be written under this name any more"
+        );
+    }
+    match println!(rt; "begun {version}") {
+        Ok(()) => Ok(()),
+        Err(_) => Err(Failure::from(Fault::WriteFailed(0))),
+    }
+}
+
 /// Makes the log of an owner of a cluster begin behind a version, and prints that. `BadName` of either name, then the faults of `version_of`,
 /// before the file is looked for; then those of `make_log`, of `SqlLog::begin` and of `close`; `WriteFailed`, behind which the log has begun.
 pub(crate) fn begin_log<'a>(
@@ -49,10 +62,7 @@ pub(crate) fn begin_log<'a>(
     let mut log = make_log(rt, path, owner, cluster)?;
     let begun = log.begin(version);
     match begun.and(log.close()) {
-        Ok(()) => match println!(rt; "begun {version}") {
-            Ok(()) => Ok(()),
-            Err(_) => Err(Failure::from(Fault::WriteFailed(0))),
-        },
+        Ok(()) => print_begun(rt, path, version),
         Err(fault) => Err(Failure::at(Place::Log(path), fault)),
     }
 }

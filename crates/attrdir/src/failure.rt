@@ -55,6 +55,12 @@ pub(crate) enum Place<'a> {
     Log(&'a str),
     /// At the file of a log, which is not there.
     NoLog(&'a str),
+    /// At the file of a log, whose folder is not there.
+    NoLogFolder(&'a str),
+    /// At the file of a log, which may not be read.
+    UnreadableLog(&'a str),
+    /// At the file of a log, which another process has open.
+    LockedLog(&'a str),
     /// At a control socket at which nobody could be reached.
     Unreached(&'a str),
     /// On the way of a request to a control socket, or of its answer.
@@ -152,8 +158,12 @@ fn write_text<W: fmt::Write>(
             | Place::Sockets(..),
         ) => f.write_str("a socket could not be made"),
         (Fault::WriteFailed(_), Place::Metrics(_)) => f.write_str("metrics could not be written"),
-        (Fault::StoreFailed, Place::NoLog(_)) => f.write_str(
-            "there is no such log, or you may not read it",
+        (Fault::StoreFailed, Place::NoLog(_) | Place::NoLogFolder(_)) => f.write_str(
+            "there is no such log",
+        ),
+        (Fault::StoreFailed, Place::UnreadableLog(_)) => f.write_str("the log may not be read"),
+        (Fault::StoreFailed, Place::LockedLog(_)) => f.write_str(
+            "another process has the log open",
         ),
         (Fault::LogDamaged, _) => f.write_str(
             "the file is no log that this release reads, or a damaged one",
@@ -211,15 +221,22 @@ once the node answers"
 fn about_store(place: Place<'_>) -> &'static str {
     match place {
         Place::NoLog(_) => {
-            "there is no such file, or you may not read it; to begin a new log, make an empty file, as with touch, and start again"
+            "there is no such file; to begin a new log, make an empty file, as with touch, and start again"
+        }
+        Place::NoLogFolder(_) =>
+            "the folder of this path is not there: make it, or give another path",
+        Place::UnreadableLog(_) => {
+            "see that it is a file that you may read and write, as the user that made it, and that the process may open more files (ulimit -n)"
+        }
+        Place::LockedLog(_) => {
+            "a node that runs has it open: end that node first, or ask it at its control socket, as with get and status"
         }
         Place::Node(_) => {
             "the node could not write its log, and takes no more writes: see that its disk has room and works, and start it again"
         }
         _ => {
-            "another process may have the log open, as a node that runs; else see that it is a file that you may read and write, that \
-it has one name, that no -journal file lies beside it, that you may write to its folder, where a file of its name with -wal is made, that \
-its disk has room, and that the process may open more files (ulimit -n)"
+            "see that its disk has room, that it is a file that you may read and write, that it has one name, that no -journal file lies \
+beside it, that you may write to its folder, where a file of its name with -wal is made, and that the process may open more files (ulimit -n)"
         }
     }
 }
@@ -272,24 +289,9 @@ workers and 2 more up to 64"
     }
 }
 
-/// What to do about a fault that is none of a session as a peer.
-fn about_fault(fault: &Fault, place: Place<'_>) -> &'static str {
+/// What to do about a fault of a log or of names, or of an exchange.
+fn about_log(fault: &Fault, place: Place<'_>) -> &'static str {
     match fault {
-        Fault::NoMemory =>
-            "end other programs, or give the machine or the process more memory or threads, and try again",
-        Fault::BadName => "give 1 to 32 lower-case letters, digits and -",
-        Fault::BadKey => "give at most 64 lower-case letters, digits and the signs . _ / -",
-        Fault::BadValue =>
-            "give a kind and a word, as: addr 10.0.0.1:80, weight 5, flag true, text 'zone b'",
-        Fault::BadSetting => about_setting(place),
-        Fault::TableFull => {
-            "a removed key counts until its removal is purged: start the node again with --purge-removals 1; else write under keys that it has"
-        }
-        Fault::OwnersFull => "start the node again without owners that are gone",
-        Fault::VersionsSpent => {
-            "start the node again with a greater --max-version, of at most 1099511627775, or under a new name"
-        }
-        Fault::NothingThere => "get prints the keys that the node has",
         Fault::OutOfTurn(_) if matches!(place, Place::Log(_)) => {
             "a log that is there goes on by itself: start the node with it; where that ends in fault 21, move the file and its -wal away, \
 and begin anew"
@@ -319,6 +321,28 @@ its -wal away, and see `attrdir begin --help`"
     }
 }
 
+/// What to do about a fault that is none of a session as a peer.
+fn about_fault(fault: &Fault, place: Place<'_>) -> &'static str {
+    match fault {
+        Fault::NoMemory =>
+            "end other programs, or give the machine or the process more memory or threads, and try again",
+        Fault::BadName => "give 1 to 32 lower-case letters, digits and -",
+        Fault::BadKey => "give at most 64 lower-case letters, digits and the signs . _ / -",
+        Fault::BadValue =>
+            "give a kind and a word, as: addr 10.0.0.1:80, weight 5, flag true, text 'zone b'",
+        Fault::BadSetting => about_setting(place),
+        Fault::TableFull => {
+            "a removed key counts until its removal is purged: start the node again with --purge-removals 1; else write under keys that it has"
+        }
+        Fault::OwnersFull => "start the node again without owners that are gone",
+        Fault::VersionsSpent => {
+            "start the node again with a greater --max-version, of at most 1099511627775, or under a new name"
+        }
+        Fault::NothingThere => "get prints the keys that the node has",
+        fault => about_log(fault, place),
+    }
+}
+
 /// What to do about a fault of a session as a peer, in which nothing is written at the node.
 fn about_session(fault: &Fault) -> &'static str {
     match fault {
@@ -327,7 +351,7 @@ fn about_session(fault: &Fault) -> &'static str {
         Fault::SameName =>
             "the node has this very name: give another --name; for `begin` end that node, and ask another one",
         Fault::NothingThere =>
-            "give the --sock of a node that heard of it, or --after; a name that is new needs no more than an empty file",
+            "give the --sock of a node that heard of it, or --after; a name that never wrote needs no more than an empty file",
         Fault::ReadFailed | Fault::WriteFailed(_) | Fault::Truncated => {
             "the node ended the session, or fell silent: see whether it runs, and try again"
         }
@@ -354,7 +378,11 @@ impl fmt::Display for Place<'_> {
             Place::Word(what, word) => write!(f, "{what} '{word}': "),
             Place::Value(kind, word) => write!(f, "value '{kind} {word}': "),
             Place::Setting(setting) => write!(f, "{}: ", setting.option()),
-            Place::Log(path) | Place::NoLog(path) => write!(f, "log {path}: "),
+            Place::Log(path)
+            | Place::NoLog(path)
+            | Place::NoLogFolder(path)
+            | Place::UnreadableLog(path)
+            | Place::LockedLog(path) => write!(f, "log {path}: "),
             Place::Unreached(path) | Place::Control(path) | Place::Node(path) => {
                 write!(f, "control socket {path}: ")
             }

@@ -1,4 +1,8 @@
 //! An owner's log in a file.
+ghost use Rattle.std.specs.Prelude.{◌≡◌, ◌≤◌, ◌<◌, ◌⊎◌, true, Ok, None, IfOk, IfSome, IfNone, OnOk};
+ghost use Rattle.sb_log.specs.Puts.{purged};
+ghost use Rattle.attrdir.specs.Removals as spec;
+
 use crate::failure::{Failure, Place};
 use crate::words::name_of;
 use sb_lines::{log_run, purge_run};
@@ -7,6 +11,7 @@ use sb_table::Table;
 use sb_types::{Fault, Name, Slot, VERSION_MOST};
 use sqlite::{Connection, Error, ErrorCode, File, FileStore};
 use std::fs;
+use std::io::ErrorKind;
 
 /// A log in a file of the system.
 pub(crate) type FileLog = SqlLog<FileStore<File>>;
@@ -34,14 +39,26 @@ fn failure(path: &str, fault: Fault) -> Failure<'_> {
     }
 }
 
+/// Whether the folder of a path is there.
+pub(crate) fn has_folder(rt: &HostRuntime, path: &str) -> bool {
+    match path.rsplit_once('/') {
+        Some(("", _)) | None => true,
+        Some((folder, _)) => fs::metadata(rt, folder).is_ok_and(|found| found.is_dir()),
+    }
+}
+
 /// Why a file was not opened.
-fn fault_of(error: &Error) -> Fault {
+fn failure_of<'a>(rt: &HostRuntime, path: &'a str, error: &Error) -> Failure<'a> {
     match error {
-        Error::SqliteFailure(ErrorCode::OutOfMemory) => Fault::NoMemory,
+        Error::SqliteFailure(ErrorCode::OutOfMemory) => failure(path, Fault::NoMemory),
         Error::SqliteFailure(ErrorCode::NotADatabase | ErrorCode::DatabaseCorrupt) => {
-            Fault::LogDamaged
+            failure(path, Fault::LogDamaged)
         }
-        _ => Fault::StoreFailed,
+        Error::SqliteFailure(ErrorCode::DatabaseBusy) => {
+            Failure::at(Place::LockedLog(path), Fault::StoreFailed)
+        }
+        _ if !has_folder(rt, path) => Failure::at(Place::NoLogFolder(path), Fault::StoreFailed),
+        _ => failure(path, Fault::StoreFailed),
     }
 }
 
@@ -53,7 +70,7 @@ fn connect<'a>(
 ) -> Result<Connection<FileStore<File>>, Failure<'a>> {
     match Connection::open(rt, path) {
         Ok(conn) => Ok(conn),
-        Err(error) => Err(failure(path, fault_of(&error))),
+        Err(error) => Err(failure_of(rt, path, &error)),
     }
 }
 
@@ -73,7 +90,8 @@ fn log_in<'a>(
     }
 }
 
-/// The log of an owner of a cluster, in a file that is there. `StoreFailed` where it is not; the faults of `log_in`.
+/// The log of an owner of a cluster, in a file that is there. `StoreFailed` where it is not, or may not be read; the faults of
+/// `log_in`.
 pub(crate) fn open_log<'a>(
     rt: &HostRuntime,
     path: &'a str,
@@ -81,8 +99,12 @@ pub(crate) fn open_log<'a>(
     cluster: Name,
     max_version: u64,
 ) -> Result<FileLog, Failure<'a>> {
-    if fs::File::open(rt, path).is_err() {
-        return Err(Failure::at(Place::NoLog(path), Fault::StoreFailed));
+    if let Err(error) = fs::File::open(rt, path) {
+        let place = match error.kind() {
+            ErrorKind::NotFound => Place::NoLog(path),
+            _ => Place::UnreadableLog(path),
+        };
+        return Err(Failure::at(place, Fault::StoreFailed));
     }
     log_in(rt, path, owner, cluster, max_version)
 }
@@ -123,7 +145,10 @@ pub(crate) fn print_log<'a>(
 
 /// Drops the removals of a log up to a version, and prints that version. The faults of `load`, where the version is the last; then
 /// those of `purge_run`.
-fn purge_to<L: WriteLog>(rt: &HostRuntime, log: &mut L, floor: Floor) -> Result<(), Fault> {
+fn purge_to<L: WriteLog>(rt: &HostRuntime, log: &mut L, floor: Floor) -> Result<(), Fault>
+    ensures { OnOk result ((L.seen log.new).is_clean ≡ true
+        → (L.seen log.new).content ≡ purged (spec.floor_of floor (L.seen log.old).content) (L.seen log.old).content) }
+{
     let version = match floor {
         Floor::At(version) => version,
         Floor::Last => log.load(rt.alloc())?.upto(),
@@ -158,11 +183,16 @@ pub(crate) fn purge_log<'a>(
 }
 
 /// How many keys of a table are removed ones.
-fn count_removals(table: &Table) -> usize {
-    table
-        .after(0)
-        .filter(|entry| matches!(entry.slot(), Slot::Removed))
-        .count()
+fn count_removals(table: &Table) -> usize
+    ensures { result ≡ spec.removals_in table.now.entries }
+{
+    let mut count = 0;
+    for entry in table.after(0) {
+        if matches!(entry.slot(), Slot::Removed) {
+            count += 1;
+        }
+    }
+    count
 }
 
 /// Drops the removals of a log up to its last version, where it has `least` of them or more, and tells what went. Nothing goes where
@@ -171,7 +201,14 @@ pub(crate) fn purge_removals<L: WriteLog>(
     rt: &HostRuntime,
     log: &mut L,
     least: u64,
-) -> Result<Option<Purged>, Fault> {
+) -> Result<Option<Purged>, Fault>
+    ensures never { least ≡ 0 → (result ≡ Ok None) × (log.new ≡ log.old) }
+    ensures few { IfOk result (λ done. IfNone done ((L.seen log.new).is_clean ≡ true → ((L.seen log.new).content ≡ (L.seen log.old).content)
+        × ((least ≡ 0) ⊎ (spec.removals_in (L.seen log.old).content.entries < least)))) }
+    ensures many { IfOk result (λ done. IfSome done (λ p. (L.seen log.new).is_clean ≡ true
+        → (least ≤ p.removals) × ((p.removals ≡ spec.removals_in (L.seen log.old).content.entries)
+        × ((p.floor ≡ (L.seen log.old).content.held) × ((L.seen log.new).content ≡ purged p.floor (L.seen log.old).content))))) }
+{
     if least == 0 {
         return Ok(None);
     }

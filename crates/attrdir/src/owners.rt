@@ -1,6 +1,7 @@
 //! How far a node holds each owner, which it is asked as by a peer.
 ghost use Rattle.std.specs.Prelude.{◌≡◌, ◌<◌, IfErr};
 ghost use Rattle.sb_session.specs.Handlers.{IsRefusal};
+ghost use Rattle.attrdir.specs.Owners as spec;
 
 use crate::asking::{READS_OF_ONE, limit};
 use crate::failure::{Failure, Place};
@@ -227,13 +228,24 @@ pub(crate) fn print_owners<'a>(
     Ok(print_pairs(rt, &pairs)?)
 }
 
-/// The greatest version of an owner that is told of these.
-fn greatest_of(pairs: &[Pair], owner: &Name) -> u64 {
+/// The greatest version that a pair speaks of, where it is this owner's: one that is held, a floor, or one of a table that has not come
+/// whole. 0 where it is another's.
+fn version_in(pair: &Pair, owner: &Name) -> u64
+    ensures { result ≡ spec.version_in owner.now pair.now }
+{
+    if pair.owner != *owner {
+        return 0;
+    }
+    pair.upto.max(pair.staged_floor).max(pair.progress)
+}
+
+/// The greatest version that these speak of an owner; 0 where there is none.
+fn greatest_version(pairs: &[Pair], owner: &Name) -> u64
+    ensures { result ≡ spec.greatest_version owner.now pairs.now }
+{
     let mut greatest = 0;
     for pair in pairs {
-        if pair.owner == *owner {
-            greatest = pair.upto.max(pair.staged_floor).max(pair.progress);
-        }
+        greatest = greatest.max(version_in(pair, owner));
     }
     greatest
 }
@@ -247,7 +259,7 @@ pub(crate) fn ask_greatest<'a>(
     owner: Name,
 ) -> Result<u64, Failure<'a>> {
     let pairs = ask_pairs(rt, sock, cluster, owner)?;
-    match greatest_of(&pairs, &owner) {
+    match greatest_version(&pairs, &owner) {
         0 => Err(Failure::at(Place::Session(sock), Fault::NothingThere)),
         version => Ok(version),
     }

@@ -1,7 +1,7 @@
 //! A node that runs.
 use crate::console::{Console, Shortage};
 use crate::failure::{Failure, Place, Setting};
-use crate::log_file::{open_log, purge_removals};
+use crate::log_file::{has_folder, open_log, purge_removals};
 use crate::metrics_file::{MetricsFile, may_replace, writes_over};
 use crate::words::name_of;
 use sb_log::WriteLog;
@@ -9,7 +9,7 @@ use sb_run::{NodeConfig, Pace, Paths, Ran, Runtime, run_node};
 use sb_types::{
     BUDGET_LEAST, BUDGET_MOST, Fault, Name, RawSettings, Settings, VERSION_MOST, WORKERS_MOST,
 };
-use std::fs::{metadata, symlink_metadata};
+use std::fs::symlink_metadata;
 use std::net::{Net, TcpListener, TcpStream};
 use std::os::unix::fs::FileTypeExt;
 
@@ -57,14 +57,6 @@ fn setting_of(raw: &RawSettings<'_>) -> Setting {
         Setting::Workers
     } else {
         Setting::Seats
-    }
-}
-
-/// Whether the folder of a path is there.
-fn has_folder(rt: &HostRuntime, path: &str) -> bool {
-    match path.rsplit_once('/') {
-        Some(("", _)) | None => true,
-        Some((folder, _)) => metadata(rt, folder).is_ok_and(|found| found.is_dir()),
     }
 }
 

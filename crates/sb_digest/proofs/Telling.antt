@@ -33,27 +33,27 @@ one_longest budget want from pairs a b p q = elim (cases_order p.count q.count) 
 ]
 
 -- the owners' entries
-abbrev told : Held → List (List ℕ × Holder) → List Pair
-told held es = map (pair_of held) (map (λ e. (e.0, e.1.shown)) es)
+abbrev told : List (List ℕ × Holder) → List Pair
+told es = map pair_of es
 
 abbrev version_of : Option Pair → ℕ
 version_of o = option_map_or (λ (p : Pair). p.held) o 0
 
 -- the pair of an owner whose holder was found
-abbrev found_pair : Held → List ℕ → Option Holder → Option Pair
-found_pair held owner found = option_map (λ (h : Holder). pair_of held (owner, h.shown)) found
+abbrev found_pair : List ℕ → Option Holder → Option Pair
+found_pair owner found = option_map (λ (h : Holder). pair_of (owner, h)) found
 
 -- an owner that is passed is found among the passed as among all
-found_passed : (held : Held) (test : List ℕ → Bool) (owner : List ℕ) → test owner ≡ true → (es : List (List ℕ × Holder)) → pair_at owner (told held (filter (λ e. test e.0) es)) ≡ found_pair held owner (find (slice_cmp nat_cmp) owner es)
-found_passed held test owner passes [] = refl
-found_passed held test owner passes (e ∷ es) = go (pointwise nat_eq e.0 owner) (test e.0) refl refl (found_passed held test owner passes es)
+found_passed : (test : List ℕ → Bool) (owner : List ℕ) → test owner ≡ true → (es : List (List ℕ × Holder)) → pair_at owner (told (filter (λ e. test e.0) es)) ≡ found_pair owner (find (slice_cmp nat_cmp) owner es)
+found_passed test owner passes [] = refl
+found_passed test owner passes (e ∷ es) = go (pointwise nat_eq e.0 owner) (test e.0) refl refl (found_passed test owner passes es)
   where
     ties : eq_by_cmp (slice_cmp nat_cmp) owner e.0 ≡ pointwise nat_eq e.0 owner
     ties = sym (texts_ties owner e.0) ∙ nat_list_eq_equiv.symm owner e.0
 
-    go : (same passed : Bool) → pointwise nat_eq e.0 owner ≡ same → test e.0 ≡ passed → pair_at owner (told held (filter (λ e. test e.0) es)) ≡ found_pair held owner (find (slice_cmp nat_cmp) owner es) →
-        pair_at owner (told held (cond passed (e ∷ filter (λ e. test e.0) es) (filter (λ e. test e.0) es))) ≡ found_pair held owner (cond (eq_by_cmp (slice_cmp nat_cmp) owner e.0) (Some e.1) (find (slice_cmp nat_cmp) owner es))
-    go true true same passed rest = rw (ties, same) (ap (λ (name : List ℕ). Some (pair_of held (name, e.1.shown))) (same_text e.0 owner same))
+    go : (same passed : Bool) → pointwise nat_eq e.0 owner ≡ same → test e.0 ≡ passed → pair_at owner (told (filter (λ e. test e.0) es)) ≡ found_pair owner (find (slice_cmp nat_cmp) owner es) →
+        pair_at owner (told (cond passed (e ∷ filter (λ e. test e.0) es) (filter (λ e. test e.0) es))) ≡ found_pair owner (cond (eq_by_cmp (slice_cmp nat_cmp) owner e.0) (Some e.1) (find (slice_cmp nat_cmp) owner es))
+    go true true same passed rest = rw (ties, same) (ap (λ (name : List ℕ). Some (pair_of (name, e.1))) (same_text e.0 owner same))
     go true false same passed rest = absurd (true≢false (sym passes ∙ ap test (sym (same_text e.0 owner same)) ∙ passed))
     go false true same passed rest = rw (ties, same) rest
     go false false same passed rest = rw (ties, same) rest
@@ -67,18 +67,18 @@ less Less h = refl
 less Equal h = absurd h
 less Greater h = absurd h
 
-behind : (held : Held) (name : List ℕ) (es : List (List ℕ × Holder)) → T (below_all (slice_cmp nat_cmp) name es) → AllByRecursion (λ (p : Pair). slice_cmp nat_cmp name p.owner ≡ Less) (told held es)
-behind held name [] below = tt
-behind held name (e ∷ es) below =
+behind : (name : List ℕ) (es : List (List ℕ × Holder)) → T (below_all (slice_cmp nat_cmp) name es) → AllByRecursion (λ (p : Pair). slice_cmp nat_cmp name p.owner ≡ Less) (told es)
+behind name [] below = tt
+behind name (e ∷ es) below =
     let parts = and_T (is_lt (slice_cmp nat_cmp name e.0)) _ below in
-    (less _ parts.0, behind held name es parts.1)
+    (less _ parts.0, behind name es parts.1)
 
-rises_from_is_sorted : (held : Held) (es : List (List ℕ × Holder)) → T (is_sorted (slice_cmp nat_cmp) es) → IsStrictlySortedBy by_owner (told held es)
+rises_from_is_sorted : (es : List (List ℕ × Holder)) → T (is_sorted (slice_cmp nat_cmp) es) → IsStrictlySortedBy by_owner (told es)
 unfolding IsStrictlySortedBy
-rises_from_is_sorted held [] up = tt
-rises_from_is_sorted held (e ∷ es) up =
+rises_from_is_sorted [] up = tt
+rises_from_is_sorted (e ∷ es) up =
     let parts = and_T (below_all (slice_cmp nat_cmp) e.0 es) (is_sorted (slice_cmp nat_cmp) es) up in
-    (behind held e.0 es parts.0, rises_from_is_sorted held es parts.1)
+    (behind e.0 es parts.0, rises_from_is_sorted es parts.1)
 
 -- no pair from the end of the range on is the owner's
 past_end : (owner : List ℕ) (p : Pair) (ps : List Pair) (k : ℕ) (d : Pair) → text_lt owner p.owner ≡ true → IsStrictlySortedBy by_owner (p ∷ ps) → k < length (p ∷ ps) → pointwise nat_eq (get_or (p ∷ ps) k d).owner owner ≡ false
@@ -100,15 +100,15 @@ from_nothing floor = grind (arith, nat_tests)
 
 -- the digest's pair of an owner that it covers is that of what is held of it
 module _ (held : Held) (budget : ℕ) (want : Bool) (from : Option (List ℕ)) (d : Digest) (owner : List ℕ) (longest : IsLongestFront budget want from (pairs_from from held) d) (covered : covers d owner ≡ true) where
-  pair-held : pair_at owner d.pairs ≡ found_pair held owner (get held.owners owner)
+  pair-held : pair_at owner d.pairs ≡ found_pair owner (get held.owners owner)
   pair-held =
       let ps = pairs_from from held in
-      let rises : IsStrictlySortedBy by_owner ps = rises_from_is_sorted held _ (is_sorted-where_key (slice_cmp nat_cmp) (is_from from) (entries held.owners) (entries_sorted held.owners)) in
+      let rises : IsStrictlySortedBy by_owner ps = rises_from_is_sorted _ (is_sorted-where_key (slice_cmp nat_cmp) (is_from from) (entries held.owners) (entries_sorted held.owners)) in
       let parts = and_parts (is_from from owner) _ (subst (λ (e : Digest). covers e owner ≡ true) longest.front covered) in
-      ap (λ (e : Digest). pair_at owner e.pairs) longest.front ∙ cut_keeps owner ps longest.count rises parts.1 ∙ found_passed held (is_from from) owner parts.0 (entries held.owners)
-      ∙ ap (found_pair held owner) (sym (get-entries held.owners owner))
+      ap (λ (e : Digest). pair_at owner e.pairs) longest.front ∙ cut_keeps owner ps longest.count rises parts.1 ∙ found_passed (is_from from) owner parts.0 (entries held.owners)
+      ∙ ap (found_pair owner) (sym (get-entries held.owners owner))
 
-  version-found : (o : Option Holder) → version_of (found_pair held owner o) ≡ (unwrap_or o nothing).shown.held
+  version-found : (o : Option Holder) → version_of (found_pair owner o) ≡ (unwrap_or o nothing).shown.held
   version-found None = refl
   version-found (Some h) = refl
 
@@ -116,9 +116,9 @@ module _ (held : Held) (budget : ℕ) (want : Bool) (from : Option (List ℕ)) (
   number-held = ap version_of pair-held ∙ version-found (get held.owners owner)
 
   -- of an owner that is not held the whole table is offered, as where nothing is said of it
-  by-found : (floor : ℕ) (o : Option Holder) → get held.owners owner ≡ o → number_by floor (found_pair held owner o) ≡ number_by floor (Some (pair_of held (owner, (unwrap_or o nothing).shown)))
-  by-found floor None none = rw none (from_nothing floor)
-  by-found floor (Some h) some = refl
+  by-found : (floor : ℕ) (o : Option Holder) → number_by floor (found_pair owner o) ≡ number_by floor (Some (pair_of (owner, unwrap_or o nothing)))
+  by-found floor None = from_nothing floor
+  by-found floor (Some h) = refl
 
-  pub number-above : (floor : ℕ) → number_in d owner floor ≡ number_by floor (Some (pair_of held (owner, (holder_of held.owners owner).shown)))
-  number-above floor = ap (number_by floor) pair-held ∙ by-found floor (get held.owners owner) refl
+  pub number-above : (floor : ℕ) → number_in d owner floor ≡ number_by floor (Some (pair_of (owner, holder_of held.owners owner)))
+  number-above floor = ap (number_by floor) pair-held ∙ by-found floor (get held.owners owner)

@@ -30,8 +30,8 @@ pub fn build(
     ensures memory { IfErr result (λ fault. fault ≡ NoMemory) }
 {
     let mut front = DigestBuilder::new(alloc, from.as_ref(), budget);
-    for (owner, table) in holdings.tables_from(from.as_ref()) {
-        let pair = Pair::new(*owner, table.upto(), holdings.staged(owner));
+    for (owner, holder) in holdings.holders_from(from.as_ref()) {
+        let pair = Pair::new(*owner, holder.shown().upto(), holder.staged());
         if !front.push(pair)? {
             return Ok(front.cut(want));
         }

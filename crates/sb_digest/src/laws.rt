@@ -1,7 +1,7 @@
 //! What follows from the definitions alone, for the crates above. The functions do nothing: each clause is
 //! a law.
 ghost use Rattle.std.specs.Prelude.{◌≡◌, ℕ, ◌<◌, ◌^◌, Bool, true, List, length, Option, Some};
-ghost use Rattle.sb_holdings.specs.Held.{Held, shown_of};
+ghost use Rattle.sb_holdings.specs.Held.{Held, holder_of, shown_of};
 ghost use Rattle.sb_digest.specs.Digests as digests;
 ghost use Rattle.sb_digest.specs.Digests.{covers, held_in, number_by, number_in};
 ghost use Rattle.sb_digest.specs.Limits.{is_digest};
@@ -27,5 +27,5 @@ pub fn digests_are_true()
         held_in d owner ≡ (shown_of held owner).held }
     ensures number { (held : Held) (budget : ℕ) (want : Bool) (from : Option (List ℕ)) (d : digests.Digest) (owner : List ℕ) (floor : ℕ) →
         IsLongestFront budget want from (pairs_from from held) d → covers d owner ≡ true →
-        number_in d owner floor ≡ number_by floor (Some (pair_of held (owner, shown_of held owner))) }
+        number_in d owner floor ≡ number_by floor (Some (pair_of (owner, holder_of held.owners owner))) }
 {}

@@ -9,7 +9,7 @@ ghost use Rattle.sb_views.specs.Histories.{node_after};
 ghost use Rattle.sb_views.specs.declared.event.Event.TheVariants as events;
 ghost use Rattle.sb_watch.specs.declared.note.Polled.TheVariants as answers;
 ghost use Rattle.sb_watch.specs.declared.note.Note.{Note};
-ghost use Rattle.sb_watch.specs.Hubs.{next_id, has_watch, answer_at, with_watch, with_answer, without_watch};
+ghost use Rattle.sb_watch.specs.Hubs.{new_hub, next_id, has_watch, answer_at, with_watch, with_answer, without_watch};
 ghost use Rattle.sb_directory.specs.ViewedNodes as nodes;
 ghost use Rattle.sb_directory.specs.Seats as spec;
 
@@ -78,6 +78,7 @@ impl<S: DirectoryTag, R: Wait + Drop> Locked<S, R> {
     /// A node as it was opened, with the book of a ledger of which each seat has one part.
     pub(crate) fn new(node: ViewedNode<S, R>, book: Book<S>, rest: Share<S>) -> Locked<S, R>
         requires history { node.history ≡ [] }
+        requires hub { node.hub ≡ new_hub }
         requires settings { node.core.settings ≡ S.settings }
         requires total { book.total ≡ 0 }
         requires parts { rest.parts ≡ 0 }

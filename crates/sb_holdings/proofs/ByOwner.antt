@@ -26,7 +26,7 @@ use Rattle.sb_types.specs.declared.fault.Fault.{Fault}
 use Rattle.sb_types.specs.Records.{Entry, Stage, Holder}
 use Rattle.sb_table.specs.Plain.{with_entry}
 use Rattle.sb_holdings.specs.Shown.{own, stage_beyond}
-use Rattle.sb_holdings.specs.Plain.{alone, held_of, IsKeptHolder, IsHoldings, is_from, each_shown, tables_from}
+use Rattle.sb_holdings.specs.Plain.{alone, held_of, IsKeptHolder, IsHoldings, is_from, each_shown, holders_from}
 use Rattle.sb_types.proofs.Texts.{same_text, text_same}
 use Rattle.sb_holdings.specs.Held.{Held, nothing, is_nothing, holder_of, with_holder, with_owner, written}
 use Rattle.sb_holdings.specs.Ends.{has_place}
@@ -270,19 +270,24 @@ from_start : (first : Option (List ℕ)) (bound : Bound (List ℕ)) → MatchOpt
 from_start None bound is owner = ap (λ (b : Bound (List ℕ)). range_contains by_text b Unbounded owner) is
 from_start (Some name) bound is owner = ap (λ (b : Bound (List ℕ)). range_contains by_text b Unbounded owner) is ∙ and-true _
 
-pub tables_from-held_of : (me : List ℕ) (holders : List (List ℕ × Holder)) → Rise holders → (first : Option (List ℕ)) → tables_from first (held_of me holders) ≡ each_shown (filter (λ p. is_from first p.0) holders)
-tables_from-held_of me holders up first = ap (λ (hs : List (List ℕ × Holder)). each_shown (filter (λ p. is_from first p.0) hs)) (entries-from me holders up)
+pub holders_from-held_of : (me : List ℕ) (holders : List (List ℕ × Holder)) → Rise holders → (first : Option (List ℕ)) → holders_from first (held_of me holders) ≡ filter (λ p. is_from first p.0) holders
+holders_from-held_of me holders up first = ap (λ (hs : List (List ℕ × Holder)). filter (λ p. is_from first p.0) hs) (entries-from me holders up)
 
-names-cond : (b : Bool) (p : List ℕ × Holder) (ps : List (List ℕ × Holder)) (names : List (List ℕ)) → keys_of (each_shown ps) ≡ names → keys_of (each_shown (cond b (p ∷ ps) ps)) ≡ cond b (p.0 ∷ names) names
+names-cond : (b : Bool) (p : List ℕ × Holder) (ps : List (List ℕ × Holder)) (names : List (List ℕ)) → keys_of ps ≡ names → keys_of (cond b (p ∷ ps) ps) ≡ cond b (p.0 ∷ names) names
 names-cond true p ps names e = ap (λ (rest : List (List ℕ)). p.0 ∷ rest) e
 names-cond false p ps names e = e
 
-names-filter : (test : List ℕ → Bool) (holders : List (List ℕ × Holder)) → keys_of (each_shown (filter (λ p. test p.0) holders)) ≡ filter test (keys_of holders)
+names-filter : (test : List ℕ → Bool) (holders : List (List ℕ × Holder)) → keys_of (filter (λ p. test p.0) holders) ≡ filter test (keys_of holders)
 names-filter test [] = refl
 names-filter test (p ∷ ps) = names-cond (test p.0) p (filter (λ p. test p.0) ps) _ (names-filter test ps)
 
-pub tables-rise : (test : List ℕ → Bool) (holders : List (List ℕ × Holder)) → Rise holders → IsStrictlySortedBy by_text (keys_of (each_shown (filter (λ p. test p.0) holders)))
-tables-rise test holders up = subst (IsStrictlySortedBy by_text) (sym (names-filter test holders)) (IsStrictlySortedBy-filter by_text test (keys_of holders) up)
+-- the names with the tables that are shown are those with what is held
+pub names-shown : (holders : List (List ℕ × Holder)) → keys_of (each_shown holders) ≡ keys_of holders
+names-shown [] = refl
+names-shown (p ∷ ps) = ap (λ (rest : List (List ℕ)). p.0 ∷ rest) (names-shown ps)
+
+pub holders-rise : (test : List ℕ → Bool) (holders : List (List ℕ × Holder)) → Rise holders → IsStrictlySortedBy by_text (keys_of (filter (λ p. test p.0) holders))
+holders-rise test holders up = subst (IsStrictlySortedBy by_text) (sym (names-filter test holders)) (IsStrictlySortedBy-filter by_text test (keys_of holders) up)
 
 pub entries_between-first : (first : Option (List ℕ)) (bound : Bound (List ℕ)) → MatchOption first (bound ≡ Unbounded) (λ name. bound ≡ Included name) → (holders : List (List ℕ × Holder)) →
     entries_between by_text bound Unbounded holders ≡ filter (λ p. is_from first p.0) holders

@@ -1,5 +1,5 @@
 -- What is held of all owners, where one owner's table is changed.
-use Rattle.std.proofs.Common.{◌≡◌, ℕ, ◌+◌, ◌≤◌, ◌<◌, ◌^◌, true, false, List, Option, Some, None, IfSome, is_some, unwrap_or, refl, sym, ap, ◌∙◌, nat_eq, arith, eqb-true}
+use Rattle.std.proofs.Common.{◌≡◌, ℕ, ◌+◌, ◌≤◌, ◌<◌, ◌^◌, true, List, Option, Some, None, IfSome, is_some, unwrap_or, refl, sym, ap, ◌∙◌, nat_eq, arith, eqb-true}
 use Rattle.std.proofs.lemmas.Bool.{and_parts, cond_both, cond-false, false_from_ne_true, false≢true, leb-true}
 use Rattle.std.proofs.lemmas.Cmp.{nat_list_cmp_total}
 use Rattle.std.specs.Ordering.{eq_by_cmp}
@@ -12,7 +12,6 @@ use Rattle.sb_types.specs.Writes.{IsHolder}
 use Rattle.sb_table.specs.Plain.{IsPlainTable}
 use Rattle.sb_table.proofs.Plain.{nothing_plain}
 use Rattle.sb_holdings.specs.Held.{Held, nothing, holder_of, shown_of, written}
-use Rattle.sb_holdings.specs.Shown.{own}
 use Rattle.sb_holdings.specs.Plain.{alone, IsKeptHolder, IsHoldings, next_version}
 use Rattle.sb_types.proofs.Texts.{same_text}
 use Rattle.sb_holdings.proofs.ByOwner.{by_text, some-there}

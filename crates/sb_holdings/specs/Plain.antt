@@ -58,10 +58,14 @@ abbrev pub is_from : Option (List ℕ) → List ℕ → Bool
 is_from None owner = true
 is_from (Some first) owner = is_le (slice_cmp nat_cmp first owner)
 
+-- the owners from the first on, each with what is held of it
+abbrev pub holders_from : Option (List ℕ) → Held → List (List ℕ × Holder)
+holders_from first held = filter (λ p. is_from first p.0) (entries held.owners)
+
 -- each owner with the table that is shown of it
 abbrev pub each_shown : List (List ℕ × Holder) → List (List ℕ × Table)
 each_shown holders = map (λ p. (p.0, p.1.shown)) holders
 
 -- the owners from the first on, each with its table
 abbrev pub tables_from : Option (List ℕ) → Held → List (List ℕ × Table)
-tables_from first held = each_shown (filter (λ p. is_from first p.0) (entries held.owners))
+tables_from first held = each_shown (holders_from first held)

@@ -20,7 +20,7 @@ use std::marker::Model;
 
 /// What is held of one owner: the table that is shown, and a stage of a floor above what is held, where one has begun.
 #[derive(Drop)]
-pub(crate) struct Holder {
+pub struct Holder {
     shown: Table,
     stage: Option<Stage>,
 }
@@ -59,7 +59,7 @@ impl Holder {
     }
 
     /// The table that is shown.
-    pub(crate) fn shown(&self) -> &Table
+    pub fn shown(&self) -> &Table
         ensures shown { result.now ≡ self.now.shown }
         ensures kept { IsKeptHolder self.now }
     {
@@ -67,7 +67,7 @@ impl Holder {
     }
 
     /// The floor of the stage and how far it has come, where there is one.
-    pub(crate) fn staged(&self) -> Option<(u64, u64)>
+    pub fn staged(&self) -> Option<(u64, u64)>
         ensures staged { result ≡ option_map (λ s. (s.floor, s.progress)) self.now.stage }
         ensures kept { IsKeptHolder self.now }
     {

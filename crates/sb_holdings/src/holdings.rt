@@ -12,14 +12,14 @@ ghost use Rattle.sb_types.specs.Faults.{Gives};
 ghost use Rattle.sb_types.specs.Runs.{IsRun};
 ghost use Rattle.sb_table.specs.Plain.{is_full_for};
 ghost use Rattle.sb_holdings.specs.Held.{holder_of, shown_of, nothing, with_owner, written, held_after_block};
-ghost use Rattle.sb_holdings.specs.Plain.{IsHoldings, alone, held_of, own_answer, table_of, tables_from};
+ghost use Rattle.sb_holdings.specs.Plain.{IsHoldings, alone, held_of, own_answer, table_of, holders_from, tables_from};
 ghost use Rattle.sb_holdings.specs.Taken.{holder_after_block};
 ghost use Rattle.sb_holdings.specs.Ends.{Fits};
 ghost use Rattle.sb_holdings.specs.Holders.{told, named, FitsHolder, FitsNew, own_end, Dropped};
 
 use crate::ends::BlockEnd;
 use crate::holder::Holder;
-use crate::owners::{Owners, Tables};
+use crate::owners::{Holders, Owners, Tables};
 use sb_table::Table;
 use sb_types::{Block, Entry, Fault, Key, Name, OWNERS_MOST};
 use std::alloc::Global;
@@ -146,9 +146,9 @@ impl Holdings {
         Owners::new(self.holders.keys())
     }
 
-    /// The owners from a name on, or all of them, in ascending order of their names, each with its table.
-    pub fn tables_from(&self, first: Option<&Name>) -> Tables<'_>
-        ensures tables { result ≡ tables_from (option_copied first.entry) self.now }
+    /// The owners from a name on, or all of them, in ascending order of their names, each with what is held of it.
+    pub fn holders_from(&self, first: Option<&Name>) -> Holders<'_>
+        ensures holders { result ≡ holders_from (option_copied first.entry) self.now }
         ensures ascending { IsStrictlySortedBy (slice_cmp nat_cmp) (keys_of result) }
         ensures holdings { IsHoldings self.now }
     {
@@ -156,7 +156,16 @@ impl Holdings {
             Some(name) => Bound::Included(*name),
             None => Bound::Unbounded,
         };
-        Tables::new(self.holders.range((start, Bound::Unbounded)))
+        Holders::new(self.holders.range((start, Bound::Unbounded)))
+    }
+
+    /// The same, each with its table.
+    pub fn tables_from(&self, first: Option<&Name>) -> Tables<'_>
+        ensures tables { result ≡ tables_from (option_copied first.entry) self.now }
+        ensures ascending { IsStrictlySortedBy (slice_cmp nat_cmp) (keys_of result) }
+        ensures holdings { IsHoldings self.now }
+    {
+        Tables::new(self.holders_from(first))
     }
 
     /// Enters an own write. `OutOfTurn` with the next own version, or 0 where there is none, unless the write

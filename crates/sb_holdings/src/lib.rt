@@ -28,6 +28,7 @@ mod report;
 
 pub use contents::{contents_grow, contents_hold, contents_purge, tables_are_contents};
 pub use ends::BlockEnd;
+pub use holder::Holder;
 pub use holdings::Holdings;
 pub use laws::{
     blocks_keep_truth, holdings_make_nodes, nodes_hold, nothing_goes_back, one_by_one, one_meaning,
@@ -37,6 +38,6 @@ pub use node_laws::{
     growing_keeps_truth, holders_are_found, joining_blocks_are_taken_up, opened_nodes_hold,
     runs_join,
 };
-pub use owners::{Owners, Tables};
+pub use owners::{Holders, Owners, Tables};
 pub use reading::reads_are_true;
 pub use report::Report;

@@ -47,10 +47,47 @@ impl<'a> Iterator for Owners<'a> {
 
 impl<'a> FusedIterator for Owners<'a> {}
 
+/// Owners with what is held of them, in ascending order of the names.
+#[derive(Drop)]
+pub struct Holders<'a> {
+    holders: Range<'a, Name, Holder>,
+}
+
+impl<'a> Model for Holders<'a> {
+    ghost use Rattle.std.specs.Prelude.{ℕ, List};
+    ghost use Rattle.sb_types.specs.Records as records;
+
+    ghost Value = { List (List ℕ × records.Holder) };
+
+    ghost view = { λ it. it.holders };
+}
+
+impl<'a> Holders<'a> {
+    pub(crate) fn new(holders: Range<'a, Name, Holder>) -> Holders<'a>
+        ensures { result ≡ holders.entry }
+    {
+        Holders { holders }
+    }
+}
+
+impl<'a> Iterator for Holders<'a> {
+    type Item = (&'a Name, &'a Holder);
+
+    ghost next_gives = { YieldsFirstBy deref_pair (λ it. it) };
+
+    ghost remaining = { item_count (λ it. it) };
+
+    fn next(&mut self) -> Option<(&'a Name, &'a Holder)> {
+        self.holders.next()
+    }
+}
+
+impl<'a> FusedIterator for Holders<'a> {}
+
 /// Owners with their tables, in ascending order of the names.
 #[derive(Drop)]
 pub struct Tables<'a> {
-    holders: Range<'a, Name, Holder>,
+    holders: Holders<'a>,
 }
 
 impl<'a> Model for Tables<'a> {
@@ -64,7 +101,7 @@ impl<'a> Model for Tables<'a> {
 }
 
 impl<'a> Tables<'a> {
-    pub(crate) fn new(holders: Range<'a, Name, Holder>) -> Tables<'a>
+    pub(crate) fn new(holders: Holders<'a>) -> Tables<'a>
         ensures { result ≡ each_shown holders.entry }
     {
         Tables { holders }

@@ -30,7 +30,8 @@ use Rattle.sb_log.proofs.Keeping.{found_in, same_fault, settles}
 
 -- ---- the content
 
-last_least : (last : ℕ) (es : List Entry) → are_ascending last es ≡ true → last ≤ last_version last es
+-- the last of ascending versions is the greatest
+pub last_least : (last : ℕ) (es : List Entry) → are_ascending last es ≡ true → last ≤ last_version last es
 last_least last [] up = omega arith
 last_least last (x ∷ xs) up =
     let parts = and_parts (nat_lt last x.version) (are_ascending x.version xs) up in omega (arith, ltb-true last x.version parts.0, last_least x.version xs parts.1)

@@ -1,14 +1,15 @@
 -- What was found where a log is opened.
-use Rattle.std.specs.Prelude.{IfOk, OnOk, slice_index_or, ◌==◌, true, false}
+use Rattle.std.specs.Prelude.{IfOk, IfErr, OnOk, slice_index_or, ◌==◌, true, false}
 use Rattle.std.proofs.Common.{◌≡◌, ◌⊎◌, inl, inr, true≢false, ℕ, ◌≤◌, ◌<◌, List, [], ◌∷◌, length, map, Result, Ok, Err, refl, sym, ap, subst, subst₂, ◌∙◌, arith, eqb-true, IsPermutation}
 use Rattle.std.proofs.lemmas.List.Sorted.{IsPermutation-sym, length_permutation}
 use Rattle.sqlite_value.specs.Order.{Row}
 use Rattle.sqlite.specs.Effect.{Database}
 use Rattle.sqlite.proofs.Callers.{one_permutation}
 use Rattle.sb_types.specs.declared.fault.Fault.{Fault}
+use Rattle.sb_types.specs.declared.fault.Fault.TheVariants.{WrongOwner}
 use Rattle.sb_types.specs.Records.{Table}
 use Rattle.sb_table.specs.Plain.{plain_table}
-use Rattle.sb_log.specs.Opening.{meta_cells, meta_row, meta_found, writes_found, IsForm, IsFormOf, IsNamedIn, IsNamed, IsSaid, IsMetaOf, IsRaised, IsCleared, SaysStill, Completes, Opens, Grows, Founds}
+use Rattle.sb_log.specs.Opening.{meta_cells, meta_row, meta_found, writes_found, IsForm, IsFormOf, IsNamedIn, IsNamed, IsSaid, IsMetaOf, IsOthers, NamesAnother, IsRaised, IsCleared, SaysStill, Completes, Opens, Grows, Founds, IsWant}
 use Rattle.sb_log.specs.Form.{log_schema, schema_with}
 use Rattle.sb_log.specs.declared.schema.Made.{Made}
 use Rattle.sb_log.specs.declared.schema.Made.TheVariants.{Neither, Meta, Both}
@@ -200,3 +201,48 @@ accepts_too owner cluster old mid read db all kept did =
       kept = subst₂ (λ (metas rows : List Row). IsRaised owner cluster metas rows db ⊎ IsCleared owner cluster metas rows db)
           (ap (λ (d : Database). d.trees 0) kept ∙ all.meta) (ap (λ (d : Database). d.trees 1) kept ∙ all.rows) did;
     }))
+
+first_length : List Row → ℕ
+first_length [] = 6
+first_length (row ∷ rows) = length row
+
+pub six_cells : (rows : List Row) (row : Row) → map meta_cells rows ≡ row ∷ [] → length row ≡ 6
+unfolding first_length
+six_cells [] row is = absurd (omega (arith, ap length is))
+six_cells (r ∷ rows) row is = sym (ap first_length is)
+
+module _ (owner cluster : List ℕ) (old mid : Database) (all : Completes old mid) where
+  -- the one row that is read was found
+  another : (row : Row) → map meta_cells (mid.trees 0) ≡ row ∷ [] → IsOthers owner cluster row → NamesAnother owner cluster old
+  another row is others = go all.made all.schema all.meta all.whole
+    where
+      go : (made : Made) → old.schema ≡ schema_with made → mid.trees 0 ≡ meta_found made old.trees → (made ≡ Meta → meta_found made old.trees ≡ [])
+          → NamesAnother owner cluster old
+      go Neither schema meta whole = absurd (omega (arith, ap length (sym is ∙ ap (map meta_cells) meta)))
+      go Meta schema meta whole = absurd (omega (arith, ap length (sym is ∙ ap (map meta_cells) (meta ∙ whole refl))))
+      go Both schema meta whole = record { schema = schema; row = row; is_row = ap (map meta_cells) (sym meta) ∙ is; others = others }
+
+  pub or_another : (row : Row) → map meta_cells (mid.trees 0) ≡ row ∷ [] → (result : Result Table Fault)
+      → IfErr result (λ fault. fault ≡ WrongOwner → IsOthers owner cluster row) → IfErr result (λ fault. fault ≡ WrongOwner → NamesAnother owner cluster old)
+  or_another row is (Ok t) others = tt
+  or_another row is (Err fault) others = λ called. another row is (others called)
+
+  -- the one row that was found is read
+  pub their_row : (names : NamesAnother owner cluster old) → map meta_cells (mid.trees 0) ≡ names.row ∷ []
+  their_row names =
+      ap (map meta_cells) (subst (λ (m : Made). mid.trees 0 ≡ meta_found m old.trees) (same_made all.made Both (sym all.schema ∙ names.schema)) all.meta) ∙ names.is_row
+
+  pub read_so : (names : NamesAnother owner cluster old) (row : Row) → map meta_cells (mid.trees 0) ≡ row ∷ [] → IsOthers owner cluster row
+  read_so names row has =
+      subst (IsOthers owner cluster) (ap (λ (xs : List Row). slice_index_or xs 0 []) (sym (their_row names) ∙ has)) names.others
+
+  pub not_unread : NamesAnother owner cluster old → (shown : List Row) → IsPermutation (map meta_cells (mid.trees 0)) shown → shown ≡ [] → ⊥
+  not_unread names shown same none =
+      omega (arith, ap length (their_row names), length_permutation (map meta_cells (mid.trees 0)) shown same, ap length none)
+
+  pub not_two : NamesAnother owner cluster old → (shown : List Row) → IsPermutation (map meta_cells (mid.trees 0)) shown → 2 ≤ length shown → ⊥
+  not_two names shown same two = omega (arith, ap length (their_row names), length_permutation (map meta_cells (mid.trees 0)) shown same, two)
+
+pub or_theirs : (result : Result Table Fault) → result ≡ Err WrongOwner → IfErr result (λ fault. (fault ≡ WrongOwner) ⊎ IsWant fault)
+or_theirs (Ok t) is = tt
+or_theirs (Err fault) is = inl (cc)

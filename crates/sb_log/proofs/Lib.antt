@@ -20,4 +20,4 @@ mod Contents
 mod Founding
 mod Whole
 mod Floors
-mod Beginning
+pub mod Beginning

@@ -1,5 +1,5 @@
 -- What a log's tables may hold where it is opened.
-use Rattle.std.specs.Prelude.{◌≡◌, ◌⊎◌, ℕ, pos, min, false, true, List, [], ◌∷◌, map}
+use Rattle.std.specs.Prelude.{◌≡◌, ◌≢◌, ◌⊎◌, ℕ, pos, min, false, true, List, [], ◌∷◌, map}
 use Rattle.sqlite_value.specs.declared.value.Value.TheVariants.{Int, Text}
 use Rattle.sqlite_value.specs.Order.{Row, column}
 use Rattle.sqlite_trees.specs.Tree.{Trees, rowid}
@@ -36,6 +36,10 @@ IsForm form = (form ≡ 1) ⊎ (form ≡ 2)
 abbrev pub IsFormOf : ℕ → Table → Type 0
 IsFormOf form content = ((form ≡ 1) × (has_texts content ≡ false)) ⊎ (form ≡ 2)
 
+-- a row of a form that is read names another owner or another cluster
+abbrev pub IsOthers : List ℕ → List ℕ → Row → Type 0
+IsOthers owner cluster row = (form : ℕ) × IsForm form × (column row 0 ≡ Int (pos 1)) × (column row 1 ≡ Int (pos form)) × ((column row 2 ≢ Text owner) ⊎ (column row 3 ≢ Text cluster))
+
 -- the same in a form that is read and has these entries, beside which both numbers can be said
 abbrev pub IsNamed : List ℕ → List ℕ → Table → ℕ → ℕ → List Row → Type 0
 IsNamed owner cluster table last floor rows = (form : ℕ) × IsFormOf form table × IsNamedIn form owner cluster last floor rows × CanSay last floor table.entries
@@ -69,6 +73,13 @@ pub record Opens (owner cluster : List ℕ) (found : Database) (content : Table)
   pub meta : IsMetaOf owner cluster table content (meta_found made found.trees)
   -- where the table of writes is missing, nothing says yet whose the log is
   pub whole : made ≡ Meta → meta_found made found.trees ≡ []
+
+-- a log's tables were found, whose one row names another owner or another cluster
+pub record NamesAnother (owner cluster : List ℕ) (found : Database) : Type 0 where
+  pub schema : found.schema ≡ log_schema
+  pub row : Row
+  pub is_row : map meta_cells (found.trees 0) ≡ row ∷ []
+  pub others : IsOthers owner cluster row
 
 -- the tables that are missing are made, empty, and the second only where nothing says yet whose the log is
 pub record Completes (found now : Database) : Type 0 where

@@ -1,5 +1,5 @@
 //! Opening a log's tables, and making those that are missing.
-ghost use Rattle.std.specs.Prelude.{◌≡◌, ◌≢◌, ◌≤◌, ◌⊎◌, ℕ, List, Ok, Err, Some, IfSome, pos, [], ◌∷◌, map, IfErr, IfOk, IsTrue, OnOk, IsOkAnd, false, true};
+ghost use Rattle.std.specs.Prelude.{◌≡◌, ◌≢◌, ◌≤◌, ◌⊎◌, ℕ, List, Ok, Err, Some, IfSome, pos, [], ◌∷◌, length, map, IfErr, IfOk, IsTrue, OnOk, IsOkAnd, false, true};
 ghost use Rattle.sqlite_value.specs.declared.value.Value.TheVariants.{Int, Text};
 ghost use Rattle.sqlite_value.specs.Order.{column};
 ghost use Rattle.sqlite_trees.specs.Tree.{Trees};
@@ -14,7 +14,7 @@ ghost use Rattle.sb_types.specs.Runs.{live};
 ghost use Rattle.sb_table.specs.Plain.{IsPlainTable, plain_table};
 ghost use Rattle.sb_table.specs.Contents.{IsContent};
 ghost use Rattle.sb_log.specs.Form.{no_schema, meta_schema, log_schema, schema_with};
-ghost use Rattle.sb_log.specs.Opening.{meta_cells, meta_row, meta_found, IsForm, IsFormOf, IsNamedIn, IsSaid, IsRaised, IsCleared, SaysStill, Completes, Opens, Grows, Founds, IsWant, IsOpeningFault};
+ghost use Rattle.sb_log.specs.Opening.{meta_cells, meta_row, meta_found, IsForm, IsFormOf, IsNamedIn, IsSaid, IsOthers, NamesAnother, IsRaised, IsCleared, SaysStill, Completes, Opens, Grows, Founds, IsWant, IsOpeningFault};
 ghost use Rattle.sb_log.specs.Rows.{last_in, floor_in, content_by, AreRowsOf, CanSay, Drops};
 ghost use Rattle.sb_log.specs.Standing.{HoldsContent, IsPrepared, IsReady};
 
@@ -55,6 +55,11 @@ pub(crate) fn open_tables<S: Alter>(
         → (state S.Store conn.old).may_leave db ⊎ Founds owner.now cluster.now (state S.Store conn.old).now db }
     // A log that is whole and the owner's is not refused.
     ensures whole { HasCleanDisk (state S.Store conn.new) → (t : records.Table) → Opens owner.now cluster.now (state S.Store conn.old).now t → IfErr result IsWant }
+    // It is called another's just where its row says so.
+    ensures others { HasCleanDisk (state S.Store conn.new)
+        → IfErr result (λ fault. fault ≡ Fault.WrongOwner → NamesAnother owner.now cluster.now (state S.Store conn.old).now) }
+    ensures theirs { HasCleanDisk (state S.Store conn.new) → NamesAnother owner.now cluster.now (state S.Store conn.old).now
+        → IfErr result (λ fault. (fault ≡ Fault.WrongOwner) ⊎ IsWant fault) }
     ensures clean { doubt (state S.Store conn.old).is_clean ≤ doubt (state S.Store conn.new).is_clean }
     ensures fault { IfErr result IsOpeningFault }
 {
@@ -90,7 +95,7 @@ fn open_new<S: Alter>(
     ensures whole { HasCleanDisk (state S.Store conn.new) → IsReady (state S.Store conn.old)
         → (t : records.Table) → AreRowsOf t ((state S.Store conn.old).now.trees 1) → t ≡ plain_table [] → IfErr result IsWant }
     ensures clean { doubt (state S.Store conn.old).is_clean ≤ doubt (state S.Store conn.new).is_clean }
-    ensures fault { IfErr result IsOpeningFault }
+    ensures fault { IfErr result (λ fault. (fault ≡ Fault.NoMemory) ⊎ ((fault ≡ Fault.StoreFailed) ⊎ (fault ≡ Fault.LogDamaged))) }
 {
     let table = read_table(conn, alloc)?;
     if !table.is_empty() {
@@ -131,6 +136,8 @@ fn open_old<S: Alter>(
         ⊎ IsCleared owner.now cluster.now ((state S.Store conn.old).now.trees 0) ((state S.Store conn.old).now.trees 1) db) }
     ensures whole { HasCleanDisk (state S.Store conn.new) → IsReady (state S.Store conn.old) → (form last floor : ℕ) → row.now ≡ meta_row form owner.now cluster.now last floor
         → (t : records.Table) → IsFormOf form t → CanSay last floor t.entries → AreRowsOf t ((state S.Store conn.old).now.trees 1) → IfErr result IsWant }
+    ensures others { IfErr result (λ fault. fault ≡ Fault.WrongOwner → IsOthers owner.now cluster.now row.now) }
+    ensures theirs { length row.now ≡ 6 → IsOthers owner.now cluster.now row.now → result ≡ Err Fault.WrongOwner }
     ensures clean { doubt (state S.Store conn.old).is_clean ≤ doubt (state S.Store conn.new).is_clean }
     ensures fault { IfErr result IsOpeningFault }
 {
@@ -160,7 +167,7 @@ fn read_whole<S: Alter>(conn: &mut Connection<S>, alloc: Global, form: u64) -> R
     ensures whole { HasCleanDisk (state S.Store conn.new) → IsReady (state S.Store conn.old)
         → (t : records.Table) → IsFormOf form t → AreRowsOf t ((state S.Store conn.old).now.trees 1) → IfErr result IsWant }
     ensures clean { doubt (state S.Store conn.old).is_clean ≤ doubt (state S.Store conn.new).is_clean }
-    ensures fault { IfErr result IsOpeningFault }
+    ensures fault { IfErr result (λ fault. (fault ≡ Fault.NoMemory) ⊎ ((fault ≡ Fault.StoreFailed) ⊎ (fault ≡ Fault.LogDamaged))) }
 {
     let table = read_table(conn, alloc)?;
     if !is_form_of(form, &table) {
@@ -330,9 +337,8 @@ fn test_meta(row: &Row, owner: &Name, cluster: &Name) -> Result<Meta, Fault>
     ensures form { IfOk result (λ meta. IsForm meta.form) }
     ensures whole { (form last floor : ℕ) → IsForm form → row.now ≡ meta_row form owner.now cluster.now last floor
         → IsOkAnd result (λ meta. (meta.form ≡ form) × ((meta.last ≡ last) × (meta.floor ≡ floor))) }
-    ensures others { IfErr result (λ fault. fault ≡ Fault.WrongOwner
-        → (form : ℕ) × IsForm form × (column row.now 0 ≡ Int (pos 1)) × (column row.now 1 ≡ Int (pos form))
-        × ((column row.now 2 ≢ Text owner.now) ⊎ (column row.now 3 ≢ Text cluster.now))) }
+    ensures others { IfErr result (λ fault. fault ≡ Fault.WrongOwner → IsOthers owner.now cluster.now row.now) }
+    ensures theirs { length row.now ≡ 6 → IsOthers owner.now cluster.now row.now → result ≡ Err Fault.WrongOwner }
     ensures fault { IfErr result (λ fault. (fault ≡ Fault.LogDamaged) ⊎ (fault ≡ Fault.WrongOwner)) }
 {
     if row.column_count() != 6 {

@@ -5,7 +5,7 @@ ghost use Rattle.sqlite_trees.specs.View.{doubt};
 ghost use Rattle.sqlite.specs.Held.{state};
 ghost use Rattle.sqlite.specs.State.{HasCleanDisk};
 ghost use Rattle.sb_types.specs.Records as records;
-ghost use Rattle.sb_log.specs.Opening.{Opens, SaysStill, Completes, Founds, IsWant, IsOpeningFault, IsOpenedAs};
+ghost use Rattle.sb_log.specs.Opening.{Opens, NamesAnother, SaysStill, Completes, Founds, IsWant, IsOpeningFault, IsOpenedAs};
 ghost use Rattle.sb_log.specs.Puts.{Begins, BeginSurvives, Purges, PurgeSurvives, IsSettled, IsSure};
 ghost use Rattle.sb_log.specs.Sql.{log_in};
 ghost use Rattle.sb_log.specs.Standing.{HoldsContent, MayLeave};
@@ -83,6 +83,10 @@ impl<S: Alter + Drop> SqlLog<S> {
         ensures settled { IfOk result (λ l. IsSettled (log_in S.Store l) (MayLeave S.Store owner cluster l.conn)) }
         ensures whole { (t : records.Table) → Opens owner cluster (state S.Store conn).now t
             → IfErr result (λ refused. HasCleanDisk (state S.Store refused.1) → IsWant refused.0) }
+        ensures others { IfErr result (λ refused. HasCleanDisk (state S.Store refused.1) → refused.0 ≡ Fault.WrongOwner
+            → NamesAnother owner cluster (state S.Store conn).now) }
+        ensures theirs { NamesAnother owner cluster (state S.Store conn).now
+            → IfErr result (λ refused. HasCleanDisk (state S.Store refused.1) → (refused.0 ≡ Fault.WrongOwner) ⊎ IsWant refused.0) }
         ensures refused { IfErr result (λ refused. HasCleanDisk (state S.Store refused.1) → refused.0 ≢ Fault.StoreFailed
             → ((state S.Store refused.1).now ≡ (state S.Store conn).now) ⊎ Completes (state S.Store conn).now (state S.Store refused.1).now) }
         ensures crash { IfErr result (λ refused. HasCleanDisk (state S.Store refused.1) → (db : Trees) → (state S.Store refused.1).may_leave db

@@ -2,7 +2,8 @@
 //! call fails too.
 use crate::disks::{Calls, ENDLESS, new_disks, whole_copy};
 use crate::visits::{
-    LogVisit, Looking, OWN, Opening, log_in_memory, log_on_disks, numbers_on_disks, rows_on_disks,
+    LogVisit, Looking, OWN, Opening, Reaching, log_in_memory, log_on_disks, numbers_on_disks,
+    rows_on_disks,
 };
 use crate::writes::{Answer, Reach, reach, remove, set, settled};
 use crate::{got, same, same_at};
@@ -46,18 +47,6 @@ impl LogVisit for GoingOn {
         same(rt, &reach(rt, alloc, &mut log), &(1, 9, 7));
         same(rt, &log.purge(9), &Ok(()));
         same(rt, &reach(rt, alloc, &mut log), &(0, 9, 9));
-    }
-}
-
-/// What a log holds.
-#[derive(Drop)]
-struct Reaching;
-
-impl LogVisit for Reaching {
-    type Outcome = Reach;
-
-    fn visit<L: WriteLog + Drop>(self, rt: &impl Abort, alloc: Global, mut log: L) -> Reach {
-        reach(rt, alloc, &mut log)
     }
 }
 

@@ -2,10 +2,10 @@
 use crate::database::{META, OWNERS, WRITES};
 use crate::disks::{ENDLESS, new_disks};
 use crate::visits::{
-    LogVisit, OWN, Opening, log_in_memory, log_on_disks, numbers_on_disks, rows_on_disks,
+    LogVisit, OWN, Opening, Reaching, log_in_memory, log_on_disks, numbers_on_disks, rows_on_disks,
     run_on_disks,
 };
-use crate::writes::{Answer, CLUSTER, OWNER, Reach, fill, key, name, reach, remove, set, settled};
+use crate::writes::{Answer, CLUSTER, OWNER, fill, key, name, reach, remove, set, settled};
 use crate::{got, same};
 use sb_log::{PlainLog, WriteLog};
 use sb_types::{Fault, KEYS_MOST};
@@ -80,18 +80,6 @@ impl LogVisit for Purging {
 
     fn visit<L: WriteLog + Drop>(self, rt: &impl Abort, alloc: Global, mut log: L) {
         is_purged(rt, alloc, &mut log);
-    }
-}
-
-/// What such a log holds when it is opened again.
-#[derive(Drop)]
-struct Reaching;
-
-impl LogVisit for Reaching {
-    type Outcome = Reach;
-
-    fn visit<L: WriteLog + Drop>(self, rt: &impl Abort, alloc: Global, mut log: L) -> Reach {
-        reach(rt, alloc, &mut log)
     }
 }
 

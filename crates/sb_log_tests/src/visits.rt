@@ -1,6 +1,6 @@
 //! A log that is opened in a database, in memory alone or over two disks, and what is done with it there.
 use crate::disks::{Calls, DatabaseVisit, ENDLESS, in_memory, on_disks};
-use crate::writes::{CLUSTER, OWNER, name};
+use crate::writes::{CLUSTER, OWNER, Reach, name, reach};
 use crate::{got, same};
 use sb_log::{SqlLog, WriteLog};
 use sb_types::Fault;
@@ -42,6 +42,18 @@ impl LogVisit for Looking {
     type Outcome = ();
 
     fn visit<L: WriteLog + Drop>(self, _: &impl Abort, _: Global, _log: L) {}
+}
+
+/// What a log holds.
+#[derive(Drop)]
+pub struct Reaching;
+
+impl LogVisit for Reaching {
+    type Outcome = Reach;
+
+    fn visit<L: WriteLog + Drop>(self, rt: &impl Abort, alloc: Global, mut log: L) -> Reach {
+        reach(rt, alloc, &mut log)
+    }
 }
 
 // It has no clause, so that the proof of a test does not carry the state of each call.

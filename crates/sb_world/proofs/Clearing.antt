@@ -1,5 +1,5 @@
 -- Writes that lead on from any to a log of nothing: each value is removed, and then the log is purged.
-use Rattle.std.proofs.Common.{◌≡◌, ℕ, zero, suc, ◌+◌, ◌-◌, ◌≤◌, Bool, true, false, not, ◌&&◌, ◌||◌, cond, List, [], ◌∷◌, ◌++◌, filter, length, Ok, refl, sym, ap, ap₂, subst, ◌∙◌, arith, nat_eq, nat_lt, ltb-true, length-append, append-nil, append_assoc}
+use Rattle.std.proofs.Common.{◌≡◌, ℕ, zero, suc, ◌+◌, ◌-◌, ◌≤◌, Bool, true, false, not, ◌&&◌, ◌||◌, cond, List, [], ◌∷◌, ◌++◌, filter, length, Ok, refl, sym, ap, ap₂, subst, ◌∙◌, arith, nat_eq, nat_lt, length-append, append-nil, append_assoc}
 use Rattle.std.proofs.lemmas.Bool.{and_parts, cond-false}
 use Rattle.std.proofs.lemmas.Bool.Decides.{nat_tests}
 use Rattle.std.proofs.lemmas.List.Elements.{filter-append, filter_agree}
@@ -17,6 +17,7 @@ use Rattle.sb_holdings.proofs.Entering.{filter-filter}
 use Rattle.sb_holdings.proofs.Growing.{content-grown_from, content-purged}
 use Rattle.sb_log.specs.Records.{Log}
 use Rattle.sb_log.specs.Puts.{Begins, nothing_up_to}
+use Rattle.sb_log.proofs.Beginning.{last_least}
 
 -- the entries that have a value
 values : List Entry → List Entry
@@ -26,11 +27,6 @@ values-live : (floor : ℕ) (es : List Entry) → values (live floor es) ≡ val
 unfolding values
 values-live floor [] = refl
 values-live floor (x ∷ xs) = grind (arith, values-live floor xs)
-
-last_least : (last : ℕ) (es : List Entry) → are_ascending last es ≡ true → last ≤ last_version last es
-last_least last [] up = omega arith
-last_least last (x ∷ xs) up =
-    let parts = and_parts (nat_lt last x.version) (are_ascending x.version xs) up in omega (arith, ltb-true last x.version parts.0, last_least x.version xs parts.1)
 
 -- of entries up to a floor only those with a value are live
 live-values : (floor last : ℕ) (es : List Entry) → are_ascending last es ≡ true → last_version last es ≤ floor → live floor es ≡ values es

@@ -9,5 +9,5 @@ invariant-loop-owner l = record {
   budget : l.front.budget ≡ l.fn.budget;
   from : l.front.from ≡ l.fn.from;
   front : IsDigestBuilder l.front;
-  pairs : l.front.pairs ++ map (pair_of l.fn.holdings) l.owner-iterator ≡ pairs_from l.fn.from l.fn.holdings;
+  pairs : l.front.pairs ++ map pair_of l.owner-iterator ≡ pairs_from l.fn.from l.fn.holdings;
 }

@@ -1,9 +1,11 @@
 use Rattle.std.proofs.Common.{map, inl, inr, sym, ap, ◌∙◌}
+use Rattle.std.proofs.lemmas.Result.{err_from_is_err_and}
 use Rattle.sqlite.specs.Effect.{Database}
 use Rattle.sqlite.specs.Held.{state}
 use Rattle.sqlite.specs.State.{HasCleanDisk}
 use Rattle.sb_log.specs.Opening.{meta_cells}
-use Rattle.sb_log.proofs.Founding.{was_clean, no_item, one_item, none_mapped, one_mapped, opens_new, opens_old, holds_new, or_grows, names_too, accepts_too, still_new, still_old, still_rows, still_empty, still_named, never_more}
+use Rattle.sb_log.specs.declared.schema.Made.TheVariants.{Both}
+use Rattle.sb_log.proofs.Founding.{was_clean, no_item, one_item, none_mapped, one_mapped, opens_new, opens_old, holds_new, or_grows, names_too, accepts_too, still_new, still_old, still_rows, still_empty, still_named, never_more, six_cells, or_another, read_so, not_unread, not_two, or_theirs}
 use Rattle.sb_log.proofs.opening.open_tables.Goals as goal
 
 pub returns-in-empty-clause-opens : goal.returns-in-empty-clause-opens
@@ -180,3 +182,57 @@ returns-clause-whole g c clean t opens =
     let completes = c.in_ok-make_tables.ensures.completes clean1 in
     absurd (never_more c.args.owner.now c.args.cluster.now old.now mid.now t completes opens c.in_ok-found.found.items (c.in_ok-found.ensures.rows clean prepared)
     (rw c.as_slice.ensures.value at c.in_default.len_at_least))
+
+pub returns-in-len1-clause-others : goal.returns-in-len1-clause-others
+returns-in-len1-clause-others g c clean =
+    let old = state g.S.Store c.args.conn.now in
+    let mid = state g.S.Store c.make_tables.new.conn in
+    let read = state g.S.Store c.read_meta.new.conn in
+    let clean2 : HasCleanDisk read = was_clean _ _ clean c.open_old.ensures.clean in
+    let clean1 : HasCleanDisk mid = was_clean _ _ clean2 c.read_meta.ensures.clean in
+    let prepared = c.in_ok-make_tables.ensures.prepared clean1 in
+    let completes = c.in_ok-make_tables.ensures.completes clean1 in
+    let one = sym c.as_slice.ensures.value ∙ one_item c.as_slice.result.now c.row-item.result c.in-len1.len_at_least c.in-len1.len_below c.row-item.is in
+    let has = one_mapped (mid.now.trees 0) c.in_ok-found.found.items c.row-item.result (c.in_ok-found.ensures.rows clean2 prepared) one in
+    or_another c.args.owner.now c.args.cluster.now old.now mid.now completes c.row-item.result has c.open_old.result c.open_old.ensures.others
+
+pub returns-in-len1-clause-theirs : goal.returns-in-len1-clause-theirs
+returns-in-len1-clause-theirs g c clean names =
+    let old = state g.S.Store c.args.conn.now in
+    let mid = state g.S.Store c.make_tables.new.conn in
+    let read = state g.S.Store c.read_meta.new.conn in
+    let clean2 : HasCleanDisk read = was_clean _ _ clean c.open_old.ensures.clean in
+    let clean1 : HasCleanDisk mid = was_clean _ _ clean2 c.read_meta.ensures.clean in
+    let prepared = c.in_ok-make_tables.ensures.prepared clean1 in
+    let completes = c.in_ok-make_tables.ensures.completes clean1 in
+    let one = sym c.as_slice.ensures.value ∙ one_item c.as_slice.result.now c.row-item.result c.in-len1.len_at_least c.in-len1.len_below c.row-item.is in
+    let has = one_mapped (mid.now.trees 0) c.in_ok-found.found.items c.row-item.result (c.in_ok-found.ensures.rows clean2 prepared) one in
+    or_theirs c.open_old.result (c.open_old.ensures.theirs (six_cells (mid.now.trees 0) c.row-item.result has)
+    (read_so c.args.owner.now c.args.cluster.now old.now mid.now completes names c.row-item.result has))
+
+pub returns-in-empty-clause-theirs : goal.returns-in-empty-clause-theirs
+returns-in-empty-clause-theirs g c clean names =
+    let old = state g.S.Store c.args.conn.now in
+    let mid = state g.S.Store c.make_tables.new.conn in
+    let read = state g.S.Store c.read_meta.new.conn in
+    let clean2 : HasCleanDisk read = was_clean _ _ clean c.open_new.ensures.clean in
+    let clean1 : HasCleanDisk mid = was_clean _ _ clean2 c.read_meta.ensures.clean in
+    let prepared = c.in_ok-make_tables.ensures.prepared clean1 in
+    let completes = c.in_ok-make_tables.ensures.completes clean1 in
+    let none = no_item c.in_ok-found.found.items (rw c.as_slice.ensures.value at c.in-empty.len_below) in
+    absurd (not_unread c.args.owner.now c.args.cluster.now old.now mid.now completes names c.in_ok-found.found.items (c.in_ok-found.ensures.rows clean2 prepared) none)
+
+pub returns-clause-theirs : goal.returns-clause-theirs
+returns-clause-theirs g c clean names =
+    let old = state g.S.Store c.args.conn.now in
+    let mid = state g.S.Store c.make_tables.new.conn in
+    let clean1 : HasCleanDisk mid = was_clean _ _ clean c.read_meta.ensures.clean in
+    let prepared = c.in_ok-make_tables.ensures.prepared clean1 in
+    let completes = c.in_ok-make_tables.ensures.completes clean1 in
+    absurd (not_two c.args.owner.now c.args.cluster.now old.now mid.now completes names c.in_ok-found.found.items (c.in_ok-found.ensures.rows clean prepared)
+    (rw c.as_slice.ensures.value at c.in_default.len_at_least))
+
+pub returns-in_err-make_tables-clause-theirs : goal.returns-in_err-make_tables-clause-theirs
+returns-in_err-make_tables-clause-theirs g c clean names =
+    let p = err_from_is_err_and c.from_residual.result c.from_residual.ensures.1 in
+    rw (p.1, p.2) (inr (inr (c.in_err-make_tables.ensures.whole clean Both names.schema (λ is. absurd (cc)))))

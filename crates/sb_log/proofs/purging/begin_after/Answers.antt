@@ -1,4 +1,3 @@
-use Rattle.std.proofs.Common.{refl}
 use Rattle.sqlite.specs.Held.{state}
 use Rattle.sb_log.proofs.Beginning.{begins_by}
 use Rattle.sb_log.proofs.purging.begin_after.Goals as goal
