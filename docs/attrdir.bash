@@ -12,7 +12,7 @@ _attrdir() {
       continue
     elif [[ $value_of ]]; then
       value_of=''
-    elif [[ $it == --explain || $it == --log-time || $it == --all || $it == --value || $it == --mark || $it == --retry || $it == --help || $it == --version || $it == -h || $it == -V || $it == -- ]]; then
+    elif [[ $it == --explain || $it == --log-time || $it == --all || $it == --value || $it == --raw || $it == --mark || $it == --retry || $it == --help || $it == --version || $it == -h || $it == -V || $it == -- ]]; then
       :
     elif [[ $it == --* ]]; then
       value_of=$it
@@ -62,6 +62,7 @@ _attrdir() {
     purge) options='--log --name --cluster --all --help' ;;
     begin) options='--log --name --cluster --after --from --help' ;;
     sim) options='--explain --help' ;;
+    help) options='serve set del get watch owners log purge begin sim' ;;
   esac
 
   if [[ $word != -* ]]; then

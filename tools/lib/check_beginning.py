@@ -118,6 +118,10 @@ def ended_name(check):
     away.awaits("that its rows go", lambda found: found == ["b kept 1 weight 7"])
     owners = run(check.program, "owners", "--sock", str(peer.sock), "--cluster", "c")[1]
     want("how far the name is held", owners, "b 1\nold 5000\n")
+    ended.log.unlink()
+    want("what begin prints of the greatest version", begin(check, ended, "--after", GREATEST)[:2], (0, f"begun {GREATEST}\n"))
+    want("its end", ended.start().ended()[0], 0)
+    want_fault("a log for which no version is left", begin(check, ended, "--from", peer.sock, log=ended.log.with_name("none.log")), 5, "1,048,576 more")
 
 
 def written_back(node, lines):

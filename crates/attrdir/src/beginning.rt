@@ -17,6 +17,14 @@ pub(crate) enum Start<'a> {
     From(&'a str),
 }
 
+/// A version within the limits. `BadSetting` at this place.
+fn within_limits<'a>(version: u64, place: Place<'a>) -> Result<u64, Failure<'a>> {
+    if version == 0 || version > VERSION_MOST {
+        return Err(Failure::at(place, Fault::BadSetting));
+    }
+    Ok(version)
+}
+
 /// The version that is meant. `BadSetting` outside the limits; the faults of `ask_greatest`.
 fn version_of<'a>(
     rt: &HostRuntime,
@@ -24,14 +32,13 @@ fn version_of<'a>(
     owner: Name,
     cluster: Name,
 ) -> Result<u64, Failure<'a>> {
-    let version = match start {
-        Start::After(version) => version,
-        Start::From(sock) => ask_greatest(rt, sock, cluster, owner)?.saturating_add(UNHEARD_MOST),
-    };
-    if version == 0 || version > VERSION_MOST {
-        return Err(Failure::at(Place::Setting(Setting::After), Fault::BadSetting));
+    match start {
+        Start::After(version) => within_limits(version, Place::Setting(Setting::After)),
+        Start::From(sock) => {
+            let heard = ask_greatest(rt, sock, cluster, owner)?;
+            within_limits(heard.saturating_add(UNHEARD_MOST), Place::Heard(sock))
+        }
     }
-    Ok(version)
 }
 
 /// Prints behind which version a log began, and warns where there is none behind it. `WriteFailed`.

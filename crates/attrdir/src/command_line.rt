@@ -191,7 +191,7 @@ fn write<'a>(rt: &HostRuntime, control: &'a str, key: Key, slot: Slot) -> Result
 /// Says what `set` wants behind a key.
 fn tell_lacking(rt: &HostRuntime) -> u8 {
     let _ = eprintln!(rt;
-        "error: KEY wants a KIND and a VALUE behind it; - alone reads lines of standard input"
+        "error: KEY wants a KIND and a VALUE behind it; - alone, without --raw, reads lines of standard input"
     );
     USAGE_STATUS
 }
@@ -217,7 +217,7 @@ fn run_set<'a>(rt: &HostRuntime, given: &ArgMatches<'a>) -> Result<u8, Failure<'
             let written = written_of(rt.alloc(), given, kind, word)?;
             write(rt, control, key, Slot::Set(written))
         }
-        (None, None) if key == LINES => {
+        (None, None) if key == LINES && !given.get_flag("raw") => {
             write_lines(rt, control)?;
             Ok(0)
         }

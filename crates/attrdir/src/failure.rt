@@ -51,6 +51,8 @@ pub(crate) enum Place<'a> {
     Value(&'a str, &'a str),
     /// In a setting.
     Setting(Setting),
+    /// In the version that the node behind a socket for peers heard of.
+    Heard(&'a str),
     /// At the file of a log.
     Log(&'a str),
     /// At the file of a log, which is not there.
@@ -229,7 +231,7 @@ fn about_store(place: Place<'_>) -> &'static str {
             "see that it is a file that you may read and write, as the user that made it, and that the process may open more files (ulimit -n)"
         }
         Place::LockedLog(_) => {
-            "a node that runs has it open: end that node first, or ask it at its control socket, as with get and status"
+            "a process has it open, as a node that runs: end that first; to read what the node has, use get at its control socket"
         }
         Place::Node(_) => {
             "the node could not write its log, and takes no more writes: see that its disk has room and works, and start it again"
@@ -278,10 +280,22 @@ fn about_exchange(fault: &Fault, place: Place<'_>) -> &'static str {
     }
 }
 
+fn about_value(place: Place<'_>) -> &'static str {
+    match place {
+        Place::Value("text", _) =>
+            "a text has 1 to 512 bytes; write a backslash as \\5c and a newline as \\0a, or give --raw",
+        _ => "give a kind and a word, as: addr 10.0.0.1:80, weight 5, flag true, text 'zone b'",
+    }
+}
+
 /// What to do about a setting that is outside its limits.
 fn about_setting(place: Place<'_>) -> &'static str {
     match place {
         Place::Setting(setting) => setting.limits(),
+        Place::Heard(_) => {
+            "the version that this node heard of, and 1,048,576 more, is above 1099511627775: give --after, at least 4,096 above the last version; \
+where there is no room, end the name by --after 1099511627775, and take a new one"
+        }
         _ => {
             "--cluster is a name, --budget 1024 to 65536, --max-version 1 to 1099511627775, --workers 1 to 62, and --seats from the \
 workers and 2 more up to 64"
@@ -328,8 +342,7 @@ fn about_fault(fault: &Fault, place: Place<'_>) -> &'static str {
             "end other programs, or give the machine or the process more memory or threads, and try again",
         Fault::BadName => "give 1 to 32 lower-case letters, digits and -",
         Fault::BadKey => "give at most 64 lower-case letters, digits and the signs . _ / -",
-        Fault::BadValue =>
-            "give a kind and a word, as: addr 10.0.0.1:80, weight 5, flag true, text 'zone b'",
+        Fault::BadValue => about_value(place),
         Fault::BadSetting => about_setting(place),
         Fault::TableFull => {
             "a removed key counts until its removal is purged: start the node again with --purge-removals 1; else write under keys that it has"
@@ -351,7 +364,8 @@ fn about_session(fault: &Fault) -> &'static str {
         Fault::SameName =>
             "the node has this very name: give another --name; for `begin` end that node, and ask another one",
         Fault::NothingThere =>
-            "give the --sock of a node that heard of it, or --after; a name that never wrote needs no more than an empty file",
+            "a node that was started since has forgotten it: give the --sock of one that runs for longer, or --after; only a name that never \
+wrote needs no more than an empty file",
         Fault::ReadFailed | Fault::WriteFailed(_) | Fault::Truncated => {
             "the node ended the session, or fell silent: see whether it runs, and try again"
         }
@@ -387,6 +401,7 @@ impl fmt::Display for Place<'_> {
                 write!(f, "control socket {path}: ")
             }
             Place::NoPeer(path)
+            | Place::Heard(path)
             | Place::Session(path)
             | Place::Taken(path)
             | Place::Listening(path)

@@ -196,12 +196,13 @@ that each byte 00 to 1f, 7f and \\ is a \\ and two digits, as \\0a and \\5c. Wit
 with -, put -- before KEY. The node answers when its log has the write, and this prints `version V`. Other nodes have it once they asked, as
 is seen by `get` there.
 
-With - alone it reads lines `KEY KIND VALUE` and `KEY removed` from standard input, with one space between two words (a text is all behind its kind), and makes the write of
+With - alone, and no --raw, it reads lines `KEY KIND VALUE` and `KEY removed` from standard input, with one space between two words (a text is all behind its kind), and makes the write of
 each as it comes, one after the other: other writes may come between them. It prints the version of each. An empty line is passed over. The
 first fault ends it, and says the number of its line; the writes of the lines before stand.
 
 A fault ends the command, with `fault N`, its text and what to do about it on standard error: 1 no memory, 3 the key, 4 the value, 6
-the node has 4,096 keys, removed ones counted (see --purge-removals of serve), 8 it has no version left, 10 to 14 what answers is no control socket, 15 its log met
+the node has 4,096 keys, removed ones counted (see --purge-removals of serve), 8 it has no version left, 9 nothing stands under a key that a
+line removes, 10 to 14 what answers is no control socket, 15 its log met
 a fault before, 16 no node answers, or it is silent for a minute, 17 the request or the answer cannot be written, 18 its log cannot be
 written, 21 another node writes under its name, 28 it ended before it answered, 29 the answer takes more than 65,536 reads.
 

@@ -101,6 +101,7 @@ pub(crate) fn open_log<'a>(
 ) -> Result<FileLog, Failure<'a>> {
     if let Err(error) = fs::File::open(rt, path) {
         let place = match error.kind() {
+            ErrorKind::NotFound if !has_folder(rt, path) => Place::NoLogFolder(path),
             ErrorKind::NotFound => Place::NoLog(path),
             _ => Place::UnreadableLog(path),
         };
