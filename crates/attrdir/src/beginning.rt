@@ -1,4 +1,8 @@
 //! The log of a name whose log is lost, or that is to end.
+ghost use Rattle.std.specs.Prelude.{◌≡◌, ◌≤◌, IfOk, Ok, Err};
+ghost use Rattle.sb_types.specs.declared.limits.TheConstants.{VERSION_MOST};
+ghost use Rattle.attrdir.specs.Beginning as spec;
+
 use crate::failure::{Failure, Place, Setting};
 use crate::log_file::make_log;
 use crate::owners::ask_greatest;
@@ -18,7 +22,11 @@ pub(crate) enum Start<'a> {
 }
 
 /// A version within the limits. `BadSetting` at this place.
-fn within_limits<'a>(version: u64, place: Place<'a>) -> Result<u64, Failure<'a>> {
+fn within_limits<'a>(version: u64, place: Place<'a>) -> Result<u64, Failure<'a>>
+    ensures given { IfOk result (λ v. v ≡ version) }
+    ensures limits { IfOk result spec.IsWithinLimits }
+    ensures every { spec.IsWithinLimits version → result ≡ Ok version }
+{
     if version == 0 || version > VERSION_MOST {
         return Err(Failure::at(place, Fault::BadSetting));
     }
@@ -31,7 +39,10 @@ fn version_of<'a>(
     start: Start<'a>,
     owner: Name,
     cluster: Name,
-) -> Result<u64, Failure<'a>> {
+) -> Result<u64, Failure<'a>>
+    ensures meant { IfOk result (spec.IsMeant start) }
+    ensures limits { IfOk result spec.IsWithinLimits }
+{
     match start {
         Start::After(version) => within_limits(version, Place::Setting(Setting::After)),
         Start::From(sock) => {

@@ -5,7 +5,7 @@ use crate::beginning::{Start, begin_log};
 use crate::commands::command;
 use crate::failure::Failure;
 use crate::log_file::{Floor, print_log, purge_log};
-use crate::one_row::{Wanted, print_one};
+use crate::one_row::{Portion, Wanted, print_one};
 use crate::owners::print_owners;
 use crate::serving::Given;
 use crate::watching::{Watched, watch, watch_on};
@@ -249,6 +249,17 @@ fn asked_of<'a>(given: &ArgMatches<'a>) -> Result<Ask, Failure<'a>> {
     })
 }
 
+/// How much of the row of one key is printed.
+fn portion_of(given: &ArgMatches<'_>, form: Form) -> Portion {
+    if given.get_flag("raw") {
+        Portion::RawValue
+    } else if given.get_flag("value") {
+        Portion::Value
+    } else {
+        Portion::Row(form)
+    }
+}
+
 /// Prints the row of one key, and says whether there is one.
 fn run_get_one<'a>(
     rt: &HostRuntime,
@@ -259,11 +270,7 @@ fn run_get_one<'a>(
     let wanted = Wanted {
         owner: name_of("--owner", value(given, "owner"))?,
         key: key_of(key)?,
-        form: if given.get_flag("value") {
-            None
-        } else {
-            Some(form)
-        },
+        portion: portion_of(given, form),
     };
     if print_one(rt, value(given, "control"), &wanted)? {
         Ok(0)

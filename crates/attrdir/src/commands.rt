@@ -12,6 +12,8 @@ enum Form {
     Words,
     /// An option without a value.
     Flag,
+    /// An option without a value, only beside this option.
+    FlagOf(&'static str),
     /// A word that may be left out.
     WordOrNone,
     /// A number that may be left out.
@@ -124,6 +126,13 @@ const VALUE_ALONE: Part = Part {
     form: Form::FlagBeside("key", "format"),
     value: "",
     help: "Prints the value alone; it wants --key",
+};
+
+const RAW_VALUE: Part = Part {
+    name: "raw",
+    form: Form::FlagOf("value"),
+    value: "",
+    help: "Prints a text as it is, not as it is spelled; it wants --value",
 };
 
 const FORMAT: Part = Part {
@@ -441,7 +450,15 @@ const GET_TASK: Task = Task {
     name: "get",
     about: "Prints what a node has, its own and what it heard of others",
     more: help::GET,
-    parts: &[CONTROL, OWNER, PREFIX, ONE_KEY, VALUE_ALONE, FORMAT],
+    parts: &[
+        CONTROL,
+        OWNER,
+        PREFIX,
+        ONE_KEY,
+        VALUE_ALONE,
+        RAW_VALUE,
+        FORMAT,
+    ],
 };
 
 const WATCH_TASK: Task = Task {
@@ -544,6 +561,7 @@ fn arg_of<'a>(
             .action(ArgAction::Set)
             .value_parser(value_parser!(u64)),
         Form::Flag => flag(alloc, part),
+        Form::FlagOf(beside) => flag(alloc, part).requires_arg(beside)?,
         Form::Needed => option(alloc, part).required(true),
         Form::Control => control(alloc, part, fallback),
         Form::Value => option(alloc, part),

@@ -147,8 +147,9 @@ pub(crate) fn print_log<'a>(
 /// Drops the removals of a log up to a version, and prints that version. The faults of `load`, where the version is the last; then
 /// those of `purge_run`.
 fn purge_to<L: WriteLog>(rt: &HostRuntime, log: &mut L, floor: Floor) -> Result<(), Fault>
-    ensures { OnOk result ((L.seen log.new).is_clean ≡ true
+    ensures purges { OnOk result ((L.seen log.new).is_clean ≡ true
         → (L.seen log.new).content ≡ purged (spec.floor_of floor (L.seen log.old).content) (L.seen log.old).content) }
+    ensures result { spec.PurgesTo floor (L.seen log.old) result (L.seen log.new) }
 {
     let version = match floor {
         Floor::At(version) => version,
@@ -209,6 +210,7 @@ pub(crate) fn purge_removals<L: WriteLog>(
     ensures many { IfOk result (λ done. IfSome done (λ p. (L.seen log.new).is_clean ≡ true
         → (least ≤ p.removals) × ((p.removals ≡ spec.removals_in (L.seen log.old).content.entries)
         × ((p.floor ≡ (L.seen log.old).content.held) × ((L.seen log.new).content ≡ purged p.floor (L.seen log.old).content))))) }
+    ensures failed { IfErr result (λ fault. spec.FailsToDrop (L.seen log.old) fault (L.seen log.new)) }
 {
     if least == 0 {
         return Ok(None);

@@ -1,5 +1,5 @@
 //! How far a node holds each owner, which it is asked as by a peer.
-ghost use Rattle.std.specs.Prelude.{◌≡◌, ◌<◌, IfErr};
+ghost use Rattle.std.specs.Prelude.{◌≡◌, ◌<◌, IfOk, IfErr};
 ghost use Rattle.sb_session.specs.Handlers.{IsRefusal};
 ghost use Rattle.attrdir.specs.Owners as spec;
 
@@ -257,7 +257,9 @@ pub(crate) fn ask_greatest<'a>(
     sock: &'a str,
     cluster: Name,
     owner: Name,
-) -> Result<u64, Failure<'a>> {
+) -> Result<u64, Failure<'a>>
+    ensures some { IfOk result (λ version. 0 < version) }
+{
     let pairs = ask_pairs(rt, sock, cluster, owner)?;
     match greatest_version(&pairs, &owner) {
         0 => Err(Failure::at(Place::Session(sock), Fault::NothingThere)),
