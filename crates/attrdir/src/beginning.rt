@@ -3,7 +3,7 @@ ghost use Rattle.std.specs.Prelude.{◌≡◌, ◌≤◌, IfOk, Ok, Err};
 ghost use Rattle.sb_types.specs.declared.limits.TheConstants.{VERSION_MOST};
 ghost use Rattle.attrdir.specs.Beginning as spec;
 
-use crate::failure::{Failure, Place, Setting};
+use crate::failure::{Failure, FaultPlace, Setting};
 use crate::log_file::make_log;
 use crate::owners::ask_greatest;
 use crate::words::name_of;
@@ -22,7 +22,7 @@ pub(crate) enum Start<'a> {
 }
 
 /// A version within the limits. `BadSetting` at this place.
-fn within_limits<'a>(version: u64, place: Place<'a>) -> Result<u64, Failure<'a>>
+fn within_limits<'a>(version: u64, place: FaultPlace<'a>) -> Result<u64, Failure<'a>>
     ensures given { IfOk result (λ v. v ≡ version) }
     ensures limits { IfOk result spec.IsWithinLimits }
     ensures every { spec.IsWithinLimits version → result ≡ Ok version }
@@ -44,10 +44,10 @@ fn version_of<'a>(
     ensures limits { IfOk result spec.IsWithinLimits }
 {
     match start {
-        Start::After(version) => within_limits(version, Place::Setting(Setting::After)),
+        Start::After(version) => within_limits(version, FaultPlace::Setting(Setting::After)),
         Start::From(sock) => {
             let heard = ask_greatest(rt, sock, cluster, owner)?;
-            within_limits(heard.saturating_add(UNHEARD_MOST), Place::Heard(sock))
+            within_limits(heard.saturating_add(UNHEARD_MOST), FaultPlace::Heard(sock))
         }
     }
 }
@@ -81,6 +81,6 @@ pub(crate) fn begin_log<'a>(
     let begun = log.begin(version);
     match begun.and(log.close()) {
         Ok(()) => print_begun(rt, path, version),
-        Err(fault) => Err(Failure::at(Place::Log(path), fault)),
+        Err(fault) => Err(Failure::at(FaultPlace::Log(path), fault)),
     }
 }

@@ -3,7 +3,7 @@ ghost use Rattle.std.specs.Prelude.{◌≡◌, ◌≤◌, ◌<◌, ◌⊎◌, tr
 ghost use Rattle.sb_log.specs.Puts.{purged};
 ghost use Rattle.attrdir.specs.Removals as spec;
 
-use crate::failure::{Failure, Place};
+use crate::failure::{Failure, FaultPlace};
 use crate::words::name_of;
 use sb_lines::{log_run, purge_run};
 use sb_log::{SqlLog, WriteLog};
@@ -26,7 +26,7 @@ pub(crate) enum Floor {
 
 /// The removals that a log dropped, and the version up to which they went.
 #[derive(Clone, Copy)]
-pub(crate) struct Purged {
+pub(crate) struct DroppedRemovals {
     pub(crate) removals: usize,
     pub(crate) floor: u64,
 }
@@ -35,7 +35,7 @@ pub(crate) struct Purged {
 fn failure(path: &str, fault: Fault) -> Failure<'_> {
     match fault {
         Fault::WriteFailed(_) => Failure::from(fault),
-        _ => Failure::at(Place::Log(path), fault),
+        _ => Failure::at(FaultPlace::Log(path), fault),
     }
 }
 
@@ -55,9 +55,12 @@ fn failure_of<'a>(rt: &HostRuntime, path: &'a str, error: &Error) -> Failure<'a>
             failure(path, Fault::LogDamaged)
         }
         Error::SqliteFailure(ErrorCode::DatabaseBusy) => {
-            Failure::at(Place::LockedLog(path), Fault::StoreFailed)
+            Failure::at(FaultPlace::LockedLog(path), Fault::StoreFailed)
         }
-        _ if !has_folder(rt, path) => Failure::at(Place::NoLogFolder(path), Fault::StoreFailed),
+        _ if !has_folder(rt, path) => Failure::at(
+            FaultPlace::NoLogFolder(path),
+            Fault::StoreFailed,
+        ),
         _ => failure(path, Fault::StoreFailed),
     }
 }
@@ -101,9 +104,9 @@ pub(crate) fn open_log<'a>(
 ) -> Result<FileLog, Failure<'a>> {
     if let Err(error) = fs::File::open(rt, path) {
         let place = match error.kind() {
-            ErrorKind::NotFound if !has_folder(rt, path) => Place::NoLogFolder(path),
-            ErrorKind::NotFound => Place::NoLog(path),
-            _ => Place::UnreadableLog(path),
+            ErrorKind::NotFound if !has_folder(rt, path) => FaultPlace::NoLogFolder(path),
+            ErrorKind::NotFound => FaultPlace::NoLog(path),
+            _ => FaultPlace::UnreadableLog(path),
         };
         return Err(Failure::at(place, Fault::StoreFailed));
     }
@@ -203,7 +206,7 @@ pub(crate) fn purge_removals<L: WriteLog>(
     rt: &HostRuntime,
     log: &mut L,
     least: u64,
-) -> Result<Option<Purged>, Fault>
+) -> Result<Option<DroppedRemovals>, Fault>
     ensures never { least ≡ 0 → (result ≡ Ok None) × (log.new ≡ log.old) }
     ensures few { IfOk result (λ done. IfNone done ((L.seen log.new).is_clean ≡ true → ((L.seen log.new).content ≡ (L.seen log.old).content)
         × ((least ≡ 0) ⊎ (spec.removals_in (L.seen log.old).content.entries < least)))) }
@@ -222,5 +225,5 @@ pub(crate) fn purge_removals<L: WriteLog>(
     }
     let floor = table.upto();
     log.purge(floor)?;
-    Ok(Some(Purged { removals, floor }))
+    Ok(Some(DroppedRemovals { removals, floor }))
 }

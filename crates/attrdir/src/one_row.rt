@@ -3,7 +3,7 @@ ghost use Rattle.std.specs.Prelude.{◌≡◌};
 ghost use Rattle.std.specs.Option.{option_copied};
 ghost use Rattle.attrdir.specs.Rows as spec;
 
-use crate::asking::{Form, first_page_of, print_page};
+use crate::asking::{RowFormat, first_page_of, print_page};
 use crate::counting::Output;
 use crate::failure::Failure;
 use sb_codec::{Ask, Row, Rows};
@@ -14,7 +14,7 @@ use std::io::Write;
 /// How much of a row is printed.
 #[derive(Clone, Copy)]
 pub(crate) enum Portion {
-    Row(Form),
+    Row(RowFormat),
     /// The value alone, a text as it is spelled in a row.
     Value,
     /// The value alone, a text as it is.
@@ -23,7 +23,7 @@ pub(crate) enum Portion {
 
 /// The row that is asked for, and how much of it is printed.
 #[derive(Clone, Copy)]
-pub(crate) struct Wanted {
+pub(crate) struct RowQuery {
     pub(crate) owner: Name,
     pub(crate) key: Key,
     pub(crate) portion: Portion,
@@ -78,21 +78,21 @@ fn print_value(rt: &HostRuntime, value: &Value, is_raw: bool) -> Result<(), Faul
 pub(crate) fn print_one<'a>(
     rt: &HostRuntime,
     control: &'a str,
-    wanted: &Wanted,
+    query: &RowQuery,
 ) -> Result<bool, Failure<'a>> {
     let ask = Ask {
-        owner: Some(wanted.owner),
-        prefix: Prefix::read(wanted.key.bytes())?,
+        owner: Some(query.owner),
+        prefix: Prefix::read(query.key.bytes())?,
         after: None,
     };
     let page = first_page_of(rt, control, &ask)?;
-    let Some(row) = first_at(page.rows(), &wanted.owner, &wanted.key) else {
+    let Some(row) = first_at(page.rows(), &query.owner, &query.key) else {
         return Ok(false);
     };
-    match wanted.portion {
-        Portion::Row(form) => {
+    match query.portion {
+        Portion::Row(format) => {
             let page = page_with(rt.alloc(), row)?;
-            print_page(rt, &mut Output::new(rt), &page, form)?;
+            print_page(rt, &mut Output::new(rt), &page, format)?;
         }
         Portion::Value => print_value(rt, row.value(), false)?,
         Portion::RawValue => print_value(rt, row.value(), true)?,

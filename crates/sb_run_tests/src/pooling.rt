@@ -64,7 +64,7 @@ struct Holding<'a, R> {
 impl<R: Clock> Gate for Holding<'_, R> {
     ghost lets = { λ gate session step. Unit {0} };
 
-    ghost turns = { λ gate session step. Unit {0} };
+    ghost turns_away = { λ gate session step. Unit {0} };
 
     fn pass(&self, session: u64, step: GatePoint) -> bool {
         match (session, step) {

@@ -37,7 +37,7 @@ returns-in-Err-clause-later g c =
 
 pub returns-in-Ok-clause-handed : goal.returns-in-Ok-clause-handed
 returns-in-Ok-clause-handed g c =
-    handed_on g.S.NodeTag.opening c.args.seat.now c.args.self.now.owed c.hand_in.new.seat c.take_own.new.seat (event_called _ _ c.hand_in.new.seat c.take_own.new.seat c.in-Ok.ensures.entered)
+    handed_on g.S.NodeTag.opening c.args.seat.now c.args.self.now.owed c.hand_in.new.seat c.take_own.new.seat (event_called _ _ c.hand_in.new.seat c.take_own.new.seat c.in-Ok.ensures.event)
     c.in_ok-hand_in.ensures.handed
 
 pub returns-in-Err-clause-handed : goal.returns-in-Err-clause-handed

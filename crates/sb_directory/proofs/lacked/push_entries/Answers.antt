@@ -3,7 +3,7 @@ use Rattle.sb_types.specs.Records.{Entry}
 use Rattle.sb_views.specs.declared.change.Change.TheVariants.{Enter}
 use Rattle.sb_types.specs.Runs.{above}
 use Rattle.sb_directory.proofs.Batches.{IsPushing, pushing-begins, pushing-goes_on, pushing-ends, pushed-last}
-use Rattle.sb_directory.proofs.pending.push_entries.Goals as goal
+use Rattle.sb_directory.proofs.lacked.push_entries.Goals as goal
 
 pub loop-entry-init : goal.loop-entry-init
 loop-entry-init c =

@@ -1,6 +1,6 @@
 use Rattle.std.proofs.Common.{arith}
 use Rattle.sb_directory.proofs.Batches.{pushed-upto, pushed-beyond}
-use Rattle.sb_directory.proofs.pending.push_above.Goals as goal
+use Rattle.sb_directory.proofs.lacked.push_above.Goals as goal
 
 pub returns-then-last-upto-clause-ok : goal.returns-then-last-upto-clause-ok
 returns-then-last-upto-clause-ok c =

@@ -1,7 +1,7 @@
 use Rattle.std.proofs.Common.{sym, ap, ◌∙◌}
 use Rattle.std.specs.FinMap.{entries, entries-from_sorted}
 use Rattle.sb_views.proofs.ByText.{by_text, sorted}
-use Rattle.sb_directory.proofs.behind.Behind.owners.Goals as goal
+use Rattle.sb_directory.proofs.lacking_owners.LackingOwners.owners.Goals as goal
 
 pub returns : goal.returns
 returns c =

@@ -1,9 +1,9 @@
 use Rattle.std.proofs.Common.{◌≡◌, ℕ, ◌+◌, List, ◌∷◌, drop, sym, ap, subst, ◌∙◌}
 use Rattle.std.proofs.lemmas.List.{drop_more, drop_all}
 use Rattle.sb_types.specs.Records.{Block}
-use Rattle.sb_directory.specs.Behind.{since_of, with_owner, AreSince}
+use Rattle.sb_directory.specs.Lacking.{since_of, with_owner, AreSince}
 use Rattle.sb_directory.proofs.Lacking.{IsAdding, adding-goes_on, adding-ends}
-use Rattle.sb_directory.proofs.behind.Behind.add_owners.Goals as goal
+use Rattle.sb_directory.proofs.lacking_owners.LackingOwners.add_owners.Goals as goal
 
 pub returns-in_err-add-clause-since : goal.returns-in_err-add-clause-since
 returns-in_err-add-clause-since c old since =

@@ -3,9 +3,9 @@ ghost use Rattle.std.specs.Prelude.{◌≡◌, ◌++◌, map, IfOk, IfErr, OnOk}
 ghost use Rattle.sb_types.specs.Runs.{above, last_version};
 ghost use Rattle.sb_views.specs.declared.change.Change.TheVariants as changes;
 ghost use Rattle.sb_views.specs.Changes.{owned, changes_above, lacked_of};
-ghost use Rattle.sb_directory.specs.Behind as spec;
+ghost use Rattle.sb_directory.specs.Lacking as spec;
 
-use crate::behind::Behind;
+use crate::lacking_owners::LackingOwners;
 use sb_holdings::Holdings;
 use sb_table::Table;
 use sb_types::{Fault, Name};
@@ -72,12 +72,16 @@ fn push_lacked(
 }
 
 /// All that views lack, owner by owner. `NoMemory`.
-pub(crate) fn pending(alloc: Global, holdings: &Holdings, behind: &Behind) -> Result<Batch, Fault>
-    ensures batch { IfOk result (λ batch. batch ≡ spec.all_lacked behind.now holdings.now) }
+pub(crate) fn lacked_changes(
+    alloc: Global,
+    holdings: &Holdings,
+    lacking: &LackingOwners,
+) -> Result<Batch, Fault>
+    ensures batch { IfOk result (λ batch. batch ≡ spec.all_lacked lacking.now holdings.now) }
     ensures memory { IfErr result (λ fault. fault ≡ Fault.NoMemory) }
 {
     let mut batch = Batch::new(alloc);
-    for (owner, since) in behind.owners() {
+    for (owner, since) in lacking.owners() {
         if let Some(table) = holdings.table(owner) {
             push_lacked(alloc, &mut batch, owner, table, *since)?;
         }

@@ -2,7 +2,7 @@
 ghost use Rattle.std.specs.Prelude.{◌≡◌, true, IfErr, OnOk, OnErr};
 ghost use Rattle.std.specs.FinMap.{empty, entries, contains_key};
 ghost use Rattle.sb_holdings.specs.Held.{Held};
-ghost use Rattle.sb_directory.specs.Behind as spec;
+ghost use Rattle.sb_directory.specs.Lacking as spec;
 
 use sb_holdings::Holdings;
 use sb_types::{Block, Fault, Name};
@@ -13,33 +13,33 @@ use std::marker::Model;
 
 /// Owners of whom views may lack something, each with the version up to which they have it and the floor that its table had.
 #[derive(Drop)]
-pub(crate) struct Behind {
+pub(crate) struct LackingOwners {
     owners: BTreeMap<Name, (u64, u64)>,
 }
 
-impl Model for Behind {
+impl Model for LackingOwners {
     ghost use Rattle.std.specs.Ordering.{nat_cmp};
     ghost use Rattle.std.specs.Cmp.Lexicographic.{slice_cmp};
     ghost use Rattle.std.specs.BTreeMap.{IsOrdered};
     ghost use Rattle.std.specs.Coded.{codes};
     ghost use Rattle.std.specs.FinMap.{code};
-    ghost use Rattle.sb_directory.specs.Behind as spec;
+    ghost use Rattle.sb_directory.specs.Lacking as spec;
 
-    ghost Value = { spec.Behind };
+    ghost Value = { spec.LackingOwners };
 
     ghost coded = { Prim.hlevel (codes, code) };
 
-    ghost view = { λ b. spec.behind_by b.owners.entries };
+    ghost view = { λ b. spec.lacking_by b.owners.entries };
 
     ghost invariant = { λ b. IsOrdered (slice_cmp nat_cmp) b.owners };
 }
 
-impl Behind {
+impl LackingOwners {
     /// Views that lack nothing. It takes no memory.
-    pub(crate) fn new(alloc: Global) -> Behind
+    pub(crate) fn new(alloc: Global) -> LackingOwners
         ensures { result ≡ empty }
     {
-        Behind {
+        LackingOwners {
             owners: BTreeMap::new(alloc),
         }
     }

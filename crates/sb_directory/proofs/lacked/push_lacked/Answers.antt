@@ -1,6 +1,6 @@
 use Rattle.std.proofs.Common.{arith}
 use Rattle.sb_directory.proofs.Batches.{lacked-above, lacked-anew}
-use Rattle.sb_directory.proofs.pending.push_lacked.Goals as goal
+use Rattle.sb_directory.proofs.lacked.push_lacked.Goals as goal
 
 pub returns-then-floor-clause-ok : goal.returns-then-floor-clause-ok
 returns-then-floor-clause-ok c =
