@@ -1,5 +1,6 @@
-"""The parts of tools/check-node that look at when a node dials, how long it waits for others, and what it does where its log or its sockets are not as
-they should be."""
+"""The parts of tools/check-node that look at when a node dials, how long it waits for others, and what it does where its log, its sockets or its
+descriptors are not as they should be."""
+import os
 import re
 import resource
 import signal
@@ -149,7 +150,8 @@ def fill(node):
 
 
 def full_disks(check):
-    """A log that has no room closes: the node says so once, and goes on without writes, or ends with --on-log-fault exit."""
+    """A log that has no room closes: the node says so once, and goes on without writes, or ends with --on-log-fault exit, also in the pause behind its last
+    round."""
     folder = check.folder()
     node = check.node("a", "--metrics", str(folder / "a.prom"), folder=folder)
     node.how["preexec_fn"] = without_room
@@ -166,13 +168,34 @@ def full_disks(check):
     if not rows <= len(node.get()) <= rows + 1:
         raise Difference(f"{len(node.get())} rows came back of {rows}")
     node.kill()
-    node = check.node("a", "--on-log-fault", "exit")
-    node.how["preexec_fn"] = without_room
-    node.start()
-    want("the write that had no room", fill(node), (3, "fault 18"))
-    status, printed, said = node.ended()
-    want("its end", (status, printed, said[-3]), (3, "", "fault 18"))
-    want("its sockets", (node.sock.exists(), node.control.exists()), (False, False))
+    for more in ((), ("--rounds", "1", "--pause", "600000")):
+        node = check.node("a", "--on-log-fault", "exit", *more)
+        node.how["preexec_fn"] = without_room
+        node.start()
+        want("the write that had no room", fill(node), (3, "fault 18"))
+        status, printed, said = node.ended()
+        want(f"its end {more}", (status, printed, said[-3]), (3, "", "fault 18"))
+        want("its sockets", (node.sock.exists(), node.control.exists()), (False, False))
+
+
+def no_descriptors(check):
+    """Where a node has no descriptor left for a while, callers and peers wait, and it serves them once it has some again."""
+    node = check.node("a").start()
+    pid, served = node.ran.pid, []
+    soft, hard = resource.prlimit(pid, resource.RLIMIT_NOFILE)
+    resource.prlimit(pid, resource.RLIMIT_NOFILE, (len(os.listdir(f"/proc/{pid}/fd")), hard))
+    asked = [lambda: node.command("set", "k", "weight", "5")] + 6 * [lambda: run(check.program, "owners", "--sock", str(node.sock), "--cluster", "c")]
+    waiting = [threading.Thread(target=lambda it=it: served.append(it())) for it in asked]
+    for it in waiting:
+        it.start()
+    time.sleep(0.5)
+    want("who is served without descriptors", served, [])
+    resource.prlimit(pid, resource.RLIMIT_NOFILE, (soft, hard))
+    for it in waiting:
+        it.join(SECONDS)
+    want("how many were served then", len(served), len(asked))
+    want("whether all were", [it for it in served if it[0] != 0], [])
+    want("the next write", node.command("set", "k", "weight", "6"), (0, "version 2\n", ""))
 
 
 def left_sockets(check):
@@ -194,4 +217,4 @@ def times(check):
     want("how its lines begin", [bool(re.match(moment, it)) for it in said], [True, True])
 
 
-PARTS = (news, faulty_peers, silent_peers, silent_callers, full_disks, left_sockets, times)
+PARTS = (news, faulty_peers, silent_peers, silent_callers, full_disks, no_descriptors, left_sockets, times)

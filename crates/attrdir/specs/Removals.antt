@@ -1,6 +1,7 @@
 -- Which removals of a log go.
-use Rattle.std.specs.Prelude.{ℕ, not, List, length, ◌×◌, ◌⊎◌, Option, Result, Unit, IfErr}
+use Rattle.std.specs.Prelude.{◌≡◌, ◌⊎◌, ℕ, not, List, length, Option, Result, Err}
 use Rattle.std.specs.List.{filter}
+use Rattle.std.specs.Io.KnownBytes.{Keeps}
 use Rattle.sb_types.specs.Records.{Entry, Table}
 use Rattle.sb_types.specs.Runs.{is_set}
 use Rattle.sb_types.specs.declared.fault.Fault.{Fault}
@@ -24,13 +25,13 @@ floor_of Last content = content.held
 abbrev pub FailsToDrop : Log → Fault → Log → Type 0
 FailsToDrop old fault new = FailsToLoad old fault new ⊎ ((read : Log) × (table : Table) × Gives old table read × RefusesFloor read table.held fault new)
 
--- a purge up to a version, whose line goes to some writer
-abbrev pub PurgesUpTo : ℕ → Log → Result (Unit {0}) Fault → Log → Type 0
-PurgesUpTo version old result new =
-    (before : Option (List ℕ)) × (after : Option (List ℕ)) × (last : Outcome) × PurgesAndPrints version old new before after result last
+-- a purge up to a version, which prints it
+abbrev pub PurgesUpTo : ℕ → Log → Option (List ℕ) → Result (Unit {0}) Fault → Log → Option (List ℕ) → Type 0
+PurgesUpTo version old before result new after = (last : Outcome) × PurgesAndPrints version old new before after result last
 
--- up to the version that is given; or, where the log is read, up to its last one
-abbrev pub PurgesTo : Floor → Log → Result (Unit {0}) Fault → Log → Type 0
-PurgesTo (At version) old result new = PurgesUpTo version old result new
-PurgesTo Last old result new =
-    IfErr result (λ fault. FailsToLoad old fault new) ⊎ ((read : Log) × (table : Table) × Gives old table read × PurgesUpTo table.held read result new)
+-- up to the version that is given; or, where the log is read, up to its last one, and else nothing is printed
+abbrev pub PurgesTo : Floor → Log → Option (List ℕ) → Result (Unit {0}) Fault → Log → Option (List ℕ) → Type 0
+PurgesTo (At version) old before result new after = PurgesUpTo version old before result new after
+PurgesTo Last old before result new after =
+    ((fault : Fault) × (result ≡ Err fault) × FailsToLoad old fault new × Keeps before after)
+    ⊎ ((read : Log) × (table : Table) × Gives old table read × PurgesUpTo table.held read before result new after)

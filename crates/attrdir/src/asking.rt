@@ -54,7 +54,7 @@ fn request_answer<K: Ledger>(
 }
 
 /// The answer of the node behind a control socket. `ReadFailed` where it can't be reached, or is silent for a minute; then
-/// the faults of `ask_control`.
+/// the faults of `ask_control`. It waits without limit where so many others wait at the socket that it takes no more.
 fn answer_of<'a>(
     rt: &HostRuntime,
     control: &'a str,

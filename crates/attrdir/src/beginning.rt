@@ -1,6 +1,6 @@
 //! The log of a name whose log is lost, or that is to end.
-ghost use Rattle.std.specs.Prelude.{◌≡◌, ◌≤◌, IfOk, Ok, Err};
-ghost use Rattle.sb_types.specs.declared.limits.TheConstants.{VERSION_MOST};
+ghost use Rattle.std.specs.Prelude.{◌≡◌, ◌+◌, IfOk, Ok};
+ghost use Rattle.attrdir.specs.declared.beginning.TheConstants.{UNHEARD_MOST};
 ghost use Rattle.attrdir.specs.Beginning as spec;
 
 use crate::failure::{Failure, FaultPlace, Setting};
@@ -33,6 +33,14 @@ fn within_limits<'a>(version: u64, place: FaultPlace<'a>) -> Result<u64, Failure
     Ok(version)
 }
 
+/// As far behind a version that the node behind this socket heard as its owner may have been, unheard. `BadSetting` outside the limits.
+fn version_beyond<'a>(heard: u64, sock: &'a str) -> Result<u64, Failure<'a>>
+    ensures far { IfOk result (λ version. version ≡ heard + UNHEARD_MOST) }
+    ensures limits { IfOk result spec.IsWithinLimits }
+{
+    within_limits(heard.saturating_add(UNHEARD_MOST), FaultPlace::Heard(sock))
+}
+
 /// The version that is meant. `BadSetting` outside the limits; the faults of `ask_greatest`.
 fn version_of<'a>(
     rt: &HostRuntime,
@@ -47,7 +55,7 @@ fn version_of<'a>(
         Start::After(version) => within_limits(version, FaultPlace::Setting(Setting::After)),
         Start::From(sock) => {
             let heard = ask_greatest(rt, sock, cluster, owner)?;
-            within_limits(heard.saturating_add(UNHEARD_MOST), FaultPlace::Heard(sock))
+            version_beyond(heard, sock)
         }
     }
 }

@@ -10,8 +10,9 @@ use sb_log::{SqlLog, WriteLog};
 use sb_table::Table;
 use sb_types::{Fault, Name, Slot, VERSION_MOST};
 use sqlite::{Connection, Error, ErrorCode, File, FileStore};
+use std::alloc::Global;
 use std::fs;
-use std::io::ErrorKind;
+use std::io::{ErrorKind, Write};
 
 /// A log in a file of the system.
 pub(crate) type FileLog = SqlLog<FileStore<File>>;
@@ -149,23 +150,28 @@ pub(crate) fn print_log<'a>(
 
 /// Drops the removals of a log up to a version, and prints that version. The faults of `load`, where the version is the last; then
 /// those of `purge_run`.
-fn purge_to<L: WriteLog>(rt: &HostRuntime, log: &mut L, floor: Floor) -> Result<(), Fault>
+fn purge_to<L: WriteLog, W: Write>(
+    alloc: Global,
+    log: &mut L,
+    floor: Floor,
+    writer: &mut W,
+) -> Result<(), Fault>
     ensures purges { OnOk result ((L.seen log.new).is_clean ≡ true
         → (L.seen log.new).content ≡ purged (spec.floor_of floor (L.seen log.old).content) (L.seen log.old).content) }
-    ensures result { spec.PurgesTo floor (L.seen log.old) result (L.seen log.new) }
+    ensures result { spec.PurgesTo floor (L.seen log.old) (W.contents writer.old) result (L.seen log.new) (W.contents writer.new) }
 {
     let version = match floor {
         Floor::At(version) => version,
-        Floor::Last => log.load(rt.alloc())?.upto(),
+        Floor::Last => log.load(alloc)?.upto(),
     };
-    let (purged, _) = purge_run(rt.alloc(), log, version, &mut rt.stdout());
+    let (purged, _) = purge_run(alloc, log, version, writer);
     purged
 }
 
 /// The same, and ends the log. The faults of `purge_to`, then those of `close`.
 fn purge_lines<L: WriteLog>(rt: &HostRuntime, log: L, floor: Floor) -> Result<(), Fault> {
     let mut log = log;
-    let purged = purge_to(rt, &mut log, floor);
+    let purged = purge_to(rt.alloc(), &mut log, floor, &mut rt.stdout());
     purged.and(log.close())
 }
 

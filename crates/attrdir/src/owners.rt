@@ -196,7 +196,8 @@ fn print_pairs(rt: &HostRuntime, pairs: &[Pair]) -> Result<(), Fault> {
 }
 
 /// Asks the node behind a socket for peers how far it holds each owner, as a peer of this name: a pair of each, in ascending owner. It
-/// writes nothing at the node. `ReadFailed` where it can't be reached, or is silent for a minute; the faults of a session.
+/// writes nothing at the node. `ReadFailed` where it can't be reached, or is silent for a minute; the faults of a session. It waits without
+/// limit where so many others wait at the socket that it takes no more.
 fn ask_pairs<'a>(
     rt: &HostRuntime,
     sock: &'a str,
@@ -250,6 +251,16 @@ fn greatest_version(pairs: &[Pair], owner: &Name) -> u64
     greatest
 }
 
+/// The greatest version that these speak of an owner, of a node behind this socket. `NothingThere` where there is none.
+fn heard_of<'a>(pairs: &[Pair], owner: &Name, sock: &'a str) -> Result<u64, Failure<'a>>
+    ensures { IfOk result (λ version. (version ≡ spec.greatest_version owner.now pairs.now) × (0 < version)) }
+{
+    match greatest_version(pairs, owner) {
+        0 => Err(Failure::at(FaultPlace::Session(sock), Fault::NothingThere)),
+        version => Ok(version),
+    }
+}
+
 /// Asks the same under the name of an owner, and answers the greatest version that the node heard of it, be it of a table that has not come
 /// whole. The faults of `ask_pairs`; `NothingThere` where it heard of none.
 pub(crate) fn ask_greatest<'a>(
@@ -261,8 +272,5 @@ pub(crate) fn ask_greatest<'a>(
     ensures some { IfOk result (λ version. 0 < version) }
 {
     let pairs = ask_pairs(rt, sock, cluster, owner)?;
-    match greatest_version(&pairs, &owner) {
-        0 => Err(Failure::at(FaultPlace::Session(sock), Fault::NothingThere)),
-        version => Ok(version),
-    }
+    heard_of(&pairs, &owner, sock)
 }

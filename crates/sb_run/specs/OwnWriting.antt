@@ -24,6 +24,11 @@ abbrev pub count_owed : Option Committed → ℕ
 count_owed None = 0
 count_owed (Some c) = 1
 
+-- the version of the last write that is news, once what is owed is handed in
+abbrev pub news_after : Option Committed → Option ℕ → Option ℕ
+news_after None stored = stored
+news_after (Some c) stored = Some c.entry.version
+
 -- how many events the write itself makes
 abbrev pub count_shared : Stored → ℕ
 count_shared (Shared receipt) = 1

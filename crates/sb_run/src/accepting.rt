@@ -1,4 +1,5 @@
 //! Accepts the connections at a socket of the node.
+ghost use Rattle.std.specs.Prelude.{Unit};
 
 use crate::counts::Counts;
 use crate::ending::EndFlag;
@@ -61,6 +62,9 @@ impl<R: Clock> Source for Acceptor<'_, R> {
     type In = UnixStream;
 
     type Out = UnixStream;
+
+    // A flag that threads share says so, of which contracts see nothing.
+    ghost over = { λ acceptor. Unit {0} };
 
     fn next(&self) -> Option<Result<(u64, UnixStream, UnixStream), Fault>> {
         let accepted = self.socket.accept();

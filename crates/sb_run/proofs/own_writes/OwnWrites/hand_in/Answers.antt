@@ -24,7 +24,7 @@ returns-clause-later g c =
     elim c.match-self.branch [
       | in-Some-owed+in_ok-take_own w ↦
           let is = w.in_ok-take_own.ensures in
-          rw w.seat-is (later-on before asked w.take_own.new.seat later (event_later _ _ asked w.take_own.new.seat is.grows is.entered is.count))
+          rw w.seat-is (later-on before asked w.take_own.new.seat later (event_later _ _ asked w.take_own.new.seat is.grows is.event is.count))
       | in_default-owed w ↦ rw w.seat-is later
     ]
 

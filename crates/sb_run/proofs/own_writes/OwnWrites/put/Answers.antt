@@ -13,7 +13,7 @@ returns-in-Ok-clause-stored g c =
       version = is.version;
       passes = (
         c.keep.ensures.owed ∙ c.in_ok-hand_in.ensures.owed,
-        taken_from g.S.NodeTag.opening c.args.seat.now c.hand_in.new.seat kept c.in-Ok.receipt c.take_own.new.seat c.hand_in.ensures.later (is.entered, is.shown),
+        taken_from g.S.NodeTag.opening c.args.seat.now c.hand_in.new.seat kept c.in-Ok.receipt c.take_own.new.seat c.hand_in.ensures.later (is.event, is.shown),
       );
     }
 
