@@ -10,7 +10,7 @@ import time
 
 from check_metrics import awaits
 from check_serving import Peer
-from nodes import SECONDS, Difference, ask, connect, exchange, hello, number, put, version_of, want, weight
+from nodes import SECONDS, Difference, ask, connect, exchange, hello, number, put, read_frame, text, version_of, want, weight
 
 
 def seconds_until(node, owner, version):
@@ -179,23 +179,25 @@ def full_disks(check):
 
 
 def no_descriptors(check):
-    """Where a node has no descriptor left for a while, callers and peers wait, and it serves them once it has some again."""
-    node = check.node("a").start()
-    pid, served = node.ran.pid, []
+    """A node that has no descriptor left for a while goes on with all its workers, and at its control socket."""
+    node = check.node("a", "--workers", "3").start()
+    pid = node.ran.pid
     soft, hard = resource.prlimit(pid, resource.RLIMIT_NOFILE)
-    resource.prlimit(pid, resource.RLIMIT_NOFILE, (len(os.listdir(f"/proc/{pid}/fd")), hard))
-    asked = [lambda: node.command("set", "k", "weight", "5")] + 6 * [lambda: run(check.program, "owners", "--sock", str(node.sock), "--cluster", "c")]
-    waiting = [threading.Thread(target=lambda it=it: served.append(it())) for it in asked]
-    for it in waiting:
-        it.start()
-    time.sleep(0.5)
-    want("who is served without descriptors", served, [])
+    open_ones = os.listdir(f"/proc/{pid}/fd")
+    resource.prlimit(pid, resource.RLIMIT_NOFILE, (next(it for it in range(hard) if str(it) not in open_ones), hard))
+    for _ in range(20):
+        for path in (node.sock, node.control):
+            connect(path).close()
+        time.sleep(0.02)
     resource.prlimit(pid, resource.RLIMIT_NOFILE, (soft, hard))
-    for it in waiting:
-        it.join(SECONDS)
-    want("how many were served then", len(served), len(asked))
-    want("whether all were", [it for it in served if it[0] != 0], [])
-    want("the next write", node.command("set", "k", "weight", "6"), (0, "version 2\n", ""))
+    # (each of these holds a worker until it says Bye)
+    peers = [connect(node.sock) for _ in range(3)]
+    for at, peer in enumerate(peers):
+        peer.sendall(hello(f"b{at}"))
+    want("what each of as many peers as there are workers gets", [read_frame(it) for it in peers], 3 * [(1, text("c") + text("a"))])
+    for peer in peers:
+        peer.close()
+    want("a write", node.command("set", "k", "weight", "5"), (0, "version 1\n", ""))
 
 
 def left_sockets(check):
