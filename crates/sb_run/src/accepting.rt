@@ -1,5 +1,4 @@
 //! Accepts the connections at a socket of the node.
-ghost use Rattle.std.specs.Prelude.{Unit};
 
 use crate::counts::Counts;
 use crate::ending::EndFlag;

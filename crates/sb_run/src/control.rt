@@ -1,5 +1,5 @@
 //! The serving side of a control socket: one request and one answer a connection.
-ghost use Rattle.std.specs.Prelude.{◌≡◌, ◌+◌, ℕ, true};
+ghost use Rattle.std.specs.Prelude.{◌≡◌, ◌+◌, ℕ, true, false};
 ghost use Rattle.sb_types.specs.Faults.{number_of};
 ghost use Rattle.sb_codec.specs.Limits.{is_version};
 ghost use Rattle.sb_frames.specs.Sending.{OnlyWhereFailed};

@@ -1,5 +1,5 @@
 //! The threads of a running node.
-ghost use Rattle.std.specs.Prelude.{◌≡◌, vec_len, IfOk, IfErr};
+ghost use Rattle.std.specs.Prelude.{◌≡◌, true, false, vec_len, Ok, Err, IfOk, IfErr};
 ghost use Rattle.std.specs.Thread.{IsSend, IsSync};
 ghost use Rattle.sb_run.specs.Running.{IsEndFault, IsOpenedFrom};
 
