@@ -1,5 +1,5 @@
 //! An owner's log in a file.
-ghost use Rattle.std.specs.Prelude.{◌≡◌, ◌≤◌, ◌<◌, ◌⊎◌, true, Ok, None, IfOk, IfSome, IfNone, OnOk};
+ghost use Rattle.std.specs.Prelude.{◌≡◌, ◌≤◌, ◌<◌, ◌⊎◌, true, Ok, None, IfOk, IfSome, IfNone, IfErr, OnOk};
 ghost use Rattle.sb_log.specs.Puts.{purged};
 ghost use Rattle.attrdir.specs.Removals as spec;
 
