@@ -191,10 +191,7 @@ fn a_session_waits_for_another(rt: HostRuntime) {
     let two = pool_new(&rt, rt.alloc(), 2, long);
     same(&rt, &two, &(2, 0, 1));
     // The only worker would wait for itself: the gate turns session 1 away before its delta is entered.
-    let short = Course {
-        lost: 0,
-        turns: 20,
-    };
+    let short = Course { lost: 0, turns: 20 };
     let one = pool_new(&rt, rt.alloc(), 1, short);
     same(&rt, &one, &(2, 1, 0));
 }
@@ -202,10 +199,7 @@ fn a_session_waits_for_another(rt: HostRuntime) {
 /// A worker goes on behind connections that could not be had, each of which is a fault.
 #[test]
 fn a_connection_that_is_lost_ends_no_worker(rt: HostRuntime) {
-    let course = Course {
-        lost: 3,
-        turns: 20,
-    };
+    let course = Course { lost: 3, turns: 20 };
     let one = pool_new(&rt, rt.alloc(), 1, course);
     same(&rt, &one, &(2, 4, 0));
 }
