@@ -1,5 +1,5 @@
 -- Behind which version a log begins.
-use Rattle.std.specs.Prelude.{◌≡◌, ◌×◌, ℕ, ◌≤◌, ◌<◌}
+use Rattle.std.specs.Prelude.{◌≡◌, ℕ, ◌≤◌, ◌<◌}
 use Rattle.sb_types.specs.declared.limits.TheConstants.{VERSION_MOST}
 use Rattle.attrdir.specs.declared.beginning.TheConstants.{UNHEARD_MOST}
 use Rattle.attrdir.specs.declared.beginning.Start.{Start}

@@ -48,7 +48,7 @@ fn version_of<'a>(
     owner: Name,
     cluster: Name,
 ) -> Result<u64, Failure<'a>>
-    ensures meant { IfOk result (spec.IsMeant start) }
+    ensures meant { IfOk result (spec.IsMeant start.entry) }
     ensures limits { IfOk result spec.IsWithinLimits }
 {
     match start {
