@@ -55,7 +55,7 @@ _attrdir() {
       ;;
     set) options='--control --raw --help' ;;
     del) options='--control --help' ;;
-    get) options='--control --owner --prefix --key --value --format --help' ;;
+    get) options='--control --owner --prefix --key --value --raw --format --help' ;;
     watch) options='--control --owner --prefix --every --count --mark --retry --help' ;;
     owners) options='--sock --cluster --name --help' ;;
     log) options='--log --name --cluster --help' ;;

@@ -1,6 +1,7 @@
 """A part of tools/check-node: what commands do for scripts. It asks nodes that run for one row, has them write lines of standard input, sets the
 path of the control socket in the environment, has a watch outlast its node, and asks how far a node holds each owner."""
 import os
+import re
 import signal
 import socket
 import subprocess
@@ -28,6 +29,11 @@ def wrong(what, found, status, first, *about):
     want(f"what {what} said of {about} ({said!r})", [it for it in about if it not in said], [])
 
 
+def raw_of(spelling):
+    """The text that is spelled so."""
+    return re.sub(r"\\([0-9a-f]{2})", lambda found: chr(int(found[1], 16)), spelling)
+
+
 def one_row(check):
     """get --key prints the row of that key alone, with --value its value alone, and ends with status 1 where there is none."""
     node = check.node("a").start()
@@ -38,6 +44,10 @@ def one_row(check):
         (["--owner", "a", "--key", "web/addr", "--value"], (0, "10.0.0.1:80\n", "")),
         (["--value", "--key", "web/w", "--owner", "a"], (0, "7\n", "")),
         (["--owner", "a", "--key", "up", "--value"], (0, "true\n", "")),
+        (["--owner", "a", "--key", "up", "--value", "--raw"], (0, "true\n", "")),
+        (["--raw", "--owner", "a", "--value", "--key", "web/w"], (0, "7\n", "")),
+        (["--owner", "a", "--key", "web/addr", "--value", "--raw"], (0, "10.0.0.1:80\n", "")),
+        (["--owner", "a", "--key", "web/add", "--value", "--raw"], (1, "", "")),
         (["--owner", "a", "--key", "web/w", "--format", "text"], (0, "a web/w 3 weight 7\n", "")),
         (["--owner", "a", "--key", "web/w", "--format", "json"], (0, '{"key":"web/w","kind":"weight","owner":"a","value":7,"version":3}\n', "")),
         (["--owner", "a", "--key", "web/add"], (1, "", "")),
@@ -49,7 +59,8 @@ def one_row(check):
     want("del", node.command("del", "web/addr"), (0, "version 5\n", ""))
     want("a key that was removed", node.command("get", "--owner", "a", "--key", "web/addr"), (1, "", ""))
     for words in (["--key", "up"], ["--value"], ["--owner", "a", "--value"], ["--owner", "a", "--key", "up", "--prefix", "u"],
-                  ["--owner", "a", "--key", "up", "--value", "--format", "json"]):
+                  ["--owner", "a", "--key", "up", "--value", "--format", "json"], ["--raw"], ["--owner", "a", "--key", "up", "--raw"],
+                  ["--owner", "a", "--key", "up", "--value", "--raw", "--format", "json"]):
         want(f"the status of get {words}", node.command("get", *words)[:2], (2, ""))
     wrong("get of no key", node.command("get", "--owner", "a", "--key", "K"), 3, "fault 3", "key 'K': ")
     wrong("get of no name", node.command("get", "--owner", "A", "--key", "K"), 3, "fault 2", "--owner 'A': ")
@@ -58,7 +69,8 @@ def one_row(check):
 
 
 def texts_of_scripts(check):
-    """A text is one argument of set, as it is spelled or with --raw as it is; in lines it is all behind its kind; get prints it as it is spelled."""
+    """A text is one argument of set, as it is spelled or with --raw as it is; in lines it is all behind its kind; get prints it as it is spelled, or with
+    --value --raw as it is."""
     node = check.node("a").start()
     for at, (words, line) in enumerate((
         (["t/a", "text", "two  words "], "two  words "), (["t/b", "text", r" a\5cb\0a"], r" a\5cb\0a"), (["--raw", "t/c", "text", "C:\\5c\n\té "], r"C:\5c5c\0a\09é "),
@@ -68,7 +80,9 @@ def texts_of_scripts(check):
         want(f"set {words}", node.command("set", *words), (0, f"version {at}\n", ""))
         if line is not None:
             want(f"the row of {key}", node.command("get", "--owner", "a", "--key", key), (0, f"a {key} {at} text {line}\n", ""))
-            want(f"the value of {key}", node.command("get", "--owner", "a", "--key", key, "--value"), (0, f"{line}\n", ""))
+            asked = ["--owner", "a", "--key", key, "--value"]
+            want(f"the value of {key}", node.command("get", *asked), (0, f"{line}\n", ""))
+            want(f"the raw value of {key}", node.command("get", *asked, "--raw"), (0, f"{raw_of(line)}\n", ""))
     for words in ([""], [r"a\41"], [r"\5C"], [r"\5"], ["\\"], ["a\nb"], ["\x7f"], ["x" * 513], ["é" * 257], ["--raw", ""], ["--raw", "x" * 513]):
         *raw, word = words
         wrong(f"set of the text {words}", node.command("set", *raw, "t/x", "text", word), 3, "fault 4", "value 'text ")

@@ -1,5 +1,6 @@
-"""The parts of tools/check-node that look at when a node dials, how long it waits for others, and what it does where its log or its sockets are not as
-they should be."""
+"""The parts of tools/check-node that look at when a node dials, how long it waits for others, and what it does where its log, its sockets or its
+descriptors are not as they should be."""
+import os
 import re
 import resource
 import signal
@@ -9,7 +10,7 @@ import time
 
 from check_metrics import awaits
 from check_serving import Peer
-from nodes import SECONDS, Difference, ask, connect, exchange, hello, number, put, version_of, want, weight
+from nodes import SECONDS, Difference, ask, connect, exchange, hello, number, put, read_frame, text, version_of, want, weight
 
 
 def seconds_until(node, owner, version):
@@ -149,7 +150,8 @@ def fill(node):
 
 
 def full_disks(check):
-    """A log that has no room closes: the node says so once, and goes on without writes, or ends with --on-log-fault exit."""
+    """A log that has no room closes: the node says so once, and goes on without writes, or ends with --on-log-fault exit, also in the pause behind its last
+    round."""
     folder = check.folder()
     node = check.node("a", "--metrics", str(folder / "a.prom"), folder=folder)
     node.how["preexec_fn"] = without_room
@@ -166,13 +168,36 @@ def full_disks(check):
     if not rows <= len(node.get()) <= rows + 1:
         raise Difference(f"{len(node.get())} rows came back of {rows}")
     node.kill()
-    node = check.node("a", "--on-log-fault", "exit")
-    node.how["preexec_fn"] = without_room
-    node.start()
-    want("the write that had no room", fill(node), (3, "fault 18"))
-    status, printed, said = node.ended()
-    want("its end", (status, printed, said[-3]), (3, "", "fault 18"))
-    want("its sockets", (node.sock.exists(), node.control.exists()), (False, False))
+    for more in ((), ("--rounds", "1", "--pause", "600000")):
+        node = check.node("a", "--on-log-fault", "exit", *more)
+        node.how["preexec_fn"] = without_room
+        node.start()
+        want("the write that had no room", fill(node), (3, "fault 18"))
+        status, printed, said = node.ended()
+        want(f"its end {more}", (status, printed, said[-3]), (3, "", "fault 18"))
+        want("its sockets", (node.sock.exists(), node.control.exists()), (False, False))
+
+
+def no_descriptors(check):
+    """A node that has no descriptor left for a while goes on with all its workers, and at its control socket."""
+    node = check.node("a", "--workers", "3").start()
+    pid = node.ran.pid
+    soft, hard = resource.prlimit(pid, resource.RLIMIT_NOFILE)
+    open_ones = os.listdir(f"/proc/{pid}/fd")
+    resource.prlimit(pid, resource.RLIMIT_NOFILE, (next(it for it in range(hard) if str(it) not in open_ones), hard))
+    for _ in range(20):
+        for path in (node.sock, node.control):
+            connect(path).close()
+        time.sleep(0.02)
+    resource.prlimit(pid, resource.RLIMIT_NOFILE, (soft, hard))
+    # (each of these holds a worker until it says Bye)
+    peers = [connect(node.sock) for _ in range(3)]
+    for at, peer in enumerate(peers):
+        peer.sendall(hello(f"b{at}"))
+    want("what each of as many peers as there are workers gets", [read_frame(it) for it in peers], 3 * [(1, text("c") + text("a"))])
+    for peer in peers:
+        peer.close()
+    want("a write", node.command("set", "k", "weight", "5"), (0, "version 1\n", ""))
 
 
 def left_sockets(check):
@@ -194,4 +219,4 @@ def times(check):
     want("how its lines begin", [bool(re.match(moment, it)) for it in said], [True, True])
 
 
-PARTS = (news, faulty_peers, silent_peers, silent_callers, full_disks, left_sockets, times)
+PARTS = (news, faulty_peers, silent_peers, silent_callers, full_disks, no_descriptors, left_sockets, times)

@@ -1,5 +1,6 @@
 pub mod Keeping
 pub mod Lines
+pub mod Beginning
 pub mod Owners
 pub mod Removals
 pub mod Rows

@@ -1,8 +1,14 @@
 -- Which removals of a log go.
-use Rattle.std.specs.Prelude.{ℕ, not, List, length}
+use Rattle.std.specs.Prelude.{◌≡◌, ◌⊎◌, ℕ, not, List, length, Option, Result, Err}
 use Rattle.std.specs.List.{filter}
+use Rattle.std.specs.Io.KnownBytes.{Keeps}
 use Rattle.sb_types.specs.Records.{Entry, Table}
 use Rattle.sb_types.specs.Runs.{is_set}
+use Rattle.sb_types.specs.declared.fault.Fault.{Fault}
+use Rattle.sb_frames.specs.declared.last_write.Outcome.{Outcome}
+use Rattle.sb_log.specs.Records.{Log}
+use Rattle.sb_log.specs.Puts.{Gives, FailsToLoad, RefusesFloor}
+use Rattle.sb_lines.specs.Printed.{PurgesAndPrints}
 use Rattle.attrdir.specs.declared.log_file.Floor.{Floor}
 use Rattle.attrdir.specs.declared.log_file.Floor.TheVariants.{At, Last}
 
@@ -14,3 +20,18 @@ removals_in entries = length (filter (λ e. not (is_set e.slot)) entries)
 abbrev pub floor_of : Floor → Table → ℕ
 floor_of (At version) content = version
 floor_of Last content = content.held
+
+-- why removals stay: the log is not read, or, where it was, its floor is not raised to its last version
+abbrev pub FailsToDrop : Log → Fault → Log → Type 0
+FailsToDrop old fault new = FailsToLoad old fault new ⊎ ((read : Log) × (table : Table) × Gives old table read × RefusesFloor read table.held fault new)
+
+-- a purge up to a version, which prints it
+abbrev pub PurgesUpTo : ℕ → Log → Option (List ℕ) → Result (Unit {0}) Fault → Log → Option (List ℕ) → Type 0
+PurgesUpTo version old before result new after = (last : Outcome) × PurgesAndPrints version old new before after result last
+
+-- up to the version that is given; or, where the log is read, up to its last one, and else nothing is printed
+abbrev pub PurgesTo : Floor → Log → Option (List ℕ) → Result (Unit {0}) Fault → Log → Option (List ℕ) → Type 0
+PurgesTo (At version) old before result new after = PurgesUpTo version old before result new after
+PurgesTo Last old before result new after =
+    ((fault : Fault) × (result ≡ Err fault) × FailsToLoad old fault new × Keeps before after)
+    ⊎ ((read : Log) × (table : Table) × Gives old table read × PurgesUpTo table.held read before result new after)

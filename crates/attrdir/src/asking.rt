@@ -2,7 +2,7 @@
 ghost use Rattle.std.specs.Prelude.{◌≡◌, ◌<◌};
 
 use crate::counting::Output;
-use crate::failure::{Failure, Place};
+use crate::failure::{Failure, FaultPlace};
 use sb_codec::{Ask, Message, Rows};
 use sb_frames::Steps;
 use sb_listing::print_json_rows;
@@ -30,7 +30,7 @@ pub(crate) fn limit(stream: &UnixStream) -> io::Result<()> {
 }
 
 /// One request and its answer over a connection.
-fn exchange<K: Ledger>(
+fn request_answer<K: Ledger>(
     alloc: Global,
     stream: &UnixStream,
     request: &Message,
@@ -54,29 +54,32 @@ fn exchange<K: Ledger>(
 }
 
 /// The answer of the node behind a control socket. `ReadFailed` where it can't be reached, or is silent for a minute; then
-/// the faults of `ask_control`.
+/// the faults of `ask_control`. It waits without limit where so many others wait at the socket that it takes no more.
 fn answer_of<'a>(
     rt: &HostRuntime,
     control: &'a str,
     request: &Message,
 ) -> Result<Message, Failure<'a>> {
     let Ok(stream) = UnixStream::connect(rt, control) else {
-        return Err(Failure::at(Place::Unreached(control), Fault::ReadFailed));
+        return Err(Failure::at(FaultPlace::Unreached(control), Fault::ReadFailed));
     };
     if limit(&stream).is_err() {
-        return Err(Failure::at(Place::Control(control), Fault::ReadFailed));
+        return Err(Failure::at(FaultPlace::Control(control), Fault::ReadFailed));
     }
-    match exchange::<Brand>(rt.alloc(), &stream, request, Blank::new(1)) {
+    match request_answer::<Brand>(rt.alloc(), &stream, request, Blank::new(1)) {
         Ok(answer) => Ok(answer),
-        Err(fault) => Err(Failure::at(Place::Control(control), fault)),
+        Err(fault) => Err(Failure::at(FaultPlace::Control(control), fault)),
     }
 }
 
 /// The failure of an answer that is not the one to the request.
 fn unanswered<'a>(control: &'a str, reason: NoAnswer) -> Failure<'a> {
     match reason {
-        NoAnswer::Refused(fault) => Failure::at(Place::Node(control), fault),
-        NoAnswer::OtherKind(kind) => Failure::at(Place::Control(control), Fault::UnknownKind(kind)),
+        NoAnswer::Refused(fault) => Failure::at(FaultPlace::Node(control), fault),
+        NoAnswer::OtherKind(kind) => Failure::at(
+            FaultPlace::Control(control),
+            Fault::UnknownKind(kind),
+        ),
     }
 }
 
@@ -118,14 +121,14 @@ pub(crate) fn first_page_of<'a>(
     if goes_on(&page, ask.after) {
         return Ok(page);
     }
-    Err(Failure::at(Place::Control(control), Fault::Malformed(KIND_ROWS)))
+    Err(Failure::at(FaultPlace::Control(control), Fault::Malformed(KIND_ROWS)))
 }
 
 /// Why not all pages of the node behind a control socket came.
 fn paging_failure<'a>(control: &'a str, fault: PagingFault<Failure<'a>>) -> Failure<'a> {
     match fault {
         PagingFault::Failed(failure) => failure,
-        PagingFault::Wrong(fault) => Failure::at(Place::Control(control), fault),
+        PagingFault::Wrong(fault) => Failure::at(FaultPlace::Control(control), fault),
     }
 }
 
@@ -143,7 +146,7 @@ pub(crate) fn take_all<'a, P: Pager<Failure = Failure<'a>>>(
 
 /// The form in which rows are printed.
 #[derive(Clone, Copy)]
-pub(crate) enum Form {
+pub(crate) enum RowFormat {
     /// The words of a row.
     Text,
     /// A JSON object of a row.
@@ -155,11 +158,11 @@ pub(crate) fn print_page(
     rt: &HostRuntime,
     output: &mut Output<'_>,
     page: &Rows,
-    form: Form,
+    format: RowFormat,
 ) -> Result<(), Fault> {
-    let (printed, _) = match form {
-        Form::Text => print_rows(rt.alloc(), output, page),
-        Form::Json => print_json_rows(rt.alloc(), output, page),
+    let (printed, _) = match format {
+        RowFormat::Text => print_rows(rt.alloc(), output, page),
+        RowFormat::Json => print_json_rows(rt.alloc(), output, page),
     };
     match printed {
         Err(Fault::WriteFailed(_)) => Err(Fault::WriteFailed(output.taken())),
@@ -172,7 +175,7 @@ pub(crate) fn print_page(
 struct Printer<'r, 'a> {
     rt: &'r HostRuntime,
     control: &'a str,
-    form: Form,
+    format: RowFormat,
     output: Output<'r>,
 }
 
@@ -186,7 +189,7 @@ impl<'a> Pager for Printer<'_, 'a> {
     }
 
     fn take(&mut self, page: &Rows) -> Result<(), Failure<'a>> {
-        print_page(self.rt, &mut self.output, page, self.form)?;
+        print_page(self.rt, &mut self.output, page, self.format)?;
         Ok(())
     }
 }
@@ -196,13 +199,13 @@ pub(crate) fn print_all<'a>(
     rt: &HostRuntime,
     control: &'a str,
     asked: Ask,
-    form: Form,
+    format: RowFormat,
 ) -> Result<(), Failure<'a>> {
     let output = Output::new(rt);
     let mut printer = Printer {
         rt,
         control,
-        form,
+        format,
         output,
     };
     take_all(control, &mut printer, asked)

@@ -1,5 +1,9 @@
 //! The log of a name whose log is lost, or that is to end.
-use crate::failure::{Failure, Place, Setting};
+ghost use Rattle.std.specs.Prelude.{◌≡◌, ◌+◌, IfOk, Ok};
+ghost use Rattle.attrdir.specs.declared.beginning.TheConstants.{UNHEARD_MOST};
+ghost use Rattle.attrdir.specs.Beginning as spec;
+
+use crate::failure::{Failure, FaultPlace, Setting};
 use crate::log_file::make_log;
 use crate::owners::ask_greatest;
 use crate::words::name_of;
@@ -18,11 +22,23 @@ pub(crate) enum Start<'a> {
 }
 
 /// A version within the limits. `BadSetting` at this place.
-fn within_limits<'a>(version: u64, place: Place<'a>) -> Result<u64, Failure<'a>> {
+fn within_limits<'a>(version: u64, place: FaultPlace<'a>) -> Result<u64, Failure<'a>>
+    ensures given { IfOk result (λ v. v ≡ version) }
+    ensures limits { IfOk result spec.IsWithinLimits }
+    ensures every { spec.IsWithinLimits version → result ≡ Ok version }
+{
     if version == 0 || version > VERSION_MOST {
         return Err(Failure::at(place, Fault::BadSetting));
     }
     Ok(version)
+}
+
+/// As far behind a version that the node behind this socket heard as its owner may have been, unheard. `BadSetting` outside the limits.
+fn version_beyond<'a>(heard: u64, sock: &'a str) -> Result<u64, Failure<'a>>
+    ensures far { IfOk result (λ version. version ≡ heard + UNHEARD_MOST) }
+    ensures limits { IfOk result spec.IsWithinLimits }
+{
+    within_limits(heard.saturating_add(UNHEARD_MOST), FaultPlace::Heard(sock))
 }
 
 /// The version that is meant. `BadSetting` outside the limits; the faults of `ask_greatest`.
@@ -31,12 +47,15 @@ fn version_of<'a>(
     start: Start<'a>,
     owner: Name,
     cluster: Name,
-) -> Result<u64, Failure<'a>> {
+) -> Result<u64, Failure<'a>>
+    ensures meant { IfOk result (spec.IsMeant start.entry) }
+    ensures limits { IfOk result spec.IsWithinLimits }
+{
     match start {
-        Start::After(version) => within_limits(version, Place::Setting(Setting::After)),
+        Start::After(version) => within_limits(version, FaultPlace::Setting(Setting::After)),
         Start::From(sock) => {
             let heard = ask_greatest(rt, sock, cluster, owner)?;
-            within_limits(heard.saturating_add(UNHEARD_MOST), Place::Heard(sock))
+            version_beyond(heard, sock)
         }
     }
 }
@@ -70,6 +89,6 @@ pub(crate) fn begin_log<'a>(
     let begun = log.begin(version);
     match begun.and(log.close()) {
         Ok(()) => print_begun(rt, path, version),
-        Err(fault) => Err(Failure::at(Place::Log(path), fault)),
+        Err(fault) => Err(Failure::at(FaultPlace::Log(path), fault)),
     }
 }

@@ -1,14 +1,14 @@
 //! What the program does by its command line.
-use crate::asking::{Form, print_all, put};
+use crate::asking::{RowFormat, print_all, put};
 use crate::batch::write_lines;
 use crate::beginning::{Start, begin_log};
 use crate::commands::command;
 use crate::failure::Failure;
 use crate::log_file::{Floor, print_log, purge_log};
-use crate::one_row::{Wanted, print_one};
+use crate::one_row::{Portion, RowQuery, print_one};
 use crate::owners::print_owners;
-use crate::serving::Given;
-use crate::watching::{Watched, watch, watch_on};
+use crate::serving::ServeArguments;
+use crate::watching::{WatchQuery, watch, watch_on};
 use crate::words::{key_of, name_of, prefix_of, text_of, value_of};
 use clap::ArgMatches;
 use clap::error::ErrorKind;
@@ -65,7 +65,7 @@ pub(crate) enum Next<'a> {
     /// Nothing: the exit status.
     Ended(u8),
     /// A node is to run, which is for `main`: nothing else may start threads.
-    Serve(Given<'a>),
+    Serve(ServeArguments<'a>),
 }
 
 /// The words of the command line; none where one is not UTF-8, which is told.
@@ -165,7 +165,7 @@ fn node_of<'a>(rt: &HostRuntime, given: &ArgMatches<'a>) -> Result<Next<'a>, Fai
     }
     let mut peers = Vec::new(rt.alloc());
     peers.extend_from_slice(given.get_strs("PEER").unwrap_or(&[]))?;
-    Ok(Next::Serve(Given {
+    Ok(Next::Serve(ServeArguments {
         name: value(given, "name"),
         log: value(given, "log"),
         settings: settings_of(given),
@@ -249,23 +249,30 @@ fn asked_of<'a>(given: &ArgMatches<'a>) -> Result<Ask, Failure<'a>> {
     })
 }
 
+/// How much of the row of one key is printed.
+fn portion_of(given: &ArgMatches<'_>, format: RowFormat) -> Portion {
+    if given.get_flag("raw") {
+        Portion::RawValue
+    } else if given.get_flag("value") {
+        Portion::Value
+    } else {
+        Portion::Row(format)
+    }
+}
+
 /// Prints the row of one key, and says whether there is one.
 fn run_get_one<'a>(
     rt: &HostRuntime,
     given: &ArgMatches<'a>,
     key: &'a str,
-    form: Form,
+    format: RowFormat,
 ) -> Result<u8, Failure<'a>> {
-    let wanted = Wanted {
+    let query = RowQuery {
         owner: name_of("--owner", value(given, "owner"))?,
         key: key_of(key)?,
-        form: if given.get_flag("value") {
-            None
-        } else {
-            Some(form)
-        },
+        portion: portion_of(given, format),
     };
-    if print_one(rt, value(given, "control"), &wanted)? {
+    if print_one(rt, value(given, "control"), &query)? {
         Ok(0)
     } else {
         Ok(NONE_STATUS)
@@ -273,14 +280,14 @@ fn run_get_one<'a>(
 }
 
 fn run_get<'a>(rt: &HostRuntime, given: &ArgMatches<'a>) -> Result<u8, Failure<'a>> {
-    let form = match value(given, "format") {
-        "json" => Form::Json,
-        _ => Form::Text,
+    let format = match value(given, "format") {
+        "json" => RowFormat::Json,
+        _ => RowFormat::Text,
     };
     match given.get_str("key") {
-        Some(key) => run_get_one(rt, given, key, form),
+        Some(key) => run_get_one(rt, given, key, format),
         None => {
-            print_all(rt, value(given, "control"), asked_of(given)?, form)?;
+            print_all(rt, value(given, "control"), asked_of(given)?, format)?;
             Ok(0)
         }
     }
@@ -290,16 +297,16 @@ fn run_watch<'a>(rt: &HostRuntime, given: &ArgMatches<'a>) -> Result<u8, Failure
     if has_wrong_number(rt, given, &WATCH_NUMBERS) {
         return Ok(USAGE_STATUS);
     }
-    let watched = Watched {
+    let query = WatchQuery {
         asked: asked_of(given)?,
         every: given.get_one::<u64>("every").unwrap_or(0),
         count: given.get_one::<u64>("count").unwrap_or(0),
-        marks: given.get_flag("mark"),
+        prints_asked: given.get_flag("mark"),
     };
     if given.get_flag("retry") {
-        watch_on(rt, value(given, "control"), &watched)?;
+        watch_on(rt, value(given, "control"), &query)?;
     } else {
-        watch(rt, value(given, "control"), &watched)?;
+        watch(rt, value(given, "control"), &query)?;
     }
     Ok(0)
 }

@@ -5,13 +5,15 @@ use std::alloc::{AllocError, Global};
 
 /// How an option or a word is given.
 #[derive(Clone, Copy)]
-enum Form {
+enum OptionKind {
     /// A word that has to be given.
     Word,
     /// Any number of words.
     Words,
     /// An option without a value.
     Flag,
+    /// An option without a value, only beside this option.
+    FlagOf(&'static str),
     /// A word that may be left out.
     WordOrNone,
     /// A number that may be left out.
@@ -40,7 +42,7 @@ enum Form {
 #[derive(Clone, Copy)]
 struct Part {
     name: &'static str,
-    form: Form,
+    kind: OptionKind,
     /// What the help calls its value, where it is an option that has one.
     value: &'static str,
     help: &'static str,
@@ -58,175 +60,182 @@ struct Task {
 
 const CONTROL: Part = Part {
     name: "control",
-    form: Form::Control,
+    kind: OptionKind::Control,
     value: "PATH",
     help: "The control socket of the node, or ATTRDIR_CONTROL in the environment",
 };
 
 const KEY: Part = Part {
     name: "KEY",
-    form: Form::Word,
+    kind: OptionKind::Word,
     value: "",
     help: "What it is written under; - alone for lines of standard input",
 };
 
 const KIND: Part = Part {
     name: "KIND",
-    form: Form::WordOrNone,
+    kind: OptionKind::WordOrNone,
     value: "",
     help: "addr, weight, flag or text",
 };
 
 const VALUE: Part = Part {
     name: "VALUE",
-    form: Form::WordOrNone,
+    kind: OptionKind::WordOrNone,
     value: "",
     help: "What is written",
 };
 
 const RAW: Part = Part {
     name: "raw",
-    form: Form::Flag,
+    kind: OptionKind::Flag,
     value: "",
     help: "Takes the bytes of VALUE as they are, where KIND is text",
 };
 
 const REMOVED_KEY: Part = Part {
     name: "KEY",
-    form: Form::Word,
+    kind: OptionKind::Word,
     value: "",
     help: "What was written under",
 };
 
 const OWNER: Part = Part {
     name: "owner",
-    form: Form::Value,
+    kind: OptionKind::Value,
     value: "O",
     help: "Only what this node wrote",
 };
 
 const PREFIX: Part = Part {
     name: "prefix",
-    form: Form::Value,
+    kind: OptionKind::Value,
     value: "P",
     help: "Only keys that begin so",
 };
 
 const ONE_KEY: Part = Part {
     name: "key",
-    form: Form::ValueBeside("owner", "prefix"),
+    kind: OptionKind::ValueBeside("owner", "prefix"),
     value: "K",
     help: "Only the row of this key; it wants --owner",
 };
 
 const VALUE_ALONE: Part = Part {
     name: "value",
-    form: Form::FlagBeside("key", "format"),
+    kind: OptionKind::FlagBeside("key", "format"),
     value: "",
     help: "Prints the value alone; it wants --key",
 };
 
+const RAW_VALUE: Part = Part {
+    name: "raw",
+    kind: OptionKind::FlagOf("value"),
+    value: "",
+    help: "Prints a text as it is, not as it is spelled; it wants --value",
+};
+
 const FORMAT: Part = Part {
     name: "format",
-    form: Form::OneOf(&["text", "json"], "text"),
+    kind: OptionKind::OneOf(&["text", "json"], "text"),
     value: "FORMAT",
     help: "Words of a row, or a JSON object of it",
 };
 
 const EVERY: Part = Part {
     name: "every",
-    form: Form::NumberOr("200"),
+    kind: OptionKind::NumberOr("200"),
     value: "MS",
     help: "How many milliseconds it waits before it asks again",
 };
 
 const COUNT: Part = Part {
     name: "count",
-    form: Form::NumberOr("0"),
+    kind: OptionKind::NumberOr("0"),
     value: "N",
     help: "After how many times it ends, 0 for never",
 };
 
 const MARK: Part = Part {
     name: "mark",
-    form: Form::Flag,
+    kind: OptionKind::Flag,
     value: "",
     help: "Prints a line 'asked' behind what each asking brought",
 };
 
 const RETRY: Part = Part {
     name: "retry",
-    form: Form::Flag,
+    kind: OptionKind::Flag,
     value: "",
     help: "Goes on where the node does not answer, and keeps its rows",
 };
 
 const PEER_SOCK: Part = Part {
     name: "sock",
-    form: Form::Needed,
+    kind: OptionKind::Needed,
     value: "PATH",
     help: "The socket of the node for other nodes",
 };
 
 const ASKING_NAME: Part = Part {
     name: "name",
-    form: Form::ValueOr("attrdir-owners"),
+    kind: OptionKind::ValueOr("attrdir-owners"),
     value: "N",
     help: "The name under which it asks, another than the node's",
 };
 
 const LOG: Part = Part {
     name: "log",
-    form: Form::Needed,
+    kind: OptionKind::Needed,
     value: "FILE",
     help: "The file of the log",
 };
 
 const LOG_NAME: Part = Part {
     name: "name",
-    form: Form::Needed,
+    kind: OptionKind::Needed,
     value: "N",
     help: "The owner, as a node's name",
 };
 
 const LOG_CLUSTER: Part = Part {
     name: "cluster",
-    form: Form::Needed,
+    kind: OptionKind::Needed,
     value: "C",
     help: "The name of its cluster",
 };
 
 const FLOOR: Part = Part {
     name: "FLOOR",
-    form: Form::NumberOrNone,
+    kind: OptionKind::NumberOrNone,
     value: "",
     help: "The version up to which removals go, at most the last version of the log",
 };
 
 const ALL: Part = Part {
     name: "all",
-    form: Form::Flag,
+    kind: OptionKind::Flag,
     value: "",
     help: "Up to the last version of the log, in place of FLOOR",
 };
 
 const NEW_LOG: Part = Part {
     name: "log",
-    form: Form::Needed,
+    kind: OptionKind::Needed,
     value: "FILE",
     help: "The file of the log, which is made where it is not there",
 };
 
 const AFTER: Part = Part {
     name: "after",
-    form: Form::Number,
+    kind: OptionKind::Number,
     value: "V",
     help: "The version behind which the log begins, 1 to 1099511627775",
 };
 
 const FROM: Part = Part {
     name: "from",
-    form: Form::Value,
+    kind: OptionKind::Value,
     value: "PATH",
     help: "The socket for other nodes of a node that heard of the name, in place of --after: the version is the last that it heard of, and \
 1,048,576 more",
@@ -234,161 +243,161 @@ const FROM: Part = Part {
 
 const EXPLAIN: Part = Part {
     name: "explain",
-    form: Form::Flag,
+    kind: OptionKind::Flag,
     value: "",
     help: "Says in words what the frames hold",
 };
 
 const NODE_NAME: Part = Part {
     name: "name",
-    form: Form::Needed,
+    kind: OptionKind::Needed,
     value: "N",
     help: "The name of the node, under which it writes",
 };
 
 const NODE_CLUSTER: Part = Part {
     name: "cluster",
-    form: Form::Needed,
+    kind: OptionKind::Needed,
     value: "C",
     help: "The name of the cluster, the same at each node",
 };
 
 const NODE_LOG: Part = Part {
     name: "log",
-    form: Form::Needed,
+    kind: OptionKind::Needed,
     value: "FILE",
     help: "The file of its log",
 };
 
 const SOCK: Part = Part {
     name: "sock",
-    form: Form::Needed,
+    kind: OptionKind::Needed,
     value: "PATH",
     help: "The socket that it makes for other nodes",
 };
 
 const NODE_CONTROL: Part = Part {
     name: "control",
-    form: Form::Needed,
+    kind: OptionKind::Needed,
     value: "PATH",
     help: "The socket that it makes for set, del, get and watch",
 };
 
 const PEERS: Part = Part {
     name: "PEER",
-    form: Form::Words,
+    kind: OptionKind::Words,
     value: "",
     help: "The sockets of the nodes that it asks, one a round, in turn",
 };
 
 const BUDGET: Part = Part {
     name: "budget",
-    form: Form::NumberOr("65536"),
+    kind: OptionKind::NumberOr("65536"),
     value: "B",
     help: "The most bytes of a frame, 1024 to 65536",
 };
 
 const ORDER: Part = Part {
     name: "order",
-    form: Form::OneOf(&["breadth", "depth"], "breadth"),
+    kind: OptionKind::OneOf(&["breadth", "depth"], "breadth"),
     value: "ORDER",
     help: "Which writes a frame takes first, of each owner one or of one owner all",
 };
 
 const MAX_VERSION: Part = Part {
     name: "max-version",
-    form: Form::NumberOr("1099511627775"),
+    kind: OptionKind::NumberOr("1099511627775"),
     value: "V",
     help: "The last version that it gives, 1 to 1099511627775",
 };
 
 const SEATS: Part = Part {
     name: "seats",
-    form: Form::Number,
+    kind: OptionKind::Number,
     value: "S",
     help: "How many threads read and write at most, up to 64 [default: workers and 2]",
 };
 
 const WORKERS: Part = Part {
     name: "workers",
-    form: Form::NumberOr("4"),
+    kind: OptionKind::NumberOr("4"),
     value: "W",
     help: "How many nodes it serves at once, 1 to 62",
 };
 
 const ROUNDS: Part = Part {
     name: "rounds",
-    form: Form::NumberOr("0"),
+    kind: OptionKind::NumberOr("0"),
     value: "R",
     help: "After how many rounds it ends, 0 for never",
 };
 
 const PAUSE: Part = Part {
     name: "pause",
-    form: Form::NumberOr("1000"),
+    kind: OptionKind::NumberOr("1000"),
     value: "MS",
     help: "How many milliseconds it waits after a round",
 };
 
 const FANOUT: Part = Part {
     name: "fanout",
-    form: Form::NumberOr("3"),
+    kind: OptionKind::NumberOr("3"),
     value: "K",
     help: "How many nodes it asks right away, one after another, when it has news, 0 for none",
 };
 
 const IDLE: Part = Part {
     name: "idle",
-    form: Form::NumberOr("30000"),
+    kind: OptionKind::NumberOr("30000"),
     value: "MS",
     help: "After how many milliseconds without a byte it ends a connection, 0 for never",
 };
 
 const DIAL_IDLE: Part = Part {
     name: "dial-idle",
-    form: Form::NumberOr("2000"),
+    kind: OptionKind::NumberOr("2000"),
     value: "MS",
     help: "The same where it asks a node, 0 for never",
 };
 
 const REQUEST: Part = Part {
     name: "request",
-    form: Form::NumberOr("2000"),
+    kind: OptionKind::NumberOr("2000"),
     value: "MS",
     help: "How many milliseconds a request may take to come, and its answer to be read, 0 for no limit",
 };
 
 const MAX_READS: Part = Part {
     name: "max-reads",
-    form: Form::Number,
+    kind: OptionKind::Number,
     value: "M",
     help: "How many reads a connection may take [default: without limit]",
 };
 
 const ON_LOG_FAULT: Part = Part {
     name: "on-log-fault",
-    form: Form::OneOf(&["serve", "exit"], "serve"),
+    kind: OptionKind::OneOf(&["serve", "exit"], "serve"),
     value: "WHAT",
     help: "What it does when its log cannot be written: go on without writes, or end",
 };
 
 const METRICS: Part = Part {
     name: "metrics",
-    form: Form::Value,
+    kind: OptionKind::Value,
     value: "FILE",
     help: "The file in which it tells how it is, as Prometheus reads it [default: none]",
 };
 
 const PURGE_REMOVALS: Part = Part {
     name: "purge-removals",
-    form: Form::NumberOr("1024"),
+    kind: OptionKind::NumberOr("1024"),
     value: "N",
     help: "From how many removals in its log on it drops them before it starts, 0 for never",
 };
 
 const LOG_TIME: Part = Part {
     name: "log-time",
-    form: Form::Flag,
+    kind: OptionKind::Flag,
     value: "",
     help: "Begins each line on standard error with the time",
 };
@@ -441,7 +450,15 @@ const GET_TASK: Task = Task {
     name: "get",
     about: "Prints what a node has, its own and what it heard of others",
     more: help::GET,
-    parts: &[CONTROL, OWNER, PREFIX, ONE_KEY, VALUE_ALONE, FORMAT],
+    parts: &[
+        CONTROL,
+        OWNER,
+        PREFIX,
+        ONE_KEY,
+        VALUE_ALONE,
+        RAW_VALUE,
+        FORMAT,
+    ],
 };
 
 const WATCH_TASK: Task = Task {
@@ -536,27 +553,28 @@ fn arg_of<'a>(
     part: &Part,
     fallback: Option<&'a str>,
 ) -> Result<Arg<'a>, AllocError> {
-    Ok(match part.form {
-        Form::Word => word(alloc, part).required(true).action(ArgAction::Set),
-        Form::Words => word(alloc, part).num_args(0..).action(ArgAction::Append),
-        Form::WordOrNone => word(alloc, part).action(ArgAction::Set),
-        Form::NumberOrNone => word(alloc, part)
+    Ok(match part.kind {
+        OptionKind::Word => word(alloc, part).required(true).action(ArgAction::Set),
+        OptionKind::Words => word(alloc, part).num_args(0..).action(ArgAction::Append),
+        OptionKind::WordOrNone => word(alloc, part).action(ArgAction::Set),
+        OptionKind::NumberOrNone => word(alloc, part)
             .action(ArgAction::Set)
             .value_parser(value_parser!(u64)),
-        Form::Flag => flag(alloc, part),
-        Form::Needed => option(alloc, part).required(true),
-        Form::Control => control(alloc, part, fallback),
-        Form::Value => option(alloc, part),
-        Form::ValueOr(default) => option(alloc, part).default_value(default),
-        Form::ValueBeside(beside, other) => option(alloc, part)
+        OptionKind::Flag => flag(alloc, part),
+        OptionKind::FlagOf(beside) => flag(alloc, part).requires_arg(beside)?,
+        OptionKind::Needed => option(alloc, part).required(true),
+        OptionKind::Control => control(alloc, part, fallback),
+        OptionKind::Value => option(alloc, part),
+        OptionKind::ValueOr(default) => option(alloc, part).default_value(default),
+        OptionKind::ValueBeside(beside, other) => option(alloc, part)
             .requires_arg(beside)?
             .conflicts_with(other)?,
-        Form::FlagBeside(beside, other) => flag(alloc, part)
+        OptionKind::FlagBeside(beside, other) => flag(alloc, part)
             .requires_arg(beside)?
             .conflicts_with(other)?,
-        Form::Number => number(alloc, part),
-        Form::NumberOr(default) => number(alloc, part).default_value(default),
-        Form::OneOf(values, default) => option(alloc, part)
+        OptionKind::Number => number(alloc, part),
+        OptionKind::NumberOr(default) => number(alloc, part).default_value(default),
+        OptionKind::OneOf(values, default) => option(alloc, part)
             .value_parser(values)
             .default_value(default),
     })

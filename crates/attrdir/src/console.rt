@@ -1,5 +1,5 @@
 //! What a node that runs says on standard error.
-use crate::log_file::Purged;
+use crate::log_file::DroppedRemovals;
 use crate::metrics::Metrics;
 use crate::metrics_file::MetricsFile;
 use jiff::Timestamp;
@@ -132,11 +132,11 @@ impl Console<'_, '_> {
     }
 
     /// Removals of the log went before the node starts.
-    pub(crate) fn purged(&self, purged: Purged) {
+    pub(crate) fn purged(&self, dropped: DroppedRemovals) {
         let (rt, head) = (self.rt, self.head(Level::Info));
         let _ = eprintln!(rt;
             "{head} log {}: {} removals up to version {} are purged",
-            self.log, purged.removals, purged.floor
+            self.log, dropped.removals, dropped.floor
         );
     }
 

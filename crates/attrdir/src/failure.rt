@@ -42,7 +42,7 @@ impl Setting {
 
 /// Where a fault was met.
 #[derive(Clone, Copy)]
-pub(crate) enum Place<'a> {
+pub(crate) enum FaultPlace<'a> {
     /// In what the command line gives, or at standard input or output.
     Line,
     /// In a word of the command line: what it is given for, and the word.
@@ -93,13 +93,13 @@ pub(crate) enum Place<'a> {
 #[derive(Clone, Copy)]
 pub(crate) struct Failure<'a> {
     fault: Fault,
-    place: Place<'a>,
+    place: FaultPlace<'a>,
     /// At which line of standard input, counted from 1; 0 where it was at none.
     line: u64,
 }
 
 impl<'a> Failure<'a> {
-    pub(crate) fn at(place: Place<'a>, fault: Fault) -> Failure<'a> {
+    pub(crate) fn at(place: FaultPlace<'a>, fault: Fault) -> Failure<'a> {
         Failure {
             fault,
             place,
@@ -119,9 +119,11 @@ impl<'a> Failure<'a> {
     /// Whether it may pass while nothing is changed but the node: it could not be reached, ended, fell silent, or refused.
     pub(crate) fn may_pass(&self) -> bool {
         match (&self.fault, self.place) {
-            (_, Place::Unreached(_) | Place::Node(_)) => true,
-            (Fault::ReadFailed | Fault::WriteFailed(_) | Fault::Truncated, Place::Control(_)) =>
-                true,
+            (_, FaultPlace::Unreached(_) | FaultPlace::Node(_)) => true,
+            (
+                Fault::ReadFailed | Fault::WriteFailed(_) | Fault::Truncated,
+                FaultPlace::Control(_),
+            ) => true,
             _ => false,
         }
     }
@@ -135,45 +137,49 @@ impl From<AllocError> for Failure<'_> {
 
 impl From<Fault> for Failure<'_> {
     fn from(fault: Fault) -> Self {
-        Failure::at(Place::Line, fault)
+        Failure::at(FaultPlace::Line, fault)
     }
 }
 
 /// The text of a fault, by where it was met.
 fn write_text<W: fmt::Write>(
     fault: &Fault,
-    place: Place<'_>,
+    place: FaultPlace<'_>,
     f: &mut fmt::Formatter<W>,
 ) -> fmt::Result {
     match (fault, place) {
-        (fault, Place::Node(_)) => write_told(fault, f),
-        (Fault::ReadFailed, Place::Unreached(_) | Place::NoPeer(_)) => f.write_str(
+        (fault, FaultPlace::Node(_)) => write_told(fault, f),
+        (Fault::ReadFailed, FaultPlace::Unreached(_) | FaultPlace::NoPeer(_)) => f.write_str(
             "no node could be reached",
         ),
-        (Fault::ReadFailed, Place::Peer(_)) => f.write_str("a peer can never be reached"),
+        (Fault::ReadFailed, FaultPlace::Peer(_)) => f.write_str("a peer can never be reached"),
         (
             Fault::ReadFailed,
-            Place::Taken(_)
-            | Place::Listening(_)
-            | Place::TooLong(_)
-            | Place::NoFolder(_)
-            | Place::Sockets(..),
+            FaultPlace::Taken(_)
+            | FaultPlace::Listening(_)
+            | FaultPlace::TooLong(_)
+            | FaultPlace::NoFolder(_)
+            | FaultPlace::Sockets(..),
         ) => f.write_str("a socket could not be made"),
-        (Fault::WriteFailed(_), Place::Metrics(_)) => f.write_str("metrics could not be written"),
-        (Fault::StoreFailed, Place::NoLog(_) | Place::NoLogFolder(_)) => f.write_str(
+        (Fault::WriteFailed(_), FaultPlace::Metrics(_)) => f.write_str(
+            "metrics could not be written",
+        ),
+        (Fault::StoreFailed, FaultPlace::NoLog(_) | FaultPlace::NoLogFolder(_)) => f.write_str(
             "there is no such log",
         ),
-        (Fault::StoreFailed, Place::UnreadableLog(_)) => f.write_str("the log may not be read"),
-        (Fault::StoreFailed, Place::LockedLog(_)) => f.write_str(
+        (Fault::StoreFailed, FaultPlace::UnreadableLog(_)) => f.write_str(
+            "the log may not be read",
+        ),
+        (Fault::StoreFailed, FaultPlace::LockedLog(_)) => f.write_str(
             "another process has the log open",
         ),
         (Fault::LogDamaged, _) => f.write_str(
             "the file is no log that this release reads, or a damaged one",
         ),
-        (Fault::NothingThere, Place::Session(_)) => f.write_str(
+        (Fault::NothingThere, FaultPlace::Session(_)) => f.write_str(
             "the node heard nothing of this name",
         ),
-        (Fault::OutOfTurn(next), Place::Log(_)) => write!(
+        (Fault::OutOfTurn(next), FaultPlace::Log(_)) => write!(
             f,
             "the log has writes, or began so before: its next write has version {next}"
         ),
@@ -196,44 +202,45 @@ fn write_told<W: fmt::Write>(fault: &Fault, f: &mut fmt::Formatter<W>) -> fmt::R
 }
 
 /// What to do where nobody could be reached, a socket could not be made, or input could not be read.
-fn about_reading(place: Place<'_>) -> &'static str {
+fn about_reading(place: FaultPlace<'_>) -> &'static str {
     match place {
-        Place::Unreached(_) => {
+        FaultPlace::Unreached(_) => {
             "no node answers at this path, or you may not open it: see that a node runs with this --control, that the path is right and has \
 1 to 107 bytes, and that you may write to the socket"
         }
-        Place::Control(_) | Place::Node(_) => {
+        FaultPlace::Control(_) | FaultPlace::Node(_) => {
             "the node fell silent, or ended: see whether it runs; where this was a write, it was made or may yet be: ask for it with get \
 once the node answers"
         }
-        Place::Taken(_) => {
+        FaultPlace::Taken(_) => {
             "a file is at this path that is no socket: give another path, or remove the file"
         }
-        Place::Listening(_) => { "a node listens at this path: end it, or give another path" }
-        Place::TooLong(_) | Place::Peer(_) => {
+        FaultPlace::Listening(_) => { "a node listens at this path: end it, or give another path" }
+        FaultPlace::TooLong(_) | FaultPlace::Peer(_) => {
             "the path of a socket has 1 to 107 bytes: give another one, as from the folder in which the node is started"
         }
-        Place::NoFolder(_) => "the folder of this path is not there: make it, or give another path",
-        Place::Sockets(..) =>
+        FaultPlace::NoFolder(_) =>
+            "the folder of this path is not there: make it, or give another path",
+        FaultPlace::Sockets(..) =>
             "see that these are two paths, of 1 to 107 bytes each, that you may write to the folder of each, and that the process may open more files (ulimit -n)",
         _ => "see where standard input comes from",
     }
 }
 
-fn about_store(place: Place<'_>) -> &'static str {
+fn about_store(place: FaultPlace<'_>) -> &'static str {
     match place {
-        Place::NoLog(_) => {
+        FaultPlace::NoLog(_) => {
             "there is no such file; to begin a new log, make an empty file, as with touch, and start again"
         }
-        Place::NoLogFolder(_) =>
+        FaultPlace::NoLogFolder(_) =>
             "the folder of this path is not there: make it, or give another path",
-        Place::UnreadableLog(_) => {
+        FaultPlace::UnreadableLog(_) => {
             "see that it is a file that you may read and write, as the user that made it, and that the process may open more files (ulimit -n)"
         }
-        Place::LockedLog(_) => {
+        FaultPlace::LockedLog(_) => {
             "a process has it open, as a node that runs: end that first; to read what the node has, use get at its control socket"
         }
-        Place::Node(_) => {
+        FaultPlace::Node(_) => {
             "the node could not write its log, and takes no more writes: see that its disk has room and works, and start it again"
         }
         _ => {
@@ -243,17 +250,17 @@ beside it, that you may write to its folder, where a file of its name with -wal 
     }
 }
 
-fn about_turns(place: Place<'_>) -> &'static str {
+fn about_turns(place: FaultPlace<'_>) -> &'static str {
     match place {
-        Place::Control(_) =>
+        FaultPlace::Control(_) =>
             "the answer takes more than 65,536 reads: see what answers at this path",
-        Place::Node(_) => "start the node again",
+        FaultPlace::Node(_) => "start the node again",
         _ => "a script may take 1,000,000 reads: play it in parts",
     }
 }
 
 /// What to do about a fault of a request, its answer or what they carry.
-fn about_exchange(fault: &Fault, place: Place<'_>) -> &'static str {
+fn about_exchange(fault: &Fault, place: FaultPlace<'_>) -> &'static str {
     match fault {
         Fault::BadMark
         | Fault::BadVersion
@@ -265,9 +272,9 @@ fn about_exchange(fault: &Fault, place: Place<'_>) -> &'static str {
         Fault::Closed =>
             "the node takes no more, as after a write that met a fault of its log: see to its disk, and start the node again",
         Fault::WriteFailed(_) => match place {
-            Place::Control(_) =>
+            FaultPlace::Control(_) =>
                 "the node ended the connection: see whether it runs, and try again",
-            Place::Metrics(_) =>
+            FaultPlace::Metrics(_) =>
                 "give another path: this one is empty, or that of the node's log or of a socket, or what is there is no file of metrics",
             _ =>
                 "see where standard output goes; what was printed before stands, and so does a write that was asked for",
@@ -280,19 +287,19 @@ fn about_exchange(fault: &Fault, place: Place<'_>) -> &'static str {
     }
 }
 
-fn about_value(place: Place<'_>) -> &'static str {
+fn about_value(place: FaultPlace<'_>) -> &'static str {
     match place {
-        Place::Value("text", _) =>
+        FaultPlace::Value("text", _) =>
             "a text has 1 to 512 bytes; write a backslash as \\5c and a newline as \\0a, or give --raw",
         _ => "give a kind and a word, as: addr 10.0.0.1:80, weight 5, flag true, text 'zone b'",
     }
 }
 
 /// What to do about a setting that is outside its limits.
-fn about_setting(place: Place<'_>) -> &'static str {
+fn about_setting(place: FaultPlace<'_>) -> &'static str {
     match place {
-        Place::Setting(setting) => setting.limits(),
-        Place::Heard(_) => {
+        FaultPlace::Setting(setting) => setting.limits(),
+        FaultPlace::Heard(_) => {
             "the version that this node heard of, and 1,048,576 more, is above 1099511627775: give --after, at least 4,096 above the last version; \
 where there is no room, end the name by --after 1099511627775, and take a new one"
         }
@@ -304,9 +311,9 @@ workers and 2 more up to 64"
 }
 
 /// What to do about a fault of a log or of names, or of an exchange.
-fn about_log(fault: &Fault, place: Place<'_>) -> &'static str {
+fn about_log(fault: &Fault, place: FaultPlace<'_>) -> &'static str {
     match fault {
-        Fault::OutOfTurn(_) if matches!(place, Place::Log(_)) => {
+        Fault::OutOfTurn(_) if matches!(place, FaultPlace::Log(_)) => {
             "a log that is there goes on by itself: start the node with it; where that ends in fault 21, move the file and its -wal away, \
 and begin anew"
         }
@@ -336,7 +343,7 @@ its -wal away, and see `attrdir begin --help`"
 }
 
 /// What to do about a fault that is none of a session as a peer.
-fn about_fault(fault: &Fault, place: Place<'_>) -> &'static str {
+fn about_fault(fault: &Fault, place: FaultPlace<'_>) -> &'static str {
     match fault {
         Fault::NoMemory =>
             "end other programs, or give the machine or the process more memory or threads, and try again",
@@ -359,7 +366,7 @@ fn about_fault(fault: &Fault, place: Place<'_>) -> &'static str {
 /// What to do about a fault of a session as a peer, in which nothing is written at the node.
 fn about_session(fault: &Fault) -> &'static str {
     match fault {
-        Fault::NoMemory => about_fault(fault, Place::Line),
+        Fault::NoMemory => about_fault(fault, FaultPlace::Line),
         Fault::WrongCluster => "give --cluster as the node has it",
         Fault::SameName =>
             "the node has this very name: give another --name; for `begin` end that node, and ask another one",
@@ -374,42 +381,42 @@ wrote needs no more than an empty file",
 }
 
 /// What to do about a fault, in one line.
-fn advice(fault: &Fault, place: Place<'_>) -> &'static str {
+fn advice(fault: &Fault, place: FaultPlace<'_>) -> &'static str {
     match place {
-        Place::NoPeer(_) => {
+        FaultPlace::NoPeer(_) => {
             "no node answers at this path, or you may not open it: see that a node runs with this --sock, that the path is right and has \
 1 to 107 bytes, and that you may write to the socket"
         }
-        Place::Session(_) => about_session(fault),
+        FaultPlace::Session(_) => about_session(fault),
         _ => about_fault(fault, place),
     }
 }
 
-impl fmt::Display for Place<'_> {
+impl fmt::Display for FaultPlace<'_> {
     fn fmt<W: fmt::Write>(&self, f: &mut fmt::Formatter<W>) -> fmt::Result {
         match self {
-            Place::Line => Ok(()),
-            Place::Word(what, word) => write!(f, "{what} '{word}': "),
-            Place::Value(kind, word) => write!(f, "value '{kind} {word}': "),
-            Place::Setting(setting) => write!(f, "{}: ", setting.option()),
-            Place::Log(path)
-            | Place::NoLog(path)
-            | Place::NoLogFolder(path)
-            | Place::UnreadableLog(path)
-            | Place::LockedLog(path) => write!(f, "log {path}: "),
-            Place::Unreached(path) | Place::Control(path) | Place::Node(path) => {
+            FaultPlace::Line => Ok(()),
+            FaultPlace::Word(what, word) => write!(f, "{what} '{word}': "),
+            FaultPlace::Value(kind, word) => write!(f, "value '{kind} {word}': "),
+            FaultPlace::Setting(setting) => write!(f, "{}: ", setting.option()),
+            FaultPlace::Log(path)
+            | FaultPlace::NoLog(path)
+            | FaultPlace::NoLogFolder(path)
+            | FaultPlace::UnreadableLog(path)
+            | FaultPlace::LockedLog(path) => write!(f, "log {path}: "),
+            FaultPlace::Unreached(path) | FaultPlace::Control(path) | FaultPlace::Node(path) => {
                 write!(f, "control socket {path}: ")
             }
-            Place::NoPeer(path)
-            | Place::Heard(path)
-            | Place::Session(path)
-            | Place::Taken(path)
-            | Place::Listening(path)
-            | Place::TooLong(path)
-            | Place::NoFolder(path) => write!(f, "socket {path}: "),
-            Place::Peer(path) => write!(f, "peer {path}: "),
-            Place::Sockets(sock, control) => write!(f, "sockets {sock} and {control}: "),
-            Place::Metrics(path) => write!(f, "metrics {path}: "),
+            FaultPlace::NoPeer(path)
+            | FaultPlace::Heard(path)
+            | FaultPlace::Session(path)
+            | FaultPlace::Taken(path)
+            | FaultPlace::Listening(path)
+            | FaultPlace::TooLong(path)
+            | FaultPlace::NoFolder(path) => write!(f, "socket {path}: "),
+            FaultPlace::Peer(path) => write!(f, "peer {path}: "),
+            FaultPlace::Sockets(sock, control) => write!(f, "sockets {sock} and {control}: "),
+            FaultPlace::Metrics(path) => write!(f, "metrics {path}: "),
         }
     }
 }

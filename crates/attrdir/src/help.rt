@@ -234,8 +234,8 @@ none. With --format json it is a JSON object of key, kind, owner, value and vers
 string, that of a weight a number, and that of a flag true or false. What others wrote stands as far as the node has heard of it. The rows
 come page by page: each page is what the node has at one time, and a later page is never older.
 
-With --owner and --key it prints the row of that key alone, and with --value too only its value; where there is no such row it prints
-nothing, and the exit status is 1.
+With --owner and --key it prints the row of that key alone, and with --value too only its value, a text as it is spelled there; with
+--raw beside --value a text is printed as it is. Where there is no such row it prints nothing, and the exit status is 1.
 
 A fault ends the command, with `fault N`, its text and what to do about it on standard error: 1 no memory, 2 the owner, 3 the
 prefix or the key, 10 to 14 what answers is no control socket, 15 the node cannot read, 16 no node answers, or it is silent for a minute, 17 the

@@ -1,17 +1,18 @@
 //! An owner's log in a file.
-ghost use Rattle.std.specs.Prelude.{◌≡◌, ◌≤◌, ◌<◌, ◌⊎◌, true, Ok, None, IfOk, IfSome, IfNone, OnOk};
+ghost use Rattle.std.specs.Prelude.{◌≡◌, ◌≤◌, ◌<◌, ◌⊎◌, true, Ok, None, IfOk, IfSome, IfNone, IfErr, OnOk};
 ghost use Rattle.sb_log.specs.Puts.{purged};
 ghost use Rattle.attrdir.specs.Removals as spec;
 
-use crate::failure::{Failure, Place};
+use crate::failure::{Failure, FaultPlace};
 use crate::words::name_of;
 use sb_lines::{log_run, purge_run};
 use sb_log::{SqlLog, WriteLog};
 use sb_table::Table;
 use sb_types::{Fault, Name, Slot, VERSION_MOST};
 use sqlite::{Connection, Error, ErrorCode, File, FileStore};
+use std::alloc::Global;
 use std::fs;
-use std::io::ErrorKind;
+use std::io::{ErrorKind, Write};
 
 /// A log in a file of the system.
 pub(crate) type FileLog = SqlLog<FileStore<File>>;
@@ -26,7 +27,7 @@ pub(crate) enum Floor {
 
 /// The removals that a log dropped, and the version up to which they went.
 #[derive(Clone, Copy)]
-pub(crate) struct Purged {
+pub(crate) struct DroppedRemovals {
     pub(crate) removals: usize,
     pub(crate) floor: u64,
 }
@@ -35,7 +36,7 @@ pub(crate) struct Purged {
 fn failure(path: &str, fault: Fault) -> Failure<'_> {
     match fault {
         Fault::WriteFailed(_) => Failure::from(fault),
-        _ => Failure::at(Place::Log(path), fault),
+        _ => Failure::at(FaultPlace::Log(path), fault),
     }
 }
 
@@ -55,9 +56,12 @@ fn failure_of<'a>(rt: &HostRuntime, path: &'a str, error: &Error) -> Failure<'a>
             failure(path, Fault::LogDamaged)
         }
         Error::SqliteFailure(ErrorCode::DatabaseBusy) => {
-            Failure::at(Place::LockedLog(path), Fault::StoreFailed)
+            Failure::at(FaultPlace::LockedLog(path), Fault::StoreFailed)
         }
-        _ if !has_folder(rt, path) => Failure::at(Place::NoLogFolder(path), Fault::StoreFailed),
+        _ if !has_folder(rt, path) => Failure::at(
+            FaultPlace::NoLogFolder(path),
+            Fault::StoreFailed,
+        ),
         _ => failure(path, Fault::StoreFailed),
     }
 }
@@ -101,9 +105,9 @@ pub(crate) fn open_log<'a>(
 ) -> Result<FileLog, Failure<'a>> {
     if let Err(error) = fs::File::open(rt, path) {
         let place = match error.kind() {
-            ErrorKind::NotFound if !has_folder(rt, path) => Place::NoLogFolder(path),
-            ErrorKind::NotFound => Place::NoLog(path),
-            _ => Place::UnreadableLog(path),
+            ErrorKind::NotFound if !has_folder(rt, path) => FaultPlace::NoLogFolder(path),
+            ErrorKind::NotFound => FaultPlace::NoLog(path),
+            _ => FaultPlace::UnreadableLog(path),
         };
         return Err(Failure::at(place, Fault::StoreFailed));
     }
@@ -146,22 +150,28 @@ pub(crate) fn print_log<'a>(
 
 /// Drops the removals of a log up to a version, and prints that version. The faults of `load`, where the version is the last; then
 /// those of `purge_run`.
-fn purge_to<L: WriteLog>(rt: &HostRuntime, log: &mut L, floor: Floor) -> Result<(), Fault>
-    ensures { OnOk result ((L.seen log.new).is_clean ≡ true
+fn purge_to<L: WriteLog, W: Write>(
+    alloc: Global,
+    log: &mut L,
+    floor: Floor,
+    writer: &mut W,
+) -> Result<(), Fault>
+    ensures purges { OnOk result ((L.seen log.new).is_clean ≡ true
         → (L.seen log.new).content ≡ purged (spec.floor_of floor (L.seen log.old).content) (L.seen log.old).content) }
+    ensures result { spec.PurgesTo floor (L.seen log.old) (W.contents writer.old) result (L.seen log.new) (W.contents writer.new) }
 {
     let version = match floor {
         Floor::At(version) => version,
-        Floor::Last => log.load(rt.alloc())?.upto(),
+        Floor::Last => log.load(alloc)?.upto(),
     };
-    let (purged, _) = purge_run(rt.alloc(), log, version, &mut rt.stdout());
+    let (purged, _) = purge_run(alloc, log, version, writer);
     purged
 }
 
 /// The same, and ends the log. The faults of `purge_to`, then those of `close`.
 fn purge_lines<L: WriteLog>(rt: &HostRuntime, log: L, floor: Floor) -> Result<(), Fault> {
     let mut log = log;
-    let purged = purge_to(rt, &mut log, floor);
+    let purged = purge_to(rt.alloc(), &mut log, floor, &mut rt.stdout());
     purged.and(log.close())
 }
 
@@ -202,13 +212,14 @@ pub(crate) fn purge_removals<L: WriteLog>(
     rt: &HostRuntime,
     log: &mut L,
     least: u64,
-) -> Result<Option<Purged>, Fault>
+) -> Result<Option<DroppedRemovals>, Fault>
     ensures never { least ≡ 0 → (result ≡ Ok None) × (log.new ≡ log.old) }
     ensures few { IfOk result (λ done. IfNone done ((L.seen log.new).is_clean ≡ true → ((L.seen log.new).content ≡ (L.seen log.old).content)
         × ((least ≡ 0) ⊎ (spec.removals_in (L.seen log.old).content.entries < least)))) }
     ensures many { IfOk result (λ done. IfSome done (λ p. (L.seen log.new).is_clean ≡ true
         → (least ≤ p.removals) × ((p.removals ≡ spec.removals_in (L.seen log.old).content.entries)
         × ((p.floor ≡ (L.seen log.old).content.held) × ((L.seen log.new).content ≡ purged p.floor (L.seen log.old).content))))) }
+    ensures failed { IfErr result (λ fault. spec.FailsToDrop (L.seen log.old) fault (L.seen log.new)) }
 {
     if least == 0 {
         return Ok(None);
@@ -220,5 +231,5 @@ pub(crate) fn purge_removals<L: WriteLog>(
     }
     let floor = table.upto();
     log.purge(floor)?;
-    Ok(Some(Purged { removals, floor }))
+    Ok(Some(DroppedRemovals { removals, floor }))
 }

@@ -3,7 +3,7 @@ ghost use Rattle.std.specs.Prelude.{◌≡◌};
 ghost use Rattle.std.specs.Option.{option_copied};
 ghost use Rattle.attrdir.specs.Rows as spec;
 
-use crate::asking::{Form, first_page_of, print_page};
+use crate::asking::{RowFormat, first_page_of, print_page};
 use crate::counting::Output;
 use crate::failure::Failure;
 use sb_codec::{Ask, Row, Rows};
@@ -11,12 +11,22 @@ use sb_types::{Fault, Key, Name, Prefix, Spelled, Value, ValueRef};
 use std::alloc::Global;
 use std::io::Write;
 
-/// The row that is asked for, and how it is printed: its value alone where no form is given.
+/// How much of a row is printed.
 #[derive(Clone, Copy)]
-pub(crate) struct Wanted {
+pub(crate) enum Portion {
+    Row(RowFormat),
+    /// The value alone, a text as it is spelled in a row.
+    Value,
+    /// The value alone, a text as it is.
+    RawValue,
+}
+
+/// The row that is asked for, and how much of it is printed.
+#[derive(Clone, Copy)]
+pub(crate) struct RowQuery {
     pub(crate) owner: Name,
     pub(crate) key: Key,
-    pub(crate) form: Option<Form>,
+    pub(crate) portion: Portion,
 }
 
 /// The first row, where it is that of this owner and key. On a page of an owner's rows whose keys begin with this key no other row
@@ -43,15 +53,18 @@ fn page_with(alloc: Global, row: &Row) -> Result<Rows, Fault> {
     Rows::new(false, vec![in alloc; copy]?)
 }
 
-/// Prints a value alone, in a line, a text as it is spelled there. `WriteFailed` with how many bytes the output took.
-fn print_value(rt: &HostRuntime, value: &Value) -> Result<(), Fault> {
+/// Prints a value alone, with a line's end behind it, a text as it is spelled or, raw, as it is. `WriteFailed` with how many bytes the
+/// output took.
+fn print_value(rt: &HostRuntime, value: &Value, is_raw: bool) -> Result<(), Fault> {
     let mut output = Output::new(rt);
     let printed = match value.view() {
-        ValueRef::Addr(text) => writeln!(output, "{}", str::from_utf8(text).unwrap_or("")),
         ValueRef::Weight(weight) => writeln!(output, "{weight}"),
         ValueRef::Flag(flag) => writeln!(output, "{flag}"),
-        ValueRef::Text(text) => {
+        ValueRef::Text(text) if !is_raw => {
             writeln!(output, "{}", Spelled(str::from_utf8(text).unwrap_or("")))
+        }
+        ValueRef::Addr(text) | ValueRef::Text(text) => {
+            writeln!(output, "{}", str::from_utf8(text).unwrap_or(""))
         }
     };
     match printed {
@@ -65,23 +78,24 @@ fn print_value(rt: &HostRuntime, value: &Value) -> Result<(), Fault> {
 pub(crate) fn print_one<'a>(
     rt: &HostRuntime,
     control: &'a str,
-    wanted: &Wanted,
+    query: &RowQuery,
 ) -> Result<bool, Failure<'a>> {
     let ask = Ask {
-        owner: Some(wanted.owner),
-        prefix: Prefix::read(wanted.key.bytes())?,
+        owner: Some(query.owner),
+        prefix: Prefix::read(query.key.bytes())?,
         after: None,
     };
     let page = first_page_of(rt, control, &ask)?;
-    let Some(row) = first_at(page.rows(), &wanted.owner, &wanted.key) else {
+    let Some(row) = first_at(page.rows(), &query.owner, &query.key) else {
         return Ok(false);
     };
-    match wanted.form {
-        Some(form) => {
+    match query.portion {
+        Portion::Row(format) => {
             let page = page_with(rt.alloc(), row)?;
-            print_page(rt, &mut Output::new(rt), &page, form)?;
+            print_page(rt, &mut Output::new(rt), &page, format)?;
         }
-        None => print_value(rt, row.value())?,
+        Portion::Value => print_value(rt, row.value(), false)?,
+        Portion::RawValue => print_value(rt, row.value(), true)?,
     }
     Ok(true)
 }

@@ -1,10 +1,10 @@
 //! How far a node holds each owner, which it is asked as by a peer.
-ghost use Rattle.std.specs.Prelude.{◌≡◌, ◌<◌, IfErr};
+ghost use Rattle.std.specs.Prelude.{◌≡◌, ◌<◌, IfOk, IfErr};
 ghost use Rattle.sb_session.specs.Handlers.{IsRefusal};
 ghost use Rattle.attrdir.specs.Owners as spec;
 
 use crate::asking::{READS_OF_ONE, limit};
-use crate::failure::{Failure, Place};
+use crate::failure::{Failure, FaultPlace};
 use sb_codec::{Bye, Message};
 use sb_digest::{Digest, Pair};
 use sb_frames::{Frames, LastRead, Steps, receive_within, send};
@@ -22,7 +22,7 @@ const LEAST_NAME: &[u8] = b"-";
 
 /// What a node told in the digests of a session. It has nothing to tell itself, asks for no writes, and takes none.
 #[derive(Drop)]
-struct Heard {
+struct HeardDigests {
     alloc: Global,
     /// The end of the range of its digests, before which no name is.
     least: Name,
@@ -35,10 +35,10 @@ struct Heard {
     is_broken: bool,
 }
 
-impl Heard {
+impl HeardDigests {
     /// Nothing was told yet.
-    fn new(alloc: Global, least: Name) -> Heard {
-        Heard {
+    fn new(alloc: Global, least: Name) -> HeardDigests {
+        HeardDigests {
             alloc,
             least,
             pairs: Vec::new(alloc),
@@ -68,7 +68,7 @@ fn granted<T: Drop>(answer: Result<T, Fault>) -> Result<T, Fault>
     }
 }
 
-impl Handler for Heard {
+impl Handler for HeardDigests {
     ghost step = { λ _ _ _. Unit {0} };
 
     ghost stays = { λ _ _. Unit {0} };
@@ -106,7 +106,7 @@ impl Handler for Heard {
 fn hear<R: Read, L: Ledger>(
     reader: &mut R,
     session: &mut Session,
-    heard: &mut Heard,
+    heard: &mut HeardDigests,
     frames: &mut Frames,
     left: &mut u64,
     steps: &mut Steps<L>,
@@ -125,7 +125,7 @@ fn hear<R: Read, L: Ledger>(
 fn hear_digest<R: Read, L: Ledger>(
     reader: &mut R,
     session: &mut Session,
-    heard: &mut Heard,
+    heard: &mut HeardDigests,
     frames: &mut Frames,
     left: &mut u64,
     steps: &mut Steps<L>,
@@ -149,7 +149,7 @@ fn hear_all<R: Read, W: Write, L: Ledger>(
     reader: &mut R,
     writer: &mut W,
     session: Session,
-    heard: &mut Heard,
+    heard: &mut HeardDigests,
     steps: &mut Steps<L>,
 ) -> Result<(), Fault> {
     let alloc = heard.alloc;
@@ -172,7 +172,7 @@ fn hear_all<R: Read, W: Write, L: Ledger>(
 fn hear_from<L: Ledger>(
     stream: &UnixStream,
     session: Session,
-    heard: &mut Heard,
+    heard: &mut HeardDigests,
     blank: Blank,
 ) -> Result<(), Fault>
     requires name { blank.name ≡ L.name }
@@ -196,7 +196,8 @@ fn print_pairs(rt: &HostRuntime, pairs: &[Pair]) -> Result<(), Fault> {
 }
 
 /// Asks the node behind a socket for peers how far it holds each owner, as a peer of this name: a pair of each, in ascending owner. It
-/// writes nothing at the node. `ReadFailed` where it can't be reached, or is silent for a minute; the faults of a session.
+/// writes nothing at the node. `ReadFailed` where it can't be reached, or is silent for a minute; the faults of a session. It waits without
+/// limit where so many others wait at the socket that it takes no more.
 fn ask_pairs<'a>(
     rt: &HostRuntime,
     sock: &'a str,
@@ -204,16 +205,16 @@ fn ask_pairs<'a>(
     name: Name,
 ) -> Result<Vec<Pair>, Failure<'a>> {
     let Ok(stream) = UnixStream::connect(rt, sock) else {
-        return Err(Failure::at(Place::NoPeer(sock), Fault::ReadFailed));
+        return Err(Failure::at(FaultPlace::NoPeer(sock), Fault::ReadFailed));
     };
     if limit(&stream).is_err() {
-        return Err(Failure::at(Place::Session(sock), Fault::ReadFailed));
+        return Err(Failure::at(FaultPlace::Session(sock), Fault::ReadFailed));
     }
-    let mut heard = Heard::new(rt.alloc(), Name::read(LEAST_NAME)?);
+    let mut heard = HeardDigests::new(rt.alloc(), Name::read(LEAST_NAME)?);
     let session = Session::new(cluster, name);
     match hear_from::<Brand>(&stream, session, &mut heard, Blank::new(1)) {
         Ok(()) => Ok(heard.pairs),
-        Err(fault) => Err(Failure::at(Place::Session(sock), fault)),
+        Err(fault) => Err(Failure::at(FaultPlace::Session(sock), fault)),
     }
 }
 
@@ -250,6 +251,16 @@ fn greatest_version(pairs: &[Pair], owner: &Name) -> u64
     greatest
 }
 
+/// The greatest version that these speak of an owner, of a node behind this socket. `NothingThere` where there is none.
+fn heard_of<'a>(pairs: &[Pair], owner: &Name, sock: &'a str) -> Result<u64, Failure<'a>>
+    ensures { IfOk result (λ version. (version ≡ spec.greatest_version owner.now pairs.now) × (0 < version)) }
+{
+    match greatest_version(pairs, owner) {
+        0 => Err(Failure::at(FaultPlace::Session(sock), Fault::NothingThere)),
+        version => Ok(version),
+    }
+}
+
 /// Asks the same under the name of an owner, and answers the greatest version that the node heard of it, be it of a table that has not come
 /// whole. The faults of `ask_pairs`; `NothingThere` where it heard of none.
 pub(crate) fn ask_greatest<'a>(
@@ -257,10 +268,9 @@ pub(crate) fn ask_greatest<'a>(
     sock: &'a str,
     cluster: Name,
     owner: Name,
-) -> Result<u64, Failure<'a>> {
+) -> Result<u64, Failure<'a>>
+    ensures some { IfOk result (λ version. 0 < version) }
+{
     let pairs = ask_pairs(rt, sock, cluster, owner)?;
-    match greatest_version(&pairs, &owner) {
-        0 => Err(Failure::at(Place::Session(sock), Fault::NothingThere)),
-        version => Ok(version),
-    }
+    heard_of(&pairs, &owner, sock)
 }

@@ -1,6 +1,6 @@
 //! A node that runs.
 use crate::console::{Console, Shortage};
-use crate::failure::{Failure, Place, Setting};
+use crate::failure::{Failure, FaultPlace, Setting};
 use crate::log_file::{has_folder, open_log, purge_removals};
 use crate::metrics_file::{MetricsFile, may_replace, writes_over};
 use crate::words::name_of;
@@ -18,7 +18,7 @@ const SOCKET_PATH_MOST: usize = 107;
 
 /// What the command line says of a node.
 #[derive(Drop)]
-pub(crate) struct Given<'a> {
+pub(crate) struct ServeArguments<'a> {
     pub(crate) name: &'a str,
     pub(crate) log: &'a str,
     pub(crate) settings: RawSettings<'a>,
@@ -61,27 +61,27 @@ fn setting_of(raw: &RawSettings<'_>) -> Setting {
 }
 
 /// Which of its sockets a node could not make, as far as their paths show it.
-fn socket_of<'a>(rt: &HostRuntime, given: &Given<'a>) -> Place<'a> {
+fn socket_of<'a>(rt: &HostRuntime, given: &ServeArguments<'a>) -> FaultPlace<'a> {
     for path in [given.sock, given.control] {
         if path.len() > SOCKET_PATH_MOST {
-            return Place::TooLong(path);
+            return FaultPlace::TooLong(path);
         }
         if let Ok(found) = symlink_metadata(rt, path) {
             return if found.file_type().is_socket() {
-                Place::Listening(path)
+                FaultPlace::Listening(path)
             } else {
-                Place::Taken(path)
+                FaultPlace::Taken(path)
             };
         }
         if !has_folder(rt, path) {
-            return Place::NoFolder(path);
+            return FaultPlace::NoFolder(path);
         }
     }
-    Place::Sockets(given.sock, given.control)
+    FaultPlace::Sockets(given.sock, given.control)
 }
 
 /// The first of the peers whose path is none of a socket.
-fn unreachable_peer<'a>(given: &Given<'a>) -> Option<&'a str> {
+fn unreachable_peer<'a>(given: &ServeArguments<'a>) -> Option<&'a str> {
     given
         .peers
         .iter()
@@ -90,7 +90,7 @@ fn unreachable_peer<'a>(given: &Given<'a>) -> Option<&'a str> {
 }
 
 /// The path for metrics, where it is empty or these would take the place of something else.
-fn taken_for_metrics<'a>(rt: &HostRuntime, given: &Given<'a>) -> Option<&'a str> {
+fn taken_for_metrics<'a>(rt: &HostRuntime, given: &ServeArguments<'a>) -> Option<&'a str> {
     let path = given.metrics?;
     for other in [given.log, given.sock, given.control] {
         if writes_over(path, other) {
@@ -105,12 +105,12 @@ fn taken_for_metrics<'a>(rt: &HostRuntime, given: &Given<'a>) -> Option<&'a str>
 }
 
 /// Where a node that does not run met its fault.
-fn place_of<'a>(rt: &HostRuntime, fault: &Fault, given: &Given<'a>) -> Place<'a> {
+fn place_of<'a>(rt: &HostRuntime, fault: &Fault, given: &ServeArguments<'a>) -> FaultPlace<'a> {
     match fault {
-        Fault::BadSetting => Place::Setting(setting_of(&given.settings)),
+        Fault::BadSetting => FaultPlace::Setting(setting_of(&given.settings)),
         Fault::ReadFailed => socket_of(rt, given),
-        Fault::Closed | Fault::StoreFailed | Fault::LogDamaged => Place::Log(given.log),
-        _ => Place::Line,
+        Fault::Closed | Fault::StoreFailed | Fault::LogDamaged => FaultPlace::Log(given.log),
+        _ => FaultPlace::Line,
     }
 }
 
@@ -118,7 +118,7 @@ fn place_of<'a>(rt: &HostRuntime, fault: &Fault, given: &Given<'a>) -> Place<'a>
 fn purge_first<'a, L: WriteLog>(
     rt: &HostRuntime,
     console: &Console<'_, '_>,
-    given: &Given<'a>,
+    given: &ServeArguments<'a>,
     log: &mut L,
 ) -> Result<(), Failure<'a>> {
     match purge_removals(rt, log, given.purge_removals) {
@@ -134,7 +134,7 @@ fn purge_first<'a, L: WriteLog>(
 fn run<'a, L: WriteLog + Drop, R: Runtime + Net<Listener = TcpListener, Stream = TcpStream>>(
     rt: &HostRuntime,
     runtime: &R,
-    given: &Given<'a>,
+    given: &ServeArguments<'a>,
     settings: Settings,
     log: L,
 ) -> Result<(), Failure<'a>> {
@@ -181,7 +181,7 @@ fn run<'a, L: WriteLog + Drop, R: Runtime + Net<Listener = TcpListener, Stream =
 pub(crate) fn serve<'a, R: Runtime + Net<Listener = TcpListener, Stream = TcpStream>>(
     rt: &HostRuntime,
     runtime: &R,
-    given: &Given<'a>,
+    given: &ServeArguments<'a>,
 ) -> Result<(), Failure<'a>> {
     let name = name_of("--name", given.name)?;
     let settings = match Settings::check(given.settings) {
@@ -189,13 +189,13 @@ pub(crate) fn serve<'a, R: Runtime + Net<Listener = TcpListener, Stream = TcpStr
         Err(fault) => return Err(Failure::at(place_of(rt, &fault, given), fault)),
     };
     if settings.seats() < settings.workers() + 2 {
-        return Err(Failure::at(Place::Setting(Setting::Seats), Fault::BadSetting));
+        return Err(Failure::at(FaultPlace::Setting(Setting::Seats), Fault::BadSetting));
     }
     if let Some(path) = unreachable_peer(given) {
-        return Err(Failure::at(Place::Peer(path), Fault::ReadFailed));
+        return Err(Failure::at(FaultPlace::Peer(path), Fault::ReadFailed));
     }
     if let Some(path) = taken_for_metrics(rt, given) {
-        return Err(Failure::at(Place::Metrics(path), Fault::WriteFailed(0)));
+        return Err(Failure::at(FaultPlace::Metrics(path), Fault::WriteFailed(0)));
     }
     let (cluster, max_version) = (settings.cluster(), settings.max_version());
     let log = open_log(rt, given.log, name, cluster, max_version)?;

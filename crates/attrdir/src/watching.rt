@@ -1,6 +1,6 @@
 //! What changes at a node that runs, which is asked again and again.
 use crate::asking::{page_of, take_all};
-use crate::failure::{Failure, Place};
+use crate::failure::{Failure, FaultPlace};
 use crate::keeping::{copy_of, enter_all, kept_rows};
 use crate::pausing::Pauses;
 use sb_codec::{Ask, Row, Rows};
@@ -12,16 +12,16 @@ use std::alloc::Global;
 use std::fs::metadata;
 use std::os::unix::fs::MetadataExt;
 
-/// What is watched, and how often.
+/// What a watch asks for, and how often.
 #[derive(Clone, Copy)]
-pub(crate) struct Watched {
+pub(crate) struct WatchQuery {
     pub(crate) asked: Ask,
     /// How many milliseconds it waits before it asks again.
     pub(crate) every: u64,
     /// How many times it asks; 0 for without end.
     pub(crate) count: u64,
     /// Whether it says that it has asked.
-    pub(crate) marks: bool,
+    pub(crate) prints_asked: bool,
 }
 
 /// Adds the rows of a page. `NoMemory`.
@@ -69,12 +69,12 @@ fn print_difference(
     rt: &HostRuntime,
     earlier: &[Row],
     later: &[Row],
-    marks: bool,
+    prints_asked: bool,
 ) -> Result<(), Fault> {
     let told = changes(rt.alloc(), earlier, later)?;
     let (printed, _) = print_changes(rt.alloc(), &mut rt.stdout(), &told);
     printed?;
-    if marks && println!(rt; "asked").is_err() {
+    if prints_asked && println!(rt; "asked").is_err() {
         return Err(Fault::WriteFailed(0));
     }
     Ok(())
@@ -94,20 +94,20 @@ fn wait(rt: &HostRuntime, pauses: &mut Pauses) -> Result<(), Fault> {
 pub(crate) fn watch<'a>(
     rt: &HostRuntime,
     control: &'a str,
-    watched: &Watched,
+    query: &WatchQuery,
 ) -> Result<(), Failure<'a>> {
-    let turns = match watched.count {
+    let turns = match query.count {
         0 => u64::MAX,
         count => count,
     };
-    let mut pauses = Pauses::new(rt, watched.every)?;
+    let mut pauses = Pauses::new(rt, query.every)?;
     let mut last = Vec::new(rt.alloc());
     for turn in 0..turns {
         if turn > 0 {
             wait(rt, &mut pauses)?;
         }
-        let rows = listing(rt, control, &watched.asked)?;
-        print_difference(rt, &last, &rows, watched.marks)?;
+        let rows = listing(rt, control, &query.asked)?;
+        print_difference(rt, &last, &rows, query.prints_asked)?;
         last = rows;
     }
     Ok(())
@@ -115,7 +115,7 @@ pub(crate) fn watch<'a>(
 
 /// Which socket stands at a path: another one once a node was started again.
 #[derive(Clone, Copy, PartialEq, Eq, Drop)]
-struct Mark {
+struct SocketStamp {
     device: u64,
     file: u64,
     seconds: i64,
@@ -123,9 +123,9 @@ struct Mark {
 }
 
 /// The socket at a path; none where there is none.
-fn mark_of(rt: &HostRuntime, path: &str) -> Option<Mark> {
+fn stamp_of(rt: &HostRuntime, path: &str) -> Option<SocketStamp> {
     let found = metadata(rt, path).ok()?;
-    Some(Mark {
+    Some(SocketStamp {
         device: found.dev(),
         file: found.ino(),
         seconds: found.mtime(),
@@ -135,10 +135,10 @@ fn mark_of(rt: &HostRuntime, path: &str) -> Option<Mark> {
 
 /// What was printed of a node's rows, and what the node that runs now has shown.
 #[derive(Drop)]
-struct Kept {
+struct PrintedRows {
     rows: Vec<Row>,
     /// The socket of the last asking.
-    mark: Option<Mark>,
+    stamp: Option<SocketStamp>,
     /// Of each owner the last version that was shown since the node was started.
     shown: Vec<Pair>,
     /// Whether it was said that the node does not answer.
@@ -147,11 +147,11 @@ struct Kept {
     count: u64,
 }
 
-impl Kept {
-    fn new(alloc: Global) -> Kept {
-        Kept {
+impl PrintedRows {
+    fn new(alloc: Global) -> PrintedRows {
+        PrintedRows {
             rows: Vec::new(alloc),
-            mark: None,
+            stamp: None,
             shown: Vec::new(alloc),
             is_away: false,
             count: 0,
@@ -162,18 +162,18 @@ impl Kept {
     fn take(
         &mut self,
         rt: &HostRuntime,
-        mark: Option<Mark>,
+        stamp: Option<SocketStamp>,
         found: &[Row],
-        marks: bool,
+        prints_asked: bool,
     ) -> Result<(), Fault> {
-        if mark.is_none() || mark != self.mark {
+        if stamp.is_none() || stamp != self.stamp {
             self.shown.clear();
         }
-        self.mark = mark;
+        self.stamp = stamp;
         // The pages of a listing are not of one moment: only what was shown before its first page is known on each.
         let rows = kept_rows(rt.alloc(), &self.rows, found, &self.shown)?;
         enter_all(&mut self.shown, found)?;
-        print_difference(rt, &self.rows, &rows, marks)?;
+        print_difference(rt, &self.rows, &rows, prints_asked)?;
         self.rows = rows;
         self.count = self.count.saturating_add(1);
         Ok(())
@@ -196,14 +196,14 @@ impl Kept {
         &mut self,
         rt: &HostRuntime,
         control: &'a str,
-        watched: &Watched,
+        query: &WatchQuery,
     ) -> Result<(), Failure<'a>> {
-        let mark = mark_of(rt, control);
-        match listing(rt, control, &watched.asked) {
+        let stamp = stamp_of(rt, control);
+        match listing(rt, control, &query.asked) {
             Ok(found) => {
-                if mark == mark_of(rt, control) {
+                if stamp == stamp_of(rt, control) {
                     self.tell(rt, control, false);
-                    self.take(rt, mark, &found, watched.marks)?;
+                    self.take(rt, stamp, &found, query.prints_asked)?;
                 }
                 Ok(())
             }
@@ -222,16 +222,16 @@ impl Kept {
 pub(crate) fn watch_on<'a>(
     rt: &HostRuntime,
     control: &'a str,
-    watched: &Watched,
+    query: &WatchQuery,
 ) -> Result<(), Failure<'a>> {
-    let mut pauses = Pauses::new(rt, watched.every)?;
-    let mut kept = Kept::new(rt.alloc());
+    let mut pauses = Pauses::new(rt, query.every)?;
+    let mut printed = PrintedRows::new(rt.alloc());
     for _ in 0..u64::MAX {
-        kept.ask(rt, control, watched)?;
-        if watched.count > 0 && kept.count >= watched.count {
+        printed.ask(rt, control, query)?;
+        if query.count > 0 && printed.count >= query.count {
             return Ok(());
         }
         wait(rt, &mut pauses)?;
     }
-    Err(Failure::at(Place::Control(control), Fault::TurnsSpent))
+    Err(Failure::at(FaultPlace::Control(control), Fault::TurnsSpent))
 }

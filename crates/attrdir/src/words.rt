@@ -1,5 +1,5 @@
 //! Words of the command line, read as what they stand for. A failure names the word.
-use crate::failure::{Failure, Place};
+use crate::failure::{Failure, FaultPlace};
 use sb_types::{Key, Name, Prefix, Value};
 use std::alloc::Global;
 
@@ -7,7 +7,7 @@ use std::alloc::Global;
 pub(crate) fn name_of<'a>(option: &'a str, word: &'a str) -> Result<Name, Failure<'a>> {
     match Name::read(word.as_bytes()) {
         Ok(name) => Ok(name),
-        Err(fault) => Err(Failure::at(Place::Word(option, word), fault)),
+        Err(fault) => Err(Failure::at(FaultPlace::Word(option, word), fault)),
     }
 }
 
@@ -15,7 +15,7 @@ pub(crate) fn name_of<'a>(option: &'a str, word: &'a str) -> Result<Name, Failur
 pub(crate) fn key_of(word: &str) -> Result<Key, Failure<'_>> {
     match Key::read(word.as_bytes()) {
         Ok(key) => Ok(key),
-        Err(fault) => Err(Failure::at(Place::Word("key", word), fault)),
+        Err(fault) => Err(Failure::at(FaultPlace::Word("key", word), fault)),
     }
 }
 
@@ -23,7 +23,7 @@ pub(crate) fn key_of(word: &str) -> Result<Key, Failure<'_>> {
 pub(crate) fn prefix_of(word: &str) -> Result<Prefix, Failure<'_>> {
     match Prefix::read(word.as_bytes()) {
         Ok(prefix) => Ok(prefix),
-        Err(fault) => Err(Failure::at(Place::Word("--prefix", word), fault)),
+        Err(fault) => Err(Failure::at(FaultPlace::Word("--prefix", word), fault)),
     }
 }
 
@@ -31,7 +31,7 @@ pub(crate) fn prefix_of(word: &str) -> Result<Prefix, Failure<'_>> {
 pub(crate) fn text_of<'a>(alloc: Global, word: &'a str) -> Result<Value, Failure<'a>> {
     match Value::text(alloc, word.as_bytes()) {
         Ok(value) => Ok(value),
-        Err(fault) => Err(Failure::at(Place::Value("text", word), fault)),
+        Err(fault) => Err(Failure::at(FaultPlace::Value("text", word), fault)),
     }
 }
 
@@ -43,6 +43,6 @@ pub(crate) fn value_of<'a>(
 ) -> Result<Value, Failure<'a>> {
     match Value::from_words(alloc, kind.as_bytes(), word.as_bytes()) {
         Ok(value) => Ok(value),
-        Err(fault) => Err(Failure::at(Place::Value(kind, word), fault)),
+        Err(fault) => Err(Failure::at(FaultPlace::Value(kind, word), fault)),
     }
 }

@@ -79,7 +79,7 @@ fn read_pieces(stream: &mut Frames, frame: &[u8]) -> Result<(), Fault> {
 /// What the calls are given: what a node holds of blocks, the digest of a peer that holds nothing, and the greatest delta
 /// for it, with the number of its entries, its payload, its frame and the stream that this comes in.
 #[derive(Drop)]
-pub(crate) struct Given<'a> {
+pub(crate) struct CallInputs<'a> {
     blocks: &'a [Block],
     holdings: Holdings,
     digest: Digest,
@@ -90,8 +90,8 @@ pub(crate) struct Given<'a> {
     stream: Frames,
 }
 
-impl<'a> Given<'a> {
-    pub(crate) fn new(alloc: Global, blocks: &'a [Block]) -> Result<Given<'a>, Fault> {
+impl<'a> CallInputs<'a> {
+    pub(crate) fn new(alloc: Global, blocks: &'a [Block]) -> Result<CallInputs<'a>, Fault> {
         let holdings = holdings_of(alloc, blocks)?;
         let digest = Digest::new(false, None, None, Vec::new(alloc))?;
         let delta = cut(alloc, available(alloc, &holdings, &digest)?, BUDGET_MOST)?;
@@ -99,7 +99,7 @@ impl<'a> Given<'a> {
         let message = Message::Delta(delta);
         let payload = encode_payload(alloc, &message)?;
         let frame = frame_of(alloc, &message)?;
-        Ok(Given {
+        Ok(CallInputs {
             blocks,
             holdings,
             digest,

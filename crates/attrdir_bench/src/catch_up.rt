@@ -17,7 +17,7 @@ use std::time::CpuClock;
 /// How long the catching up took by the entry, and what went over the pipes: how many frames, their bytes, and the
 /// bytes of the entries in them.
 #[derive(Clone, Copy, Debug)]
-pub(crate) struct CaughtUp {
+pub(crate) struct CatchUpFigures {
     pub(crate) entries: Measured,
     pub(crate) frames: u64,
     pub(crate) bytes: u64,
@@ -187,11 +187,15 @@ fn catch_up(alloc: Global, full: &mut NodeCore, all: u64) -> Result<(u64, u64, u
 }
 
 /// A node that holds nothing caught up with one that holds these blocks, in one session.
-pub(crate) fn measure(rt: &HostRuntime, plan: Plan, blocks: &[Block]) -> Result<CaughtUp, Problem> {
+pub(crate) fn measure(
+    rt: &HostRuntime,
+    plan: Plan,
+    blocks: &[Block],
+) -> Result<CatchUpFigures, Problem> {
     let alloc = rt.alloc();
     let mut full = full_node(alloc, blocks)?;
     let (all, content) = content_of(blocks);
-    let mut caught = CaughtUp {
+    let mut caught = CatchUpFigures {
         entries: Measured::NOTHING,
         frames: 0,
         bytes: 0,

@@ -1,5 +1,5 @@
 //! The layers up to the node, measured: a line for each call of them.
-use crate::calls::{Call, Given};
+use crate::calls::{Call, CallInputs};
 use crate::plan::Plan;
 use crate::problem::Problem;
 use crate::report::{tell, tell_count};
@@ -39,7 +39,7 @@ fn measure_lines(
     blocks: &[Block],
     lines: &[Line],
 ) -> Result<(), Problem> {
-    let mut given = Given::new(rt.alloc(), blocks)?;
+    let mut given = CallInputs::new(rt.alloc(), blocks)?;
     for &(name, call, unit) in lines {
         let measured = given.measure(rt, call, plan.rounds);
         tell(rt, plan.telling, measured, name, unit)?;

@@ -3,7 +3,7 @@ ghost use Rattle.std.specs.Prelude.{◌≡◌};
 
 use crate::plan::{Plan, Telling};
 use crate::problem::Problem;
-use crate::reading::{Asked, Read, go_through, look_up, questions};
+use crate::reading::{Question, ReadingEnd, go_through, look_up, questions};
 use crate::report::{Measured, tell};
 use crate::sample::{Kinds, ME, block_of, hear, new_node};
 use crate::writing::Writer;
@@ -29,14 +29,14 @@ const READERS_MOST: usize = 3;
 /// What readers are given: what to look up, and how often.
 #[derive(Clone, Copy)]
 struct Task<'a> {
-    asked: &'a [Asked],
+    asked: &'a [Question],
     rounds: u64,
 }
 
 /// What readers did beside a writer: the reads by the time that passed, the same by the time that each of their threads
 /// ran, and the writes meanwhile.
 #[derive(Clone, Copy, Debug)]
-struct Beside {
+struct ConcurrentFigures {
     readers: u64,
     passed: Measured,
     ran: Measured,
@@ -48,10 +48,14 @@ struct Beside {
 struct Figures {
     shown: Measured,
     listed: Measured,
-    beside: Vec<Beside>,
+    beside: Vec<ConcurrentFigures>,
 }
 
-fn print_beside<R: Print>(rt: &R, telling: Telling, beside: Beside) -> Result<(), Problem> {
+fn print_beside<R: Print>(
+    rt: &R,
+    telling: Telling,
+    beside: ConcurrentFigures,
+) -> Result<(), Problem> {
     let readers = beside.readers;
     match telling {
         Telling::Times => {
@@ -78,10 +82,10 @@ impl Figures {
 
 /// What is left after a measuring: the writer, the seats, and what was measured.
 #[derive(Drop)]
-struct Left<S: NodeTag> {
+struct MeasuringEnd<S: NodeTag> {
     writer: Writer<S>,
     seats: Vec<ReaderSeat<S>>,
-    beside: Beside,
+    beside: ConcurrentFigures,
 }
 
 fn take_some<S: NodeTag>(
@@ -103,7 +107,7 @@ fn read_all<S: DirectoryTag + Send + Sync, R: Threads + CpuClock + Sync>(
     rt: &R,
     seats: Vec<ReaderSeat<S>>,
     task: Task<'_>,
-) -> Result<Vec<Result<Read<S>, Problem>>, AllocError> {
+) -> Result<Vec<Result<ReadingEnd<S>, Problem>>, AllocError> {
     thread::map_vec(
         rt,
         seats,
@@ -113,19 +117,19 @@ fn read_all<S: DirectoryTag + Send + Sync, R: Threads + CpuClock + Sync>(
 
 /// What the readers found, and their seats put back.
 fn add_up<S: NodeTag>(
-    read: Vec<Result<Read<S>, Problem>>,
+    read: Vec<Result<ReadingEnd<S>, Problem>>,
     seats: &mut Vec<ReaderSeat<S>>,
 ) -> Result<Measured, Problem> {
     let mut all = Measured::NOTHING;
     for one in read {
-        let Read { seat, found } = one?;
+        let ReadingEnd { seat, found } = one?;
         all.add(found);
         seats.push(seat)?;
     }
     Ok(all)
 }
 
-type Wrote<S> = (Writer<S>, Result<(), Fault>);
+type WritingEnd<S> = (Writer<S>, Result<(), Fault>);
 
 /// Readers beside a writer, and the time until the last of them has read.
 fn run_beside<S: DirectoryTag + Send + Sync, R: Threads + Wait + Clock + CpuClock + Sync + Send>(
@@ -134,7 +138,10 @@ fn run_beside<S: DirectoryTag + Send + Sync, R: Threads + Wait + Clock + CpuCloc
     writer: Writer<S>,
     seats: Vec<ReaderSeat<S>>,
     task: Task<'_>,
-) -> (Wrote<S>, Result<Vec<Result<Read<S>, Problem>>, AllocError>) {
+) -> (
+    WritingEnd<S>,
+    Result<Vec<Result<ReadingEnd<S>, Problem>>, AllocError>,
+) {
     let stop = AtomicBool::new(false);
     thread::join(
         rt,
@@ -162,7 +169,7 @@ fn measure_beside<
     writer: Writer<S>,
     seats: Vec<ReaderSeat<S>>,
     task: Task<'_>,
-) -> Result<Left<S>, Problem> {
+) -> Result<MeasuringEnd<S>, Problem> {
     let readers = seats.len() as u64;
     let before = writer.written();
     let start = Instant::now(rt)?;
@@ -172,13 +179,13 @@ fn measure_beside<
     let mut seats = Vec::new(alloc);
     let ran = add_up(read?, &mut seats)?;
     let writes = writer.written().saturating_sub(before);
-    let beside = Beside {
+    let beside = ConcurrentFigures {
         readers,
         passed: Measured::new(spent, ran.units()),
         ran,
         writes,
     };
-    Ok(Left {
+    Ok(MeasuringEnd {
         writer,
         seats,
         beside,
@@ -196,7 +203,7 @@ fn measure_readers<
     writer: Writer<S>,
     seats: Vec<ReaderSeat<S>>,
     task: Task<'_>,
-) -> Result<Vec<Beside>, Problem> {
+) -> Result<Vec<ConcurrentFigures>, Problem> {
     let (mut writer, mut seats) = (writer, seats);
     let mut beside = Vec::new(alloc);
     for count in 1..=READERS_MOST {
@@ -225,7 +232,7 @@ fn measure_from<S: DirectoryTag + Send + Sync, R: Threads + Wait + Clock + CpuCl
     let mut writer = Writer::new(alloc, seat)?;
     let shown = writer.time_writes(rt, directory, plan.writes())?;
     let seat = seats.pop().ok_or(Fault::BadSetting)?;
-    let Read { seat, found } = go_through(rt, seat, &asked)?;
+    let ReadingEnd { seat, found } = go_through(rt, seat, &asked)?;
     seats.push(seat)?;
     let task = Task {
         asked: &asked,

@@ -11,7 +11,7 @@ use std::time::CpuClock;
 
 /// A row that a reader asks for, and the prefix of the rows beside it.
 #[derive(Clone, Copy)]
-pub(crate) struct Asked {
+pub(crate) struct Question {
     owner: Name,
     key: Key,
     prefix: Prefix,
@@ -23,12 +23,12 @@ fn prefix_at(alloc: Global, index: u64) -> Result<Prefix, Fault> {
 }
 
 /// What readers ask for, in a scattered order.
-pub(crate) fn questions(alloc: Global, plan: Plan) -> Result<Vec<Asked>, Fault> {
+pub(crate) fn questions(alloc: Global, plan: Plan) -> Result<Vec<Question>, Fault> {
     let mut questions = Vec::new(alloc);
     for index in 0..plan.questions() {
         let owner = index.wrapping_mul(7_919) % plan.owners.max(1);
         let key = index.wrapping_mul(104_729) % plan.keys.max(1);
-        questions.push(Asked {
+        questions.push(Question {
             owner: owner_at(alloc, owner)?,
             key: key_at(alloc, key)?,
             prefix: prefix_at(alloc, key)?,
@@ -39,13 +39,13 @@ pub(crate) fn questions(alloc: Global, plan: Plan) -> Result<Vec<Asked>, Fault> 
 
 /// A reader that has read: its seat, and how many it found in the time that its thread ran.
 #[derive(Drop)]
-pub(crate) struct Read<S: NodeTag> {
+pub(crate) struct ReadingEnd<S: NodeTag> {
     pub(crate) seat: ReaderSeat<S>,
     pub(crate) found: Measured,
 }
 
 /// Enters, looks a key up and leaves; says whether it was found.
-fn get<S: NodeTag>(seat: ReaderSeat<S>, asked: &Asked) -> (ReaderSeat<S>, bool) {
+fn get<S: NodeTag>(seat: ReaderSeat<S>, asked: &Question) -> (ReaderSeat<S>, bool) {
     match seat.enter() {
         Ok(entered) => {
             let found = entered.snapshot().get(&asked.owner, &asked.key).is_some();
@@ -56,7 +56,11 @@ fn get<S: NodeTag>(seat: ReaderSeat<S>, asked: &Asked) -> (ReaderSeat<S>, bool) 
 }
 
 /// Looks up all of these so many times, and gives how often a key was found.
-fn get_all<S: NodeTag>(seat: ReaderSeat<S>, asked: &[Asked], rounds: u64) -> (ReaderSeat<S>, u64) {
+fn get_all<S: NodeTag>(
+    seat: ReaderSeat<S>,
+    asked: &[Question],
+    rounds: u64,
+) -> (ReaderSeat<S>, u64) {
     let mut seat = seat;
     let mut found: u64 = 0;
     for _ in 0..rounds {
@@ -79,7 +83,7 @@ fn count_rows(rows: LiveRows<'_>) -> u64 {
 }
 
 /// Enters, goes through the rows of a prefix and leaves; gives how many there were.
-fn list<S: NodeTag>(seat: ReaderSeat<S>, asked: &Asked) -> (ReaderSeat<S>, u64) {
+fn list<S: NodeTag>(seat: ReaderSeat<S>, asked: &Question) -> (ReaderSeat<S>, u64) {
     match seat.enter() {
         Ok(entered) => {
             let rows = count_rows(entered.snapshot().rows(Some(asked.owner), asked.prefix));
@@ -90,7 +94,7 @@ fn list<S: NodeTag>(seat: ReaderSeat<S>, asked: &Asked) -> (ReaderSeat<S>, u64) 
 }
 
 /// Goes through the rows of each of these prefixes, and gives how many there were.
-fn list_all<S: NodeTag>(seat: ReaderSeat<S>, asked: &[Asked]) -> (ReaderSeat<S>, u64) {
+fn list_all<S: NodeTag>(seat: ReaderSeat<S>, asked: &[Question]) -> (ReaderSeat<S>, u64) {
     let mut seat = seat;
     let mut rows: u64 = 0;
     for one in asked {
@@ -105,23 +109,23 @@ fn list_all<S: NodeTag>(seat: ReaderSeat<S>, asked: &[Asked]) -> (ReaderSeat<S>,
 pub(crate) fn look_up<S: NodeTag, R: CpuClock>(
     rt: &R,
     seat: ReaderSeat<S>,
-    asked: &[Asked],
+    asked: &[Question],
     rounds: u64,
-) -> Result<Read<S>, Problem> {
+) -> Result<ReadingEnd<S>, Problem> {
     let start = rt.thread_cpu_time()?;
     let (seat, found) = get_all(seat, asked, rounds);
     let found = Measured::new(spent_since(rt, start)?, found);
-    Ok(Read { seat, found })
+    Ok(ReadingEnd { seat, found })
 }
 
 /// Goes through the rows of each of these prefixes once.
 pub(crate) fn go_through<S: NodeTag, R: CpuClock>(
     rt: &R,
     seat: ReaderSeat<S>,
-    asked: &[Asked],
-) -> Result<Read<S>, Problem> {
+    asked: &[Question],
+) -> Result<ReadingEnd<S>, Problem> {
     let start = rt.thread_cpu_time()?;
     let (seat, rows) = list_all(seat, asked);
     let found = Measured::new(spent_since(rt, start)?, rows);
-    Ok(Read { seat, found })
+    Ok(ReadingEnd { seat, found })
 }

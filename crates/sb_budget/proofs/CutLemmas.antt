@@ -14,7 +14,7 @@ use Rattle.sb_types.specs.Runs.{Stands, IsRun, are_ascending, last_version}
 use Rattle.sb_types.specs.Lengths.{entry_length, entries_length, block_length, delta_length}
 use Rattle.sb_types.specs.Text.{is_name}
 use Rattle.sb_types.specs.Limits.{are_owners_above, are_block_parts, are_delta_blocks, text_lt}
-use Rattle.sb_holdings.proofs.Order.{run_front}
+use Rattle.sb_table.proofs.Order.{run_front}
 use Rattle.sb_budget.specs.declared.offered.Offered.{Offered}
 use Rattle.sb_budget.specs.Offers.{Item, of_owner, entries_of, block_from, block_of}
 use Rattle.sb_budget.specs.Orders.{offered_by}

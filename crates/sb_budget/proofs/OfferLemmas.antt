@@ -11,7 +11,7 @@ use Rattle.sb_types.specs.Writes.{Tells, Holds, Honest}
 use Rattle.sb_budget.specs.Offers.{Item, items_from, items_of, of_owner, entries_of, block_from, block_of, is_named, are_named_once, available}
 use Rattle.sb_types.proofs.Standing.{left, of_above}
 use Rattle.sb_types.proofs.Texts.{same_text, text_same}
-use Rattle.sb_holdings.proofs.Order.{run_above, run_front, run_after, run_upto}
+use Rattle.sb_table.proofs.Order.{run_above, run_front, run_after, run_upto}
 use Rattle.sb_holdings.proofs.Telling.{tells_above, tells_front}
 
 module _ (owner : List ℕ) (t : Table) (number : ℕ) where

@@ -9,7 +9,7 @@ use Rattle.std.proofs.lemmas.List.Elements.{All-nil, All-cons}
 use Rattle.std.proofs.lemmas.List.Kept.{AllPairs-cons}
 use Rattle.sb_types.specs.Records.{Entry, Table}
 use Rattle.sb_types.specs.Runs.{Stands, above, are_ascending, IsRun}
-use Rattle.sb_holdings.proofs.Order.{ascending_kept}
+use Rattle.sb_table.proofs.Order.{ascending_kept}
 use Rattle.sb_budget.specs.declared.offered.Offered.{Offered}
 use Rattle.sb_budget.specs.Available.{ranked_item, ranked_from, ranked_of}
 use Rattle.sb_budget.specs.Parts.{Part, part_of, all_of, IsChain}

@@ -7,7 +7,7 @@ use Rattle.std.proofs.lemmas.List.Sums.{sum_by-cons}
 use Rattle.sb_types.specs.Records.{Entry, Table}
 use Rattle.sb_types.specs.Runs.{Stands, are_ascending, above, IsRun}
 use Rattle.sb_types.proofs.Standing.{of_above}
-use Rattle.sb_holdings.proofs.Order.{ascending_kept, run_above, run_upto}
+use Rattle.sb_table.proofs.Order.{ascending_kept, run_above, run_upto}
 use Rattle.sb_budget.specs.declared.offered.Offered.{Offered}
 use Rattle.sb_budget.specs.Offers.{items_from, items_of}
 use Rattle.sb_budget.specs.Orders.{version_of}

@@ -12,7 +12,7 @@ use Rattle.sb_views.specs.declared.change.Change.{Change}
 use Rattle.sb_views.specs.declared.change.Change.TheVariants.{Enter, Clear, Hold}
 use Rattle.sb_views.specs.Changes.{owned, held_beyond, changes_above, lacked_of}
 use Rattle.sb_views.proofs.Changing.{nothing-lacked}
-use Rattle.sb_directory.specs.Behind.{lacked_since}
+use Rattle.sb_directory.specs.Lacking.{lacked_since}
 use Rattle.sb_directory.proofs.Noting.{held-table, no-table}
 
 -- ---- the entries of an owner above a version

@@ -8,11 +8,11 @@ use Rattle.sb_views.specs.declared.event.Event.{Event}
 use Rattle.sb_views.specs.declared.event.Event.TheVariants as events
 use Rattle.sb_views.specs.Histories.{node_after}
 use Rattle.sb_directory.specs.declared.receipt.Applied.{Applied}
-use Rattle.sb_directory.specs.Seats.{Seat, Begins, IsEntered, delta_due_after}
+use Rattle.sb_directory.specs.Seats.{Seat, Begins, MakesEvent, delta_due_after}
 
-pub delta-entered : (opening : Node) (blocks : List Block) (history : List Event) (old new : Seat) (result : Result Applied Fault) → Begins history old
+pub delta-event : (opening : Node) (blocks : List Block) (history : List Event) (old new : Seat) (result : Result Applied Fault) → Begins history old
     → OnOk result (delta_due_after history ≡ Ok tt) → IfOk result (λ applied. new.last_call ≡ history ++ events.Applied blocks applied.ends ∷ [])
     → IfOk result (λ applied. Treats (node_after opening history) blocks applied.ends)
-    → IfOk result (λ applied. (entered : IsEntered delta_due_after (events.Applied blocks applied.ends) old new) × Treats (node_after opening entered.history) blocks applied.ends)
-delta-entered opening blocks history old new (Ok applied) begins due last_call treats = (record { history = history; begins = begins; may = due; last_call = last_call }, treats)
-delta-entered opening blocks history old new (Err fault) begins due last_call treats = tt
+    → IfOk result (λ applied. (made : MakesEvent delta_due_after (events.Applied blocks applied.ends) old new) × Treats (node_after opening made.history) blocks applied.ends)
+delta-event opening blocks history old new (Ok applied) begins due last_call treats = (record { history = history; begins = begins; may = due; last_call = last_call }, treats)
+delta-event opening blocks history old new (Err fault) begins due last_call treats = tt

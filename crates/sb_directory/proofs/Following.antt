@@ -10,15 +10,15 @@ use Rattle.sb_views.specs.Changes.{Leads}
 use Rattle.sb_views.specs.Growing.{AreGrown}
 use Rattle.sb_views.specs.Histories.{node_after}
 use Rattle.sb_views.proofs.Growing.{grown-none}
-use Rattle.sb_directory.specs.Behind.{Behind, all_lacked, AreSince}
+use Rattle.sb_directory.specs.Lacking.{LackingOwners, all_lacked, AreSince}
 use Rattle.sb_directory.proofs.Lacking.{lacked-leads, nothing-since}
 
 module _ (opening core : Node) (upto : List Event) (same : core ≡ node_after opening upto) where
-  pub batch-leads : (queued : List Event) (behind : Behind) (batch : List (List ℕ × Change)) → IsHoldings core.held → AreGrown (node_after opening queued).held core.held
-      → AreSince (node_after opening queued).held core.held behind → batch ≡ all_lacked behind core.held → Leads (node_after opening queued).held (node_after opening upto).held batch
-  batch-leads queued behind batch is grown since all =
+  pub batch-leads : (queued : List Event) (lacking : LackingOwners) (batch : List (List ℕ × Change)) → IsHoldings core.held → AreGrown (node_after opening queued).held core.held
+      → AreSince (node_after opening queued).held core.held lacking → batch ≡ all_lacked lacking core.held → Leads (node_after opening queued).held (node_after opening upto).held batch
+  batch-leads queued lacking batch is grown since all =
       let old : Held = (node_after opening queued).held in
-      let leads : Leads old core.held batch = subst (Leads old core.held) (sym all) (lacked-leads old core.held behind is grown since) in
+      let leads : Leads old core.held batch = subst (Leads old core.held) (sym all) (lacked-leads old core.held lacking is grown since) in
       subst (λ (n : Node). Leads old n.held batch) same leads
 
   pub grown-there : IsHoldings core.held → AreGrown (node_after opening upto).held core.held

@@ -30,7 +30,7 @@ use Rattle.sb_views.specs.Histories.{node_events_of, node_after}
 use Rattle.sb_views.proofs.Prefixes.{prefix_trans}
 use Rattle.sb_views.proofs.Growing.{grown-on, own-grown, delta-grown}
 use Rattle.sb_views.proofs.Leading.{own-leads}
-use Rattle.sb_directory.specs.Behind.{Behind, since_of, with_owner, HasOwners, AreSince}
+use Rattle.sb_directory.specs.Lacking.{LackingOwners, since_of, with_owner, HasOwners, AreSince}
 use Rattle.sb_directory.specs.Notes.{note_of, with_notes, entered_of, versions_of, is_held}
 use Rattle.sb_directory.specs.ViewedNodes.{ViewedNode, IsViewedNode, after_own, after_delta, with_published, with_hub}
 use Rattle.sb_directory.proofs.Lacking.{add-has, added-since, own-since, delta-since}
@@ -64,23 +64,23 @@ notes-raised old new hub grown notes =
 -- ---- what is lacked, before more comes
 
 -- with what is lacked noted otherwise
-pub noted : (opening : Node) (queued : List Event) (behind more : Behind) (l : ViewedNode) → IsViewedNode opening queued behind l
+pub noted : (opening : Node) (queued : List Event) (lacking more : LackingOwners) (l : ViewedNode) → IsViewedNode opening queued lacking l
     → AreSince (node_after opening queued).held l.core.node.held more → IsViewedNode opening queued more l
-noted opening queued behind more l is since = record { node = is.node; begins = is.begins; grown = is.grown; since = since; notes = is.notes }
+noted opening queued lacking more l is since = record { node = is.node; begins = is.begins; grown = is.grown; since = since; notes = is.notes }
 
 -- the version of an owner is read of the node, and the floor of what it holds
 pub since-read : (held lent : Held) (owner : List ℕ) (version floor : ℕ) → version ≡ (shown_of held owner).held → floor ≡ (shown_of lent owner).floor → lent ≡ held
     → (let since : ℕ × ℕ = (version, floor) in since) ≡ since_of held owner
 since-read held lent owner version floor is at same = λ i. (is i, (at ∙ ap (λ (h : Held). (shown_of h owner).floor) same) i)
 
-pub added-locked : (opening : Node) (queued : List Event) (behind more : Behind) (l : ViewedNode) (owner : List ℕ) (since : ℕ × ℕ) → IsViewedNode opening queued behind l
-    → more ≡ with_owner behind owner since → since ≡ since_of l.core.node.held owner → IsViewedNode opening queued more l
-added-locked opening queued behind more l owner since is step at =
-    noted opening queued behind more l is (added-since behind owner since (node_after opening queued).held l.core.node.held more step at is.since)
+pub added-locked : (opening : Node) (queued : List Event) (lacking more : LackingOwners) (l : ViewedNode) (owner : List ℕ) (since : ℕ × ℕ) → IsViewedNode opening queued lacking l
+    → more ≡ with_owner lacking owner since → since ≡ since_of l.core.node.held owner → IsViewedNode opening queued more l
+added-locked opening queued lacking more l owner since is step at =
+    noted opening queued lacking more l is (added-since lacking owner since (node_after opening queued).held l.core.node.held more step at is.since)
 
-pub added-there : (behind more : Behind) (owner me : List ℕ) (since : ℕ × ℕ) → more ≡ with_owner behind owner since → owner ≡ me → contains_key more me ≡ true
-added-there behind more owner me since step same =
-    subst (λ (o : List ℕ). contains_key more o ≡ true) same (subst (λ (m : Behind). contains_key m owner ≡ true) (sym step) (add-has behind owner since))
+pub added-there : (lacking more : LackingOwners) (owner me : List ℕ) (since : ℕ × ℕ) → more ≡ with_owner lacking owner since → owner ≡ me → contains_key more me ≡ true
+added-there lacking more owner me since step same =
+    subst (λ (o : List ℕ). contains_key more o ≡ true) same (subst (λ (m : LackingOwners). contains_key m owner ≡ true) (sym step) (add-has lacking owner since))
 
 -- ---- an own write
 
@@ -100,18 +100,18 @@ own-held held e next =
 own-noted : (held : Held) (e : Entry) → e.version ≡ (shown_of held held.me).held + 1 → is_held (written held e) (note_of (held.me, e)) ≡ true
 own-noted held e next = le-leb e.version (shown_of (written held e) held.me).held (omega (arith, own-held held e next))
 
-module _ (opening : Node) (queued : List Event) (behind : Behind) (old : ViewedNode) (is : IsViewedNode opening queued behind old) (holds : IsHoldings old.core.node.held) where
+module _ (opening : Node) (queued : List Event) (lacking : LackingOwners) (old : ViewedNode) (is : IsViewedNode opening queued lacking old) (holds : IsHoldings old.core.node.held) where
   module _ (e : Entry) (turn : own_answer old.core.node.held e ≡ Ok tt) (entry : is_entry e ≡ true) (few : (shown_of old.core.node.held old.core.node.held.me).held < 2 ^ 64)
-      (has : contains_key behind old.core.node.held.me ≡ true) where
+      (has : contains_key lacking old.core.node.held.me ≡ true) where
     next : e.version ≡ (shown_of old.core.node.held old.core.node.held.me).held + 1
     next = entry-next e _ entry few (own-turn old.core.node.held e turn)
 
-    pub own-locked : (published : List Event) → IsViewedNode opening queued behind (after_own old e published)
+    pub own-locked : (published : List Event) → IsViewedNode opening queued lacking (after_own old e published)
     own-locked published = record {
       node = ap (λ (n : Node). node_after_event n (Wrote e)) is.node ∙ sym (node-own opening old.history e);
       begins = begins-longer queued old.history (TookOwn e) is.begins;
       grown = grown-on (node_after opening queued).held old.core.node.held (written old.core.node.held e) is.grown (own-grown old.core.node.held e holds);
-      since = own-since behind (node_after opening queued).held old.core.node.held e has is.since;
+      since = own-since lacking (node_after opening queued).held old.core.node.held e has is.since;
       notes = noted-held (written old.core.node.held e) old.hub ((old.core.node.held.me, e) ∷ [])
           (notes-raised old.core.node.held (written old.core.node.held e) old.hub (own-grown old.core.node.held e holds) is.notes)
           (own-noted old.core.node.held e next, tt);
@@ -120,13 +120,13 @@ module _ (opening : Node) (queued : List Event) (behind : Behind) (old : ViewedN
     -- so it is wherever the core, the history and the watches are these
     pub own-there : (core : Core) (history : List Event) (hub : Hub) (published : List Event) → core ≡ with_node old.core (node_after_event old.core.node (Wrote e))
         → history ≡ old.history ++ TookOwn e ∷ [] → hub ≡ with_notes old.hub ((old.core.node.held.me, e) ∷ [])
-        → IsViewedNode opening queued behind (record { core = core; hub = hub; history = history; published = published })
+        → IsViewedNode opening queued lacking (record { core = core; hub = hub; history = history; published = published })
     own-there core history hub published taken longer seen =
-        subst (IsViewedNode opening queued behind) (λ i. record { core = sym taken i; hub = sym seen i; history = sym longer i; published = published }) (own-locked published)
+        subst (IsViewedNode opening queued lacking) (λ i. record { core = sym taken i; hub = sym seen i; history = sym longer i; published = published }) (own-locked published)
 
   module _ (blocks : List Block) (ends : List BlockEnd) (delta : is_delta blocks ≡ true) (treats : Treats old.core.node blocks ends)
-      (after : IsHoldings (replay_node old.core.node (took_each blocks ends)).held) (has : HasOwners behind blocks) where
-    pub delta-locked : (published : List Event) → IsViewedNode opening queued behind (after_delta old blocks ends published)
+      (after : IsHoldings (replay_node old.core.node (took_each blocks ends)).held) (has : HasOwners lacking blocks) where
+    pub delta-locked : (published : List Event) → IsViewedNode opening queued lacking (after_delta old blocks ends published)
     delta-locked published =
         let new = replay_node old.core.node (took_each blocks ends) in
         let grown = delta-grown old.core.node blocks ends holds delta treats in
@@ -134,7 +134,7 @@ module _ (opening : Node) (queued : List Event) (behind : Behind) (old : ViewedN
           node = ap (λ (n : Node). replay_node n (took_each blocks ends)) is.node ∙ sym (node-delta opening old.history blocks ends);
           begins = begins-longer queued old.history (Applied blocks ends) is.begins;
           grown = grown-on (node_after opening queued).held old.core.node.held new.held is.grown grown;
-          since = delta-since behind (node_after opening queued).held old.core.node blocks ends has is.since;
+          since = delta-since lacking (node_after opening queued).held old.core.node blocks ends has is.since;
           notes = noted-held new.held old.hub (entered_of blocks old.core.node.held new.held)
               (notes-raised old.core.node.held new.held old.hub grown is.notes)
               (since-held new.held (versions_of old.core.node.held blocks) after);
@@ -143,16 +143,16 @@ module _ (opening : Node) (queued : List Event) (behind : Behind) (old : ViewedN
     pub delta-there : (core : Core) (history : List Event) (hub : Hub) (published : List Event) → core ≡ with_node old.core (replay_node old.core.node (took_each blocks ends))
         → history ≡ old.history ++ Applied blocks ends ∷ []
         → hub ≡ with_notes old.hub (entered_of blocks old.core.node.held (replay_node old.core.node (took_each blocks ends)).held)
-        → IsViewedNode opening queued behind (record { core = core; hub = hub; history = history; published = published })
+        → IsViewedNode opening queued lacking (record { core = core; hub = hub; history = history; published = published })
     delta-there core history hub published taken longer seen =
-        subst (IsViewedNode opening queued behind) (λ i. record { core = sym taken i; hub = sym seen i; history = sym longer i; published = published }) (delta-locked published)
+        subst (IsViewedNode opening queued lacking) (λ i. record { core = sym taken i; hub = sym seen i; history = sym longer i; published = published }) (delta-locked published)
 
 -- ---- what changes nothing of the node
 
-pub moved : (opening : Node) (queued later : List Event) (behind left : Behind) (l : ViewedNode) (published : List Event) → IsViewedNode opening queued behind l → IsPrefix later l.history
+pub moved : (opening : Node) (queued later : List Event) (lacking left : LackingOwners) (l : ViewedNode) (published : List Event) → IsViewedNode opening queued lacking l → IsPrefix later l.history
     → AreGrown (node_after opening later).held l.core.node.held → AreSince (node_after opening later).held l.core.node.held left → IsViewedNode opening later left (with_published l published)
-moved opening queued later behind left l published is begins grown since = record { node = is.node; begins = begins; grown = grown; since = since; notes = is.notes }
+moved opening queued later lacking left l published is begins grown since = record { node = is.node; begins = begins; grown = grown; since = since; notes = is.notes }
 
-pub hub-locked : (opening : Node) (queued : List Event) (behind : Behind) (l : ViewedNode) (hub : Hub) → IsViewedNode opening queued behind l → AllNotes (is_held l.core.node.held) hub
-    → IsViewedNode opening queued behind (with_hub l hub)
-hub-locked opening queued behind l hub is notes = record { node = is.node; begins = is.begins; grown = is.grown; since = is.since; notes = notes }
+pub hub-locked : (opening : Node) (queued : List Event) (lacking : LackingOwners) (l : ViewedNode) (hub : Hub) → IsViewedNode opening queued lacking l → AllNotes (is_held l.core.node.held) hub
+    → IsViewedNode opening queued lacking (with_hub l hub)
+hub-locked opening queued lacking l hub is notes = record { node = is.node; begins = is.begins; grown = is.grown; since = is.since; notes = notes }

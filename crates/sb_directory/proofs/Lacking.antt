@@ -24,7 +24,7 @@ use Rattle.sb_views.specs.Growing.{AreGrown}
 use Rattle.sb_views.proofs.Beginning.{first, second, less, turned, of_owner-owned}
 use Rattle.sb_views.proofs.ByText.{by_text}
 use Rattle.sb_views.proofs.Changing.{same-alike, lacked-alike}
-use Rattle.sb_directory.specs.Behind.{Behind, since_of, with_owner, HasOwners, lacked_since, all_lacked, IsSince, AreSince}
+use Rattle.sb_directory.specs.Lacking.{LackingOwners, since_of, with_owner, HasOwners, lacked_since, all_lacked, IsSince, AreSince}
 use Rattle.sb_directory.proofs.Rising.{put-owner}
 
 no-key : (r : Option (ℕ × ℕ)) → is_some r ≡ false → r ≡ None
@@ -37,10 +37,10 @@ none-there (Some v) is there = absurd (cc)
 
 -- ---- an owner is added
 
-abbrev Includes : Behind → Behind → Type 0
+abbrev Includes : LackingOwners → LackingOwners → Type 0
 Includes a b = (q : List ℕ) → contains_key a q ≡ true → contains_key b q ≡ true
 
-module _ (m : Behind) (o : List ℕ) (v : ℕ × ℕ) where
+module _ (m : LackingOwners) (o : List ℕ) (v : ℕ × ℕ) where
   at-key : eq_by_cmp by_text o o ≡ true
   at-key = sym (texts_ties o o) ∙ text_same o o refl
 
@@ -67,35 +67,35 @@ module _ (m : Behind) (o : List ℕ) (v : ℕ × ℕ) where
 
   pub add-has : contains_key (with_owner m o v) o ≡ true
   add-has =
-      cond_both (contains_key m o) m (insert m o v) (λ (n : Behind). contains_key n o ≡ true) (λ is. is)
+      cond_both (contains_key m o) m (insert m o v) (λ (n : LackingOwners). contains_key n o ≡ true) (λ is. is)
       (λ none. ap is_some (get-insert nat_list_cmp_total m o v o ∙ ap (λ (b : Bool). cond b (Some v) (get m o)) at-key))
 
   -- so it is wherever the version and the floor are those of what is held
-  pub added-since : (old held : Held) (new : Behind) → new ≡ with_owner m o v → v ≡ since_of held o → AreSince old held m → AreSince old held new
+  pub added-since : (old held : Held) (new : LackingOwners) → new ≡ with_owner m o v → v ≡ since_of held o → AreSince old held m → AreSince old held new
   added-since old held new step is since = subst (AreSince old held) (sym step) (add-since old held is since)
 
 -- ---- owners of blocks are added
 
-pub record IsAdding (held : Held) (all : List Block) (from behind : Behind) (rest : List Block) : Type 0 where
-  pub since : (old : Held) → AreSince old held from → AreSince old held behind
-  pub owners : (m : Behind) → Includes behind m → HasOwners m rest → HasOwners m all
+pub record IsAdding (held : Held) (all : List Block) (from lacking : LackingOwners) (rest : List Block) : Type 0 where
+  pub since : (old : Held) → AreSince old held from → AreSince old held lacking
+  pub owners : (m : LackingOwners) → Includes lacking m → HasOwners m rest → HasOwners m all
 
-pub adding-begins : (held : Held) (all : List Block) (from : Behind) (rest : List Block) → rest ≡ all → IsAdding held all from from rest
+pub adding-begins : (held : Held) (all : List Block) (from : LackingOwners) (rest : List Block) → rest ≡ all → IsAdding held all from from rest
 adding-begins held all from rest is = record { since = λ old at. at; owners = λ m more has. subst (HasOwners m) is has }
 
-pub adding-goes_on : (held : Held) (all : List Block) (from behind new : Behind) (b : Block) (rest : List Block)
-    → IsAdding held all from behind (b ∷ rest) → new ≡ with_owner behind b.owner (since_of held b.owner) → IsAdding held all from new rest
-adding-goes_on held all from behind new b rest is step =
+pub adding-goes_on : (held : Held) (all : List Block) (from lacking new : LackingOwners) (b : Block) (rest : List Block)
+    → IsAdding held all from lacking (b ∷ rest) → new ≡ with_owner lacking b.owner (since_of held b.owner) → IsAdding held all from new rest
+adding-goes_on held all from lacking new b rest is step =
     let v = since_of held b.owner in
     record {
-      since = λ old at. added-since behind b.owner v old held new step refl (is.since old at);
+      since = λ old at. added-since lacking b.owner v old held new step refl (is.since old at);
       owners = λ m more has.
-          is.owners m (λ q at. more q (subst (λ (n : Behind). contains_key n q ≡ true) (sym step) (add-includes behind b.owner v q at)))
-          (more b.owner (subst (λ (n : Behind). contains_key n b.owner ≡ true) (sym step) (add-has behind b.owner v)), has);
+          is.owners m (λ q at. more q (subst (λ (n : LackingOwners). contains_key n q ≡ true) (sym step) (add-includes lacking b.owner v q at)))
+          (more b.owner (subst (λ (n : LackingOwners). contains_key n b.owner ≡ true) (sym step) (add-has lacking b.owner v)), has);
     }
 
-pub adding-ends : (held : Held) (all : List Block) (from behind : Behind) (rest : List Block) → rest ≡ [] → IsAdding held all from behind rest → HasOwners behind all
-adding-ends held all from behind rest done is = is.owners behind (λ q at. at) (subst (HasOwners behind) (sym done) tt)
+pub adding-ends : (held : Held) (all : List Block) (from lacking : LackingOwners) (rest : List Block) → rest ≡ [] → IsAdding held all from lacking rest → HasOwners lacking all
+adding-ends held all from lacking rest done is = is.owners lacking (λ q at. at) (subst (HasOwners lacking) (sym done) tt)
 
 -- ---- more comes to be held
 
@@ -119,7 +119,7 @@ block-apart node b (Taken n) q apart = taken-apart node b (Taken n) q apart
 block-apart node b (TooManyKeys n) q apart = taken-apart node b (TooManyKeys n) q apart
 block-apart node b (NoMemory n) q apart = taken-apart node b (NoMemory n) q apart
 
-module _ (m : Behind) where
+module _ (m : LackingOwners) where
   key-apart : (q o : List ℕ) → get m q ≡ None → contains_key m o ≡ true → pointwise nat_eq q o ≡ false
   key-apart q o none has =
       false_from_ne_true (pointwise nat_eq q o)
@@ -188,7 +188,7 @@ module _ (held : Held) (o : List ℕ) where
       of_owner-owned o p.0 (lacked_of p.1.0 p.1.1 (shown_of held p.0)) (lacked_since ps held) b (turned o p.0 b refl)
       ∙ mine-or p ps b refl (first (below_all by_text p.0 ps) _ up) (mine ps (second (below_all by_text p.0 ps) _ up))
 
-  due-lacked : (m : Behind) → due (get m o) ≡ of_owner o (all_lacked m held)
+  due-lacked : (m : LackingOwners) → due (get m o) ≡ of_owner o (all_lacked m held)
   due-lacked m = sym (mine (entries m) (entries_sorted m) ∙ ap due (sym (get-entries m o)))
 
   leads-case : (old : Held) → IsHoldings held → AreGrown old held → (r : Option (ℕ × ℕ)) → IsSince (shown_of old o) (shown_of held o) r
@@ -200,6 +200,6 @@ module _ (held : Held) (o : List ℕ) where
       subst (λ (version : ℕ). IsAlike (table_with_all t (lacked_of version s.1 u)) u) (sym at.0)
       (subst (λ (floor : ℕ). IsAlike (table_with_all t (lacked_of t.held floor u)) u) (sym at.1) (lacked-alike t u (IsHolder-held held is o).shown (grown o)))
 
-pub lacked-leads : (old new : Held) (m : Behind) → IsHoldings new → AreGrown old new → AreSince old new m → Leads old new (all_lacked m new)
+pub lacked-leads : (old new : Held) (m : LackingOwners) → IsHoldings new → AreGrown old new → AreSince old new m → Leads old new (all_lacked m new)
 lacked-leads old new m is grown since =
     λ o. subst (λ (cs : List Change). IsAlike (table_with_all (shown_of old o) cs) (shown_of new o)) (due-lacked new o m) (leads-case new o old is grown (get m o) (since o))

@@ -9,7 +9,7 @@ use Rattle.sb_types.proofs.Standing.{of_above}
 use Rattle.sb_holdings.specs.Held.{Held, nothing, shown_of}
 use Rattle.sb_holdings.specs.Plain.{IsHoldings, table_of}
 use Rattle.sb_holdings.proofs.Changed.{IsHolder-held}
-use Rattle.sb_holdings.proofs.Order.{run_upto}
+use Rattle.sb_table.proofs.Order.{run_upto}
 use Rattle.sb_watch.specs.Records.{Hub}
 use Rattle.sb_watch.specs.Hubs.{AllNotes, with_push}
 use Rattle.sb_watch.proofs.KeptNotes.{pushed_keeps}

@@ -4,7 +4,7 @@ use Rattle.std.proofs.lemmas.Bool.{false≢true}
 use Rattle.sb_directory.specs.ViewedNodes.{ViewedNode, Publishes}
 use Rattle.sb_directory.specs.Seats.{PublishesWhereSaid}
 
-pub said-shows : (shown said : Bool) (old new : ViewedNode) → (said ≡ true → shown ≡ true) → Publishes shown old new → PublishesWhereSaid said old new
+pub said-shows : (is_published said : Bool) (old new : ViewedNode) → (said ≡ true → is_published ≡ true) → Publishes is_published old new → PublishesWhereSaid said old new
 said-shows true true old new so shows = shows
 said-shows true false old new so shows = inl shows
 said-shows false true old new so shows = absurd (false≢true (so refl))

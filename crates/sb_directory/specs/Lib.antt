@@ -1,4 +1,4 @@
-pub mod Behind
+pub mod Lacking
 pub mod Notes
 pub mod ViewedNodes
 pub mod Seats

@@ -32,7 +32,7 @@ pub record Begins (history : List Event) (seat : Seat) : Type 0 where
   pub last_call : IsPrefix seat.last_call history
 
 -- A call was made after this history, and may make this event then, with which the seat's last call ends.
-pub record IsEntered (due : List Event → Result (Unit {0}) Fault) (event : Event) (old new : Seat) : Type 0 where
+pub record MakesEvent (due : List Event → Result (Unit {0}) Fault) (event : Event) (old new : Seat) : Type 0 where
   pub history : List Event
   pub begins : Begins history old
   pub may : due history ≡ Ok tt

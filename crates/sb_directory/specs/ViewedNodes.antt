@@ -15,7 +15,7 @@ use Rattle.sb_views.specs.declared.event.Event.{Event}
 use Rattle.sb_views.specs.declared.event.Event.TheVariants.{TookOwn, Applied}
 use Rattle.sb_views.specs.Growing.{AreGrown}
 use Rattle.sb_views.specs.Histories.{node_after}
-use Rattle.sb_directory.specs.Behind.{Behind, AreSince}
+use Rattle.sb_directory.specs.Lacking.{LackingOwners, AreSince}
 use Rattle.sb_directory.specs.Notes.{with_notes, entered_of, is_held}
 
 pub record ViewedNode : Type 0 where
@@ -71,13 +71,13 @@ with_hub l hub = record { core = l.core; hub = hub; history = l.history; publish
 
 -- the answer says whether all that happened is published; where it is not, what is published stays
 abbrev pub Publishes : Bool → ViewedNode → ViewedNode → Type 0
-Publishes shown old new = MatchBool shown (new.published ≡ new.history) (new.published ≡ old.published)
+Publishes is_published old new = MatchBool is_published (new.published ≡ new.history) (new.published ≡ old.published)
 
 -- the node is the replay of the history, of which a prefix is queued for the views; the tables have grown from those after it, and
 -- what views lack since is noted; and what is noted in watches is held
-pub record IsViewedNode (opening : Node) (queued : List Event) (behind : Behind) (l : ViewedNode) : Type 0 where
+pub record IsViewedNode (opening : Node) (queued : List Event) (lacking : LackingOwners) (l : ViewedNode) : Type 0 where
   pub node : l.core.node ≡ node_after opening l.history
   pub begins : IsPrefix queued l.history
   pub grown : AreGrown (node_after opening queued).held l.core.node.held
-  pub since : AreSince (node_after opening queued).held l.core.node.held behind
+  pub since : AreSince (node_after opening queued).held l.core.node.held lacking
   pub notes : AllNotes (is_held l.core.node.held) l.hub

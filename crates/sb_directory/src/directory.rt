@@ -122,7 +122,7 @@ impl<S: DirectoryTag, R: Wait + Drop> Directory<S, R> {
         seat: &mut ReaderSeat<S>,
         committed: &Committed,
     ) -> Result<Receipt, Fault>
-        ensures entered { IfOk result (λ _. spec.IsEntered (λ history. spec.own_due_after S.opening history committed.now)
+        ensures event { IfOk result (λ _. spec.MakesEvent (λ history. spec.own_due_after S.opening history committed.now)
             (events.TookOwn committed.now.entry) seat.old seat.new) }
         ensures shown { IfOk result (λ receipt. receipt.shown ≡ true → seat.new.seen ≡ seat.new.last_call) }
         ensures refused { IfErr result (spec.Refuses (spec.own_due_after S.opening seat.new.last_call committed.now)) }
@@ -145,8 +145,8 @@ impl<S: DirectoryTag, R: Wait + Drop> Directory<S, R> {
         seat: &mut ReaderSeat<S>,
         delta: &Delta,
     ) -> Result<Applied, Fault>
-        ensures entered { IfOk result (λ applied. (entered : spec.IsEntered spec.delta_due_after (events.Applied delta.now applied.ends) seat.old seat.new)
-            × Treats (node_after S.opening entered.history) delta.now applied.ends) }
+        ensures event { IfOk result (λ applied. (made : spec.MakesEvent spec.delta_due_after (events.Applied delta.now applied.ends) seat.old seat.new)
+            × Treats (node_after S.opening made.history) delta.now applied.ends) }
         ensures shown { IfOk result (λ applied. applied.shown ≡ true → seat.new.seen ≡ seat.new.last_call) }
         ensures refused { IfErr result (spec.Refuses (spec.delta_due_after seat.new.last_call)) }
         ensures fault { IfErr result IsRefusal }

@@ -50,13 +50,13 @@
 //! ```
 #![tactic(auto)]
 
-mod behind;
 mod directory;
 mod events;
+mod lacked;
+mod lacking_owners;
 mod laws;
 mod locked;
 mod notes;
-mod pending;
 mod receipt;
 mod seat;
 mod seat_handler;

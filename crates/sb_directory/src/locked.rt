@@ -57,18 +57,18 @@ fn count_event<S: NodeTag, R: Wait + Drop>(
     node: &ViewedNode<S, R>,
     book: &mut Book<S>,
     seat: &mut ReaderSeat<S>,
-    shown: bool,
+    is_published: bool,
 ) -> bool
     ensures total { book.new.total ≡ book.old.total + 1 }
     ensures count { seat.new.events ≡ seat.old.events + 1 }
     ensures last_call { seat.new.last_call ≡ node.now.history }
     ensures grows { IsPrefix seat.old.seen seat.new.seen }
-    ensures said { result ≡ true → shown ≡ true }
+    ensures said { result ≡ true → is_published ≡ true }
     ensures seen { result ≡ true → seat.new.seen ≡ node.now.history }
 {
     seat.count(book);
     seat.set_last_call(node.history());
-    if !shown {
+    if !is_published {
         return false;
     }
     seat.look(node.history())
@@ -110,8 +110,8 @@ impl<S: DirectoryTag, R: Wait + Drop> Locked<S, R> {
     {
         seat.call_at(rt, self.node.history());
         match self.node.take_own(rt, committed) {
-            Ok(shown) => {
-                let shown = count_event(&self.node, &mut self.book, seat, shown);
+            Ok(is_published) => {
+                let shown = count_event(&self.node, &mut self.book, seat, is_published);
                 Ok(Receipt {
                     version: committed.entry().version(),
                     shown,
@@ -144,8 +144,8 @@ impl<S: DirectoryTag, R: Wait + Drop> Locked<S, R> {
     {
         seat.call_at(rt, self.node.history());
         match self.node.apply(rt, delta) {
-            Ok((ends, shown)) => {
-                let shown = count_event(&self.node, &mut self.book, seat, shown);
+            Ok((ends, is_published)) => {
+                let shown = count_event(&self.node, &mut self.book, seat, is_published);
                 Ok(Applied { ends, shown })
             }
             Err(fault) => Err(fault),

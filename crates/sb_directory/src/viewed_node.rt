@@ -10,8 +10,8 @@ ghost use Rattle.sb_watch.specs.Hubs.{new_hub, next_id, has_watch, answer_at, wi
 ghost use Rattle.sb_views.specs.Histories.{node_after};
 ghost use Rattle.sb_directory.specs.ViewedNodes as spec;
 
-use crate::behind::Behind;
 use crate::events::add_event;
+use crate::lacking_owners::LackingOwners;
 use crate::notes::{push_note, push_notes_since, versions_of};
 use crate::views::Views;
 use sb_holdings::Report;
@@ -33,7 +33,7 @@ pub struct ViewedNode<S: NodeTag, R: Wait + Drop> {
     head: HistoryHead<S>,
     history: HistoryPrefix<S>,
     views: Views<S, R>,
-    behind: Behind,
+    lacking: LackingOwners,
     alloc: Global,
 }
 
@@ -48,7 +48,7 @@ impl<S: NodeTag, R: Wait + Drop> Model for ViewedNode<S, R> {
 
     ghost view = { λ l. record { core = l.core; hub = l.hub; history = l.history; published = l.views.published } };
 
-    ghost invariant = { λ l. spec.IsViewedNode S.opening l.views.queued l.behind (record { core = l.core; hub = l.hub; history = l.history; published = l.views.published }) };
+    ghost invariant = { λ l. spec.IsViewedNode S.opening l.views.queued l.lacking (record { core = l.core; hub = l.hub; history = l.history; published = l.views.published }) };
 }
 
 impl<S: NodeTag, R: Wait + Drop> ViewedNode<S, R> {
@@ -75,7 +75,7 @@ impl<S: NodeTag, R: Wait + Drop> ViewedNode<S, R> {
             head,
             history: start,
             views,
-            behind: Behind::new(alloc),
+            lacking: LackingOwners::new(alloc),
             alloc,
         };
         Ok((node, readers))
@@ -89,8 +89,8 @@ impl<S: NodeTag, R: Wait + Drop> ViewedNode<S, R> {
         ensures answer { IfErr result (λ fault. fault ≢ Fault.NoMemory → spec.own_due self.old committed.now ≡ Err fault) }
         ensures refused { IfErr (spec.own_due self.old committed.now) (λ fault. result ≡ Err fault) }
         ensures due { OnOk result (spec.own_due self.old committed.now ≡ Ok tt) }
-        ensures taken { IfOk result (λ shown. self.new ≡ spec.after_own self.old committed.now.entry self.new.published) }
-        ensures shown { IfOk result (λ shown. spec.Publishes shown self.old self.new) }
+        ensures taken { IfOk result (λ _. self.new ≡ spec.after_own self.old committed.now.entry self.new.published) }
+        ensures publishes { IfOk result (λ is_published. spec.Publishes is_published self.old self.new) }
         ensures err { OnErr result (self.new ≡ self.old) }
     {
         if let Some(fault) = self.core.refusal(committed) {
@@ -102,11 +102,14 @@ impl<S: NodeTag, R: Wait + Drop> ViewedNode<S, R> {
         let me = *self.core.name();
         let entry = committed.entry();
         let since = (self.core.upto(&me), self.core.holdings().floor(&me));
-        self.behind.add(me, since)?;
+        self.lacking.add(me, since)?;
         self.core.take_own(committed)?;
         add_event(rt, &self.head, &mut self.history, EventRef::TookOwn(entry));
         push_note(&mut self.hub, &me, entry);
-        Ok(self.views.show(&self.core, &self.history, &mut self.behind))
+        Ok(
+            self.views
+                .publish_history(&self.core, &self.history, &mut self.lacking),
+        )
     }
 
     /// Takes each block of a delta in turn, notes each entry that it entered in watches, and publishes all that
@@ -120,7 +123,7 @@ impl<S: NodeTag, R: Wait + Drop> ViewedNode<S, R> {
         ensures due { OnOk result (spec.delta_due self.old ≡ Ok tt) }
         ensures ends { IfOk result (λ r. Treats self.old.core.node delta.now r.0) }
         ensures taken { IfOk result (λ r. self.new ≡ spec.after_delta self.old delta.now r.0 self.new.published) }
-        ensures shown { IfOk result (λ r. spec.Publishes r.1 self.old self.new) }
+        ensures publishes { IfOk result (λ r. spec.Publishes r.1 self.old self.new) }
         ensures err { OnErr result (self.new ≡ self.old) }
     {
         if self.history.len() == u64::MAX {
@@ -128,13 +131,15 @@ impl<S: NodeTag, R: Wait + Drop> ViewedNode<S, R> {
         }
         let blocks = delta.blocks();
         let versions = versions_of(self.alloc, self.core.holdings(), blocks)?;
-        self.behind.add_owners(self.core.holdings(), blocks)?;
+        self.lacking.add_owners(self.core.holdings(), blocks)?;
         let ends = self.core.apply(delta)?;
         let event = EventRef::Applied(delta, &ends);
         add_event(rt, &self.head, &mut self.history, event);
         push_notes_since(&mut self.hub, self.core.holdings(), versions);
-        let shown = self.views.show(&self.core, &self.history, &mut self.behind);
-        Ok((ends, shown))
+        let is_published = self
+            .views
+            .publish_history(&self.core, &self.history, &mut self.lacking);
+        Ok((ends, is_published))
     }
 
     /// The node, for calls that only read it.
@@ -177,9 +182,10 @@ impl<S: NodeTag, R: Wait + Drop> ViewedNode<S, R> {
     /// stays.
     pub fn refresh(&mut self) -> bool
         ensures left { self.new ≡ spec.with_published self.old self.new.published }
-        ensures shown { spec.Publishes result self.old self.new }
+        ensures publishes { spec.Publishes result self.old self.new }
     {
-        self.views.show(&self.core, &self.history, &mut self.behind)
+        self.views
+            .publish_history(&self.core, &self.history, &mut self.lacking)
     }
 
     /// Publishes all that happened, and gives what the watch answers, so that a note is handed out once its write is
@@ -195,7 +201,10 @@ impl<S: NodeTag, R: Wait + Drop> ViewedNode<S, R> {
         if !self.hub.has(id) {
             return Err(Fault::NoWatch);
         }
-        if !self.views.show(&self.core, &self.history, &mut self.behind) {
+        if !self
+            .views
+            .publish_history(&self.core, &self.history, &mut self.lacking)
+        {
             return Err(Fault::NoMemory);
         }
         self.hub.take(id)
@@ -226,7 +235,7 @@ impl<S: NodeTag, R: Wait + Drop> ViewedNode<S, R> {
             head: _head,
             history: _history,
             views: _views,
-            behind: _behind,
+            lacking: _lacking,
             alloc: _,
         } = self;
         core

@@ -4,10 +4,10 @@ ghost use mathlib.Core.List.{IsPrefix};
 ghost use Rattle.sb_holdings.specs.Plain.{IsHoldings};
 ghost use Rattle.sb_views.specs.Growing.{AreGrown};
 ghost use Rattle.sb_views.specs.Histories.{node_after};
-ghost use Rattle.sb_directory.specs.Behind.{AreSince};
+ghost use Rattle.sb_directory.specs.Lacking.{AreSince};
 
-use crate::behind::Behind;
-use crate::pending::pending;
+use crate::lacked::lacked_changes;
+use crate::lacking_owners::LackingOwners;
 use sb_node::NodeCore;
 use sb_types::Fault;
 use sb_views::{HistoryPrefix, NodeTag, Reader, ViewWriter, views};
@@ -68,19 +68,19 @@ impl<S: NodeTag, R: Wait + Drop> Views<S, R> {
         &mut self,
         core: &NodeCore,
         history: &HistoryPrefix<S>,
-        behind: &Behind,
+        lacking: &LackingOwners,
     ) -> Result<(), Fault>
         requires node { core.now.node ≡ node_after S.opening history.now }
         requires begins { IsPrefix self.old.queued history.now }
         requires grown { AreGrown (node_after S.opening self.old.queued).held core.now.node.held }
-        requires since { AreSince (node_after S.opening self.old.queued).held core.now.node.held behind.now }
+        requires since { AreSince (node_after S.opening self.old.queued).held core.now.node.held lacking.now }
         ensures ok { OnOk result (self.new ≡ record { published = self.old.published; queued = history.now }) }
         ensures err { OnErr result (self.new ≡ self.old) }
         ensures memory { IfErr result (λ fault. fault ≡ Fault.NoMemory) }
         ensures holdings { IsHoldings core.now.node.held }
     {
         let holdings = core.holdings();
-        let batch = pending(self.alloc, holdings, behind)?;
+        let batch = lacked_changes(self.alloc, holdings, lacking)?;
         match self.writer.append(batch, history) {
             Ok(()) => {
                 self.queued = history.copy();
@@ -109,25 +109,25 @@ impl<S: NodeTag, R: Wait + Drop> Views<S, R> {
 
     /// Publishes the view of the node as it is after this history, and says whether there was memory for it. Where there
     /// was none, what is published stays, and what could not be queued is queued by the next call.
-    pub(crate) fn show(
+    pub(crate) fn publish_history(
         &mut self,
         core: &NodeCore,
         history: &HistoryPrefix<S>,
-        behind: &mut Behind,
+        lacking: &mut LackingOwners,
     ) -> bool
         requires node { core.now.node ≡ node_after S.opening history.now }
         requires begins { IsPrefix self.old.queued history.now }
         requires grown { AreGrown (node_after S.opening self.old.queued).held core.now.node.held }
-        requires since { AreSince (node_after S.opening self.old.queued).held core.now.node.held behind.old }
-        ensures shown { MatchBool result (self.new.published ≡ history.now) (self.new.published ≡ self.old.published) }
+        requires since { AreSince (node_after S.opening self.old.queued).held core.now.node.held lacking.old }
+        ensures publishes { MatchBool result (self.new.published ≡ history.now) (self.new.published ≡ self.old.published) }
         ensures begins { IsPrefix self.new.queued history.now }
         ensures grown { AreGrown (node_after S.opening self.new.queued).held core.now.node.held }
-        ensures since { AreSince (node_after S.opening self.new.queued).held core.now.node.held behind.new }
+        ensures since { AreSince (node_after S.opening self.new.queued).held core.now.node.held lacking.new }
     {
         if self.published.is_same(history) {
             return true;
         }
-        if !self.catch_up(core, history, behind) {
+        if !self.catch_up(core, history, lacking) {
             return false;
         }
         match self.publish() {
@@ -137,21 +137,26 @@ impl<S: NodeTag, R: Wait + Drop> Views<S, R> {
     }
 
     /// Queues what is not queued, and says whether the views lack nothing then.
-    fn catch_up(&mut self, core: &NodeCore, history: &HistoryPrefix<S>, behind: &mut Behind) -> bool
+    fn catch_up(
+        &mut self,
+        core: &NodeCore,
+        history: &HistoryPrefix<S>,
+        lacking: &mut LackingOwners,
+    ) -> bool
         requires node { core.now.node ≡ node_after S.opening history.now }
         requires begins { IsPrefix self.old.queued history.now }
         requires grown { AreGrown (node_after S.opening self.old.queued).held core.now.node.held }
-        requires since { AreSince (node_after S.opening self.old.queued).held core.now.node.held behind.old }
+        requires since { AreSince (node_after S.opening self.old.queued).held core.now.node.held lacking.old }
         ensures queued { MatchBool result (self.new ≡ record { published = self.old.published; queued = history.now }) (self.new ≡ self.old) }
         ensures grown { AreGrown (node_after S.opening self.new.queued).held core.now.node.held }
-        ensures since { AreSince (node_after S.opening self.new.queued).held core.now.node.held behind.new }
+        ensures since { AreSince (node_after S.opening self.new.queued).held core.now.node.held lacking.new }
     {
         if self.queued.is_same(history) {
             return true;
         }
-        match self.append(core, history, behind) {
+        match self.append(core, history, lacking) {
             Ok(()) => {
-                behind.clear();
+                lacking.clear();
                 true
             }
             Err(_) => false,

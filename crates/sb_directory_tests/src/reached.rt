@@ -17,10 +17,10 @@ use std::sync::Wait;
 use std::sync::ledger::Blank;
 
 /// What a reader sees: how many events, how far a and b are held, and how many rows b has.
-pub(crate) type Seen = (u64, [u64; 2], usize);
+pub(crate) type ReaderFindings = (u64, [u64; 2], usize);
 
 /// What is seen after so many events.
-fn seen_of(rt: &impl Abort, events: u64, snapshot: &Snapshot<'_>) -> Seen {
+fn findings_of(rt: &impl Abort, events: u64, snapshot: &Snapshot<'_>) -> ReaderFindings {
     let (a, b) = (name(rt, b"a"), name(rt, b"b"));
     let mut rows: usize = 0;
     for _ in snapshot.rows(Some(b), prefix(rt, b"")) {
@@ -58,10 +58,10 @@ pub(crate) fn bare_of<S: DirectoryTag, R: Wait + Abort>(
     Reach::Bare(bare)
 }
 
-fn read_once<S: NodeTag>(rt: &impl Abort, reader: Reader<S>) -> (Reader<S>, Seen) {
+fn read_once<S: NodeTag>(rt: &impl Abort, reader: Reader<S>) -> (Reader<S>, ReaderFindings) {
     match reader.enter() {
         Ok(entered) => {
-            let seen = seen_of(rt, entered.seen().len(), &entered.snapshot());
+            let seen = findings_of(rt, entered.seen().len(), &entered.snapshot());
             (entered.leave(), seen)
         }
         Err(_) => panic!(rt; "error: not entered"),
@@ -114,7 +114,7 @@ impl<S: NodeTag, H: Wait + Drop> Bare<S, H> {
         self.node.refresh()
     }
 
-    fn read<Q: Abort>(&mut self, rt: &Q) -> Seen {
+    fn read<Q: Abort>(&mut self, rt: &Q) -> ReaderFindings {
         let (reader, seen) = read_once(rt, there(rt, self.reader.take()));
         self.reader = Some(reader);
         seen
@@ -152,10 +152,13 @@ pub(crate) fn seated_of<S: DirectoryTag, R: Wait + Abort>(
     Reach::Seated(seated)
 }
 
-fn read_seated<S: NodeTag>(rt: &impl Abort, seat: ReaderSeat<S>) -> (ReaderSeat<S>, Seen) {
+fn read_seated<S: NodeTag>(
+    rt: &impl Abort,
+    seat: ReaderSeat<S>,
+) -> (ReaderSeat<S>, ReaderFindings) {
     match seat.enter() {
         Ok(entered) => {
-            let seen = seen_of(rt, entered.seen().len(), &entered.snapshot());
+            let seen = findings_of(rt, entered.seen().len(), &entered.snapshot());
             (entered.leave(), seen)
         }
         Err(_) => panic!(rt; "error: not entered"),
@@ -219,7 +222,7 @@ impl<S: DirectoryTag, H: Wait + Drop> Seated<S, H> {
         self.directory.refresh(rt, seat)
     }
 
-    fn read<Q: Abort>(&mut self, rt: &Q) -> Seen {
+    fn read<Q: Abort>(&mut self, rt: &Q) -> ReaderFindings {
         let (seat, seen) = read_seated(rt, there(rt, self.seat.take()));
         self.seat = Some(seat);
         seen
@@ -323,7 +326,7 @@ impl<S: DirectoryTag, H: Wait + Drop> Reach<S, H> {
     }
 
     /// The reader enters, and leaves.
-    pub(crate) fn read<Q: Abort>(&mut self, rt: &Q) -> Seen {
+    pub(crate) fn read<Q: Abort>(&mut self, rt: &Q) -> ReaderFindings {
         match self {
             Reach::Bare(bare) => bare.read(rt),
             Reach::Seated(seated) => seated.read(rt),

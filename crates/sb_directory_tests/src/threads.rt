@@ -34,14 +34,14 @@ fn key_behind(version: u64) -> [u8; 2] {
 /// What a reader saw of an owner: the version up to which it was shown, and whether that never fell and its rows were
 /// those of its writes up to there.
 #[derive(Clone, Copy)]
-struct Seen {
+struct OwnerReadings {
     owner: Name,
     upto: u64,
     is_right: bool,
 }
 
-fn new_seen(owner: Name) -> Seen {
-    Seen {
+fn new_readings(owner: Name) -> OwnerReadings {
+    OwnerReadings {
         owner,
         upto: 0,
         is_right: true,
@@ -60,7 +60,7 @@ fn are_whole(snapshot: &Snapshot<'_>, owner: Name, all: Prefix, upto: u64) -> bo
     version == upto
 }
 
-impl Seen {
+impl OwnerReadings {
     fn look(&mut self, snapshot: &Snapshot<'_>, all: Prefix) {
         let upto = snapshot.upto(&self.owner);
         self.is_right &= upto >= self.upto && are_whole(snapshot, self.owner, all, upto);
@@ -73,8 +73,8 @@ fn read_along<S: DirectoryTag>(
     mut seat: ReaderSeat<S>,
     all: Prefix,
     turns: u64,
-    mut seen: [Seen; 2],
-) -> (ReaderSeat<S>, [Seen; 2]) {
+    mut seen: [OwnerReadings; 2],
+) -> (ReaderSeat<S>, [OwnerReadings; 2]) {
     for _ in 0..turns {
         seat = match seat.enter() {
             Ok(entered) => {
@@ -144,9 +144,9 @@ fn run_both<S: DirectoryTag + Send + Sync, R: Wait + Threads + Abort + Sync + Se
     directory: &Directory<S, &R>,
     reader: ReaderSeat<S>,
     writer: ReaderSeat<S>,
-) -> ([Seen; 2], ReaderSeat<S>, ReaderSeat<S>) {
+) -> ([OwnerReadings; 2], ReaderSeat<S>, ReaderSeat<S>) {
     let all = prefix(rt, b"");
-    let seen = [new_seen(name(rt, b"a")), new_seen(name(rt, b"b"))];
+    let seen = [new_readings(name(rt, b"a")), new_readings(name(rt, b"b"))];
     let ((reader, seen), writer) = join(
         rt,
         move || read_along(reader, all, TURNS, seen),
@@ -162,7 +162,7 @@ fn run_from<S: DirectoryTag + Send + Sync, R: Wait + Threads + Abort + Sync + Se
     alloc: Global,
     directory: &Directory<S, &R>,
     seats: &mut Vec<ReaderSeat<S>>,
-) -> [Seen; 2] {
+) -> [OwnerReadings; 2] {
     let reader = there(rt, seats.pop());
     let writer = there(rt, seats.pop());
     let (seen, reader, writer) = run_both(rt, alloc, directory, reader, writer);

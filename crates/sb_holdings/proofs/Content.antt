@@ -8,7 +8,7 @@ use Rattle.sb_types.specs.Runs.{Stands, are_ascending, are_distinct, has_key, Is
 use Rattle.sb_types.specs.Writes.{Tells, Holds}
 use Rattle.sb_holdings.specs.Contents.{numbered, last_each, content_table}
 use Rattle.sb_types.proofs.Standing.{keyed, has, lacks}
-use Rattle.sb_holdings.proofs.Order.{lower, behind, at_most, run_kept}
+use Rattle.sb_table.proofs.Order.{lower, behind, at_most, run_kept}
 use Rattle.sb_holdings.proofs.Telling.{tells_live, within_writes}
 use Rattle.sb_holdings.proofs.Numbered.{in_numbered, of_numbered, numbered_ascends}
 

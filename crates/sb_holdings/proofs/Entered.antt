@@ -12,7 +12,7 @@ use Rattle.sb_holdings.specs.Entering.{entered_each}
 use Rattle.sb_holdings.specs.Plain.{with_entries}
 use Rattle.sb_holdings.specs.Ends.{keys_with}
 use Rattle.sb_holdings.proofs.Entering.{one_by_one}
-use Rattle.sb_holdings.proofs.Order.{distinct_taken}
+use Rattle.sb_table.proofs.Order.{distinct_taken}
 
 entered_each-push : (entries xs : List Entry) (e : Entry) → entered_each entries (xs ++ e ∷ []) ≡ entered (entered_each entries xs) (e ∷ [])
 entered_each-push entries [] e = refl

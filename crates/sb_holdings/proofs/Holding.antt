@@ -14,7 +14,7 @@ use Rattle.sb_holdings.specs.Stages.{new_stage, stage_for, settled, staged_all, 
 use Rattle.sb_holdings.specs.Taken.{routed, holder_after_block}
 use Rattle.sb_holdings.specs.Ends.{Enters, joined_stage}
 use Rattle.sb_holdings.specs.Holders.{FitsHolder, FitsStage, FillsStage, told, goes_on_with, GoesOn, reached, stage_ended, shown_taken, is_due, placed, Settles, staged_by}
-use Rattle.sb_holdings.proofs.Order.{least, lower, ascending_taken, run_above}
+use Rattle.sb_table.proofs.Order.{least, lower, ascending_taken, run_above}
 use Rattle.sb_holdings.proofs.Entering.{one_by_one}
 
 -- ---- a stage seen as a table, and back

@@ -9,7 +9,7 @@ use Rattle.sb_types.specs.Writes.{Written, Tells, HoldsStage, Honest, IsHolder}
 use Rattle.sb_table.specs.Plain.{with_entry}
 use Rattle.sb_holdings.specs.Shown.{stage_beyond, shown_with, own}
 use Rattle.sb_types.proofs.Standing.{of_live, of_entered}
-use Rattle.sb_holdings.proofs.Order.{run_after, run_order, run_kept, run_entered}
+use Rattle.sb_table.proofs.Order.{run_after, run_order, run_kept, run_entered}
 use Rattle.sb_holdings.proofs.Telling.{tells_live, tells_raised, tells_raised_below, tells_entered, one_write, within_writes}
 use Rattle.sb_holdings.proofs.Parts.{IsPart}
 use Rattle.sb_holdings.proofs.Steps.{Step, unchanged}

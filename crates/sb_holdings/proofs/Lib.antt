@@ -1,4 +1,3 @@
-pub mod Order
 pub mod Telling
 pub mod Swapping
 pub mod Parts

@@ -5,7 +5,7 @@ use Rattle.sb_types.specs.Records.{Block}
 use Rattle.sb_types.specs.Runs.{IsRun, IsBlock}
 use Rattle.sb_types.specs.Writes.{Tells, Honest}
 use Rattle.sb_holdings.specs.Blocks.{part_above, front}
-use Rattle.sb_holdings.proofs.Order.{run_above, run_front}
+use Rattle.sb_table.proofs.Order.{run_above, run_front}
 use Rattle.sb_holdings.proofs.Telling.{tells_above, tells_front}
 
 pub record IsPart (b : Block) (version : ℕ) (p : Block) : Type 0 where

@@ -8,7 +8,7 @@ use Rattle.sb_types.specs.Runs.{entered, IsRun, IsBlock}
 use Rattle.sb_types.specs.Writes.{Tells, HoldsStage, Honest, IsHolder, HolderHolds}
 use Rattle.sb_table.specs.Floors.{swapped}
 use Rattle.sb_holdings.specs.Stages.{new_stage, goes_on, begins, stage_for, stage_with, settled}
-use Rattle.sb_holdings.proofs.Order.{run_entered}
+use Rattle.sb_table.proofs.Order.{run_entered}
 use Rattle.sb_holdings.proofs.Telling.{tells_entered}
 use Rattle.sb_holdings.proofs.Swapping.{swapped_run, swapped_tells, swapped_each}
 use Rattle.sb_holdings.proofs.Parts.{IsPart}

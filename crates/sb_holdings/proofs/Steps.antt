@@ -5,7 +5,7 @@ use Rattle.sb_types.specs.Records.{Entry, Table, Holder}
 use Rattle.sb_types.specs.Runs.{IsTable}
 use Rattle.sb_types.specs.Writes.{IsHolder, HolderHolds}
 use Rattle.sb_holdings.specs.Progress.{Onward, Later}
-use Rattle.sb_holdings.proofs.Order.{run_upto, run_one}
+use Rattle.sb_table.proofs.Order.{run_upto, run_one}
 
 -- a step from h to k, which keeps truth where what is assumed holds
 pub record Step (writes : List Write) (assumed : Type 0) (h k : Holder) : Type 0 where

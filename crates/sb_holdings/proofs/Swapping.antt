@@ -6,7 +6,7 @@ use Rattle.sb_types.specs.Records.{Entry}
 use Rattle.sb_types.specs.Runs.{Stands, has_key, above, up_to, under_keys_of, live, IsRun}
 use Rattle.sb_types.specs.Writes.{Written, Superseded, Gone, Tells}
 use Rattle.sb_types.proofs.Standing.{left, right, either, in_above, of_above, in_within, of_within, in_only, of_only, of_live}
-use Rattle.sb_holdings.proofs.Order.{run_one, run_kept, run_above, run_joined}
+use Rattle.sb_table.proofs.Order.{run_one, run_kept, run_above, run_joined}
 use Rattle.sb_holdings.proofs.Telling.{tells_live}
 
 module _ {held progress : ℕ} {shown staged : List Entry} (r : IsRun 0 held shown) (q : IsRun 0 progress staged) where

@@ -7,7 +7,7 @@ use Rattle.sb_types.specs.Records.{Entry}
 use Rattle.sb_types.specs.Runs.{Stands, last_version, above, live, entered, IsRun}
 use Rattle.sb_types.specs.Writes.{Written, Superseded, Gone, Tells}
 use Rattle.sb_types.proofs.Standing.{right, taken, in_above, of_above, in_live, of_live, in_entered, of_entered}
-use Rattle.sb_holdings.proofs.Order.{front_whole, run_after, run_one, run_order, front_most}
+use Rattle.sb_table.proofs.Order.{front_whole, run_after, run_one, run_order, front_most}
 
 -- ---- writes
 

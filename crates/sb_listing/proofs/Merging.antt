@@ -3,14 +3,14 @@ use Rattle.std.proofs.Common.{◌≡◌, ℕ, ◌≤◌, List, [], ◌∷◌, �
 use Rattle.std.proofs.lemmas.List.{map-append}
 use Rattle.std.specs.declared.cmp.Ordering.TheVariants.{Less, Equal, Greater}
 use Rattle.sb_codec.specs.Records.{Row}
-use Rattle.sb_listing.specs.declared.changing.Change as rust
-use Rattle.sb_listing.specs.Changes.{Change, Set, Gone, place_order, told_at, passing}
-use Rattle.sb_listing.specs.Seen.{seen}
+use Rattle.sb_listing.specs.declared.changing.RowChange as rust
+use Rattle.sb_listing.specs.Changes.{RowChange, Set, Gone, place_order, told_at, passing}
+use Rattle.sb_listing.specs.Printed.{change_of}
 
-pub seen-push : (found : List rust.Change) (c : rust.Change) (rest : List Change) → map seen (found ++ c ∷ []) ++ rest ≡ map seen found ++ (seen c ∷ rest)
-seen-push found c rest = ap (λ (cs : List Change). cs ++ rest) (map-append seen found (c ∷ [])) ∙ append_assoc (map seen found) (seen c ∷ []) rest
+pub change_of-push : (found : List rust.RowChange) (c : rust.RowChange) (rest : List RowChange) → map change_of (found ++ c ∷ []) ++ rest ≡ map change_of found ++ (change_of c ∷ rest)
+change_of-push found c rest = ap (λ (cs : List RowChange). cs ++ rest) (map-append change_of found (c ∷ [])) ∙ append_assoc (map change_of found) (change_of c ∷ []) rest
 
-module _ (x y : Row) (xs : List Row) (next : List Row → List Change) where
+module _ (x y : Row) (xs : List Row) (next : List Row → List RowChange) where
   pub passing-less : place_order x y ≡ Less → passing y next (x ∷ xs) ≡ Gone x ∷ passing y next xs
   passing-less is = rw is refl
 

@@ -8,7 +8,7 @@ use Rattle.std.specs.Ordering.{is_eq, ordering_reverse, match_ordering}
 use Rattle.std.specs.declared.cmp.Ordering.{Ordering}
 use Rattle.std.specs.declared.cmp.Ordering.TheVariants.{Less, Equal, Greater}
 use Rattle.sb_codec.specs.Records.{Row}
-use Rattle.sb_listing.specs.Changes.{Change, Set, Gone, place_order, is_same, is_at, is_new, is_gone, AreAscending, told_at, passing, merged, set_rows, gone_rows}
+use Rattle.sb_listing.specs.Changes.{RowChange, Set, Gone, place_order, is_same, is_at, is_new, is_gone, AreAscending, told_at, passing, merged, set_rows, gone_rows}
 
 order : IsTotalOrder place_order
 order = then_total (on_total (λ (r : Row). r.owner) nat_list_cmp_total) (on_total (λ (r : Row). r.key) nat_list_cmp_total)
@@ -67,14 +67,14 @@ kept-first f x xs is = cond-true (f x) (x ∷ filter f xs) (filter f xs) is
 passed-first : (f : Row → Bool) (x : Row) (xs : List Row) → f x ≡ false → filter f (x ∷ xs) ≡ filter f xs
 passed-first f x xs is = cond-false (f x) (x ∷ filter f xs) (filter f xs) is
 
-abbrev Tells : List Row → List Row → List Change → Type 0
+abbrev Tells : List Row → List Row → List RowChange → Type 0
 Tells earlier later cs = (set_rows cs ≡ filter (is_new earlier) later) × (gone_rows cs ≡ filter (is_gone later) earlier)
 
 all-gone : (xs : List Row) → Tells xs [] (map Gone xs)
 all-gone [] = (refl, refl)
 all-gone (x ∷ xs) = let rest = all-gone xs in (rest.0, ap (λ (zs : List Row). x ∷ zs) rest.1)
 
-module _ (y : Row) (ys : List Row) (next : List Row → List Change) (up : AllByRecursion (Before y) ys) (tells : (xs : List Row) → AreAscending xs → Tells xs ys (next xs)) where
+module _ (y : Row) (ys : List Row) (next : List Row → List RowChange) (up : AllByRecursion (Before y) ys) (tells : (xs : List Row) → AreAscending xs → Tells xs ys (next xs)) where
   -- the first of the earlier listing stands before y
   before-y : (x : Row) (xs : List Row) → Before x y → AllByRecursion (Before x) xs → Tells xs (y ∷ ys) (passing y next xs) → Tells (x ∷ xs) (y ∷ ys) (Gone x ∷ passing y next xs)
   before-y x xs before above inner =

@@ -9,9 +9,9 @@ use Rattle.std.specs.Cmp.Lexicographic.{pointwise, slice_cmp}
 use Rattle.sb_types.specs.Value.{Value, Addr, Weight, Flag, Text, addr_of, weight_of, flag_of, text_of}
 use Rattle.sb_codec.specs.Records.{Row}
 
-pub data Change : Type 0 where
-  Set : Row → Change
-  Gone : Row → Change
+pub data RowChange : Type 0 where
+  Set : Row → RowChange
+  Gone : Row → RowChange
 
 -- by owner and then by key
 abbrev pub place_order : Row → Row → Ordering
@@ -45,25 +45,25 @@ AreAscending [] = Unit {0}
 AreAscending (x ∷ xs) = AllByRecursion (λ y. place_order x y ≡ Less) xs × AreAscending xs
 
 -- what is told where a row of the later listing stands at the place of one of the earlier
-abbrev pub told_at : Row → Row → List Change
+abbrev pub told_at : Row → Row → List RowChange
 told_at x y = if is_same x y then [] else Set y ∷ []
 
 -- the rows of the earlier listing up to the place of y, then y, and then what comes of the rows behind
-abbrev pub passing : Row → (List Row → List Change) → List Row → List Change
+abbrev pub passing : Row → (List Row → List RowChange) → List Row → List RowChange
 passing y next [] = Set y ∷ next []
 passing y next (x ∷ xs) = match_ordering (place_order x y) (Gone x ∷ passing y next xs) (told_at x y ++ next xs) (Set y ∷ next (x ∷ xs))
 
 -- both listings walked through once
-abbrev pub merged : List Row → List Row → List Change
+abbrev pub merged : List Row → List Row → List RowChange
 merged earlier [] = map Gone earlier
 merged earlier (y ∷ ys) = passing y (λ rest. merged rest ys) earlier
 
-abbrev pub set_rows : List Change → List Row
+abbrev pub set_rows : List RowChange → List Row
 set_rows [] = []
 set_rows (Set y ∷ cs) = y ∷ set_rows cs
 set_rows (Gone x ∷ cs) = set_rows cs
 
-abbrev pub gone_rows : List Change → List Row
+abbrev pub gone_rows : List RowChange → List Row
 gone_rows [] = []
 gone_rows (Set y ∷ cs) = gone_rows cs
 gone_rows (Gone x ∷ cs) = x ∷ gone_rows cs

@@ -1,3 +1,3 @@
 pub mod Changes
-pub mod Seen
+pub mod Printed
 pub mod Json

@@ -2,7 +2,7 @@
 ghost use Rattle.std.specs.Prelude.{◌≡◌, ◌++◌, List, map, OnOk, IfOk, IfErr};
 ghost use Rattle.sb_codec.specs.Records as records;
 ghost use Rattle.sb_listing.specs.Changes as spec;
-ghost use Rattle.sb_listing.specs.Seen.{seen};
+ghost use Rattle.sb_listing.specs.Printed.{change_of};
 
 use sb_codec::Row;
 use sb_types::{Fault, Value, ValueRef};
@@ -11,7 +11,7 @@ use std::cmp::Ordering;
 
 /// A difference of two listings, with its row lent.
 #[derive(Clone, Copy, Debug)]
-pub enum Change<'a> {
+pub enum RowChange<'a> {
     /// A row of the later listing. The earlier one has none at its owner and key, or one of another version or value.
     Set(&'a Row),
     /// A row of the earlier listing. The later one has none at its owner and key.
@@ -58,44 +58,44 @@ fn is_same(one: &Row, other: &Row) -> bool
 
 /// Tells the rows of an earlier listing up to the place of a row of the later one, and that row, and gives the rows behind it.
 fn pass_row<'a>(
-    found: &mut Vec<Change<'a>>,
+    found: &mut Vec<RowChange<'a>>,
     earlier: &'a [Row],
     row: &'a Row,
 ) -> Result<&'a [Row], Fault>
-    ensures found { IfOk result (λ rest. (next : List records.Row → List spec.Change) →
-        map seen found.new.items ++ next rest.now ≡ map seen found.old.items ++ spec.passing row.now next earlier.now) }
+    ensures found { IfOk result (λ rest. (next : List records.Row → List spec.RowChange) →
+        map change_of found.new.items ++ next rest.now ≡ map change_of found.old.items ++ spec.passing row.now next earlier.now) }
     ensures memory { IfErr result (λ fault. fault ≡ Fault.NoMemory) }
 {
     let mut rest = earlier;
     while let Some((one, others)) = rest.split_first() {
         match place_order(one, row) {
             Ordering::Less => {
-                found.push(Change::Gone(one))?;
+                found.push(RowChange::Gone(one))?;
                 rest = others;
             }
             Ordering::Equal => {
                 if !is_same(one, row) {
-                    found.push(Change::Set(row))?;
+                    found.push(RowChange::Set(row))?;
                 }
                 return Ok(others);
             }
             Ordering::Greater => {
-                found.push(Change::Set(row))?;
+                found.push(RowChange::Set(row))?;
                 return Ok(rest);
             }
         }
     }
-    found.push(Change::Set(row))?;
+    found.push(RowChange::Set(row))?;
     Ok(rest)
 }
 
 /// Tells that these rows are gone.
-fn add_gone<'a>(found: &mut Vec<Change<'a>>, rows: &'a [Row]) -> Result<(), Fault>
-    ensures found { OnOk result (map seen found.new.items ≡ map seen found.old.items ++ map spec.Gone rows.now) }
+fn add_gone<'a>(found: &mut Vec<RowChange<'a>>, rows: &'a [Row]) -> Result<(), Fault>
+    ensures found { OnOk result (map change_of found.new.items ≡ map change_of found.old.items ++ map spec.Gone rows.now) }
     ensures memory { IfErr result (λ fault. fault ≡ Fault.NoMemory) }
 {
     for row in rows {
-        found.push(Change::Gone(row))?;
+        found.push(RowChange::Gone(row))?;
     }
     Ok(())
 }
@@ -106,8 +106,8 @@ pub fn changes<'a>(
     alloc: Global,
     earlier: &'a [Row],
     later: &'a [Row],
-) -> Result<Vec<Change<'a>>, Fault>
-    ensures found { IfOk result (λ found. map seen found.items ≡ spec.merged earlier.now later.now) }
+) -> Result<Vec<RowChange<'a>>, Fault>
+    ensures found { IfOk result (λ found. map change_of found.items ≡ spec.merged earlier.now later.now) }
     ensures memory { IfErr result (λ fault. fault ≡ Fault.NoMemory) }
 {
     let mut found = Vec::new(alloc);

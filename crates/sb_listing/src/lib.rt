@@ -19,7 +19,7 @@ mod json;
 mod laws;
 mod printing;
 
-pub use changing::{Change, changes};
+pub use changing::{RowChange, changes};
 pub use json::print_json_rows;
 pub use laws::changes_tell_all;
 pub use printing::print_changes;

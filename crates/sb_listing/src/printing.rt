@@ -1,9 +1,9 @@
 //! The lines of changes.
 ghost use Rattle.std.specs.Prelude.{◌≡◌, ◌++◌, OnOk, IfOk, IfErr};
 ghost use Rattle.sb_frames.specs.Sending.{Sends, OnlyWhereFailed};
-ghost use Rattle.sb_listing.specs.Seen.{printed_line, printed_lines};
+ghost use Rattle.sb_listing.specs.Printed.{printed_line, printed_lines};
 
-use crate::changing::Change;
+use crate::changing::RowChange;
 use sb_frames::{LastWrite, write_counted};
 use sb_printing::add_word;
 use sb_query::add_row;
@@ -11,16 +11,16 @@ use sb_types::Fault;
 use std::alloc::Global;
 use std::io::Write;
 
-fn add_change(out: &mut Vec<u8>, change: &Change<'_>) -> Result<(), Fault>
+fn add_change(out: &mut Vec<u8>, change: &RowChange<'_>) -> Result<(), Fault>
     ensures added { OnOk result (out.new.items ≡ out.old.items ++ printed_line change.now) }
     ensures memory { IfErr result (λ fault. fault ≡ Fault.NoMemory) }
 {
     match change {
-        Change::Set(row) => {
+        RowChange::Set(row) => {
             add_word(out, b"set", b' ')?;
             add_row(out, row)
         }
-        Change::Gone(row) => {
+        RowChange::Gone(row) => {
             add_word(out, b"gone", b' ')?;
             add_word(out, row.owner().bytes(), b' ')?;
             add_word(out, row.key().bytes(), b'\n')
@@ -29,7 +29,7 @@ fn add_change(out: &mut Vec<u8>, change: &Change<'_>) -> Result<(), Fault>
 }
 
 /// The lines of these changes.
-fn lines_of(alloc: Global, changes: &[Change<'_>]) -> Result<Vec<u8>, Fault>
+fn lines_of(alloc: Global, changes: &[RowChange<'_>]) -> Result<Vec<u8>, Fault>
     ensures lines { IfOk result (λ lines. lines.items ≡ printed_lines changes.now) }
     ensures memory { IfErr result (λ fault. fault ≡ Fault.NoMemory) }
 {
@@ -45,7 +45,7 @@ fn lines_of(alloc: Global, changes: &[Change<'_>]) -> Result<Vec<u8>, Fault>
 pub fn print_changes<W: Write>(
     alloc: Global,
     writer: &mut W,
-    changes: &[Change<'_>],
+    changes: &[RowChange<'_>],
 ) -> (Result<(), Fault>, LastWrite)
     ensures prints { Sends (W.contents writer.old) (W.contents writer.new) (printed_lines changes.now) result.0 }
     // A write that did not fail, or that was made before the call, is no reason to stop.

@@ -15,7 +15,7 @@ pub const META: &str =
 pub const WRITES: &str =
     "CREATE TABLE writes (k TEXT PRIMARY KEY NOT NULL, version INTEGER NOT NULL UNIQUE, tag INTEGER NOT NULL, num INTEGER, txt TEXT) STRICT";
 
-pub const OWNERS: &str = "INSERT INTO meta VALUES (1, 2, 'a', 'sim', 0, 0)";
+pub const OWN_META_ROW: &str = "INSERT INTO meta VALUES (1, 2, 'a', 'sim', 0, 0)";
 
 /// The same in the form of older releases.
 const OLDER: &str = "INSERT INTO meta VALUES (1, 1, 'a', 'sim', 0, 0)";
@@ -144,7 +144,7 @@ fn tells_with_tables(rt: &impl Abort, alloc: Global, sql: &str, fault: u8) {
 
 // The same where the log is the owner's.
 fn tells_of_own(rt: &impl Abort, alloc: Global, sql: &str, fault: u8) {
-    tells(rt, alloc, &[META, WRITES, OWNERS, sql], fault);
+    tells(rt, alloc, &[META, WRITES, OWN_META_ROW, sql], fault);
 }
 
 // Tables that are missing, strange or in use.
@@ -155,13 +155,13 @@ fn tells_of_tables(rt: &impl Abort, alloc: Global) {
     tells(rt, alloc, &[META, WRITES], 0);
     tells(rt, alloc, &[other], 19);
     tells(rt, alloc, &["BEGIN"], 18);
-    tells(rt, alloc, &[META, OWNERS], 19);
+    tells(rt, alloc, &[META, OWN_META_ROW], 19);
     tells(rt, alloc, &[META, WRITES, unowned], 19);
 }
 
 // Logs of each form that is read, of unknown forms, and those whose floor is above the last version, or that above all.
 fn tells_of_meta(rt: &impl Abort, alloc: Global) {
-    tells_with_tables(rt, alloc, OWNERS, 0);
+    tells_with_tables(rt, alloc, OWN_META_ROW, 0);
     tells_with_tables(rt, alloc, OLDER, 0);
     tells_with_tables(
         rt,
@@ -220,7 +220,12 @@ fn tells_of_others(rt: &impl Abort, alloc: Global) {
 // The same of a log that says this last version and this floor in place of both 0, and has one row, of version 3.
 fn tells_of_numbers(rt: &impl Abort, alloc: Global, numbers: &str, fault: u8) {
     let row = "INSERT INTO writes VALUES ('x', 3, 3, 1, NULL)";
-    tells(rt, alloc, &[META, WRITES, OWNERS, row, numbers], fault);
+    tells(
+        rt,
+        alloc,
+        &[META, WRITES, OWN_META_ROW, row, numbers],
+        fault,
+    );
 }
 
 // Last versions and floors that such a log can say, and others.

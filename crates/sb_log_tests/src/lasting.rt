@@ -2,7 +2,7 @@
 //! the same.
 use crate::disks::{ENDLESS, new_disks};
 use crate::visits::{LogVisit, OWN, Opening, log_in_memory, log_on_disks, rows_on_disks};
-use crate::writes::{CLUSTER, OWNER, many, name, put, remove, set, settled, shown};
+use crate::writes::{CLUSTER, OWNER, many, name, put, remove, set, settled, slot_parts};
 use crate::{got, same};
 use sb_lines::log_run;
 use sb_log::{PlainLog, WriteLog};
@@ -21,7 +21,7 @@ fn shared(one: &Table, other: &Table) -> usize {
     let mut count: usize = 0;
     for entry in one.after(0) {
         if let Some((version, slot)) = other.get(entry.key()) {
-            if version == entry.version() && shown(slot) == shown(entry.slot()) {
+            if version == entry.version() && slot_parts(slot) == slot_parts(entry.slot()) {
                 count = count.saturating_add(1);
             }
         }

@@ -86,7 +86,7 @@ const WHOLE: Case = Case {
     fault: 0,
 };
 
-const ANOTHERS: Case = Case {
+const OTHER_OWNERS_LOG: Case = Case {
     owner: ANOTHER,
     spoil: &[],
     mend: &[],
@@ -208,7 +208,7 @@ fn ends_within(rt: &impl Abort, alloc: Global, case: Case, log: u64) {
 #[test]
 fn an_opening_makes_97_calls(rt: HostRuntime) {
     ends_within(&rt, rt.alloc(), WHOLE, 97);
-    ends_within(&rt, rt.alloc(), ANOTHERS, 97);
+    ends_within(&rt, rt.alloc(), OTHER_OWNERS_LOG, 97);
 }
 
 #[test]
@@ -245,12 +245,12 @@ fn an_opening_on_a_disk_that_stops_at_calls_51_to_97_loses_nothing(rt: HostRunti
 
 #[test]
 fn an_opening_as_anothers_that_fails_at_calls_1_to_50_loses_nothing(rt: HostRuntime) {
-    miss_each(&rt, rt.alloc(), ANOTHERS, After::Answering, 0, 50);
+    miss_each(&rt, rt.alloc(), OTHER_OWNERS_LOG, After::Answering, 0, 50);
 }
 
 #[test]
 fn an_opening_as_anothers_that_fails_at_calls_51_to_97_loses_nothing(rt: HostRuntime) {
-    miss_each(&rt, rt.alloc(), ANOTHERS, After::Answering, 50, 97);
+    miss_each(&rt, rt.alloc(), OTHER_OWNERS_LOG, After::Answering, 50, 97);
 }
 
 #[test]

@@ -1,5 +1,5 @@
 //! A log whose floor is raised, wherever it keeps its writes: what goes, what is refused, and what stands when it is opened again.
-use crate::database::{META, OWNERS, WRITES};
+use crate::database::{META, OWN_META_ROW, WRITES};
 use crate::disks::{ENDLESS, new_disks};
 use crate::visits::{
     LogVisit, OWN, Opening, Reaching, log_in_memory, log_on_disks, numbers_on_disks, rows_on_disks,
@@ -179,7 +179,7 @@ fn a_purge_frees_a_key_of_a_plain_log(rt: HostRuntime) {
 const FILLED: [&str; 16] = [
     META,
     WRITES,
-    OWNERS,
+    OWN_META_ROW,
     "INSERT INTO writes VALUES ('x', 1, 2, 1, NULL)",
     "INSERT INTO writes SELECT k || '0', version + 1, 2, 1, NULL FROM writes",
     "INSERT INTO writes SELECT k || '1', version + 2, 2, 1, NULL FROM writes",

@@ -15,7 +15,7 @@ pub const CLUSTER: &[u8] = b"sim";
 pub type Answer = Result<u64, Fault>;
 
 /// Whether a slot is set, and the weight or the flag that it has.
-pub type Shown = (bool, Option<u64>, Option<bool>);
+pub type SlotParts = (bool, Option<u64>, Option<bool>);
 
 pub fn name(rt: &impl Abort, text: &[u8]) -> Name {
     got(rt, Name::read(text))
@@ -25,15 +25,15 @@ pub fn key(rt: &impl Abort, text: &[u8]) -> Key {
     got(rt, Key::read(text))
 }
 
-pub fn shown(slot: &Slot) -> Shown {
+pub fn slot_parts(slot: &Slot) -> SlotParts {
     match slot {
         Slot::Set(value) => (true, value.as_weight(), value.as_flag()),
         Slot::Removed => (false, None, None),
     }
 }
 
-pub fn is_entry(entry: &Entry, key: &[u8], version: u64, slot: Shown) -> bool {
-    entry.key().bytes() == key && entry.version() == version && shown(entry.slot()) == slot
+pub fn is_entry(entry: &Entry, key: &[u8], version: u64, slot: SlotParts) -> bool {
+    entry.key().bytes() == key && entry.version() == version && slot_parts(entry.slot()) == slot
 }
 
 /// The version of a write; 0, which is none, where it is not the one that was put.
@@ -43,7 +43,7 @@ fn version_of(committed: &Committed, key: &Key, slot: &Slot) -> u64 {
     if committed.owner().bytes() != OWNER {
         return 0;
     }
-    if !is_entry(entry, key.bytes(), version, shown(slot)) {
+    if !is_entry(entry, key.bytes(), version, slot_parts(slot)) {
         return 0;
     }
     version

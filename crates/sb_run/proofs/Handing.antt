@@ -8,7 +8,7 @@ use Rattle.sb_views.specs.declared.event.Event.{Event}
 use Rattle.sb_views.specs.declared.event.Event.TheVariants.{TookOwn}
 use Rattle.sb_views.proofs.Prefixes.{prefix_self, prefix_trans}
 use Rattle.sb_directory.specs.declared.receipt.Receipt.{Receipt}
-use Rattle.sb_directory.specs.Seats.{Seat, Begins, IsEntered, with_last_call, own_due_after}
+use Rattle.sb_directory.specs.Seats.{Seat, Begins, MakesEvent, with_last_call, own_due_after}
 use Rattle.sb_directory.specs.Serving.{IsLater}
 use Rattle.sb_directory.specs.Handling.{later-on}
 use Rattle.sb_run.specs.OwnWriting.{IsTaken, IsTurnedAway, IsHandedIn}
@@ -20,7 +20,7 @@ begins_before l before mid later begins = record {
   last_call = prefix_trans before.last_call mid.last_call l later.last_call begins.last_call;
 }
 
-entered_from : (due : List Event → Result (Unit {0}) Fault) (event : Event) (before mid after : Seat) → IsLater before mid → IsEntered due event mid after → IsEntered due event before after
+entered_from : (due : List Event → Result (Unit {0}) Fault) (event : Event) (before mid after : Seat) → IsLater before mid → MakesEvent due event mid after → MakesEvent due event before after
 entered_from due event before mid after later is = record {
   history = is.history;
   begins = begins_before is.history before mid later is.begins;
@@ -39,7 +39,7 @@ turned_from opening before mid c fault after later turned = (begins_before after
 
 -- the owed write was entered from a seat that came behind this one
 pub handed_from : (opening : Node) (c : Committed) (before mid after : Seat) → IsLater before mid
-    → IsEntered (λ history. own_due_after opening history c) (TookOwn c.entry) mid after → IsHandedIn opening before (Some c) after
+    → MakesEvent (λ history. own_due_after opening history c) (TookOwn c.entry) mid after → IsHandedIn opening before (Some c) after
 handed_from opening c before mid after later is =
     (after, entered_from (λ history. own_due_after opening history c) (TookOwn c.entry) before mid after later is, prefix_self after.last_call)
 
@@ -50,10 +50,10 @@ handed_on opening before None mid after more is = tt
 handed_on opening before (Some c) mid after more is = (is.0, is.1, prefix_trans is.0.last_call mid.last_call after.last_call is.2 more)
 
 -- a call that made an event
-pub event_called : (due : List Event → Result (Unit {0}) Fault) (event : Event) (old new : Seat) → IsEntered due event old new → IsPrefix old.last_call new.last_call
+pub event_called : (due : List Event → Result (Unit {0}) Fault) (event : Event) (old new : Seat) → MakesEvent due event old new → IsPrefix old.last_call new.last_call
 event_called due event old new is = prefix_trans old.last_call is.history new.last_call is.begins.last_call (event ∷ [], sym is.last_call)
 
-pub event_later : (due : List Event → Result (Unit {0}) Fault) (event : Event) (old new : Seat) → IsPrefix old.seen new.seen → IsEntered due event old new
+pub event_later : (due : List Event → Result (Unit {0}) Fault) (event : Event) (old new : Seat) → IsPrefix old.seen new.seen → MakesEvent due event old new
     → new.events ≡ old.events + 1 → IsLater old new
 event_later due event old new grows is more = record {
   seen = grows;

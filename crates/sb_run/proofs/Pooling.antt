@@ -1,5 +1,5 @@
 -- What is kept of a seat over the sessions of a worker.
-use Rattle.std.proofs.Common.{◌≡◌, ℕ, sym, subst}
+use Rattle.std.proofs.Common.{◌≡◌, ℕ, ◌<◌, List, [], ◌∷◌, length, sym, subst, arith}
 use Rattle.sb_directory.specs.Seats.{Seat}
 use Rattle.sb_directory.specs.Serving.{IsStill, IsLater}
 use Rattle.sb_directory.specs.Handling.{still-same, still-on, later-same, later-on}
@@ -28,3 +28,8 @@ kept_behind lets gate held session named old before after new by of from to late
       still = λ shut. still (subst (λ (n : ℕ). IsShut (lets held n)) (sym of) (subst (λ g. IsShut (lets g session)) (sym by) shut));
     } in
     subst (IsKept (IsShut (lets gate session)) old) (sym to) (subst (λ (seat : Seat). IsKept (IsShut (lets gate session)) seat after) from kept)
+
+-- what holds wherever a list has an element holds where it has some
+pub from_first : {T P : Type 0} (xs : List T) → ((index : ℕ) → T → index < length xs → P) → 0 < length xs → P
+from_first [] each some = absurd (omega (arith, some))
+from_first (x ∷ xs) each some = each 0 x some

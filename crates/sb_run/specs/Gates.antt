@@ -21,14 +21,14 @@ IsLet lets (gives digest (Err fault)) = Unit {0}
 IsLet lets (applies blocks answer) = lets BeforeApply
 
 -- it turned the session away behind an answer, or before this delta was applied, and so no more turns are granted
-abbrev pub IsTurned : (GatePoint → Type 0) → Act → Type 0
-IsTurned turns (tells from want answer) = ⊥
-IsTurned turns (gives digest answer) = (answer ≡ Err TurnsSpent) × turns AfterAnswer
-IsTurned turns (applies blocks answer) = (answer ≡ Err TurnsSpent) × turns BeforeApply
+abbrev pub IsTurnedBack : (GatePoint → Type 0) → Act → Type 0
+IsTurnedBack turns_away (tells from want answer) = ⊥
+IsTurnedBack turns_away (gives digest answer) = (answer ≡ Err TurnsSpent) × turns_away AfterAnswer
+IsTurnedBack turns_away (applies blocks answer) = (answer ≡ Err TurnsSpent) × turns_away BeforeApply
 
 -- a step of the handler itself, where the gate lets it be; or the gate turns the session away, and nothing is entered
 abbrev pub GatedStep : {H : Type 0} → (GatePoint → Type 0) → (GatePoint → Type 0) → (H → Act → H → Type 0) → (H → H → Type 0) → (H → H → Type 0) → H → Act → H → Type 0
-GatedStep lets turns step stays grows old act new = (IsLet lets act × step old act new) ⊎ (IsTurned turns act × (stays old new × grows old new))
+GatedStep lets turns_away step stays grows old act new = (IsLet lets act × step old act new) ⊎ (IsTurnedBack turns_away act × (stays old new × grows old new))
 
 -- behind a gate that lets the session apply no delta nothing is entered
 pub let-enters : (lets : GatePoint → Type 0) (act : Act) → IsLet lets act → IsShut lets → may_enter act ≡ false

@@ -11,7 +11,7 @@ use Rattle.sb_views.specs.declared.event.Event.{Event}
 use Rattle.sb_views.specs.declared.event.Event.TheVariants.{TookOwn}
 use Rattle.sb_views.specs.Histories.{node_after}
 use Rattle.sb_directory.specs.declared.receipt.Receipt.{Receipt}
-use Rattle.sb_directory.specs.Seats.{Seat, Begins, IsEntered, Refuses, with_last_call, own_due_after}
+use Rattle.sb_directory.specs.Seats.{Seat, Begins, MakesEvent, Refuses, with_last_call, own_due_after}
 use Rattle.sb_run.specs.declared.own_writes.Stored.{Stored}
 use Rattle.sb_run.specs.declared.own_writes.Stored.TheVariants.{Shared, Owed}
 
@@ -24,6 +24,11 @@ abbrev pub count_owed : Option Committed → ℕ
 count_owed None = 0
 count_owed (Some c) = 1
 
+-- the version of the last write that is news, once what is owed is handed in
+abbrev pub news_after : Option Committed → Option ℕ → Option ℕ
+news_after None stored = stored
+news_after (Some c) stored = Some c.entry.version
+
 -- how many events the write itself makes
 abbrev pub count_shared : Stored → ℕ
 count_shared (Shared receipt) = 1
@@ -32,7 +37,7 @@ count_shared (Owed version fault) = 0
 -- the directory takes the write when it may, and the seat's last call ends with that; where the receipt says so, the seat has seen it
 abbrev pub IsTaken : Node → Seat → Committed → Receipt → Seat → Type 0
 IsTaken opening before c receipt after =
-    IsEntered (λ history. own_due_after opening history c) (TookOwn c.entry) before after × (receipt.shown ≡ true → after.seen ≡ after.last_call)
+    MakesEvent (λ history. own_due_after opening history c) (TookOwn c.entry) before after × (receipt.shown ≡ true → after.seen ≡ after.last_call)
 
 -- the directory refuses the write after the history of the seat's last call: by this fault, where there is memory
 abbrev pub IsTurnedAway : Node → Seat → Committed → Fault → Seat → Type 0
@@ -42,7 +47,7 @@ IsTurnedAway opening before c fault after = Begins after.last_call before × Ref
 abbrev pub IsHandedIn : Node → Seat → Option Committed → Seat → Type 0
 IsHandedIn opening before None after = Unit {0}
 IsHandedIn opening before (Some c) after =
-    (handed : Seat) × IsEntered (λ history. own_due_after opening history c) (TookOwn c.entry) before handed × IsPrefix handed.last_call after.last_call
+    (handed : Seat) × MakesEvent (λ history. own_due_after opening history c) (TookOwn c.entry) before handed × IsPrefix handed.last_call after.last_call
 
 -- the write is the last event of the seat's last call, and nothing is owed; or the directory refuses it by this fault, and it is owed
 abbrev pub PassesOn : Node → Seat → Committed → Stored → Option Committed → Seat → Type 0

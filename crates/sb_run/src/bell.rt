@@ -61,7 +61,7 @@ impl Gate for Bell {
     ghost lets = { λ gate session point. Unit {0} };
 
     // It turns nobody away.
-    ghost turns = { λ gate session point. ⊥ };
+    ghost turns_away = { λ gate session point. ⊥ };
 
     fn pass(&self, _session: u64, _point: GatePoint) -> bool {
         true

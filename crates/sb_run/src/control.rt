@@ -1,5 +1,5 @@
 //! The serving side of a control socket: one request and one answer a connection.
-ghost use Rattle.std.specs.Prelude.{◌≡◌, ◌+◌, ℕ, true};
+ghost use Rattle.std.specs.Prelude.{◌≡◌, ◌+◌, ℕ, true, false};
 ghost use Rattle.sb_types.specs.Faults.{number_of};
 ghost use Rattle.sb_codec.specs.Limits.{is_version};
 ghost use Rattle.sb_frames.specs.Sending.{OnlyWhereFailed};
@@ -90,6 +90,7 @@ fn reply_to_put<L: WriteLog, S: DirectoryTag, H: Wait + Drop, Q: Wait>(
     slot: &Slot,
 ) -> Message
     ensures put { IsPutReply L.seen S.opening writes.old.log writes.old.owed seat.old key.now slot.now writes.new.log writes.new.owed seat.new result }
+    ensures closes { (L.seen writes.old.log).is_open ≡ true → (L.seen writes.new.log).is_open ≡ false → writes.new.has_failed ≡ true }
     ensures settled { IsSettled (L.seen writes.old.log) (L.leaves writes.old.log) → IsSettled (L.seen writes.new.log) (L.leaves writes.new.log) }
 {
     match writes.put(serving.rt, serving.directory, seat, key, slot) {
@@ -107,6 +108,7 @@ fn reply_to<L: WriteLog, S: DirectoryTag, H: Wait + Drop, Q: Wait>(
 ) -> (ReaderSeat<S>, Message)
     ensures answers { Answers L.seen S.opening S.settings.budget writes.old.log writes.old.owed seat request.now
         writes.new.log writes.new.owed result.0 result.1 }
+    ensures closes { (L.seen writes.old.log).is_open ≡ true → (L.seen writes.new.log).is_open ≡ false → writes.new.has_failed ≡ true }
     ensures settled { IsSettled (L.seen writes.old.log) (L.leaves writes.old.log) → IsSettled (L.seen writes.new.log) (L.leaves writes.new.log) }
 {
     match request {
@@ -160,6 +162,8 @@ pub fn serve_control<
         × (steps.new + left ≡ steps.old + serving.now.max_reads) }
     // A write that did not fail, or that was made before the call, is no reason to stop.
     ensures failed { OnlyWhereFailed result.1 result.2 }
+    // A log that was open and is closed now is told to have failed.
+    ensures closes { (L.seen writes.old.log).is_open ≡ true → (L.seen writes.new.log).is_open ≡ false → writes.new.has_failed ≡ true }
     ensures settled { IsSettled (L.seen writes.old.log) (L.leaves writes.old.log) → IsSettled (L.seen writes.new.log) (L.leaves writes.new.log) }
 {
     match receive_one(serving.alloc, reader, serving.max_reads, steps) {

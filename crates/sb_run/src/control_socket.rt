@@ -1,5 +1,5 @@
 //! The calling thread of a running node, at its control socket.
-ghost use Rattle.std.specs.Prelude.{◌≡◌, ◌+◌, ◌<◌, ◌≤◌, true};
+ghost use Rattle.std.specs.Prelude.{◌≡◌, ◌+◌, ◌<◌, ◌≤◌, true, false};
 ghost use Rattle.sb_run.specs.Control.{AnswersOne};
 ghost use Rattle.sb_run.specs.Running.{IsOpenedFrom};
 
@@ -34,6 +34,7 @@ fn answer_one<L: WriteLog, S: RoundsTag, H: Wait + Drop, Q: Wait + Clock, K: Led
     steps: &mut Steps<K>,
 ) -> (ReaderSeat<S>, bool)
     ensures reads { steps.new ≤ steps.old + node.now.pace.max_reads }
+    ensures closes { (L.seen writes.old.log).is_open ≡ true → (L.seen writes.new.log).is_open ≡ false → writes.new.has_failed ≡ true }
     // A request was answered, or nothing came of what was read.
     ensures answers { AnswersOne L.seen S.opening S.settings.budget writes.old.log writes.old.owed seat writes.new.log writes.new.owed result.0 }
 {
@@ -57,6 +58,7 @@ fn serve_accepted<L: WriteLog, S: RoundsTag, H: Wait + Drop, Q: Wait + Clock, K:
     requires name { blank.name ≡ K.name }
     requires parts { blank.parts ≡ K.parts }
     requires some { 0 < blank.parts }
+    ensures closes { (L.seen writes.old.log).is_open ≡ true → (L.seen writes.new.log).is_open ≡ false → writes.new.has_failed ≡ true }
     ensures answers { AnswersOne L.seen S.opening S.settings.budget writes.old.log writes.old.owed seat writes.new.log writes.new.owed result.0 }
 {
     let Ok((_, input, output)) = accepted else {
@@ -85,6 +87,7 @@ fn report_writes<L: WriteLog, S: RoundsTag, H: Wait + Drop, Q, O: Observer>(
 ) -> bool
     ensures exits { result ≡ true → node.now.pace.on_log_fault ≡ OnLogFault.Exit }
     ensures failed { result ≡ true → writes.old.has_failed ≡ true }
+    ensures ends { writes.old.has_failed ≡ true → node.now.pace.on_log_fault ≡ OnLogFault.Exit → result ≡ true }
     ensures same { (writes.new.log ≡ writes.old.log) × (writes.new.owed ≡ writes.old.owed) }
 {
     if let Some(version) = writes.take_stored() {

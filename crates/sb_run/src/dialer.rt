@@ -215,15 +215,22 @@ impl<'a, O: Observer> Dialer<'a, O> {
         current
     }
 
-    /// Waits until the next round in turn is due, whatever the news.
+    /// Waits until the next round in turn is due or the node ends, whatever the news.
     fn wait_for_turn<S: RoundsTag, H: Wait + Drop, Q: Wait + Clock>(
         &self,
         node: &NodeContext<S, H, Q>,
     ) {
-        match self.due {
-            Some(due) => thread::sleep(node.rt, time_until(node.rt, due)),
-            None => thread::sleep(node.rt, Duration::from_millis(node.pace.pause)),
+        for _ in node.rt.forever() {
+            if node.ending.is_raised() {
+                return;
+            }
+            match self.due {
+                Some(due) if is_past(node.rt, due) => return,
+                Some(due) => self.parker.park_deadline(node.rt, due),
+                None => self.parker.park(node.rt),
+            }
         }
+        unreachable!()
     }
 
     /// Begins a burst, where there is news and a peer for it. News that comes soon after a burst began is gathered first.

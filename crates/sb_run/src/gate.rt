@@ -24,11 +24,11 @@ pub trait Gate {
     ghost lets: { Self → ℕ → GatePoint → Type 0 };
 
     /// What holds where it turns the session away: nothing need.
-    ghost turns: { Self → ℕ → GatePoint → Type 0 };
+    ghost turns_away: { Self → ℕ → GatePoint → Type 0 };
 
     /// Whether the session may go on. Where it may not, it ends with `TurnsSpent`.
     fn pass(&self, session: u64, point: GatePoint) -> bool
-        ensures { MatchBool result (lets self.now session point) (turns self.now session point) };
+        ensures { MatchBool result (lets self.now session point) (turns_away self.now session point) };
 
     /// Sessions call it behind each delta of which something was entered.
     fn entered(&self, _delta: &Delta) {}
@@ -42,7 +42,7 @@ impl Gate for Open {
     ghost lets = { λ gate session point. Unit {0} };
 
     // It turns nobody away.
-    ghost turns = { λ gate session point. ⊥ };
+    ghost turns_away = { λ gate session point. ⊥ };
 
     fn pass(&self, _session: u64, _point: GatePoint) -> bool {
         true
@@ -97,7 +97,7 @@ impl<H: Handler, G: Gate> Handler for GatedHandler<'_, H, G> {
     ghost use Rattle.sb_run.specs.Gates.{GatedStep, IsShut, let-enters};
 
     ghost step = { λ old act new. (new.gate.now ≡ old.gate.now) × (new.session ≡ old.session)
-        × GatedStep (G.lets old.gate.now old.session) (G.turns old.gate.now old.session) H.step H.stays H.grows old.inner act new.inner };
+        × GatedStep (G.lets old.gate.now old.session) (G.turns_away old.gate.now old.session) H.step H.stays H.grows old.inner act new.inner };
 
     ghost stays = { λ old new. (new.gate.now ≡ old.gate.now) × (new.session ≡ old.session) × H.stays old.inner new.inner };
 

@@ -4,7 +4,7 @@ ghost use Rattle.sb_codec.specs.Limits.{is_version};
 ghost use Rattle.sb_log.specs.Puts.{Puts, IsSettled};
 ghost use Rattle.sb_directory.specs.Seats.{with_last_call};
 ghost use Rattle.sb_directory.specs.Serving.{IsLater};
-ghost use Rattle.sb_run.specs.OwnWriting.{IsUndisputed, version_of, count_owed, count_shared, IsHeldBack, IsHandedIn, IsStored, IsRefused};
+ghost use Rattle.sb_run.specs.OwnWriting.{IsUndisputed, version_of, count_owed, count_shared, news_after, IsHeldBack, IsHandedIn, IsStored, IsRefused};
 
 use sb_directory::{Directory, DirectoryTag, ReaderSeat, Receipt};
 use sb_log::{Committed, WriteLog};
@@ -37,7 +37,7 @@ impl Stored {
 pub struct OwnWrites<L: WriteLog> {
     log: L,
     owed: Option<Committed>,
-    /// The version of the last write that the log took, where it was not asked for since.
+    /// The version of the last write that the log took or that was handed in, where it was not asked for since.
     stored: Option<u64>,
     /// Whether a write closed the log by a fault of its store, where it was not asked for since.
     has_failed: bool,
@@ -48,6 +48,7 @@ impl<L: WriteLog> OwnWrites<L> {
     pub fn new(log: L) -> OwnWrites<L>
         ensures log { result.log ≡ log }
         ensures owed { result.owed ≡ None }
+        ensures calm { (result.stored ≡ None) × (result.has_failed ≡ false) }
     {
         OwnWrites {
             log,
@@ -57,7 +58,7 @@ impl<L: WriteLog> OwnWrites<L> {
         }
     }
 
-    /// The version of the last write that the log took since this was last asked; none where it took none.
+    /// The version of the last write that the log took, or that was handed in, since this was last asked; none where there was none.
     pub(crate) fn take_stored(&mut self) -> Option<u64>
         ensures stored { (result ≡ self.old.stored) × (self.new.stored ≡ None) }
         ensures same { (self.new.log ≡ self.old.log) × (self.new.owed ≡ self.old.owed) × (self.new.has_failed ≡ self.old.has_failed) }
@@ -85,6 +86,8 @@ impl<L: WriteLog> OwnWrites<L> {
         // A log is said to have failed only where this write closed it by a fault of its store.
         ensures failed { self.new.has_failed ≡ true → (self.old.has_failed ≡ true) ⊎ (result ≡ Err Fault.StoreFailed) }
         ensures fails { result ≡ Err Fault.StoreFailed → self.new.has_failed ≡ true }
+        // One that was open and is closed now has failed.
+        ensures closes { (L.seen self.old.log).is_open ≡ true → (L.seen self.new.log).is_open ≡ false → self.new.has_failed ≡ true }
     {
         let kept = self.log.put(key, slot);
         match &kept {
@@ -104,7 +107,10 @@ impl<L: WriteLog> OwnWrites<L> {
         seat: &mut ReaderSeat<S>,
     ) -> Result<(), Fault>
         ensures log { self.new.log ≡ self.old.log }
-        ensures same { (self.new.stored ≡ self.old.stored) × (self.new.has_failed ≡ self.old.has_failed) }
+        ensures same { self.new.has_failed ≡ self.old.has_failed }
+        // What is handed in is news.
+        ensures news { OnOk result (self.new.stored ≡ news_after self.old.owed self.old.stored) }
+        ensures unstored { OnErr result (self.new.stored ≡ self.old.stored) }
         ensures owed { OnOk result (self.new.owed ≡ None) }
         ensures handed { OnOk result (IsHandedIn S.opening seat.old self.old.owed seat.new) }
         ensures count { OnOk result (seat.new.events ≡ seat.old.events + count_owed self.old.owed) }
@@ -119,6 +125,7 @@ impl<L: WriteLog> OwnWrites<L> {
         }
         if let Some(committed) = &self.owed {
             directory.take_own(rt, seat, committed)?;
+            self.stored = Some(committed.entry().version());
         }
         self.owed = None;
         Ok(())
@@ -150,7 +157,10 @@ impl<L: WriteLog> OwnWrites<L> {
         ensures settled { IsSettled (L.seen self.old.log) (L.leaves self.old.log) → IsSettled (L.seen self.new.log) (L.leaves self.new.log) }
         ensures later { IsLater seat.old seat.new }
         ensures last { IfOk result (λ stored. self.new.stored ≡ Some (version_of stored)) }
+        // Where only what was owed is handed in, that is the news.
+        ensures news { OnErr result ((self.new.stored ≡ self.old.stored) ⊎ ((self.new.owed ≡ None) × (self.new.stored ≡ news_after self.old.owed self.old.stored))) }
         ensures failed { self.new.has_failed ≡ true → (self.old.has_failed ≡ true) ⊎ (result ≡ Err Fault.StoreFailed) }
+        ensures closes { (L.seen self.old.log).is_open ≡ true → (L.seen self.new.log).is_open ≡ false → self.new.has_failed ≡ true }
     {
         self.hand_in(rt, directory, seat)?;
         let committed = self.keep(key, slot)?;

@@ -1,5 +1,5 @@
 //! The peers of a node, and whose turn it is to be dialed.
-ghost use Rattle.std.specs.Prelude.{◌≡◌, ◌≢◌, ◌⊎◌, ◌+◌, ◌-◌, ◌<◌, ℕ, ◌&&◌, true, false, nat_lt, None, Some, is_err, slice_get, vec_len, if◌then◌else◌, IfSome, IfErr};
+ghost use Rattle.std.specs.Prelude.{◌≡◌, ◌≢◌, ◌⊎◌, ◌+◌, ◌-◌, ◌<◌, ℕ, ◌&&◌, true, false, nat_lt, map, None, Some, is_err, slice_get, vec_len, if◌then◌else◌, IfSome, IfOk, IfErr};
 ghost use Rattle.sb_run.specs.Turns as spec;
 ghost use Rattle.sb_run.specs.declared.peers.LastRound.TheVariants as lasts;
 
@@ -123,7 +123,9 @@ pub(crate) struct Peers<'a> {
 impl<'a> Peers<'a> {
     /// The peers at these paths. `NoMemory`.
     pub(crate) fn new(alloc: Global, paths: &[&'a str]) -> Result<Peers<'a>, Fault>
-        ensures { IfErr result (λ fault. fault ≡ Fault.NoMemory) }
+        ensures paths { IfOk result (λ peers. map (λ peer. peer.path) peers.all.items ≡ paths.now) }
+        ensures first { IfOk result (λ peers. (peers.turn ≡ 0) × (peers.burst_turn ≡ 0)) }
+        ensures memory { IfErr result (λ fault. fault ≡ Fault.NoMemory) }
     {
         let mut all = Vec::with_capacity(alloc, paths.len())?;
         for path in paths {
@@ -276,7 +278,13 @@ impl<'a> Peers<'a> {
         ended: &Result<Ended, Fault>,
         has_waited: bool,
         observer: &O,
-    ) -> bool {
+    ) -> bool
+        ensures turns { (self.new.turn ≡ self.old.turn) × (self.new.burst_turn ≡ self.old.burst_turn) }
+        ensures noted { IfSome (slice_get self.old.all.items index) (λ before. IfSome (slice_get self.new.all.items index) (λ after.
+            (after.path ≡ before.path) × (after.round ≡ round) × (after.turns_out ≡ spec.turns_after (has_waited && is_err ended.now) before.turns_out)
+            × (after.last ≡ (if result then spec.last_of ended.now else before.last)))) }
+        ensures others { (other : ℕ) → other ≢ index → slice_get self.new.all.items other ≡ slice_get self.old.all.items other }
+    {
         let Some(peer) = self.all.get_mut(index) else {
             return false;
         };

@@ -1,5 +1,5 @@
 //! Workers that serve the connections of a source, each from a seat of its own.
-ghost use Rattle.std.specs.Prelude.{◌≡◌, ◌+◌, ◌<◌, ◌≤◌, IfSome, IfOk, IsOk};
+ghost use Rattle.std.specs.Prelude.{◌≡◌, ◌+◌, ◌<◌, ◌≤◌, length, IfSome, IfNone, IfOk, IsOk};
 ghost use Rattle.std.specs.Thread.{IsSend};
 ghost use Rattle.sb_run.specs.Gates.{IsShut, AreShut};
 ghost use Rattle.sb_run.specs.Hellos.{Greets};
@@ -27,10 +27,14 @@ pub trait Source {
 
     type Out: Write + Drop + Send;
 
+    /// What holds where there are no more connections: nothing need.
+    ghost over: { Self → Type 0 };
+
     /// The next connection, with the number of its session, from 1. `None` where there are no more; a fault where one
     /// could not be had, after which the next may be asked for.
     fn next(&self) -> Option<Result<(u64, Self::In, Self::Out), Fault>>
-        ensures numbered { IfSome result (λ next. IfOk next (λ taken. 0 < taken.0)) };
+        ensures numbered { IfSome result (λ next. IfOk next (λ taken. 0 < taken.0)) }
+        ensures over { IfNone result (over self.now) };
 }
 
 /// What the workers of a pool did.
@@ -121,7 +125,8 @@ fn work<S: DirectoryTag, H: Wait + Drop, Q: Wait, X: Source, G: Gate>(
     tally: &Tally,
     seat: ReaderSeat<S>,
 ) -> (ReaderSeat<S>, ())
-    ensures { IsKept (AreShut (G.lets gate.now)) seat result.0 }
+    ensures kept { IsKept (AreShut (G.lets gate.now)) seat result.0 }
+    ensures over { X.over source.now }
 {
     let mut current = seat;
     for _ in serving.rt.forever() {
@@ -153,7 +158,8 @@ fn work_in_place<S: DirectoryTag, H: Wait + Drop, Q: Wait, X: Source, G: Gate>(
     tally: &Tally,
     seat: &mut ReaderSeat<S>,
 )
-    ensures { IsKept (AreShut (G.lets gate.now)) seat.old seat.new }
+    ensures kept { IsKept (AreShut (G.lets gate.now)) seat.old seat.new }
+    ensures over { X.over source.now }
 {
     // `serving` is handed in: the prover keeps no clause of a closure that captures a struct with a lifetime.
     replace_with(
@@ -161,7 +167,8 @@ fn work_in_place<S: DirectoryTag, H: Wait + Drop, Q: Wait, X: Source, G: Gate>(
         serving,
         |seat, serving| -> (ReaderSeat<S>, ())
             requires { IsSend X.In.row × IsSend X.Out.row }
-            ensures { IsKept (AreShut (G.lets gate.entry.now)) seat result.0 }
+            ensures kept { IsKept (AreShut (G.lets gate.entry.now)) seat result.0 }
+            ensures over { X.over source.entry.now }
         { work(serving, source, gate, tally, seat) },
     );
 }
@@ -185,6 +192,8 @@ pub fn serve_pool<
 ) -> Result<Pooled<S>, (Fault, Vec<ReaderSeat<S>>)>
     ensures ok { IsOk result }
     ensures kept { IfOk result (λ pooled. AreKept (AreShut (G.lets gate.now)) seats.items pooled.seats.items) }
+    // Each worker goes on until the source has no more.
+    ensures over { 0 < length seats.items → X.over source.now }
 {
     let tally = Tally {
         sessions: AtomicU64::new(0),
@@ -207,7 +216,8 @@ fn work_all<
     X: Source + Sync,
     G: Gate + Sync,
 >(serving: &Serving<S, H, Q>, source: &X, gate: &G, tally: &Tally, seats: &mut [ReaderSeat<S>])
-    ensures { AreKept (AreShut (G.lets gate.now)) seats.old seats.new }
+    ensures kept { AreKept (AreShut (G.lets gate.now)) seats.old seats.new }
+    ensures over { 0 < length seats.old → X.over source.now }
 {
     if seats.is_empty() {
         return;
@@ -219,7 +229,8 @@ fn work_all<
         workers,
         &|_, seat| -> ()
             requires { IsSend X.In.row × IsSend X.Out.row }
-            ensures { IsKept (AreShut (G.lets gate.entry.now)) seat.entry.now seat.exit.now }
+            ensures kept { IsKept (AreShut (G.lets gate.entry.now)) seat.entry.now seat.exit.now }
+            ensures over { X.over source.entry.now }
         { work_in_place(serving, source, gate, tally, seat) },
     );
 }

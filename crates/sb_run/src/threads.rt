@@ -1,5 +1,5 @@
 //! The threads of a running node.
-ghost use Rattle.std.specs.Prelude.{◌≡◌, vec_len, IfOk, IfErr};
+ghost use Rattle.std.specs.Prelude.{◌≡◌, true, false, vec_len, Ok, Err, IfOk, IfErr};
 ghost use Rattle.std.specs.Thread.{IsSend, IsSync};
 ghost use Rattle.sb_run.specs.Running.{IsEndFault, IsOpenedFrom};
 
@@ -134,22 +134,23 @@ pub(crate) fn run_threads<
             let at_control = serve_control_socket(node, writes, control, observer);
             let rounds = rounds_receiver.receive(node.rt);
             let (dialing, pooled) = (dialing_thread.join(node.rt), pool_thread.join(node.rt));
-            if at_control.has_left {
-                return Err(Fault::StoreFailed);
-            }
-            Ok(threads_end(pooled, dialing, at_control, rounds?))
+            threads_end(pooled, dialing, at_control, rounds)
         },
     )
 }
 
-/// Puts together what the threads left.
+/// Puts together what the threads left. `StoreFailed` where the calling one ended the node since its log had failed; then the fault
+/// of the rounds.
 fn threads_end<S: RoundsTag>(
     pooled: Pooled<S>,
     dialing: ReaderSeat<S>,
     at_control: ControlEnd<S>,
-    rounds: Rounds<S>,
-) -> ThreadsEnd<S>
-    ensures { result.thread_seats.workers ≡ pooled.seats }
+    rounds: Result<Rounds<S>, Fault>,
+) -> Result<ThreadsEnd<S>, Fault>
+    ensures left { at_control.has_left ≡ true → result ≡ Err Fault.StoreFailed }
+    ensures fault { at_control.has_left ≡ false → IfErr result (λ fault. rounds ≡ Err fault) }
+    ensures rounds { IfOk result (λ finished. rounds ≡ Ok finished.rounds) }
+    ensures seats { IfOk result (λ finished. finished.thread_seats.workers ≡ pooled.seats) }
 {
     let Pooled {
         sessions: _,
@@ -159,8 +160,12 @@ fn threads_end<S: RoundsTag>(
     let ControlEnd {
         seat: control,
         faults: of_control,
-        has_left: _,
+        has_left,
     } = at_control;
+    if has_left {
+        return Err(Fault::StoreFailed);
+    }
+    let rounds = rounds?;
     let faults = of_control
         .saturating_add(of_workers)
         .saturating_add(rounds.faults);
@@ -169,9 +174,9 @@ fn threads_end<S: RoundsTag>(
         dialing,
         control,
     };
-    ThreadsEnd {
+    Ok(ThreadsEnd {
         thread_seats,
         rounds,
         faults,
-    }
+    })
 }

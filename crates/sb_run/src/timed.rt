@@ -1,12 +1,23 @@
 //! Connections with a limit on how long a request or its answer takes.
 
-ghost use Rattle.std.specs.Prelude.{◌≡◌, ◌≢◌, ◌⊎◌, ◌*◌, ◌≤◌, None, Some, Ok, IfOk, IfSome, IsSome};
+ghost use Rattle.std.specs.Prelude.{◌≡◌, ◌≢◌, ◌⊎◌, ◌+◌, ◌*◌, ◌<◌, ◌≤◌, None, Some, Ok, IfOk, IfSome, IsSome};
 ghost use Rattle.std.specs.Duration.{as_nanos};
+ghost use Rattle.std.specs.Time.{instant_nanos};
 
 use std::io;
 use std::io::{Read, Write};
 use std::os::unix::net::UnixStream;
 use std::time::{Clock, Duration, Instant};
+
+/// The time from one moment to a later one. `TimedOut` where it is not later.
+fn time_between(now: Instant, until: Instant) -> io::Result<Duration>
+    ensures { IfOk result (λ left. (as_nanos left + instant_nanos now ≡ instant_nanos until) × (0 < as_nanos left)) }
+{
+    match until.checked_duration_since(now) {
+        Some(left) if !left.is_zero() => Ok(left),
+        _ => Err(io::Error::from(io::ErrorKind::TimedOut)),
+    }
+}
 
 /// One way of a connection, with a limit on its time, which begins with the first read or write. Once it is over each read and
 /// each write fails.
@@ -69,10 +80,8 @@ impl<'a, Q: Clock> Timed<'a, Q> {
             },
         };
         self.until = Some(until);
-        match until.checked_duration_since(now) {
-            Some(left) if !left.is_zero() => Ok(Some(self.at_most_idle(left))),
-            _ => Err(io::Error::from(io::ErrorKind::TimedOut)),
-        }
+        let left = time_between(now, until)?;
+        Ok(Some(self.at_most_idle(left)))
     }
 }
 

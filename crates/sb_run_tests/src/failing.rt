@@ -4,7 +4,7 @@ use crate::desk::{Desk, Play, play_at_new};
 use crate::making::put_of_w;
 use crate::same;
 use sb_directory::DirectoryTag;
-use sb_testing::streams::{Closing, Pieces};
+use sb_testing::streams::{FailingWriter, Pieces};
 use sb_testing::wire::{DONE, PUT};
 use sb_types::Fault;
 use std::alloc::Global;
@@ -18,8 +18,8 @@ const READS_MOST: u64 = 64;
 const DONE_16: &[u8] = b"\xa7\x03\x00\x00\x00\x09\x13\x00\x00\x00\x00\x00\x00\x00\x10";
 
 /// A writer that takes a byte a write, and is closed once it has taken so many.
-fn closing(left: usize) -> Closing {
-    let mut writer = Closing::new(left);
+fn closing(left: usize) -> FailingWriter {
+    let mut writer = FailingWriter::new(left);
     writer.piece = 1;
     writer
 }

@@ -30,11 +30,12 @@ const ASKING: &[u8] = b"\xa7\x03\x00\x00\x00\x06\x01\x02c1\x01c\
     \x01c\x00\x00\x00\x00\x00\x00\x00\x00\x00\x00\x00\x00\x00\x00\x00\x00\x00\x00\x00\x00\x00\x00\x00\x00\
     \xa7\x03\x00\x00\x00\x02\x04\x01";
 
-/// The peers of the sessions 1 and 2.
+/// The peers of the sessions 1 and 2, behind so many connections that could not be had.
 #[derive(Drop)]
 struct Peers {
     alloc: Global,
-    taken: AtomicUsize,
+    lost: usize,
+    asked: AtomicUsize,
 }
 
 impl Source for Peers {
@@ -42,9 +43,15 @@ impl Source for Peers {
 
     type Out = Vec<u8>;
 
+    ghost over = { λ peers. Unit {0} };
+
     fn next(&self) -> Option<Result<(u64, &'static [u8], Vec<u8>), Fault>> {
         let writer = Vec::new(self.alloc);
-        match self.taken.fetch_add(1, Ordering::SeqCst) {
+        let asked = self.asked.fetch_add(1, Ordering::SeqCst);
+        if asked < self.lost {
+            return Some(Err(Fault::ReadFailed));
+        }
+        match asked - self.lost {
             0 => Some(Ok((1, TELLING, writer))),
             1 => Some(Ok((2, ASKING, writer))),
             _ => None,
@@ -64,7 +71,7 @@ struct Holding<'a, R> {
 impl<R: Clock> Gate for Holding<'_, R> {
     ghost lets = { λ gate session step. Unit {0} };
 
-    ghost turns = { λ gate session step. Unit {0} };
+    ghost turns_away = { λ gate session step. Unit {0} };
 
     fn pass(&self, session: u64, step: GatePoint) -> bool {
         match (session, step) {
@@ -89,22 +96,30 @@ impl<R: Clock> Gate for Holding<'_, R> {
 /// How many sessions there were, how many faults, and how many events.
 type Met = (u64, u64, u64);
 
-/// Serves both peers from these seats, at a gate that holds for at most so many turns.
+/// How many connections could not be had before the peers came, and how many turns the gate holds at most.
+#[derive(Clone, Copy)]
+struct Course {
+    lost: usize,
+    turns: u64,
+}
+
+/// Serves the peers from these seats, at a gate that holds.
 fn serve_from<S: DirectoryTag + Send + Sync, R: Threads + Wait + Clock + Abort + Send + Sync>(
     rt: &R,
     alloc: Global,
     directory: &Directory<S, &R>,
     seats: Vec<ReaderSeat<S>>,
-    turns: u64,
+    course: Course,
 ) -> Pooled<S> {
     let peers = Peers {
         alloc,
-        taken: AtomicUsize::new(0),
+        lost: course.lost,
+        asked: AtomicUsize::new(0),
     };
     let gate = Holding {
         rt,
         has_answered: AtomicBool::new(false),
-        turns,
+        turns: course.turns,
     };
     let serving = Serving {
         rt,
@@ -125,7 +140,7 @@ fn pool_of<S: DirectoryTag + Send + Sync, R: Threads + Wait + Clock + Abort + Se
     blank: Blank,
     core: NodeCore,
     workers: usize,
-    turns: u64,
+    course: Course,
 ) -> Met
     requires history { new_history.seen.book ≡ S.history }
     requires opening { S.opening ≡ core.node }
@@ -136,7 +151,7 @@ fn pool_of<S: DirectoryTag + Send + Sync, R: Threads + Wait + Clock + Abort + Se
 {
     let made = Directory::<S, &R>::make(rt, alloc, new_history, blank, core, workers);
     let (directory, seats) = got(rt, made);
-    let pooled = serve_from(rt, alloc, &directory, seats, turns);
+    let pooled = serve_from(rt, alloc, &directory, seats, course);
     close(rt, directory, pooled)
 }
 
@@ -159,19 +174,32 @@ fn pool_new<R: Threads + Wait + Clock + Abort + Send + Sync>(
     rt: &R,
     alloc: Global,
     workers: u8,
-    turns: u64,
+    course: Course,
 ) -> Met {
     let core = new_node(rt, alloc, 2);
     let blank = Blank::new(u64::from(workers));
     let workers = usize::from(workers);
-    pool_of::<Brand, _>(rt, alloc, NewHistory::new(), blank, core, workers, turns)
+    pool_of::<Brand, _>(rt, alloc, NewHistory::new(), blank, core, workers, course)
 }
 
 #[test]
 fn a_session_waits_for_another(rt: HostRuntime) {
-    let two = pool_new(&rt, rt.alloc(), 2, 5_000);
+    let long = Course {
+        lost: 0,
+        turns: 5_000,
+    };
+    let two = pool_new(&rt, rt.alloc(), 2, long);
     same(&rt, &two, &(2, 0, 1));
     // The only worker would wait for itself: the gate turns session 1 away before its delta is entered.
-    let one = pool_new(&rt, rt.alloc(), 1, 20);
+    let short = Course { lost: 0, turns: 20 };
+    let one = pool_new(&rt, rt.alloc(), 1, short);
     same(&rt, &one, &(2, 1, 0));
+}
+
+/// A worker goes on behind connections that could not be had, each of which is a fault.
+#[test]
+fn a_connection_that_is_lost_ends_no_worker(rt: HostRuntime) {
+    let course = Course { lost: 3, turns: 20 };
+    let one = pool_new(&rt, rt.alloc(), 1, course);
+    same(&rt, &one, &(2, 4, 0));
 }

@@ -223,7 +223,7 @@ fn run_and_reach<R: Host + Net<Listener = TcpListener, Stream = TcpStream>>(
 /// What the player saw: whether the write was done, how the sessions of c and b ended, and how far c holds a, and b holds a
 /// and c.
 #[derive(Clone, Copy, Debug, PartialEq, Eq)]
-struct Seen {
+struct PlayerFindings {
     done: bool,
     ends: [Ended; 2],
     held: [u64; 3],
@@ -245,12 +245,17 @@ fn serve_as_b(rt: &impl Abort, alloc: Global, dialed: &UnixStream) -> (Ended, u6
 }
 
 /// Plays the owner, c which dials, and b which is dialed. The node has bound its sockets once it dials.
-fn play<R: Net + Abort>(rt: &R, alloc: Global, listener: &UnixListener, paths: &Paths) -> Seen {
+fn play<R: Net + Abort>(
+    rt: &R,
+    alloc: Global,
+    listener: &UnixListener,
+    paths: &Paths,
+) -> PlayerFindings {
     let dialed = next_of(rt, listener);
     let done = put_is_done(rt, paths.control);
     let (by_c, c_holds_a) = dial_as_c(rt, alloc, paths.sock);
     let (by_b, b_holds_a, b_holds_c) = serve_as_b(rt, alloc, &dialed);
-    Seen {
+    PlayerFindings {
         done,
         ends: [by_c, by_b],
         held: [c_holds_a, b_holds_a, b_holds_c],
@@ -272,7 +277,7 @@ fn a_node_beside_its_owner_and_its_peers(rt: HostRuntime) {
         || play(&rt, alloc, &listener, &paths),
     );
     got(&rt, fs::remove_file(&rt, "beside.peer"));
-    let all = Seen {
+    let all = PlayerFindings {
         done: true,
         ends: [Ended::RoundsDone, Ended::Bye(1)],
         held: [1, 1, 1],

@@ -40,14 +40,14 @@ const WROTE_ONE: Counted = Counted {
 type Ends = [(LastRound, u64); 2];
 
 /// How many owners are shown, and how far a, b and c are.
-type Shown = (usize, [u64; 3]);
+type StatusParts = (usize, [u64; 3]);
 
 /// Keeps what was told last behind the round of this number.
 #[derive(Drop)]
 struct Listener<'a, R> {
     rt: &'a R,
     behind: u64,
-    told: Mutex<Option<(Counted, Ends, Shown)>>,
+    told: Mutex<Option<(Counted, Ends, StatusParts)>>,
 }
 
 fn end_of(status: &Status<'_>, index: usize) -> (LastRound, u64) {
@@ -68,7 +68,7 @@ fn counts_of(status: &Status<'_>) -> Counted {
     }
 }
 
-fn shown_to(rt: &impl Abort, status: &Status<'_>) -> Shown {
+fn parts_of(rt: &impl Abort, status: &Status<'_>) -> StatusParts {
     let snapshot = &status.snapshot;
     let upto = [
         snapshot.upto(&name(rt, b"a")),
@@ -93,7 +93,7 @@ impl<R: Wait + Abort> Observer for Listener<'_, R> {
         if status.rounds == self.behind {
             let ends = [end_of(status, 0), end_of(status, 1)];
             let mut told = self.told.lock(self.rt);
-            *told = Some((counts_of(status), ends, shown_to(self.rt, status)));
+            *told = Some((counts_of(status), ends, parts_of(self.rt, status)));
         }
     }
 }

@@ -20,9 +20,9 @@ fn write(rt: &impl Abort, text: &[u8], version: u64, is_set: bool) -> Entry {
 }
 
 /// The version and the weight under a key.
-type Shown = Option<(u64, Option<u64>)>;
+type FoundWeight = Option<(u64, Option<u64>)>;
 
-fn weight_at(holdings: &Holdings, owner: &Name, key: &[u8]) -> Shown {
+fn weight_at(holdings: &Holdings, owner: &Name, key: &[u8]) -> FoundWeight {
     crate::table::shown(holdings.table(owner)?, key)
 }
 
@@ -144,7 +144,11 @@ fn blocks_join_on_or_change_nothing(rt: HostRuntime) {
 }
 
 /// How the block of one write ends, and what is then shown of its owner under x and y.
-fn take_entry(rt: &impl Abort, holdings: &mut Holdings, block: &Block) -> (BlockEnd, Shown, Shown) {
+fn take_entry(
+    rt: &impl Abort,
+    holdings: &mut Holdings,
+    block: &Block,
+) -> (BlockEnd, FoundWeight, FoundWeight) {
     let end = applied(rt, holdings, block);
     let owner = *block.owner();
     let x = weight_at(holdings, &owner, b"x");
@@ -157,7 +161,7 @@ fn assert_shown(
     alloc: Global,
     holdings: &mut Holdings,
     write: (&[u8], &[u8], u64, bool),
-    wanted: (BlockEnd, Shown, Shown),
+    wanted: (BlockEnd, FoundWeight, FoundWeight),
 ) {
     let (owner, key, after, is_set) = write;
     let version = if after == 0 { 2 } else { 3 };
@@ -204,7 +208,7 @@ fn assert_own(
     holdings: &mut Holdings,
     write: (&[u8], u64, bool),
     answer: Result<(), Fault>,
-    shown: Shown,
+    shown: FoundWeight,
 ) {
     let (key, version, is_set) = write;
     let entry = self::write(rt, key, version, is_set);

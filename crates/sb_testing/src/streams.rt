@@ -88,7 +88,7 @@ impl Write for Hearing {
 /// A writer that keeps nothing, takes at most so many bytes a write, and fails once none are left that it takes, or at a flush. It
 /// counts the writes that failed.
 #[derive(Drop)]
-pub struct Closing {
+pub struct FailingWriter {
     /// How many bytes it still takes.
     pub left: usize,
     /// How many it takes a write at most.
@@ -99,10 +99,10 @@ pub struct Closing {
     pub failed: u32,
 }
 
-impl Closing {
+impl FailingWriter {
     /// A writer that takes so many bytes, as many in a write as there are, and can be flushed.
-    pub fn new(left: usize) -> Closing {
-        Closing {
+    pub fn new(left: usize) -> FailingWriter {
+        FailingWriter {
             left,
             piece: usize::MAX,
             is_flushed: true,
@@ -111,7 +111,7 @@ impl Closing {
     }
 }
 
-impl Write for Closing {
+impl Write for FailingWriter {
     fn write(&mut self, buf: &[u8]) -> io::Result<usize> {
         if self.left == 0 {
             self.failed = self.failed.saturating_add(1);

@@ -10,7 +10,7 @@ use Rattle.sb_holdings.specs.Entering.{entered_each}
 use Rattle.sb_holdings.specs.Held.{nothing}
 use Rattle.sb_holdings.specs.Plain.{with_entries}
 use Rattle.sb_holdings.proofs.Entering.{one_by_one}
-use Rattle.sb_holdings.proofs.Order.{at_most, distinct_kept, run_upto}
+use Rattle.sb_table.proofs.Order.{at_most, distinct_kept, run_upto}
 use Rattle.sb_views.specs.declared.change.Change.{Change}
 use Rattle.sb_views.specs.declared.change.Change.TheVariants.{Enter, Clear, Hold}
 use Rattle.sb_views.specs.Changes.{table_with, table_with_all, IsAlike, held_beyond, changes_above, lacked_of}

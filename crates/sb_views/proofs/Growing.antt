@@ -22,7 +22,7 @@ use Rattle.sb_holdings.specs.Treats.{Treats, took_each}
 use Rattle.sb_holdings.proofs.Changed.{IsHolder-held}
 use Rattle.sb_holdings.proofs.Ended.{block-of_delta, IsBlock-delta}
 use Rattle.sb_holdings.proofs.Nodes.{put_with, replay_at_step}
-use Rattle.sb_holdings.proofs.Order.{run_order, run_after}
+use Rattle.sb_table.proofs.Order.{run_order, run_after}
 use Rattle.sb_holdings.proofs.Parts.{IsPart, part_is, front_is}
 use Rattle.sb_holdings.proofs.Staging.{Joins, stage_joins}
 use Rattle.sb_views.specs.Growing.{IsGrown, AreGrown}

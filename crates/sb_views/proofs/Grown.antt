@@ -7,7 +7,7 @@ use Rattle.sb_types.specs.Runs.{Stands, IsTable, has_key, above, without, entere
 use Rattle.sb_types.proofs.Standing.{right, of_above, of_entered, in_entered, keyed, has}
 use Rattle.sb_table.proofs.ByKey.{none_left}
 use Rattle.sb_holdings.proofs.Entering.{one_by_one}
-use Rattle.sb_holdings.proofs.Order.{run_upto}
+use Rattle.sb_table.proofs.Order.{run_upto}
 use Rattle.sb_views.specs.Growing.{IsGrown}
 
 -- ---- tests on entries

@@ -5,7 +5,9 @@ ghost use Rattle.sb_holdings.specs.Held.{shown_of};
 
 use crate::making::{apply, holdings_of_a, name};
 use crate::reading::{Look, read};
-use crate::views::{Case, NET_B, OF_B, Seen, W, entry_of, is_found, is_upto, look_around};
+use crate::views::{
+    Case, NET_B, OF_B, ReaderFindings, W, entry_of, is_found, is_upto, look_around,
+};
 use crate::{got, same, there};
 use sb_holdings::Holdings;
 use sb_table::Table;
@@ -58,7 +60,7 @@ fn publish_anew<R: Wait + Abort>(
     alloc: Global,
     holdings: &Holdings,
     write: Case,
-) -> [Seen; 2] {
+) -> [ReaderFindings; 2] {
     let entry = entry_of(rt, write);
     if holdings.upto(holdings.me()) != 0 || entry.version() != 1 {
         panic!(rt; "error: the first write");
@@ -72,7 +74,7 @@ fn publish_first<S: NodeTag, R: Wait + Abort>(
     new_history: NewHistory,
     holdings: &Holdings,
     entry: Entry,
-) -> [Seen; 2]
+) -> [ReaderFindings; 2]
     requires history { new_history.seen.book ≡ S.history }
     requires opening { S.opening.held ≡ holdings.now }
     requires nothing { (shown_of holdings.now holdings.now.me).held ≡ 0 }

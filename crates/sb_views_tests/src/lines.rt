@@ -3,7 +3,7 @@ use crate::got;
 use crate::making::{Words, failed_behind, has_lines, key, name, settled, value_of};
 use sb_lines::log_run;
 use sb_log::{PlainLog, WriteLog};
-use sb_testing::streams::Closing;
+use sb_testing::streams::FailingWriter;
 use sb_types::Slot;
 use std::alloc::Global;
 use std::process::Abort;
@@ -88,7 +88,7 @@ fn a_text_is_printed_as_it_is_spelled(rt: HostRuntime) {
 /// The printing of the log of five fails at a writer that closes behind so many bytes.
 fn fails_behind(rt: &impl Abort, alloc: Global, left: usize) {
     let mut log = log_of(rt, alloc, &five());
-    let printed = log_run(alloc, &mut log, &mut Closing::new(left));
+    let printed = log_run(alloc, &mut log, &mut FailingWriter::new(left));
     failed_behind(rt, settled(rt, printed), left);
 }
 

@@ -3,7 +3,7 @@ use crate::making::{Ended, RowParts, failed_behind, has_lines, rows_of, settled}
 use crate::{got, same};
 use sb_codec::{Row, Rows};
 use sb_listing::{changes, print_changes, print_json_rows};
-use sb_testing::streams::Closing;
+use sb_testing::streams::FailingWriter;
 use std::alloc::Global;
 use std::process::Abort;
 
@@ -183,13 +183,19 @@ fn a_page_is_printed_as_json(rt: HostRuntime) {
 fn changes_behind(rt: &impl Abort, alloc: Global, left: usize) -> Ended {
     let rows = rows_of(rt, alloc, &[A_V]);
     let found = got(rt, changes(alloc, &[], &rows));
-    settled(rt, print_changes(alloc, &mut Closing::new(left), &found))
+    settled(
+        rt,
+        print_changes(alloc, &mut FailingWriter::new(left), &found),
+    )
 }
 
 /// The same of that page as JSON.
 fn json_behind(rt: &impl Abort, alloc: Global, left: usize) -> Ended {
     let page = page_of_kinds(rt, alloc);
-    settled(rt, print_json_rows(alloc, &mut Closing::new(left), &page))
+    settled(
+        rt,
+        print_json_rows(alloc, &mut FailingWriter::new(left), &page),
+    )
 }
 
 /// Both fail behind so many bytes.

@@ -8,7 +8,7 @@ use crate::{got, making, same, same_at};
 use sb_codec::{Ask, Row, Rows};
 use sb_holdings::Holdings;
 use sb_query::{answer, print_rows};
-use sb_testing::streams::Closing;
+use sb_testing::streams::FailingWriter;
 use sb_types::{BUDGET_LEAST, BUDGET_MOST, Block, Entry, Key, Name, Value};
 use sb_views::Snapshot;
 use std::alloc::Global;
@@ -23,10 +23,10 @@ const NET_A: Place = (b"a", b"net/a");
 const LAST_OF_A: Place = (b"a", b"w");
 
 // An owner, a key and a version.
-type RowParts = (&'static [u8], &'static [u8], u64);
+type RowVersion = (&'static [u8], &'static [u8], u64);
 
 // The live rows, which take 519, 25, 515, 18 and 515 bytes; a removed x as well.
-const ROWS: [RowParts; 5] = [
+const ROWS: [RowVersion; 5] = [
     (b"a", b"net/a", 1),
     (b"a", b"net/b", 2),
     (b"a", b"w", 3),
@@ -99,7 +99,7 @@ fn page_of(
     got(rt, answer(alloc, snapshot, ask, budget))
 }
 
-fn is_row(row: &Row, parts: RowParts) -> bool {
+fn is_row(row: &Row, parts: RowVersion) -> bool {
     row.owner().bytes() == parts.0 && row.key().bytes() == parts.1 && row.version() == parts.2
 }
 
@@ -368,7 +368,7 @@ fn a_page_is_printed(rt: HostRuntime) {
 /// How the printing of three rows ends at a writer that closes behind so many bytes.
 fn ended_behind(rt: &impl Abort, alloc: Global, left: usize) -> Ended {
     let page = page_of_three(rt, alloc);
-    settled(rt, print_rows(alloc, &mut Closing::new(left), &page))
+    settled(rt, print_rows(alloc, &mut FailingWriter::new(left), &page))
 }
 
 #[test]

@@ -102,9 +102,9 @@ fn weight_of(found: Option<(&Value, u64)>) -> Option<(u64, u64)> {
 }
 
 /// How far an owner is shown, and a weight under its key.
-type Shown = (u64, Option<(u64, u64)>);
+type KeyFindings = (u64, Option<(u64, u64)>);
 
-fn shown_under(snapshot: &Snapshot<'_>, owner: &Name, key: &Key) -> Shown {
+fn shown_under(snapshot: &Snapshot<'_>, owner: &Name, key: &Key) -> KeyFindings {
     (snapshot.upto(owner), weight_of(snapshot.get(owner, key)))
 }
 
@@ -136,22 +136,22 @@ fn keys_are_shown(rt: &impl Abort, snapshot: &Snapshot<'_>) {
 }
 
 // The owner, the key and the version of a row.
-type RowParts = (&'static [u8], &'static [u8], u64);
+type RowVersion = (&'static [u8], &'static [u8], u64);
 
-const A_NET_A: RowParts = (b"a", b"net/a", 2);
+const A_NET_A: RowVersion = (b"a", b"net/a", 2);
 
-const A_W: RowParts = (b"a", b"w", 3);
+const A_W: RowVersion = (b"a", b"w", 3);
 
-const B_NET_A: RowParts = (b"b", b"net/a", 1);
+const B_NET_A: RowVersion = (b"b", b"net/a", 1);
 
 // The rows of all, those under net/, and those of a.
-const OF_ALL: [RowParts; 3] = [A_NET_A, A_W, B_NET_A];
+const OF_ALL: [RowVersion; 3] = [A_NET_A, A_W, B_NET_A];
 
-const UNDER_NET: [RowParts; 2] = [A_NET_A, B_NET_A];
+const UNDER_NET: [RowVersion; 2] = [A_NET_A, B_NET_A];
 
-const OF_A: [RowParts; 2] = [A_NET_A, A_W];
+const OF_A: [RowVersion; 2] = [A_NET_A, A_W];
 
-fn is_row(row: Option<LiveRow<'_>>, wanted: RowParts) -> bool {
+fn is_row(row: Option<LiveRow<'_>>, wanted: RowVersion) -> bool {
     let (owner, key, version) = wanted;
     match row {
         Some(row) => {
@@ -162,7 +162,7 @@ fn is_row(row: Option<LiveRow<'_>>, wanted: RowParts) -> bool {
 }
 
 /// Whether just these rows come.
-fn are_rows(mut rows: LiveRows<'_>, wanted: &[RowParts]) -> bool {
+fn are_rows(mut rows: LiveRows<'_>, wanted: &[RowVersion]) -> bool {
     for row in wanted {
         if !is_row(rows.next(), *row) {
             return false;
@@ -177,7 +177,7 @@ fn rows_are(
     snapshot: &Snapshot<'_>,
     owner: &[u8],
     under: &[u8],
-    wanted: &[RowParts],
+    wanted: &[RowVersion],
 ) {
     let rows = snapshot.rows(owner_of(rt, owner), prefix(rt, under));
     holds(rt, "its rows come in order", are_rows(rows, wanted));
@@ -244,7 +244,7 @@ fn a_removal_is_shown_once_published(rt: HostRuntime) {
 }
 
 /// What a reader sees of a key, and of how many events.
-pub(crate) type Seen = (Shown, u64);
+pub(crate) type ReaderFindings = (KeyFindings, u64);
 
 /// What is seen under the key of a write behind what is held, before it is published and then.
 fn publish_behind<R: Wait + Abort>(
@@ -252,7 +252,7 @@ fn publish_behind<R: Wait + Abort>(
     alloc: Global,
     holdings: &Holdings,
     write: Case,
-) -> [Seen; 2] {
+) -> [ReaderFindings; 2] {
     let entry = entry_of(rt, write);
     let held = holdings.upto(holdings.me());
     if held == u64::MAX || entry.version() != held + 1 {
@@ -267,7 +267,7 @@ fn publish_one<S: NodeTag, R: Wait + Abort>(
     new_history: NewHistory,
     holdings: &Holdings,
     entry: Entry,
-) -> [Seen; 2]
+) -> [ReaderFindings; 2]
     requires history { new_history.seen.book ≡ S.history }
     requires opening { S.opening.held ≡ holdings.now }
     requires next { entry.version ≡ (shown_of holdings.now holdings.now.me).held + 1 }
@@ -319,7 +319,7 @@ pub(crate) fn look_around<S: NodeTag, R: Wait + Abort>(
     reader: Reader<S>,
     owner: &Name,
     key: &Key,
-) -> [Seen; 2] {
+) -> [ReaderFindings; 2] {
     let (reader, before) = look_once(rt, reader, owner, key);
     got(rt, writer.publish());
     let (_reader, after) = look_once(rt, reader, owner, key);
@@ -331,7 +331,7 @@ fn look_once<S: NodeTag>(
     reader: Reader<S>,
     owner: &Name,
     key: &Key,
-) -> (Reader<S>, Seen) {
+) -> (Reader<S>, ReaderFindings) {
     let entered = entered(rt, reader);
     let shown = shown_under(&entered.snapshot(), owner, key);
     let events = entered.seen().len();

@@ -2,7 +2,7 @@
 use crate::transcripts::{TRANSCRIPTS, lines_behind};
 use crate::{got, holds, same};
 use sb_script::{Detail, Ending, Output, sim_run_uncounted};
-use sb_testing::streams::Closing;
+use sb_testing::streams::FailingWriter;
 use sb_types::Fault;
 use std::alloc::Global;
 use std::io;
@@ -313,7 +313,7 @@ fn ends_at_writer(
     wanted: Result<Ending, Fault>,
     failed: u32,
 ) {
-    let mut writer = Closing::new(left);
+    let mut writer = FailingWriter::new(left);
     writer.is_flushed = is_flushed;
     let ended = run_to(alloc, EXAMPLE.as_bytes(), &mut writer, 100, Detail::Plain);
     let found = (left, settled(rt, ended), writer.failed);

@@ -1,5 +1,5 @@
 use Rattle.std.proofs.Common.{◌≡◌, take}
-use Rattle.sb_listing.specs.Seen.{printed_lines}
+use Rattle.sb_listing.specs.Printed.{printed_lines}
 use Rattle.sb_listing.proofs.printing.lines_of.Given as goal
 
 abbrev pub invariant-loop-change : goal.invariant-loop-change

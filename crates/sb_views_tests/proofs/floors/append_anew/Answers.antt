@@ -7,7 +7,7 @@ use Rattle.sb_holdings.specs.Held.{Held, shown_of, written}
 use Rattle.sb_holdings.specs.Nodes.{Node}
 use Rattle.sb_holdings.specs.Plain.{IsHoldings}
 use Rattle.sb_holdings.proofs.Changed.{IsHolder-held}
-use Rattle.sb_holdings.proofs.Order.{run_after, run_upto}
+use Rattle.sb_table.proofs.Order.{run_after, run_upto}
 use Rattle.sb_views.specs.declared.change.Change.{Change}
 use Rattle.sb_views.specs.declared.change.Change.TheVariants.{Enter, Clear, Hold}
 use Rattle.sb_views.specs.declared.event.Event.{Event}

@@ -1,7 +1,7 @@
-use Rattle.sb_directory.proofs.Entering.{delta-entered}
+use Rattle.sb_directory.proofs.Entering.{delta-event}
 use Rattle.sb_directory.proofs.directory.Directory.apply.Goals as goal
 
-pub returns-clause-entered : goal.returns-clause-entered
-returns-clause-entered g c =
+pub returns-clause-event : goal.returns-clause-event
+returns-clause-event g c =
     let is = c.apply.ensures in
-    delta-entered g.S.NodeTag.opening c.args.delta.now _ c.args.seat.now c.apply.new.seat c.apply.result is.begins is.due is.last_call is.ends
+    delta-event g.S.NodeTag.opening c.args.delta.now _ c.args.seat.now c.apply.new.seat c.apply.result is.begins is.due is.last_call is.ends

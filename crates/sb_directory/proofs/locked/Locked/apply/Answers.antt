@@ -7,4 +7,4 @@ use Rattle.sb_directory.proofs.locked.Locked.apply.Goals as goal
 pub returns-in-Ok-clause-shown : goal.returns-in-Ok-clause-shown
 returns-in-Ok-clause-shown g c =
     subst (λ (l : ViewedNode). PublishesWhereSaid c.count_event-shown.result l c.apply.new.self) c.self.view_is
-    (said-shows c.in-Ok.shown c.count_event-shown.result c.self.inside.node c.apply.new.self c.count_event-shown.ensures.said c.in-Ok.ensures.shown)
+    (said-shows c.in-Ok.is_published c.count_event-shown.result c.self.inside.node c.apply.new.self c.count_event-shown.ensures.said c.in-Ok.ensures.publishes)

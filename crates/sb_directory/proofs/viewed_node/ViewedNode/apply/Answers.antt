@@ -6,7 +6,7 @@ use Rattle.sb_holdings.specs.Treats.{took_each}
 use Rattle.sb_node.specs.Cores.{Core}
 use Rattle.sb_watch.specs.Records.{Hub}
 use Rattle.sb_views.specs.Histories.{node_after}
-use Rattle.sb_directory.specs.Behind.{HasOwners, AreSince}
+use Rattle.sb_directory.specs.Lacking.{HasOwners, AreSince}
 use Rattle.sb_directory.specs.Notes.{with_notes, entries_since, versions_of, entered_of}
 use Rattle.sb_directory.specs.ViewedNodes.{ViewedNode, IsViewedNode}
 use Rattle.sb_directory.proofs.Keeping.{noted, delta-there, moved}
@@ -34,20 +34,20 @@ entered g c hub seen =
     let since : AreSince (node_after opening queued).held node.held more =
     subst (λ (h : Held). AreSince (node_after opening queued).held h more) c.holdings-2.ensures.held
     (c.in_ok-add_owners.ensures.since (node_after opening queued).held
-    (subst (λ (h : Held). AreSince (node_after opening queued).held h inside.behind) (sym c.holdings-2.ensures.held) c.self.invariant.since)) in
-    let is = noted opening queued inside.behind more old c.self.invariant since in
+    (subst (λ (h : Held). AreSince (node_after opening queued).held h inside.lacking) (sym c.holdings-2.ensures.held) c.self.invariant.since)) in
+    let is = noted opening queued inside.lacking more old c.self.invariant since in
     let has : HasOwners more blocks = subst (HasOwners more) c.blocks-blocks.ensures.blocks c.in_ok-add_owners.ensures.owners in
     delta-there opening queued more old is c.holdings.ensures.holdings blocks ends c.in_ok-ends.ensures.delta c.in_ok-ends.ensures.ends after has
     c.apply.new.self c.add_event.new.history hub inside.views.published taken c.add_event.ensures seen
 
-pub show-shown-requires-clause-node : goal.show-shown-requires-clause-node
-show-shown-requires-clause-node g c = (entered g (goal.at.show-shown-requires-clause-node g c).After-add_event _ refl).node
+pub publish_history-is_published-requires-clause-node : goal.publish_history-is_published-requires-clause-node
+publish_history-is_published-requires-clause-node g c = (entered g (goal.at.publish_history-is_published-requires-clause-node g c).After-add_event _ refl).node
 
-pub show-shown-requires-clause-grown : goal.show-shown-requires-clause-grown
-show-shown-requires-clause-grown g c = (entered g (goal.at.show-shown-requires-clause-grown g c).After-add_event _ refl).grown
+pub publish_history-is_published-requires-clause-grown : goal.publish_history-is_published-requires-clause-grown
+publish_history-is_published-requires-clause-grown g c = (entered g (goal.at.publish_history-is_published-requires-clause-grown g c).After-add_event _ refl).grown
 
-pub show-shown-requires-clause-since : goal.show-shown-requires-clause-since
-show-shown-requires-clause-since g c = (entered g (goal.at.show-shown-requires-clause-since g c).After-add_event _ refl).since
+pub publish_history-is_published-requires-clause-since : goal.publish_history-is_published-requires-clause-since
+publish_history-is_published-requires-clause-since g c = (entered g (goal.at.publish_history-is_published-requires-clause-since g c).After-add_event _ refl).since
 
 pub invariant_of-self-2 : goal.invariant_of-self-2
 invariant_of-self-2 g c =
@@ -61,9 +61,9 @@ invariant_of-self-2 g c =
     let seen : c.push_notes_since.new.hub ≡ with_notes inside.hub (entered_of blocks node.held new.held) =
     c.push_notes_since.ensures ∙ (λ i. with_notes inside.hub (entries_since (versions i) (held i))) in
     let now : ViewedNode = record { core = c.apply.new.self; hub = c.push_notes_since.new.hub; history = c.add_event.new.history; published = inside.views.published } in
-    moved g.S.NodeTag.opening inside.views.queued c.show-shown.new.self.queued c.add_owners.new.self c.show-shown.new.behind now c.show-shown.new.self.published
+    moved g.S.NodeTag.opening inside.views.queued c.publish_history-is_published.new.self.queued c.add_owners.new.self c.publish_history-is_published.new.lacking now c.publish_history-is_published.new.self.published
     (entered g (goal.at.invariant_of-self-2 g c).After-add_event c.push_notes_since.new.hub seen)
-    c.show-shown.ensures.begins c.show-shown.ensures.grown c.show-shown.ensures.since
+    c.publish_history-is_published.ensures.begins c.publish_history-is_published.ensures.grown c.publish_history-is_published.ensures.since
 
 -- owners are noted as lacking, whether all could be or not
 pub invariant_of-self : goal.invariant_of-self
@@ -73,10 +73,10 @@ invariant_of-self g c =
     let queued = inside.views.queued in
     let more = c.add_owners.new.self in
     let old : ViewedNode = record { core = inside.core; hub = inside.hub; history = inside.history; published = inside.views.published } in
-    noted opening queued inside.behind more old c.self.invariant
+    noted opening queued inside.lacking more old c.self.invariant
     (subst (λ (h : Held). AreSince (node_after opening queued).held h more) c.holdings-2.ensures.held
     (c.add_owners.ensures.since (node_after opening queued).held
-    (subst (λ (h : Held). AreSince (node_after opening queued).held h inside.behind) (sym c.holdings-2.ensures.held) c.self.invariant.since)))
+    (subst (λ (h : Held). AreSince (node_after opening queued).held h inside.lacking) (sym c.holdings-2.ensures.held) c.self.invariant.since)))
 
 pub invariant_of-self-in_err-ends : goal.invariant_of-self-in_err-ends
 invariant_of-self-in_err-ends g c =
@@ -86,7 +86,7 @@ invariant_of-self-in_err-ends g c =
     let more = c.add_owners.new.self in
     let old : ViewedNode = record { core = inside.core; hub = inside.hub; history = inside.history; published = inside.views.published } in
     subst (λ (core : Core). IsViewedNode opening queued more (record { core = core; hub = inside.hub; history = inside.history; published = inside.views.published })) (sym c.in_err-ends.ensures.err)
-    (noted opening queued inside.behind more old c.self.invariant
+    (noted opening queued inside.lacking more old c.self.invariant
     (subst (λ (h : Held). AreSince (node_after opening queued).held h more) c.holdings-2.ensures.held
     (c.in_ok-add_owners.ensures.since (node_after opening queued).held
-    (subst (λ (h : Held). AreSince (node_after opening queued).held h inside.behind) (sym c.holdings-2.ensures.held) c.self.invariant.since))))
+    (subst (λ (h : Held). AreSince (node_after opening queued).held h inside.lacking) (sym c.holdings-2.ensures.held) c.self.invariant.since))))

@@ -7,7 +7,7 @@ use Rattle.sb_views.specs.declared.event.Event.{Event}
 use Rattle.sb_views.specs.Histories.{node_after}
 use Rattle.sb_views.specs.Publishing.{Views}
 use Rattle.sb_directory.specs.Notes.{is_held}
-use Rattle.sb_directory.specs.Behind.{AreSince}
+use Rattle.sb_directory.specs.Lacking.{AreSince}
 use Rattle.sb_directory.proofs.Following.{grown-there, since-there}
 use Rattle.sb_directory.proofs.viewed_node.ViewedNode.open.Goals as goal
 

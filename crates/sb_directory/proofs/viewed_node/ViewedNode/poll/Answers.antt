@@ -16,8 +16,8 @@ pub returns-then-not-has-clause-answer : goal.returns-then-not-has-clause-answer
 returns-then-not-has-clause-answer g c other =
     subst (λ (l : ViewedNode). answer_at l.hub c.args.id ≡ Err NoWatch) c.self.view_is (answer-none c.self.inside.hub c.args.id (sym c.has.ensures.answer ∙ c.if-not-has.true))
 
-pub returns-then-not-show-clause-refused : goal.returns-then-not-show-clause-refused
-returns-then-not-show-clause-refused g c =
+pub returns-then-not-publish_history-clause-refused : goal.returns-then-not-publish_history-clause-refused
+returns-then-not-publish_history-clause-refused g c =
     subst (λ (l : ViewedNode). IfErr (answer_at l.hub c.args.id) _) c.self.view_is
     (no-fault (answer_at c.self.inside.hub c.args.id) _ (answer-some c.self.inside.hub c.args.id (sym c.has.ensures.answer ∙ c.if-not-has.false)))
 
@@ -29,8 +29,8 @@ invariant_of-self-2 g c =
     let old : ViewedNode = record { core = inside.core; hub = inside.hub; history = inside.history; published = inside.views.published } in
     let notes : AllNotes (is_held held) c.take.new.self =
     subst (AllNotes (is_held held)) (sym c.take.ensures.left) (taken_keeps (λ (note : Note). is_held held note ≡ true) inside.hub c.args.id c.self.invariant.notes) in
-    hub-locked opening c.show.new.self.queued c.show.new.behind (with_published old c.show.new.self.published) c.take.new.self
-    (moved opening inside.views.queued c.show.new.self.queued inside.behind c.show.new.behind old c.show.new.self.published c.self.invariant c.show.ensures.begins c.show.ensures.grown c.show.ensures.since) notes
+    hub-locked opening c.publish_history.new.self.queued c.publish_history.new.lacking (with_published old c.publish_history.new.self.published) c.take.new.self
+    (moved opening inside.views.queued c.publish_history.new.self.queued inside.lacking c.publish_history.new.lacking old c.publish_history.new.self.published c.self.invariant c.publish_history.ensures.begins c.publish_history.ensures.grown c.publish_history.ensures.since) notes
 
 pub returns-clause-held : goal.returns-clause-held
 returns-clause-held g c note given =

@@ -26,19 +26,19 @@ entered g c hub seen =
     let few : (shown_of node.held node.held.me).held < 2 ^ 64 =
     subst (λ (owner : List ℕ). (shown_of node.held owner).held < 2 ^ 64) c.name.ensures.name (omega (arith, c.upto.ensures.version, c.upto.type_inv)) in
     let longer : c.add_event.new.history ≡ inside.history ++ TookOwn e ∷ [] = c.add_event.ensures ∙ ap (λ (x : Entry). inside.history ++ TookOwn x ∷ []) c.entry-entry.ensures.entry in
-    let is = added-locked opening queued inside.behind c.add.new.self old c.name.result.now _ c.self.invariant c.in_ok-add.ensures.ok (since-read _ _ _ _ _ c.upto.ensures.version c.floor.ensures.floor c.holdings.ensures.held) in
-    let has = added-there inside.behind c.add.new.self c.name.result.now node.held.me _ c.in_ok-add.ensures.ok c.name.ensures.name in
+    let is = added-locked opening queued inside.lacking c.add.new.self old c.name.result.now _ c.self.invariant c.in_ok-add.ensures.ok (since-read _ _ _ _ _ c.upto.ensures.version c.floor.ensures.floor c.holdings.ensures.held) in
+    let has = added-there inside.lacking c.add.new.self c.name.result.now node.held.me _ c.in_ok-add.ensures.ok c.name.ensures.name in
     own-there opening queued c.add.new.self old is c.refusal.ensures.holdings e c.in_ok-take_own.ensures.next c.entry-entry.ensures.limits few has
     c.take_own.new.self c.add_event.new.history hub inside.views.published taken longer seen
 
-pub show-requires-clause-node : goal.show-requires-clause-node
-show-requires-clause-node g c = (entered g (goal.at.show-requires-clause-node g c).After-add_event _ refl).node
+pub publish_history-requires-clause-node : goal.publish_history-requires-clause-node
+publish_history-requires-clause-node g c = (entered g (goal.at.publish_history-requires-clause-node g c).After-add_event _ refl).node
 
-pub show-requires-clause-grown : goal.show-requires-clause-grown
-show-requires-clause-grown g c = (entered g (goal.at.show-requires-clause-grown g c).After-add_event _ refl).grown
+pub publish_history-requires-clause-grown : goal.publish_history-requires-clause-grown
+publish_history-requires-clause-grown g c = (entered g (goal.at.publish_history-requires-clause-grown g c).After-add_event _ refl).grown
 
-pub show-requires-clause-since : goal.show-requires-clause-since
-show-requires-clause-since g c = (entered g (goal.at.show-requires-clause-since g c).After-add_event _ refl).since
+pub publish_history-requires-clause-since : goal.publish_history-requires-clause-since
+publish_history-requires-clause-since g c = (entered g (goal.at.publish_history-requires-clause-since g c).After-add_event _ refl).since
 
 pub invariant_of-self-2 : goal.invariant_of-self-2
 invariant_of-self-2 g c =
@@ -46,9 +46,9 @@ invariant_of-self-2 g c =
     let seen : c.push_note.new.hub ≡ with_notes inside.hub ((inside.core.node.held.me, c.args.committed.now.entry) ∷ []) =
     c.push_note.ensures ∙ (λ i. with_notes inside.hub ((c.name.ensures.name i, c.entry-entry.ensures.entry i) ∷ [])) in
     let now : ViewedNode = record { core = c.take_own.new.self; hub = c.push_note.new.hub; history = c.add_event.new.history; published = inside.views.published } in
-    moved g.S.NodeTag.opening inside.views.queued c.show.new.self.queued c.add.new.self c.show.new.behind now c.show.new.self.published
+    moved g.S.NodeTag.opening inside.views.queued c.publish_history.new.self.queued c.add.new.self c.publish_history.new.lacking now c.publish_history.new.self.published
     (entered g (goal.at.invariant_of-self-2 g c).After-add_event c.push_note.new.hub seen)
-    c.show.ensures.begins c.show.ensures.grown c.show.ensures.since
+    c.publish_history.ensures.begins c.publish_history.ensures.grown c.publish_history.ensures.since
 
 -- the write is not entered; what is lacked stays noted
 pub invariant_of-self-in_err-take_own : goal.invariant_of-self-in_err-take_own
@@ -58,4 +58,4 @@ invariant_of-self-in_err-take_own g c =
     let old : ViewedNode = record { core = inside.core; hub = inside.hub; history = inside.history; published = inside.views.published } in
     subst (λ (core : Core). IsViewedNode g.S.NodeTag.opening queued c.add.new.self (record { core = core; hub = inside.hub; history = inside.history; published = inside.views.published }))
     (sym c.in_err-take_own.ensures.err)
-    (added-locked g.S.NodeTag.opening queued inside.behind c.add.new.self old c.name.result.now _ c.self.invariant c.in_ok-add.ensures.ok (since-read _ _ _ _ _ c.upto.ensures.version c.floor.ensures.floor c.holdings.ensures.held))
+    (added-locked g.S.NodeTag.opening queued inside.lacking c.add.new.self old c.name.result.now _ c.self.invariant c.in_ok-add.ensures.ok (since-read _ _ _ _ _ c.upto.ensures.version c.floor.ensures.floor c.holdings.ensures.held))

@@ -3,7 +3,7 @@ use Rattle.std.specs.FinMap.{empty}
 use Rattle.sb_views.specs.Growing.{AreGrown}
 use Rattle.sb_views.specs.Histories.{node_after}
 use Rattle.sb_views.specs.Publishing.{Views}
-use Rattle.sb_directory.specs.Behind.{Behind, AreSince}
+use Rattle.sb_directory.specs.Lacking.{LackingOwners, AreSince}
 use Rattle.sb_directory.proofs.Following.{grown-there, since-there}
 use Rattle.sb_directory.proofs.views.Views.catch_up.Goals as goal
 
@@ -14,7 +14,7 @@ returns-in-Ok-clause-grown g c =
 
 pub returns-in-Ok-clause-since : goal.returns-in-Ok-clause-since
 returns-in-Ok-clause-since g c =
-    subst (λ (m : Behind). AreSince (node_after g.S.NodeTag.opening c.append.new.self.queued).held c.args.core.now.node.held m) (sym c.clear.ensures)
+    subst (λ (m : LackingOwners). AreSince (node_after g.S.NodeTag.opening c.append.new.self.queued).held c.args.core.now.node.held m) (sym c.clear.ensures)
     (subst (λ (v : Views). AreSince (node_after g.S.NodeTag.opening v.queued).held c.args.core.now.node.held empty) (sym c.in-Ok.ensures.ok)
     (since-there g.S.NodeTag.opening c.args.core.now.node c.args.history.now c.requires.node))
 
@@ -24,4 +24,4 @@ returns-in-Err-clause-grown g c =
 
 pub returns-in-Err-clause-since : goal.returns-in-Err-clause-since
 returns-in-Err-clause-since g c =
-    subst (λ (v : Views). AreSince (node_after g.S.NodeTag.opening v.queued).held c.args.core.now.node.held c.args.behind.now) (sym c.in-Err.ensures.err) c.requires.since
+    subst (λ (v : Views). AreSince (node_after g.S.NodeTag.opening v.queued).held c.args.core.now.node.held c.args.lacking.now) (sym c.in-Err.ensures.err) c.requires.since

@@ -2,7 +2,7 @@ use Rattle.std.proofs.Common.{◌≡◌, ℕ, ap, ◌∙◌, arith}
 use Rattle.sb_types.specs.Records.{Holder}
 use Rattle.sb_types.specs.Runs.{above}
 use Rattle.sb_holdings.specs.Holders.{told}
-use Rattle.sb_holdings.proofs.Order.{lower}
+use Rattle.sb_table.proofs.Order.{lower}
 use Rattle.sb_holdings.proofs.Holding.{fits-staged, new-run, taken-is}
 use Rattle.sb_holdings.proofs.holder.Holder.take.Goals as goal
 

@@ -12,7 +12,7 @@ returns-clause-free g c =
     let none : (node_after g.S.NodeTag.opening asked.last_call).conflict ≡ None = sym c.in_default.ensures.answer in
     elim c.match-self.branch [
       | in-Some-owed+in_ok-take_own w ↦
-          rw w.seat-is (asked.last_call, c.in_default.ensures.begins, event_called _ _ asked w.take_own.new.seat w.in_ok-take_own.ensures.entered, none)
+          rw w.seat-is (asked.last_call, c.in_default.ensures.begins, event_called _ _ asked w.take_own.new.seat w.in_ok-take_own.ensures.event, none)
       | in_default-owed w ↦ rw w.seat-is (asked.last_call, c.in_default.ensures.begins, prefix_self asked.last_call, none)
     ]
 
@@ -24,7 +24,7 @@ returns-clause-later g c =
     elim c.match-self.branch [
       | in-Some-owed+in_ok-take_own w ↦
           let is = w.in_ok-take_own.ensures in
-          rw w.seat-is (later-on before asked w.take_own.new.seat later (event_later _ _ asked w.take_own.new.seat is.grows is.entered is.count))
+          rw w.seat-is (later-on before asked w.take_own.new.seat later (event_later _ _ asked w.take_own.new.seat is.grows is.event is.count))
       | in_default-owed w ↦ rw w.seat-is later
     ]
 
@@ -36,6 +36,6 @@ returns-clause-handed g c =
     let later = known_later before before asked (later-same before) c.in_default.ensures.begins c.in_default.ensures.seat in
     elim c.match-self.branch [
       | in-Some-owed+in_ok-take_own w ↦
-          rw w.seat-is (rw w.in-Some-owed.is (handed_from opening w.in-Some-owed.committed before asked w.take_own.new.seat later w.in_ok-take_own.ensures.entered))
+          rw w.seat-is (rw w.in-Some-owed.is (handed_from opening w.in-Some-owed.committed before asked w.take_own.new.seat later w.in_ok-take_own.ensures.event))
       | in_default-owed w ↦ rw w.seat-is (rw w.in_default-owed.is tt)
     ]

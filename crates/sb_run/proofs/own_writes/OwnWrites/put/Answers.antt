@@ -13,7 +13,7 @@ returns-in-Ok-clause-stored g c =
       version = is.version;
       passes = (
         c.keep.ensures.owed ∙ c.in_ok-hand_in.ensures.owed,
-        taken_from g.S.NodeTag.opening c.args.seat.now c.hand_in.new.seat kept c.in-Ok.receipt c.take_own.new.seat c.hand_in.ensures.later (is.entered, is.shown),
+        taken_from g.S.NodeTag.opening c.args.seat.now c.hand_in.new.seat kept c.in-Ok.receipt c.take_own.new.seat c.hand_in.ensures.later (is.event, is.shown),
       );
     }
 
@@ -37,7 +37,7 @@ returns-in-Err-clause-later g c =
 
 pub returns-in-Ok-clause-handed : goal.returns-in-Ok-clause-handed
 returns-in-Ok-clause-handed g c =
-    handed_on g.S.NodeTag.opening c.args.seat.now c.args.self.now.owed c.hand_in.new.seat c.take_own.new.seat (event_called _ _ c.hand_in.new.seat c.take_own.new.seat c.in-Ok.ensures.entered)
+    handed_on g.S.NodeTag.opening c.args.seat.now c.args.self.now.owed c.hand_in.new.seat c.take_own.new.seat (event_called _ _ c.hand_in.new.seat c.take_own.new.seat c.in-Ok.ensures.event)
     c.in_ok-hand_in.ensures.handed
 
 pub returns-in-Err-clause-handed : goal.returns-in-Err-clause-handed
