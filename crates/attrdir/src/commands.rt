@@ -1,5 +1,5 @@
 //! The commands, their options and words.
-use crate::help;
+use crate::{help, release};
 use clap::{Arg, ArgAction, Command, value_parser};
 use std::alloc::{AllocError, Global};
 
@@ -601,7 +601,7 @@ pub(crate) fn command<'a>(
     fallback: Option<&'a str>,
 ) -> Result<Command<'a>, AllocError> {
     let mut command = Command::new(alloc, "attrdir")
-        .version("0.1.0")
+        .version(release::VERSION)
         .about("A directory of the attributes of nodes")
         .after_help(help::EXAMPLE)
         .subcommand_required(true);

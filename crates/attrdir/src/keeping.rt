@@ -18,8 +18,8 @@ fn place_order(one: &Row, other: &Row) -> Ordering
     owners.then(one.key().bytes().cmp(other.key().bytes()))
 }
 
-/// Whether the node has shown a row of the same owner and of the same version or a later one. It holds all writes of an owner up to the
-/// last one that it holds, so where it has no such row it knows that this one is gone.
+/// Whether the node has shown a row of the same owner and of the same version or a later one. If it has, and has no row of this key, then
+/// the owner removed the key, or wrote it again and the node does not hold that write yet.
 fn is_known(shown: &[Pair], row: &Row) -> bool
     ensures { result ≡ spec.is_known shown.now row.now }
 {

@@ -18,6 +18,7 @@ mod metrics_file;
 mod one_row;
 mod owners;
 mod pausing;
+mod release;
 mod serving;
 mod watching;
 mod words;

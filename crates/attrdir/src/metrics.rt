@@ -1,4 +1,5 @@
 //! What a node tells of itself, in the text format of Prometheus.
+use crate::release::{FRAMES, LOGS, RELEASE};
 use sb_run::{LastRound, Peer, Status};
 use sb_types::{KEYS_MOST, Name, OWNERS_MOST};
 use std::{fmt, str};
@@ -17,6 +18,12 @@ struct Metric {
     kind: &'static str,
     help: &'static str,
 }
+
+const BUILD_INFO: Metric = Metric {
+    name: "attrdir_build_info",
+    kind: "gauge",
+    help: "1, with the release, the version of frames and the form of logs.",
+};
 
 const ROUNDS: Metric = Metric {
     name: "attrdir_rounds_total",
@@ -192,6 +199,14 @@ impl Metrics<'_, '_> {
         writeln!(f, "{}{{node=\"{}\"}} {value}", metric.name, self.name)
     }
 
+    /// Which release the node runs.
+    fn write_release<W: fmt::Write>(&self, f: &mut fmt::Formatter<W>) -> fmt::Result {
+        write_head(f, &BUILD_INFO)?;
+        let (name, node) = (BUILD_INFO.name, self.name);
+        write!(f, "{name}{{node=\"{node}\",version=\"{RELEASE}\",")?;
+        writeln!(f, "frames=\"{FRAMES}\",logs=\"{LOGS}\"}} 1")
+    }
+
     /// What the node has done since it started, and whether it takes writes.
     fn write_course<W: fmt::Write>(&self, f: &mut fmt::Formatter<W>) -> fmt::Result {
         let status = self.status;
@@ -252,6 +267,7 @@ impl Metrics<'_, '_> {
 
 impl fmt::Display for Metrics<'_, '_> {
     fn fmt<W: fmt::Write>(&self, f: &mut fmt::Formatter<W>) -> fmt::Result {
+        self.write_release(f)?;
         self.write_course(f)?;
         self.write_room(f)?;
         self.write_owners(f)?;

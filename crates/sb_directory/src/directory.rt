@@ -49,7 +49,8 @@ struct Identity<S: DirectoryTag> {
 /// the node, its watches and the writing of its views; reading from a seat that has entered takes none. A call from a seat is
 /// answered as the node is after its history up to then. That begins with what the seat has seen and with its last call, and is
 /// the seat's last call from then on. Of the histories of two seats one begins the other, since each is a `HistoryPrefix` of the
-/// one history; and once the directory is closed, that has as many events as the calls of all seats made.
+/// one history; and once the directory is closed, that has as many events as the calls of all seats made. The example at the top of the
+/// crate makes a directory, writes from a seat, reads what it wrote, and closes the directory.
 #[derive(Drop)]
 pub struct Directory<S: DirectoryTag, R: Wait + Drop> {
     locked: Mutex<Locked<S, R>>,

@@ -14,6 +14,26 @@ use std::sync::ledger::{Book, Share};
 /// A seat: one thread's place at a directory. The thread reads from it, without the lock, and passes it to the calls that take the
 /// lock. Contracts see it as two prefixes of the history and a number: `seen`, whose view its reader entered last or was let see
 /// by a call; `last_call`, the history as it was when its last call was answered; `events`, how many its calls made.
+///
+/// ```rust
+/// /// The version of the row that an owner has under a key, if there is one, and the seat, which has left again.
+/// fn version_in_view<S: NodeTag>(
+///     seat: ReaderSeat<S>,
+///     owner: &Name,
+///     key: &Key,
+/// ) -> (ReaderSeat<S>, Option<u64>) {
+///     match seat.enter() {
+///         Ok(entered) => {
+///             let version = match entered.snapshot().get(owner, key) {
+///                 Some((_, version)) => Some(version),
+///                 None => None,
+///             };
+///             (entered.leave(), version)
+///         }
+///         Err(seat) => (seat, None),
+///     }
+/// }
+/// ```
 #[derive(Drop)]
 pub struct ReaderSeat<S: NodeTag> {
     reader: Reader<S>,

@@ -26,6 +26,23 @@ use std::marker::Model;
 /// A log in a database: each key's last write is a row of it, and a write is one statement that commits by itself. A floor
 /// is raised by two: one says it, and the other takes the rows of removals out. Beside the database it keeps the same
 /// writes in memory, so that a write or a floor is tested without reading.
+///
+/// ```rust
+/// /// Writes a flag in the log that a database keeps, and gives the version of the write. An empty database gets a new log.
+/// fn put_in_database<S: Alter + Drop>(alloc: Global, conn: Connection<S>) -> Result<u64, Fault> {
+///     let (owner, cluster) = (Name::read(b"a")?, Name::read(b"c1")?);
+///     let mut log = match SqlLog::open(alloc, conn, owner, cluster, VERSION_MOST) {
+///         Ok(log) => log,
+///         Err((fault, _)) => return Err(fault),
+///     };
+///     let committed = log.put(&Key::read(b"web/up")?, &Slot::Set(Value::flag(true)))?;
+///     let version = committed.entry().version();
+///     log.close()?;
+///     Ok(version)
+/// }
+/// ```
+///
+/// `Connection::open(rt, "a.log")` of `sqlite` gives a connection to a file.
 #[derive(Drop)]
 pub struct SqlLog<S: Alter> {
     owner: Name,

@@ -4,7 +4,43 @@ use crate::status::Status;
 use sb_session::Ended;
 use sb_types::Fault;
 
-/// Is told what a running node meets. The thread that met it makes the call, and waits until that is back.
+/// Receives the events of a running node. Each method runs on the thread where the event happened, and that thread waits until it
+/// returns.
+///
+/// ```rust
+/// /// Notes that a node listens.
+/// #[derive(Drop)]
+/// struct Listening {
+///     is_noted: AtomicBool,
+/// }
+///
+/// impl Observer for Listening {
+///     fn listening(&self) {
+///         self.is_noted.store(true, Ordering::SeqCst);
+///     }
+///
+///     fn dialed(&self, _peer: &str, _ended: &Result<Ended, Fault>) {}
+///
+///     fn conflict(&self, _version: u64) {}
+/// }
+///
+/// /// Runs the node of a log until it has made its rounds, and gives whether it listened.
+/// fn run_and_note<
+///     R: Runtime + Net<Listener = TcpListener, Stream = TcpStream>,
+///     L: WriteLog + Drop,
+/// >(
+///     rt: &R,
+///     alloc: Global,
+///     config: NodeConfig,
+///     log: L,
+/// ) -> Result<bool, Fault> {
+///     let observer = Listening {
+///         is_noted: AtomicBool::new(false),
+///     };
+///     run_node(rt, alloc, config, log, &observer)?;
+///     Ok(observer.is_noted.load(Ordering::SeqCst))
+/// }
+/// ```
 pub trait Observer {
     /// Both sockets are bound, and nothing is served or dialed yet. It is told once.
     fn listening(&self);

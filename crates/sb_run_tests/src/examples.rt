@@ -1,12 +1,14 @@
-//! The example that stands at the top of the crate of the running node.
-use crate::making::{name, settings};
+//! The examples in the docs of the running node.
+use crate::making::{name, new_log, settings};
 use crate::running::{pace, paths_of, ran_of};
 use crate::{got, same};
-use sb_log::PlainLog;
-use sb_run::{Nobody, NodeConfig, Pace, Paths, Ran, Runtime, run_node};
+use sb_log::{PlainLog, WriteLog};
+use sb_run::{Nobody, NodeConfig, Observer, Pace, Paths, Ran, Runtime, run_node};
+use sb_session::Ended;
 use sb_types::{Fault, Name, Settings};
 use std::alloc::Global;
 use std::net::{Net, TcpListener, TcpStream};
+use std::sync::atomic::{AtomicBool, Ordering};
 
 /// Runs the node of this name over a log in memory, until it has made its rounds.
 fn run_in_memory<R: Runtime + Net<Listener = TcpListener, Stream = TcpStream>>(
@@ -39,4 +41,46 @@ fn example_of_sb_run(rt: HostRuntime) {
     );
     let whole = ran_of(2, 0, 0);
     same(&rt, &got(&rt, ran), &whole);
+}
+
+/// Notes that a node listens.
+#[derive(Drop)]
+struct Listening {
+    is_noted: AtomicBool,
+}
+
+impl Observer for Listening {
+    fn listening(&self) {
+        self.is_noted.store(true, Ordering::SeqCst);
+    }
+
+    fn dialed(&self, _peer: &str, _ended: &Result<Ended, Fault>) {}
+
+    fn conflict(&self, _version: u64) {}
+}
+
+/// Runs the node of a log until it has made its rounds, and gives whether it listened.
+fn run_and_note<R: Runtime + Net<Listener = TcpListener, Stream = TcpStream>, L: WriteLog + Drop>(
+    rt: &R,
+    alloc: Global,
+    config: NodeConfig,
+    log: L,
+) -> Result<bool, Fault> {
+    let observer = Listening {
+        is_noted: AtomicBool::new(false),
+    };
+    run_node(rt, alloc, config, log, &observer)?;
+    Ok(observer.is_noted.load(Ordering::SeqCst))
+}
+
+#[test]
+fn example_of_an_observer(rt: HostRuntime) {
+    let alloc = rt.alloc();
+    let config = NodeConfig {
+        settings: settings(&rt, 3),
+        paths: paths_of("observed.sock", "observed.control", &[]),
+        pace: pace(1, 0),
+    };
+    let listened = run_and_note(&rt, alloc, config, new_log(&rt, alloc, b"a"));
+    same(&rt, &got(&rt, listened), &true);
 }

@@ -123,8 +123,8 @@ fn as_many_peers_are_served_at_once_as_there_are_workers(rt: HostRuntime) {
     same(&rt, &got(&rt, ran), &whole);
 }
 
-/// The owner of this letter, whose name is as long as may be. Of 25 such owners and the node a, a digest of at most 1,024 bytes tells
-/// of a and of the first 23: with its end at the next name it has 997 bytes.
+/// The owner of this letter, whose name has the most bytes. Of 25 such owners and the node a, a digest of at most 1,024 bytes has a pair
+/// for a and for each of the first 16: with its end at the next name it has 982 bytes.
 fn owner(rt: &impl Abort, letter: u8) -> Name {
     let mut text = [b'o'; 32];
     text[31] = letter;

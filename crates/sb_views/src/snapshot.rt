@@ -12,6 +12,17 @@ use sb_types::{Key, Name, Prefix, Value};
 use std::marker::Model;
 
 /// What is shown of a node, lent while its reader reads. No call takes memory.
+///
+/// ```rust
+/// /// How many rows an owner has under the keys that begin with a prefix.
+/// fn count_under(snapshot: &Snapshot<'_>, owner: Name, prefix: Prefix) -> usize {
+///     let mut count: usize = 0;
+///     for _row in snapshot.rows(Some(owner), prefix) {
+///         count = count.saturating_add(1);
+///     }
+///     count
+/// }
+/// ```
 #[derive(Drop)]
 pub struct Snapshot<'a> {
     view: &'a NodeView,

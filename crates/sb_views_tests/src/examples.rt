@@ -1,4 +1,4 @@
-//! The examples that stand at the top of the crates of watches, of lines, of views, of questions and of listings.
+//! The examples in the docs of watches, of lines, of views, of questions and of listings.
 use crate::making::{key, name, prefix, rows_of};
 use crate::reading::{Look, read};
 use crate::views::all_written;
@@ -67,6 +67,20 @@ fn version_under<S: NodeTag>(entered: &Entered<S>, owner: &Name, key: &Key) -> (
     (version, snapshot.upto(owner))
 }
 
+/// How many rows an owner has under the keys that begin with a prefix.
+fn count_under(snapshot: &Snapshot<'_>, owner: Name, prefix: Prefix) -> usize {
+    let mut count: usize = 0;
+    for _row in snapshot.rows(Some(owner), prefix) {
+        count = count.saturating_add(1);
+    }
+    count
+}
+
+pub(crate) fn rows_are_counted(rt: &impl Abort, snapshot: &Snapshot<'_>) {
+    let count = count_under(snapshot, name(rt, b"b"), prefix(rt, b"net/"));
+    same(rt, &count, &1);
+}
+
 pub(crate) fn key_is_looked_up<S: NodeTag>(rt: &impl Abort, entered: &Entered<S>) {
     let found = version_under(entered, &name(rt, b"a"), &key(rt, b"net/a"));
     same(rt, &found, &(Some(2), 4));
@@ -118,6 +132,12 @@ fn example_of_sb_listing(rt: HostRuntime) {
 fn example_of_sb_views(rt: HostRuntime) {
     let holdings = all_written(&rt, rt.alloc());
     read(&rt, rt.alloc(), &holdings, Look::Key);
+}
+
+#[test]
+fn example_of_a_snapshot(rt: HostRuntime) {
+    let holdings = all_written(&rt, rt.alloc());
+    read(&rt, rt.alloc(), &holdings, Look::Count);
 }
 
 #[test]

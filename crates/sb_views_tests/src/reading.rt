@@ -1,7 +1,7 @@
 //! A reader of a node whose views were just made, and what it is to find.
 ghost use Rattle.std.specs.Prelude.{◌≡◌};
 
-use crate::examples::{key_is_looked_up, rows_are_printed};
+use crate::examples::{key_is_looked_up, rows_are_counted, rows_are_printed};
 use crate::floors::beyond_is_shown;
 use crate::pages::{pages_follow, rows_are_answered};
 use crate::views::live_is_shown;
@@ -26,6 +26,8 @@ pub(crate) enum Look {
     Following,
     /// What stands under one key.
     Key,
+    /// How many rows there are under a prefix.
+    Count,
     /// The rows under a prefix, which are printed.
     Print,
 }
@@ -63,6 +65,7 @@ fn look_at<S: NodeTag>(rt: &impl Abort, alloc: Global, entered: &Entered<S>, loo
         Look::Pages => rows_are_answered(rt, alloc, &snapshot),
         Look::Following => pages_follow(rt, alloc, &snapshot),
         Look::Key => key_is_looked_up(rt, entered),
+        Look::Count => rows_are_counted(rt, &snapshot),
         Look::Print => rows_are_printed(rt, alloc, &snapshot),
     }
 }
