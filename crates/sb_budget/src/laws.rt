@@ -32,8 +32,8 @@ pub fn available_by_owner()
         is_named owner owners ≡ false → of_owner owner (available covers number owners) ≡ [] }
 {}
 
-/// A block of a cut is honest in this case: what is offered of its owner is what a table has above a number, and the
-/// table holds the owner's writes.
+/// Suppose a table holds an owner's writes, and the owner's items are what the table has above a number. Then the
+/// owner's block of a cut is honest.
 pub fn cuts_are_honest()
     ensures honest { (writes : List Write) (t : Table) (number budget : ℕ) (items : List Item) (delta : List Block) (b : Block) →
         IsTable t → Holds writes t → IsCut budget items delta → Stands delta b → of_owner b.owner items ≡ items_of b.owner t number →
