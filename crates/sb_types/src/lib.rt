@@ -18,7 +18,8 @@
 //! - A fault has another text. Tests refuse it.
 //! - `Debug` prints another text. Nothing refuses it.
 //! - `addr`, `text`, `from_words` or `copy` reports `NoMemory` without need, for a valid address or text. Tests run
-//!   each such call with ample memory, and compare exact answers. Clauses refuse it for weights, flags and tombstones.
+//!   each such call with ample memory, and compare exact answers. Clauses refuse it for weights, for flags, and for
+//!   tombstones (the markers of removed keys).
 //! - A vector takes more room than it needs, or a call takes longer than it should. Nothing refuses it; `attrdir_bench`
 //!   measures.
 #![tactic(auto)]

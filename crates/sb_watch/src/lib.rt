@@ -24,7 +24,7 @@
 //!
 //! - `Hub::add` reports `NoMemory` without need. Tests run it with ample memory, and once at full size. They compare
 //!   exact answers. `push`, `take` and `drop_watch` cannot: their results have no such case.
-//! - The ring of a watch takes more room than it needs, or a call takes longer than it should. Nothing refuses it;
+//! - The list of watches takes more room than it needs, or a call takes longer than it should. Nothing refuses it;
 //!   `attrdir_bench` measures.
 //! - `Debug` prints another text. Nothing refuses it.
 //!
