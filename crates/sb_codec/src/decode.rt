@@ -95,9 +95,9 @@ fn read(alloc: Global, payload: &[u8]) -> Result<Message, Fault>
 /// Reads the message that all bytes of the payload spell. Its faults, in this order:
 ///
 /// - `UnknownKind(byte)`: the first byte is not a kind. It is 0 for an empty payload. This takes no memory.
-/// - `Malformed(kind)`: no message of this kind is spelled so.
+/// - `Malformed(kind)`: the bytes spell no message of this kind.
 /// - `NoMemory`: only a digest, a delta, a page of rows or a put takes memory. This is the only fault of a payload that
-///   spells a message. A malformed payload of these kinds may end so too.
+///   spells a message. A malformed payload of these kinds may have it too.
 pub fn decode_payload(alloc: Global, payload: &[u8]) -> Result<Message, Fault>
     // What is read is spelled so, and nothing else is.
     ensures found { IfOk result (λ message. Spells payload.now message) }
@@ -114,8 +114,8 @@ pub fn decode_payload(alloc: Global, payload: &[u8]) -> Result<Message, Fault>
     read(alloc, payload)
 }
 
-/// Reads the message that a payload in shared bytes spells. It lets go of the bytes: no message keeps any of them. It
-/// has the faults of `decode_payload`.
+/// Reads the message that a payload in shared bytes spells. It drops the bytes: no message keeps any of them. It has the
+/// faults of `decode_payload`.
 pub fn decode_shared(alloc: Global, payload: Bytes) -> Result<Message, Fault>
     // What is read is spelled so, and nothing else is.
     ensures found { IfOk result (λ message. Spells payload message) }

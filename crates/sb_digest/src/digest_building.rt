@@ -10,8 +10,8 @@ use sb_holdings::Holdings;
 use sb_types::{BUDGET_LEAST, BUDGET_MOST, Fault, Name};
 use std::alloc::Global;
 
-/// Makes the digest of the owners that are held from a name on, or of all owners if no name is given. The own name is
-/// among them. `want` says whether a digest is wanted in answer.
+/// Makes the digest of the owners that are held from a name on, or of all owners if no name is given. The own name
+/// counts as an owner that is held. `want` is whether a digest is wanted in answer.
 ///
 /// The digest has as many owners as fit in a frame of `budget` bytes, 1,024 to 65,536, and at least one if there is
 /// one. If not all fit, its range ends before the first that does not, and the next digest begins there. Otherwise its

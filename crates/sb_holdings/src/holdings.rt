@@ -199,8 +199,8 @@ impl Holdings {
     /// to the block's, the tombstones up to that go, and the entries above the held version are entered.
     ///
     /// Otherwise a stage takes the block, and the entries above the stage's progress are entered. It is the stage of
-    /// the block's floor. If there is no stage of that floor or a higher one, and the block begins after 0, it is a new
-    /// stage. Once the stage's progress has reached its floor, the stage replaces the table.
+    /// the block's floor, if the block continues that. It is a new stage, if the block begins after 0 and there is no
+    /// stage of that floor or a higher one. Once the stage's progress has reached its floor, it replaces the table.
     ///
     /// `Taken`, `TooManyKeys` and `NoMemory` contain how many entries were entered. If there was no memory for the
     /// swap, `NoMemory` counts all of them: the table stays, and the stage is gone. If there was none for a new owner's

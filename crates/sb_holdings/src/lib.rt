@@ -2,8 +2,8 @@
 //!
 //! Holdings are a node's own table and the tables of other owners. A table takes a block only if the block begins at or
 //! below the held version, so no version is skipped, and none goes back. If the block's purge floor is above the held
-//! version, the block goes to a stage instead. Once the stage has reached its floor, it replaces the table. Digests and
-//! deltas are made from holdings. `sb_node` changes them.
+//! version, the block goes to a stage instead. Once the stage has reached its floor, it replaces the table. `sb_node`
+//! enters writes and blocks into holdings, and makes digests and deltas from them.
 //!
 //! ```rust
 //! /// How `b` ends a block of the first write of `a`, and then the same block once more.

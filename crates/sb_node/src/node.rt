@@ -201,8 +201,8 @@ impl NodeCore {
         }
     }
 
-    /// Returns the digest of the owners from a name on, or of all owners if no name is given. The own name is among
-    /// them. `want` says whether a digest is wanted in answer. The digest has as many owners as fit in a frame of the
+    /// Returns the digest of the owners from a name on, or of all owners if no name is given. The own name counts as an
+    /// owner. `want` is whether a digest is wanted in answer. The digest has as many owners as fit in a frame of the
     /// settings' budget, and at least one if there is one. The only fault is `NoMemory`.
     pub fn digest(&self, from: Option<Name>, want: bool) -> Result<Digest, Fault>
         ensures longest { IfOk result (IsLongestFront self.now.settings.budget want from (pairs_from from self.now.node.held)) }

@@ -145,7 +145,7 @@ impl Block {
         &self.owner
     }
 
-    /// Returns the purge floor. Tombstones at or below it may be missing here, and whoever takes the block drops its
+    /// Returns the purge floor. The block leaves out tombstones at or below it, and whoever takes the block drops its
     /// own. It is 0 if the owner never purged.
     pub fn floor(&self) -> u64
         ensures floor { result ≡ self.now.floor }

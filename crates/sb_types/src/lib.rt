@@ -2,6 +2,7 @@
 //!
 //! Each type keeps its limits: a value that exists is within them, so no code above has to test it again. Contracts see
 //! each value as plain data: the records of `specs/`.
+//!
 //! ```rust
 //! /// What an owner wrote under a key, with the version of the write.
 //! fn entry_of_words(alloc: Global) -> Result<Entry, Fault> {

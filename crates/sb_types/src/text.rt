@@ -39,6 +39,7 @@ fn has_key_bytes(text: &[u8]) -> bool
 
 /// A name of 1 to 32 of the bytes `a-z`, `0-9` and `-`. It names a cluster, or a node, which is also the owner of the
 /// writes that it makes. Names are ordered by their bytes.
+///
 /// ```
 /// let name = Name::read(b"node-7")?;
 /// assert_eq!(rt; name.bytes(), b"node-7".as_slice());
