@@ -1,7 +1,7 @@
-//! The order that sends of every owner the first entry, then of every owner the second, and so on.
+//! The order that sends the first entry of every owner, then the second of every owner, and so on.
 //!
-//! `Breadth` is one of the two orders of `sb_budget`. No owner waits for another to be sent whole, so a peer soon holds a part
-//! of each. A node takes it where its settings say so.
+//! `Breadth` is one of the two orders of `sb_budget`. No owner waits until another was sent completely, so a peer soon
+//! holds a part of each. A node with `Order::Breadth` in its settings uses it, which is the default of the program.
 //!
 //! ```rust
 //! /// The owner and the version of each entry that an empty peer lacks, in the order of breadth.
@@ -15,6 +15,12 @@
 //!     Ok(versions)
 //! }
 //! ```
+//!
+//! # What no contract refuses
+//!
+//! - `delta` reports `NoMemory` without need, even for a peer that lacks nothing. Tests run it with ample memory, and
+//!   once at full size. They compare exact answers. A clause refuses it for `arrange`, which takes no memory.
+//! - A call takes longer than it should. Nothing refuses it; `attrdir_bench` measures.
 #![tactic(auto)]
 
 ghost use Rattle.std.specs.Prelude.{◌≡◌, ◌≤◌, ◌<◌, length, IfOk, IfErr, IsOk, IsPermutation, IsSorted};
@@ -29,7 +35,7 @@ use sb_holdings::Holdings;
 use sb_types::{BUDGET_LEAST, BUDGET_MOST, Delta, Fault};
 use std::alloc::Global;
 
-/// By rank, and of equal rank by the owner's name.
+/// Sorts by rank; items of equal rank by the owner's name.
 ///
 /// The test `example_of_breadth` runs these lines, for holdings with two writes of `a` and one of `b`:
 /// ```

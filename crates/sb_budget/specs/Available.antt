@@ -9,11 +9,11 @@ use Rattle.sb_budget.specs.declared.offered.Offered.{Offered}
 use Rattle.sb_budget.specs.Offers as offers
 use Rattle.sb_budget.specs.Orders.{offered_by, version_of}
 
--- the number of an owner for a sender that holds this table
+-- the number of an owner for a sender that has this table
 abbrev pub number_for : Digest → List ℕ → Table → ℕ
 number_for digest owner table = number_in digest owner table.floor
 
--- of each owner that the digest covers, what is held above its number
+-- for each owner that the digest covers, what is held above its number
 abbrev pub available_for : Held → Digest → List offers.Item
 available_for held digest = offers.available (covers digest) (number_for digest) (entries held.owners)
 
@@ -25,7 +25,7 @@ rank_of offered o = count_by (λ x. nat_lt (version_of x) (version_of o)) (offer
 abbrev pub count_of : List Offered → Offered → ℕ
 count_of offered o = length (offered_by o.owner offered)
 
--- each item tells its rank and its owner's count
+-- each item has its rank and its owner's count
 abbrev pub AreRanked : List Offered → Type 0
 AreRanked offered = All (λ o. (o.rank ≡ rank_of offered o) × (o.count ≡ count_of offered o)) offered
 
@@ -34,12 +34,12 @@ abbrev pub ranked_item : ℕ → List ℕ → Table → ℕ → ℕ → Option E
 ranked_item rank owner t number count entry =
     record { owner = owner; floor = t.floor; after = number; upto = t.held; rank = rank; count = count; entry = entry }
 
--- entries of it with the ranks from one on
+-- these entries of it, with ranks from this one on
 abbrev pub ranked_from : ℕ → List ℕ → Table → ℕ → ℕ → List Entry → List Offered
 ranked_from rank owner t number count [] = []
 ranked_from rank owner t number count (e ∷ es) = ranked_item rank owner t number count (Some e) ∷ ranked_from (rank + 1) owner t number count es
 
--- an item for each entry; where there is none, the news alone of how far the owner is held, where that is above the number
+-- an item for each entry; if there are none, only the news of how far the owner is held, if that is above the number
 abbrev pub ranked_these : List ℕ → Table → ℕ → List Entry → List Offered
 ranked_these owner t number [] = if nat_lt number t.held then ranked_item 0 owner t number 1 None ∷ [] else []
 ranked_these owner t number (e ∷ es) = ranked_from 0 owner t number (length (e ∷ es)) (e ∷ es)

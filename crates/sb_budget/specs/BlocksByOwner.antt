@@ -1,4 +1,4 @@
--- Items gathered by owner, each owner's as the block that they would make.
+-- Items collected by owner, each owner's as the block that they will make.
 use Rattle.std.specs.Prelude.{◌≡◌, ℕ, ◌+◌, true, nat_eq, if◌then◌else◌, List, [], ◌++◌, length, slice_index_or, slice_set, insert, Option, Result, Ok, Err}
 use Rattle.std.specs.List.{cons_option}
 use Rattle.std.specs.Option.{option_map_or}
@@ -10,15 +10,15 @@ use Rattle.sb_types.specs.Limits.{are_block_parts}
 use Rattle.sb_budget.specs.declared.head.Head.{Head}
 use Rattle.sb_budget.specs.Offers.{Item}
 
--- the item under a head
+-- the item with this head
 abbrev pub item_at : Head → Option Entry → Item
 item_at h entry = record { owner = h.owner; floor = h.floor; after = h.after; upto = h.upto; entry = entry }
 
--- the block under a head
+-- the block with this head
 abbrev pub block_at : Head → List Entry → Block
 block_at h entries = record { owner = h.owner; floor = h.floor; after = h.after; upto = h.upto; entries = entries }
 
--- the block with an item's entry, where that has one
+-- the block with an item's entry added, if the item has one
 abbrev pub grown : Block → Option Entry → Block
 grown b entry = record { owner = b.owner; floor = b.floor; after = b.after; upto = b.upto; entries = b.entries ++ cons_option entry [] }
 
@@ -26,7 +26,7 @@ grown b entry = record { owner = b.owner; floor = b.floor; after = b.after; upto
 abbrev pub begun : Item → Block
 begun item = record { owner = item.owner; floor = item.floor; after = item.after; upto = item.upto; entries = cons_option item.entry [] }
 
--- the item put to its owner's block where that stands, or into a new one where it would come
+-- the item added to its owner's block if that is there, or in a new block at the place of the owner
 abbrev pub placed : Result ℕ ℕ → Item → List Block → List Block
 placed (Ok i) item blocks = slice_set blocks i (grown (slice_index_or blocks i (begun item)) item.entry)
 placed (Err i) item blocks = insert blocks i (begun item)
@@ -36,14 +36,14 @@ abbrev pub cost_of : Item → Result ℕ ℕ → ℕ
 cost_of item (Ok i) = option_map_or (λ e. entry_length e) item.entry 0
 cost_of item (Err i) = 27 + length item.owner + option_map_or (λ e. entry_length e) item.entry 0
 
--- the block up to its last entry, as it is where items of its owner are left behind
+-- the block up to its last entry, as it is if items of its owner are left out
 abbrev pub lowered : Block → Block
 lowered b = record { owner = b.owner; floor = b.floor; after = b.after; upto = last_version b.after b.entries; entries = b.entries }
 
--- so where it is this owner's
+-- the same if the block is this owner's
 abbrev pub lowered_of : List ℕ → Block → Block
 lowered_of owner b = if pointwise nat_eq b.owner owner then lowered b else b
 
--- its entries are those that a block of its bounds can have
+-- its entries are such as a block of its bounds can have
 abbrev pub HasParts : Block → Type 0
 HasParts b = are_block_parts b.after b.upto b.entries ≡ true

@@ -13,7 +13,7 @@ use Rattle.sb_budget.specs.Offers.{of_owner}
 use Rattle.sb_budget.specs.Cut.{items_of_all, IsCut, CanCut}
 use Rattle.sb_budget.specs.Available.{available_for, AreRanked}
 
--- what is still to be sent of one owner: the next item, and those behind it
+-- what is still to be sent of one owner: the next item, and those after it
 pub record Part : Type 0 where
   pub next : Offered
   pub later : List Offered
@@ -25,7 +25,7 @@ part_of (o ∷ os) = Some (record { next = o; later = os })
 abbrev pub all_of : List Part → List Offered
 all_of parts = flat_map (λ p. p.next ∷ p.later) parts
 
--- the later item is the owner's next
+-- the later item is the owner's next one
 abbrev pub IsNextAfter : Offered → Offered → Type 0
 IsNextAfter x y = (y.owner ≡ x.owner) × (y.rank ≡ x.rank + 1) × (y.count ≡ x.count) × (version_of x < version_of y)
 
@@ -42,7 +42,8 @@ pub record AreParts (held : Held) (digest : Digest) (parts : List Part) : Type 0
   pub chains : All (λ p. (p.next.rank ≡ 0) × IsChain p.next p.later) parts
   pub names : AllPairs (λ p q. slice_cmp nat_cmp p.next.owner q.next.owner ≡ Less) parts
 
--- of a listing of all that is available, in which each owner's items stand as they are available, the longest front within the budget
+-- the longest prefix within the budget, of a listing of all that is available, in which each owner's items keep their
+-- order
 pub record IsDeltaBy (IsListing : List Offered → Type 0) (budget : ℕ) (held : Held) (digest : Digest) (blocks : List Block) : Type 0 where
   pub offered : List Offered
   pub available : items_of_all offered ≡ available_for held digest

@@ -5,7 +5,7 @@ use Rattle.sb_budget.specs.declared.turns.Turns.{Turns}
 use Rattle.sb_budget.specs.declared.turns.Turns.TheVariants as turns
 use Rattle.sb_budget.specs.Parts.{Part, all_of}
 
--- the owners after one of them had its turn: what it has left stands before the others or behind them
+-- the owners after one of them had its turn: what it has left goes before the others, or after them
 abbrev pub rejoined : Turns → List Part → List Offered → List Part
 rejoined turn others [] = others
 rejoined turns.First others (o ∷ os) = record { next = o; later = os } ∷ others
@@ -17,6 +17,6 @@ first_turns turn zero owners = []
 first_turns turn (suc n) [] = []
 first_turns turn (suc n) (p ∷ others) = p.next ∷ first_turns turn n (rejoined turn others p.later)
 
--- all of them: each turn takes the next item of the owner that stands first
+-- all of them: each turn takes the next item of the first owner
 abbrev pub in_turns : Turns → List Part → List Offered
 in_turns turn owners = first_turns turn (length (all_of owners)) owners

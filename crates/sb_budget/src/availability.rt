@@ -29,7 +29,7 @@ fn offer(
     }
 }
 
-/// Adds each entry that the table has above a version, of which there are so many.
+/// Adds each entry that the table has above a version. `count` is how many these are.
 fn offer_entries(
     alloc: Global,
     offered: &mut Vec<Offered>,
@@ -60,7 +60,7 @@ fn offer_entries(
     Ok(())
 }
 
-/// Adds the news alone of how far the table is held, where that is above a version.
+/// Adds only the news of how far the table is held, if that is above a version.
 fn offer_news(
     offered: &mut Vec<Offered>,
     owner: Name,
@@ -85,9 +85,9 @@ fn offer_news(
     Ok(())
 }
 
-/// What a peer that sent this digest lacks: of each owner that the digest covers, the entries above its number there, in
-/// ascending version; where there is none, and the owner is held above that number, one item without an entry.
-/// `NoMemory`.
+/// Returns what a peer that sent this digest lacks. For each owner that the digest covers, these are the entries above
+/// its number there, in ascending version. If there are none, but the owner is held above that number, it is one item
+/// without an entry. The only fault is `NoMemory`.
 pub fn available(alloc: Global, holdings: &Holdings, digest: &Digest) -> Result<Vec<Offered>, Fault>
     ensures items { IfOk result (λ offered. items_of_all offered.items ≡ available_for holdings.now digest.now) }
     ensures ranks { IfOk result (λ offered. AreRanked offered.items) }

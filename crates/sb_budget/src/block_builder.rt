@@ -1,4 +1,4 @@
-//! Entries gathered by owner, as the blocks that they are to make.
+//! Entries collected by owner, as the blocks that they will make.
 ghost use Rattle.std.specs.Prelude.{◌≡◌, ◌≤◌, ◌+◌, true, length, OnOk, OnErr, IfOk, IfErr};
 ghost use Rattle.std.specs.Option.{option_map_or};
 ghost use Rattle.std.specs.Ordering.{nat_cmp};
@@ -17,10 +17,10 @@ use sb_types::{
 use std::alloc::Global;
 use std::marker::Model;
 
-/// The bytes of a block before its entries, the text of its owner's name not counted.
+/// The bytes of a block before its entries, without the text of its owner's name.
 const BLOCK_START: u64 = BYTE_LENGTH + 3 * NUMBER_LENGTH + COUNT_LENGTH;
 
-/// The entries of one owner that are to make its block.
+/// The entries of one owner that will make its block.
 #[derive(Drop)]
 pub(crate) struct BlockBuilder {
     head: Head,
@@ -38,7 +38,7 @@ impl Model for BlockBuilder {
 }
 
 impl BlockBuilder {
-    /// The block of an owner's first item. `NoMemory`.
+    /// Makes the block of an owner's first item. The only fault is `NoMemory`.
     fn new(alloc: Global, head: Head, entry: Option<Entry>) -> Result<BlockBuilder, Fault>
         ensures begun { IfOk result (λ g. g ≡ begun (item_at head entry)) }
         ensures memory { IfErr result (λ fault. fault ≡ Fault.NoMemory) }
@@ -67,14 +67,14 @@ impl BlockBuilder {
         Ok(())
     }
 
-    /// Ends it at its last entry, since other items of its owner are left behind.
+    /// Ends the block at its last entry, because other items of its owner are left out.
     pub(crate) fn lower(&mut self)
         ensures { self.new ≡ lowered self.old }
     {
         self.head.upto = last_of(self.head.after, &self.entries);
     }
 
-    /// The block of these entries, which have to be such as a block can have. It takes no memory.
+    /// Makes the block of these entries, which have to be such as a block can have. It takes no memory.
     pub(crate) fn into_block(self) -> Block
         requires { HasParts self }
         ensures { result ≡ self }
@@ -84,7 +84,7 @@ impl BlockBuilder {
     }
 }
 
-/// The version of the last entry, or the one before where there is none.
+/// Returns the version of the last entry, or the one before if there is no entry.
 fn last_of(before: u64, entries: &[Entry]) -> u64
     ensures { result ≡ last_version before entries.now }
 {
@@ -94,7 +94,7 @@ fn last_of(before: u64, entries: &[Entry]) -> u64
     }
 }
 
-/// Where the owner's entries stand among these, or else where they would come.
+/// Returns the place of the owner's entries; or, if there are none, the place at which they would be inserted.
 pub(crate) fn place_of(gathered: &[BlockBuilder], owner: Name) -> Result<usize, usize>
     ensures bound { IsSearchInRange result (length gathered.now) }
     ensures place { IsBinarySearchResult (λ b. slice_cmp nat_cmp b.owner owner) gathered.now result }
@@ -102,7 +102,7 @@ pub(crate) fn place_of(gathered: &[BlockBuilder], owner: Name) -> Result<usize, 
     gathered.binary_search_by_key(&owner, |group| group.owner())
 }
 
-/// How many bytes an entry takes, where there is one.
+/// Returns how many bytes an entry takes, or 0 if there is no entry.
 fn length_of(entry: &Option<Entry>) -> u64
     ensures length { result ≡ option_map_or (λ e. entry_length e) entry.now 0 }
     ensures most { result ≤ ENTRY_LENGTH_MOST }
@@ -113,7 +113,7 @@ fn length_of(entry: &Option<Entry>) -> u64
     }
 }
 
-/// How many bytes an item adds to a delta, by where its owner's entries stand in it.
+/// Returns how many bytes an item adds to a delta, by whether its owner's entries are already there.
 pub(crate) fn cost(head: &Head, entry: &Option<Entry>, place: Result<usize, usize>) -> u64
     ensures cost { result ≡ cost_of (item_at head.now entry.now) place }
     ensures owner { is_name head.now.owner ≡ true }
@@ -127,7 +127,7 @@ pub(crate) fn cost(head: &Head, entry: &Option<Entry>, place: Result<usize, usiz
     }
 }
 
-/// Puts the item to its owner's. `NoMemory`.
+/// Adds the item to its owner's block. The only fault is `NoMemory`, which leaves the blocks as they were.
 pub(crate) fn put(
     alloc: Global,
     gathered: &mut Vec<BlockBuilder>,

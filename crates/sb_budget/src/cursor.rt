@@ -15,17 +15,17 @@ use sb_types::{Entry, Fault, Name};
 use std::alloc::Global;
 use std::marker::Model;
 
-/// Where a cursor stands: at an entry, with those behind it.
+/// A place of a cursor: at an entry, with the entries after it.
 #[derive(Drop)]
 struct Place<'a> {
-    /// How many of the owner's offered entries come before.
+    /// How many of the owner's offered entries come before this one.
     rank: u64,
     entry: &'a Entry,
     later: After<'a>,
 }
 
 impl<'a> Place<'a> {
-    /// At the first entry of a table above a version, where there is one.
+    /// Returns the place at the first entry of a table above a version, if there is one.
     fn first(table: &'a Table, after: u64) -> Option<Place<'a>>
         ensures { option_map (λ p. record { rank = p.rank; entry = p.entry.now; later = p.later }) result ≡ first_place (above after table.now.entries) }
     {
@@ -39,15 +39,15 @@ impl<'a> Place<'a> {
     }
 }
 
-/// What is still to be sent of one owner: its next item, and those after it. Its first entry is not looked up before
-/// it is asked for, so that an owner of which nothing is sent costs no search.
+/// What is still to be sent of one owner: its next item, and the items after it. It looks up its first entry only when
+/// that is asked for. So an owner costs no search if nothing of it is sent.
 #[derive(Drop)]
 pub struct Cursor<'a> {
     owner: &'a Name,
     table: &'a Table,
     /// The version above which the peer lacks the owner's writes.
     after: u64,
-    /// Before the first entry, and where there is no entry, none.
+    /// `None` before the first entry was looked up, and if there is no entry.
     place: Option<Place<'a>>,
 }
 
@@ -65,7 +65,7 @@ impl<'a> Model for Cursor<'a> {
     ghost invariant = { λ c. IsPlace c.table.now c.after (option_map (λ p. record { rank = p.rank; entry = p.entry.now; later = p.later }) c.place) × (length (above c.after c.table.now.entries) < 2 ^ 63) };
 }
 
-/// How many entries a table has above a version. It takes a step for each, but where that is all of them.
+/// Returns how many entries a table has above a version. It takes one step for each, except above version 0.
 fn count_above(table: &Table, after: u64) -> u64
     ensures { result ≡ length (above after table.now.entries) }
 {
@@ -76,7 +76,7 @@ fn count_above(table: &Table, after: u64) -> u64
 }
 
 impl<'a> Cursor<'a> {
-    /// What is offered of a table that is held above a version, where it is.
+    /// Makes the cursor of what is offered of a table above a version, if the table is held above that.
     fn new(owner: &'a Name, table: &'a Table, after: u64) -> Option<Cursor<'a>>
         ensures part { result ≡ part_of (ranked_of owner.now table.now after) }
     {
@@ -91,7 +91,7 @@ impl<'a> Cursor<'a> {
         })
     }
 
-    /// Whose items they are.
+    /// Returns whose items they are.
     pub fn owner(&self) -> Name
         ensures owner { result ≡ self.now.next.owner }
         ensures later { All (λ item. item.owner ≡ self.now.next.owner) self.now.later }
@@ -99,7 +99,7 @@ impl<'a> Cursor<'a> {
         *self.owner
     }
 
-    /// What the owner's block tells beside entries.
+    /// Returns what the owner's block contains besides entries.
     pub fn head(&self) -> Head
         ensures head { result ≡ head_of self.now.next }
     {
@@ -111,15 +111,15 @@ impl<'a> Cursor<'a> {
         }
     }
 
-    /// How many items the owner has, those that it has passed too. It takes a step for each, but where the peer holds
-    /// nothing of the owner.
+    /// Returns how many items the owner has, those included that the cursor has passed. It takes one step for each,
+    /// unless the peer holds nothing of the owner.
     pub fn count(&self) -> u64
         ensures count { result ≡ self.now.next.count }
     {
         count_above(self.table, self.after).max(1)
     }
 
-    /// The next item's entry, where it has one, and what is to be sent after it, where there is something.
+    /// Returns the next item's entry, if it has one, and the cursor of the items after it, if there are any.
     pub fn split_first(self) -> (Option<&'a Entry>, Option<Cursor<'a>>)
         ensures entry { option_copied result.0 ≡ self.entry.next.entry }
         ensures later { result.1 ≡ part_of self.entry.later }
@@ -162,8 +162,8 @@ impl<'a> Cursor<'a> {
     }
 }
 
-/// Of each owner that the digest covers, and of which the peer lacks something, what it lacks, in ascending order of
-/// the owners' names. It takes memory as the owners, and no entry is copied. `NoMemory`.
+/// Returns a cursor of what the peer lacks, for each owner that the digest covers, if that is anything. The owners'
+/// names ascend. It takes memory in proportion to the owners, and copies no entry. The only fault is `NoMemory`.
 pub fn cursors<'a>(
     alloc: Global,
     holdings: &'a Holdings,

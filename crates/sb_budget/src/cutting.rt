@@ -1,4 +1,4 @@
-//! The longest front of what is offered that fits a budget, as a delta.
+//! The longest prefix of what is offered that fits a budget, as a delta.
 ghost use Rattle.std.specs.Prelude.{◌≡◌, ◌≤◌, ◌<◌, ℕ, List, [], ◌∷◌, ◌++◌, length, IfOk, IfErr};
 ghost use Rattle.sb_budget.specs.Cut.{item_of, items_of_all, IsCut, CanCut};
 ghost use Rattle.sb_budget.specs.Making.{IsTaking};
@@ -9,7 +9,7 @@ use crate::offered::Offered;
 use sb_types::{BUDGET_LEAST, BUDGET_MOST, Delta, Fault};
 use std::alloc::Global;
 
-/// Takes the next item, or leaves it where one before was left or it does not fit; and tells whether it was left.
+/// Takes the next item, unless an item before it was left out or it does not fit. Returns whether it was left out.
 fn take(making: &mut DeltaBuilder, is_full: bool, item: Offered) -> Result<bool, Fault>
     ensures taking { IfOk result (λ full. (budget : ℕ) (items : List Item) → IsTaking budget items is_full making.old → IsTaking budget (items ++ item_of item ∷ []) full making.new) }
     ensures memory { IfErr result (λ fault. fault ≡ Fault.NoMemory) }
@@ -26,10 +26,11 @@ fn take(making: &mut DeltaBuilder, is_full: bool, item: Offered) -> Result<bool,
     Ok(true)
 }
 
-/// The longest front of the items whose delta has a frame of at most `budget` bytes, 1,024 to 65,536, as that
-/// delta. The items have to be as an order leaves them, each owner's in ascending version. The block of an owner of whom
-/// nothing is left reaches as far as the sender holds it, and another as far as its last entry. The delta has at least one
-/// block where there is an item; the other items are dropped. `NoMemory`.
+/// Returns the delta of the longest prefix of the items that fits a frame of `budget` bytes, 1,024 to 65,536. It drops
+/// the other items. The items have to be as an order leaves them: each owner's in ascending version.
+///
+/// If no items of an owner are left out, its block reaches up to the sender's held version, and otherwise up to its
+/// last entry. If there is an item, the delta has at least one block. The only fault is `NoMemory`.
 ///
 /// The test `example_of_cut` runs these lines, for holdings with one write of a flag under the key `up`, by `a`:
 /// ```

@@ -1,4 +1,4 @@
-//! A delta in the making, within a budget.
+//! A delta that is being made, within a budget.
 ghost use Rattle.std.specs.Prelude.{◌≡◌, ◌≤◌, ℕ, List, [], false, All, OnErr, IfOk, IfErr};
 ghost use Rattle.sb_budget.specs.Offers.{Item};
 ghost use Rattle.sb_budget.specs.BlocksByOwner.{item_at, HasParts};
@@ -17,7 +17,7 @@ use std::marker::Model;
 /// The length of the frame of a delta without blocks.
 const EMPTY_FRAME: u64 = HEADER_LENGTH + BYTE_LENGTH + COUNT_LENGTH;
 
-/// A delta in the making: the items that were taken so far, by owner, and the bytes that its frame has left.
+/// A delta that is being made: the items taken so far, by owner, and the bytes that are left in its frame.
 #[derive(Drop)]
 pub struct DeltaBuilder {
     alloc: Global,
@@ -38,7 +38,7 @@ impl Model for DeltaBuilder {
 }
 
 impl DeltaBuilder {
-    /// A delta without items, whose frame may have `budget` bytes, 1,024 to 65,536.
+    /// Makes a delta without items, whose frame may have `budget` bytes, 1,024 to 65,536. It takes no memory.
     pub fn new(alloc: Global, budget: u64) -> DeltaBuilder
         requires least { BUDGET_LEAST ≤ budget }
         requires most { budget ≤ BUDGET_MOST }
@@ -51,9 +51,9 @@ impl DeltaBuilder {
         }
     }
 
-    /// Takes the next item of what is sent, where the frame has room for it, and tells whether it had. Its owner's block
-    /// has the head of the owner's first item. The first item of all always has room. `NoMemory`. An item that is not taken
-    /// is dropped, and leaves the delta as it was.
+    /// Takes the next item if the frame has room for it, and returns whether it had. The first item of all always has
+    /// room. The block of an owner has the head of the owner's first item. The only fault is `NoMemory`. An item that
+    /// is not taken is dropped, and the delta stays as it was.
     pub fn push(&mut self, head: Head, entry: Option<Entry>) -> Result<bool, Fault>
         ensures next { IfOk result (λ taken. (budget : ℕ) (front : List Item) → IsFrontOf budget front self.old → AfterNext budget front (item_at head entry) taken self.new) }
         ensures left { IfOk result (λ taken. taken ≡ false → self.new ≡ self.old) }
@@ -69,7 +69,7 @@ impl DeltaBuilder {
         Ok(true)
     }
 
-    /// Leaves items of the owner behind, so that its block ends at its last entry. It takes no memory.
+    /// Leaves out items of the owner, so that its block ends at its last entry. It takes no memory.
     pub fn leave(&mut self, owner: Name)
         ensures { self.new ≡ left_by owner self.old }
     {
@@ -78,7 +78,8 @@ impl DeltaBuilder {
         }
     }
 
-    /// The delta of the items that were taken, whose blocks have to be such as a delta can have. `NoMemory`.
+    /// Makes the delta of the items that were taken. Its blocks have to be such as a delta can have. The only fault is
+    /// `NoMemory`.
     pub fn finish(self) -> Result<Delta, Fault>
         requires blocks { All HasParts self.blocks }
         requires fits { delta_frame_length self.blocks ≤ BUDGET_MOST }
@@ -89,7 +90,7 @@ impl DeltaBuilder {
     }
 }
 
-/// A block of each owner's entries.
+/// Makes the block of each owner's entries. The only fault is `NoMemory`.
 fn blocks_from(alloc: Global, gathered: Vec<BlockBuilder>) -> Result<Vec<Block>, Fault>
     requires { All HasParts gathered.items }
     ensures blocks { IfOk result (λ blocks. blocks.items ≡ gathered.items) }

@@ -1,15 +1,15 @@
-//! What a block tells beside its entries.
+//! What a block contains besides its entries.
 use sb_types::Name;
 
-/// What a block tells beside its entries, and an item of it beside its own.
+/// What a block contains besides its entries, and an item besides its entry.
 #[derive(Clone, Copy, Debug)]
 pub struct Head {
     /// Whose writes they are.
     pub owner: Name,
-    /// The floor of the sender's table: removals up to it may have gone.
+    /// The purge floor of the sender's table: tombstones (markers of removed keys) up to it may be gone.
     pub floor: u64,
     /// The version above which the peer lacks the owner's writes.
     pub after: u64,
-    /// The version up to which the sender holds them.
+    /// The sender's held version of the owner.
     pub upto: u64,
 }

@@ -11,7 +11,7 @@ ghost use Rattle.sb_budget.specs.Available.{number_for, available_for};
 ghost use Rattle.sb_budget.specs.Offers.{Item, of_owner, items_of, block_of, is_named, are_named_once, available};
 ghost use Rattle.sb_budget.specs.Cut.{IsCut};
 
-/// Each block of a front of what is offered of a table that holds is honest.
+/// If a table holds what its owner wrote, each block of a prefix of what is offered of it is honest.
 pub fn offers_are_honest()
     ensures offered { (writes : List Write) (t : Table) (number : ℕ) (owner : List ℕ) (front rest : List Item) (first : Item) →
         IsTable t → Holds writes t → of_owner owner (front ++ rest) ≡ items_of owner t number → Stands (of_owner owner front) first →
@@ -21,7 +21,7 @@ pub fn offers_are_honest()
         IsBlock (block_of owner front rest) }
 {}
 
-/// Of each covered owner exactly its items are available, in ascending version, and of others none.
+/// Of each covered owner just its items are available, in ascending version. Of other owners none is.
 pub fn available_by_owner()
     ensures covered { (covers : List ℕ → Bool) (number : List ℕ → Table → ℕ) (owners : List (List ℕ × Holder)) (p : List ℕ × Holder) →
         are_named_once owners ≡ true → Stands owners p → covers p.0 ≡ true →
@@ -32,8 +32,8 @@ pub fn available_by_owner()
         is_named owner owners ≡ false → of_owner owner (available covers number owners) ≡ [] }
 {}
 
-/// Each block of a cut is honest where what is offered of its owner is what a table that holds has above a
-/// number.
+/// Suppose a table holds an owner's writes, and the owner's items are what the table has above a number. Then the
+/// owner's block of a cut is honest.
 pub fn cuts_are_honest()
     ensures honest { (writes : List Write) (t : Table) (number budget : ℕ) (items : List Item) (delta : List Block) (b : Block) →
         IsTable t → Holds writes t → IsCut budget items delta → Stands delta b → of_owner b.owner items ≡ items_of b.owner t number →
@@ -43,8 +43,8 @@ pub fn cuts_are_honest()
         IsBlock b }
 {}
 
-/// In answer to a digest, of an owner that it covers all that is held above its number is available, and of
-/// another nothing.
+/// In answer to a digest, all that is held above an owner's number is available if the digest covers the owner.
+/// Otherwise nothing of the owner is.
 pub fn available_by_number()
     ensures covered { (held : Held) (digest : Digest) (owner : List ℕ) →
         covers digest owner ≡ true →

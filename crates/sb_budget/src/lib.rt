@@ -1,8 +1,9 @@
-//! What a node offers a peer, the orders in which it is sent, and the part that fits a budget.
+//! What a node offers to a peer, the order in which it sends that, and the part that fits a budget.
 //!
-//! `available` gives what a peer lacks, by its digest, and `cut` makes the longest delta of it that fits a budget. A
-//! `DeltaOrder` says what is sent first. The crate stands on `sb_holdings` and `sb_digest`; `sb_breadth` and `sb_depth` are the
-//! two orders.
+//! `available` lists what a peer lacks, by its digest. `cut` makes the longest delta of a list that fits a budget. A
+//! `DeltaOrder` decides what is sent first. A running node makes no list: its order calls `cursors` and `cut_in_turns`,
+//! which make the same delta owner by owner. The crate uses `sb_holdings` and `sb_digest`. `sb_breadth` and `sb_depth`
+//! are the two orders.
 //!
 //! ```rust
 //! /// The holdings of the node `a`, which made one write.
@@ -20,6 +21,15 @@
 //!     cut(alloc, offered, BUDGET_LEAST)
 //! }
 //! ```
+//!
+//! # What no contract refuses
+//!
+//! - `available`, `cut`, `cursors`, `cut_in_turns`, or `push` or `finish` of a `DeltaBuilder`, reports `NoMemory`
+//!   without need, even for a peer that lacks nothing. Tests run each with ample memory, and once at full size. They
+//!   compare exact answers.
+//! - A cursor looks up entries although nothing of its owner is sent, or a call takes more time or room than it should.
+//!   Nothing refuses it; `attrdir_bench` measures.
+//! - `Debug` prints another text. Nothing refuses it.
 #![tactic(auto)]
 
 mod availability;

@@ -6,28 +6,29 @@ ghost use Rattle.sb_budget.specs.Orders.{version_of};
 use crate::head::Head;
 use sb_types::{Entry, Name};
 
-/// An entry that a peer lacks, or the news alone of how far its sender holds an owner, with what an order and a cut
-/// have to know of it.
+/// An item that a peer lacks, with what an order and a cut have to know of it. The item is an entry, or only the news
+/// of how far the sender holds an owner.
 #[derive(Debug, Drop)]
 pub struct Offered {
     /// Whose write it is.
     pub owner: Name,
-    /// The floor of the sender's table: removals up to it may have gone.
+    /// The purge floor of the sender's table: tombstones (markers of removed keys) up to it may be gone.
     pub floor: u64,
     /// The version above which the peer lacks the owner's writes.
     pub after: u64,
-    /// The version up to which the sender holds them.
+    /// The sender's held version of the owner.
     pub upto: u64,
     /// How many of the owner's items have a smaller version.
     pub rank: u64,
     /// How many items the owner has.
     pub count: u64,
-    /// The write; none where the sender holds none above `after`, and yet holds the owner further: the owner's one item.
+    /// The write. It is `None` if the sender has no entry above `after`, but holds the owner further. Then this is the
+    /// owner's only item.
     pub entry: Option<Entry>,
 }
 
 impl Offered {
-    /// The version of the entry, or, where there is none, the one up to which the sender holds the owner.
+    /// Returns the version of the entry; or, if there is no entry, the sender's held version of the owner.
     pub fn version(&self) -> u64
         ensures version { result ≡ version_of self.now }
     {
@@ -37,7 +38,7 @@ impl Offered {
         }
     }
 
-    /// What its block tells beside entries.
+    /// Returns what its block contains besides entries.
     pub fn head(&self) -> Head
         ensures head { result ≡ head_of self.now }
     {

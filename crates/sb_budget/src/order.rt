@@ -1,4 +1,4 @@
-//! What each order of what is offered promises, and what follows of any.
+//! What each order of what is offered promises, and what follows for any order.
 ghost use Rattle.std.specs.Prelude.{◌≡◌, ◌≤◌, ◌<◌, ℕ, List, length, IfOk, IfErr, IsPermutation};
 ghost use Rattle.sb_budget.specs.declared.offered.Offered.{Offered};
 ghost use Rattle.sb_budget.specs.Available.{available_for};
@@ -13,19 +13,22 @@ use sb_holdings::Holdings;
 use sb_types::{BUDGET_LEAST, BUDGET_MOST, Delta, Fault};
 use std::alloc::Global;
 
-/// An order in which what is offered is sent.
+/// An order in which what is offered is sent. It sorts no owner's items: it keeps them as they are in the list. If a
+/// list had one version of an owner twice, no such order would exist.
 pub trait DeltaOrder {
-    /// The items in this order: each once, and each owner's in ascending version. They have to stand as `available` lists
-    /// them. `NoMemory`.
+    /// Returns the items in this order: each once, and each owner's items in ascending version. In the given list, each
+    /// owner's items have to be as `available` lists them. The only fault is `NoMemory`.
     fn arrange(&self, alloc: Global, items: Vec<Offered>) -> Result<Vec<Offered>, Fault>
         requires { IsOffer items.items }
         ensures each_once { IfOk result (λ ordered. IsPermutation items.items ordered.items) }
         ensures ascending { IfOk result (λ ordered. AscendsByOwner ordered.items) }
         ensures memory { IfErr result (λ fault. fault ≡ Fault.NoMemory) };
 
-    /// What a peer that sent this digest lacks, in this order: the longest front of it within a frame of at most
-    /// `budget` bytes, 1,024 to 65,536, and at least one entry where one is lacking. It is what `cut` makes of some
-    /// order of what `available` lists, without a list of what does not fit; each order says of which. `NoMemory`.
+    /// Returns what a peer that sent this digest lacks, in this order. It is the longest prefix that fits a frame of
+    /// `budget` bytes, 1,024 to 65,536. If the peer lacks anything, the delta has at least one block.
+    ///
+    /// The delta is what `cut` makes of some order of what `available` lists, without a list of what does not fit. Each
+    /// order says which one. The only fault is `NoMemory`.
     fn delta(
         &self,
         alloc: Global,
@@ -40,7 +43,7 @@ pub trait DeltaOrder {
         ensures memory { IfErr result (λ fault. fault ≡ Fault.NoMemory) };
 }
 
-/// Whatever the order, each owner's items come as they stood in the list: so what can be cut still can.
+/// In any order, each owner's items come as they were in the list. So what could be cut still can.
 pub fn orders_keep_owners()
     ensures owners { (offered ordered : List Offered) (owner : List ℕ) →
         IsOffer offered → IsPermutation offered ordered → AscendsByOwner ordered →

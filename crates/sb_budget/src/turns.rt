@@ -1,4 +1,4 @@
-//! The cut of what owners offer in turns, of which nothing is listed that does not fit.
+//! The cut of what owners offer in turns, without a list of what does not fit.
 ghost use Rattle.std.specs.Prelude.{◌≡◌, ◌≤◌, ◌<◌, ◌++◌, ℕ, List, length, All, IfOk, IfErr};
 ghost use Rattle.std.specs.Option.{option_copied};
 ghost use Rattle.sb_budget.specs.Offers.{Item};
@@ -12,16 +12,16 @@ use sb_types::{BUDGET_LEAST, BUDGET_MOST, Delta, Entry, Fault};
 use std::alloc::Global;
 use std::collections::VecDeque;
 
-/// Where an owner stands whose next item was taken, while it has more.
+/// The place of an owner after its next item was taken, if it has more.
 #[derive(Clone, Copy, Debug)]
 pub enum Turns {
-    /// Before all others: it comes to its end first.
+    /// Before all others: all its items come first.
     First,
-    /// Behind all others.
+    /// After all others.
     Last,
 }
 
-/// A copy of the entry, where there is one. `NoMemory`.
+/// Returns a copy of the entry, if there is one. The only fault is `NoMemory`.
 fn copied(alloc: Global, entry: Option<&Entry>) -> Result<Option<Entry>, Fault>
     ensures copied { IfOk result (λ copy. copy ≡ option_copied entry.entry) }
     ensures memory { IfErr result (λ fault. fault ≡ Fault.NoMemory) }
@@ -32,7 +32,7 @@ fn copied(alloc: Global, entry: Option<&Entry>) -> Result<Option<Entry>, Fault>
     }
 }
 
-/// Leaves behind all that these owners have.
+/// Leaves out all that these owners have.
 fn leave_all(making: &mut DeltaBuilder, mut owners: VecDeque<Cursor<'_>>)
     ensures left { (front left : List Item) → making.old.blocks ≡ blocks_of front left →
         making.new.blocks ≡ blocks_of front (left ++ items_of_all (all_of owners.entry.items)) }
@@ -42,9 +42,11 @@ fn leave_all(making: &mut DeltaBuilder, mut owners: VecDeque<Cursor<'_>>)
     }
 }
 
-/// The longest front of what the owners offer in turns, from the first on, whose delta has a frame of at most
-/// `budget` bytes, 1,024 to 65,536, as that delta, with at least one entry where there is an owner. The owners have to be those of
-/// `cursors`, in whatever order. It takes memory and steps as the owners and what is sent. `NoMemory`.
+/// Returns the delta of the longest prefix of what the owners offer in turns, beginning with the first owner. Its frame
+/// has at most `budget` bytes, 1,024 to 65,536. If there is an owner, the delta has at least one block.
+///
+/// The owners have to be those of `cursors`, in any order. It takes memory and steps in proportion to the owners and to
+/// what is sent. The only fault is `NoMemory`.
 pub fn cut_in_turns(
     alloc: Global,
     owners: Vec<Cursor<'_>>,

@@ -1,4 +1,4 @@
--- The shortest items of counted lists: each is read back out of as few bytes.
+-- The shortest items of counted lists: each is read back from as few bytes.
 use Rattle.std.specs.Prelude.{◌≡◌, refl, false, [], ◌∷◌, length, Some}
 use Rattle.sb_types.specs.declared.entry.Slot.TheVariants.{Removed}
 use Rattle.sb_types.specs.Value.{Flag}

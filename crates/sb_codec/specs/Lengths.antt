@@ -7,6 +7,6 @@ use Rattle.sb_codec.specs.Records.{Row}
 abbrev pub row_length : Row → ℕ
 row_length r = 11 + length r.owner + length r.key + value_length r.value
 
--- the kind, whether more follow, the number of rows, and these
+-- the kind, whether more follow, the number of rows, and the rows
 abbrev pub rows_length : List Row → ℕ
 rows_length rows = 4 + sum_by row_length rows

@@ -30,7 +30,7 @@ is_version version = is_between 1 (2 ^ 64 - 1) version
 abbrev pub is_fault_number : ℕ → Bool
 is_fault_number number = is_between 1 FAULT_NUMBER_MOST number
 
--- nothing, or what passes the test
+-- nothing, or something that passes the test
 abbrev pub is_optional : {A : Type 0} → (A → Bool) → Option A → Bool
 is_optional test None = true
 is_optional test (Some x) = test x
@@ -45,12 +45,12 @@ is_ask ask = is_optional is_name ask.owner && is_prefix ask.prefix && is_optiona
 abbrev pub is_row : Row → Bool
 is_row row = is_name row.owner && is_key row.key && is_version row.version && is_value row.value
 
--- each row is behind the one before, by owner and then by key, and the first behind these two
+-- each row is after the one before it, by owner and then by key, and the first is after this owner and key
 abbrev pub are_rows_above : List ℕ → List ℕ → List Row → Bool
 are_rows_above owner key [] = true
 are_rows_above owner key (r ∷ rs) = is_lt (ordering_then (slice_cmp nat_cmp owner r.owner) (slice_cmp nat_cmp key r.key)) && are_rows_above r.owner r.key rs
 
--- rows ascend, and the payload is within its limit (no name is empty, so that each is behind the empty text)
+-- rows ascend, and the payload is within its limit (no name is empty, so each is after the empty text)
 abbrev pub are_page_rows : List Row → Bool
 are_page_rows rows = are_rows_above [] [] rows && nat_le (rows_length rows) PAYLOAD_MOST
 

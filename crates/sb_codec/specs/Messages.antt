@@ -52,7 +52,7 @@ pub record IsSole (payload : List ℕ) (message : Message) : Type 0 where
 abbrev pub is_kind : ℕ → Bool
 is_kind kind = is_between KIND_HELLO KIND_BYE kind || is_between KIND_ASK KIND_REFUSED kind
 
--- a message of such a kind has lists or addresses, which lie in memory of their own
+-- a message of such a kind has lists, addresses or texts, which are kept in allocated memory
 abbrev pub is_kept_in_memory : ℕ → Bool
 is_kept_in_memory kind = kind == KIND_DIGEST || kind == KIND_DELTA || kind == KIND_ROWS || kind == KIND_PUT
 
@@ -82,6 +82,6 @@ message_cases =
 unfoldable pub message_field : Field Message
 message_field = tagged_field message_cases
 
--- the message that is all of the payload, or the fault
+-- the message that all of the payload spells, or the fault
 unfoldable pub reading : List ℕ → Result Message Fault
 reading payload = ok_or (whole message_field payload) (fault_of payload)

@@ -55,7 +55,7 @@ entry_of_parts e = record { key = e.0; version = e.1.0; slot = e.1.1 }
 unfoldable pub entry_field : Field Entry
 entry_field = made_field entry_of_parts (then_field key_field (then_field (where_field (nat_le 1) (number_field w64)) slot_field))
 
--- the owner, the floor, the versions that it begins after and reaches, and the entries
+-- the owner, the purge floor, the versions after and upto, and the entries
 abbrev pub BlockFields : Type 0
 BlockFields = List ℕ × (ℕ × (ℕ × (ℕ × List Entry)))
 
@@ -101,7 +101,7 @@ abbrev pub is_empty_or : (List ℕ → Bool) → List ℕ → Bool
 is_empty_or test [] = true
 is_empty_or test (byte ∷ bytes) = test (byte ∷ bytes)
 
--- a text that passes the test, or the empty one for none
+-- a text that passes the test; or the empty text, which stands for nothing
 unfoldable pub optional_field : (List ℕ → Bool) → Field (Option (List ℕ))
 optional_field test = made_field unless_empty (where_field (is_empty_or test) text_field)
 
@@ -142,7 +142,7 @@ value_cases = (TAG_ADDR, addr_field) ∷ (TAG_WEIGHT, weight_field) ∷ (TAG_FLA
 unfoldable pub value_field : Field Value
 value_field = tagged_field value_cases
 
--- the version of the row is one of a write
+-- the version of the row is that of a write
 abbrev pub is_written : List ℕ × (List ℕ × (ℕ × Value)) → Bool
 is_written r = is_version r.1.1.0
 

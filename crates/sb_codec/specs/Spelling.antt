@@ -25,7 +25,7 @@ text bytes = length bytes ∷ bytes
 abbrev pub long_text : List ℕ → List ℕ
 long_text bytes = number w16 (length bytes) ++ bytes
 
--- how many there are, and each of them
+-- the number of items, and each of them
 abbrev pub list : {A : Type 0} → (A → List ℕ) → List A → List ℕ
 list each items = number w16 (length items) ++ flat_map each items
 
@@ -45,7 +45,7 @@ content (Weight weight) = number w64 weight
 content (Flag set) = flag set
 content (Text bytes) = long_text bytes
 
--- a tag, and what the value holds
+-- a tag, and the content of the value
 abbrev pub value : Value → List ℕ
 value v = tag_of v ∷ content v
 
@@ -65,7 +65,7 @@ hello h = text h.cluster ++ text h.node
 unfoldable pub write : Write → List ℕ
 write w = text w.key ++ slot w.slot
 
--- a text, or the empty one for none
+-- a text; or the empty text, if there is none
 abbrev pub optional : Option (List ℕ) → List ℕ
 optional None = text []
 optional (Some bytes) = text bytes
@@ -76,7 +76,7 @@ pair p = text p.owner ++ (number w64 p.held ++ (number w64 p.floor ++ number w64
 unfoldable pub digest : Digest → List ℕ
 digest d = flag d.want ++ (optional d.from ++ (optional d.until ++ list pair d.pairs))
 
--- an owner and a key, or two empty texts for none
+-- an owner and a key; or two empty texts, if there are none
 abbrev pub place : Option (List ℕ × List ℕ) → List ℕ
 place None = text [] ++ text []
 place (Some p) = text p.0 ++ text p.1

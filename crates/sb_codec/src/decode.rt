@@ -1,4 +1,4 @@
-//! A message out of its payload.
+//! Reads a message from its payload.
 
 ghost use Rattle.std.specs.Prelude.{◌≡◌, ◌↔◌, ℕ, true, IfOk, IfErr, Ok, Err};
 ghost use Rattle.sb_types.specs.Faults.{Gives};
@@ -40,7 +40,7 @@ fn is_kept(kind: u8) -> bool
     matches!(kind, KIND_DIGEST | KIND_DELTA | KIND_ROWS | KIND_PUT)
 }
 
-/// Whether the payload begins with a kind whose messages take memory: that of a digest, a delta, a page of rows or a
+/// Returns whether the payload begins with a kind whose messages take memory: a digest, a delta, a page of rows or a
 /// put.
 pub fn takes_memory(payload: &[u8]) -> bool
     ensures { (result ≡ true) ↔ TakesMemory payload.now }
@@ -92,39 +92,41 @@ fn read(alloc: Global, payload: &[u8]) -> Result<Message, Fault>
     }
 }
 
-/// The message that the payload spells, all of its bytes. `UnknownKind` of the first byte, or of 0 where
-/// there is none, where it begins no kind, which takes no memory; `Malformed` of the kind where no message
-/// is spelled so; `NoMemory`, of a digest, a delta, a page of rows or a put, for which alone a payload that spells
-/// a message is refused.
+/// Reads the message that all bytes of the payload spell. Its faults, in this order:
+///
+/// - `UnknownKind(byte)`: the first byte is not a kind. It is 0 for an empty payload. This takes no memory.
+/// - `Malformed(kind)`: the bytes spell no message of this kind.
+/// - `NoMemory`: only a digest, a delta, a page of rows or a put takes memory. This is the only fault of a payload that
+///   spells a message. A malformed payload of these kinds may have it too.
 pub fn decode_payload(alloc: Global, payload: &[u8]) -> Result<Message, Fault>
     // What is read is spelled so, and nothing else is.
     ensures found { IfOk result (λ message. Spells payload.now message) }
     ensures sole { IfOk result (λ message. IsSole payload.now message) }
-    // What is spelled so is read, unless memory runs out.
+    // What is spelled so is read, unless there is no memory.
     ensures only { (message : Message) → Spells payload.now message → Gives result (Ok message) }
     // Which fault it is.
     ensures exact { Gives result (reading payload.now) }
-    // A kind that is not known is told without memory.
+    // An unknown kind is refused without memory.
     ensures unknown { (kind : ℕ) → fault_of payload.now ≡ Fault.UnknownKind kind → result ≡ Err (Fault.UnknownKind kind) }
-    // Memory is asked for only to keep lists and addresses.
+    // Memory is asked for only to keep lists, addresses and texts.
     ensures memory { result ≡ Err Fault.NoMemory → TakesMemory payload.now }
 {
     read(alloc, payload)
 }
 
-/// The message that a payload in shared bytes spells. It lets go of the bytes: no message keeps any of them. The faults
-/// of `decode_payload`.
+/// Reads the message that a payload in shared bytes spells. It drops the bytes: no message keeps any of them. It has the
+/// faults of `decode_payload`.
 pub fn decode_shared(alloc: Global, payload: Bytes) -> Result<Message, Fault>
     // What is read is spelled so, and nothing else is.
     ensures found { IfOk result (λ message. Spells payload message) }
     ensures sole { IfOk result (λ message. IsSole payload message) }
-    // What is spelled so is read, unless memory runs out.
+    // What is spelled so is read, unless there is no memory.
     ensures only { (message : Message) → Spells payload message → Gives result (Ok message) }
     // Which fault it is.
     ensures exact { Gives result (reading payload) }
-    // A kind that is not known is told without memory.
+    // An unknown kind is refused without memory.
     ensures unknown { (kind : ℕ) → fault_of payload ≡ Fault.UnknownKind kind → result ≡ Err (Fault.UnknownKind kind) }
-    // Memory is asked for only to keep lists and addresses.
+    // Memory is asked for only to keep lists, addresses and texts.
     ensures memory { result ≡ Err Fault.NoMemory → TakesMemory payload }
 {
     decode_payload(alloc, payload.as_slice())

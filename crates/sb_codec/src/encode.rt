@@ -1,4 +1,4 @@
-//! The payload of a message, behind what was written.
+//! Writes the payload of a message after what a buffer contains.
 
 ghost use Rattle.std.specs.Prelude.{◌≡◌, ◌∷◌, ◌++◌, true, IfOk, IfErr, OnOk, OnErr};
 ghost use Rattle.sb_types.specs.Text.{is_name};
@@ -31,7 +31,7 @@ fn write_hello(out: &mut Vec<u8>, hello: &Hello) -> Result<(), AllocError>
     write_text(out, hello.node.bytes())
 }
 
-/// The kind of a message and the flag that follows it.
+/// Writes the kind of a message, and the flag after it.
 #[tactic(auto, using(crate::proofs::Standings::stands_on))]
 fn write_flagged(out: &mut Vec<u8>, kind: u8, set: bool) -> Result<(), AllocError>
     ensures written { OnOk result (out.new.items ≡ out.old.items ++ kind ∷ flag set) }
@@ -41,7 +41,7 @@ fn write_flagged(out: &mut Vec<u8>, kind: u8, set: bool) -> Result<(), AllocErro
     write_flag(out, set)
 }
 
-/// The names between which a digest speaks.
+/// Writes the names between which the digest's range is.
 #[tactic(auto, using(crate::proofs::Standings::stands_on))]
 fn write_range(out: &mut Vec<u8>, from: Option<Name>, until: Option<Name>) -> Result<(), AllocError>
     ensures written { OnOk result (out.new.items ≡ out.old.items ++ (optional from ++ optional until)) }
@@ -52,7 +52,7 @@ fn write_range(out: &mut Vec<u8>, from: Option<Name>, until: Option<Name>) -> Re
     write_optional_name(out, until)
 }
 
-/// The pairs of a digest.
+/// Writes the pairs of a digest.
 fn write_pairs(out: &mut Vec<u8>, digest: &Digest) -> Result<(), AllocError>
     ensures written { OnOk result (out.new.items ≡ out.old.items ++ list pair digest.now.pairs) }
     ensures stands { StandsFirst out.old.items out.new.items }
@@ -90,7 +90,7 @@ fn write_bye(out: &mut Vec<u8>, bye: &Bye) -> Result<(), AllocError>
     write_bytes(out, &[KIND_BYE, bye.reason()])
 }
 
-/// The kind of a message and the name that follows it, where there is one.
+/// Writes the kind of a message, and the name after it, if there is one.
 #[tactic(auto, using(crate::proofs::Standings::stands_on))]
 fn write_named(out: &mut Vec<u8>, kind: u8, name: Option<Name>) -> Result<(), AllocError>
     ensures written { OnOk result (out.new.items ≡ out.old.items ++ kind ∷ optional name) }
@@ -170,8 +170,8 @@ fn write_message(out: &mut Vec<u8>, message: &Message) -> Result<(), AllocError>
     }
 }
 
-/// Writes the one payload that spells the message behind what `out` holds. `NoMemory` is its only fault,
-/// and leaves what `out` holds as it was.
+/// Writes the one payload that spells the message after what is in `out`. The only fault is `NoMemory`, which leaves
+/// what is in `out` as it was. It appends so that a frame is one buffer: its payload is not copied after its header.
 #[tactic(auto, using(crate::proofs::Standings::what_stood))]
 pub fn append_payload(out: &mut Vec<u8>, message: &Message) -> Result<(), Fault>
     ensures written { OnOk result (out.new.items ≡ out.old.items ++ spelling message.now) }
@@ -190,7 +190,7 @@ pub fn append_payload(out: &mut Vec<u8>, message: &Message) -> Result<(), Fault>
     }
 }
 
-/// The one payload that spells the message. `NoMemory` is its only fault.
+/// Returns the one payload that spells the message. The only fault is `NoMemory`.
 pub fn encode_payload(alloc: Global, message: &Message) -> Result<Vec<u8>, Fault>
     ensures found { IfOk result (λ v. Spells v.items message.now) }
     ensures sole { IfOk result (λ v. IsSole v.items message.now) }

@@ -1,4 +1,4 @@
-//! What is left of a payload, read from left to right.
+//! The part of a payload that is not read yet. It is read from left to right.
 
 ghost use Rattle.std.specs.Prelude.{◌≡◌, ◌==◌, ◌*◌, ◌≤◌, [], length, IfOk, IfErr};
 ghost use Rattle.std.specs.Vec.{vec_capacity};
@@ -23,8 +23,7 @@ use sb_types::{
 use std::alloc::Global;
 use std::marker::Model;
 
-/// Room for so many items, and for no more than the bytes could spell, however many are told. `Memory` is
-/// its only refusal.
+/// Takes room for `count` items, and at most for as many as the bytes could spell. The only refusal is `Memory`.
 fn room_for<T: ListItem>(alloc: Global, count: u16, bytes: &[u8]) -> Result<Vec<T>, Refusal>
     ensures items { IfOk result (λ v. v.items ≡ []) }
     ensures within { IfOk result (λ v. T.LEAST * vec_capacity v ≤ length bytes.now) }
@@ -34,7 +33,7 @@ fn room_for<T: ListItem>(alloc: Global, count: u16, bytes: &[u8]) -> Result<Vec<
     Ok(Vec::with_capacity(alloc, most.min(usize::from(count)))?)
 }
 
-/// The bytes that are still to be read. After a refusal they say nothing.
+/// The bytes that are not read yet. After a refusal they have no meaning.
 #[derive(Drop)]
 pub(crate) struct Fields<'a> {
     rest: &'a [u8],
@@ -49,14 +48,14 @@ impl<'a> Model for Fields<'a> {
 }
 
 impl<'a> Fields<'a> {
-    /// All of these bytes are still to be read.
+    /// Makes fields of these bytes. No byte is read yet.
     pub(crate) fn new(rest: &'a [u8]) -> Fields<'a>
         ensures { result ≡ rest.now }
     {
         Fields { rest }
     }
 
-    /// Whether every byte was read.
+    /// Returns whether every byte was read.
     pub(crate) fn is_empty(&self) -> bool
         ensures { result ≡ (length self.now == 0) }
     {

@@ -1,4 +1,4 @@
-//! The length of a message's frame, without the frame.
+//! The length of a message's frame, found without making the frame.
 
 ghost use Rattle.std.specs.Prelude.{◌≡◌, ◌+◌, ◌*◌, ◌≤◌, length};
 ghost use Rattle.sb_types.specs.declared.format.TheConstants.{HEADER_LENGTH};
@@ -82,8 +82,8 @@ pub(crate) fn payload_length(message: &Message) -> u64
     }
 }
 
-/// How many bytes the message's whole frame has, from 7 to 65,536: those of its header and of its one
-/// payload. It takes no memory.
+/// Returns how many bytes the message's whole frame has, from 7 to 65,536: its header and its one payload. It takes no
+/// memory.
 pub fn length(message: &Message) -> u32
     ensures length { result ≡ HEADER_LENGTH + length (spelling message.now) }
     ensures most { result ≤ BUDGET_MOST }

@@ -1,7 +1,8 @@
 //! The one spelling of each message in bytes, and its reading.
 //!
-//! `encode_payload` spells a message, and `decode_payload` reads it. No two messages share a spelling, and bytes that spell
-//! none are refused with a fault. The crate stands on `sb_types` and `sb_digest`; `sb_frames` puts payloads into frames.
+//! `encode_payload` spells a message, and `decode_payload` reads it. Different messages have different spellings, and
+//! bytes that spell no message are refused with a fault. The crate uses `sb_types` and `sb_digest`. `sb_frames` puts
+//! payloads into frames.
 //!
 //! ```rust
 //! /// The payload of the message that ends a session whose rounds are done.
@@ -17,6 +18,18 @@
 //!     }
 //! }
 //! ```
+//!
+//! # What no contract refuses
+//!
+//! - The reader of lists takes its room without `room_for`, which limits it by the bytes that are left. Nothing refuses
+//!   it.
+//! - `decode_payload` reports `NoMemory` for bytes that are not a message. Tests refuse it.
+//! - `encode_payload`, `append_payload` or `decode_payload` reports `NoMemory` without need. `decode_payload` may do so
+//!   even for a Put that removes a key, although that takes no memory. Tests run each with ample memory, and once at
+//!   full size. They compare exact answers.
+//! - A payload has more room than it needs, or a call takes longer than it should. Nothing refuses it; `attrdir_bench`
+//!   measures.
+//! - `Debug` prints another text. Nothing refuses it.
 #![tactic(auto)]
 
 mod decode;

@@ -1,4 +1,4 @@
-//! What counted lists hold.
+//! What counted lists contain.
 
 use crate::fields::Fields;
 use crate::message::Row;
@@ -8,7 +8,7 @@ use sb_digest::Pair;
 use sb_types::{Block, Entry};
 use std::alloc::{AllocError, Global};
 
-/// What a counted list holds.
+/// An item of a counted list.
 pub(crate) trait ListItem: Drop {
     ghost use Rattle.std.specs.Prelude.{◌≡◌, ℕ, ◌<◌, List, [], ◌++◌, length, Some, OnOk};
     ghost use Rattle.sb_codec.specs.Refusal.{Reads};
@@ -21,21 +21,21 @@ pub(crate) trait ListItem: Drop {
 
     ghost LEAST: { ℕ };
 
-    /// The fewest bytes that one takes.
+    /// The fewest bytes that an item takes.
     const LEAST: usize;
 
-    /// Reads the next one. `Malformed` where none is spelled there; `Memory`.
+    /// Reads the next item. Returns `Malformed` if no item is spelled there, and `Memory` if there is no memory.
     fn read(alloc: Global, fields: &mut Fields<'_>) -> Result<Self, Refusal>
         ensures { Reads (λ x. x) (field fields.old) result fields.new };
 
-    /// Writes it behind what was written.
+    /// Writes the item after what is in `out`.
     fn write(&self, out: &mut Vec<u8>) -> Result<(), AllocError>
         ensures written { OnOk result (out.new.items ≡ out.old.items ++ spelling self.now) }
         ensures stands { StandsFirst out.old.items out.new.items };
 
     ghost least: { 0 < LEAST };
 
-    /// One takes no more.
+    /// Some item takes no more.
     ghost reached: { (item : Self) × (field (spelling item) ≡ Some (item, [])) × (length (spelling item) ≡ LEAST) };
 }
 
@@ -52,7 +52,7 @@ impl ListItem for Entry {
 
     ghost LEAST = { 11 };
 
-    // A key of one byte with its length, the version, and the tag of a removal.
+    // A key of one byte with its length, the version, and the tag of a tombstone (the marker of a removed key).
     const LEAST: usize = 11;
 
     ghost least = { lit< tt };
@@ -81,7 +81,7 @@ impl ListItem for Block {
 
     ghost LEAST = { 28 };
 
-    // An owner of one byte with its length, the floor, the versions that it begins after and reaches, and the count.
+    // An owner of one byte with its length, the purge floor, the versions `after` and `upto`, and the count.
     const LEAST: usize = 28;
 
     ghost least = { lit< tt };
@@ -110,7 +110,7 @@ impl ListItem for Pair {
 
     ghost LEAST = { 26 };
 
-    // An owner of one byte with its length, the version held, and the floor and the progress of a stage.
+    // An owner of one byte with its length, the held version, and the floor and the progress of a stage.
     const LEAST: usize = 26;
 
     ghost least = { lit< tt };

@@ -22,7 +22,7 @@ use sb_types::{
     KIND_REFUSED, KIND_ROWS, Write,
 };
 
-/// What one node sends to another, or a control socket and its caller to each other.
+/// A message between two nodes, or between a control socket and its caller.
 ///
 /// ```
 /// let payload = encode_payload(alloc, &Message::Bye(Bye::new(1)?))?;
@@ -34,7 +34,7 @@ use sb_types::{
 /// The test `the_example_of_a_message` runs these lines.
 #[derive(Debug, Drop)]
 pub enum Message {
-    /// Who speaks: the first message of each end.
+    /// Who the sender is: the first message of each end.
     Hello(Hello),
     /// How far the sender holds the writes of owners.
     Digest(Digest),
@@ -55,7 +55,7 @@ pub enum Message {
 }
 
 impl Message {
-    /// The kind of the message: the first byte of its payload.
+    /// Returns the kind of the message, which is the first byte of its payload.
     #[tactic(auto, unfolding(crate::specs::Messages::spelling))]
     pub fn kind(&self) -> u8
         ensures { take 1 (spelling self.now) ≡ result ∷ [] }

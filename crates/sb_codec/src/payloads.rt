@@ -12,8 +12,8 @@ ghost use Rattle.sb_codec.specs.declared.message.Message.TheVariants.{Digest, De
 ghost use Rattle.sb_codec.specs.Fields.{AreBytes};
 ghost use Rattle.sb_codec.specs.Messages.{is_message, spelling, Spells, IsSole, reading};
 
-/// Every message has exactly one payload, of 1 to 65,530 bytes. Bytes are read as a message exactly where
-/// they are its payload.
+/// Every message has exactly one payload, of 1 to 65,530 bytes. Bytes are read as a message exactly if they are its
+/// payload.
 pub fn one_payload_each()
     ensures spelled { (message : Message) → is_message message ≡ true → Spells (spelling message) message }
     ensures sole { (payload : List ℕ) (message : Message) → Spells payload message → IsSole payload message }
@@ -22,8 +22,8 @@ pub fn one_payload_each()
     ensures found { (payload : List ℕ) (message : Message) → AreBytes payload → reading payload ≡ Ok message → Spells payload message }
 {}
 
-/// How many bytes the payload of a delta, of a digest and of a page of rows has, its kind counted. It holds
-/// outside their limits too.
+/// How many bytes the payload of a delta, of a digest and of a page of rows has, its kind included. This holds also if
+/// their limits are broken.
 pub fn payloads_have_these_lengths()
     ensures delta { (blocks : List Block) → length (spelling (Delta blocks)) ≡ delta_length blocks }
     ensures digest { (digest : digests.Digest) → length (spelling (Digest digest)) ≡ digest_length digest }

@@ -3,7 +3,7 @@
 use sb_types::Fault;
 use std::alloc::{AllocError, AllocFailed};
 
-/// Memory ran out, or the bytes spell no such part.
+/// Why a part could not be read: there was no memory, or the bytes spell no such part.
 #[derive(Clone, Copy, Debug, PartialEq, Eq)]
 pub(crate) enum Refusal {
     Memory,

@@ -1,4 +1,4 @@
-//! The parts of a message, written.
+//! Writes the parts of a message.
 
 ghost use Rattle.std.specs.Prelude.{◌≡◌, ◌<◌, ◌^◌, ◌++◌, [], ◌∷◌, length, true, OnOk};
 ghost use Rattle.std.specs.Int.{w16, w64};
@@ -18,7 +18,8 @@ use sb_types::{
 };
 use std::alloc::AllocError;
 
-/// Writes a byte behind what was written. Whatever comes of it, what was written stands; so it is with all that write.
+/// Writes a byte after what is in `out`. Like all functions that write here, it keeps what was there before, even if it
+/// is refused half way.
 #[tactic(auto, using(crate::proofs::Standings::stands_behind, crate::proofs::Standings::stands_still))]
 pub(crate) fn write_byte(out: &mut Vec<u8>, byte: u8) -> Result<(), AllocError>
     ensures written { OnOk result (out.new.items ≡ out.old.items ++ byte ∷ []) }
@@ -127,7 +128,7 @@ pub(crate) fn write_entry(out: &mut Vec<u8>, written: &Entry) -> Result<(), Allo
     write_slot(out, written.slot())
 }
 
-/// What a block has behind its floor.
+/// Writes what a block has after its floor.
 #[tactic(auto, using(crate::proofs::Standings::stands_on))]
 fn write_range(out: &mut Vec<u8>, written: &Block) -> Result<(), AllocError>
     ensures written { OnOk result (out.new.items ≡ out.old.items ++ (number w64 written.now.after ++ (number w64 written.now.upto ++ list entry written.now.entries))) }
@@ -185,7 +186,7 @@ pub(crate) fn write_place(out: &mut Vec<u8>, after: Option<(Name, Key)>) -> Resu
     write_text(out, key.bytes())
 }
 
-/// What a pair has behind the version held.
+/// Writes what a pair has after its held version.
 #[tactic(auto, using(crate::proofs::Standings::stands_on))]
 fn write_stage(out: &mut Vec<u8>, written: &Pair) -> Result<(), AllocError>
     ensures written { OnOk result (out.new.items ≡ out.old.items ++ (number w64 written.now.floor ++ number w64 written.now.progress)) }
@@ -205,7 +206,7 @@ pub(crate) fn write_pair(out: &mut Vec<u8>, written: &Pair) -> Result<(), AllocE
     write_stage(out, written)
 }
 
-/// What a row has behind its owner.
+/// Writes what a row has after its owner.
 #[tactic(auto, using(crate::proofs::Standings::stands_on))]
 fn write_under_key(out: &mut Vec<u8>, written: &Row) -> Result<(), AllocError>
     ensures written { OnOk result (out.new.items ≡ out.old.items ++ (text written.now.key ++ (number w64 written.now.version ++ value written.now.value))) }

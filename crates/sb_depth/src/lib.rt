@@ -1,7 +1,7 @@
-//! The order that sends one owner whole before the next, the owner with most to send first.
+//! The order that sends one owner completely before the next. The owner with the most to send comes first.
 //!
-//! `Depth` is one of the two orders of `sb_budget`. A peer soon holds an owner whole, and the other owners wait. A node takes
-//! it where its settings say so.
+//! `Depth` is one of the two orders of `sb_budget`. A peer soon holds one owner completely, and the other owners wait.
+//! A node with `Order::Depth` in its settings uses it.
 //!
 //! ```rust
 //! /// The owner and the version of each entry that an empty peer lacks, in the order of depth.
@@ -15,6 +15,12 @@
 //!     Ok(versions)
 //! }
 //! ```
+//!
+//! # What no contract refuses
+//!
+//! - `delta` reports `NoMemory` without need, even for a peer that lacks nothing. Tests run it with ample memory, and
+//!   once at full size. They compare exact answers. A clause refuses it for `arrange`, which takes no memory.
+//! - A call takes longer than it should. Nothing refuses it; `attrdir_bench` measures.
 #![tactic(auto)]
 
 ghost use Rattle.std.specs.Prelude.{◌≡◌, ◌≤◌, ◌<◌, length, IfOk, IfErr, IsOk, IsPermutation, IsSorted};
@@ -30,7 +36,7 @@ use sb_types::{BUDGET_LEAST, BUDGET_MOST, Delta, Fault};
 use std::alloc::Global;
 use std::cmp::Reverse;
 
-/// By count, the greatest first; of equal count by the owner's name; of one owner by version.
+/// Sorts by count, the greatest first; items of equal count by the owner's name; items of one owner by version.
 ///
 /// The test `example_of_depth` runs these lines, for holdings with two writes of `a` and one of `b`:
 /// ```

@@ -1,4 +1,4 @@
--- The digest that tells most of a list of pairs within a budget.
+-- The digest that has the most pairs of a list within a budget.
 use Rattle.std.specs.Prelude.{◌≡◌, ℕ, ◌+◌, ◌≤◌, ◌<◌, Bool, true, ◌&&◌, nat_le, List, [], ◌∷◌, ◌++◌, length, take, slice_get, Option, None}
 use Rattle.std.specs.List.{list_all}
 use Rattle.std.specs.Option.{option_map}
@@ -9,11 +9,12 @@ use Rattle.sb_digest.specs.Digests.{Pair, Digest, digest_of}
 use Rattle.sb_digest.specs.Lengths.{digest_frame_length}
 use Rattle.sb_digest.specs.Limits.{are_pairs_above, is_bound, is_pair}
 
--- the first pairs, up to the name of the next; of all pairs there is no next, and the range has no end
+-- the digest of the first pairs, which ends before the next pair's owner; if there is no next pair, its range has no
+-- end
 abbrev pub digest_of_first : Bool → Option (List ℕ) → List Pair → ℕ → Digest
 digest_of_first want from pairs count = digest_of want from (option_map (λ pair. pair.owner) (slice_get pairs count)) (take count pairs)
 
--- of the fronts whose frames are within the budget, the one with the most pairs
+-- of the prefixes of the pairs whose frames are within the budget, the longest
 pub record IsLongestFront (budget : ℕ) (want : Bool) (from : Option (List ℕ)) (pairs : List Pair) (d : Digest) : Type 0 where
   pub count : ℕ
   pub most : count ≤ length pairs
@@ -30,16 +31,16 @@ pub record DigestBuilder : Type 0 where
 abbrev pub with_pair : DigestBuilder → Pair → DigestBuilder
 with_pair f pair = record { budget = f.budget; from = f.from; pairs = f.pairs ++ pair ∷ [] }
 
--- how many bytes it saves to end before a pair: its three numbers, and one length byte, since its owner's name becomes
--- the end of the range, whose own length byte stands there in any case
+-- how many bytes it saves to end before a pair: its three numbers, and one length byte. Its owner's name becomes the
+-- end of the range, which has a length byte in any case
 abbrev pub cut_saves : ℕ
 cut_saves = 25
 
--- a digest of all pairs but the last is within the budget
+-- a digest of all pairs except the last is within the budget
 abbrev pub has_room : DigestBuilder → Bool
 has_room f = nat_le (digest_frame_length (digest_of true f.from None f.pairs)) (f.budget + cut_saves)
 
--- the pair's owner is in the range, and behind the owners so far
+-- the pair's owner is in the range, and after the owners so far
 abbrev pub comes_next : DigestBuilder → Pair → Bool
 comes_next f pair = is_from f.from pair.owner && list_all (λ before. text_lt before.owner pair.owner) f.pairs
 

@@ -6,15 +6,15 @@ use Rattle.std.specs.Cmp.Lexicographic.{slice_cmp, pointwise}
 use Rattle.sb_types.specs.Limits.{text_lt}
 use Rattle.sb_holdings.specs.Plain.{is_from}
 
--- how far an owner's writes are held: up to the version held; and where a stage is to take the place of the
--- shown table, that stage's floor and its progress
+-- how far an owner's writes are held: the held version; and if a stage will replace the shown table, its floor and its
+-- progress, else 0 and 0
 pub record Pair : Type 0 where
   pub owner : List ℕ
   pub held : ℕ
   pub floor : ℕ
   pub progress : ℕ
 
--- how far the owners are held whose names are at or above from, and below until
+-- how far the owners are held whose names are at or after from, and before until
 pub record Digest : Type 0 where
   pub want : Bool
   pub from : Option (List ℕ)
@@ -25,7 +25,7 @@ pub record Digest : Type 0 where
 abbrev pub plain_pair : List ℕ → ℕ → Pair
 plain_pair owner held = record { owner = owner; held = held; floor = 0; progress = 0 }
 
--- the pair of an owner with a stage of this floor and this progress, or with none
+-- the pair of an owner with a stage of this floor and this progress, or without a stage
 abbrev pub staged_pair : List ℕ → ℕ → Option (ℕ × ℕ) → Pair
 staged_pair owner held staged = let s = unwrap_or staged (0, 0) in record { owner = owner; held = held; floor = s.0; progress = s.1 }
 
@@ -37,18 +37,18 @@ abbrev pub is_below : Option (List ℕ) → List ℕ → Bool
 is_below None name = true
 is_below (Some until) name = text_lt name until
 
--- the digest speaks of the owner
+-- the owner is in the digest's range
 abbrev pub covers : Digest → List ℕ → Bool
 covers d owner = is_from d.from owner && is_below d.until owner
 
 abbrev pub pair_at : List ℕ → List Pair → Option Pair
 pair_at owner pairs = find (λ pair. pointwise nat_eq pair.owner owner) pairs
 
--- the version up to which an owner's writes are held, 0 where the digest does not name it
+-- the held version that the digest reports of an owner, or 0 if the owner has no pair
 abbrev pub held_in : Digest → List ℕ → ℕ
 held_in d owner = option_map_or (λ pair. pair.held) (pair_at owner d.pairs) 0
 
--- the number above which a sender with this floor offers
+-- the number above which a sender with this floor offers entries
 abbrev pub number_by : ℕ → Option Pair → ℕ
 number_by floor None = 0
 number_by floor (Some p) = if nat_le floor p.held then p.held else (if nat_eq p.floor floor then p.progress else 0)
@@ -56,6 +56,6 @@ number_by floor (Some p) = if nat_le floor p.held then p.held else (if nat_eq p.
 abbrev pub number_in : Digest → List ℕ → ℕ → ℕ
 number_in d owner floor = number_by floor (pair_at owner d.pairs)
 
--- how many pairs' owners are the owner or before it
+-- how many pairs are of the owner or of owners before it
 abbrev pub at_or_below : List ℕ → List Pair → ℕ
 at_or_below owner pairs = count_by (λ pair. is_le (slice_cmp nat_cmp pair.owner owner)) pairs

@@ -7,17 +7,18 @@ use Rattle.sb_types.specs.Limits.{text_lt}
 use Rattle.sb_digest.specs.Digests.{Pair, Digest, is_below, covers}
 use Rattle.sb_digest.specs.Lengths.{digest_length}
 
--- each owner's name is behind the one before, and the first behind last
+-- each owner's name is after the one before it, and the first is after last
 abbrev pub are_pairs_above : List ℕ → List Pair → Bool
 are_pairs_above last [] = true
 are_pairs_above last (p ∷ ps) = text_lt last p.owner && are_pairs_above p.owner ps
 
--- from is below until, where both are given
+-- from is below until, if both are given
 abbrev pub is_range : Option (List ℕ) → Option (List ℕ) → Bool
 is_range None until = true
 is_range (Some from) until = is_below until from
 
--- owners ascend, each is covered, and the payload is within its limit (no name is empty, so that each is behind the empty text)
+-- the owners ascend, each is in the range, and the payload is within its limit. No name is empty, so each is after the
+-- empty text
 abbrev pub are_digest_parts : Digest → Bool
 are_digest_parts d = is_range d.from d.until && are_pairs_above [] d.pairs && list_all (λ pair. covers d pair.owner) d.pairs && nat_le (digest_length d) PAYLOAD_MOST
 

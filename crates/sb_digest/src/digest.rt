@@ -1,4 +1,4 @@
-//! Digests and their pairs: their parts, their lengths, and what they say of an owner.
+//! Digests and their pairs: their parts, their lengths, and what they report of an owner.
 ghost use Rattle.std.specs.Prelude.{◌≡◌, ◌≤◌, ◌+◌, ◌*◌, ◌&&◌, [], nat_le, true, Some, None, OnSome, sum_by, if◌then◌else◌, Ok, Err};
 ghost use Rattle.std.specs.List.{list_all};
 ghost use Rattle.std.specs.Option.{option_copied};
@@ -13,8 +13,9 @@ use sb_types::{
 };
 use std::marker::Model;
 
-/// How far one owner's writes are held: the greatest version that is known, 0 where none is; and where a stage is to take
-/// the place of what is shown, that stage's floor and how far it has come, 0 and 0 where there is none.
+/// How far one owner's writes are held: `upto` is the held version, or 0 if the owner is not held. If a stage will
+/// replace the shown table, `staged_floor` is its purge floor, and `progress` the version up to which it has arrived.
+/// Without a stage both are 0.
 #[derive(Clone, Copy, Debug)]
 pub struct Pair {
     pub owner: Name,
@@ -36,9 +37,9 @@ impl Model for Pair {
     ghost inverse = { λ p. record { owner = p.owner; upto = p.held; staged_floor = p.floor; progress = p.progress } };
 }
 
-/// How far a node holds the writes of the owners in a range of names: those at or above `from`, and
-/// below `until` where that is given. An owner in the range without a pair is held up to 0. Its payload
-/// has at most 65,530 bytes.
+/// How far a node holds the writes of the owners in a range of names. The range has the names at or after `from`, and
+/// before `until` if that is given. An owner in the range that has no pair is held up to 0. The payload has at most
+/// 65,530 bytes.
 ///
 /// The test `example_of_digest` runs these lines:
 /// ```
@@ -56,7 +57,7 @@ pub struct Digest {
     from: Option<Name>,
     until: Option<Name>,
     pairs: Vec<Pair>,
-    /// How many bytes its payload takes.
+    /// How many bytes the payload takes.
     length: u64,
 }
 
@@ -130,15 +131,15 @@ fn are_owners_ascending(pairs: &[Pair]) -> bool
     true
 }
 
-/// The most bytes that the payload of a digest takes before its pairs: its kind, whether an answer is wanted, its
-/// bounds, and the number of its pairs.
+/// The most bytes of a digest's payload before its pairs. They are its kind, whether an answer is wanted, its bounds,
+/// and the number of its pairs.
 const HEAD_LENGTH_MOST: u64 = BYTE_LENGTH
     + BYTE_LENGTH
     + NAME_LENGTH_MOST
     + NAME_LENGTH_MOST
     + COUNT_LENGTH;
 
-/// How many bytes a bound takes in a message.
+/// Returns how many bytes a bound takes in a message.
 fn length_of_bound(bound: Option<&Name>) -> u64
     ensures length { result ≡ bound_length (option_copied bound.entry) }
     ensures most { result ≤ NAME_LENGTH_MOST }
@@ -150,7 +151,7 @@ fn length_of_bound(bound: Option<&Name>) -> u64
     }
 }
 
-/// How many bytes the payload of a digest between these bounds takes before its pairs.
+/// Returns how many bytes of a digest's payload come before its pairs, if it has these bounds.
 pub(crate) fn length_of_head(from: Option<&Name>, until: Option<&Name>) -> u64
     ensures length { result ≡ digest_length (digest_of true (option_copied from.entry) (option_copied until.entry) []) }
     ensures most { result ≤ HEAD_LENGTH_MOST }
@@ -161,7 +162,7 @@ pub(crate) fn length_of_head(from: Option<&Name>, until: Option<&Name>) -> u64
     BYTE_LENGTH + BYTE_LENGTH + bounds + COUNT_LENGTH
 }
 
-/// How many bytes these pairs take behind so many others, where that is within the limit of a payload.
+/// Returns how many bytes `head` and these pairs take together, if that is within the limit of a payload.
 fn length_within(head: u64, pairs: &[Pair]) -> Option<u64>
     requires { head ≤ PAYLOAD_MOST }
     ensures length { result ≡ (let total = head + sum_by pair_length pairs.now in if nat_le total PAYLOAD_MOST then Some total else None) }
@@ -178,7 +179,8 @@ fn length_within(head: u64, pairs: &[Pair]) -> Option<u64>
 }
 
 impl Pair {
-    /// The pair of an owner that is held up to a version, and of the floor and the progress of its stage, where it has one.
+    /// Makes the pair of an owner with this held version, and with the floor and the progress of its stage, if it has
+    /// one.
     pub fn new(owner: Name, upto: u64, staged: Option<(u64, u64)>) -> Pair
         ensures { result ≡ staged_pair owner upto staged }
     {
@@ -191,8 +193,11 @@ impl Pair {
         }
     }
 
-    /// The version above which a sender whose table has this floor offers: the one held, where the floor is not above it;
-    /// how far the stage has come, where it is one of this floor; and else 0, for the whole table.
+    /// Returns the version above which a sender offers entries, if the sender's table has this floor:
+    ///
+    /// - the held version, if the floor is at or below it;
+    /// - else the progress of the stage, if the stage has this floor;
+    /// - else 0, so the sender offers the whole table.
     pub fn number(&self, floor: u64) -> u64
         ensures { result ≡ number_by floor (Some self.now) }
     {
@@ -205,7 +210,7 @@ impl Pair {
         }
     }
 
-    /// How many bytes it takes in a message: 26 to 57.
+    /// Returns how many bytes the pair takes in a message: 26 to 57.
     pub fn encoded_length(&self) -> u64
         ensures length { result ≡ pair_length self.now }
         ensures most { result ≤ NAME_LENGTH_MOST + 3 * NUMBER_LENGTH }
@@ -216,9 +221,13 @@ impl Pair {
 }
 
 impl Digest {
-    /// A digest of these parts. `Malformed(KIND_DIGEST)`, the pairs dropped, where a bound or a pair's owner is not
-    /// behind the one before, where an owner lies outside the bounds, or where the payload would have
-    /// more than 65,530 bytes. It takes no memory.
+    /// Makes a digest of these parts. It takes no memory. If a limit is broken, it drops the pairs and returns
+    /// `Malformed(KIND_DIGEST)`:
+    ///
+    /// - `until` is not after `from`;
+    /// - a pair's owner is not after the one before it;
+    /// - an owner is outside the range;
+    /// - the payload would have more than 65,530 bytes.
     pub fn new(
         want: bool,
         from: Option<Name>,
@@ -246,7 +255,7 @@ impl Digest {
         })
     }
 
-    /// The digest of parts that make one, which takes so many bytes.
+    /// Makes a digest of parts that `new` would accept, and whose payload takes `length` bytes.
     pub(crate) fn of_parts(
         want: bool,
         from: Option<Name>,
@@ -267,7 +276,7 @@ impl Digest {
         }
     }
 
-    /// Whether a digest is wanted in answer.
+    /// Returns whether a digest is wanted in answer.
     pub fn want(&self) -> bool
         ensures want { result ≡ self.now.want }
         ensures digest { is_digest self.now ≡ true }
@@ -275,7 +284,7 @@ impl Digest {
         self.want
     }
 
-    /// The least name of the range; none where it begins with the least of all.
+    /// Returns the least name of the range, or `None` if the range begins with the least of all names.
     pub fn from(&self) -> Option<Name>
         ensures from { result ≡ self.now.from }
         ensures digest { is_digest self.now ≡ true }
@@ -283,7 +292,7 @@ impl Digest {
         self.from
     }
 
-    /// The name that the range ends before; none where it has no end.
+    /// Returns the name before which the range ends, or `None` if the range has no end.
     pub fn until(&self) -> Option<Name>
         ensures until { result ≡ self.now.until }
         ensures digest { is_digest self.now ≡ true }
@@ -291,7 +300,7 @@ impl Digest {
         self.until
     }
 
-    /// Where the next digest begins: the end of this one's range; none where this is the last.
+    /// Returns where the next digest begins: at the end of this one's range. Returns `None` if this digest is the last.
     pub fn next_from(&self) -> Option<Name>
         ensures next { result ≡ self.now.until }
         ensures digest { is_digest self.now ≡ true }
@@ -299,7 +308,7 @@ impl Digest {
         self.until()
     }
 
-    /// The pairs, in ascending order of their owners' names.
+    /// Returns the pairs, in ascending order of their owners' names.
     pub fn pairs(&self) -> &[Pair]
         ensures pairs { result.now ≡ self.now.pairs }
         ensures digest { is_digest self.now ≡ true }
@@ -307,7 +316,7 @@ impl Digest {
         &self.pairs
     }
 
-    /// How many bytes its payload takes: 6 to 65,530.
+    /// Returns how many bytes the payload takes: 6 to 65,530.
     pub fn encoded_length(&self) -> u64
         ensures length { result ≡ digest_length self.now }
         ensures digest { is_digest self.now ≡ true }
@@ -315,15 +324,15 @@ impl Digest {
         self.length
     }
 
-    /// Whether the owner is in the range.
+    /// Returns whether the owner is in the range.
     pub fn covers(&self, owner: &Name) -> bool
         ensures { result ≡ covers self.now owner.now }
     {
         is_covered(self.from.as_ref(), self.until.as_ref(), owner)
     }
 
-    /// The version above which a sender whose table of the owner has this floor offers, as `Pair::number` says; 0 where the
-    /// owner has no pair.
+    /// Returns the version above which a sender offers entries of the owner, if the sender's table has this floor. It
+    /// is that of `Pair::number`, or 0 if the owner has no pair.
     pub fn number(&self, owner: &Name, floor: u64) -> u64
         ensures { result ≡ number_in self.now owner.now floor }
     {
@@ -331,9 +340,12 @@ impl Digest {
         number
     }
 
-    /// The same number, and the place of the next pair, at which to look for the next owner's: as many as there are pairs of
-    /// owners at or below this one. It takes a step where the owner's pair is at `place`, as it is where all owners in turn
-    /// have one, and else a search.
+    /// Returns the same number, and the place at which to look for the next owner's pair. The place is the number of
+    /// pairs whose owners are at or before this one.
+    ///
+    /// `place` is where this call looks first, and may be any number. If the owner's pair is there, the call takes one
+    /// step, and otherwise a binary search. If all owners are asked for in turn and have pairs, each call takes one
+    /// step. A walk over both lists would save the search, but it needs a proof that the owners are asked for in order.
     pub fn number_from(&self, owner: &Name, floor: u64, place: usize) -> (u64, usize)
         ensures number { result.0 ≡ number_in self.now owner.now floor }
         ensures place { result.1 ≡ at_or_below owner.now self.now.pairs }

@@ -1,4 +1,4 @@
-//! Pairs that are gathered for a digest within a budget.
+//! Pairs that are collected for a digest within a budget.
 ghost use Rattle.std.specs.Prelude.{◌≡◌, ◌≤◌, ◌<◌, ◌-◌, true, false, [], length, take, slice_get, if◌then◌else◌, IfOk, OnErr, IfErr};
 ghost use Rattle.sb_types.specs.declared.fault.Fault.TheVariants.{NoMemory};
 ghost use Rattle.std.specs.Option.{option_copied, option_map};
@@ -9,16 +9,16 @@ use sb_types::{BUDGET_LEAST, BUDGET_MOST, BYTE_LENGTH, Fault, HEADER_LENGTH, NUM
 use std::alloc::Global;
 use std::marker::Model;
 
-/// How many bytes a digest saves that ends before its last pair: that pair's three numbers and a length byte.
+/// How many bytes a digest saves if it ends before its last pair: that pair's three numbers and a length byte.
 const CUT_SAVES: u64 = 3 * NUMBER_LENGTH + BYTE_LENGTH;
 
-/// Pairs from a bound on, as long as a digest that ends before the last of them is within the budget.
+/// Pairs from a bound on. A digest that ends before the last of them is within the budget.
 #[derive(Drop)]
 pub(crate) struct DigestBuilder {
     budget: u64,
     from: Option<Name>,
     pairs: Vec<Pair>,
-    /// How many bytes the payload of a digest of these pairs takes, where nothing ends its range.
+    /// How many bytes the payload of a digest of these pairs takes, if its range has no end.
     length: u64,
 }
 
@@ -35,7 +35,7 @@ impl Model for DigestBuilder {
     ghost invariant = { λ f. fronts.IsDigestBuilder (record { budget = f.budget; from = f.from; pairs = f.pairs.items }) × (f.length ≡ digest_length (digest_of true f.from None f.pairs.items)) };
 }
 
-/// Takes the last pair out, and gives its owner.
+/// Removes the last pair, and returns its owner.
 fn pop_owner(pairs: &mut Vec<Pair>) -> Option<Name>
     requires { 0 < length pairs.old.items }
     ensures owner { result ≡ option_map (λ pair. pair.owner) (slice_get pairs.old.items (length pairs.old.items - 1)) }
@@ -46,7 +46,7 @@ fn pop_owner(pairs: &mut Vec<Pair>) -> Option<Name>
 }
 
 impl DigestBuilder {
-    /// No pairs yet, from a bound on, within a budget of 1,024 to 65,536 bytes. It takes no memory.
+    /// Makes a builder without pairs, from a bound on, within a budget of 1,024 to 65,536 bytes. It takes no memory.
     pub(crate) fn new(alloc: Global, from: Option<&Name>, budget: u64) -> DigestBuilder
         requires least { BUDGET_LEAST ≤ budget }
         requires most { budget ≤ BUDGET_MOST }
@@ -61,8 +61,8 @@ impl DigestBuilder {
         }
     }
 
-    /// Takes the next pair, where there is room, and says whether there was. `NoMemory`, with nothing
-    /// changed.
+    /// Takes the next pair if there is room, and returns whether there was. The only fault is `NoMemory`, which changes
+    /// nothing.
     pub(crate) fn push(&mut self, pair: Pair) -> Result<bool, Fault>
         requires { comes_next self.old pair ≡ true }
         ensures room { IfOk result (λ taken. taken ≡ has_room (with_pair self.old pair)) }
@@ -83,7 +83,7 @@ impl DigestBuilder {
         Ok(true)
     }
 
-    /// The digest of all pairs but the last, which ends before that.
+    /// Returns the digest of all pairs except the last. It ends before that.
     pub(crate) fn cut(self, want: bool) -> Digest
         requires { 1 < length self.pairs }
         ensures { result ≡ digest_of_first want self.from self.pairs (length self.pairs - 1) }
@@ -98,7 +98,7 @@ impl DigestBuilder {
         Digest::of_parts(want, from, until, pairs, length - CUT_SAVES)
     }
 
-    /// The digest where no pair comes any more.
+    /// Returns the digest if no more pairs come. It ends before the last pair if the budget has no room for all.
     pub(crate) fn finish(self, want: bool) -> Digest
         ensures longest { IsLongestFront self.budget want self.from self.pairs result }
         ensures goes { 0 < length self.pairs → 0 < length result.pairs }

@@ -1,5 +1,4 @@
-//! What follows from the definitions alone, for the crates above. The functions do nothing: each clause is
-//! a law.
+//! What follows from the definitions alone, for the crates above. The functions do nothing: each clause is a law.
 ghost use Rattle.std.specs.Prelude.{◌≡◌, ℕ, ◌<◌, ◌^◌, Bool, true, List, length, Option, Some};
 ghost use Rattle.sb_holdings.specs.Held.{Held, holder_of, shown_of};
 ghost use Rattle.sb_digest.specs.Digests as digests;
@@ -8,19 +7,19 @@ ghost use Rattle.sb_digest.specs.Limits.{is_digest};
 ghost use Rattle.sb_digest.specs.Builders.{IsLongestFront};
 ghost use Rattle.sb_digest.specs.Pairs.{pair_of, pairs_from};
 
-/// A digest has so few pairs that two bytes hold how many there are.
+/// A digest has fewer than 2^16 pairs, so two bytes have room for their number.
 pub fn digests_have_few_pairs()
     ensures { (d : digests.Digest) → is_digest d ≡ true → length d.pairs < 2 ^ 16 }
 {}
 
-/// Of a list of pairs one front is the longest within a budget.
+/// Within a budget, a list of pairs has only one longest prefix.
 pub fn one_front_is_longest()
     ensures { (budget : ℕ) (want : Bool) (from : Option (List ℕ)) (pairs : List digests.Pair) (a b : digests.Digest) →
         IsLongestFront budget want from pairs a → IsLongestFront budget want from pairs b → a ≡ b }
 {}
 
-/// A digest of what is held tells of each owner that it covers how far that is held, and the number above which a sender of
-/// whatever floor offers, whether it names the owner or not.
+/// A digest of what is held reports the held version of each owner that it covers. It also reports the number above
+/// which a sender of any floor offers entries. Both hold whether or not it has a pair of the owner.
 pub fn digests_are_true()
     ensures held { (held : Held) (budget : ℕ) (want : Bool) (from : Option (List ℕ)) (d : digests.Digest) (owner : List ℕ) →
         IsLongestFront budget want from (pairs_from from held) d → covers d owner ≡ true →

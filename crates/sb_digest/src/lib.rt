@@ -1,8 +1,8 @@
-//! Digests: what a node tells a peer of how far it holds each owner's writes.
+//! Digests: messages in which a node reports to a peer how far it holds each owner's writes.
 //!
-//! A digest has a pair for each owner in a range of names: the owner, the greatest version that is held, and of a stage the
-//! floor and how far it has come. `build` makes the digest of holdings within a budget, and the next digest begins where it
-//! ends. A peer answers a digest with a delta, which `sb_budget` makes.
+//! A digest has a pair for each owner in a range of names. The pair contains the owner, its held version, and the purge
+//! floor and the progress of its stage, if it has one. `build` makes the digest of holdings within a budget. The next
+//! digest begins where this one ends. A peer answers a digest with a delta, which `sb_budget` makes.
 //!
 //! ```rust
 //! /// The version up to which a node that made one write tells that it holds its own writes.
@@ -15,6 +15,14 @@
 //!     Ok(digest.number(&me, 0))
 //! }
 //! ```
+//!
+//! # What no contract refuses
+//!
+//! - `build` reports `NoMemory` without need. Tests run it with ample memory, and once at full size. They compare exact
+//!   answers.
+//! - `number_from` searches although the owner's pair is at the place, or the pairs take more room than they need.
+//!   Nothing refuses it: no contract mentions time. `attrdir_bench` measures.
+//! - `Debug` prints another text. Nothing refuses it.
 #![tactic(auto)]
 
 mod digest;

@@ -1,4 +1,4 @@
--- All that was written, as a table.
+-- All writes of an owner, as the table that its log contains.
 use Rattle.std.specs.Prelude.{ℕ, ◌+◌, if◌then◌else◌, List, [], ◌∷◌, length}
 use Rattle.sb_types.specs.declared.entry.Write.{Write}
 use Rattle.sb_types.specs.Records.{Entry, Table}
@@ -8,7 +8,7 @@ use Rattle.sb_types.specs.Runs.{has_key, live}
 abbrev pub entry_of_write : ℕ → Write → Entry
 entry_of_write version w = record { key = w.key; version = version; slot = w.slot }
 
--- the writes as entries, numbered from the one after this version
+-- the writes as entries, numbered from the version after this one
 abbrev pub numbered : ℕ → List Write → List Entry
 numbered version [] = []
 numbered version (w ∷ ws) = entry_of_write (version + 1) w ∷ numbered (version + 1) ws
@@ -18,6 +18,6 @@ abbrev pub last_each : List Entry → List Entry
 last_each [] = []
 last_each (e ∷ es) = if has_key e.key es then last_each es else e ∷ last_each es
 
--- what a log of these writes, purged up to the floor, has
+-- the content of a log of these writes that is purged up to the floor
 abbrev pub content_table : ℕ → List Write → Table
 content_table floor writes = record { held = length writes; floor = floor; entries = live floor (last_each (numbered 0 writes)) }

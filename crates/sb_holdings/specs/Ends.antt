@@ -11,39 +11,40 @@ use Rattle.sb_holdings.specs.Shown.{joins_shown}
 use Rattle.sb_holdings.specs.Stages.{stage_for}
 use Rattle.sb_holdings.specs.Held.{Held, holder_of, shown_of}
 
--- the block is of the node's own name
+-- the block has the node's own name
 abbrev pub is_own : Held → Block → Bool
 is_own held b = pointwise nat_eq b.owner held.me
 
--- all that the block tells is held, its floor too
+-- the held version has reached the block's upto and its floor
 abbrev pub is_stale : Table → Block → Bool
 is_stale t b = nat_le b.upto t.held && nat_le b.floor t.held
 
--- the stage that the block joins: a block of a floor above what is held joins no other table
+-- the stage that the block joins, if any; only a block whose floor is above the held version joins a stage
 abbrev pub joined_stage : Holder → Block → Option Stage
 joined_stage h b = if nat_lt h.shown.held b.floor then stage_for h.stage b else None
 
--- of another owner, of a floor and beginning at or below what is held, and telling of more
+-- of another owner, with its floor and its beginning at or below the held version, and reaching above it
 pub record JoinsOn (held : Held) (b : Block) : Type 0 where
   pub other : is_own held b ≡ false
   pub floor : b.floor ≤ (shown_of held b.owner).held
   pub after : b.after ≤ (shown_of held b.owner).held
   pub more : (shown_of held b.owner).held < b.upto
 
--- of another owner, and going on with this stage, or beginning it where nothing of it has come
+-- of another owner, and continuing this stage, or beginning it while it is empty
 pub record JoinsStage (held : Held) (b : Block) (s : Stage) : Type 0 where
   pub other : is_own held b ≡ false
   pub stage : joined_stage (holder_of held.owners b.owner) b ≡ Some s
 
--- the owner is held, or one more may be
+-- the owner is held, or there is room for one more
 abbrev pub has_place : Held → List ℕ → Bool
 has_place held owner = contains_key held.owners owner || nat_lt (len held.owners) OWNERS_MOST
 
--- how many keys there are with the first of these entries entered
+-- how many keys there are after the first of these entries were entered
 abbrev pub keys_with : ℕ → List Entry → List Entry → ℕ
 keys_with count new entries = length (entered entries (take count new))
 
--- how entering new entries in turn ends: with all, before the one that would bring a key too many, or before any other
+-- how entering new entries in turn ends: with all of them, before the one that would be a key too many, or before any
+-- other
 abbrev pub Enters : List Entry → List Entry → BlockEnd → Type 0
 Enters entries new Own = ⊥
 Enters entries new (OwnAhead upto) = ⊥
@@ -65,20 +66,20 @@ entered_count (Taken n) = n
 entered_count (TooManyKeys n) = n
 entered_count (NoMemory n) = n
 
--- entering ended so; or, once all was entered, room was refused for what comes behind that
+-- entering ended this way; or all was entered, and then there was no memory for what follows
 abbrev pub EntersOr : List Entry → List Entry → Type 0 → BlockEnd → Type 0
 EntersOr entries new behind end = Enters entries new end ⊎ ((end ≡ NoMemory (length new)) × Enters entries new (Taken (length new)) × behind)
 
--- the block joins on, its owner has a place, and its entries above what is held are entered so; behind the last entry room
--- may be refused for a new owner
+-- the block joins on, its owner has a place, and its entries above the held version are entered this way. After the
+-- last entry, there may be no memory for a new owner
 pub record IsTaken (held : Held) (b : Block) (end : BlockEnd) : Type 0 where
   pub joins : JoinsOn held b
   pub place : has_place held b.owner ≡ true
   pub enters : let t = shown_of held b.owner in
       EntersOr (live (max t.floor b.floor) t.entries) (above t.held b.entries) ((b.entries ≡ []) × (contains_key held.owners b.owner ≡ false)) end
 
--- the block joins a stage, its owner has a place, and its entries above what has come are entered so; behind the last entry
--- room may be refused for the swap, or for the beginning of a stage without entries
+-- the block joins a stage, its owner has a place, and its entries above the stage's progress are entered this way.
+-- After the last entry, there may be no memory for the swap, or for the beginning of a stage without entries
 pub record IsStaged (held : Held) (b : Block) (end : BlockEnd) : Type 0 where
   pub stage : Stage
   pub joins : JoinsStage held b stage

@@ -8,7 +8,7 @@ use Rattle.sb_holdings.specs.declared.ends.BlockEnd.{BlockEnd}
 use Rattle.sb_holdings.specs.Shown.{own}
 use Rattle.sb_holdings.specs.Taken.{holder_after_block}
 
--- the owner wrote, or a block came and was ended so
+-- the owner wrote, or a block came and ended this way
 pub data Event : Type 0 where
   Owned : Entry → Event
   Came : Block → BlockEnd → Event

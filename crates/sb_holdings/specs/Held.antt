@@ -1,4 +1,4 @@
--- What a node holds, of all owners, and how it changes.
+-- What a node holds of all owners, and how it changes.
 use Rattle.std.specs.Prelude.{ℕ, Bool, ◌&&◌, nat_eq, if◌then◌else◌, List, [], length, None, is_none, unwrap_or}
 use Rattle.std.specs.Ordering.{nat_cmp}
 use Rattle.std.specs.Cmp.Lexicographic.{slice_cmp, pointwise}
@@ -14,7 +14,7 @@ pub record Held : Type 0 where
   pub me : List ℕ
   pub owners : FinMap (slice_cmp nat_cmp) Holder
 
--- what is held of an owner that is not known
+-- what is held of an unknown owner
 abbrev pub nothing : Holder
 nothing = record { shown = record { held = 0; floor = 0; entries = [] }; stage = None }
 
@@ -27,14 +27,14 @@ holder_of owners owner = unwrap_or (get owners owner) nothing
 abbrev pub shown_of : Held → List ℕ → Table
 shown_of held owner = (holder_of held.owners owner).shown
 
--- an owner of whom nothing is held does not stand in the map
+-- if nothing is held of an owner, the map does not contain it
 abbrev pub with_holder : FinMap (slice_cmp nat_cmp) Holder → List ℕ → Holder → FinMap (slice_cmp nat_cmp) Holder
 with_holder owners owner h = if is_nothing h then remove owners owner else insert owners owner h
 
 abbrev pub with_owner : Held → List ℕ → Holder → Held
 with_owner held owner h = record { me = held.me; owners = with_holder held.owners owner h }
 
--- after the node's own write; the own name always stands in the map
+-- after the node's own write; the map always has the own name
 abbrev pub written : Held → Entry → Held
 written held e = record { me = held.me; owners = insert held.owners held.me (own (holder_of held.owners held.me) e) }
 
@@ -42,7 +42,7 @@ written held e = record { me = held.me; owners = insert held.owners held.me (own
 abbrev pub held_after_taking : Held → Block → BlockEnd → Held
 held_after_taking held b end = if pointwise nat_eq b.owner held.me then held else with_owner held b.owner (holder_after_block (holder_of held.owners b.owner) b end)
 
--- after a block that was ended so
+-- after a block that ended this way
 abbrev pub held_after_block : Held → Block → BlockEnd → Held
 held_after_block held b Own = held
 held_after_block held b (OwnAhead upto) = held

@@ -19,7 +19,7 @@ use Rattle.sb_holdings.specs.Ends.{Enters, entered_count, EntersOr, is_stale, jo
 abbrev pub named : List ℕ → ℕ → ℕ → ℕ → List Entry → Block
 named owner floor after upto entries = record { owner = owner; floor = floor; after = after; upto = upto; entries = entries }
 
--- without its owner's name
+-- a block without its owner's name
 abbrev pub told : ℕ → ℕ → ℕ → List Entry → Block
 told floor after upto entries = record { owner = []; floor = floor; after = after; upto = upto; entries = entries }
 
@@ -29,7 +29,7 @@ pub record IsShownTaken (h : Holder) (b : Block) (end : BlockEnd) : Type 0 where
   pub joins : joins_shown h.shown b ≡ true
   pub enters : Enters (live (max h.shown.floor b.floor) h.shown.entries) (above h.shown.held b.entries) end
 
--- behind the last entry room may be refused for the swap
+-- after the last entry, there may be no memory for the swap
 pub record IsStageTaken (h : Holder) (b : Block) (end : BlockEnd) : Type 0 where
   pub stage : Stage
   pub joins : joined_stage h b ≡ Some stage
@@ -47,7 +47,7 @@ FitsHolder h b (NoMemory n) = IsShownTaken h b (NoMemory n) ⊎ IsStageTaken h b
 
 -- ---- what entering new entries leaves
 
--- how far it came: to upto where all were entered, else to the last that was
+-- how far it came: up to upto if all were entered, else up to the last entered one
 abbrev pub reached : ℕ → ℕ → List Entry → BlockEnd → ℕ
 reached before upto new Own = before
 reached before upto new (OwnAhead ahead) = before
@@ -64,11 +64,11 @@ table_ended t upto new end = record { held = reached t.held upto new end; floor 
 abbrev pub stage_ended : Stage → ℕ → List Entry → BlockEnd → Stage
 stage_ended s upto new end = record { floor = s.floor; progress = reached s.progress upto new end; entries = entered s.entries (take (entered_count end) new) }
 
--- the stage with others entered, each in place of its key's
+-- the stage with others entered, each in place of its key's old entry
 abbrev pub stage_with_entries : Stage → List Entry → Stage
 stage_with_entries s others = record { floor = s.floor; progress = last_version s.progress others; entries = entered s.entries others }
 
--- the shown table with its floor raised and new entries entered; a stage that it reaches goes
+-- the shown table with its floor raised and new entries entered, without the stage if the table has reached its floor
 abbrev pub shown_taken : Holder → ℕ → ℕ → List Entry → BlockEnd → Holder
 shown_taken h floor upto new end =
     let t = table_ended (raised h.shown.held (max h.shown.floor floor) h.shown) upto new end in
@@ -85,7 +85,7 @@ is_due s (Taken n) = nat_le s.floor s.progress
 is_due s (TooManyKeys n) = false
 is_due s (NoMemory n) = false
 
--- a stage that is due is shown, unless room is refused for that; then it goes
+-- a stage that is due is shown, unless there is no memory for the swap; it is gone either way
 abbrev pub shown_stage : Table → Stage → BlockEnd → Holder
 shown_stage t s Own = record { shown = t; stage = None }
 shown_stage t s (OwnAhead ahead) = record { shown = t; stage = None }
@@ -96,11 +96,11 @@ shown_stage t s (Taken n) = record { shown = swapped t s; stage = None }
 shown_stage t s (TooManyKeys n) = record { shown = t; stage = None }
 shown_stage t s (NoMemory n) = record { shown = t; stage = None }
 
--- the stage in its place, or shown where it is due
+-- the stage beside the table, or in its place if it is due
 abbrev pub placed : Table → Stage → Bool → BlockEnd → Holder
 placed t s due end = if due then shown_stage t s end else record { shown = t; stage = Some s }
 
--- it ends as entering did, or room was refused for the swap
+-- it ends as entering did, or there was no memory for the swap
 abbrev pub Settles : Stage → BlockEnd → BlockEnd → Type 0
 Settles s entering end = (end ≡ entering) ⊎ ((is_due s entering ≡ true) × (end ≡ NoMemory (entered_count entering)))
 
@@ -115,25 +115,25 @@ staged_by h b s (Taken n) = staged_all h b s
 staged_by h b s (TooManyKeys n) = staged_front n h b s
 staged_by h b s (NoMemory n) = staged_refused n h b s
 
--- the block goes on with the stage that is there
+-- the block continues the stage that is there
 abbrev pub goes_on_with : Option Stage → Block → Bool
 goes_on_with None b = false
 goes_on_with (Some s) b = goes_on s b
 
--- a stage of this floor may begin beside what is there
+-- a new stage of this floor may begin: there is none yet, or one of a lower floor
 abbrev pub may_begin : Option Stage → ℕ → Bool
 may_begin None floor = true
 may_begin (Some s) floor = nat_lt s.floor floor
 
--- of the entries those that the stage lacks reach up to this version
+-- the entries that the stage lacks are a run up to this version
 abbrev pub GoesOn : Stage → ℕ → List Entry → Type 0
 GoesOn s upto entries = (are_ascending 0 entries ≡ true) × IsRun s.progress upto (above s.progress entries) × (s.progress < upto)
 
--- how a stage takes them
+-- how a stage takes these entries
 abbrev pub FillsStage : Stage → ℕ → List Entry → BlockEnd → Type 0
 FillsStage s upto entries end = EntersOr s.entries (above s.progress entries) (s.floor ≤ upto) end
 
--- what a block with a floor above what is held ends as, and what of the stage it joins
+-- how a block whose floor is above the held version ends, given the stage that it joins, if any
 abbrev pub FitsStage : Option Stage → Block → BlockEnd → Type 0
 FitsStage None b end = end ≡ Gap
 FitsStage (Some s) b end = FillsStage s b.upto b.entries end
@@ -144,11 +144,11 @@ FitsStage (Some s) b end = FillsStage s b.upto b.entries end
 abbrev pub own_end : ℕ → ℕ → BlockEnd
 own_end held upto = if nat_le upto held then Own else OwnAhead upto
 
--- what stands under a name, or nothing of one owner any more
+-- what a name has in the new list: nothing if it is the owner and the owner is gone, else what it had
 abbrev pub Dropped : List ℕ → Bool → List (List ℕ × Holder) → List (List ℕ × Holder) → Type 0
 Dropped owner gone old new = (q : List ℕ) →
     lookup (is_at (slice_cmp nat_cmp q)) new ≡ (if gone && is_at (slice_cmp nat_cmp owner) q then None else lookup (is_at (slice_cmp nat_cmp q)) old)
 
--- how a block that begins at 0 ends at an owner that is not held: as there, or without room for the owner
+-- how a block that begins after 0 ends if its owner is not held: as at an empty holder, or without memory for the owner
 abbrev pub FitsNew : Block → BlockEnd → Type 0
 FitsNew b end = FitsHolder nothing b end ⊎ (end ≡ NoMemory 0)

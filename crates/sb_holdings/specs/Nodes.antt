@@ -15,11 +15,11 @@ pub record Node : Type 0 where
   pub held : Held
   pub conflict : Option ℕ
 
--- a node that has just opened: its own name with this table, and nothing of any other owner
+-- a node that has just opened: its own name with this table, and no other owner
 abbrev pub opened_node : List ℕ → Table → Node
 opened_node me table = record { held = held_of me ((me, alone table) ∷ []); conflict = None }
 
--- what it holds of an owner
+-- what the node holds of an owner
 abbrev pub held_by : Node → List ℕ → Holder
 held_by node owner = holder_of node.held.owners owner
 
@@ -27,7 +27,7 @@ abbrev pub greater : Option ℕ → ℕ → Option ℕ
 greater None version = Some version
 greater (Some known) version = Some (max known version)
 
--- only a block of the own name that tells of more raises it
+-- only a block of the own name that reaches above the own held version raises it
 abbrev pub conflict_after : Option ℕ → BlockEnd → Option ℕ
 conflict_after known (OwnAhead upto) = greater known upto
 conflict_after known Own = known
@@ -41,7 +41,7 @@ conflict_after known (NoMemory n) = known
 abbrev pub node_after_block : Node → Block → BlockEnd → Node
 node_after_block node b end = record { held = held_after_block node.held b end; conflict = conflict_after node.conflict end }
 
--- the node wrote, or took a block and ended it so
+-- the node wrote, or it took a block that ended this way
 pub data NodeEvent : Type 0 where
   Wrote : Entry → NodeEvent
   Took : Block → BlockEnd → NodeEvent
@@ -72,10 +72,10 @@ AllTrueAt writes me events = (event : NodeEvent) → Stands events event → Tru
 abbrev pub IsNode : Node → Type 0
 IsNode node = (owner : List ℕ) → IsHolder (held_by node owner)
 
--- of each owner what is held is true of its writes
+-- for each owner, what is held is true of its writes
 abbrev pub NodeHolds : (List ℕ → List Write) → Node → Type 0
 NodeHolds writes node = (owner : List ℕ) → HolderHolds (writes owner) (held_by node owner)
 
--- of no owner does what is known go back
+-- for no owner does what is known go back
 abbrev pub NodeLater : Node → Node → Type 0
 NodeLater old new = (owner : List ℕ) → Later (held_by old owner).shown (held_by new owner).shown

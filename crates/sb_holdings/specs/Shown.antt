@@ -4,15 +4,16 @@ use Rattle.sb_types.specs.Records.{Entry, Table, Stage, Block, Holder}
 use Rattle.sb_types.specs.Runs.{entered, live}
 use Rattle.sb_table.specs.Plain.{with_entry}
 
--- the block's floor is at or below what is held, so is what it begins after, and it tells of more
+-- the block's floor and its beginning are at or below the held version, and the block reaches above it
 abbrev pub joins_shown : Table → Block → Bool
 joins_shown t b = nat_le b.floor t.held && (nat_le b.after t.held && nat_lt t.held b.upto)
 
--- the floor rises to the block's, the markers up to it go, and the block's entries are entered
+-- the floor rises to the block's, the tombstones (markers of removed keys) up to it go, and the block's entries are
+-- entered
 abbrev pub joined : Table → Block → Table
 joined t b = record { held = b.upto; floor = max t.floor b.floor; entries = entered (live (max t.floor b.floor) t.entries) b.entries }
 
--- a stage goes once the shown table has reached its floor
+-- a stage is dropped once the shown table has reached its floor
 abbrev pub stage_beyond : ℕ → Option Stage → Option Stage
 stage_beyond held None = None
 stage_beyond held (Some s) = if nat_lt held s.floor then Some s else None
@@ -20,6 +21,6 @@ stage_beyond held (Some s) = if nat_lt held s.floor then Some s else None
 abbrev pub shown_with : Holder → Block → Holder
 shown_with h b = record { shown = joined h.shown b; stage = stage_beyond b.upto h.stage }
 
--- the owner's own write, where it is the next; another changes nothing
+-- the owner's own write, if it is the next one; another write changes nothing
 abbrev pub own : Holder → Entry → Holder
 own h e = if nat_eq e.version (h.shown.held + 1) then record { shown = with_entry h.shown e; stage = stage_beyond e.version h.stage } else h

@@ -1,22 +1,22 @@
--- How a block of a floor above all that is held joins a stage, and how the stage comes to be shown.
+-- How a block whose floor is above the held version joins a stage, and how the stage replaces the shown table.
 use Rattle.std.specs.Prelude.{ℕ, zero, suc, Bool, ◌&&◌, nat_lt, nat_le, nat_eq, if◌then◌else◌, [], length, Option, Some, None}
 use Rattle.sb_types.specs.Records.{Stage, Block, Holder}
 use Rattle.sb_types.specs.Runs.{above, entered}
 use Rattle.sb_table.specs.Floors.{swapped}
 use Rattle.sb_holdings.specs.Blocks.{part_above, front}
 
--- a stage of which nothing has come
+-- an empty stage
 abbrev pub new_stage : ℕ → Stage
 new_stage floor = record { floor = floor; progress = 0; entries = [] }
 
--- the block is of the stage's floor, joins on to what has come, and tells of more
+-- the block has the stage's floor, begins at or below its progress, and reaches above it
 abbrev pub goes_on : Stage → Block → Bool
 goes_on s b = nat_eq s.floor b.floor && (nat_le b.after s.progress && nat_lt s.progress b.upto)
 
 abbrev pub begins : Block → Option Stage
 begins b = if nat_eq b.after 0 then Some (new_stage b.floor) else None
 
--- the stage that a block joins, where it joins one: the one that it goes on with, else a new one of a higher floor
+-- the stage that a block joins, if any: the one that it continues, else a new one of a higher floor
 abbrev pub stage_for : Option Stage → Block → Option Stage
 stage_for None b = begins b
 stage_for (Some s) b = if goes_on s b then Some s else (if nat_lt s.floor b.floor then begins b else None)
@@ -24,7 +24,7 @@ stage_for (Some s) b = if goes_on s b then Some s else (if nat_lt s.floor b.floo
 abbrev pub stage_with : Stage → Block → Stage
 stage_with s b = record { floor = s.floor; progress = b.upto; entries = entered s.entries b.entries }
 
--- once the stage has reached its floor it is shown
+-- the holder after this stage changed: the stage is shown once it has reached its floor
 abbrev pub settled : Holder → Stage → Holder
 settled h s = if nat_le s.floor s.progress then record { shown = swapped h.shown s; stage = None } else record { shown = h.shown; stage = Some s }
 
@@ -37,7 +37,7 @@ staged_front zero h b s = h
 staged_front (suc n) h b None = h
 staged_front (suc n) h b (Some s) = record { shown = h.shown; stage = Some (stage_with s (front (suc n) (part_above s.progress b))) }
 
--- where all entries had room it was the swap, or a beginning without entries, that was refused
+-- if all entries had room, there was no memory for the swap, or for the beginning of a stage without entries
 abbrev pub staged_refused : ℕ → Holder → Block → Option Stage → Holder
 staged_refused n h b None = h
 staged_refused n h b (Some s) = if nat_lt n (length (above s.progress b.entries)) then staged_front n h b (Some s) else record { shown = h.shown; stage = None }

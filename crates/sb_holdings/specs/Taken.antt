@@ -11,7 +11,7 @@ use Rattle.sb_holdings.specs.Stages.{stage_for, staged_all, staged_front, staged
 abbrev pub routed : Holder → Block → Holder → (Option Stage → Holder) → Holder
 routed h b shown staged = if joins_shown h.shown b then shown else (if nat_lt h.shown.held b.floor then staged (stage_for h.stage b) else h)
 
--- what is held of the block's owner after a block that was ended so
+-- what is held of the block's owner after the block ended this way
 abbrev pub holder_after_block : Holder → Block → BlockEnd → Holder
 holder_after_block h b Own = h
 holder_after_block h b (OwnAhead upto) = h

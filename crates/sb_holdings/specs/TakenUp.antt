@@ -8,23 +8,24 @@ use Rattle.sb_holdings.specs.declared.ends.BlockEnd.TheVariants.{Own, OwnAhead, 
 use Rattle.sb_holdings.specs.Held.{shown_of}
 use Rattle.sb_holdings.specs.Nodes.{Node, held_by}
 
--- the new table is held up to the last of these entries, as far as the old one where there is none, and has each of them
+-- the new table has each of these entries. Its held version is that of the last, or the old one if there are none
 pub record HasFront (old : Table) (front : List Entry) (new : Table) : Type 0 where
   pub held : new.held ≡ last_version old.held front
   pub each : (e : Entry) → Stands front e → Stands new.entries e
 
--- the first n of the block's entries above what was held, and no more
+-- the first n of the block's entries above the held version, and no more
 abbrev pub IsFrontTaken : Node → Block → ℕ → Node → Type 0
 IsFrontTaken old b n new =
     let t = shown_of old.held b.owner in
     HasFront t (take n (above t.held b.entries)) (shown_of new.held b.owner)
 
--- the new table is held as far as the block tells, and has each of its entries above what the old one held
+-- the new table has reached the block's upto, and has each of its entries above the old held version
 pub record HasAll (old : Table) (b : Block) (new : Table) : Type 0 where
   pub held : b.upto ≤ new.held
   pub each : (e : Entry) → Stands (above old.held b.entries) e → Stands new.entries e
 
--- with no room for its owner nothing changes, with none for its next entry the ones before are taken, and else all of it; it ends in no other way
+-- if there is no room for its owner, nothing changes. If there is none for its next entry, the ones before are taken.
+-- Else all of it is taken. It ends in no other way
 abbrev pub IsTakenUp : Node → Block → BlockEnd → Node → Type 0
 IsTakenUp old b OwnersFull new = new ≡ old
 IsTakenUp old b (TooManyKeys n) new = IsFrontTaken old b n new
@@ -37,34 +38,35 @@ IsTakenUp old b Stale new = ⊥
 
 -- ---- by a stage
 
--- the new stage has come up to the last of these entries, as far as the old one where there is none, and has each of them
+-- the new stage has each of these entries. Its progress is the version of the last, or the old one if there are none
 pub record HasStageFront (old : Stage) (front : List Entry) (new : Stage) : Type 0 where
   pub floor : new.floor ≡ old.floor
   pub progress : new.progress ≡ last_version old.progress front
   pub each : (e : Entry) → Stands front e → Stands new.entries e
 
--- the new stage has come as far as the block tells, and has each of its entries above what had come of the old one
+-- the new stage has reached the block's upto, and has each of its entries above the old progress
 pub record HasStageAll (old : Stage) (b : Block) (new : Stage) : Type 0 where
   pub floor : new.floor ≡ old.floor
   pub progress : new.progress ≡ b.upto
   pub each : (e : Entry) → Stands (above old.progress b.entries) e → Stands new.entries e
 
--- the stage took the table's place: held as far as the block tells, of the stage's floor, and with each of the block's entries
--- above what was held and what had come, but removals up to the floor
+-- the stage replaced the table, which now reaches the block's upto and has the stage's floor. It has each of the
+-- block's entries above the old held version and the old progress, except tombstones (markers of removed keys) up to
+-- the floor
 pub record IsShown (old : Holder) (s : Stage) (b : Block) (new : Holder) : Type 0 where
   pub none : new.stage ≡ None
   pub held : new.shown.held ≡ b.upto
   pub floor : new.shown.floor ≡ s.floor
   pub each : (e : Entry) → Stands (above old.shown.held (above s.progress b.entries)) e → Stands new.shown.entries e ⊎ Gone s.floor e
 
--- what is shown stands, and the stage has the first n of the block's entries above what had come, and no more; where n is 0
--- nothing changes
+-- the shown table stays, and the stage has the first n of the block's entries above the old progress, and no more. If n
+-- is 0, nothing changes
 abbrev pub IsFrontStaged : Holder → Stage → Block → ℕ → Holder → Type 0
 IsFrontStaged old s b n new = (new.shown ≡ old.shown) × (((n ≡ 0) × (new ≡ old)) ⊎ IsSomeAnd new.stage (HasStageFront s (take n (above s.progress b.entries))))
 
--- of a block that joins this stage: with no room for its owner nothing changes, with none for its next entry the ones before
--- are taken, and else all of it, by the stage or by the table whose place the stage took; or, with no room for that, the
--- table stands and there is no stage; it ends in no other way
+-- what becomes of a block that joins this stage. If there is no room for its owner, nothing changes. If there is none
+-- for its next entry, the ones before are taken. If there is no memory for the swap, the table stays, and there is no
+-- stage. Else all of it is taken, by the stage, or by the table that the stage becomes. It ends in no other way
 abbrev pub IsStagedUp : Node → Block → Stage → BlockEnd → Node → Type 0
 IsStagedUp old b s OwnersFull new = new ≡ old
 IsStagedUp old b s (TooManyKeys n) new = IsFrontStaged (held_by old b.owner) s b n (held_by new b.owner)

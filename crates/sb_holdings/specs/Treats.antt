@@ -5,14 +5,14 @@ use Rattle.sb_holdings.specs.declared.ends.BlockEnd.{BlockEnd}
 use Rattle.sb_holdings.specs.Ends.{Fits}
 use Rattle.sb_holdings.specs.Nodes.{Node, NodeEvent, Took, node_after_block}
 
--- one end a block, each the one that fits at the state that the blocks before it left
+-- one end for each block: the one that fits after the blocks before it
 abbrev pub Treats : Node → List Block → List BlockEnd → Type 0
 Treats node [] [] = Unit {0}
 Treats node [] (end ∷ ends) = ⊥
 Treats node (b ∷ bs) [] = ⊥
 Treats node (b ∷ bs) (end ∷ ends) = Fits node.held b end × Treats (node_after_block node b end) bs ends
 
--- each block taken in turn, and ended so
+-- each block taken in turn, with its end
 abbrev pub took_each : List Block → List BlockEnd → List NodeEvent
 took_each [] ends = []
 took_each (b ∷ bs) [] = []

@@ -1,4 +1,4 @@
-//! All that was written, as a table.
+//! All writes of an owner, as the table that its log contains.
 
 ghost use Rattle.std.specs.Prelude.{◌≡◌, ℕ, ◌+◌, ◌≤◌, List, [], ◌∷◌, ◌++◌, length};
 ghost use Rattle.sb_types.specs.declared.entry.Write.{Write};
@@ -10,26 +10,28 @@ ghost use Rattle.sb_table.specs.Floors.{raised};
 ghost use Rattle.sb_table.specs.Contents.{IsContent};
 ghost use Rattle.sb_holdings.specs.Contents.{entry_of_write, content_table};
 
-/// What a log of all writes has is true, and is a table.
+/// The content of a log of all writes is true, and is a table.
 pub fn contents_hold()
     ensures holds { (writes : List Write) (floor : ℕ) → floor ≤ length writes → Holds writes (content_table floor writes) }
     ensures is { (writes : List Write) (floor : ℕ) → floor ≤ length writes → IsTable (content_table floor writes) }
 {}
 
-/// With one write more the log has its entry, in place of its key's, whatever floor it has.
+/// With one more write, the log contains the entry of that write in place of its key's old entry, whatever its purge
+/// floor is.
 pub fn contents_grow()
     ensures table { (writes : List Write) (w : Write) (floor : ℕ) → floor ≤ length writes →
         content_table floor (writes ++ w ∷ []) ≡ with_entry (content_table floor writes) (entry_of_write (length writes + 1) w) }
     ensures written { (writes : List Write) (w : Write) → Written (writes ++ w ∷ []) (entry_of_write (length writes + 1) w) }
 {}
 
-/// Purged up to a higher floor the log has no removals up to that, and all else as before.
+/// A log that is purged up to a higher floor has no tombstones up to it. A tombstone is the marker of a removed key.
+/// Everything else stays as before.
 pub fn contents_purge()
     ensures { (writes : List Write) (floor more : ℕ) → floor ≤ more → content_table more writes ≡ raised (length writes) more (content_table floor writes) }
 {}
 
-/// Each table without a floor is what a log of some writes has, and so is each that is held no further than its floor or its
-/// last entry.
+/// Each table of floor 0 is the content of a log of some writes. So is each table whose held version is at most its
+/// floor or its last entry's version, whichever is higher.
 pub fn tables_are_contents()
     ensures plain { (t : Table) → IsPlainTable t → (writes : List Write) × (content_table 0 writes ≡ t) }
     ensures content { (t : Table) → IsContent t → (writes : List Write) × (content_table t.floor writes ≡ t) }

@@ -1,23 +1,23 @@
 //! How a node ends a block.
-/// How a node ended a block: the first of these that fits.
+/// How a block ended at a node: the first of these that fits.
 #[derive(Clone, Copy, Debug, PartialEq, Eq)]
 pub enum BlockEnd {
-    /// The block is of the node's own writes, and tells nothing above its own version.
+    /// The block has the node's own name, and its `upto` is at or below the own held version. Nothing changes.
     Own,
-    /// The block is of the node's own name, and tells of writes up to this version, which the node never
-    /// made.
+    /// The block has the node's own name, and reaches up to this version, which the node never wrote. Nothing changes.
     OwnAhead(u64),
-    /// The block begins above what is held: writes between are missing.
+    /// The block does not join on. It begins above the held version; or its purge floor is above that, and it continues
+    /// no stage and may begin none. Nothing changes.
     Gap,
-    /// All that the block tells is held.
+    /// The held version has reached the block's `upto` and its floor. Nothing changes.
     Stale,
-    /// The block's owner is new, and there is no room for another.
+    /// The block would join on, but its owner is new, and there is no room for another owner. Nothing changes.
     OwnersFull,
-    /// This many entries were taken: all that are above what was held.
+    /// This many entries were taken: all that are above the held version, or above the stage's progress.
     Taken(u64),
-    /// This many entries above what was held were taken, the first ones; the next would be key 4,097.
+    /// This many of those entries were taken, the first ones. The next would be key 4,097.
     TooManyKeys(u64),
-    /// This many entries above what was held were taken, the first ones; then there was no memory, for the
-    /// next or for the place of a new owner.
+    /// This many of those entries were taken, the first ones. Then there was no memory: for the next entry, for the
+    /// place of a new owner, or for the swap of a stage.
     NoMemory(u64),
 }

@@ -1,4 +1,4 @@
-//! What is held of one owner: the table that is shown, and perhaps a stage that is to take its place.
+//! What is held of one owner: the shown table, and perhaps a stage that will replace it.
 ghost use Rattle.std.specs.Prelude.{◌≡◌, ℕ, ◌≤◌, ◌<◌, max, true, false, List, [], OnOk, OnErr, IfErr, None, Some, IfSome, IsSomeAnd, take};
 ghost use Rattle.std.specs.Option.{option_copied, option_map};
 ghost use Rattle.sb_types.specs.Runs.{IsRun, above, live, are_ascending, are_distinct};
@@ -18,7 +18,7 @@ use sb_types::{Entry, Fault};
 use std::alloc::Global;
 use std::marker::Model;
 
-/// What is held of one owner: the table that is shown, and a stage of a floor above what is held, where one has begun.
+/// What is held of one owner: the shown table, and perhaps a stage whose floor is above the table's held version.
 #[derive(Drop)]
 pub struct Holder {
     shown: Table,
@@ -37,7 +37,7 @@ impl Model for Holder {
 }
 
 impl Holder {
-    /// Of an owner that is not known. It takes no memory.
+    /// Makes the holder of an unknown owner: an empty table, and no stage. It takes no memory.
     pub(crate) fn nothing(alloc: Global) -> Holder
         ensures nothing { result ≡ nothing }
         ensures kept { IsKeptHolder result }
@@ -48,17 +48,17 @@ impl Holder {
         }
     }
 
-    /// Of an owner of whom this is shown, and who has no stage. It takes no memory.
+    /// Makes a holder that shows this table, and has no stage. It takes no memory.
     pub(crate) fn alone(shown: Table) -> Holder
         ensures alone { result ≡ alone shown }
         ensures kept { IsKeptHolder result }
     {
-        // Does nothing: the call tells the prover that the table keeps its limits.
+        // Proof only: the call shows that the table keeps its limits.
         let _ = shown.upto();
         Holder { shown, stage: None }
     }
 
-    /// The table that is shown.
+    /// Returns the shown table.
     pub fn shown(&self) -> &Table
         ensures shown { result.now ≡ self.now.shown }
         ensures kept { IsKeptHolder self.now }
@@ -66,7 +66,8 @@ impl Holder {
         &self.shown
     }
 
-    /// The floor of the stage and how far it has come, where there is one.
+    /// Returns the floor of the stage and its progress, if there is a stage. The progress is the version up to which
+    /// the new table has arrived.
     pub fn staged(&self) -> Option<(u64, u64)>
         ensures staged { result ≡ option_map (λ s. (s.floor, s.progress)) self.now.stage }
         ensures kept { IsKeptHolder self.now }
@@ -75,7 +76,8 @@ impl Holder {
         Some((stage.floor(), stage.progress()))
     }
 
-    /// Enters an own write that has room, where there is no stage. `NoMemory`, which leaves all as it was.
+    /// Enters an own write, for which there is room, beside no stage. The only fault is `NoMemory`, which leaves
+    /// everything as it was.
     pub(crate) fn push(&mut self, entry: Entry) -> Result<(), Fault>
         requires later { self.old.shown.held < entry.version }
         requires room { is_full_for entry.key self.old.shown.entries ≡ false }
@@ -88,7 +90,7 @@ impl Holder {
         self.shown.push(entry)
     }
 
-    /// Whether nothing is held, not even a version.
+    /// Returns whether nothing is held, not even a version.
     pub(crate) fn is_nothing(&self) -> bool
         ensures nothing { result ≡ is_nothing self.now }
         ensures kept { IsKeptHolder self.now }
@@ -99,8 +101,9 @@ impl Holder {
             && self.stage.is_none()
     }
 
-    /// Takes what a block tells, and tells how it ended: entries of versions above `after` and at most `upto`, that
-    /// leave out no write between but superseded ones and markers up to `floor`.
+    /// Takes the parts of a block, and returns how it ended. The entries are of versions above `after` and at most
+    /// `upto`. Between them an honest block leaves out only superseded writes, and tombstones (the markers of removed
+    /// keys) up to `floor`.
     pub(crate) fn take(
         &mut self,
         alloc: Global,
@@ -128,7 +131,7 @@ impl Holder {
         self.take_shown(alloc, floor, upto, entries_above(entries, held))
     }
 
-    /// Takes later entries into the table that is shown, whose floor rises first.
+    /// Takes later entries into the shown table. First the table's floor rises.
     fn take_shown(&mut self, alloc: Global, floor: u64, upto: u64, new: &[Entry]) -> BlockEnd
         requires run { IsRun self.old.shown.held upto new.now }
         requires floor { floor ≤ self.old.shown.held }
@@ -141,7 +144,7 @@ impl Holder {
         end
     }
 
-    /// Takes what a block tells of a floor above what is held.
+    /// Takes the parts of a block whose floor is above the held version.
     fn take_staged(
         &mut self,
         alloc: Global,
@@ -166,7 +169,7 @@ impl Holder {
         BlockEnd::Gap
     }
 
-    /// Takes of these entries those that the stage lacks into it.
+    /// Takes those of these entries that the stage lacks into the stage.
     fn go_on(&mut self, alloc: Global, upto: u64, entries: &[Entry]) -> BlockEnd
         requires stage { IsSomeAnd self.old.stage (λ s. GoesOn s upto entries.now) }
         ensures effect { self.new ≡ staged_by self.old (told 0 0 upto entries.now) self.old.stage result }
@@ -183,7 +186,8 @@ impl Holder {
         }
     }
 
-    /// Begins a stage with these entries, in place of what stage there is, unless nothing of it comes.
+    /// Begins a stage with these entries, in place of the old stage if there is one. If nothing can be entered, nothing
+    /// changes.
     fn begin(&mut self, alloc: Global, floor: u64, upto: u64, entries: &[Entry]) -> BlockEnd
         requires run { IsRun 0 upto entries.now }
         requires more { 0 < upto }
@@ -201,7 +205,7 @@ impl Holder {
         self.settle(alloc, stage, end)
     }
 
-    /// Puts a stage in place, or shows it where all was entered and it has reached its floor.
+    /// Keeps the stage; or swaps it in, if all was entered and it has reached its floor.
     fn settle(&mut self, alloc: Global, stage: Stage, end: BlockEnd) -> BlockEnd
         requires stage { IsKeptStage stage }
         requires some { 1 ≤ stage.progress }
@@ -221,7 +225,8 @@ impl Holder {
         }
     }
 
-    /// Shows a stage in place of what was shown, unless there is no memory for that: then what was shown stays.
+    /// Swaps the stage in for the shown table. If there is no memory for that, the shown table stays. The stage is gone
+    /// either way.
     fn show(&mut self, alloc: Global, stage: Stage, count: u64) -> BlockEnd
         requires stage { IsKeptStage stage }
         requires beyond { self.old.shown.held < stage.floor }
@@ -241,7 +246,7 @@ impl Holder {
     }
 }
 
-/// Whether a block of this floor, above one version and up to another, goes on with the stage that is there.
+/// Returns whether a block with these parts continues the stage that is there.
 fn goes_on_with(stage: Option<&Stage>, floor: u64, after: u64, upto: u64) -> bool
     ensures { result ≡ goes_on_with (option_copied stage.entry) (told floor after upto []) }
 {
@@ -253,7 +258,7 @@ fn goes_on_with(stage: Option<&Stage>, floor: u64, after: u64, upto: u64) -> boo
     }
 }
 
-/// Whether a stage of this floor may begin beside what is there.
+/// Returns whether a new stage of this floor may begin: there is none yet, or one of a lower floor.
 fn may_begin(stage: Option<&Stage>, floor: u64) -> bool
     ensures { result ≡ may_begin (option_copied stage.entry) floor }
 {
@@ -263,7 +268,7 @@ fn may_begin(stage: Option<&Stage>, floor: u64) -> bool
     }
 }
 
-/// A stage goes once what is shown has reached its floor.
+/// Drops the stage if the held version has reached its floor.
 fn drop_reached(stage: &mut Option<Stage>, held: u64)
     ensures { stage.new ≡ stage_beyond held stage.old }
 {
@@ -273,7 +278,7 @@ fn drop_reached(stage: &mut Option<Stage>, held: u64)
     }
 }
 
-/// Raises the floor, and enters later entries; the table then reaches up to a version where all were entered.
+/// Raises the table's floor, and enters later entries. If all were entered, the held version rises to `upto`.
 fn join(alloc: Global, shown: &mut Table, floor: u64, upto: u64, new: &[Entry]) -> BlockEnd
     requires run { IsRun shown.old.held upto new.now }
     requires floor { floor ≤ shown.old.held }
@@ -293,7 +298,7 @@ fn join(alloc: Global, shown: &mut Table, floor: u64, upto: u64, new: &[Entry]) 
     }
 }
 
-/// Enters later entries; the stage then reaches up to a version where all were entered.
+/// Enters later entries. If all were entered, the stage's progress rises to `upto`.
 fn fill(alloc: Global, stage: &mut Stage, upto: u64, new: &[Entry]) -> BlockEnd
     requires stage { IsKeptStage stage.old }
     requires run { IsRun stage.old.progress upto new.now }
@@ -310,7 +315,8 @@ fn fill(alloc: Global, stage: &mut Stage, upto: u64, new: &[Entry]) -> BlockEnd
     }
 }
 
-/// Enters a copy of a later entry that has room.
+/// Enters a copy of a later entry, for which there is room. The only fault is `NoMemory`, which leaves the table as it
+/// was.
 fn push_shown(alloc: Global, shown: &mut Table, entry: &Entry) -> Result<(), Fault>
     requires later { shown.old.held < entry.now.version }
     requires room { is_full_for entry.now.key shown.old.entries ≡ false }
@@ -322,7 +328,7 @@ fn push_shown(alloc: Global, shown: &mut Table, entry: &Entry) -> Result<(), Fau
     shown.push(entry.copy(alloc)?)
 }
 
-/// Enters later entries one by one, copied, as long as there is room for the next.
+/// Enters copies of later entries one by one, until there is no room for the next one.
 fn enter_shown(alloc: Global, shown: &mut Table, entries: &[Entry]) -> BlockEnd
     requires table { IsKeptTable shown.old }
     requires later { are_ascending shown.old.held entries.now ≡ true }
@@ -342,7 +348,8 @@ fn enter_shown(alloc: Global, shown: &mut Table, entries: &[Entry]) -> BlockEnd
     BlockEnd::Taken(entries.len() as u64)
 }
 
-/// Enters a copy of a later entry that has room.
+/// Enters a copy of a later entry, for which there is room. The only fault is `NoMemory`, which leaves the stage as it
+/// was.
 fn push_staged(alloc: Global, stage: &mut Stage, entry: &Entry) -> Result<(), Fault>
     requires later { stage.old.progress < entry.now.version }
     requires room { is_full_for entry.now.key stage.old.entries ≡ false }
@@ -354,7 +361,7 @@ fn push_staged(alloc: Global, stage: &mut Stage, entry: &Entry) -> Result<(), Fa
     stage.push(entry.copy(alloc)?)
 }
 
-/// Enters later entries one by one, copied, as long as there is room for the next.
+/// Enters copies of later entries one by one, until there is no room for the next one.
 fn enter_staged(alloc: Global, stage: &mut Stage, entries: &[Entry]) -> BlockEnd
     requires stage { IsKeptStage stage.old }
     requires later { are_ascending stage.old.progress entries.now ≡ true }

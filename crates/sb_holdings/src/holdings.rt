@@ -27,8 +27,8 @@ use std::collections::BTreeMap;
 use std::marker::Model;
 use std::ops::Bound;
 
-/// What a node holds: its own table, and of at most 1,023 other owners a table and perhaps a stage that is to take the
-/// table's place, of none of them nothing.
+/// What a node holds: its own table, and tables of at most 1,023 other owners. Beside such a table there may be a stage
+/// that will replace it. If nothing is held of an owner, holdings do not contain it.
 ///
 /// The test `example_of_holdings` runs these lines:
 /// ```
@@ -66,7 +66,7 @@ impl Model for Holdings {
 }
 
 impl Holdings {
-    /// Holdings of the own name with its table, and of no other owner. `NoMemory`.
+    /// Makes holdings of the own name with its table, and of no other owner. The only fault is `NoMemory`.
     pub fn new(alloc: Global, me: Name, table: Table) -> Result<Holdings, Fault>
         ensures held { IfOk result (λ h. h ≡ held_of me ((me, alone table) ∷ [])) }
         ensures holdings { IfOk result IsHoldings }
@@ -77,7 +77,7 @@ impl Holdings {
         Ok(Holdings { me, holders, alloc })
     }
 
-    /// The own name.
+    /// Returns the own name.
     pub fn me(&self) -> &Name
         ensures name { result.now ≡ self.now.me }
         ensures holdings { IsHoldings self.now }
@@ -85,7 +85,7 @@ impl Holdings {
         &self.me
     }
 
-    /// What is held of an owner, where something is.
+    /// Returns what is held of an owner, if the owner is held.
     fn holder(&self, owner: &Name) -> Option<&Holder>
         ensures found { option_copied result ≡ get self.now.owners owner.now }
         ensures holdings { IsHoldings self.now }
@@ -93,7 +93,7 @@ impl Holdings {
         self.holders.get(owner)
     }
 
-    /// The table of an owner, where it is held: the one that is shown.
+    /// Returns the shown table of an owner, if the owner is held.
     pub fn table(&self, owner: &Name) -> Option<&Table>
         ensures found { option_copied result ≡ table_of self.now owner.now }
         ensures holdings { IsHoldings self.now }
@@ -104,7 +104,7 @@ impl Holdings {
         }
     }
 
-    /// The version up to which an owner is held, 0 where it is not.
+    /// Returns the held version of an owner, or 0 if the owner is not held.
     pub fn upto(&self, owner: &Name) -> u64
         ensures version { result ≡ (shown_of self.now owner.now).held }
         ensures holdings { IsHoldings self.now }
@@ -115,7 +115,8 @@ impl Holdings {
         }
     }
 
-    /// The floor of an owner's table, up to which it has no removals: 0 where it is not held.
+    /// Returns the purge floor of an owner's table, or 0 if the owner is not held. The table has no tombstones (markers
+    /// of removed keys) up to this version.
     pub fn floor(&self, owner: &Name) -> u64
         ensures floor { result ≡ (shown_of self.now owner.now).floor }
         ensures holdings { IsHoldings self.now }
@@ -126,7 +127,8 @@ impl Holdings {
         }
     }
 
-    /// Of an owner's stage its floor and the version up to which it has come, where a stage has begun.
+    /// Returns the floor of an owner's stage and its progress, if there is a stage. The progress is the version up to
+    /// which the new table has arrived.
     pub fn staged(&self, owner: &Name) -> Option<(u64, u64)>
         ensures staged { result ≡ option_map (λ s. (s.floor, s.progress)) (holder_of self.now.owners owner.now).stage }
         ensures holdings { IsHoldings self.now }
@@ -137,7 +139,7 @@ impl Holdings {
         }
     }
 
-    /// The names of the owners that are held, in ascending order.
+    /// Returns the names of the owners that are held, in ascending order.
     pub fn owners(&self) -> Owners<'_>
         ensures names { result ≡ keys self.now.owners }
         ensures ascending { IsStrictlySortedBy (slice_cmp nat_cmp) (keys self.now.owners) }
@@ -146,7 +148,7 @@ impl Holdings {
         Owners::new(self.holders.keys())
     }
 
-    /// The owners from a name on, or all of them, in ascending order of their names, each with what is held of it.
+    /// Returns the owners from a name on, or all of them, each with what is held of it. Their names ascend.
     pub fn holders_from(&self, first: Option<&Name>) -> Holders<'_>
         ensures holders { result ≡ holders_from (option_copied first.entry) self.now }
         ensures ascending { IsStrictlySortedBy (slice_cmp nat_cmp) (keys_of result) }
@@ -159,7 +161,7 @@ impl Holdings {
         Holders::new(self.holders.range((start, Bound::Unbounded)))
     }
 
-    /// The same, each with its table.
+    /// Returns the same owners, each with its shown table.
     pub fn tables_from(&self, first: Option<&Name>) -> Tables<'_>
         ensures tables { result ≡ tables_from (option_copied first.entry) self.now }
         ensures ascending { IsStrictlySortedBy (slice_cmp nat_cmp) (keys_of result) }
@@ -168,9 +170,12 @@ impl Holdings {
         Tables::new(self.holders_from(first))
     }
 
-    /// Enters an own write. `OutOfTurn` with the next own version, or 0 where there is none, unless the write
-    /// has that version; `TableFull` where its key is new beside 4,096 others; then `NoMemory`. Each leaves
-    /// everything as it was.
+    /// Enters an own write. Its faults, in this order. Each leaves everything as it was:
+    ///
+    /// - `OutOfTurn(next)`: the write has another version than the next own one. `next` is that version, or 0 if all
+    ///   versions are spent.
+    /// - `TableFull`: the key is new, and the own table has 4,096 others.
+    /// - `NoMemory`.
     pub fn push_own(&mut self, entry: Entry) -> Result<(), Fault>
         ensures answer { Gives result (own_answer self.old entry) }
         ensures refused { IfErr (own_answer self.old entry) (λ fault. result ≡ Err fault) }
@@ -188,13 +193,18 @@ impl Holdings {
         self.enter_own(entry)
     }
 
-    /// Takes what a block tells of another owner, copied entry by entry, and tells how it ended. Where the block's floor is
-    /// at or below what is held, the owner's table takes it: its floor rises, the removals up to that go, and the entries
-    /// above what is held are entered. Else a stage takes it, the one of that floor, or a new one where the block begins
-    /// at 0 and there is none of as high a floor; once it has come as far as its floor it takes the table's place. `Taken`,
-    /// `TooManyKeys` and `NoMemory` say how many entries were entered, of those that the table or the stage lacked; where
-    /// `NoMemory` counts them all, it was the swap or the place of a new owner that found none: then the stage is gone, and
-    /// the table stands. Every other end leaves everything as it was.
+    /// Takes a block of another owner, and returns how it ended. It copies the entries one by one.
+    ///
+    /// If the block's floor is at or below the held version, the owner's table takes the block. The table's floor rises
+    /// to the block's, the tombstones up to that go, and the entries above the held version are entered.
+    ///
+    /// Otherwise a stage takes the block, and the entries above the stage's progress are entered. It is the stage of
+    /// the block's floor, if the block continues that. It is a new stage, if the block begins after 0 and there is no
+    /// stage of that floor or a higher one. Once the stage's progress has reached its floor, it replaces the table.
+    ///
+    /// `Taken`, `TooManyKeys` and `NoMemory` contain how many entries were entered. If there was no memory for the
+    /// swap, `NoMemory` counts all of them: the table stays, and the stage is gone. If there was none for a new owner's
+    /// place, it counts 0, and nothing changes. Every other end leaves everything as it was.
     pub fn apply_block(&mut self, block: &Block) -> BlockEnd
         ensures effect { self.new ≡ held_after_block self.old block.now result }
         ensures end { Fits self.old block.now result }
@@ -209,7 +219,7 @@ impl Holdings {
         )
     }
 
-    /// Takes a block in parts.
+    /// Takes a block that is given in parts.
     fn apply_parts(
         &mut self,
         owner: &Name,
@@ -239,7 +249,7 @@ impl Holdings {
         self.add(owner, floor, upto, entries)
     }
 
-    /// Whether the own table has no room for a key.
+    /// Returns whether the own table has no room for a key.
     fn is_own_full_for(&self, key: &Key) -> bool
         ensures full { result ≡ is_full_for key.now (shown_of self.now self.now.me).entries }
         ensures holdings { IsHoldings self.now }
@@ -250,7 +260,8 @@ impl Holdings {
         }
     }
 
-    /// Enters the next own write, which has room. `NoMemory`.
+    /// Enters the next own write, for which there is room. The only fault is `NoMemory`, which leaves everything as it
+    /// was.
     fn enter_own(&mut self, entry: Entry) -> Result<(), Fault>
         requires next { entry.version ≡ (shown_of self.old self.old.me).held + 1 }
         requires room { is_full_for entry.key (shown_of self.old self.old.me).entries ≡ false }
@@ -262,7 +273,7 @@ impl Holdings {
         self.holders.get_mut(&self.me).unwrap().push(entry)
     }
 
-    /// How a block of the own name ends.
+    /// Returns how a block of the own name ends.
     fn own_end(&self, upto: u64) -> BlockEnd
         ensures end { result ≡ own_end (shown_of self.now self.now.me).held upto }
         ensures holdings { IsHoldings self.now }
@@ -273,7 +284,7 @@ impl Holdings {
         BlockEnd::OwnAhead(upto)
     }
 
-    /// Takes what a block tells of an owner that is held.
+    /// Takes a block of an owner that is held.
     fn take_known(
         &mut self,
         owner: &Name,
@@ -298,7 +309,7 @@ impl Holdings {
         end
     }
 
-    /// Takes what a block tells of a new owner, unless nothing of it comes.
+    /// Takes a block of a new owner. If nothing of it can be entered, the owner stays unknown.
     fn add(&mut self, owner: &Name, floor: u64, upto: u64, entries: &[Entry]) -> BlockEnd
         requires other { pointwise nat_eq owner.now self.old.me ≡ false }
         requires unknown { get self.old.owners owner.now ≡ None }
@@ -321,7 +332,7 @@ impl Holdings {
     }
 }
 
-/// Takes an owner out of whom nothing is left.
+/// Removes an owner if it is `gone`: nothing is held of it any more.
 fn drop_if(holders: &mut BTreeMap<Name, Holder>, owner: &Name, gone: bool)
     requires ordered { IsOrdered (slice_cmp nat_cmp) holders.old }
     ensures ordered { IsOrdered (slice_cmp nat_cmp) holders.new }

@@ -1,9 +1,9 @@
 //! What a node holds of each owner's writes, how it takes a block of them, and what stays true.
 //!
-//! Holdings are a node's own table and the tables of other owners. A block enters only where it joins on to what is held, so
-//! that no version is skipped and none goes back. A block with a floor above what is held begins a stage, or goes on with it;
-//! once the stage has come as far as its floor it takes the table's place. Digests and deltas are made of holdings; `sb_node`
-//! changes them.
+//! Holdings are a node's own table and the tables of other owners. A table takes a block only if the block begins at or
+//! below the held version, so no version is skipped, and none goes back. If the block's purge floor is above the held
+//! version, the block goes to a stage instead. Once the stage has reached its floor, it replaces the table. `sb_node`
+//! enters writes and blocks into holdings, and makes digests and deltas from them.
 //!
 //! ```rust
 //! /// How `b` ends a block of the first write of `a`, and then the same block once more.
@@ -14,6 +14,17 @@
 //!     Ok([holdings.apply_block(&block), holdings.apply_block(&block)])
 //! }
 //! ```
+//!
+//! # What no contract refuses
+//!
+//! - `==` of `BlockEnd` calls two different ends equal, or a copy of an end is another end. No test refuses this by
+//!   itself: only tests compare ends.
+//! - `Holdings::new` or `push_own` reports `NoMemory` without need, or a block ends by `NoMemory` without need. So does
+//!   a swap of a stage that leaves no entry. Tests run each call with ample memory, and once at full size. They compare
+//!   exact answers.
+//! - The maps take more room than they need, or a call takes longer than it should. Nothing refuses it; `attrdir_bench`
+//!   measures.
+//! - `Debug` prints another text. Nothing refuses it.
 #![tactic(auto)]
 
 mod contents;

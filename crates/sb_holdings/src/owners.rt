@@ -11,7 +11,7 @@ use std::collections::btree_map::{Keys, Range};
 use std::iter::FusedIterator;
 use std::marker::Model;
 
-/// Names of owners, in ascending order.
+/// Iterates over the names of owners, in ascending order.
 #[derive(Drop)]
 pub struct Owners<'a> {
     names: Keys<'a, Name, Holder>,
@@ -47,7 +47,7 @@ impl<'a> Iterator for Owners<'a> {
 
 impl<'a> FusedIterator for Owners<'a> {}
 
-/// Owners with what is held of them, in ascending order of the names.
+/// Iterates over owners with what is held of them, in ascending order of their names.
 #[derive(Drop)]
 pub struct Holders<'a> {
     holders: Range<'a, Name, Holder>,
@@ -84,7 +84,7 @@ impl<'a> Iterator for Holders<'a> {
 
 impl<'a> FusedIterator for Holders<'a> {}
 
-/// Owners with their tables, in ascending order of the names.
+/// Iterates over owners with their shown tables, in ascending order of their names.
 #[derive(Drop)]
 pub struct Tables<'a> {
     holders: Holders<'a>,

@@ -1,4 +1,4 @@
-//! What a read of a table gives.
+//! What a read of a table returns.
 
 ghost use Rattle.std.specs.Prelude.{◌≡◌, ℕ, ◌≤◌, List, Some};
 ghost use Rattle.sb_types.specs.declared.entry.Slot.TheVariants.{Set};
@@ -8,8 +8,9 @@ ghost use Rattle.sb_types.specs.Records.{Entry, Table};
 ghost use Rattle.sb_types.specs.Runs.{IsTable, shown_slot, shown_at};
 ghost use Rattle.sb_types.specs.Writes.{Written, Superseded, Holds};
 
-/// What is read of a table that holds was written so, and a key whose last write of all is at or below held
-/// shows that write. A key that was written again above held may show an older write, or nothing.
+/// If a table holds what its owner wrote, each value read from it was written with the version that is read. A key
+/// whose last write is at or below the held version shows that write. A key that was written again above the held
+/// version may show an older write, or nothing.
 pub fn reads_are_true()
     ensures written { (writes : List Write) (t : Table) (key : List ℕ) (value : Value) (version : ℕ) →
         Holds writes t → shown_at key t.entries ≡ Some (value, version) →

@@ -4,7 +4,7 @@ ghost use Rattle.std.specs.Prelude.{◌≡◌, length, ◌==◌};
 use crate::ends::BlockEnd;
 use std::marker::Model;
 
-/// How the blocks of a delta ended: one end a block, in their order.
+/// How the blocks of a delta ended: one end for each block, in the order of the blocks.
 #[derive(Debug, Drop)]
 pub struct Report {
     ends: Vec<BlockEnd>,
@@ -20,28 +20,28 @@ impl Model for Report {
 }
 
 impl Report {
-    /// The report of these ends.
+    /// Makes the report of these ends. It takes no memory.
     pub fn new(ends: Vec<BlockEnd>) -> Report
         ensures { result ≡ ends.items }
     {
         Report { ends }
     }
 
-    /// The ends, in the order of the blocks.
+    /// Returns the ends, in the order of the blocks.
     pub fn ends(&self) -> &[BlockEnd]
         ensures { result.now ≡ self.now }
     {
         &self.ends
     }
 
-    /// How many blocks ended.
+    /// Returns how many blocks ended.
     pub fn len(&self) -> usize
         ensures { result ≡ length self.now }
     {
         self.ends.len()
     }
 
-    /// Whether the delta had no block.
+    /// Returns whether the delta had no blocks.
     pub fn is_empty(&self) -> bool
         ensures { result ≡ (length self.now == 0) }
     {

@@ -1,4 +1,4 @@
--- The calls of a session, one after the other.
+-- The calls of a session, one after another.
 use Rattle.std.proofs.Common.{◌≡◌, false, List, [], ◌++◌, Ok, Err, ⊎_elim, refl, sym, ap, ◌∙◌}
 use Rattle.std.specs.List.{flat_map}
 use Rattle.std.proofs.lemmas.Grind.{flat_map-append}

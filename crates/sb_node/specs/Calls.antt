@@ -9,7 +9,7 @@ use Rattle.sb_holdings.specs.declared.ends.BlockEnd.{BlockEnd}
 use Rattle.sb_holdings.specs.Nodes.{Node, NodeEvent, Wrote, replay_node}
 use Rattle.sb_holdings.specs.Treats.{took_each}
 
--- the node took a committed write of its own, or a delta whose blocks ended so
+-- the node took a committed write of its own, or a delta whose blocks ended this way
 pub data Call : Type 0 where
   TookOwn : Entry → Call
   Applied : List Block → List BlockEnd → Call
@@ -31,7 +31,7 @@ abbrev pub IsCall : Call → Type 0
 IsCall (TookOwn e) = Unit {0}
 IsCall (Applied blocks ends) = AreBlocks blocks
 
--- a committed write, or honest blocks, whatever their ends
+-- a committed write, or honest blocks, however they end
 abbrev pub TrueCall : (List ℕ → List Write) → List ℕ → Call → Type 0
 TrueCall writes me (TookOwn e) = Written (writes me) e
 TrueCall writes me (Applied blocks ends) = AreHonest writes blocks

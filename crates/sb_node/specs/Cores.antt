@@ -13,19 +13,19 @@ pub record Core : Type 0 where
   pub settings : Settings
   pub node : Node
 
--- the node with the settings that it has
+-- this node, with the settings of the core
 abbrev pub with_node : Core → Node → Core
 with_node core node = record { settings = core.settings; node = node }
 
--- how many keys its own table has, removed ones counted
+-- how many keys its own table has, those with tombstones (markers of removed keys) included
 abbrev pub own_keys : Node → ℕ
 own_keys node = length (shown_of node.held node.held.me).entries
 
--- this answer, unless a version under the own name came that the node did not write: then the fault with that version
+-- this answer, unless another node wrote a version under the own name: then the fault with that version
 abbrev pub unless_conflict : Option ℕ → Result (Unit {0}) Fault → Result (Unit {0}) Fault
 unless_conflict None answer = answer
 unless_conflict (Some version) answer = Err (OwnerConflict version)
 
--- what a committed write is answered, where there is memory
+-- the answer to a committed write, if there is memory
 abbrev pub committed_answer : Node → Committed → Result (Unit {0}) Fault
 committed_answer node c = if pointwise nat_eq c.owner node.held.me then unless_conflict node.conflict (own_answer node.held c.entry) else Err WrongOwner

@@ -1,4 +1,4 @@
--- The calls that a session makes to a node: what it answers, and what they leave.
+-- The calls that a session makes to a node: what the node answers, and what the calls leave.
 use Rattle.std.specs.Prelude.{◌≡◌, List, [], ◌∷◌, Ok, Err}
 use Rattle.sb_types.specs.declared.fault.Fault.TheVariants.{NoMemory}
 use Rattle.sb_digest.specs.Builders.{IsLongestFront}
@@ -16,7 +16,7 @@ entered_by (gives theirs answer) = []
 entered_by (applies blocks (Ok ends)) = Applied blocks ends ∷ []
 entered_by (applies blocks (Err fault)) = []
 
--- what the node answers as it stands; only memory may be wanting
+-- what the node answers in its present state; the only fault is missing memory
 abbrev pub Answers : Core → Act → Type 0
 Answers core (tells from want (Ok digest)) = IsLongestFront core.settings.budget want from (pairs_from from core.node.held) digest
 Answers core (tells from want (Err fault)) = fault ≡ NoMemory
@@ -25,7 +25,7 @@ Answers core (gives theirs (Err fault)) = fault ≡ NoMemory
 Answers core (applies blocks (Ok ends)) = Treats core.node blocks ends
 Answers core (applies blocks (Err fault)) = fault ≡ NoMemory
 
--- it answers so, and the node is then the replay of what the call entered
+-- the node answers this way, and is then the replay of what the call entered
 pub record Steps (old : Core) (act : Act) (new : Core) : Type 0 where
   pub answers : Answers old act
   pub calls : AreCalls (entered_by act)

@@ -1,4 +1,4 @@
--- What a session makes of a node, and what it says of it.
+-- What a session makes of a node, and what it sends of it.
 use Rattle.std.specs.Prelude.{◌≡◌, ℕ, true, false, List, [], ◌∷◌}
 use Rattle.sb_types.specs.declared.entry.Write.{Write}
 use Rattle.sb_types.specs.Records.{Block}
@@ -16,7 +16,7 @@ use Rattle.sb_node.specs.Calls as calls
 use Rattle.sb_node.specs.Cores.{Core}
 use Rattle.sb_holdings.specs.Treats.{Treats}
 
--- the delta, with the ends that are told of its blocks
+-- the delta, with the reported ends of its blocks
 abbrev pub applied_with : List Block → Replies → List calls.Call
 applied_with blocks (Applied ends) = calls.Applied blocks ends ∷ []
 applied_with blocks Greeted = []
@@ -24,7 +24,7 @@ applied_with blocks (Answered delta) = []
 applied_with blocks (Exchanged delta digest) = []
 applied_with blocks (Ended reason) = []
 
--- what a node enters of a message that is taken
+-- what a node enters from a message that is taken
 abbrev pub taken_of : Message → Replies → List calls.Call
 taken_of (Delta blocks) replies = applied_with blocks replies
 taken_of (Hello hello) replies = []
@@ -36,7 +36,7 @@ taken_of (Put wanted) replies = []
 taken_of (Done version) replies = []
 taken_of (Refused fault) replies = []
 
--- the answer to a digest, and the own digest from where the session stands if one is wanted
+-- the answer to a digest, and if one is wanted, the own digest from the session's place on
 abbrev pub IsReply : Core → Session → digests.Digest → Replies → Type 0
 IsReply core s theirs (Answered blocks) =
     (theirs.want ≡ false) × IsDelta core.settings core.node.held theirs blocks × IsAnswer core.settings.budget core.node.held theirs blocks
@@ -55,7 +55,7 @@ AreEnds core blocks (Answered delta) = ⊥
 AreEnds core blocks (Exchanged delta digest) = ⊥
 AreEnds core blocks (Ended reason) = ⊥
 
--- the blocks of a delta are honest; no other message tells of writes that nodes take over
+-- the blocks of a delta are honest; no other message contains writes that nodes take over
 abbrev pub TrueMessage : (List ℕ → List Write) → Message → Type 0
 TrueMessage writes (Delta blocks) = calls.AreHonest writes blocks
 TrueMessage writes (Hello hello) = Unit {0}

@@ -1,4 +1,4 @@
-//! A node at one end of a session.
+//! A node as one end of a session.
 
 use crate::laws::deltas_keep_truth;
 use crate::node::NodeCore;
@@ -15,10 +15,10 @@ impl Handler for NodeCore {
 
     ghost step = { Steps };
 
-    // Nothing is changed.
+    // Nothing changes.
     ghost stays = { λ old new. new ≡ old };
 
-    // The node is what deltas that were applied leave of it.
+    // The node is a replay of the deltas that were applied.
     ghost grows = { IsReplay };
 
     fn digest(&mut self, from: Option<Name>, want: bool) -> Result<Digest, Fault> {

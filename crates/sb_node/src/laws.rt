@@ -1,4 +1,4 @@
-//! What stays true of what a node holds and tells, over any calls.
+//! What stays true of what a node holds and sends, over any calls.
 
 ghost use Rattle.std.specs.Prelude.{◌≡◌, ℕ, true, List, Result, Ok, Err};
 ghost use Rattle.sb_types.specs.declared.fault.Fault.{Fault};
@@ -26,8 +26,9 @@ ghost use Rattle.sb_node.specs.Talks.{taken_of, IsReply, AreEnds, AreTrueMessage
 use sb_budget::{available_by_number, cuts_are_honest};
 use sb_holdings::{holdings_make_nodes, nodes_hold};
 
-/// Where all that a node holds is true, each block of its answer to a digest is honest, whatever the order and the
-/// budget: it leaves out nothing that was written in its range and not superseded.
+/// If all that a node holds is true, each block of its answer to a digest is honest, in any order and for any budget.
+/// An honest block leaves out of its range only superseded writes, and tombstones up to its purge floor. A tombstone is
+/// the marker of a removed key.
 pub fn answers_are_honest()
     ensures honest { (writes : List ℕ → List Write) (node : Node) (budget : ℕ) (digest : Digest) (blocks : List Block) (b : Block) →
         IsNode node → NodeHolds writes node → IsAnswer budget node.held digest blocks → Stands blocks b → Honest (writes b.owner) b }
@@ -38,7 +39,7 @@ pub fn answers_are_honest()
     cuts_are_honest();
 }
 
-/// What a node holds stays true as it takes honest blocks, whatever their ends. A delta's blocks are blocks.
+/// What a node holds stays true as it takes honest blocks, however they end. The blocks of a delta are blocks.
 pub fn deltas_keep_truth()
     ensures holds { (writes : List ℕ → List Write) (node : Node) (blocks : List Block) (ends : List BlockEnd) →
         IsNode node → AreBlocks blocks → NodeHolds writes node → AreHonest writes blocks → NodeHolds writes (replay_node node (took_each blocks ends)) }
@@ -50,8 +51,8 @@ pub fn deltas_keep_truth()
     nodes_hold();
 }
 
-/// What a node holds stays true over any calls that take committed writes of its own and honest blocks; and whatever
-/// blocks come, held does not fall for any owner and no key's version does.
+/// What a node holds stays true over any calls that take its own committed writes and honest blocks. Whatever blocks
+/// come, no owner's held version falls, and no key's version falls.
 pub fn calls_keep_truth()
     ensures holds { (writes : List ℕ → List Write) (node : Node) (calls : List Call) →
         IsNode node → AreCalls calls → NodeHolds writes node → AreTrue writes node.held.me calls → NodeHolds writes (replay_calls node calls) }
@@ -61,8 +62,9 @@ pub fn calls_keep_truth()
     nodes_hold();
 }
 
-/// What a session makes of a node is a replay: of a message that is taken, the delta with its ends; of one that is
-/// refused, and of a digest that is asked with, nothing. To a digest it replies as the node answers.
+/// What a session makes of a node is a replay. For a message that is taken, it is a replay of its delta with the
+/// reported ends. For a message that is refused, and for a digest that is asked with, nothing changes. The session
+/// replies to a digest as the node answers.
 pub fn sessions_are_replays()
     ensures taken { (s : Session) (core : Core) (message : Message) (replies : Replies) (t : Session) (new : Core) →
         Takes Steps s core message (Ok replies) t new → new ≡ with_node core (replay_calls core.node (taken_of message replies)) }
@@ -76,7 +78,7 @@ pub fn sessions_are_replays()
         Takes Steps s core (kinds.Delta blocks) (Ok replies) t new → AreBlocks blocks × AreEnds core blocks replies }
 {}
 
-/// Over a whole session that hears only true messages, what a node holds stays true, and all that it says is true.
+/// Over a whole session that hears only true messages, what a node holds stays true, and all that it sends is true.
 pub fn sessions_keep_truth()
     ensures holds { (writes : List ℕ → List Write) (a : Party Core) (moves : List Move) (said : List Message) (b : Party Core) →
         IsNode a.handler.node → NodeHolds writes a.handler.node → Run Steps a moves said b → AreTrueMessages writes (heard_in moves) →

@@ -1,8 +1,8 @@
-//! A node: what it holds, what it tells a peer, and how it takes its own writes and what peers tell it.
+//! A node: what it holds, what it reports to a peer, and how it takes its own writes and those of peers.
 //!
-//! A `NodeCore` makes digests and deltas of its holdings, and enters own writes and the blocks of a delta. An own write is
-//! entered only after it stands in the owner's log. A node is the `Handler` of a session; `sb_directory` and `sb_world` stand
-//! on it.
+//! A `NodeCore` makes digests and deltas of its holdings, and enters own writes and the blocks of a delta. It enters an
+//! own write only after the owner's log has kept it. A node is the `Handler` of a session. `sb_directory` and
+//! `sb_world` use it.
 //!
 //! ```rust
 //! /// Makes an own write: it stands in the log before the node enters it.
@@ -23,6 +23,13 @@
 //!     peer.apply(&delta)
 //! }
 //! ```
+//!
+//! # What no contract refuses
+//!
+//! - `open`, `take_own`, `digest`, `deltas` or `apply` reports `NoMemory` without need, `deltas` even for a peer that
+//!   lacks nothing. Or a block ends by `NoMemory` without need. Tests run each with ample memory, and once at full
+//!   size. They compare exact answers.
+//! - A call takes more time or room than it should. Nothing refuses it; `attrdir_bench` measures.
 #![tactic(auto)]
 
 mod handler;

@@ -28,12 +28,12 @@ use sb_types::{Block, Delta, Fault, Key, Name, Order, Settings, Slot, Value};
 use std::alloc::Global;
 use std::marker::Model;
 
-/// A node: its settings, what it holds of each owner, and whether another writes under its name.
+/// A node: its settings, what it holds of each owner, and whether another node writes under its name.
 #[derive(Drop)]
 pub struct NodeCore {
     settings: Settings,
     holdings: Holdings,
-    /// The greatest version under the own name that came from elsewhere.
+    /// The greatest version under the own name that came from another node.
     conflict: Option<u64>,
     alloc: Global,
 }
@@ -54,7 +54,7 @@ impl Model for NodeCore {
 }
 
 impl NodeCore {
-    /// The node of a name that holds its own table and no other owner. `NoMemory`.
+    /// Opens the node of this name. It holds its own table, and no other owner. The only fault is `NoMemory`.
     pub fn open(
         alloc: Global,
         settings: Settings,
@@ -74,18 +74,18 @@ impl NodeCore {
         })
     }
 
-    /// The settings.
+    /// Returns the settings.
     pub fn settings(&self) -> Settings
         ensures settings { result ≡ self.now.settings }
         ensures limits { are_settings self.now.settings ≡ true }
         ensures holdings { IsHoldings self.now.node.held }
     {
-        // Does nothing: the call tells the prover that the settings keep their limits.
+        // Proof only: the call shows that the settings keep their limits.
         let _ = self.settings.budget();
         self.settings
     }
 
-    /// The own name.
+    /// Returns the own name.
     pub fn name(&self) -> &Name
         ensures name { result.now ≡ self.now.node.held.me }
         ensures holdings { IsHoldings self.now.node.held }
@@ -93,7 +93,7 @@ impl NodeCore {
         self.holdings.me()
     }
 
-    /// What is held of each owner.
+    /// Returns what is held of each owner.
     pub fn holdings(&self) -> &Holdings
         ensures held { result.now ≡ self.now.node.held }
         ensures holdings { IsHoldings self.now.node.held }
@@ -101,7 +101,7 @@ impl NodeCore {
         &self.holdings
     }
 
-    /// The version up to which an owner is held, 0 where it is not. It takes no memory.
+    /// Returns the held version of an owner, or 0 if the owner is not held. It takes no memory.
     pub fn upto(&self, owner: &Name) -> u64
         ensures version { result ≡ (shown_of self.now.node.held owner.now).held }
         ensures holdings { IsHoldings self.now.node.held }
@@ -109,8 +109,8 @@ impl NodeCore {
         self.holdings.upto(owner)
     }
 
-    /// The value under a key of an owner, with the version of its write; nothing where the key was removed, or
-    /// where no write of it is held. It takes no memory.
+    /// Returns the value of an owner's key, with the version of its write. Returns `None` if the key was removed, or if
+    /// no write of it is held. It takes no memory.
     pub fn get(&self, owner: &Name, key: &Key) -> Option<(&Value, u64)>
         ensures found { option_map (λ p. (p.0.now, p.1)) result ≡ shown_at key.now (shown_of self.now.node.held owner.now).entries }
         ensures holdings { IsHoldings self.now.node.held }
@@ -121,7 +121,8 @@ impl NodeCore {
         }
     }
 
-    /// How many keys the node's own table has, removed ones counted. It takes no memory.
+    /// Returns how many keys the node's own table has, those with tombstones (markers of removed keys) included. It
+    /// takes no memory.
     pub fn keys(&self) -> usize
         ensures count { result ≡ own_keys self.now.node }
         ensures holdings { IsHoldings self.now.node.held }
@@ -132,8 +133,8 @@ impl NodeCore {
         }
     }
 
-    /// The greatest version under the own name that a block told of and the node never wrote; none where no
-    /// block did. While there is one, the node takes no write of its own. It takes no memory.
+    /// Returns the greatest version under the own name that a block contained and the node never wrote. Returns `None`
+    /// if there was no such block. After such a block, the node takes no more writes of its own. It takes no memory.
     pub fn conflict(&self) -> Option<u64>
         ensures version { result ≡ self.now.node.conflict }
         ensures holdings { IsHoldings self.now.node.held }
@@ -141,17 +142,21 @@ impl NodeCore {
         self.conflict
     }
 
-    /// Enters a committed write of the node's own. `WrongOwner` where it is another's; `OwnerConflict` with the
-    /// version of the conflict where there is one; `OutOfTurn` with the next own version, or 0 where there is
-    /// none, unless the write has that version; `TableFull` where its key is new beside 4,096 others; then
-    /// `NoMemory`. Each leaves everything as it was.
+    /// Enters a committed write of the node's own. Its faults, in this order. Each leaves everything as it was:
+    ///
+    /// - `WrongOwner`: the write has another owner.
+    /// - `OwnerConflict(version)`: another node writes under this name. `version` is that of `conflict`.
+    /// - `OutOfTurn(next)`: the write has another version than the next own one. `next` is that version, or 0 if all
+    ///   versions are spent.
+    /// - `TableFull`: the key is new, and the own table has 4,096 others.
+    /// - `NoMemory`.
     pub fn take_own(&mut self, committed: &Committed) -> Result<(), Fault>
         ensures answer { Gives result (committed_answer self.old.node committed.now) }
         ensures refused { IfErr (committed_answer self.old.node committed.now) (λ fault. result ≡ Err fault) }
         ensures ok { OnOk result (self.new ≡ with_node self.old (node_after_event self.old.node (Wrote committed.now.entry))) }
         ensures err { OnErr result (self.new ≡ self.old) }
 
-        // What an Ok says of the write.
+        // What an `Ok` means for the write.
         ensures own { OnOk result (committed.now.owner ≡ self.old.node.held.me) }
         ensures alone { OnOk result (self.old.node.conflict ≡ None) }
         ensures next { OnOk result (own_answer self.old.node.held committed.now.entry ≡ Ok tt) }
@@ -163,8 +168,8 @@ impl NodeCore {
         self.holdings.push_own(committed.entry().copy(self.alloc)?)
     }
 
-    /// Why a committed write can't be entered, the first reason that holds of `WrongOwner`, `OwnerConflict`,
-    /// `OutOfTurn` and `TableFull`; nothing where only memory may be wanting. It takes no memory.
+    /// Returns why a committed write cannot be entered: the first of `WrongOwner`, `OwnerConflict`, `OutOfTurn` and
+    /// `TableFull` that applies. Returns `None` if only memory can be missing. It takes no memory.
     pub fn refusal(&self, committed: &Committed) -> Option<Fault>
         ensures some { IfSome result (λ fault. committed_answer self.now.node committed.now ≡ Err fault) }
         ensures none { IfNone result (committed_answer self.now.node committed.now ≡ Ok tt) }
@@ -186,7 +191,7 @@ impl NodeCore {
         None
     }
 
-    /// Whether the own table has no room for a key.
+    /// Returns whether the own table has no room for a key.
     fn is_full_for(&self, key: &Key) -> bool
         ensures { result ≡ is_full_for key.now (shown_of self.now.node.held self.now.node.held.me).entries }
     {
@@ -196,9 +201,9 @@ impl NodeCore {
         }
     }
 
-    /// The digest of the owners from a name on, or of all, the own name among them: as many as fit a frame within the
-    /// budget of the settings, and at least one where there is one. `want` says whether a digest is wanted in
-    /// answer. `NoMemory`.
+    /// Returns the digest of the owners from a name on, or of all owners if no name is given. The own name counts as an
+    /// owner. `want` is whether a digest is wanted in answer. The digest has as many owners as fit in a frame of the
+    /// settings' budget, and at least one if there is one. The only fault is `NoMemory`.
     pub fn digest(&self, from: Option<Name>, want: bool) -> Result<Digest, Fault>
         ensures longest { IfOk result (IsLongestFront self.now.settings.budget want from (pairs_from from self.now.node.held)) }
         ensures goes { IfOk result (λ digest. 0 < length (pairs_from from self.now.node.held) → 0 < length digest.pairs) }
@@ -214,8 +219,9 @@ impl NodeCore {
         )
     }
 
-    /// What a peer that sent this digest lacks, in the order of the settings: as much of the front of it as fits a
-    /// frame within their budget, and at least one entry where one is lacking. `NoMemory`.
+    /// Returns what a peer that sent this digest lacks, in the order of the settings. It is the longest prefix that
+    /// fits a frame of the settings' budget. If the peer lacks anything, the delta has at least one block. The only
+    /// fault is `NoMemory`.
     pub fn deltas(&self, digest: &Digest) -> Result<Delta, Fault>
         ensures delta { IfOk result (IsDelta self.now.settings self.now.node.held digest.now) }
         ensures answer { IfOk result (IsAnswer self.now.settings.budget self.now.node.held digest.now) }
@@ -230,8 +236,9 @@ impl NodeCore {
         }
     }
 
-    /// Takes each block of a delta in turn, and tells how each ended. `NoMemory` where there is no room for the
-    /// ends, with nothing taken; a block that finds no memory ends so.
+    /// Takes each block of a delta in turn, and returns how each ended. Returns `NoMemory` if there is no memory for
+    /// the ends; then no block was taken. If a single block finds no memory, that is its end, and the next block
+    /// follows.
     pub fn apply(&mut self, delta: &Delta) -> Result<Report, Fault>
         ensures ends { IfOk result (Treats self.old.node delta.now) }
         ensures ok { IfOk result (λ ends. self.new ≡ with_node self.old (replay_node self.old.node (took_each delta.now ends))) }
@@ -249,7 +256,7 @@ impl NodeCore {
         Ok(Report::new(ends))
     }
 
-    /// Takes a block, and tells how it ended.
+    /// Takes a block, and returns how it ended.
     fn take_block(&mut self, block: &Block) -> BlockEnd
         ensures end { Fits self.old.node.held block.now result }
         ensures effect { self.new ≡ with_node self.old (node_after_block self.old.node block.now result) }

@@ -1,4 +1,5 @@
-//! That a delta is the same, made with a list of all that a peer lacks and without it, of a thousand made-up holdings.
+//! A delta is the same whether it is made from a list of all that a peer lacks, or without one. A thousand made-up
+//! holdings show it.
 ghost use Rattle.std.specs.Prelude.{◌≤◌, ◌<◌};
 
 use crate::making::{address, apply, arranged, entries_in, items, longest};
@@ -19,7 +20,7 @@ use std::process::Abort;
 /// How many holdings are made up.
 const HOLDINGS: u64 = 1_000;
 
-/// A number below another.
+/// Returns a number below another.
 fn below(random: &mut Pcg32, limit: u32) -> u64
     requires { 0 < limit }
     ensures { result < limit }
@@ -27,7 +28,7 @@ fn below(random: &mut Pcg32, limit: u32) -> u64
     u64::from(random.next_word() % limit)
 }
 
-/// Something to write, of 1 to 515 bytes in a message.
+/// A value to write, of 1 to 515 bytes in a message, or a removal.
 fn slot_of(rt: &impl Abort, alloc: Global, random: &mut Pcg32) -> Slot {
     match below(random, 5) {
         0 => Slot::Removed,
@@ -43,7 +44,7 @@ fn key_of(rt: &impl Abort, number: u64) -> Key {
     key(rt, &[b'k', b'a' + (number % 8) as u8])
 }
 
-/// What an owner wrote in a round, above all of the rounds before: up to six keys, of which some are written again.
+/// What an owner wrote in a round, above all rounds before: up to six keys, some of them written again.
 fn round_of(
     rt: &impl Abort,
     alloc: Global,
@@ -95,7 +96,7 @@ fn write_other(
     }
 }
 
-/// Up to seven owners, of which each wrote up to eight keys in up to three rounds.
+/// Holdings of up to seven owners. Each wrote up to eight keys in up to three rounds.
 fn made_holdings(rt: &impl Abort, alloc: Global, random: &mut Pcg32) -> Holdings {
     let mut holdings = got(rt, Holdings::new(alloc, name(rt, b"d"), Table::new(alloc)));
     write_own(rt, alloc, random, &mut holdings);
@@ -105,7 +106,7 @@ fn made_holdings(rt: &impl Abort, alloc: Global, random: &mut Pcg32) -> Holdings
     holdings
 }
 
-/// About half of the owners from a letter on and before another, held up to any version.
+/// About half of the owners from one letter on and before another, each held up to any version.
 fn made_pairs(
     rt: &impl Abort,
     alloc: Global,
@@ -128,7 +129,7 @@ fn made_pairs(
     pairs
 }
 
-/// What a peer may send: about half of the owners, held up to any version, of all names or between two.
+/// A digest that a peer may send: about half of the owners, each held up to any version, of all names or of a range.
 fn made_digest(rt: &impl Abort, alloc: Global, random: &mut Pcg32) -> Digest {
     let (first, from) = match below(random, 2) {
         0 => (b'a', None),
@@ -142,7 +143,7 @@ fn made_digest(rt: &impl Abort, alloc: Global, random: &mut Pcg32) -> Digest {
     got(rt, Digest::new(false, from, until, pairs))
 }
 
-/// The least budget, the greatest, or one between.
+/// The least budget, the greatest, or one between them.
 fn made_budget(random: &mut Pcg32) -> u64
     ensures least { BUDGET_LEAST ≤ result }
     ensures most { result ≤ BUDGET_MOST }
@@ -158,12 +159,12 @@ fn payload_of(rt: &impl Abort, alloc: Global, delta: Delta) -> Vec<u8> {
     got(rt, encode_payload(alloc, &Message::Delta(delta)))
 }
 
-/// Whether two deltas are the same in a message.
+/// Returns whether two deltas are the same in a message.
 fn are_equal(rt: &impl Abort, alloc: Global, one: Delta, other: Delta) -> bool {
     payload_of(rt, alloc, one) == payload_of(rt, alloc, other)
 }
 
-/// Whether both ways make the same delta, and whether it leaves something out.
+/// Returns whether both ways make the same delta, and whether it leaves something out.
 fn compare<O: DeltaOrder>(
     rt: &impl Abort,
     alloc: Global,
@@ -183,8 +184,8 @@ fn compare<O: DeltaOrder>(
     (are_equal(rt, alloc, cut, walked), is_cut_short)
 }
 
-/// Whether both ways make the same delta of holdings that are made up, by breadth and by depth; and whether it leaves
-/// something out by breadth.
+/// Returns whether both ways make the same delta of made-up holdings, by breadth and by depth. Also returns whether it
+/// leaves something out by breadth.
 fn compare_made(rt: &impl Abort, alloc: Global, random: &mut Pcg32) -> ([bool; 2], bool) {
     let holdings = made_holdings(rt, alloc, random);
     let digest = made_digest(rt, alloc, random);
@@ -203,6 +204,6 @@ fn both_ways_make_one_delta(rt: HostRuntime) {
         same_at(&rt, &number, &are_equal, &[true, true]);
         cut_short = cut_short.wrapping_add(u64::from(is_short));
     }
-    // Not of holdings alone that fit a frame.
+    // Not only of holdings that fit a frame.
     same_at(&rt, &cut_short, &(cut_short > HOLDINGS / 8), &true);
 }

@@ -1,4 +1,4 @@
-//! What is offered and cut at exact budgets, also of all keys that an owner may have.
+//! What is offered and cut at exact budgets, also for all keys that an owner may have.
 ghost use Rattle.std.specs.Prelude.{◌≡◌, ◌≤◌, ◌<◌, IfOk, OnOk};
 
 use crate::making::{apply, items, longest, nothing, tells};
@@ -47,7 +47,7 @@ fn three_writes(rt: &impl Abort, alloc: Global) -> Holdings {
     holdings_of(rt, alloc, b"a", table)
 }
 
-/// Enters an entry of 588 bytes, whose key is 64 times the letter.
+/// Enters an entry of 588 bytes. Its key is the letter, 64 times.
 fn enter_longest(alloc: Global, table: &mut Table, letter: u8, version: u64) -> Result<(), Fault>
     requires { table.old.held < version }
     ensures { OnOk result (table.new.held ≡ version) }
@@ -83,13 +83,13 @@ fn two_owners_or_none(alloc: Global, a: Name, b: Name) -> Result<Holdings, Fault
     }
 }
 
-/// The same, where there is memory.
+/// The same, if there is memory.
 fn two_owners(rt: &impl Abort, alloc: Global) -> Holdings {
     let (a, b) = (name(rt, b"a"), name(rt, b"b"));
     got(rt, two_owners_or_none(alloc, a, b))
 }
 
-/// The version under a key.
+/// Returns the version under a key.
 fn version_at(rt: &impl Abort, holdings: &Holdings, owner: &Name, text: &[u8]) -> Option<u64> {
     let key = key(rt, text);
     match holdings.table(owner)?.get(&key) {
@@ -136,7 +136,7 @@ fn cut_of_all(rt: &impl Abort, alloc: Global, holdings: &Holdings, budget: u64) 
     cut_after(rt, alloc, holdings, &nothing(rt, alloc, false), budget)
 }
 
-/// The own name a, with a flag under each of as many keys of four letters.
+/// Holdings of the own name a: a flag under each of `count` keys of four letters.
 fn flags(rt: &impl Abort, alloc: Global, count: u64) -> Holdings {
     let mut holdings = holdings_of(rt, alloc, b"a", Table::new(alloc));
     for number in 0..count {
@@ -147,10 +147,10 @@ fn flags(rt: &impl Abort, alloc: Global, count: u64) -> Holdings {
     holdings
 }
 
-/// Of a block the owner, the range and how many entries it has.
+/// A block's owner and range, and how many entries it has.
 type Part = (Name, u64, u64, usize);
 
-/// How long a frame the delta has, and whether just these are its blocks.
+/// Returns how long the delta's frame is, and whether its blocks are just these.
 fn consists(delta: &Delta, wanted: &[Part]) -> (u64, bool) {
     let mut are_equal = delta.blocks().len() == wanted.len();
     for (block, part) in delta.blocks().iter().zip(wanted) {
@@ -160,7 +160,7 @@ fn consists(delta: &Delta, wanted: &[Part]) -> (u64, bool) {
     (delta.encoded_length() + HEADER_LENGTH, are_equal)
 }
 
-/// How long a frame a cut of all has, and whether just these are its blocks.
+/// Returns how long the frame of a cut of all is, and whether its blocks are just these.
 fn cut_to(
     rt: &impl Abort,
     alloc: Global,
@@ -174,7 +174,8 @@ fn cut_to(
     consists(&cut_of_all(rt, alloc, holdings, budget), wanted)
 }
 
-/// Ends the test where a cut of all is not a block of so many entries up to this version of a, and a frame so long.
+/// Ends the test unless a cut of all is one block of a, with this many entries up to this version. Its frame has this
+/// length.
 fn cut_of_a(
     rt: &impl Abort,
     alloc: Global,
@@ -211,7 +212,7 @@ fn one_flag(rt: &impl Abort, alloc: Global) -> Holdings {
     holdings_of(rt, alloc, b"a", table)
 }
 
-/// How many blocks are in a cut of what a digest leaves, and its length.
+/// Returns how many blocks a cut of what a digest leaves has, and its length.
 fn extent_after(
     rt: &impl Abort,
     alloc: Global,
@@ -222,7 +223,7 @@ fn extent_after(
     (delta.blocks().len(), delta.encoded_length())
 }
 
-/// The example of `cut`.
+/// Runs the example of `cut`.
 #[test]
 fn example_of_cut(rt: HostRuntime) {
     let alloc = rt.alloc();
@@ -235,7 +236,7 @@ fn example_of_cut(rt: HostRuntime) {
 /// How a block ends, how far its owner is then held, and the versions under the keys y and x.
 type Taken = (BlockEnd, u64, Option<u64>, Option<u64>);
 
-/// What a peer makes of a block.
+/// Returns what a peer makes of a block.
 fn taken(rt: &impl Abort, alloc: Global, block: &Block) -> Taken {
     let mut peer = holdings_of(rt, alloc, b"b", Table::new(alloc));
     let end = apply(rt, &mut peer, block);
@@ -245,7 +246,8 @@ fn taken(rt: &impl Abort, alloc: Global, block: &Block) -> Taken {
     (end, peer.upto(owner), y, x)
 }
 
-/// How long a frame a cut of all has, whether it tells just these writes, and what a peer makes of its first block.
+/// Returns how long the frame of a cut of all is, and whether it contains just these writes. Also returns what a peer
+/// makes of its first block.
 fn told_and_taken(
     rt: &impl Abort,
     alloc: Global,
@@ -261,7 +263,7 @@ fn told_and_taken(
 fn an_entry_that_does_not_fit_waits(rt: HostRuntime) {
     let alloc = rt.alloc();
     let holdings = three_writes(&rt, alloc);
-    // The whole has a frame of 1,087 bytes.
+    // The frame of the whole has 1,087 bytes.
     cut_of_a(&rt, alloc, &holdings, 1_024, 562, (2, 1));
     cut_of_a(&rt, alloc, &holdings, 1_086, 562, (2, 1));
     cut_of_a(&rt, alloc, &holdings, 1_087, 1_087, (3, 2));
@@ -270,7 +272,7 @@ fn an_entry_that_does_not_fit_waits(rt: HostRuntime) {
     same(&rt, &found, &((562, true), wanted));
 }
 
-/// The longest entry of all, under the longest name.
+/// The longest entry of all, with the longest name.
 fn longest_of_all(rt: &impl Abort, alloc: Global) -> Holdings {
     let mut table = Table::new(alloc);
     enter(rt, &mut table, longest_value(rt, alloc, LONGEST_KEY, 1));
@@ -285,7 +287,7 @@ fn the_longest_entry_fits_the_least_budget(rt: HostRuntime) {
     same(&rt, &found, &(656, true));
 }
 
-/// Ends the test where a cut of all does not tell just the first so many of the writes, in a frame so long.
+/// Ends the test unless a cut of all contains just the first `count` writes, in a frame of this length.
 fn told_to(
     rt: &impl Abort,
     alloc: Global,
@@ -319,7 +321,7 @@ fn owners_follow_one_another(rt: HostRuntime) {
     told_to(&rt, alloc, &holdings, 2_417, 4, 2_417);
 }
 
-/// Of an item the owner, what it is offered after and up to, its rank and count, and its version.
+/// An item: its owner, what it is offered after and up to, its rank and count, and its version.
 type Place = (Name, u64, u64, u64, u64, u64);
 
 fn place(item: &Offered) -> Place {
@@ -333,7 +335,7 @@ fn place(item: &Offered) -> Place {
     )
 }
 
-/// Ends the test where not just these items are what a digest leaves.
+/// Ends the test unless just these items are what a digest leaves.
 fn leaves(rt: &impl Abort, alloc: Global, holdings: &Holdings, digest: &Digest, wanted: &[Place]) {
     let offered = got(rt, available(alloc, holdings, digest));
     let mut are_equal = offered.len() == wanted.len();
@@ -371,12 +373,12 @@ fn nothing_is_cut_of_nothing(rt: HostRuntime) {
     same(&rt, &found, &(0, 3));
 }
 
-/// What a digest leaves, cut within the 2,417 bytes of its frame, where there is memory.
+/// What a digest leaves, cut within the 2,417 bytes of its frame, if there is memory.
 fn cut_or_none(alloc: Global, holdings: &Holdings, digest: &Digest) -> Result<Delta, Fault> {
     cut(alloc, available(alloc, holdings, digest)?, 2_417)
 }
 
-/// The same, made once more where memory was refused.
+/// The same. It is made a second time if memory was refused.
 fn cut_again(rt: &impl Abort, alloc: Global, holdings: &Holdings) -> Delta {
     let digest = nothing(rt, alloc, false);
     match cut_or_none(alloc, holdings, &digest) {
@@ -385,7 +387,7 @@ fn cut_again(rt: &impl Abort, alloc: Global, holdings: &Holdings) -> Delta {
     }
 }
 
-/// The two owners, made once more where memory was refused.
+/// The two owners. They are made a second time if memory was refused.
 fn two_owners_again(rt: &impl Abort, alloc: Global, a: Name, b: Name) -> Holdings {
     match two_owners_or_none(alloc, a, b) {
         Err(Fault::NoMemory) => got(rt, two_owners_or_none(alloc, a, b)),

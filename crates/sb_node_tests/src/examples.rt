@@ -1,4 +1,4 @@
-//! The examples that stand at the top of the crates of cuts, orders and the node.
+//! The examples at the top of the crates of cuts, orders and the node.
 use crate::making::block_of;
 use crate::node::{log_of, node};
 use crate::{got, key, name, same};

@@ -1,4 +1,4 @@
-//! What is offered of a table with a floor, also where it holds further than its last entry.
+//! What is offered of a table with a purge floor, also if it is held further than its last entry.
 ghost use Rattle.std.specs.Prelude.{◌≡◌, ◌<◌};
 
 use crate::making::{apply, block_of};
@@ -25,7 +25,7 @@ fn enter(rt: &impl Abort, table: &mut Table, text: &[u8], version: u64, slot: Sl
     }
 }
 
-/// The node a, which wrote x and y and removed y, and purged up to 3: it holds up to 5, and only the entry of x is left.
+/// The node a, which wrote x and y, removed y, and purged up to 3. It holds up to 5, and has only the entry of x.
 fn purged(rt: &impl Abort, alloc: Global) -> Holdings {
     let mut table = Table::new(alloc);
     enter(rt, &mut table, b"x", 1, Slot::Set(Value::flag(true)));
@@ -35,14 +35,15 @@ fn purged(rt: &impl Abort, alloc: Global) -> Holdings {
     got(rt, Holdings::new(alloc, name(rt, b"a"), table))
 }
 
-/// The digest of all names of a peer that holds a up to a version.
+/// The digest, for all names, of a peer that holds a up to a version.
 fn held_to(rt: &impl Abort, alloc: Global, upto: u64) -> Digest {
     let mut pairs = Vec::new(alloc);
     push(rt, &mut pairs, Pair::new(name(rt, b"a"), upto, None));
     got(rt, Digest::new(true, None, None, pairs))
 }
 
-/// Of an item the floor, what it is offered after and up to, its rank and count, its version, and whether it has an entry.
+/// An item: its floor, what it is offered after and up to, its rank and count, its version, and whether it has an
+/// entry.
 type Item = ([u64; 3], [u64; 2], u64, bool);
 
 fn item(offered: &Offered) -> Item {
@@ -54,7 +55,7 @@ fn item(offered: &Offered) -> Item {
     )
 }
 
-/// Ends the test where not just these items are what a peer lacks that holds a up to a version.
+/// Ends the test unless just these items are what a peer lacks that holds a up to a version.
 fn lacks(rt: &impl Abort, alloc: Global, holdings: &Holdings, upto: u64, wanted: &[Item]) {
     let offered = got(rt, available(alloc, holdings, &held_to(rt, alloc, upto)));
     let mut are_equal = offered.len() == wanted.len();
@@ -64,7 +65,8 @@ fn lacks(rt: &impl Abort, alloc: Global, holdings: &Holdings, upto: u64, wanted:
     same_at(rt, &upto, &are_equal, &true);
 }
 
-/// Below the floor all is offered again; at or above it what lies above what the peer holds, or the news alone.
+/// A peer below the floor is offered all again. A peer at or above it is offered what is above its held version, or
+/// only the news.
 #[test]
 fn what_a_floor_leaves(rt: HostRuntime) {
     let alloc = rt.alloc();
@@ -77,7 +79,7 @@ fn what_a_floor_leaves(rt: HostRuntime) {
     lacks(&rt, alloc, &holdings, 5, &[]);
 }
 
-/// An own write above the floor is offered alone.
+/// An own write above the floor is the only item for a peer that has reached the floor.
 #[test]
 fn what_is_written_above_a_floor(rt: HostRuntime) {
     let alloc = rt.alloc();
@@ -89,8 +91,8 @@ fn what_is_written_above_a_floor(rt: HostRuntime) {
     lacks(&rt, alloc, &holdings, 2, &all);
 }
 
-/// How many items the last owner has, its head's floor, and what that begins after and reaches up to, whether the next item
-/// has an entry, and whether more follows.
+/// A cursor's count of items, its head's floor, `after` and `upto`, whether the next item has an entry, and whether
+/// more follow.
 type Walked = (u64, [u64; 3], bool, bool);
 
 fn walked(rt: &impl Abort, alloc: Global, holdings: &Holdings, upto: u64) -> Walked {
@@ -102,7 +104,7 @@ fn walked(rt: &impl Abort, alloc: Global, holdings: &Holdings, upto: u64) -> Wal
     (count, reach, entry.is_some(), later.is_some())
 }
 
-/// A cursor goes over the news alone as over an entry.
+/// A cursor passes an item without an entry as it passes one with an entry.
 #[test]
 fn a_cursor_tells_news_alone(rt: HostRuntime) {
     let alloc = rt.alloc();
@@ -128,7 +130,7 @@ fn versions_by<O: DeltaOrder>(
     Ok(versions)
 }
 
-/// The node a as above, which also holds two writes of b.
+/// The same node a, which also holds two writes of b.
 fn purged_beside_two(rt: &impl Abort, alloc: Global) -> Holdings {
     let mut holdings = purged(rt, alloc);
     let block = block_of(rt, alloc, name(rt, b"b"), b"xy");
@@ -136,7 +138,7 @@ fn purged_beside_two(rt: &impl Abort, alloc: Global) -> Holdings {
     holdings
 }
 
-/// News alone stands in both orders as an owner's one item.
+/// In both orders, news without an entry is its owner's only item.
 #[test]
 fn news_alone_come_in_their_order(rt: HostRuntime) {
     let alloc = rt.alloc();
@@ -149,7 +151,7 @@ fn news_alone_come_in_their_order(rt: HostRuntime) {
     same(&rt, &deep.as_slice(), &[(b, 1), (b, 2), (a, 5)].as_slice());
 }
 
-/// What a node tells an empty peer that wrote x, removed it, and purged up to that.
+/// The delta for an empty peer from a node that wrote x, removed it, and purged up to the removal.
 fn emptied(rt: &impl Abort, alloc: Global) -> Delta {
     let mut table = Table::new(alloc);
     enter(rt, &mut table, b"x", 1, Slot::Set(Value::flag(true)));
@@ -160,7 +162,7 @@ fn emptied(rt: &impl Abort, alloc: Global) -> Delta {
     got(rt, Breadth.delta(alloc, &holdings, &digest, BUDGET_LEAST))
 }
 
-/// A table without entries is told of in a block without entries, in a frame of 37 bytes, and the peer holds it.
+/// A table without entries is sent in a block without entries, in a frame of 37 bytes, and the peer then holds it.
 #[test]
 fn a_block_without_entries_is_told(rt: HostRuntime) {
     let alloc = rt.alloc();

@@ -1,4 +1,4 @@
-//! Digests, entries and blocks for the tests, what is offered of holdings, and what a delta tells.
+//! Digests, entries and blocks for the tests, what is offered of holdings, and what a delta contains.
 ghost use Rattle.std.specs.Prelude.{◌≡◌, IfOk};
 ghost use Rattle.sb_budget.specs.Cut.{CanCut};
 
@@ -21,7 +21,7 @@ pub(crate) fn block_of(rt: &impl Abort, alloc: Global, owner: Name, letters: &[u
     got(rt, Block::new(owner, 0, 0, letters.len() as u64, entries))
 }
 
-/// How the block ends; where it finds no memory, the end of the test.
+/// Returns how the block ends. Ends the test if it finds no memory.
 pub(crate) fn apply(rt: &impl Abort, holdings: &mut Holdings, block: &Block) -> BlockEnd {
     match holdings.apply_block(block) {
         BlockEnd::NoMemory(_) => panic!(rt; "error: NoMemory"),
@@ -29,7 +29,7 @@ pub(crate) fn apply(rt: &impl Abort, holdings: &mut Holdings, block: &Block) -> 
     }
 }
 
-/// The digest of all names of a peer that holds nothing.
+/// The digest, for all names, of a peer that holds nothing.
 pub(crate) fn nothing(rt: &impl Abort, alloc: Global, want: bool) -> Digest {
     got(rt, Digest::new(want, None, None, Vec::new(alloc)))
 }
@@ -39,7 +39,7 @@ pub(crate) fn address(rt: &impl Abort, alloc: Global) -> Slot {
     Slot::Set(got(rt, Value::addr(alloc, &[b'p'; 128])))
 }
 
-/// The longest value, a text of 512 bytes.
+/// The longest value: a text of 512 bytes.
 pub(crate) fn longest(rt: &impl Abort, alloc: Global) -> Slot {
     Slot::Set(got(rt, Value::text(alloc, &[b'p'; 512])))
 }
@@ -59,7 +59,7 @@ pub(crate) fn arranged<O: DeltaOrder>(
     Ok(ordered)
 }
 
-/// What is offered and can be cut; where there is none, the end of the test.
+/// Returns what is offered and can be cut. Ends the test if there is none.
 pub(crate) fn items(rt: &impl Abort, answer: Result<Vec<Offered>, Fault>) -> Vec<Offered>
     requires { IfOk answer (λ ordered. CanCut ordered.items) }
     ensures { CanCut result.items }
@@ -70,7 +70,7 @@ pub(crate) fn items(rt: &impl Abort, answer: Result<Vec<Offered>, Fault>) -> Vec
     }
 }
 
-/// How many entries a delta has.
+/// Returns how many entries a delta has.
 pub(crate) fn entries_in(delta: &Delta) -> usize {
     let mut entries = 0_usize;
     for block in delta.blocks() {
@@ -79,7 +79,7 @@ pub(crate) fn entries_in(delta: &Delta) -> usize {
     entries
 }
 
-/// How long a frame the delta has, and whether it tells just these writes.
+/// Returns how long the delta's frame is, and whether it contains just these writes.
 pub(crate) fn tells(delta: &Delta, wanted: &[(Name, u64)]) -> (u64, bool) {
     let mut wanted = wanted.iter().copied();
     let mut are_equal = true;

@@ -44,7 +44,7 @@ pub(crate) fn log_of(rt: &impl Abort, alloc: Global, owner: Name) -> PlainLog {
     PlainLog::new(alloc, owner, name(rt, b"c1"), 100)
 }
 
-/// The answer to a write that is to be committed and entered.
+/// Returns the answer to a write, which it commits and enters.
 fn answer(
     rt: &impl Abort,
     core: &mut NodeCore,
@@ -59,7 +59,7 @@ fn answer(
     settled(rt, answer)
 }
 
-/// A write that is committed and entered.
+/// Commits a write and enters it.
 pub(crate) fn write(
     rt: &impl Abort,
     core: &mut NodeCore,
@@ -74,7 +74,7 @@ fn weight(rt: &impl Abort, weight: u64) -> Slot {
     Slot::Set(got(rt, Value::weight(weight)))
 }
 
-/// A write of a weight.
+/// Writes a weight.
 fn weigh(rt: &impl Abort, core: &mut NodeCore, log: &mut PlainLog, text: &[u8], number: u64) {
     write(rt, core, log, text, &weight(rt, number));
 }
@@ -102,7 +102,7 @@ fn writer(
     core
 }
 
-/// The writes under these letters, from the version behind `after` on, each of a weight that is its version.
+/// The writes under these letters, from the version after `after` on. Each is a weight that is its version.
 fn block(rt: &impl Abort, alloc: Global, owner: Name, after: u64, letters: &[u8]) -> Block
     requires { after ≤ 10 }
 {
@@ -116,7 +116,7 @@ fn block(rt: &impl Abort, alloc: Global, owner: Name, after: u64, letters: &[u8]
     got(rt, Block::new(owner, 0, after, upto, entries))
 }
 
-/// How the blocks end; where one finds no memory, the end of the test.
+/// Returns how the blocks end. Ends the test if one finds no memory.
 pub(crate) fn applied(rt: &impl Abort, core: &mut NodeCore, delta: &Delta) -> Report {
     let report = got(rt, core.apply(delta));
     for end in report.ends() {
@@ -127,7 +127,7 @@ pub(crate) fn applied(rt: &impl Abort, core: &mut NodeCore, delta: &Delta) -> Re
     report
 }
 
-/// Whether the blocks end so.
+/// Returns whether the blocks end this way.
 fn take(rt: &impl Abort, core: &mut NodeCore, delta: &Delta, ends: &[BlockEnd]) -> bool {
     applied(rt, core, delta).ends() == ends
 }
@@ -137,7 +137,7 @@ fn delta_of(rt: &impl Abort, alloc: Global, block: Block) -> Delta {
     got(rt, delta_of_block(alloc, block))
 }
 
-/// Whether a delta of one block ends so.
+/// Returns whether a delta of one block ends this way.
 fn take_one(
     rt: &impl Abort,
     core: &mut NodeCore,
@@ -148,11 +148,11 @@ fn take_one(
     take(rt, core, &delta_of(rt, alloc, block), &[end])
 }
 
-/// How long a frame one node tells another, how far the other then holds the owner, and the versions of the values
-/// that it shows under x and y.
+/// How long the frame is that one node sends to another. Then, at the other: how far it holds the owner, and the
+/// versions of the values that it shows under x and y.
 type Told = (u64, u64, Option<u64>, Option<u64>);
 
-/// How long a frame one node tells another.
+/// Sends a delta from one node to another, and returns how long its frame is.
 fn pass_on(rt: &impl Abort, from: &NodeCore, to: &mut NodeCore) -> u64 {
     let digest = got(rt, to.digest(None, true));
     let delta = got(rt, from.deltas(&digest));
@@ -167,7 +167,7 @@ fn tell(rt: &impl Abort, from: &NodeCore, to: &mut NodeCore) -> Told {
     (length, to.upto(owner), x, y)
 }
 
-/// The version of the value under a key.
+/// Returns the version of the value under a key.
 fn shown(rt: &impl Abort, core: &NodeCore, owner: &Name, text: &[u8]) -> Option<u64> {
     match core.get(owner, &key(rt, text)) {
         Some((_, version)) => Some(version),
@@ -181,14 +181,14 @@ fn first_write(rt: &impl Abort, alloc: Global) -> Committed {
     got(rt, log.put(&key(rt, b"x"), &weight(rt, 5)))
 }
 
-/// How a node answers the same committed write the second time.
+/// Returns how a node answers the same committed write the second time.
 fn answer_again(rt: &impl Abort, alloc: Global, write: &Committed) -> Result<(), Fault> {
     let mut core = least(rt, alloc, b"a");
     got(rt, core.take_own(write));
     core.take_own(write)
 }
 
-/// How another node answers it.
+/// Returns how another node answers it.
 fn answer_of_another(rt: &impl Abort, alloc: Global, write: &Committed) -> Result<(), Fault> {
     let mut core = least(rt, alloc, b"b");
     core.take_own(write)
@@ -204,7 +204,8 @@ fn own_writes_come_once(rt: HostRuntime) {
     same(&rt, &[again, other], &wanted);
 }
 
-/// How many keys a node has that is new, wrote under two keys, wrote again, and removed one; and took a block of another.
+/// Returns how many keys a node has at five times. First it is new; then it wrote two keys, wrote again, removed one,
+/// and took a block of another node.
 fn keys_in_turn(rt: &impl Abort, alloc: Global) -> [usize; 5] {
     let mut log = log_of(rt, alloc, name(rt, b"a"));
     let mut core = least(rt, alloc, b"a");
@@ -227,8 +228,8 @@ fn keys_count_own_ones_also_removed(rt: HostRuntime) {
     same(&rt, &keys_in_turn(&rt, rt.alloc()), &[0, 2, 2, 2, 2]);
 }
 
-/// Of a node that writes x, takes a block, and writes y: whether the block ends so, the conflict, and the answer to the
-/// second write.
+/// A node writes x, takes a block, and writes y. Returns whether the block ends this way, the conflict, and the answer
+/// to the second write.
 fn write_around(
     rt: &impl Abort,
     alloc: Global,
@@ -243,7 +244,7 @@ fn write_around(
     (ended, conflict, answer(rt, core, log, b"y", &weight(rt, 6)))
 }
 
-/// Ends the test where a node a does not so end a block of its own name, and answer its next write then.
+/// Ends the test unless a node a ends a block of its own name this way, and then answers its next write this way.
 fn write_beside(
     rt: &impl Abort,
     alloc: Global,
@@ -290,7 +291,7 @@ fn three_blocks(rt: &impl Abort, alloc: Global) -> Delta {
     got(rt, Delta::new(blocks))
 }
 
-/// Ends the test where a delta of this block of a does not end so, or a is not held so far then.
+/// Ends the test unless a delta of this block of a ends this way, and a is then held up to this version.
 fn take_block(
     rt: &impl Abort,
     alloc: Global,
@@ -308,7 +309,8 @@ fn take_block(
     same_at(rt, &end, &(ended, core.upto(&a)), &(true, upto));
 }
 
-/// Whether a delta of three blocks ends so, how far the first and the last of its owners are then held, and the conflict.
+/// Returns whether a delta of three blocks ends this way. Also returns how far the first and the last of its owners are
+/// then held, and the conflict.
 fn take_three_blocks(
     rt: &impl Abort,
     alloc: Global,
@@ -333,18 +335,18 @@ fn blocks_end_in_turn(rt: HostRuntime) {
     same(&rt, &found, &(true, 3, 2, Some(1)));
 }
 
-/// The answer to the second removal of x, which was written once.
+/// Returns the answer to the second removal of x, which was written once.
 fn remove_twice(rt: &impl Abort, core: &mut NodeCore, log: &mut PlainLog) -> Result<(), Fault> {
     weigh(rt, core, log, b"x", 5);
     write(rt, core, log, b"x", &Slot::Removed);
     answer(rt, core, log, b"x", &Slot::Removed)
 }
 
-/// How a second removal was answered, what was told, whether the other has a marker of version 2, and what is told once
-/// x is written again.
+/// The answer to a second removal, and what was sent. Then whether the other has a tombstone (the marker of a removal)
+/// of version 2. Then what is sent after x is written again.
 type Removal = (Result<(), Fault>, Told, bool, Told);
 
-/// What a node a tells another that removed its x.
+/// What a node a sends to another after it removed its x.
 fn tell_of_a_removal(
     rt: &impl Abort,
     from: &mut NodeCore,
@@ -358,7 +360,7 @@ fn tell_of_a_removal(
     (again, told, marked, tell(rt, from, to))
 }
 
-/// Whether x of the owner has the marker of version 2.
+/// Returns whether x of the owner has the tombstone of version 2.
 fn has_marker(rt: &impl Abort, core: &NodeCore, owner: &Name) -> bool {
     let x = key(rt, b"x");
     let Some(table) = core.holdings().table(owner) else {
@@ -379,7 +381,7 @@ fn removals_are_told(rt: HostRuntime) {
     same(&rt, &told, &wanted);
 }
 
-/// What a node tells another three times.
+/// What a node sends to another, three times.
 fn tell_thrice(rt: &impl Abort, from: &NodeCore, to: &mut NodeCore) -> [Told; 3] {
     let (first, second) = (tell(rt, from, to), tell(rt, from, to));
     [first, second, tell(rt, from, to)]
@@ -397,7 +399,7 @@ fn a_peer_learns_what_fits(rt: HostRuntime) {
     same(&rt, &told, &[first, second, (9, 3, Some(3), Some(2))]);
 }
 
-/// How many entries of a and how many of others a delta has.
+/// Returns how many entries of a and of others a delta has.
 fn entries_of(delta: &Delta, a: Name) -> (usize, usize) {
     let mut entries = (0, 0);
     for block in delta.blocks() {
@@ -410,15 +412,16 @@ fn entries_of(delta: &Delta, a: Name) -> (usize, usize) {
     entries
 }
 
-/// How long a frame a node a tells a peer that holds nothing, and how many entries of a and of others are in it.
+/// Returns how long the frame is that a node a sends to a peer that holds nothing. Also returns how many entries of a
+/// and of others it has.
 fn tell_all(rt: &impl Abort, alloc: Global, core: &NodeCore) -> (u64, (usize, usize)) {
     let delta = got(rt, core.deltas(&nothing(rt, alloc, false)));
     let length = delta.encoded_length() + HEADER_LENGTH;
     (length, entries_of(&delta, *core.name()))
 }
 
-/// Ends the test where a node a does not tell so long a frame with so many entries of either, that wrote three keys, and
-/// heard of b that wrote one, each an entry of 588 bytes.
+/// Ends the test unless a node a sends a frame of this length, with this many entries of either owner. The node wrote
+/// three keys and has one of b, each an entry of 588 bytes.
 fn tell_of_two(
     rt: &impl Abort,
     alloc: Global,
@@ -443,7 +446,7 @@ fn deltas_come_in_the_order_of_the_settings(rt: HostRuntime) {
     tell_of_two(&rt, alloc, Order::Breadth, 1_240, 625, (1, 0));
 }
 
-/// Of a digest: whether it wants one in answer, its bytes, its pairs, and how far it tells that a and b are held.
+/// A digest: whether it wants an answer, its bytes, its pairs, and how far it reports a and b as held.
 type Read = (bool, u64, usize, u64, u64);
 
 fn read_digest(rt: &impl Abort, core: &NodeCore, from: Option<Name>, want: bool) -> Read {
@@ -459,7 +462,8 @@ fn read_digest(rt: &impl Abort, core: &NodeCore, from: Option<Name>, want: bool)
     )
 }
 
-/// The digest of a node that holds nothing of b; then whether a block of b is taken, and the digests of all and from b on.
+/// The digest of a node that holds nothing of b. Then whether it takes a block of b, and its digests of all owners and
+/// from b on.
 fn digests(
     rt: &impl Abort,
     alloc: Global,
@@ -484,7 +488,7 @@ fn digests_tell_what_is_held(rt: HostRuntime) {
     same(&rt, &found, &((true, 32, 1, 0, 0), true, after));
 }
 
-/// How the first block of a delta ends, where there is room to say so.
+/// Returns how the first block of a delta ends, if there is room to report it.
 fn first_end(core: &mut NodeCore, delta: &Delta) -> Option<BlockEnd> {
     match core.apply(delta) {
         Ok(report) => report.ends().first().copied(),
@@ -492,7 +496,7 @@ fn first_end(core: &mut NodeCore, delta: &Delta) -> Option<BlockEnd> {
     }
 }
 
-/// How three entries of a new owner end, where there is room to say so, and how far it is then held.
+/// Returns how three entries of a new owner end, if there is room to report it, and how far the owner is then held.
 fn take_three(rt: &impl Abort, alloc: Global) -> (Option<BlockEnd>, u64) {
     let a = name(rt, b"a");
     let mut core = least(rt, alloc, b"b");
@@ -501,7 +505,7 @@ fn take_three(rt: &impl Abort, alloc: Global) -> (Option<BlockEnd>, u64) {
     (end, core.upto(&a))
 }
 
-/// Whichever allocation is refused, the answer tells what is held.
+/// Whichever allocation is refused, the answer reports what is held.
 #[test]
 fn what_finds_no_memory_is_told(rt: HostRuntime) {
     let (end, held) = take_three(&rt, rt.alloc());

@@ -1,4 +1,4 @@
-//! In which order items come and are cut, by breadth and by depth, also those of 1,000 owners.
+//! The order in which items come and are cut, by breadth and by depth, also for 1,000 owners.
 ghost use Rattle.std.specs.Prelude.{◌≤◌};
 ghost use Rattle.sb_budget.specs.Cut.{CanCut};
 
@@ -14,7 +14,8 @@ use sb_types::{BUDGET_LEAST, BUDGET_MOST, Block, Delta, Entry, HEADER_LENGTH, Na
 use std::alloc::Global;
 use std::process::Abort;
 
-/// The block of an owner's first writes: texts of 512 bytes under keys of 64 of these letters, entries of 588 bytes.
+/// The block of an owner's first writes: texts of 512 bytes under keys of 64 of these letters. Each entry has 588
+/// bytes.
 fn long_block(rt: &impl Abort, alloc: Global, owner: Name, letters: &[u8]) -> Block {
     let mut entries = Vec::new(alloc);
     for (index, letter) in letters.iter().enumerate() {
@@ -30,7 +31,7 @@ fn enter(rt: &impl Abort, alloc: Global, holdings: &mut Holdings, owner: Name, l
     apply(rt, holdings, &long_block(rt, alloc, owner, letters));
 }
 
-/// The holdings of n, which hold nothing.
+/// The holdings of n, which has written nothing.
 fn empty(rt: &impl Abort, alloc: Global) -> Holdings {
     got(rt, Holdings::new(alloc, name(rt, b"n"), Table::new(alloc)))
 }
@@ -45,7 +46,7 @@ fn one_and_others(rt: &impl Abort, alloc: Global, first: Name, others: &[Name]) 
     holdings
 }
 
-/// 1,000 owners of names of four letters, each with two writes of 12 bytes.
+/// 1,000 owners with names of four letters, each with two writes of 12 bytes.
 fn thousand_owners(rt: &impl Abort, alloc: Global) -> Holdings {
     let mut holdings = empty(rt, alloc);
     for number in 0..1_000_u64 {
@@ -89,7 +90,7 @@ fn delta_by(rt: &impl Abort, alloc: Global, holdings: &Holdings, order: Order, b
     got(rt, delta)
 }
 
-/// Ends the test where an owner with three writes and others with one do not come in this order.
+/// Ends the test unless an owner with three writes and others with one come in this order.
 fn come(
     rt: &impl Abort,
     alloc: Global,
@@ -121,8 +122,8 @@ fn items_come_in_their_order(rt: HostRuntime) {
     come(&rt, alloc, Order::Depth, b, &[c, a], &deep_of_three);
 }
 
-/// Ends the test where not just these writes are told of, in a frame so long, by the delta that is cut of a list and by
-/// the one made without it.
+/// Ends the test unless two deltas contain just these writes, in a frame of this length. One is cut from a list, and
+/// the other is made without it.
 fn tell(
     rt: &impl Abort,
     alloc: Global,
@@ -173,7 +174,7 @@ fn extent(delta: &Delta) -> Extent {
     (delta.blocks().len(), entries_in(delta), length)
 }
 
-/// Ends the test where not of this extent are both the delta that is cut of a list and the one made without it.
+/// Ends the test unless two deltas have this extent. One is cut from a list, and the other is made without it.
 fn extend(
     rt: &impl Abort,
     alloc: Global,
@@ -212,7 +213,7 @@ fn two_and_one(rt: &impl Abort, alloc: Global) -> Holdings {
     holdings
 }
 
-/// Whether what a and b wrote comes with these versions, in an order.
+/// Returns whether what a and b wrote comes with these versions, in an order.
 fn come_by<O: DeltaOrder>(rt: &impl Abort, alloc: Global, order: &O, wanted: &[u64]) -> bool {
     let holdings = two_and_one(rt, alloc);
     let digest = nothing(rt, alloc, true);
@@ -224,14 +225,14 @@ fn come_by<O: DeltaOrder>(rt: &impl Abort, alloc: Global, order: &O, wanted: &[u
     are_equal
 }
 
-/// The example of `Breadth`.
+/// Runs the example of `Breadth`.
 #[test]
 fn example_of_breadth(rt: HostRuntime) {
     let are_right = come_by(&rt, rt.alloc(), &Breadth, &[1, 1, 2]);
     same(&rt, &are_right, &true);
 }
 
-/// The example of `Depth`.
+/// Runs the example of `Depth`.
 #[test]
 fn example_of_depth(rt: HostRuntime) {
     let are_right = come_by(&rt, rt.alloc(), &Depth, &[1, 2, 1]);

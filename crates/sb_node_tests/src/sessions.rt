@@ -1,4 +1,4 @@
-//! A node in sessions: what it says to another, and how it tells of all owners in turn.
+//! A node in sessions: what it sends to another, and how it reports all owners in turn.
 ghost use Rattle.std.specs.Prelude.{◌≡◌, ◌<◌};
 
 use crate::node::{applied, log_of, node, write};
@@ -15,7 +15,7 @@ use std::marker::Brand;
 use std::process::Abort;
 use std::sync::ledger::{Blank, Ledger};
 
-/// Hello and the digest of a, a delta of no block, and Bye.
+/// Hello and the digest of a, a delta without blocks, and Bye.
 const DIALED_BY_A: &[u8] = b"\xa7\x03\x00\x00\x00\x06\x01\x02c1\x01a\
     \xa7\x03\x00\x00\x00\x20\x02\x01\x00\x00\x00\x01\
     \x01a\x00\x00\x00\x00\x00\x00\x00\x00\x00\x00\x00\x00\x00\x00\x00\x00\x00\x00\x00\x00\x00\x00\x00\x00\
@@ -25,8 +25,8 @@ const DIALED_BY_A: &[u8] = b"\xa7\x03\x00\x00\x00\x06\x01\x02c1\x01a\
 /// One block of a, after 0, with the weight 5 under w as version 1.
 const FRAME: &[u8] = &DELTA_A;
 
-/// What a talk has to go on: what the peer says, in which pieces, whether reading fails then, how many reads may be
-/// made, how many bytes the peer hears, and the rounds of one that dials.
+/// The terms of a talk: what the peer sends, in which pieces, and whether reading fails then. Then how many reads are
+/// allowed, how many bytes the peer receives, and the rounds of an end that dials.
 #[derive(Clone, Copy)]
 struct Terms<'a> {
     said: &'a [u8],
@@ -113,13 +113,13 @@ fn node_b(rt: &impl Abort, alloc: Global) -> NodeCore {
     core
 }
 
-/// How a talk of b ends, and whether it wrote just these bytes.
+/// Returns how a talk of b ends, and whether it wrote just these bytes.
 fn talk_of_b(rt: &impl Abort, alloc: Global, terms: Terms<'_>, said: &[u8]) -> Talked {
     let mut core = node_b(rt, alloc);
     talk(rt, &mut core, alloc, terms, said)
 }
 
-/// The same of a that asks b, and how far it then holds b.
+/// Returns the same for a, which asks b, and how far a then holds b.
 fn talk_of_a(rt: &impl Abort, alloc: Global) -> (Talked, u64) {
     let mut core = node(rt, alloc, name(rt, b"a"), 1_024, Order::Breadth);
     let terms = peer_terms(SAID_BY_B, Some(1));
@@ -127,7 +127,7 @@ fn talk_of_a(rt: &impl Abort, alloc: Global) -> (Talked, u64) {
     (dialed, core.upto(&name(rt, b"b")))
 }
 
-/// Ends the test where b does not serve a that says all in pieces of so many bytes.
+/// Ends the test unless b serves a node a that sends everything in pieces of this many bytes.
 fn serve_pieces(rt: &impl Abort, alloc: Global, piece: usize) {
     let terms = Terms {
         piece,
@@ -149,7 +149,7 @@ fn two_nodes_talk(rt: HostRuntime) {
     same(&rt, &asked, &((Ok(Ended::RoundsDone), true), 1));
 }
 
-/// Ends the test where a write of b does not so fail of which a peer hears no more bytes than there is room for.
+/// Ends the test unless a write of b fails this way if the peer receives no more bytes than there is room for.
 fn fill(rt: &impl Abort, alloc: Global, room: usize, count: u64) {
     let terms = Terms {
         room,
@@ -175,7 +175,7 @@ fn peers_that_give_out(rt: HostRuntime) {
     same(&rt, &served, &(Err(Fault::ReadFailed), true));
 }
 
-/// Hello of a, and these frames.
+/// The Hello of a, and these frames.
 fn said(rt: &impl Abort, alloc: Global, frames: &[&[u8]]) -> Vec<u8> {
     let mut said = got(rt, Vec::from_slice(alloc, HELLO_A));
     for frame in frames {
@@ -184,7 +184,7 @@ fn said(rt: &impl Abort, alloc: Global, frames: &[&[u8]]) -> Vec<u8> {
     said
 }
 
-/// How a talk of b with a peer a ends that says this behind its Hello, and how far a is held then.
+/// How a talk of b ends with a peer a that sends this after its Hello, and how far a is then held.
 type Heard = (Result<Ended, Fault>, u64);
 
 fn heard(rt: &impl Abort, alloc: Global, frames: &[&[u8]], piece: usize, reads: u64) -> Heard {
@@ -216,7 +216,7 @@ fn a_delta_in_any_pieces(rt: HostRuntime) {
     same(&rt, &found, &[whole, whole, whole, part, spent]);
 }
 
-/// Ends the test where this frame is not such a fault, or the one behind it is entered.
+/// Ends the test unless this frame is refused with this fault, and the frame after it is not entered.
 fn refuse(rt: &impl Abort, alloc: Global, frame: &[u8], fault: Fault) {
     let found = heard(rt, alloc, &[frame, FRAME], 4_096, 99);
     same_at(rt, &frame, &found, &(Err(fault), 0));
@@ -243,7 +243,7 @@ fn write_of(rt: &impl Abort, alloc: Global, owner: &[u8]) -> Block {
     )
 }
 
-/// One write of each of so many owners, in the order of their names.
+/// One write of each of this many owners, in the order of their names.
 fn writes_of(rt: &impl Abort, alloc: Global, owners: u64) -> Delta {
     let mut blocks = Vec::new(alloc);
     for number in 0..owners {
@@ -253,7 +253,7 @@ fn writes_of(rt: &impl Abort, alloc: Global, owners: u64) -> Delta {
     got(rt, Delta::new(blocks))
 }
 
-/// How many pairs the next digest has that a session asks with, and where it ends; nothing where it does not begin there.
+/// Returns how many pairs the next digest of a session has, and its end. Returns `None` if it does not begin there.
 fn ask_from(
     rt: &impl Abort,
     core: &mut NodeCore,
@@ -269,8 +269,8 @@ fn ask_from(
     Some((digest.pairs().len(), digest.until()))
 }
 
-/// How many digests a session asks with until one has no end, and how many owners they tell of; nothing where one
-/// does not begin where the last one ended.
+/// Returns how many digests a session asks with until one has no end, and how many owners they have. Returns `None` if
+/// one does not begin at the end of the one before.
 fn asked_in_turn(
     rt: &impl Abort,
     core: &mut NodeCore,

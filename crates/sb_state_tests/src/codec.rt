@@ -1,4 +1,4 @@
-//! Payloads by hand, the greatest of each kind, and what is no payload.
+//! Payloads by hand, the greatest of each kind, and bytes that are not payloads.
 ghost use Rattle.std.specs.Prelude.{◌≤◌};
 
 use crate::words::{
@@ -18,13 +18,13 @@ use sb_types::{Block, Delta, Entry, Fault, KIND_DELTA, Key, Name, Prefix, Slot, 
 use std::alloc::{AllocError, Global};
 use std::process::Abort;
 
-/// The byte of two hexadecimal digits.
+/// Returns the byte of two hexadecimal digits.
 fn byte_of(rt: &impl Abort, digits: &[u8]) -> u8 {
     let digits = got(rt, str::from_utf8(digits));
     got(rt, u8::from_str_radix(digits, 16))
 }
 
-/// The bytes that hexadecimal words stand for, unless memory ran out.
+/// Returns the bytes that hexadecimal words stand for, unless there is no memory.
 fn read_words(rt: &impl Abort, alloc: Global, words: &str) -> Result<Vec<u8>, AllocError> {
     let mut out = Vec::new(alloc);
     for word in words.split(' ') {
@@ -35,12 +35,12 @@ fn read_words(rt: &impl Abort, alloc: Global, words: &str) -> Result<Vec<u8>, Al
     Ok(out)
 }
 
-/// The bytes that hexadecimal words stand for.
+/// Returns the bytes that hexadecimal words stand for.
 fn bytes(rt: &impl Abort, alloc: Global, words: &str) -> Vec<u8> {
     got(rt, read_words(rt, alloc, words))
 }
 
-/// What the bytes that hexadecimal words stand for are read as.
+/// Returns what the bytes that hexadecimal words stand for are read as.
 fn read(rt: &impl Abort, alloc: Global, words: &str) -> Message {
     got(rt, decode_payload(alloc, &bytes(rt, alloc, words)))
 }
@@ -52,7 +52,7 @@ fn is_written(alloc: Global, message: &Message, payload: &[u8]) -> Result<bool, 
     }
 }
 
-/// How long the frame is of a message; nothing where the bytes are not its payload.
+/// Returns how long a message's frame is, or `None` if the bytes are not its payload.
 fn length_as(alloc: Global, message: &Message, payload: &[u8]) -> Result<Option<u32>, Fault> {
     match is_written(alloc, message, payload) {
         Ok(true) => Ok(Some(length(message))),
@@ -61,7 +61,7 @@ fn length_as(alloc: Global, message: &Message, payload: &[u8]) -> Result<Option<
     }
 }
 
-/// How long the frame is of the message that the bytes are read as; nothing where they are not its payload.
+/// Returns how long the frame of the message is that the bytes are read as, or `None` if they are not its payload.
 fn frame_length(alloc: Global, payload: &[u8]) -> Result<Option<u32>, Fault> {
     match decode_payload(alloc, payload) {
         Ok(message) => length_as(alloc, &message, payload),
@@ -69,13 +69,13 @@ fn frame_length(alloc: Global, payload: &[u8]) -> Result<Option<u32>, Fault> {
     }
 }
 
-/// Whether the bytes are the payload of the message, and of what they are read as.
+/// Returns whether the bytes are the payload of the message, and of what they are read as.
 fn is_payload(alloc: Global, message: &Message, payload: &[u8]) -> Result<bool, Fault> {
     let is_written = is_written(alloc, message, payload)?;
     Ok(is_written && frame_length(alloc, payload)? == Some(length(message)))
 }
 
-/// Whether the words are the payload of the message, and of what they are read as.
+/// Returns whether the words are the payload of the message, and of what they are read as.
 fn has_payload(
     rt: &impl Abort,
     alloc: Global,
@@ -95,7 +95,7 @@ fn one_block(rt: &impl Abort, alloc: Global) -> Result<Block, Fault> {
     Block::new(name(rt, b"a"), 0, 0, 1, entries)
 }
 
-/// The message of `ONE_ENTRY`, unless memory ran out.
+/// Returns the message of `ONE_ENTRY`, unless there is no memory.
 fn one_entry(rt: &impl Abort, alloc: Global) -> Result<Message, Fault> {
     let blocks = vec![in alloc; one_block(rt, alloc)?]?;
     Ok(Message::Delta(Delta::new(blocks)?))
@@ -111,7 +111,7 @@ fn push_entry(rt: &impl Abort, entries: &mut Vec<Entry>, key: &[u8], version: u6
     push(rt, entries, entry(rt, key, version, slot));
 }
 
-/// Five entries, of each slot that there is.
+/// Five entries: one for each kind of slot.
 fn five_entries(rt: &impl Abort, alloc: Global) -> Vec<Entry> {
     let mut entries = Vec::new(alloc);
     let address = got(rt, Value::addr(alloc, b"h:1"));
@@ -130,20 +130,20 @@ fn every_slot(rt: &impl Abort, alloc: Global) -> Message {
     delta(rt, one(rt, alloc, block))
 }
 
-/// A block of a without an entry.
+/// A block of a without entries.
 fn no_entry(rt: &impl Abort, alloc: Global, floor: u64, after: u64, upto: u64) -> Message {
     let block = Block::new(name(rt, b"a"), floor, after, upto, Vec::new(alloc));
     delta(rt, one(rt, alloc, got(rt, block)))
 }
 
-/// A block of a of the floor 3 and up to 3, with the weight 2 under y as version 2.
+/// A block of a, with floor 3 and up to 3: it has the weight 2 under y as version 2.
 fn up_to_its_floor(rt: &impl Abort, alloc: Global) -> Message {
     let entries = one(rt, alloc, weighing(rt, b"y", 2, 2));
     let block = got(rt, Block::new(name(rt, b"a"), 3, 0, 3, entries));
     delta(rt, one(rt, alloc, block))
 }
 
-/// A block of a of the floor 5 and up to 3, with the weights 2 and 3 under y and z.
+/// A block of a, with floor 5 and up to 3: it has the weights 2 and 3 under y and z.
 fn below_its_floor(rt: &impl Abort, alloc: Global) -> Message {
     let mut entries = one(rt, alloc, weighing(rt, b"y", 2, 2));
     push(rt, &mut entries, weighing(rt, b"z", 3, 3));
@@ -236,7 +236,8 @@ fn assert_client_payloads(rt: &impl Abort, alloc: Global) {
     assert_payload(rt, alloc, refused(rt, 13), REFUSED);
 }
 
-/// Blocks with a floor, above what they reach too, that reach further than their last entry, and that have none.
+/// Blocks with a floor, which may be above their reach. Some reach further than their last entry, and some have no
+/// entries.
 fn assert_floored_payloads(rt: &impl Abort, alloc: Global) {
     assert_payload(rt, alloc, up_to_its_floor(rt, alloc), UP_TO_ITS_FLOOR);
     assert_payload(rt, alloc, below_its_floor(rt, alloc), BELOW_ITS_FLOOR);
@@ -252,7 +253,7 @@ fn the_payload_of_each_message(rt: HostRuntime) {
     assert_floored_payloads(&rt, rt.alloc());
 }
 
-/// The reason of a bye; nothing of another message.
+/// Returns the reason of a Bye, or `None` for another message.
 fn reason_of(message: &Message) -> Option<u8> {
     match message {
         Message::Bye(bye) => Some(bye.reason()),
@@ -260,7 +261,7 @@ fn reason_of(message: &Message) -> Option<u8> {
     }
 }
 
-/// The example that stands at `Message`.
+/// Runs the example of `Message`.
 #[test]
 fn the_example_of_a_message(rt: HostRuntime) {
     let alloc = rt.alloc();
@@ -270,10 +271,10 @@ fn the_example_of_a_message(rt: HostRuntime) {
     same(&rt, &reason_of(&message), &Some(1));
 }
 
-/// Of an entry the owner, the floor of its block and what that begins after and reaches, the key, the version and the weight.
+/// The parts of an entry and its block: the owner, the floor, `after`, `upto`, the key, the version and the weight.
 type Said = (Name, [u64; 3], Key, u64, Option<u64>);
 
-/// What a block of one entry says; nothing of another.
+/// Returns the parts of a block with one entry, or `None` for another block.
 fn said_by(block: &Block) -> Option<Said> {
     let [entry] = block.entries() else {
         return None;
@@ -287,7 +288,7 @@ fn said_by(block: &Block) -> Option<Said> {
     Some((owner, numbers, key, entry.version(), weight))
 }
 
-/// What a delta of one entry says; nothing of another message.
+/// Returns the parts of a delta with one entry, or `None` for another message.
 fn said(message: &Message) -> Option<Said> {
     match message {
         Message::Delta(delta) => match delta.blocks() {
@@ -298,7 +299,7 @@ fn said(message: &Message) -> Option<Said> {
     }
 }
 
-/// How many blocks a delta has; nothing of another message.
+/// Returns how many blocks a delta has, or `None` for another message.
 fn block_count(message: &Message) -> Option<usize> {
     match message {
         Message::Delta(delta) => Some(delta.blocks().len()),
@@ -325,8 +326,8 @@ fn what_a_delta_says(rt: HostRuntime) {
     same(&rt, &found, &Some(floored));
 }
 
-/// Of the last pair of a digest the owner, how far that is held, and the floor and the progress of its stage; nothing of
-/// another message.
+/// Returns the parts of the last pair of a digest, or `None` for another message. They are the owner, its held version,
+/// and the floor and the progress of its stage.
 fn last_pair(message: &Message) -> Option<(Name, [u64; 3])> {
     match message {
         Message::Digest(digest) => match digest.pairs() {
@@ -347,7 +348,7 @@ fn append(rt: &impl Abort, out: &mut Vec<u8>, message: Message) {
     got(rt, append_payload(out, &message));
 }
 
-/// A bye, and behind it a done and a refused.
+/// The payloads of a Bye, a Done and a Refused, one after another.
 fn three_payloads(rt: &impl Abort, alloc: Global) -> Vec<u8> {
     let mut out = bytes(rt, alloc, BYE);
     append(rt, &mut out, done(rt, 1));
@@ -362,7 +363,7 @@ fn payloads_one_behind_the_other(rt: HostRuntime) {
     same(&rt, &found.as_slice(), &wanted.as_slice());
 }
 
-/// The frame of what the words are read as has this length.
+/// Asserts how long the frame is of what the words are read as.
 fn assert_length(rt: &impl Abort, alloc: Global, words: &str, wanted: u32) {
     let found = frame_length(alloc, &bytes(rt, alloc, words));
     same_at(rt, &words, &got(rt, found), &Some(wanted));
@@ -402,7 +403,7 @@ fn the_length_of_each_frame(rt: HostRuntime) {
     }
 }
 
-/// A number as a text of 32 digits and as 8 bytes.
+/// Appends a number as a text of 32 digits, and as 8 bytes.
 fn append_number(rt: &impl Abort, out: &mut Vec<u8>, number: u64) {
     let alloc = *out.allocator();
     let digits = got(rt, format!(in alloc; "{number:032}"));
@@ -415,7 +416,7 @@ fn append_words(rt: &impl Abort, out: &mut Vec<u8>, words: &str) {
     got(rt, out.extend_from_slice(&bytes));
 }
 
-/// Numbers from 1, each between the same bytes.
+/// Appends the numbers from 1 on, each between the same bytes.
 fn append_numbered(rt: &impl Abort, out: &mut Vec<u8>, count: u64, before: &[u8], behind: &[u8]) {
     for number in 1..=count {
         got(rt, out.extend_from_slice(before));
@@ -424,7 +425,7 @@ fn append_numbered(rt: &impl Abort, out: &mut Vec<u8>, count: u64, before: &[u8]
     }
 }
 
-/// Numbers from 1, each between the words that stand before and behind it.
+/// Appends the numbers from 1 on, each between the same words.
 fn append_list(rt: &impl Abort, out: &mut Vec<u8>, count: u64, before: &str, behind: &str) {
     let alloc = *out.allocator();
     let before = bytes(rt, alloc, before);
@@ -432,7 +433,7 @@ fn append_list(rt: &impl Abort, out: &mut Vec<u8>, count: u64, before: &str, beh
     append_numbered(rt, out, count, &before, &behind);
 }
 
-/// 1,309 entries of 50 bytes and one of 49, behind 31: 65,530 bytes.
+/// 1,309 entries of 50 bytes and one of 49, after 31 bytes: 65,530 bytes.
 fn greatest_delta(rt: &impl Abort, alloc: Global) -> Vec<u8> {
     let mut out = bytes(rt, alloc, GREATEST_HEAD);
     append_list(rt, &mut out, 1_309, "20", "02 0000000000000005");
@@ -440,7 +441,7 @@ fn greatest_delta(rt: &impl Abort, alloc: Global) -> Vec<u8> {
     out
 }
 
-/// 1,259 rows of 52 bytes and one of 58, behind 4: 65,530 bytes.
+/// 1,259 rows of 52 bytes and one of 58, after 4 bytes: 65,530 bytes.
 fn greatest_rows(rt: &impl Abort, alloc: Global) -> Vec<u8> {
     let mut out = bytes(rt, alloc, "11 00 04ec");
     append_list(rt, &mut out, 1_259, "0161 20", "02 0000000000000005");
@@ -448,7 +449,7 @@ fn greatest_rows(rt: &impl Abort, alloc: Global) -> Vec<u8> {
     out
 }
 
-/// 1,024 pairs of 57 bytes, behind 6: 58,374 bytes.
+/// 1,024 pairs of 57 bytes, after 6 bytes: 58,374 bytes.
 fn greatest_digest(rt: &impl Abort, alloc: Global) -> Vec<u8> {
     let mut out = bytes(rt, alloc, "02 00 00 00 0400");
     append_list(
@@ -461,7 +462,7 @@ fn greatest_digest(rt: &impl Abort, alloc: Global) -> Vec<u8> {
     out
 }
 
-/// The payload has this length, and the frame of what it is read as has that one.
+/// Asserts the length of the payload, and of the frame of what it is read as.
 fn assert_lengths(rt: &impl Abort, alloc: Global, payload: &[u8], wanted: (usize, u32)) {
     let frame = got(rt, frame_length(alloc, payload));
     let found = (payload.len(), frame);
@@ -477,7 +478,7 @@ fn the_greatest_payloads(rt: HostRuntime) {
     assert_lengths(&rt, alloc, &greatest_digest(&rt, alloc), digest);
 }
 
-/// Of a row the owner, the key, the version, the weight and the length.
+/// The parts of a row: the owner, the key, the version, the weight and the length.
 type RowParts = (Name, Key, u64, Option<u64>, u64);
 
 fn row_parts(row: &Row) -> RowParts {
@@ -486,7 +487,7 @@ fn row_parts(row: &Row) -> RowParts {
     (owner, key, row.version(), weight, row.encoded_length())
 }
 
-/// Whether more follow, the length of the page, how many rows it has, and the first of them.
+/// A page: whether more rows follow, its length, how many rows it has, and the first of them.
 type Page = (bool, u64, usize, Option<RowParts>);
 
 fn page_parts(rows: &Rows) -> Page {
@@ -520,7 +521,7 @@ fn what_messages_say(rt: HostRuntime) {
     same(&rt, &found, &(true, 46, 2, Some(first)));
 }
 
-/// The words are no payload, and are refused as malformed of their kind.
+/// Asserts that the words are not a payload, and are refused as malformed of their kind.
 fn assert_wrong(rt: &impl Abort, alloc: Global, words: &str) {
     let payload = bytes(rt, alloc, words);
     let found = refusal(rt, decode_payload(alloc, &payload));
@@ -538,7 +539,7 @@ fn payloads_that_break_the_format(rt: HostRuntime) {
     }
 }
 
-/// A delta of one entry, with a text that is a byte too long.
+/// A delta of one entry with a text that is one byte too long.
 fn too_long_a_text(rt: &impl Abort, alloc: Global) -> Vec<u8> {
     let front =
         "03 0001 0161 0000000000000000 0000000000000000 0000000000000001 0001 0174 0000000000000001 04 0201";
@@ -554,7 +555,7 @@ fn a_text_that_is_too_long(rt: HostRuntime) {
     same(&rt, &found, &Some(Fault::Malformed(KIND_DELTA)));
 }
 
-/// The front of this length is refused as malformed.
+/// Asserts that the first `len` bytes are refused as malformed.
 fn assert_part(rt: &impl Abort, alloc: Global, whole: &[u8], len: usize) {
     let front = whole.get(..len).unwrap_or(&[]);
     let found = refusal(rt, decode_payload(alloc, front));
@@ -574,7 +575,7 @@ fn assert_unknown(rt: &impl Abort, alloc: Global, kind: u8, payload: &[u8]) {
     same_at(rt, &payload, &found, &Some(Fault::UnknownKind(kind)));
 }
 
-/// Whatever memory there is: a kind that is not known is told before any is asked for.
+/// Whatever memory there is, an unknown kind is refused before any is asked for.
 #[test]
 fn payloads_of_unknown_kinds(rt: HostRuntime) {
     let alloc = rt.alloc();
@@ -587,13 +588,13 @@ fn payloads_of_unknown_kinds(rt: HostRuntime) {
     assert_unknown(&rt, alloc, 0xff, b"\xff");
 }
 
-/// The bytes that hexadecimal words stand for, in a block that others may read.
+/// The bytes that hexadecimal words stand for, in a shared buffer.
 fn shared(rt: &impl Abort, alloc: Global, words: &str) -> Bytes {
     let payload = bytes(rt, alloc, words);
     got(rt, Bytes::copy_from_slice(alloc, &payload))
 }
 
-/// How long the frame is of the message that shared bytes are read as.
+/// Returns how long the frame of the message is that shared bytes are read as.
 fn shared_length(alloc: Global, payload: Bytes) -> Result<u32, Fault> {
     match decode_shared(alloc, payload) {
         Ok(message) => Ok(length(&message)),
@@ -601,7 +602,7 @@ fn shared_length(alloc: Global, payload: Bytes) -> Result<u32, Fault> {
     }
 }
 
-/// The words in shared bytes are read as a message whose frame is so long, or have this fault.
+/// Asserts that the words in shared bytes are read as a message with a frame of this length, or have this fault.
 fn assert_shared(rt: &impl Abort, alloc: Global, words: &str, wanted: Result<u32, Fault>) {
     let found = shared_length(alloc, shared(rt, alloc, words));
     same_at(rt, &words, &found, &wanted);
@@ -620,7 +621,7 @@ fn payloads_in_shared_bytes(rt: HostRuntime) {
     assert_shared(&rt, alloc, "55", Err(Fault::UnknownKind(0x55)));
 }
 
-/// Whether the message of `ONE_ENTRY` has that payload.
+/// Returns whether the message of `ONE_ENTRY` has that payload.
 fn is_one_written(rt: &impl Abort, alloc: Global) -> Result<bool, Fault> {
     match one_entry(rt, alloc) {
         Ok(message) => has_payload(rt, alloc, &message, ONE_ENTRY),
@@ -628,7 +629,7 @@ fn is_one_written(rt: &impl Abort, alloc: Global) -> Result<bool, Fault> {
     }
 }
 
-/// Whether this was found, or memory ran out.
+/// Returns whether this was found, or there was no memory.
 fn is_found<T: Copy + PartialEq>(found: Result<T, Fault>, wanted: T) -> bool {
     match found {
         Ok(found) => found == wanted,
@@ -636,7 +637,7 @@ fn is_found<T: Copy + PartialEq>(found: Result<T, Fault>, wanted: T) -> bool {
     }
 }
 
-/// The frame of what the words are read as has this length, or memory ran out.
+/// Asserts how long the frame is of what the words are read as, unless there was no memory.
 fn assert_read(rt: &impl Abort, alloc: Global, words: &str, wanted: u32) {
     if let Ok(payload) = read_words(rt, alloc, words) {
         let found = frame_length(alloc, &payload);
@@ -644,7 +645,7 @@ fn assert_read(rt: &impl Abort, alloc: Global, words: &str, wanted: u32) {
     }
 }
 
-/// Passes with any one allocation refused: each call then gives `NoMemory`, or what it gives with memory.
+/// Passes with any one allocation refused. Each call then returns `NoMemory`, or what it returns with memory.
 #[test]
 fn refused_allocations(rt: HostRuntime) {
     let alloc = rt.alloc();

@@ -1,4 +1,4 @@
-//! Digests that are made, refused, read and built, also of all owners that a node may hold.
+//! Digests that are made, refused, read and built, also of as many owners as a node may hold.
 ghost use Rattle.std.specs.Prelude.{◌≤◌};
 
 use crate::{entry, got, name, one, same, same_at};
@@ -18,7 +18,7 @@ fn gathered(alloc: Global, owners: &[Name]) -> Result<Vec<Pair>, AllocError> {
     Ok(pairs)
 }
 
-/// The pairs, gathered once more where memory was refused.
+/// The pairs. They are made a second time if memory was refused.
 fn pairs(rt: &impl Abort, alloc: Global, owners: &[Name]) -> Vec<Pair> {
     match gathered(alloc, owners) {
         Err(AllocError) => got(rt, gathered(alloc, owners)),
@@ -26,7 +26,7 @@ fn pairs(rt: &impl Abort, alloc: Global, owners: &[Name]) -> Vec<Pair> {
     }
 }
 
-/// A name of 32 of this letter.
+/// A name of this letter, 32 times.
 fn long_name(rt: &impl Abort, letter: u8) -> Name {
     name(rt, &[letter; 32])
 }
@@ -42,13 +42,13 @@ fn six_owners(rt: &impl Abort) -> [Name; 6] {
     ]
 }
 
-/// A digest up to b, which tells that a is held up to 3.
+/// A digest up to b, with a held up to 3.
 fn example(rt: &impl Abort, alloc: Global, a: Name, b: Name) -> Digest {
     let pairs = one(rt, alloc, Pair::new(a, 3, None));
     got(rt, Digest::new(true, None, Some(b), pairs))
 }
 
-/// The example of `Digest`: whether it covers a and b, how far it tells that a is held, and where the next one begins.
+/// Runs the example of `Digest`: which of a and b it covers, how far it reports a as held, and its next beginning.
 #[test]
 fn example_of_digest(rt: HostRuntime) {
     let [a, b] = [name(&rt, b"a"), name(&rt, b"b")];
@@ -58,7 +58,7 @@ fn example_of_digest(rt: HostRuntime) {
     same(&rt, &found, &([true, false], 3, Some(b)));
 }
 
-/// How long the payload is of a digest of pairs of these owners; where memory ran out, the end of the test.
+/// Returns how long the payload of a digest of these owners' pairs is. Ends the test if there is no memory.
 fn length(
     rt: &impl Abort,
     alloc: Global,
@@ -88,7 +88,7 @@ fn lengths_of_payloads(rt: HostRuntime) {
     );
 }
 
-/// Such bounds and owners make no digest.
+/// Asserts that no digest has these bounds and owners.
 fn assert_none(
     rt: &impl Abort,
     alloc: Global,
@@ -100,7 +100,7 @@ fn assert_none(
     same(rt, &found, &Err(Fault::Malformed(2)));
 }
 
-/// Such bounds make no digest of no owner.
+/// Asserts that no digest without owners has these bounds.
 fn assert_no_range(rt: &impl Abort, alloc: Global, from: Name, until: Name) {
     let found = length(rt, alloc, Some(from), Some(until), &[]);
     same(rt, &found, &Err(Fault::Malformed(2)));
@@ -121,8 +121,8 @@ fn parts_that_make_no_digest(rt: HostRuntime) {
     same(&rt, &whole, &Ok(60));
 }
 
-/// Whether a digest wants one in answer, its bounds and the next one's first name, how many pairs it has, and the length
-/// of its payload.
+/// The extent of a digest: whether it wants an answer, its bounds, the next one's first name, its number of pairs, and
+/// its payload's length.
 type Extent = (bool, Option<Name>, Option<Name>, Option<Name>, usize, u64);
 
 fn extent(digest: &Digest) -> Extent {
@@ -136,13 +136,13 @@ fn extent(digest: &Digest) -> Extent {
     )
 }
 
-/// The extent of a digest that wants one in answer, and whose next one begins where it ends.
+/// The extent of a digest that wants an answer. The next digest begins where it ends.
 fn wanting(from: Option<Name>, until: Option<Name>, pairs: usize, length: u64) -> Extent {
     let next_from = until;
     (true, from, until, next_from, pairs, length)
 }
 
-/// Whether it covers just those of the owners that are said, and tells that each is held so far.
+/// Returns whether it covers just the wanted owners, and reports each as held up to the wanted version.
 fn are_told(digest: &Digest, owners: &[Name], wanted: &[(bool, u64)]) -> bool {
     let mut are_right = owners.len() == wanted.len();
     for (owner, (is_covered, held)) in owners.iter().zip(wanted) {
@@ -151,7 +151,7 @@ fn are_told(digest: &Digest, owners: &[Name], wanted: &[(bool, u64)]) -> bool {
     are_right
 }
 
-/// A digest from b up to d, of pairs of b and c.
+/// A digest from b up to d, with pairs of b and c.
 fn of_b_and_c(rt: &impl Abort, alloc: Global, [_, b, c, d]: [Name; 4]) -> Digest {
     let pairs = pairs(rt, alloc, &[b, c]);
     got(rt, Digest::new(false, Some(b), Some(d), pairs))
@@ -173,12 +173,13 @@ fn a_digest_is_read(rt: HostRuntime) {
     same(&rt, &found, &(wanted, true));
 }
 
-/// A pair of a, held up to 5, with a stage of the floor 9 that has come as far as 7.
+/// A pair of a, held up to 5, with a stage of floor 9 and progress 7.
 fn staged(rt: &impl Abort) -> Pair {
     Pair::new(name(rt, b"a"), 5, Some((9, 7)))
 }
 
-/// Above which version of a senders of these floors offer, and of b, of which the digest has no pair.
+/// Returns the versions above which senders of these floors offer entries of a. Also returns that of b, which has no
+/// pair in the digest.
 fn numbers(rt: &impl Abort, digest: &Digest, floors: [u64; 5]) -> ([u64; 5], u64) {
     let [a, b] = [name(rt, b"a"), name(rt, b"b")];
     let [first, second, third, fourth, fifth] = floors;
@@ -188,8 +189,8 @@ fn numbers(rt: &impl Abort, digest: &Digest, floors: [u64; 5]) -> ([u64; 5], u64
     (numbers, digest.number(&b, third))
 }
 
-/// A sender of a floor up to what is held offers what is above that; one of the stage's floor goes on with the stage; and
-/// every other offers all.
+/// A sender whose floor is at or below the held version offers what is above that. A sender with the stage's floor
+/// continues the stage. Every other sender offers all.
 #[test]
 fn a_number_is_that_of_the_floor(rt: HostRuntime) {
     let pairs = one(&rt, rt.alloc(), staged(&rt));
@@ -198,7 +199,7 @@ fn a_number_is_that_of_the_floor(rt: HostRuntime) {
     same(&rt, &found, &([5, 5, 0, 7, 0], 0));
 }
 
-/// The two numbers of a stage may be any.
+/// The two numbers of a stage may have any values.
 #[test]
 fn a_stage_of_any_numbers_is_told(rt: HostRuntime) {
     let pairs = one(&rt, rt.alloc(), Pair::new(name(&rt, b"a"), 3, Some((0, 5))));
@@ -208,7 +209,7 @@ fn a_stage_of_any_numbers_is_told(rt: HostRuntime) {
     same(&rt, &digest.encoded_length(), &32);
 }
 
-/// The digest, asked for once more where memory was refused.
+/// The digest. It is asked for a second time if memory was refused.
 fn asked(
     rt: &impl Abort,
     alloc: Global,
@@ -226,8 +227,8 @@ fn asked(
     }
 }
 
-/// The extent of the digest that is asked for, and whether it covers just those of the owners that are said, and tells
-/// that each is held so far.
+/// Returns the extent of the digest that is asked for. Also returns whether it covers just the wanted owners, and
+/// reports each as held up to the wanted version.
 fn told(
     rt: &impl Abort,
     alloc: Global,
@@ -244,7 +245,7 @@ fn told(
     (extent(&digest), are_told(&digest, owners, wanted))
 }
 
-/// What a node holds that knows of no other, made once more where memory was refused.
+/// What a node holds that knows no other node. It is made a second time if memory was refused.
 fn alone(rt: &impl Abort, alloc: Global, me: Name) -> Holdings {
     match Holdings::new(alloc, me, Table::new(alloc)) {
         Err(Fault::NoMemory) => got(rt, Holdings::new(alloc, me, Table::new(alloc))),
@@ -252,7 +253,7 @@ fn alone(rt: &impl Abort, alloc: Global, me: Name) -> Holdings {
     }
 }
 
-/// Whether these are its pairs.
+/// Returns whether these are its pairs.
 fn are_pairs(digest: &Digest, wanted: &[(Name, u64)]) -> bool {
     let mut are_equal = digest.pairs().len() == wanted.len();
     for (pair, (owner, upto)) in digest.pairs().iter().zip(wanted) {
@@ -261,7 +262,7 @@ fn are_pairs(digest: &Digest, wanted: &[(Name, u64)]) -> bool {
     are_equal
 }
 
-/// The digest that is asked for from a name on has these pairs and this length.
+/// Asserts the pairs and the length of the digest that is asked for from a name on.
 fn assert_paired(
     rt: &impl Abort,
     alloc: Global,
@@ -285,7 +286,7 @@ fn a_new_node_tells_of_itself(rt: HostRuntime) {
     assert_paired(&rt, alloc, &holdings, Some(&b), &[], 7);
 }
 
-/// Takes the owner's write of a version: twice, so that it is held also where memory was refused once.
+/// Takes the owner's write of a version twice, so that it is held even if memory was refused once.
 fn hold(rt: &impl Abort, alloc: Global, holdings: &mut Holdings, owner: &Name, version: u64)
     requires { 1 ≤ version }
 {
@@ -315,7 +316,7 @@ fn flag(rt: &impl Abort, version: u64) -> Entry
     entry(rt, b"up", version, Slot::Set(Value::flag(true)))
 }
 
-/// Once a's write of a version has come, a digest has so many pairs and this length, and tells how far a is held.
+/// Asserts what a digest has after a's write of a version came: its number of pairs, its length, and how far a is held.
 fn assert_held(
     rt: &impl Abort,
     alloc: Global,
@@ -337,14 +338,14 @@ fn assert_held(
 fn a_digest_tells_how_far_blocks_are_held(rt: HostRuntime) {
     let alloc = rt.alloc();
     let mut holdings = alone(&rt, alloc, name(&rt, b"b"));
-    // A gap first.
+    // First a gap.
     assert_held(&rt, alloc, &mut holdings, 3, (1, 32, 0));
     assert_held(&rt, alloc, &mut holdings, 1, (2, 58, 1));
     assert_held(&rt, alloc, &mut holdings, 2, (2, 58, 2));
     assert_held(&rt, alloc, &mut holdings, 3, (2, 58, 3));
 }
 
-/// What b holds that wrote one flag, entered once more where memory was refused.
+/// What b holds after it wrote one flag. It is entered a second time if memory was refused.
 fn with_a_write(rt: &impl Abort, alloc: Global, b: Name) -> Holdings {
     let mut holdings = alone(rt, alloc, b);
     if holdings.push_own(flag(rt, 1)).is_err() {
@@ -362,12 +363,12 @@ fn a_node_with_a_write_answers(rt: HostRuntime) {
     same(&rt, &found, &((false, None, None, None, 1, 32), true));
 }
 
-/// b holds of a the first part of a stage: the floor 5, the version 2, and all up to 3.
+/// b holds the first part of a stage of a: floor 5, with version 2, up to 3.
 fn with_a_stage(rt: &impl Abort, alloc: Global, a: Name, b: Name) -> Holdings {
     let mut holdings = alone(rt, alloc, b);
     let block = got(rt, Block::new(a, 5, 0, 3, one(rt, alloc, flag(rt, 2))));
     holdings.apply_block(&block);
-    // Once more, so that it is held also where memory was refused; else it is a gap.
+    // Once more, so that it is held even if memory was refused. Otherwise this is a gap.
     holdings.apply_block(&block);
     holdings
 }
@@ -383,7 +384,7 @@ fn a_digest_tells_how_far_a_stage_has_come(rt: HostRuntime) {
     same(&rt, &told, &([0, 0, 3, 0, 0], 0));
 }
 
-/// What a node holds beside the first write of each of these.
+/// What a node holds besides the first write of each of these.
 fn holding(rt: &impl Abort, alloc: Global, me: Name, owners: &[Name]) -> Holdings {
     let mut holdings = alone(rt, alloc, me);
     for owner in owners {
@@ -392,7 +393,7 @@ fn holding(rt: &impl Abort, alloc: Global, me: Name, owners: &[Name]) -> Holding
     holdings
 }
 
-/// What a holds beside the first writes of b and c.
+/// What a holds besides the first writes of b and c.
 fn a_beside_b_and_c(rt: &impl Abort, alloc: Global) -> Holdings {
     let owners = [name(rt, b"b"), name(rt, b"c")];
     holding(rt, alloc, name(rt, b"a"), &owners)
@@ -404,7 +405,7 @@ const AT_0: (bool, u64) = (true, 0);
 
 const AT_1: (bool, u64) = (true, 1);
 
-/// The digest that begins at a name has so many pairs and this length, and tells this of a, ab, b, c and ca.
+/// Asserts the pairs and the length of the digest that begins at a name, and what it reports of a, ab, b, c and ca.
 fn assert_range(
     rt: &impl Abort,
     alloc: Global,
@@ -443,10 +444,10 @@ fn a_range_begins_at_any_name(rt: HostRuntime) {
     assert_ranges(&rt, rt.alloc(), &holdings);
 }
 
-/// Of a digest how many pairs it has, how long its payload is, and what it tells.
+/// A part of a digest: how many pairs it has, how long its payload is, and what it reports.
 type Part<'a> = (usize, u64, &'a [(bool, u64)]);
 
-/// The digest from a name on up to another is this part, and tells so of the owners.
+/// Asserts that the digest from a name on, up to another, is this part, and reports this of the owners.
 fn assert_part(
     rt: &impl Abort,
     alloc: Global,
@@ -465,7 +466,7 @@ fn assert_part(
     same_at(rt, &budget, &found, &(wanted, true));
 }
 
-/// 18 names of 32 letters, each of one letter.
+/// 18 names, each of one letter 32 times.
 fn many_owners(rt: &impl Abort) -> [Name; 18] {
     let mut owners = [long_name(rt, b'a'); 18];
     let mut letter = b'a';
@@ -476,7 +477,7 @@ fn many_owners(rt: &impl Abort) -> [Name; 18] {
     owners
 }
 
-// What is told of the first owner, and of the last three.
+// What is reported of the first owner, and of the last three.
 
 const FIRST_17: Part<'static> = (17, 1_007, &[AT_0, AT_1, AT_1, BELOW]);
 
@@ -500,7 +501,7 @@ fn many_owners_take_two_digests(rt: HostRuntime) {
     assert_many(&rt, rt.alloc(), &holdings, &ends);
 }
 
-// What is told of the last of 17 owners, the next and the last of all.
+// What is reported of the last of 17 owners, of the next one and of the last of all.
 
 const FRONT: Part<'static> = (17, 1_007, &[AT_1, BELOW, BELOW]);
 
@@ -523,7 +524,7 @@ fn assert_ended(rt: &impl Abort, alloc: Global, held: &Holdings, ends: &[Name; 3
     assert_part(rt, alloc, held, 1_095, ends, (None, None), WITH_OWN);
 }
 
-/// Owners behind those that there is room for are met before the digest is cut, the own name last.
+/// The digest meets owners after those that it has room for before it is cut. The own name is the last.
 #[test]
 fn the_own_name_may_be_last(rt: HostRuntime) {
     let owners = many_owners(&rt);
@@ -549,7 +550,7 @@ fn hold_first(rt: &impl Abort, alloc: Global, holdings: &mut Holdings, owner: Na
     holdings.apply_block(&block);
 }
 
-/// As many owners as a node may hold, the own name without a write and each other with one.
+/// As many owners as a node may hold. The own name has no write, and each other owner has one.
 fn holdings_of_all_owners(rt: &impl Abort, alloc: Global) -> Holdings {
     let mut holdings = alone(rt, alloc, numbered_name(rt, 0));
     for number in 1..1_024 {
@@ -566,7 +567,7 @@ fn assert_all(rt: &impl Abort, alloc: Global, holdings: &Holdings) {
     same(rt, &all, &(wanting(None, None, 1_024, 58_374), true));
 }
 
-/// At the least budget the digest of this turn, from a name on, has a few owners. Answers where the next one begins.
+/// At the least budget the digest of this turn has a few owners, from a name on. Returns where the next one begins.
 fn assert_turn(
     rt: &impl Abort,
     alloc: Global,
@@ -594,7 +595,7 @@ fn assert_turns(rt: &impl Abort, alloc: Global, holdings: &Holdings) {
     same(rt, &from, &None);
 }
 
-/// At the greatest budget one digest has all 1,024 owners, at the least one each has a few.
+/// At the greatest budget one digest has all 1,024 owners. At the least budget each has a few.
 #[test]
 fn all_owners_are_told_of(rt: HostRuntime) {
     let holdings = holdings_of_all_owners(&rt, rt.alloc());
@@ -602,7 +603,7 @@ fn all_owners_are_told_of(rt: HostRuntime) {
     assert_turns(&rt, rt.alloc(), &holdings);
 }
 
-/// The extent of a digest of at most 1,024 bytes, unless memory ran out.
+/// Returns the extent of a digest of at most 1,024 bytes, unless there is no memory.
 fn built(alloc: Global, holdings: &Holdings, from: Name, want: bool) -> Result<Extent, Fault> {
     match build(alloc, holdings, Some(from), want, 1_024) {
         Ok(digest) => Ok(extent(&digest)),
@@ -610,14 +611,14 @@ fn built(alloc: Global, holdings: &Holdings, from: Name, want: bool) -> Result<E
     }
 }
 
-/// The extents of the digest of a new node from its own name on, and of the one from z on, behind all names.
+/// Returns the extents of two digests of a new node: from its own name on, and from z on, which is after all names.
 fn first_and_rest(alloc: Global, me: Name, z: Name) -> Result<(Extent, Extent), Fault> {
     let holdings = Holdings::new(alloc, me, Table::new(alloc))?;
     let first = built(alloc, &holdings, me, true)?;
     Ok((first, built(alloc, &holdings, z, false)?))
 }
 
-/// Whichever allocation is refused, a digest is whole, or there is none and the fault tells why.
+/// Whichever allocation is refused, a digest is complete, or there is a fault in place of it.
 #[test]
 fn a_digest_is_whole_or_not_there(rt: HostRuntime) {
     let [a, z] = [name(&rt, b"a"), name(&rt, b"z")];

@@ -1,4 +1,4 @@
-//! The examples that stand at the top of the crates of values, tables, holdings, digests and messages.
+//! The examples at the top of the crates of values, tables, holdings, digests and messages.
 use crate::{got, key, name, same};
 use sb_codec::{Bye, Message, decode_payload, encode_payload};
 use sb_digest::build;
@@ -14,7 +14,7 @@ fn entry_of_words(alloc: Global) -> Result<Entry, Fault> {
     Ok(Entry::new(key, 1, Slot::Set(value)))
 }
 
-/// The weight of an entry, where it has one.
+/// Returns the weight of an entry, if it has one.
 fn weight_in(entry: &Entry) -> Option<u64> {
     match entry.slot() {
         Slot::Set(value) => value.as_weight(),

@@ -1,4 +1,4 @@
-//! The number and the text of each fault, as they are printed.
+//! The number of each fault, and the text that it prints.
 use crate::{got, same};
 use sb_types::Fault;
 use std::alloc::Global;
@@ -114,7 +114,7 @@ const FAULTS: &[(Fault, u8, &str)] = &[
     (Fault::OutOfTurn(2), 31, "the next own write has version 2"),
 ];
 
-/// The fault has this number and prints this text.
+/// Asserts the number of the fault, and the text that it prints.
 fn assert_told(rt: &impl Abort, alloc: Global, fault: Fault, number: u8, text: &str) {
     let printed = got(rt, fault.to_string(alloc));
     same(rt, &(fault.number(), printed.as_str()), &(number, text));

@@ -1,4 +1,4 @@
-//! Holdings: what is taken of blocks and of own writes, case by case, also at the greatest sizes.
+//! Holdings: what they take of blocks and of own writes, case by case, also at the greatest sizes.
 ghost use Rattle.std.specs.Prelude.{◌≤◌};
 
 use crate::{entry, got, holds, key, name, one, push, same, same_at, settled, weighing};
@@ -9,7 +9,7 @@ use sb_types::{Block, Entry, Fault, Name, Slot, Value};
 use std::alloc::Global;
 use std::process::Abort;
 
-/// A write of at least version 1: its version as a weight, or a removal.
+/// A write of at least version 1. It sets its version as a weight, or removes the key.
 fn write(rt: &impl Abort, text: &[u8], version: u64, is_set: bool) -> Entry {
     let at_least_1 = version.max(1);
     if is_set {
@@ -31,8 +31,8 @@ fn numbered(rt: &impl Abort, version: u64, key: u64) -> Entry {
     write(rt, &letters_of(key), version, true)
 }
 
-/// What a block begins after, the first of its versions, how many they are, and the number of its first key: each key is
-/// another.
+/// A run of a block: `after`, its first version, how many versions it has, and the number of its first key. All keys
+/// differ.
 type Run = (u64, u32, u32, u32);
 
 fn entries(rt: &impl Abort, alloc: Global, run: Run) -> Vec<Entry> {
@@ -55,7 +55,7 @@ fn block_of(rt: &impl Abort, alloc: Global, owner: Name, run: Run) -> Block {
     )
 }
 
-/// How a block ends; where memory ran out, the end of the test.
+/// Returns how a block ends. Ends the test if there is no memory.
 fn applied(rt: &impl Abort, holdings: &mut Holdings, block: &Block) -> BlockEnd {
     match holdings.apply_block(block) {
         BlockEnd::NoMemory(_) => panic!(rt; "error: NoMemory"),
@@ -67,7 +67,7 @@ fn holdings_of(rt: &impl Abort, alloc: Global, me: &[u8]) -> Holdings {
     got(rt, Holdings::new(alloc, name(rt, me), Table::new(alloc)))
 }
 
-/// How many keys an owner has, where it is known.
+/// Returns how many keys an owner has, if it is known.
 fn key_count(holdings: &Holdings, owner: &Name) -> Option<usize> {
     match holdings.table(owner) {
         Some(table) => Some(table.len()),
@@ -75,7 +75,7 @@ fn key_count(holdings: &Holdings, owner: &Name) -> Option<usize> {
     }
 }
 
-/// How a block ends, how far its owner is then held, and how many keys it has where it is known.
+/// How a block ends, how far its owner is then held, and how many keys the owner has, if it is known.
 type Ending = (BlockEnd, u64, Option<usize>);
 
 fn take(rt: &impl Abort, holdings: &mut Holdings, block: &Block) -> Ending {
@@ -84,7 +84,7 @@ fn take(rt: &impl Abort, holdings: &mut Holdings, block: &Block) -> Ending {
     (end, holdings.upto(&owner), key_count(holdings, &owner))
 }
 
-/// A block of an owner comes, and ends so.
+/// Asserts how a block of an owner ends.
 fn assert_takes(
     rt: &impl Abort,
     alloc: Global,
@@ -106,14 +106,14 @@ fn first_flag(rt: &impl Abort, alloc: Global) -> Block {
     )
 }
 
-/// How a block ends, how it ends once more, and how far its owner is then held.
+/// Returns how a block ends, how it ends the second time, and how far its owner is then held.
 fn ends_of(holdings: &mut Holdings, block: &Block) -> (BlockEnd, BlockEnd, u64) {
     let end = holdings.apply_block(block);
     let again = holdings.apply_block(block);
     (end, again, holdings.upto(block.owner()))
 }
 
-/// The example of `Holdings`.
+/// Runs the example of `Holdings`.
 #[test]
 fn example_of_holdings(rt: HostRuntime) {
     let block = first_flag(&rt, rt.alloc());
@@ -122,7 +122,7 @@ fn example_of_holdings(rt: HostRuntime) {
     same(&rt, &found, &(BlockEnd::Taken(1), BlockEnd::Stale, 1));
 }
 
-/// What b holds where five blocks of a come in turn.
+/// Asserts what b holds after each of five blocks of a.
 fn assert_joins(rt: &impl Abort, alloc: Global, held: &mut Holdings) {
     let (gap, stale) = ((BlockEnd::Gap, 0, None), (BlockEnd::Stale, 3, Some(3)));
     let [two, third] = [
@@ -143,7 +143,7 @@ fn blocks_join_on_or_change_nothing(rt: HostRuntime) {
     assert_joins(&rt, rt.alloc(), &mut holdings);
 }
 
-/// How the block of one write ends, and what is then shown of its owner under x and y.
+/// Returns how the block of one write ends, and what is then shown of its owner under x and y.
 fn take_entry(
     rt: &impl Abort,
     holdings: &mut Holdings,
@@ -155,7 +155,7 @@ fn take_entry(
     (end, x, weight_at(holdings, &owner, b"y"))
 }
 
-/// An owner's write, of version 2 where it comes after 0 and else of version 3, is taken so.
+/// Asserts how an owner's write is taken. It has version 2 if it comes after 0, and else version 3.
 fn assert_shown(
     rt: &impl Abort,
     alloc: Global,
@@ -170,7 +170,7 @@ fn assert_shown(
     same(rt, &take_entry(rt, holdings, &block), &wanted);
 }
 
-/// What n holds where writes of a and b come in turn.
+/// Asserts what n holds as writes of a and b come in turn.
 fn assert_all_shown(rt: &impl Abort, alloc: Global, held: &mut Holdings) {
     let taken = BlockEnd::Taken(1);
     let (second, third, gone) = (Some((2, Some(2))), Some((3, Some(3))), Some((3, None)));
@@ -195,14 +195,14 @@ fn assert_all_shown(rt: &impl Abort, alloc: Global, held: &mut Holdings) {
     );
 }
 
-/// Superseded versions may be missing, and removals leave markers.
+/// Superseded versions may be missing, and a removed key keeps a tombstone (the marker of the removal).
 #[test]
 fn keys_show_their_last_write(rt: HostRuntime) {
     let mut holdings = holdings_of(&rt, rt.alloc(), b"n");
     assert_all_shown(&rt, rt.alloc(), &mut holdings);
 }
 
-/// An own write is answered so, and leaves this of its key.
+/// Asserts the answer to an own write, and what it leaves of its key.
 fn assert_own(
     rt: &impl Abort,
     holdings: &mut Holdings,
@@ -218,13 +218,13 @@ fn assert_own(
     same_at(rt, &version, &held, &(answer, shown));
 }
 
-/// The own name, how far it is held, and how many keys it has.
+/// Returns the own name, how far it is held, and how many keys it has.
 fn own(holdings: &Holdings) -> (Name, u64, Option<usize>) {
     let me = *holdings.me();
     (me, holdings.upto(&me), key_count(holdings, &me))
 }
 
-/// What m holds where its own writes come in turn, and blocks of its name.
+/// Asserts what m holds as its own writes and blocks of its name come in turn.
 fn assert_in_turn(rt: &impl Abort, alloc: Global, held: &mut Holdings) {
     same(rt, &own(held), &(name(rt, b"m"), 0, Some(0)));
     let first = Some((1, Some(1)));
@@ -249,7 +249,7 @@ fn own_writes_come_in_turn(rt: HostRuntime) {
     assert_in_turn(&rt, rt.alloc(), &mut holdings);
 }
 
-/// Enters own writes of these versions, each under a key of its own.
+/// Enters own writes of these versions, each under another key.
 fn write_own(rt: &impl Abort, holdings: &mut Holdings, count: u64) {
     for version in 1..=count {
         got(rt, holdings.push_own(numbered(rt, version, version)));
@@ -266,7 +266,7 @@ fn own_keys_have_a_limit(rt: HostRuntime) {
     assert_own(&rt, &mut holdings, (&first, 4_097, false), Ok(()), gone);
 }
 
-/// Each owner of a number below this one has its first write taken.
+/// Takes the first write of each owner whose number is below this one.
 fn fill_owners(rt: &impl Abort, alloc: Global, holdings: &mut Holdings, count: u64) {
     let first = (BlockEnd::Taken(1), 1, Some(1));
     for number in 1..count {
@@ -281,7 +281,7 @@ fn fill_owners(rt: &impl Abort, alloc: Global, holdings: &mut Holdings, count: u
     }
 }
 
-/// What is then refused of another owner, and taken of the first.
+/// Asserts what is then refused of another owner, and taken of the first.
 fn assert_no_room(rt: &impl Abort, alloc: Global, held: &mut Holdings) {
     let (full, gap) = ((BlockEnd::OwnersFull, 0, None), (BlockEnd::Gap, 0, None));
     let second = (BlockEnd::Taken(1), 2, Some(2));
@@ -298,7 +298,7 @@ fn owners_have_a_limit(rt: HostRuntime) {
     assert_no_room(&rt, rt.alloc(), &mut holdings);
 }
 
-/// What b holds where all keys of a come, and then come again.
+/// Asserts what b holds after all keys of a came, and after they came again.
 fn assert_filled(rt: &impl Abort, alloc: Global, held: &mut Holdings) {
     let all = Some(4_096);
     let most = (BlockEnd::Taken(4_094), 4_094, Some(4_094));
@@ -330,13 +330,13 @@ fn assert_filled(rt: &impl Abort, alloc: Global, held: &mut Holdings) {
     );
 }
 
-/// The key of a number shows this version.
+/// Asserts that the key of a number shows this version.
 fn assert_version(rt: &impl Abort, holdings: &Holdings, number: u64, version: u64) {
     let shown = weight_at(holdings, &name(rt, b"a"), &letters_of(number));
     same_at(rt, &number, &shown, &Some((version, Some(version))));
 }
 
-/// All 4,096 keys of one owner, written again up to versions past 10,000.
+/// All 4,096 keys of one owner are written again, up to versions above 10,000.
 #[test]
 fn keys_have_a_limit(rt: HostRuntime) {
     let mut holdings = holdings_of(&rt, rt.alloc(), b"b");
@@ -346,7 +346,7 @@ fn keys_have_a_limit(rt: HostRuntime) {
     assert_version(&rt, &holdings, 4_096, 12_290);
 }
 
-/// A block may have 65,535 entries: of new keys 4,096 are taken.
+/// A block may have 65,535 entries. Of new keys, 4,096 are taken.
 #[test]
 fn the_greatest_block_is_taken(rt: HostRuntime) {
     let mut holdings = holdings_of(&rt, rt.alloc(), b"b");
@@ -361,7 +361,7 @@ fn the_greatest_block_is_taken(rt: HostRuntime) {
     );
 }
 
-/// Whether these are all owners.
+/// Returns whether these are all owners.
 fn owners_are(holdings: &Holdings, owners: &[&[u8]]) -> bool {
     let mut are_owners = true;
     let mut wanted = owners.iter().copied();
@@ -371,7 +371,7 @@ fn owners_are(holdings: &Holdings, owners: &[&[u8]]) -> bool {
     are_owners && wanted.next().is_none()
 }
 
-/// Whether from a name on these are the owners, with how far each is held.
+/// Returns whether these are the owners from a name on, with how far each is held.
 fn later_are(holdings: &Holdings, first: &Name, later: &[(&[u8], u64)]) -> bool {
     let mut are_later = true;
     let mut wanted = later.iter().copied();
@@ -381,7 +381,7 @@ fn later_are(holdings: &Holdings, first: &Name, later: &[(&[u8], u64)]) -> bool 
     are_later && wanted.next().is_none()
 }
 
-/// How many owners there are from the first on.
+/// Returns how many owners there are from the first on.
 fn owner_count(holdings: &Holdings) -> u64 {
     let mut count = 0_u64;
     for _ in holdings.tables_from(None) {
@@ -390,7 +390,7 @@ fn owner_count(holdings: &Holdings) -> u64 {
     count
 }
 
-/// Each has its first two writes taken.
+/// Takes the first two writes of each.
 fn take_three(rt: &impl Abort, alloc: Global, holdings: &mut Holdings) {
     let two = (BlockEnd::Taken(2), 2, Some(2));
     for owner in [b"z".as_slice(), b"a", b"ma"] {
@@ -415,7 +415,7 @@ fn address(rt: &impl Abort, alloc: Global, text: &[u8], version: u64) -> Result<
     Ok(Entry::new(key(rt, text), version, slot))
 }
 
-/// Three entries of a new owner, unless memory ran out.
+/// Three entries of a new owner, unless there is no memory.
 fn three_addresses(rt: &impl Abort, alloc: Global) -> Result<Vec<Entry>, Fault> {
     let mut entries = Vec::new(alloc);
     entries.push(address(rt, alloc, b"x", 1)?)?;
@@ -428,7 +428,7 @@ fn three_writes(rt: &impl Abort, alloc: Global) -> Result<Block, Fault> {
     Block::new(name(rt, b"a"), 0, 0, 3, three_addresses(rt, alloc)?)
 }
 
-/// How a block ends, what is then held, how it ends the next time, and what is held then.
+/// Returns how a block ends and how far its owner is then held, and the same for the second time.
 fn taken_twice(holdings: &mut Holdings, block: &Block) -> (BlockEnd, u64, BlockEnd, u64) {
     let end = holdings.apply_block(block);
     let held = holdings.upto(block.owner());
@@ -436,13 +436,13 @@ fn taken_twice(holdings: &mut Holdings, block: &Block) -> (BlockEnd, u64, BlockE
     (end, held, again, holdings.upto(block.owner()))
 }
 
-/// The same of three entries of a new owner, unless memory ran out before they came.
+/// Returns the same for three entries of a new owner, unless there is no memory before they come.
 fn three_taken(rt: &impl Abort, alloc: Global) -> Result<(BlockEnd, u64, BlockEnd, u64), Fault> {
     let mut holdings = Holdings::new(alloc, name(rt, b"b"), Table::new(alloc))?;
     Ok(taken_twice(&mut holdings, &three_writes(rt, alloc)?))
 }
 
-/// Whichever allocation is refused, a front is kept, and the rest is taken the next time.
+/// Whichever allocation is refused, the first entries are kept, and the rest is taken the next time.
 #[test]
 fn a_front_stays_where_memory_runs_out(rt: HostRuntime) {
     match three_taken(&rt, rt.alloc()) {
@@ -459,7 +459,7 @@ fn a_front_stays_where_memory_runs_out(rt: HostRuntime) {
     }
 }
 
-/// Whether an own write is entered, or leaves what was held for want of memory.
+/// Returns whether an own write is entered, or leaves what was held because there was no memory.
 fn is_pushed_or_left(rt: &impl Abort, holdings: &mut Holdings, key: &[u8]) -> bool {
     let me = *holdings.me();
     let before = holdings.upto(&me);
@@ -472,7 +472,7 @@ fn is_pushed_or_left(rt: &impl Abort, holdings: &mut Holdings, key: &[u8]) -> bo
     }
 }
 
-/// Whether each of nine own writes is entered, or leaves what was held for want of memory.
+/// Returns whether each of nine own writes is entered, or leaves what was held because there was no memory.
 fn are_pushed_or_left(rt: &impl Abort, holdings: &mut Holdings) -> bool {
     let mut are_right = true;
     for number in 1..10 {
@@ -481,7 +481,7 @@ fn are_pushed_or_left(rt: &impl Abort, holdings: &mut Holdings) -> bool {
     are_right
 }
 
-/// Whichever allocation is refused.
+/// This holds whichever allocation is refused.
 #[test]
 fn own_writes_without_memory_change_nothing(rt: HostRuntime) {
     let alloc = rt.alloc();

@@ -1,5 +1,5 @@
-//! The tests of the crates of values, tables, holdings, digests and messages. They stand in a crate of their own, since a crate
-//! with tests is proved twice: with them and without.
+//! The tests of the crates of values, tables, holdings, digests and messages. They are in a crate of their own, because
+//! a crate that contains tests is proved twice: with them and without.
 #![tactic(auto)]
 
 ghost use Rattle.std.specs.Prelude.{◌≤◌};
@@ -32,31 +32,31 @@ use std::fmt::Debug;
 #[cfg(test)]
 use std::process::Abort;
 
-/// Ends the test where the two differ. As a function it costs the prover a fifth of the macro.
+/// Ends the test if the two differ. A function costs the prover a fifth of what the macro costs.
 #[cfg(test)]
 fn same<T: PartialEq + Debug>(rt: &impl Abort, found: &T, wanted: &T) {
     assert_eq!(rt; found, wanted);
 }
 
-/// The same of one of many cases, which is named where the two differ.
+/// Does the same for one of many cases, and names the case if the two differ.
 #[cfg(test)]
 fn same_at<N: Debug, T: PartialEq + Debug>(rt: &impl Abort, at: &N, found: &T, wanted: &T) {
     assert_eq!(rt; found, wanted, "{at:?}");
 }
 
-/// Ends the test where this does not hold.
+/// Ends the test if this does not hold.
 #[cfg(test)]
 fn holds(rt: &impl Abort, what: &str, holds: bool) {
     assert!(rt; holds, "{what}");
 }
 
-/// The answer; where there is none, the end of the test, which names the fault.
+/// Returns the answer. If there is none, ends the test and names the fault.
 #[cfg(test)]
 fn got<T, E: Debug + Drop>(rt: &impl Abort, answer: Result<T, E>) -> T {
     answer.expect(rt, "error")
 }
 
-/// What is answered, a fault too; where memory ran out, the end of the test.
+/// Returns the answer, also if it is a fault. Ends the test if there was no memory.
 #[cfg(test)]
 fn settled<T: Copy>(rt: &impl Abort, answer: Result<T, Fault>) -> Result<T, Fault> {
     match answer {
@@ -65,7 +65,7 @@ fn settled<T: Copy>(rt: &impl Abort, answer: Result<T, Fault>) -> Result<T, Faul
     }
 }
 
-/// The fault that is answered, if any; where memory ran out, the end of the test.
+/// Returns the fault that is answered, if any. Ends the test if there was no memory.
 #[cfg(test)]
 fn refusal<T: Drop>(rt: &impl Abort, answer: Result<T, Fault>) -> Option<Fault> {
     match answer.err() {

@@ -1,4 +1,4 @@
-//! Holdings: what is taken of blocks with a floor, by the table that is shown and by a stage.
+//! Holdings: what the shown table and a stage take of blocks with a purge floor.
 use crate::table::{Listed, all_listed, shown};
 use crate::{got, name, same, same_at};
 use sb_holdings::{BlockEnd, Holdings};
@@ -7,10 +7,10 @@ use sb_types::{Block, Name};
 use std::alloc::Global;
 use std::process::Abort;
 
-/// The floor of a block, what it begins after, and up to which version it tells.
+/// The floor of a block, `after`, and `upto`.
 type Range = (u64, u64, u64);
 
-/// How a block of a's writes ends; where memory ran out, the end of the test.
+/// Returns how a block of a's writes ends. Ends the test if there is no memory.
 fn applied(
     rt: &impl Abort,
     alloc: Global,
@@ -36,7 +36,7 @@ fn places(rt: &impl Abort, holdings: &Holdings) -> Places {
     (upto, floor, holdings.staged(&owner))
 }
 
-/// A block of a's writes comes, ends so, and leaves a at these places.
+/// Asserts how a block of a's writes ends, and the places at which it leaves a.
 fn assert_takes(
     rt: &impl Abort,
     alloc: Global,
@@ -50,14 +50,14 @@ fn assert_takes(
     same_at(rt, &range, &found, &wanted);
 }
 
-/// The version under a letter of a's, and whether it sets the key.
+/// Returns the version under a letter of a, and whether it sets the key.
 fn at(rt: &impl Abort, holdings: &Holdings, letter: u8) -> Option<(u64, bool)> {
     let table = holdings.table(&name(rt, b"a"))?;
     let (version, number) = shown(table, &[letter])?;
     Some((version, number.is_some()))
 }
 
-/// What stands under v, w, x, y and z.
+/// What is under v, w, x, y and z.
 type Found = [Option<(u64, bool)>; 5];
 
 fn assert_shows(rt: &impl Abort, holdings: &Holdings, wanted: Found) {
@@ -92,7 +92,7 @@ fn two_held(rt: &impl Abort, alloc: Global) -> Holdings {
     held
 }
 
-/// The first block of floor 5 is staged.
+/// The first block of floor 5 goes to a stage.
 fn assert_begins(rt: &impl Abort, alloc: Global, held: &mut Holdings) {
     let taken = (BlockEnd::Taken(2), (2, 0, Some((5, 3))));
     assert_takes(rt, alloc, held, ((5, 0, 3), &[Y_2, Z_3]), taken);
@@ -126,7 +126,7 @@ fn a_stage_is_shown_once_it_has_come_to_its_floor(rt: HostRuntime) {
     assert_ends(&rt, rt.alloc(), &mut held);
 }
 
-/// Of what was held the stage has no key, and v at 1 it does not bring in.
+/// The stage has no key of what was held. It has v at 1, and the swap does not bring that in.
 #[test]
 fn a_swap_brings_in_nothing_up_to_what_was_held(rt: HostRuntime) {
     let mut held = none_held(&rt, rt.alloc());
@@ -144,7 +144,7 @@ fn a_swap_brings_in_nothing_up_to_what_was_held(rt: HostRuntime) {
     assert_shows(&rt, &held, [None, None, None, None, set(3)]);
 }
 
-/// Whether an owner has no key, where it is held.
+/// Returns whether an owner has no key, if it is held.
 fn is_empty(holdings: &Holdings, owner: &Name) -> Option<bool> {
     match holdings.table(owner) {
         Some(table) => Some(table.is_empty()),
@@ -152,7 +152,7 @@ fn is_empty(holdings: &Holdings, owner: &Name) -> Option<bool> {
     }
 }
 
-/// What a block without entries tells: of a new owner, and of one that is held.
+/// What a block without entries changes: for a new owner, and for one that is held.
 #[test]
 fn a_block_may_tell_of_a_floor_alone(rt: HostRuntime) {
     let mut held = none_held(&rt, rt.alloc());
@@ -181,7 +181,7 @@ fn a_floor_up_to_what_is_held_lets_removals_go(rt: HostRuntime) {
     assert_shows(&rt, &held, [None, set(4), set(1), None, set(3)]);
 }
 
-/// A stage of a higher floor takes the place of one of a lower, and goes once what is shown has come to its floor.
+/// A stage of a higher floor replaces one of a lower floor. It goes once the shown table has reached its floor.
 #[test]
 fn a_stage_is_dropped_for_a_higher_floor_or_a_table_as_far(rt: HostRuntime) {
     let mut held = two_held(&rt, rt.alloc());

@@ -1,4 +1,4 @@
-//! Tables: what no clause says, and the greatest number of keys.
+//! Tables: what no clause states, and the greatest number of keys.
 ghost use Rattle.std.specs.Prelude.{◌≡◌, IfOk, map};
 ghost use Rattle.sb_types.specs.Runs.{above};
 ghost use Rattle.sb_table.specs.Order.{by_key, under};
@@ -9,7 +9,7 @@ use sb_types::{Entry, Fault, KEYS_MOST, Key, Prefix, Slot};
 use std::alloc::{AllocError, Global};
 use std::process::Abort;
 
-/// Enters what is of a later version than all that the table has, and refuses all else as `OutOfTurn`.
+/// Enters a write of a later version than all that the table has. Refuses all others as `OutOfTurn`.
 fn enter(table: &mut Table, entry: Entry) -> Result<(), Fault> {
     let version = entry.version();
     if version <= table.upto() {
@@ -18,13 +18,13 @@ fn enter(table: &mut Table, entry: Entry) -> Result<(), Fault> {
     table.push(entry)
 }
 
-/// A write of at least version 1 that sets the key to a weight.
+/// Enters a write of at least version 1 that sets the key to a weight.
 fn set(rt: &impl Abort, table: &mut Table, key: &[u8], version: u64, number: u64) {
     let entry = weighing(rt, key, version.max(1), number);
     got(rt, enter(table, entry));
 }
 
-/// A write of at least version 1 that removes the key.
+/// Enters a write of at least version 1 that removes the key.
 fn remove(rt: &impl Abort, table: &mut Table, key: &[u8], version: u64) {
     got(
         rt,
@@ -43,7 +43,7 @@ pub fn shown(table: &Table, key: &[u8]) -> Option<(u64, Option<u64>)> {
     }
 }
 
-/// How many keys there are, the last version, and what is shown under each of these keys.
+/// Returns how many keys there are, the last version, and what is shown under each of these keys.
 fn shown_under(table: &Table, keys: [&[u8]; 3]) -> (usize, u64, [Found; 3]) {
     let [first, second, third] = keys;
     let found = [
@@ -54,7 +54,7 @@ fn shown_under(table: &Table, keys: [&[u8]; 3]) -> (usize, u64, [Found; 3]) {
     (table.len(), table.upto(), found)
 }
 
-// What the iterators say reaches their callers.
+// What the iterators state reaches their callers.
 fn versions_after(alloc: Global, table: &Table, version: u64) -> Result<Vec<u64>, AllocError>
     ensures { IfOk result (λ v. v.items ≡ map (λ e. e.version) (above version table.now.entries)) }
 {
@@ -73,7 +73,7 @@ fn versions_under(alloc: Global, table: &Table, prefix: &Prefix) -> Result<Vec<u
         .collect(alloc)
 }
 
-/// Just these versions are above one.
+/// Asserts that just these versions are above one.
 fn assert_above(rt: &impl Abort, alloc: Global, table: &Table, version: u64, wanted: &[u64]) {
     let versions = got(rt, versions_after(alloc, table, version));
     same_at(rt, &version, &versions.as_slice(), &wanted);
@@ -84,7 +84,7 @@ fn under_text(rt: &impl Abort, alloc: Global, table: &Table, text: &[u8]) -> Vec
     got(rt, versions_under(alloc, table, &prefix))
 }
 
-/// Just these versions are under a prefix.
+/// Asserts that just these versions are under a prefix.
 fn assert_under(rt: &impl Abort, alloc: Global, table: &Table, text: &[u8], wanted: &[u64]) {
     let versions = under_text(rt, alloc, table, text);
     same_at(rt, &text, &versions.as_slice(), &wanted);
@@ -145,13 +145,13 @@ fn a_prefix_gives_its_keys_in_order(rt: HostRuntime) {
     assert_paths(&rt, rt.alloc(), &table);
 }
 
-/// How many keys a table has, its last version, and whether the write of that removed the key.
+/// Returns how many keys a table has, its last version, and whether the write of that version removed the key.
 fn ends_removed(table: &Table, key: &Key) -> (usize, u64, bool) {
     let is_removed = matches!(table.get(key), Some((2, Slot::Removed)));
     (table.len(), table.upto(), is_removed)
 }
 
-/// The example of `Table`.
+/// Runs the example of `Table`.
 #[test]
 fn example_of_a_table(rt: HostRuntime) {
     let mut table = Table::new(rt.alloc());
@@ -165,13 +165,13 @@ fn example_of_a_table(rt: HostRuntime) {
     same(&rt, &table.get(&port).is_none(), &true);
 }
 
-/// A write of a version under the key of a number, its weight the version.
+/// Enters a write of a version under the key of a number. Its weight is the version.
 fn set_numbered(rt: &impl Abort, alloc: Global, table: &mut Table, number: u64, version: u64) {
     let key = got(rt, format!(in alloc; "k{number:04}"));
     set(rt, table, key.as_bytes(), version, version);
 }
 
-/// 4,096 keys, each written three times, from k4096 at the versions 1, 4,097 and 8,193 down to k0001 at 4,096, 8,192
+/// 4,096 keys, each written three times: from k4096 at the versions 1, 4,097 and 8,193 down to k0001 at 4,096, 8,192
 /// and 12,288.
 fn full_table(rt: &impl Abort, alloc: Global) -> Table {
     let mut table = Table::new(alloc);
@@ -181,8 +181,7 @@ fn full_table(rt: &impl Abort, alloc: Global) -> Table {
     table
 }
 
-/// How a write of the weight 1 is answered; how many keys there are and the last version; and what is then under the
-/// key.
+/// The answer to a write of the weight 1. Then the number of keys, the last version, and what is under the key.
 type Answered = (Result<(), Fault>, usize, u64, Found);
 
 fn write_one(rt: &impl Abort, table: &mut Table, key: &[u8], version: u64) -> Answered {
@@ -191,7 +190,7 @@ fn write_one(rt: &impl Abort, table: &mut Table, key: &[u8], version: u64) -> An
     (answer, table.len(), table.upto(), shown(table, key))
 }
 
-/// The write is answered so, and leaves the first key as it was.
+/// Asserts the answer to the write, and that it leaves the first key as it was.
 fn assert_answered(
     rt: &impl Abort,
     table: &mut Table,
@@ -221,7 +220,7 @@ fn a_full_table_takes_no_new_key(rt: HostRuntime) {
     assert_full(&rt, &mut table);
 }
 
-/// The first and the last of versions, and how many there are.
+/// The first and the last of some versions, and how many there are.
 type Ends = (Option<u64>, Option<u64>, usize);
 
 fn ends(versions: &[u64]) -> Ends {
@@ -272,7 +271,8 @@ fn a_full_table_gives_all_that_it_has(rt: HostRuntime) {
     assert_ends_under(&rt, rt.alloc(), &table);
 }
 
-/// The last version, what is shown under a, and how many entries are above the last version but one, and above the last.
+/// Returns the last version, what is shown under a, and how many entries are above the last version but one, and above
+/// the last.
 fn last_two(table: &Table) -> (u64, Found, (usize, usize)) {
     let upto = table.upto();
     let last = table.after(upto.saturating_sub(1)).count();
@@ -292,14 +292,14 @@ fn the_greatest_version_is_entered(rt: HostRuntime) {
 // The letters as keys, at the versions from 1 on.
 const LETTERS: &[u8; 26] = b"qwertyuiopasdfghjklzxcvbnm";
 
-/// Behind a k each letter as a key.
+/// Sets keys of k and each letter.
 fn set_letters(rt: &impl Abort, table: &mut Table) {
     for (version, letter) in (1..).zip(LETTERS.iter()) {
         set(rt, table, &[b'k', *letter], version, 1);
     }
 }
 
-/// Behind a k each letter as a key, then other keys, one written again, and one removed: 28 keys, 30 versions.
+/// Keys of k and each letter, then other keys, one written again and one removed: 28 keys, 30 versions.
 fn many_keys(rt: &impl Abort, alloc: Global) -> Table {
     let mut table = Table::new(alloc);
     set_letters(rt, &mut table);
@@ -363,7 +363,7 @@ fn held(table: &Table, key: &[u8]) -> Held {
     )
 }
 
-/// Whether a write is entered, or leaves everything as it was for want of memory.
+/// Returns whether a write is entered, or leaves everything as it was because there was no memory.
 fn is_written_or_left(rt: &impl Abort, table: &mut Table, key: &[u8], version: u64) -> bool {
     let before = held(table, key);
     let answer = enter(table, weighing(rt, key, version.max(1), version));
@@ -375,7 +375,7 @@ fn is_written_or_left(rt: &impl Abort, table: &mut Table, key: &[u8], version: u
     is_right && (after.1, after.2) == (after.0, after.0)
 }
 
-/// Writes each letter as a key, and once more each of the first half.
+/// Writes each letter as a key, and then each of the first half again.
 fn assert_left(rt: &impl Abort, table: &mut Table) {
     for place in 0..LETTERS.len() {
         let version = place as u64 * 2 + 1;
@@ -388,14 +388,14 @@ fn assert_left(rt: &impl Abort, table: &mut Table) {
     }
 }
 
-/// Passes also where an allocation fails.
+/// Passes also if an allocation fails.
 #[test]
 fn a_write_without_memory_leaves_the_table(rt: HostRuntime) {
     let mut table = Table::new(rt.alloc());
     assert_left(&rt, &mut table);
 }
 
-/// A write of at least version 1: the letter that is its key, its version, and its weight; or none for a removal.
+/// A write of at least version 1: the letter that is its key, its version, and its weight, or `None` for a removal.
 pub type Listed = (u8, u64, Option<u64>);
 
 fn listed(rt: &impl Abort, write: Listed) -> Entry {
@@ -428,7 +428,7 @@ fn listing(alloc: Global, shown: &Table) -> Result<Vec<Listed>, AllocError> {
     Ok(writes)
 }
 
-/// How many entries stand in the table by key.
+/// Returns how many entries the table has by key.
 fn count_by_key(rt: &impl Abort, shown: &Table) -> usize {
     let mut count = 0_usize;
     for _ in shown.prefix(&got(rt, Prefix::read(b""))) {
@@ -437,7 +437,7 @@ fn count_by_key(rt: &impl Abort, shown: &Table) -> usize {
     count
 }
 
-/// It holds up to this version, has this floor, and just these entries, also by key.
+/// Asserts that it holds up to this version, has this floor, and just these entries, also by key.
 fn assert_holds(
     rt: &impl Abort,
     alloc: Global,
@@ -460,7 +460,7 @@ fn restored(rt: &impl Abort, alloc: Global, upto: u64, floor: u64, writes: &[Lis
     )
 }
 
-/// Raises what does not fall, to a floor within what is held, and refuses all else.
+/// Raises the held version and the floor, if neither falls and the floor is within what is held. Refuses all else.
 fn raise(shown: &mut Table, upto: u64, floor: u64) -> Result<(), Fault> {
     if upto < shown.upto() || floor < shown.floor() || upto < floor {
         return Err(Fault::FloorTooHigh);
@@ -544,7 +544,7 @@ fn what_is_no_table_is_not_restored(rt: HostRuntime) {
     assert_damaged(&rt, alloc, 9, 0, &twice);
 }
 
-/// A write of a version under the key of a number, its weight the version.
+/// A write of a version under the key of a number. Its weight is the version.
 fn numbered(rt: &impl Abort, alloc: Global, number: u64, version: u64) -> Entry {
     let key = got(rt, format!(in alloc; "k{number:04}"));
     weighing(rt, key.as_bytes(), version.max(1), version)
@@ -560,7 +560,7 @@ fn many_numbered(rt: &impl Abort, alloc: Global, count: u64) -> Vec<Entry> {
     entries
 }
 
-/// What is restored of these entries up to version 9,999: how many keys, or the fault.
+/// Returns how many keys are restored from these entries, up to version 9,999, or the fault.
 fn restored_count(rt: &impl Abort, alloc: Global, entries: Vec<Entry>) -> Result<usize, Fault> {
     match Table::restored(alloc, 9_999, 0, entries) {
         Ok(shown) => Ok(shown.len()),
@@ -583,7 +583,7 @@ fn more_than_4096_keys_are_not_restored(rt: HostRuntime) {
     same(&rt, &found, &wanted);
 }
 
-/// How a write of a new key at 4,098 is answered, how many keys there are then, and up to which version.
+/// Returns how a write of a new key at 4,098 is answered, and how many keys there are then, up to which version.
 fn with_new(rt: &impl Abort, shown: &mut Table) -> (Result<(), Fault>, usize, u64) {
     let answer = settled(rt, enter(shown, listed(rt, (b'n', 4098, Some(1)))));
     (answer, shown.len(), shown.upto())
@@ -601,7 +601,7 @@ fn a_floor_makes_room(rt: HostRuntime) {
     same(&rt, &with_new(&rt, &mut shown), &(Ok(()), 4096, 4098));
 }
 
-/// Enters what is of a later version than the progress, and refuses all else as `OutOfTurn`.
+/// Enters a write of a later version than the progress. Refuses all others as `OutOfTurn`.
 fn enter_staged(stage: &mut Stage, entry: Entry) -> Result<(), Fault> {
     let version = entry.version();
     if version <= stage.progress() {
@@ -610,7 +610,7 @@ fn enter_staged(stage: &mut Stage, entry: Entry) -> Result<(), Fault> {
     stage.push(entry)
 }
 
-/// A stage of these entries that has come up to a version, or to its last one's.
+/// A stage of these entries. Its progress is this version, or that of the last entry.
 fn staged(rt: &impl Abort, alloc: Global, floor: u64, progress: u64, writes: &[Listed]) -> Stage {
     let mut stage = Stage::new(alloc, floor);
     for write in writes {
@@ -621,7 +621,7 @@ fn staged(rt: &impl Abort, alloc: Global, floor: u64, progress: u64, writes: &[L
     stage
 }
 
-/// What is shown once the stage is, where it has come as far as its floor and as what is held.
+/// Returns what is shown after the stage was swapped in, if it has reached its floor and what is held.
 fn swapped(alloc: Global, shown: &Table, stage: &Stage) -> Result<Table, Fault> {
     if stage.progress() < stage.floor() || stage.progress() < shown.upto() {
         return Err(Fault::FloorTooHigh);
@@ -637,7 +637,7 @@ const HELD: &[Listed] = &[
     (b'd', 5, Some(5)),
 ];
 
-// Of what is held it has a, h at an older version and c; k is below what is held, and new.
+// Of what is held it has a, h at an older version, and c. k is below what is held, and new.
 const COMING: &[Listed] = &[
     (b'a', 1, Some(99)),
     (b'h', 2, Some(2)),
@@ -681,7 +681,7 @@ fn a_stage_takes_the_place_of_what_is_shown(rt: HostRuntime) {
     assert_holds(&rt, rt.alloc(), &shown, 5, 0, HELD);
 }
 
-/// The floor and the progress, and whether a new key and k0001 have no room.
+/// Returns the floor and the progress, and whether there is no room for a new key and for k0001.
 fn stage_ends(rt: &impl Abort, stage: &Stage) -> (u64, u64, bool, bool) {
     let (new, first) = (key(rt, b"new"), key(rt, b"k0001"));
     let full = (stage.is_full_for(&new), stage.is_full_for(&first));

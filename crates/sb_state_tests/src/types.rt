@@ -1,4 +1,4 @@
-//! Values, blocks, deltas and settings: what no clause says, and each limit at its full size.
+//! Values, blocks, deltas and settings: what no clause states, and each limit at its full size.
 ghost use Rattle.std.specs.Prelude.{◌≤◌};
 
 use crate::{entry, got, holds, key, name, one, push, refusal, same, same_at, settled, weighing};
@@ -22,7 +22,7 @@ fn is_read_as_prefix(text: &[u8]) -> Result<bool, Fault> {
     Ok(Prefix::read(text)?.bytes() == text)
 }
 
-/// Whether a text is read with its bytes: as a name, as a key and as a prefix.
+/// Returns whether a text is read with its bytes: as a name, as a key and as a prefix.
 fn read_text(text: &[u8]) -> [Result<bool, Fault>; 3] {
     [
         is_read_as_name(text),
@@ -60,7 +60,7 @@ fn texts_within_their_limits(rt: HostRuntime) {
     assert_read(&rt, b"\xc3\xa4", NONE);
 }
 
-/// The first is below the second: as a name, and as a key.
+/// Asserts that the first is below the second: as a name, and as a key.
 fn assert_ascending(rt: &impl Abort, first: &[u8], second: &[u8]) {
     let names = name(rt, first) < name(rt, second);
     let keys = key(rt, first) < key(rt, second);
@@ -76,7 +76,7 @@ fn texts_have_an_order(rt: HostRuntime) {
     holds(&rt, "net is below net/a", is_below);
 }
 
-/// Whether the value is this one, in each way to read it.
+/// Returns whether the value is this one, in each way to read it.
 fn is_seen(value: &Value, wanted: ValueRef<'_>) -> bool {
     let (addr, weight, flag, text) = match wanted {
         ValueRef::Addr(text) => (Some(text), None, None, None),
@@ -89,7 +89,7 @@ fn is_seen(value: &Value, wanted: ValueRef<'_>) -> bool {
     is_read && value.view() == wanted
 }
 
-/// Whether an address is read with its bytes, and its length.
+/// Returns whether an address is read with its bytes, and its length.
 fn address(alloc: Global, text: &[u8]) -> Result<(bool, u64), Fault> {
     let value = Value::addr(alloc, text)?;
     Ok((
@@ -115,7 +115,7 @@ fn addresses_within_their_limits(rt: HostRuntime) {
     assert_address(&rt, alloc, b"\x20", no_value);
 }
 
-/// Whether a text is read with its bytes, and its length.
+/// Returns whether a text is read with its bytes, and its length.
 fn note(alloc: Global, text: &[u8]) -> Result<(bool, u64), Fault> {
     let value = Value::text(alloc, text)?;
     Ok((
@@ -139,7 +139,8 @@ fn texts_of_values_within_their_limits(rt: HostRuntime) {
     assert_note(&rt, alloc, b"\xf4\x8f\xbf\xbf", Ok((true, 6)));
 }
 
-/// No length outside 1 to 512; a byte that begins nothing, a longer spelling than needed, half of a pair, and a number beyond the last.
+/// Lengths outside 1 to 512. Then a byte that begins nothing, a longer spelling than needed, half of a pair, and a
+/// number beyond the last.
 #[test]
 fn bytes_that_are_no_text(rt: HostRuntime) {
     let (alloc, no_value) = (rt.alloc(), Err(Fault::BadValue));
@@ -151,7 +152,7 @@ fn bytes_that_are_no_text(rt: HostRuntime) {
     assert_note(&rt, alloc, b"\xf4\x90\x80\x80", no_value);
 }
 
-/// What a weight is read as.
+/// Returns what a weight is read as.
 fn read_weight(weight: u64) -> Result<Option<u64>, Fault> {
     match Value::weight(weight) {
         Ok(value) => Ok(value.as_weight()),
@@ -167,19 +168,19 @@ fn weights_and_flags_within_their_limits(rt: HostRuntime) {
     same(&rt, &Value::flag(true).as_flag(), &Some(true));
 }
 
-/// The value prints this line.
+/// Asserts that the value prints this line.
 fn assert_line(rt: &impl Abort, alloc: Global, value: &Value, line: &str) {
     let printed = got(rt, value.to_string(alloc));
     same(rt, &printed.as_str(), &line);
 }
 
-/// The value's copy is this one too.
+/// Asserts that the value's copy is this one too.
 fn assert_copied(rt: &impl Abort, alloc: Global, value: &Value, seen: ValueRef<'_>, line: &str) {
     let copy = got(rt, value.copy(alloc));
     holds(rt, line, is_seen(&copy, seen));
 }
 
-/// The line's words are this value, whose copy is the same, and which prints the line.
+/// Asserts that the line's words are this value, which prints the line, and that its copy is the same.
 fn assert_value(
     rt: &impl Abort,
     alloc: Global,
@@ -216,7 +217,7 @@ fn assert_flag(rt: &impl Abort, alloc: Global, word: &str, flag: bool, line: &st
     assert_value(rt, alloc, "flag", word, ValueRef::Flag(flag), line);
 }
 
-/// The word is the text of these bytes.
+/// Asserts that the word is the text of these bytes.
 fn assert_text(rt: &impl Abort, alloc: Global, word: &str, text: &[u8], line: &str) {
     assert_value(rt, alloc, "text", word, ValueRef::Text(text), line);
 }
@@ -243,7 +244,8 @@ fn texts_from_words(rt: HostRuntime) {
     assert_text(&rt, alloc, "h\u{e9}~", b"h\xc3\xa9~", "text h\u{e9}~");
 }
 
-/// An escape of what stands for itself, upper case, a digit too few, none, and what has to be escaped; then no UTF-8, and nothing.
+/// An escape of a byte that stands for itself, upper case, a digit too few, no digits, and a byte that has to be
+/// escaped. Then bytes that are not UTF-8, and no bytes.
 #[test]
 fn words_that_spell_no_text(rt: HostRuntime) {
     let alloc = rt.alloc();
@@ -277,7 +279,7 @@ fn values_from_words(rt: HostRuntime) {
     assert_flag(&rt, alloc, "false", false, "flag false");
 }
 
-/// The example of `Value`.
+/// Runs the example of `Value`.
 #[test]
 fn example_of_values(rt: HostRuntime) {
     let value = got(&rt, Value::from_words(rt.alloc(), b"weight", b"7"));
@@ -285,7 +287,7 @@ fn example_of_values(rt: HostRuntime) {
     assert_line(&rt, rt.alloc(), &value, "weight 7");
 }
 
-/// The example of `Name`.
+/// Runs the example of `Name`.
 #[test]
 fn example_of_names(rt: HostRuntime) {
     let name = name(&rt, b"node-7");
@@ -322,7 +324,7 @@ fn copied(rt: &impl Abort, alloc: Global) -> Entry {
     got(rt, whole.copy(alloc))
 }
 
-/// The parts of an entry, and whether it has that address.
+/// Returns the parts of an entry, and whether it has that address.
 fn entry_parts(entry: &Entry) -> (Key, u64, bool, u64) {
     let is_address = match entry.slot() {
         Slot::Set(value) => value.as_addr() == Some(b"host:1".as_slice()),
@@ -350,7 +352,7 @@ fn entries(rt: &impl Abort, alloc: Global, writes: &[(&str, u64)]) -> Vec<Entry>
     entries
 }
 
-/// The floor of a block, what it begins after, and what it reaches.
+/// The floor of a block, `after`, and `upto`.
 type Range = (u64, u64, u64);
 
 /// Whether a block's owner is a, its range, how many entries it has, and its length.
@@ -363,7 +365,7 @@ fn parts_of(block: &Block) -> Parts {
     (is_a, range, count, block.encoded_length())
 }
 
-/// What is said of a block, or why there is none; where memory ran out, the end of the test.
+/// Returns the parts of a block, or why there is none. Ends the test if there was no memory.
 fn made(rt: &impl Abort, block: Result<Block, Fault>) -> Result<Parts, Fault> {
     match block {
         Ok(block) => Ok(parts_of(&block)),
@@ -382,30 +384,30 @@ fn made_of(
     made(rt, Block::new(owner, floor, after, upto, entries))
 }
 
-/// These make a block of this length.
+/// Asserts that these make a block of this length.
 fn assert_block(rt: &impl Abort, alloc: Global, range: Range, writes: &[(&str, u64)], length: u64) {
     let wanted = (true, range, writes.len(), length);
     same_at(rt, &range, &made_of(rt, alloc, range, writes), &Ok(wanted));
 }
 
-/// These make none.
+/// Asserts that these make no block.
 fn assert_no_block(rt: &impl Abort, alloc: Global, range: Range, writes: &[(&str, u64)]) {
     let found = made_of(rt, alloc, range, writes);
     same_at(rt, &range, &found, &Err(Fault::Malformed(3)));
 }
 
-/// Each takes 28 bytes of head, and 19 for each entry.
+/// Each block takes 28 bytes of head, and 19 for each entry.
 #[test]
 fn blocks_within_their_limits(rt: HostRuntime) {
     let alloc = rt.alloc();
     let (most, last) = (u64::MAX, 18_446_744_073_709_551_615);
     assert_block(&rt, alloc, (0, 0, 3), &[("x", 1), ("y", 3)], 66);
     assert_block(&rt, alloc, (0, most - 1, most), &[("x", last)], 47);
-    // It reaches further than its last entry; its floor is at that, and above all that it reaches.
+    // It reaches further than its last entry. Its floor is at that entry, and then above all that it reaches.
     assert_block(&rt, alloc, (0, 0, 7), &[("x", 1), ("y", 3)], 66);
     assert_block(&rt, alloc, (3, 0, 3), &[("y", 2)], 47);
     assert_block(&rt, alloc, (5, 0, 3), &[("y", 2), ("z", 3)], 66);
-    // It has no entry.
+    // It has no entries.
     assert_block(&rt, alloc, (2, 0, 2), &[], 28);
     assert_block(&rt, alloc, (most, most - 1, most), &[], 28);
 }
@@ -419,13 +421,13 @@ fn parts_that_make_no_block(rt: HostRuntime) {
     let x_twice = &[("x", 1), ("y", 2), ("x", 3)];
     assert_no_block(&rt, alloc, (0, 0, 3), x_twice);
     assert_no_block(&rt, alloc, (0, 0, 2), &[("x", 1), ("y", 3)]);
-    // It reaches what it begins after, or less.
+    // Its `upto` is its `after`, or less.
     assert_no_block(&rt, alloc, (0, 3, 3), &[]);
     assert_no_block(&rt, alloc, (0, 4, 3), &[]);
     assert_no_block(&rt, alloc, (5, 0, 0), &[]);
 }
 
-/// An entry of 23 bytes, its key its version in hexadecimal.
+/// An entry of 23 bytes. Its key is its version in hexadecimal.
 fn hexadecimal(rt: &impl Abort, alloc: Global, version: u64) -> Entry
     requires { 1 ≤ version }
 {
@@ -472,7 +474,7 @@ fn first_blocks(rt: &impl Abort, alloc: Global, owners: &[&str]) -> Vec<Block> {
     blocks
 }
 
-/// Whether the delta lends a block of each of these owners.
+/// Returns whether the delta lends a block of each of these owners.
 fn lends(delta: &Delta, owners: &[&str]) -> bool {
     let mut is_lent = delta.blocks().len() == owners.len();
     for (block, owner) in delta.blocks().iter().zip(owners) {
@@ -481,8 +483,8 @@ fn lends(delta: &Delta, owners: &[&str]) -> bool {
     is_lent
 }
 
-/// The length of a delta of one block for each of these owners, 46 bytes and the owner's name, and whether it lends
-/// them.
+/// Returns the length of a delta of one block for each of these owners, and whether it lends them. Each block takes 46
+/// bytes and the owner's name.
 fn delta_of(rt: &impl Abort, alloc: Global, owners: &[&str]) -> Result<(u64, bool), Fault> {
     match Delta::new(first_blocks(rt, alloc, owners)) {
         Ok(delta) => Ok((delta.encoded_length(), lends(&delta, owners))),
@@ -541,7 +543,7 @@ fn the_longest_delta(rt: HostRuntime) {
     same(&rt, &too_long, &Some(Fault::Malformed(3)));
 }
 
-/// Settings of which each number is the least or the greatest that is allowed.
+/// Settings with the least or the greatest number that is allowed, for each number.
 const OUTERMOST: RawSettings = RawSettings {
     cluster: b"c1",
     budget: 1_024,

@@ -5,21 +5,22 @@ pub(crate) const ONE_ENTRY: &str =
     "03 0001 0161 0000000000000000 0000000000000000 0000000000000001 0001 \
     0177 0000000000000001 02 0000000000000005";
 
-/// The same with the text of h and the two bytes of an e with an accent, under t.
+/// The same, with a text under t: an h, and the two bytes of an e with an accent.
 pub(crate) const ONE_TEXT: &str =
     "03 0001 0161 0000000000000000 0000000000000000 0000000000000001 0001 \
     0174 0000000000000001 04 0003 68c3a9";
 
-/// A block of a of the floor 3, after 0 and up to 3, whose one entry is of version 2: what came behind it went with the floor.
+/// A block of a with floor 3, after 0 and up to 3. Its one entry has version 2: what came after it was dropped by the
+/// purge.
 pub(crate) const UP_TO_ITS_FLOOR: &str =
     "03 0001 0161 0000000000000003 0000000000000000 0000000000000003 0001 \
     0179 0000000000000002 02 0000000000000002";
 
-/// A block of a of the floor 2, after 0 and up to 2, without an entry: whatever was set is removed.
+/// A block of a with floor 2, after 0 and up to 2, without entries: whatever was set is removed.
 pub(crate) const NO_ENTRY: &str =
     "03 0001 0161 0000000000000002 0000000000000000 0000000000000002 0000";
 
-/// A part of what has the floor 5: the entries of the versions 2 and 3, after 0 and up to 3.
+/// A part of a table with floor 5: the entries of the versions 2 and 3, after 0 and up to 3.
 pub(crate) const BELOW_ITS_FLOOR: &str =
     "03 0001 0161 0000000000000005 0000000000000000 0000000000000003 0002 \
     0179 0000000000000002 02 0000000000000002 017a 0000000000000003 02 0000000000000003";
@@ -40,11 +41,11 @@ pub(crate) const EVERY_SLOT: &str =
 
 pub(crate) const HELLO: &str = "01 02 63 31 01 61";
 
-/// Of a node a that holds only itself, an answer wanted.
+/// A digest of a node a that holds only itself. It wants an answer.
 pub(crate) const DIGEST: &str =
     "02 01 00 00 0001 01 61 0000000000000000 0000000000000000 0000000000000000";
 
-/// Of b, held up to 5, and of c, held up to 7, whose stage of the floor 9 has come as far as 8.
+/// A digest with b, held up to 5, and c, held up to 7, with a stage of floor 9 and progress 8.
 pub(crate) const DIGEST_OF_A_RANGE: &str = "02 00 0162 0164 0002 \
     0162 0000000000000005 0000000000000000 0000000000000000 \
     0163 0000000000000007 0000000000000009 0000000000000008";
@@ -53,7 +54,7 @@ pub(crate) const BYE: &str = "04 01";
 
 pub(crate) const ASK: &str = "10 00 00 00 00";
 
-/// For the keys of a that begin with w/, behind its key w.
+/// Asks for the keys of a that begin with w/, after its key w.
 pub(crate) const ASK_BEHIND: &str = "10 0161 02772f 0161 0177";
 
 pub(crate) const ROWS: &str = "11 00 0001 01 61 01 77 0000000000000001 02 0000000000000005";
@@ -117,7 +118,7 @@ pub(crate) const LONGEST_ENTRY: &str = "03 0001 \
     68686868686868686868686868686868686868686868686868686868686868686868686868686868686868686868686868686868686868686868686868686868 \
     68686868686868686868686868686868686868686868686868686868686868686868686868686868686868686868686868686868686868686868686868686868";
 
-/// Not one of these is a payload.
+/// Bytes that are not payloads.
 pub(crate) const WRONG: &[&str] = &[
     // no reach above after; one below it; an entry above the reach
     "03 0001 0161 0000000000000000 0000000000000001 0000000000000001 0000",
@@ -127,13 +128,14 @@ pub(crate) const WRONG: &[&str] = &[
     "03 0001 0161 0000000000000000 0000000000000000 0000000000000002 0002 0176 0000000000000002 00 0177 0000000000000001 00",
     "03 0001 0161 0000000000000000 0000000000000001 0000000000000002 0001 0177 0000000000000001 00",
     "03 0001 0161 0000000000000000 0000000000000000 0000000000000001 0001 0177 0000000000000000 00",
-    // a block as another version of the format has it
+    // a block in the form of another version of the format
     "03 0001 0161 0000000000000000 0001 0177 0000000000000001 00",
     // owners b, then a; a twice; a key twice
     "03 0002 0162 0000000000000000 0000000000000000 0000000000000001 0000 0161 0000000000000000 0000000000000000 0000000000000001 0000",
     "03 0002 0161 0000000000000000 0000000000000000 0000000000000001 0000 0161 0000000000000000 0000000000000000 0000000000000001 0000",
     "03 0001 0161 0000000000000000 0000000000000000 0000000000000002 0002 0177 0000000000000001 00 0177 0000000000000002 00",
-    // the tag 5; an empty text; one that is no UTF-8; one that is cut short; a flag of 2; a weight of 2^63; an address with a space
+    // the tag 5; an empty text; one that is not UTF-8; one that is cut short; a flag of 2; a weight of 2^63; an address
+    // with a space
     "03 0001 0161 0000000000000000 0000000000000000 0000000000000001 0001 0177 0000000000000001 05 01",
     "03 0001 0161 0000000000000000 0000000000000000 0000000000000001 0001 0177 0000000000000001 04 0000",
     "03 0001 0161 0000000000000000 0000000000000000 0000000000000001 0001 0177 0000000000000001 04 0003 68ffa9",
@@ -144,7 +146,7 @@ pub(crate) const WRONG: &[&str] = &[
     // a name with a capital; an empty key
     "03 0001 0141 0000000000000000 0000000000000000 0000000000000001 0001 0177 0000000000000001 00",
     "03 0001 0161 0000000000000000 0000000000000000 0000000000000001 0001 00 0000000000000001 00",
-    // one more byte; counts of what is not there
+    // one more byte; counts of items that are missing
     "03 0000 00",
     "03 ffff",
     "03 0001 0161 0000000000000000 0000000000000000 0000000000000001 ffff",
@@ -163,7 +165,7 @@ pub(crate) const WRONG: &[&str] = &[
     "02 00 00 00 0002 0161 0000000000000000 0000000000000000 0000000000000000 0161 0000000000000000 0000000000000000 0000000000000000",
     "02 00 00 00 0002 0162 0000000000000000 0000000000000000 0000000000000000 0161 0000000000000000 0000000000000000 0000000000000000",
     "02 01 00 00 0001 0161 0000000000000000 0000000000000000 0000000000000000 00",
-    // a pair as another version of the format has it
+    // a pair in the form of another version of the format
     "02 01 00 00 0001 0161 0000000000000000",
     // the reasons 0 and 6; none; one more byte
     "04 00",
@@ -185,7 +187,7 @@ pub(crate) const WRONG: &[&str] = &[
     "11 00 0002 0161 0177 0000000000000001 03 00 0161 0176 0000000000000001 03 00",
     "11 00 0002 0161 0177 0000000000000001 03 00 0161 0177 0000000000000002 03 00",
     "11 00 0001 0161 0177 0000000000000001 02 0000000000000005 00",
-    // a flag of 2; an empty key; a text that is not there; one more byte
+    // a flag of 2; an empty key; a text that is missing; one more byte
     "12 0177 03 02",
     "12 00 00",
     "12 0177 04",
@@ -203,11 +205,11 @@ pub(crate) const WRONG: &[&str] = &[
 pub(crate) const GREATEST_HEAD: &str =
     "03 0001 0161 0000000000000000 0000000000000000 000000000000051e 051e";
 
-/// Its last entry, a removal of a key of 39 bytes.
+/// Its last entry, a tombstone (the marker of a removed key) of a key of 39 bytes.
 pub(crate) const LAST_ENTRY: &str =
     "27 7a7a7a7a7a7a7a7a7a7a7a7a7a7a7a7a7a7a7a7a7a7a7a7a7a7a7a7a7a7a7a7a7a7a7a7a7a7a7a \
     000000000000051e 00";
 
-/// The last row of the greatest, with 44 bytes of address.
+/// The last row of the greatest page, with 44 bytes of address.
 pub(crate) const LAST_ROW: &str = "0161 017a 00000000000004ec 01 2c \
     68686868686868686868686868686868686868686868686868686868686868686868686868686868686868 68";

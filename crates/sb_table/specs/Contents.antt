@@ -4,7 +4,7 @@ use Rattle.sb_types.specs.Records.{Table}
 use Rattle.sb_types.specs.Runs.{last_version}
 use Rattle.sb_table.specs.Floors.{IsKeptTable}
 
--- held no further than its last entry or its floor, whichever is higher
+-- the held version is at most the last entry's version or the floor, whichever is higher
 pub record IsContent (t : Table) : Type 0 where
   pub table : IsKeptTable t
   pub held : t.held ≤ max t.floor (last_version 0 t.entries)

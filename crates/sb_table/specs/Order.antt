@@ -4,7 +4,7 @@ use Rattle.std.specs.List.{starts_with}
 use Rattle.sb_types.specs.Limits.{text_lt}
 use Rattle.sb_types.specs.Records.{Entry}
 
--- the entry laid behind those of lesser keys
+-- the entry, inserted after the entries of lesser keys
 abbrev pub put_by_key : Entry → List Entry → List Entry
 put_by_key e [] = e ∷ []
 put_by_key e (x ∷ xs) = if text_lt x.key e.key then x ∷ put_by_key e xs else e ∷ x ∷ xs
@@ -14,6 +14,6 @@ abbrev pub by_key : List Entry → List Entry
 by_key [] = []
 by_key (e ∷ es) = put_by_key e (by_key es)
 
--- the entries under the keys that begin so
+-- the entries whose keys begin with the prefix
 abbrev pub under : List ℕ → List Entry → List Entry
 under prefix entries = filter (λ entry. starts_with nat_eq entry.key prefix) entries

@@ -8,7 +8,7 @@ use std::collections::btree_map::Range;
 use std::iter::FusedIterator;
 use std::marker::Model;
 
-/// The entries above a version, in ascending version.
+/// Iterates over the entries above a version, in ascending version.
 #[derive(Debug, Drop)]
 pub struct After<'a> {
     entries: Range<'a, u64, Entry>,

@@ -18,13 +18,13 @@ use std::collections::BTreeMap;
 use std::marker::Model;
 use std::ops::Bound;
 
-/// The entries of a table or of a stage: at most 4,096, in ascending version, one a key. They are seen as the table of
-/// these entries that has no floor.
+/// The entries of a table or of a stage: at most 4,096, in ascending version, one for each key. Contracts see them as
+/// the table of these entries with floor 0. A tombstone is the marker of a removed key.
 #[derive(Debug, Drop)]
 pub(crate) struct Entries {
-    // By version.
+    // The entries by version.
     entries: BTreeMap<u64, Entry>,
-    // The version of the entry under each key.
+    // The version of each key's entry.
     versions: BTreeMap<Key, u64>,
 }
 
@@ -42,7 +42,7 @@ impl Model for Entries {
 }
 
 impl Entries {
-    /// No entries. It takes no memory.
+    /// Makes an empty list of entries. It takes no memory.
     pub(crate) fn new(alloc: Global) -> Entries
         ensures nothing { result ≡ plain_table [] }
         ensures table { IsPlainTable result }
@@ -53,8 +53,9 @@ impl Entries {
         }
     }
 
-    /// Enters a write of a later version than any before, in place of what its key had. `TableFull` where
-    /// the key is new beside 4,096 others; then `NoMemory`. Both leave the entries as they were.
+    /// Enters a write of a later version than any before, which replaces the entry of its key. Returns `TableFull` if
+    /// the key is new and there are 4,096 others; otherwise it may return `NoMemory`. Both leave the entries as they
+    /// were.
     pub(crate) fn push(&mut self, entry: Entry) -> Result<(), Fault>
         requires { self.old.held < entry.version }
         ensures answer { Gives result (if is_full_for entry.key self.old.entries then Err Fault.TableFull else Ok tt) }
@@ -69,7 +70,7 @@ impl Entries {
         enter(&mut self.entries, &mut self.versions, entry)
     }
 
-    /// Equal entries. `NoMemory`.
+    /// Returns equal entries. The only fault is `NoMemory`.
     pub(crate) fn copy(&self, alloc: Global) -> Result<Entries, Fault>
         ensures copy { Gives result (Ok self.now) }
         ensures table { IsPlainTable self.now }
@@ -81,7 +82,7 @@ impl Entries {
         Ok(copy)
     }
 
-    /// Whether there is no room for a key: it is new beside 4,096 others.
+    /// Returns whether there is no room for a key: it is new, and there are 4,096 others.
     pub(crate) fn is_full_for(&self, key: &Key) -> bool
         ensures full { result ≡ is_full_for key.now self.now.entries }
         ensures table { IsPlainTable self.now }
@@ -89,7 +90,7 @@ impl Entries {
         self.len() >= KEYS_MOST && !self.versions.contains_key(key)
     }
 
-    /// The version of the last write, 0 where there is none.
+    /// Returns the version of the last write, or 0 if there is none.
     pub(crate) fn upto(&self) -> u64
         ensures version { result ≡ self.now.held }
         ensures table { IsPlainTable self.now }
@@ -100,7 +101,7 @@ impl Entries {
         }
     }
 
-    /// How many keys there are, removed ones counted.
+    /// Returns how many keys there are, those with tombstones included.
     pub(crate) fn len(&self) -> usize
         ensures count { result ≡ length self.now.entries }
         ensures table { IsPlainTable self.now }
@@ -108,7 +109,7 @@ impl Entries {
         self.entries.len()
     }
 
-    /// Whether there is no key, not even a removed one.
+    /// Returns whether there is no key, not even one with a tombstone.
     pub(crate) fn is_empty(&self) -> bool
         ensures count { result ≡ (length self.now.entries == 0) }
         ensures table { IsPlainTable self.now }
@@ -116,7 +117,8 @@ impl Entries {
         self.entries.is_empty()
     }
 
-    /// The version and the slot under a key, a removal too; nothing where it was never written.
+    /// Returns the version and the slot of a key, also if the slot is a tombstone. Returns `None` if there is no entry
+    /// of this key.
     pub(crate) fn get(&self, key: &Key) -> Option<(u64, &Slot)>
         ensures found { option_map (λ p. (p.0, p.1.now)) result ≡ option_map version_and_slot (entry_at key.now self.now.entries) }
         ensures table { IsPlainTable self.now }
@@ -126,7 +128,7 @@ impl Entries {
         Some((*version, entry.slot()))
     }
 
-    /// The entries above a version, in ascending version.
+    /// Returns the entries above a version, in ascending version.
     pub(crate) fn after(&self, version: u64) -> After<'_>
         ensures entries { result ≡ above version self.now.entries }
         ensures table { IsPlainTable self.now }
@@ -135,7 +137,7 @@ impl Entries {
         After::new(self.entries.range(above))
     }
 
-    /// Whether a key has an entry at or below a version.
+    /// Returns whether a key has an entry at or below a version.
     pub(crate) fn has_up_to(&self, key: &Key, version: u64) -> bool
         ensures has { result ≡ has_key key.now (up_to version self.now.entries) }
         ensures table { IsPlainTable self.now }
@@ -146,7 +148,7 @@ impl Entries {
         }
     }
 
-    /// Takes out the markers at or below a version. It takes no memory.
+    /// Removes the tombstones at or below a version. It takes no memory.
     pub(crate) fn drop_markers(&mut self, floor: u64)
         ensures dropped { self.new ≡ plain_table (live floor self.old.entries) }
         ensures table { IsPlainTable self.new }
@@ -159,7 +161,7 @@ impl Entries {
         }
     }
 
-    /// The key and the version of the first marker above one version and at or below another.
+    /// Returns the key and the version of the first tombstone that is above `from`, and at or below `floor`.
     fn first_marker(&self, from: u64, floor: u64) -> Option<(Key, u64)>
         ensures first { result ≡ option_map (λ e. (e.key, e.version)) (find (λ e. is_dead floor e) (above from self.now.entries)) }
         ensures table { IsPlainTable self.now }
@@ -172,7 +174,7 @@ impl Entries {
         None
     }
 
-    /// Takes out what a key has, at its version.
+    /// Removes the entry of a key, which has this version.
     fn remove(&mut self, key: &Key, version: u64)
         requires { version_at key.now self.old.entries ≡ Some version }
         ensures gone { self.new ≡ plain_table (outside key.now self.old.entries) }
@@ -181,7 +183,7 @@ impl Entries {
         take_out(&mut self.entries, &mut self.versions, key, version);
     }
 
-    /// The entries under the keys that begin with the prefix, in ascending order of their keys.
+    /// Returns the entries whose keys begin with the prefix, in ascending order of their keys.
     pub(crate) fn prefix(&self, prefix: &Prefix) -> Prefixed<'_>
         ensures entries { result ≡ by_key (under prefix.now self.now.entries) }
         ensures table { IsPlainTable self.now }
@@ -191,7 +193,8 @@ impl Entries {
     }
 }
 
-/// Enters a write of a later version, and raises a version to it. Both faults leave both as they were.
+/// Enters a write of a later version, and raises `upto` to it. Returns `TableFull` if the key is new and there are
+/// 4,096 others; otherwise it may return `NoMemory`. Both leave the entries and `upto` as they were.
 pub(crate) fn push_later(
     entries: &mut Entries,
     upto: &mut u64,
@@ -210,7 +213,7 @@ pub(crate) fn push_later(
     Ok(())
 }
 
-/// Takes out the removals above one floor and at or below another.
+/// Removes the tombstones above one floor, and at or below another.
 pub(crate) fn drop_between(entries: &mut Entries, before: u64, floor: u64)
     requires order { before ≤ floor }
     requires whole { live before entries.old.entries ≡ entries.old.entries }
@@ -221,7 +224,8 @@ pub(crate) fn drop_between(entries: &mut Entries, before: u64, floor: u64)
     }
 }
 
-/// Puts an entry behind all others, and takes out what its key had.
+/// Enters an entry after all others, and removes the entry that its key had. The only fault is `NoMemory`, which leaves
+/// the entries as they were.
 fn enter(
     entries: &mut BTreeMap<u64, Entry>,
     versions: &mut BTreeMap<Key, u64>,
@@ -251,7 +255,7 @@ fn enter(
     }
 }
 
-/// Takes out what a key has, at its version.
+/// Removes the entry of a key, which has this version, from both maps.
 fn take_out(
     entries: &mut BTreeMap<u64, Entry>,
     versions: &mut BTreeMap<Key, u64>,
@@ -268,7 +272,7 @@ fn take_out(
     entries.remove(&version);
 }
 
-/// Whether an entry is a marker at or below a version.
+/// Returns whether an entry is a tombstone at or below a version.
 pub(crate) fn is_dead(entry: &Entry, floor: u64) -> bool
     ensures { result ≡ is_dead floor entry.now }
 {
@@ -278,7 +282,7 @@ pub(crate) fn is_dead(entry: &Entry, floor: u64) -> bool
     }
 }
 
-/// Those above a version, of entries in ascending version.
+/// Returns the entries above a version. The entries have to be in ascending version.
 pub fn entries_above(entries: &[Entry], version: u64) -> &[Entry]
     requires { are_ascending 0 entries.now ≡ true }
     ensures { result.now ≡ above version entries.now }
@@ -286,7 +290,7 @@ pub fn entries_above(entries: &[Entry], version: u64) -> &[Entry]
     &entries[first_above(entries, version)..]
 }
 
-/// Where the entries above a version begin.
+/// Returns at which place the entries above a version begin.
 fn first_above(entries: &[Entry], version: u64) -> usize
     requires { are_ascending 0 entries.now ≡ true }
     ensures place { result ≤ length entries.now }

@@ -1,5 +1,4 @@
-//! What follows from the definitions alone, for the crates above. The functions do nothing: each clause is
-//! a law.
+//! What follows from the definitions alone, for the crates above. The functions do nothing: each clause is a law.
 ghost use Rattle.std.specs.Prelude.{◌≡◌, ◌≢◌, ◌<◌, ◌≤◌, ℕ, List, [], ◌∷◌, false, true, Some, None, IsPermutation};
 ghost use Rattle.std.specs.Cmp.Lexicographic.{slice_cmp};
 ghost use Rattle.std.specs.Ordering.{nat_cmp};
@@ -10,15 +9,15 @@ ghost use Rattle.sb_table.specs.Plain.{IsPlainTable, is_full_for, with_entry};
 ghost use Rattle.sb_table.specs.Order.{by_key};
 ghost use Rattle.sb_table.specs.Floors.{IsKeptTable, IsKeptStage, raised, swapped};
 
-/// A table in which a later entry is entered is a table, and each keeps what crates above ask of tables with
-/// a floor.
+/// A table of floor 0, after a later entry was entered, is still such a table. Each such table has what crates above
+/// ask of tables with a floor.
 pub fn entering_keeps_tables()
     ensures entered { (t : records.Table) (e : records.Entry) → IsPlainTable t → t.held < e.version → is_full_for e.key t.entries ≡ false → IsPlainTable (with_entry t e) }
     ensures table { (t : records.Table) → IsPlainTable t → IsTable t }
 {}
 
-/// A table without a floor is one with floor 0; and a table with a floor stays one when a later entry is entered, when it
-/// is raised, and when a stage that has come as far takes its place.
+/// A table of floor 0 is a table with a floor. A table with a floor remains one in three cases. A later entry is
+/// entered, the table is raised, or a stage that has come as far replaces it.
 pub fn floors_keep_tables()
     ensures plain { (t : records.Table) → IsPlainTable t → IsKeptTable t }
     ensures entered { (t : records.Table) (e : records.Entry) → IsKeptTable t → t.held < e.version → is_full_for e.key t.entries ≡ false → IsKeptTable (with_entry t e) }
@@ -26,7 +25,8 @@ pub fn floors_keep_tables()
     ensures swapped { (t : records.Table) (s : records.Stage) → IsKeptTable t → IsKeptStage s → t.held ≤ s.progress → s.floor ≤ s.progress → IsKeptTable (swapped t s) }
 {}
 
-/// What is found under a key stands under it, and what stands is found.
+/// The entry found under a key is in the list, and has this key. Each entry of a list without equal keys is found under
+/// its key. Under a key that the list does not have nothing is found.
 pub fn what_stands_is_found()
     ensures stands { (key : List ℕ) (entries : List records.Entry) (e : records.Entry) → entry_at key entries ≡ Some e → Stands entries e }
     ensures key { (key : List ℕ) (entries : List records.Entry) (e : records.Entry) → entry_at key entries ≡ Some e → e.key ≡ key }
@@ -34,13 +34,13 @@ pub fn what_stands_is_found()
     ensures none { (key : List ℕ) (entries : List records.Entry) → has_key key entries ≡ false → entry_at key entries ≡ None }
 {}
 
-/// An entry that is entered is found under its key, and under every other key what was found before.
+/// An entry that was entered is found under its key. Under every other key is found what was found before.
 pub fn what_is_entered_is_found()
     ensures entered { (entries : List records.Entry) (e : records.Entry) → entry_at e.key (entered entries (e ∷ [])) ≡ Some e }
     ensures others { (key : List ℕ) (entries : List records.Entry) (e : records.Entry) → key ≢ e.key → entry_at key (entered entries (e ∷ [])) ≡ entry_at key entries }
 {}
 
-/// The entries by key are the entries, sorted by key.
+/// `by_key` returns the same entries, sorted by key.
 pub fn by_key_sorts()
     ensures permutation { (entries : List records.Entry) → IsPermutation entries (by_key entries) }
     ensures sorted { (entries : List records.Entry) → IsSortedByKey (λ e. e.key) (slice_cmp nat_cmp) (by_key entries) }

@@ -1,11 +1,12 @@
-//! One owner's table: what it last wrote under each key, in the order of the versions.
+//! One owner's table: what the owner last wrote under each key, in the order of the versions.
 //!
-//! A table takes one write after the other, each of a later version, and keeps the last one of each key, a removal too. It
-//! gives the entry of a key, the entries above a version, and those under a prefix. The crate stands on `sb_types`; holdings
-//! and logs keep writes in tables.
+//! A table takes one write after another, each of a later version, and keeps the last one of each key. A removed key
+//! keeps a *tombstone*: an entry without a value, which is the marker of the removal. A table returns the entry of a
+//! key, the entries above a version, and those under a prefix. Holdings and logs keep writes in tables. The crate uses
+//! only `sb_types`.
 //!
-//! A table may have a floor, up to which the removals are gone: `raise` lets them go, and a `Stage` is what has come of a
-//! table with a floor that is to take the place of the one that is shown. A new table has none.
+//! A table may have a *purge floor*: it has no tombstones up to that version. `raise` drops them. A `Stage` is what has
+//! arrived of a table with a floor that will replace the shown one. A new table has floor 0, and keeps all tombstones.
 //!
 //! ```rust
 //! /// Enters a write whose version is above all that the table has.
@@ -25,6 +26,16 @@
 //!     Ok(table)
 //! }
 //! ```
+//!
+//! # What no contract refuses
+//!
+//! - `Table::restored` reports `NoMemory` for a list that cannot be a table. Tests refuse it.
+//! - `push`, `copy`, `restored` or `swapped` reports `NoMemory` without need. So do `copy`, `restored` and `swapped` if
+//!   there are no entries to keep, and a swap that leaves nothing then fails. Tests run each call with ample memory,
+//!   and once with 4,096 keys. They compare exact answers.
+//! - The maps take more room than they need, or a call takes longer than it should. Nothing refuses it; `attrdir_bench`
+//!   measures.
+//! - `Debug` prints another text. Nothing refuses it.
 #![tactic(auto)]
 
 mod after;

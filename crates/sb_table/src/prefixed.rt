@@ -1,4 +1,4 @@
-//! The entries of a table under the keys that begin alike.
+//! The entries of a table whose keys begin with a prefix.
 ghost use Rattle.std.specs.Prelude.{◌≡◌};
 ghost use Rattle.std.specs.Iterator.{YieldsFirstRef, item_count};
 ghost use Rattle.sb_table.specs.Maps.{reached, Ends};
@@ -9,7 +9,7 @@ use std::collections::btree_map::Range;
 use std::iter::FusedIterator;
 use std::marker::Model;
 
-/// The entries under the keys that begin with a prefix, in ascending order of their keys.
+/// Iterates over the entries whose keys begin with a prefix, in ascending order of their keys.
 #[derive(Debug, Drop)]
 pub struct Prefixed<'a> {
     entries: &'a BTreeMap<u64, Entry>,

@@ -1,4 +1,4 @@
-//! Entries that come as a list, and a table of them.
+//! Tests a list of entries, and makes a table of it.
 
 ghost use Rattle.std.specs.Prelude.{◌≡◌, ◌&&◌, nat_le, Ok};
 ghost use Rattle.sb_types.specs.Faults.{Gives};
@@ -10,7 +10,7 @@ use crate::entries::{Entries, is_dead};
 use sb_types::{Entry, Fault, are_keys_distinct};
 use std::alloc::Global;
 
-/// Whether these can be the entries of a table that holds up to a version and has this floor. It takes no memory.
+/// Returns whether a table with this held version and this floor can have these entries. It takes no memory.
 pub(crate) fn are_table_entries(upto: u64, floor: u64, entries: &mut [Entry]) -> bool
     ensures whether { result ≡ are_table_entries upto floor entries.old }
     ensures same { entries.new ≡ entries.old }
@@ -18,7 +18,8 @@ pub(crate) fn are_table_entries(upto: u64, floor: u64, entries: &mut [Entry]) ->
     floor <= upto && are_live_within(upto, floor, entries) && are_keys_distinct(entries)
 }
 
-/// Whether the versions ascend from 1 to at most a version, and no entry is a removal at or below the floor.
+/// Returns whether the versions ascend from 1 to at most `upto`, and no tombstone is at or below the floor. A tombstone
+/// is the marker of a removed key.
 fn are_live_within(upto: u64, floor: u64, entries: &[Entry]) -> bool
     ensures { result ≡ (are_ascending 0 entries.now && (nat_le (last_version 0 entries.now) upto && are_live floor entries.now)) }
 {
@@ -33,7 +34,7 @@ fn are_live_within(upto: u64, floor: u64, entries: &[Entry]) -> bool
     last <= upto
 }
 
-/// A table of these entries. `NoMemory`, with which they are dropped.
+/// Makes the entries of a table from this list. The only fault is `NoMemory`, which drops them.
 pub(crate) fn fill(alloc: Global, entries: Vec<Entry>) -> Result<Entries, Fault>
     requires { IsPlainTable (plain_table entries.items) }
     ensures { Gives result (Ok (plain_table entries.items)) }

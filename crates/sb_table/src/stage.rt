@@ -1,4 +1,4 @@
-//! Stages: what has come of a table.
+//! Stages: what has arrived of a table that will replace another.
 
 ghost use Rattle.std.specs.Prelude.{◌≡◌, ◌≤◌, ◌<◌, true, [], if◌then◌else◌, Ok, Err, OnOk, OnErr};
 ghost use Rattle.sb_types.specs.Faults.{Gives};
@@ -10,8 +10,9 @@ use sb_types::{Entry, Fault, Key};
 use std::alloc::Global;
 use std::marker::Model;
 
-/// What has come of a table that is to take the place of the shown one: entries up to the version `progress`, removals
-/// too, at most 4,096. Its floor is that of the table that it will be; a swap needs all up to it.
+/// What has arrived of a table that will replace the shown one: at most 4,096 entries, up to the version `progress`.
+/// Its floor is the purge floor of the table that it will be. It replaces the shown table only once its progress has
+/// reached the floor. Until then it also keeps tombstones (the markers of removed keys) up to the floor.
 #[derive(Debug, Drop)]
 pub struct Stage {
     pub(crate) floor: u64,
@@ -31,7 +32,7 @@ impl Model for Stage {
 }
 
 impl Stage {
-    /// A stage of which nothing has come. It takes no memory.
+    /// Makes an empty stage of this floor, of progress 0. It takes no memory.
     pub fn new(alloc: Global, floor: u64) -> Stage
         ensures nothing { result ≡ record { floor = floor; progress = 0; entries = [] } }
         ensures stage { IsKeptStage result }
@@ -43,7 +44,7 @@ impl Stage {
         }
     }
 
-    /// The floor that it will have once it is shown.
+    /// Returns the purge floor that its table will have once it is shown.
     pub fn floor(&self) -> u64
         ensures floor { result ≡ self.now.floor }
         ensures stage { IsKeptStage self.now }
@@ -51,7 +52,7 @@ impl Stage {
         self.floor
     }
 
-    /// The version up to which it has come.
+    /// Returns the version up to which the table has arrived.
     pub fn progress(&self) -> u64
         ensures progress { result ≡ self.now.progress }
         ensures stage { IsKeptStage self.now }
@@ -59,7 +60,7 @@ impl Stage {
         self.progress
     }
 
-    /// Whether there is no room for a key: it is new beside 4,096 others.
+    /// Returns whether there is no room for a key: it is new, and the stage has 4,096 others.
     pub fn is_full_for(&self, key: &Key) -> bool
         ensures full { result ≡ is_full_for key.now self.now.entries }
         ensures stage { IsKeptStage self.now }
@@ -67,8 +68,11 @@ impl Stage {
         self.entries.is_full_for(key)
     }
 
-    /// Enters a write of a version above the progress, in place of what its key had, and has come up to it. `TableFull`
-    /// where the key is new beside 4,096 others; then `NoMemory`. Both leave the stage as it was.
+    /// Enters a write whose version has to be above the progress. It replaces the entry of its key, and its version is
+    /// the progress from then on. Its faults, in this order. Each leaves the stage as it was:
+    ///
+    /// - `TableFull`: the key is new, and the stage has 4,096 others.
+    /// - `NoMemory`.
     pub fn push(&mut self, entry: Entry) -> Result<(), Fault>
         requires { self.old.progress < entry.version }
         ensures answer { Gives result (if is_full_for entry.key self.old.entries then Err Fault.TableFull else Ok tt) }
@@ -78,12 +82,12 @@ impl Stage {
         ensures stage { IsKeptStage self.new }
     {
         let version = entry.version();
-        // Does nothing: the call tells the prover that the entries keep their limits.
+        // Proof only: the call shows that the entries keep their limits.
         let _ = self.entries.upto();
         push_later(&mut self.entries, &mut self.progress, version, entry)
     }
 
-    /// Has come up to a version, without an entry. It takes no memory.
+    /// Raises the progress to a version without an entry. The progress must not fall. It takes no memory.
     pub fn raise(&mut self, progress: u64)
         requires further { self.old.progress ≤ progress }
         ensures raised { self.new ≡ further progress self.old }

@@ -1,4 +1,4 @@
-//! What a swap copies of the shown table and of the stage.
+//! What a swap copies from the shown table and from the stage.
 
 ghost use Rattle.std.specs.Prelude.{◌≡◌, ◌<◌, false, ◌++◌, OnOk, IfErr};
 ghost use Rattle.sb_types.specs.Runs.{above, up_to, under_keys_of, live};
@@ -8,7 +8,7 @@ use crate::entries::{Entries, is_dead};
 use sb_types::{Entry, Fault};
 use std::alloc::Global;
 
-/// Enters a copy of a later entry that has room.
+/// Enters a copy of a later entry, for which there is room. The only fault is `NoMemory`.
 fn push_copy(alloc: Global, into: &mut Entries, entry: &Entry) -> Result<(), Fault>
     requires later { into.old.held < entry.now.version }
     requires room { is_full_for entry.now.key into.old.entries ≡ false }
@@ -18,7 +18,8 @@ fn push_copy(alloc: Global, into: &mut Entries, entry: &Entry) -> Result<(), Fau
     into.push(entry.copy(alloc)?)
 }
 
-/// Copies what is shown under the keys that the stage has at or below a version, without markers up to the floor.
+/// Copies the shown entries of the keys that the stage has at or below a version. It leaves out tombstones (the markers
+/// of removed keys) up to the floor. The only fault is `NoMemory`, after which some may be copied.
 pub(crate) fn keep_shown(
     alloc: Global,
     into: &mut Entries,
@@ -40,7 +41,8 @@ pub(crate) fn keep_shown(
     Ok(())
 }
 
-/// Copies what the stage has above a version, without markers up to the floor.
+/// Copies the stage's entries above a version, without tombstones up to the floor. The only fault is `NoMemory`, after
+/// which some may be copied.
 pub(crate) fn add_staged(
     alloc: Global,
     into: &mut Entries,

@@ -18,8 +18,9 @@ use sb_types::{Entry, Fault, KEYS_MOST, Key, Prefix, Slot};
 use std::alloc::Global;
 use std::marker::Model;
 
-/// What one owner last wrote under each of its keys up to a version, removals included but for those up to the floor: at
-/// most 4,096 entries, in ascending version, one a key.
+/// What one owner last wrote under each of its keys, up to the table's held version. It has at most 4,096 entries, in
+/// ascending version, one for each key. A removed key has a tombstone, the marker of the removal, if that is above the
+/// purge floor.
 ///
 /// ```
 /// let mut table = Table::new(alloc);
@@ -33,7 +34,7 @@ use std::marker::Model;
 /// assert!(rt; table.get(&key).is_none());
 /// ```
 ///
-/// The test `example_of_a_table` runs these lines; `push` and `raise` stand there behind tests of what they require.
+/// The test `example_of_a_table` runs these lines. There, `push` and `raise` come after tests of what they require.
 #[derive(Debug, Drop)]
 pub struct Table {
     upto: u64,
@@ -53,7 +54,7 @@ impl Model for Table {
 }
 
 impl Table {
-    /// A table of nothing, of floor 0. It takes no memory.
+    /// Makes an empty table, of held version 0 and floor 0. It takes no memory.
     pub fn new(alloc: Global) -> Table
         ensures nothing { result ≡ plain_table [] }
         ensures table { IsKeptTable result }
@@ -66,9 +67,12 @@ impl Table {
         }
     }
 
-    /// A table of these entries, as it was kept elsewhere. `LogDamaged` unless the floor is at most `upto`, the
-    /// versions ascend from 1 to at most `upto`, no removal stands at or below the floor, and no key stands twice;
-    /// then `TableFull` where there are more than 4,096; then `NoMemory`. With a fault the entries are dropped.
+    /// Makes a table of these entries, as they were kept elsewhere. Its faults, in this order. Each drops the entries:
+    ///
+    /// - `LogDamaged`: the floor is above `upto`, or the versions do not ascend from 1 to at most `upto`. Or a
+    ///   tombstone is at or below the floor, or two entries have the same key.
+    /// - `TableFull`: there are more than 4,096 entries.
+    /// - `NoMemory`.
     pub fn restored(
         alloc: Global,
         upto: u64,
@@ -87,7 +91,8 @@ impl Table {
         Table::from_entries(alloc, upto, floor, entries)
     }
 
-    /// A table of entries that can stand in it: nothing is tested. `NoMemory`.
+    /// Makes a table of entries that a table can have, without a test. The only fault is `NoMemory`, which drops the
+    /// entries.
     fn from_entries(
         alloc: Global,
         upto: u64,
@@ -106,7 +111,7 @@ impl Table {
         })
     }
 
-    /// An equal table. `NoMemory`.
+    /// Returns an equal table. The only fault is `NoMemory`.
     pub fn copy(&self, alloc: Global) -> Result<Table, Fault>
         ensures copy { Gives result (Ok self.now) }
         ensures table { IsKeptTable self.now }
@@ -118,7 +123,7 @@ impl Table {
         })
     }
 
-    /// The version up to which it holds.
+    /// Returns the held version.
     pub fn upto(&self) -> u64
         ensures version { result ≡ self.now.held }
         ensures table { IsKeptTable self.now }
@@ -126,7 +131,7 @@ impl Table {
         self.upto
     }
 
-    /// The version up to which it has no removals.
+    /// Returns the purge floor: the table has no tombstones up to this version.
     pub fn floor(&self) -> u64
         ensures floor { result ≡ self.now.floor }
         ensures table { IsKeptTable self.now }
@@ -134,7 +139,7 @@ impl Table {
         self.floor
     }
 
-    /// How many keys there are, those of removals above the floor counted.
+    /// Returns how many keys the table has, those with tombstones included.
     pub fn len(&self) -> usize
         ensures count { result ≡ length self.now.entries }
         ensures table { IsKeptTable self.now }
@@ -142,7 +147,7 @@ impl Table {
         self.entries.len()
     }
 
-    /// Whether there is no key, not even a removed one.
+    /// Returns whether the table has no key, not even one with a tombstone.
     pub fn is_empty(&self) -> bool
         ensures count { result ≡ (length self.now.entries == 0) }
         ensures table { IsKeptTable self.now }
@@ -150,7 +155,8 @@ impl Table {
         self.entries.is_empty()
     }
 
-    /// The version and the slot under a key, a removal above the floor too; nothing where none stands there.
+    /// Returns the version and the slot of a key, also if the slot is a tombstone. Returns `None` if the table has no
+    /// entry of this key: it was never written, or its tombstone was dropped.
     pub fn get(&self, key: &Key) -> Option<(u64, &Slot)>
         ensures found { option_map (λ p. (p.0, p.1.now)) result ≡ option_map version_and_slot (entry_at key.now self.now.entries) }
         ensures table { IsKeptTable self.now }
@@ -158,7 +164,7 @@ impl Table {
         self.entries.get(key)
     }
 
-    /// The entries above a version, in ascending version.
+    /// Returns the entries above a version, in ascending version. It takes no memory.
     pub fn after(&self, version: u64) -> After<'_>
         ensures entries { result ≡ above version self.now.entries }
         ensures table { IsKeptTable self.now }
@@ -166,7 +172,7 @@ impl Table {
         self.entries.after(version)
     }
 
-    /// The entries under the keys that begin with the prefix, in ascending order of their keys.
+    /// Returns the entries whose keys begin with the prefix, in ascending order of their keys. It takes no memory.
     pub fn prefix(&self, prefix: &Prefix) -> Prefixed<'_>
         ensures entries { result ≡ by_key (under prefix.now self.now.entries) }
         ensures table { IsKeptTable self.now }
@@ -174,7 +180,8 @@ impl Table {
         self.entries.prefix(prefix)
     }
 
-    /// Whether there is no room for a key: it is new beside 4,096 others.
+    /// Returns whether there is no room for a key: it is new, and the table has 4,096 others. This is the only test of
+    /// the limit of keys before a write: `push` makes it, and so do callers.
     pub fn is_full_for(&self, key: &Key) -> bool
         ensures full { result ≡ is_full_for key.now self.now.entries }
         ensures table { IsKeptTable self.now }
@@ -182,8 +189,11 @@ impl Table {
         self.entries.is_full_for(key)
     }
 
-    /// Enters a write of a version above what it holds, in place of what its key had, and holds up to it. `TableFull`
-    /// where the key is new beside 4,096 others; then `NoMemory`. Both leave the table as it was.
+    /// Enters a write whose version has to be above the held version. It replaces the entry of its key, and its version
+    /// is the held one from then on. Its faults, in this order. Each leaves the table as it was:
+    ///
+    /// - `TableFull`: the key is new, and the table has 4,096 others.
+    /// - `NoMemory`.
     pub fn push(&mut self, entry: Entry) -> Result<(), Fault>
         requires { self.old.held < entry.version }
         ensures answer { Gives result (if is_full_for entry.key self.old.entries then Err Fault.TableFull else Ok tt) }
@@ -194,12 +204,13 @@ impl Table {
         ensures plain { IsPlainTable self.old → IsPlainTable self.new }
     {
         let version = entry.version();
-        // Does nothing: the call tells the prover that the entries keep their limits.
+        // Proof only: the call shows that the entries keep their limits.
         let _ = self.entries.upto();
         push_later(&mut self.entries, &mut self.upto, version, entry)
     }
 
-    /// Holds up to a version, and raises the floor: the removals up to it go. It takes no memory.
+    /// Raises the held version and the purge floor, and drops the tombstones up to the floor. Neither must fall, and
+    /// the floor has to be at most the held version. It takes no memory.
     pub fn raise(&mut self, upto: u64, floor: u64)
         requires held { self.old.held ≤ upto }
         requires floor { self.old.floor ≤ floor }
@@ -212,9 +223,14 @@ impl Table {
         self.floor = floor;
     }
 
-    /// What is shown once the stage takes its place: the stage's entries above what is held, and under each other key
-    /// of the stage what is held of it, if anything, without removals up to the stage's floor. `NoMemory`. Both stay
-    /// as they are, and the new table is one more beside them.
+    /// Returns the table that is shown once the stage has replaced this one:
+    ///
+    /// - the stage's entries above this table's held version;
+    /// - for each other key of the stage, the entry that this table has of the key, if any;
+    /// - no tombstones up to the stage's floor.
+    ///
+    /// The stage's progress has to be at or above its floor and this table's held version. The only fault is
+    /// `NoMemory`. The table and the stage stay as they are, so for a while there are both and the new table.
     pub fn swapped(&self, alloc: Global, stage: &Stage) -> Result<Table, Fault>
         requires reach { stage.now.floor ≤ stage.now.progress }
         requires beyond { self.now.held ≤ stage.now.progress }

@@ -1,4 +1,4 @@
--- A value's content, and what is lent of it, as plain data.
+-- A value's content, and what a view borrows of it, as plain data.
 use Rattle.sb_types.specs.declared.value.Content.{Content}
 use Rattle.sb_types.specs.declared.value.Content.TheVariants as contents
 use Rattle.sb_types.specs.declared.value.ValueRef.{ValueRef}
@@ -11,7 +11,7 @@ seen (contents.Weight weight) = Weight weight
 seen (contents.Flag flag) = Flag flag
 seen (contents.Text text) = Text text.items
 
--- the value whose content is lent
+-- the value whose content is borrowed
 abbrev pub lent : ValueRef → Value
 lent (views.Addr text) = Addr text.now
 lent (views.Weight weight) = Weight weight

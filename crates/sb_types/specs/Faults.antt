@@ -1,4 +1,4 @@
--- The numbers of faults, and what a call that may want memory gives.
+-- The numbers of faults, and the result of a call that may find no memory.
 use Rattle.std.specs.Prelude.{◌≡◌, ◌≢◌, ℕ, Result, Ok, Err}
 use Rattle.sb_types.specs.declared.fault.Fault.{Fault}
 use Rattle.sb_types.specs.declared.fault.Fault.TheVariants.{NoMemory, BadName, BadKey, BadValue, BadSetting, TableFull, OwnersFull, VersionsSpent, NothingThere, BadMark, BadVersion, BadLength, UnknownKind, Malformed, Closed, ReadFailed, WriteFailed, StoreFailed, LogDamaged, WrongOwner, OwnerConflict, NoHello, WrongCluster, SameName, SecondHello, NoWatch, WatchesFull, Truncated, TurnsSpent, FloorTooHigh, OutOfTurn}
@@ -36,7 +36,7 @@ number_of TurnsSpent = 29
 number_of FloorTooHigh = 30
 number_of (OutOfTurn version) = 31
 
--- what a fault carries beside its number; 0 where it carries nothing
+-- what a fault carries besides its number; 0 if it carries nothing
 abbrev pub carried_by : Fault → ℕ
 carried_by (UnknownKind kind) = kind
 carried_by (Malformed kind) = kind
@@ -45,7 +45,7 @@ carried_by (OwnerConflict version) = version
 carried_by (OutOfTurn version) = version
 carried_by other = 0
 
--- the result is what is wanted, unless there was no memory
+-- the result is the wanted one, unless there was no memory
 abbrev pub Gives : {X : Type 0} → Result X Fault → Result X Fault → Type 0
 Gives (Ok x) want = want ≡ Ok x
 Gives (Err fault) want = fault ≢ NoMemory → want ≡ Err fault

@@ -1,4 +1,4 @@
--- Settings as they are given, seen as those that they would make.
+-- Settings as they were given, as the settings that they would make.
 use Rattle.sb_types.specs.declared.settings.RawSettings.{RawSettings}
 use Rattle.sb_types.specs.Records.{Settings}
 

@@ -23,10 +23,11 @@ entry_length e = 10 + length e.key + slot_length e.slot
 abbrev pub entries_length : List Entry → ℕ
 entries_length entries = sum_by entry_length entries
 
--- the owner's length byte and text, the floor, the versions that it begins after and reaches, the number of entries, and these
+-- the owner's length byte and text, the purge floor, the versions after and upto, the number of entries, and the
+-- entries
 abbrev pub block_length : Block → ℕ
 block_length b = 27 + length b.owner + entries_length b.entries
 
--- the kind, the number of blocks, and these
+-- the kind, the number of blocks, and the blocks
 abbrev pub delta_length : List Block → ℕ
 delta_length blocks = 3 + sum_by block_length blocks

@@ -23,7 +23,7 @@ slot_holds_text Removed = false
 abbrev pub is_entry : Entry → Bool
 is_entry e = is_key e.key && is_between 1 (2 ^ 64 - 1) e.version && is_slot e.slot
 
--- at most 65,535 entries, ascending above after, at most upto, each key once; the block reaches further than it begins
+-- at most 65,535 entries, ascending above after, at most upto, each key once; upto is above after
 abbrev pub are_block_parts : ℕ → ℕ → List Entry → Bool
 are_block_parts after upto entries = nat_le (length entries) ENTRIES_MOST && nat_lt after upto && are_ascending after entries && nat_le (last_version after entries) upto && are_distinct entries
 
@@ -35,16 +35,16 @@ block_of_parts owner floor after upto entries = record { owner = owner; floor = 
 abbrev pub is_delta_block : Block → Bool
 is_delta_block b = is_name b.owner && nat_lt b.floor (2 ^ 64) && nat_lt b.upto (2 ^ 64) && list_all is_entry b.entries && are_block_parts b.after b.upto b.entries
 
--- the text is before the other, byte by byte
+-- the text is before the other, in the order of their bytes
 abbrev pub text_lt : List ℕ → List ℕ → Bool
 text_lt a b = is_lt (slice_cmp nat_cmp a b)
 
--- each owner's name is behind the one before, and the first behind last
+-- each owner's name is after the one before it, and the first is after last
 abbrev pub are_owners_above : List ℕ → List Block → Bool
 are_owners_above last [] = true
 are_owners_above last (b ∷ bs) = text_lt last b.owner && are_owners_above b.owner bs
 
--- owners ascend, and the payload is within its limit (no name is empty, so that each is behind the empty text)
+-- owners ascend, and the payload is within its limit (no name is empty, so each is after the empty text)
 abbrev pub are_delta_blocks : List Block → Bool
 are_delta_blocks blocks = are_owners_above [] blocks && nat_le (delta_length blocks) PAYLOAD_MOST
 

@@ -9,14 +9,14 @@ pub record Entry : Type 0 where
   pub version : ℕ
   pub slot : Slot
 
--- what is held of one owner: the greatest version that is known, the floor up to which markers may be
--- gone, and the entries, ascending by version
+-- what is held of one owner: the held version, which is the greatest that is known, the purge floor, and the entries in
+-- ascending version. Up to the floor there are no tombstones, the markers of removed keys
 pub record Table : Type 0 where
   pub held : ℕ
   pub floor : ℕ
   pub entries : List Entry
 
--- what has come of a table that is to take the place of the shown one
+-- what has arrived of a table that will replace the shown one
 pub record Stage : Type 0 where
   pub floor : ℕ
   pub progress : ℕ

@@ -7,26 +7,26 @@ use Rattle.sb_types.specs.declared.entry.Slot.TheVariants.{Set, Removed}
 use Rattle.sb_types.specs.Value.{Value}
 use Rattle.sb_types.specs.Records.{Entry, Table, Block}
 
--- the element stands in the list
+-- the list contains the element
 abbrev pub Stands : {X : Type 0} → List X → X → Type 0
 Stands [] e = ⊥
 Stands (x ∷ xs) e = (x ≡ e) ⊎ Stands xs e
 
--- each version is above the one before, and the first above last
+-- each version is above the one before it, and the first is above last
 abbrev pub are_ascending : ℕ → List Entry → Bool
 are_ascending last [] = true
 are_ascending last (x ∷ xs) = nat_lt last x.version && are_ascending x.version xs
 
--- an entry stands under the key
+-- an entry of the list has this key
 abbrev pub has_key : List ℕ → List Entry → Bool
 has_key key entries = list_any (λ entry. pointwise nat_eq entry.key key) entries
 
--- no key stands twice
+-- each key occurs once
 abbrev pub are_distinct : List Entry → Bool
 are_distinct [] = true
 are_distinct (entry ∷ entries) = not (has_key entry.key entries) && are_distinct entries
 
--- the version of the last entry, or the one before where there is none
+-- the version of the last entry, or the one before if there is no entry
 abbrev pub last_version : ℕ → List Entry → ℕ
 last_version before [] = before
 last_version before (entry ∷ entries) = last_version entry.version entries
@@ -39,11 +39,11 @@ above version entries = filter (λ entry. nat_lt version entry.version) entries
 abbrev pub up_to : ℕ → List Entry → List Entry
 up_to version entries = filter (λ entry. nat_le entry.version version) entries
 
--- the entries under none of these entries' keys
+-- the entries whose key none of the others has
 abbrev pub without : List Entry → List Entry → List Entry
 without others entries = filter (λ entry. not (has_key entry.key others)) entries
 
--- the entries under one of these entries' keys
+-- the entries whose key one of the others has
 abbrev pub under_keys_of : List Entry → List Entry → List Entry
 under_keys_of others entries = filter (λ entry. has_key entry.key others) entries
 
@@ -51,11 +51,11 @@ abbrev pub is_set : Slot → Bool
 is_set (Set value) = true
 is_set Removed = false
 
--- the entries that are no marker at or below the floor
+-- the entries without the tombstones (markers of removed keys) at or below the floor
 abbrev pub live : ℕ → List Entry → List Entry
 live floor entries = filter (λ entry. is_set entry.slot || nat_lt floor entry.version) entries
 
--- the entries with others entered, each in place of its key's
+-- the entries after the others were entered, each in place of the old entry of its key
 abbrev pub entered : List Entry → List Entry → List Entry
 entered entries others = without others entries ++ others
 
@@ -68,14 +68,14 @@ pub record IsRun (after upto : ℕ) (entries : List Entry) : Type 0 where
 pub record IsTable (t : Table) : Type 0 where
   pub run : IsRun 0 t.held t.entries
   pub floor : t.floor ≤ t.held
-  -- no marker stands at or below the floor
+  -- it has no tombstone at or below the floor
   pub live : live t.floor t.entries ≡ t.entries
 
 pub record IsBlock (b : Block) : Type 0 where
   pub run : IsRun b.after b.upto b.entries
   pub order : b.after < b.upto
 
--- the entry under a key, where there is one
+-- the entry of a key, if there is one
 abbrev pub entry_at : List ℕ → List Entry → Option Entry
 entry_at key entries = find (λ entry. pointwise nat_eq entry.key key) entries
 
@@ -87,6 +87,6 @@ abbrev pub shown_by_entry : Option Entry → Option (Value × ℕ)
 shown_by_entry None = None
 shown_by_entry (Some e) = shown_slot e.version e.slot
 
--- what a reader is shown of a key: the value and its version, or nothing for a marker or an absent key
+-- what a reader is shown of a key: the value and its version, or nothing for a tombstone or an absent key
 abbrev pub shown_at : List ℕ → List Entry → Option (Value × ℕ)
 shown_at key entries = shown_by_entry (entry_at key entries)

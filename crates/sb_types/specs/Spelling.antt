@@ -3,7 +3,7 @@ use Rattle.std.specs.Prelude.{◌≡◌, ℕ, ◌/◌, ◌%◌, ◌==◌, Bool, 
 use Rattle.std.specs.Char.{digit_char, encode_utf8}
 use Rattle.std.specs.List.{list_all}
 
--- it would end the line, or not show on it
+-- a byte that would end the line, or that the line would not show
 abbrev pub is_control : ℕ → Bool
 is_control byte = nat_lt byte 32 || byte == 127
 
@@ -18,10 +18,10 @@ printed_byte byte = if is_escaped byte then 92 ∷ digit_char (byte / 16) ∷ di
 abbrev pub printed_text : List ℕ → List ℕ
 printed_text text = flat_map printed_byte text
 
--- the same of a character
+-- the same for a character
 abbrev pub printed_char : ℕ → List ℕ
 printed_char c = if is_escaped c then 92 ∷ digit_char (c / 16) ∷ digit_char (c % 16) ∷ [] else encode_utf8 c
 
--- no control byte
+-- the line contains no control byte
 abbrev pub is_one_line : List ℕ → Bool
 is_one_line line = list_all (λ byte. not (is_control byte)) line

@@ -19,7 +19,7 @@ is_name_byte b = is_plain_byte b || b == 45
 abbrev pub is_key_byte : ℕ → Bool
 is_key_byte b = is_plain_byte b || b == 46 || b == 95 || b == 47 || b == 45
 
--- a printing byte, no space
+-- a printing byte, but not a space
 abbrev pub is_addr_byte : ℕ → Bool
 is_addr_byte b = is_between 33 126 b
 
@@ -35,6 +35,6 @@ is_prefix text = nat_le (length text) KEY_MOST && list_all is_key_byte text
 abbrev pub is_addr : List ℕ → Bool
 is_addr text = is_between 1 ADDR_MOST (length text) && list_all is_addr_byte text
 
--- UTF-8
+-- UTF-8 of 1 to 512 bytes
 abbrev pub is_text : List ℕ → Bool
 is_text text = is_between 1 TEXT_MOST (length text) && is_utf8 text

@@ -16,7 +16,7 @@ is_value (Weight weight) = nat_lt weight (2 ^ 63)
 is_value (Flag flag) = true
 is_value (Text text) = is_text text
 
--- its text lies in memory of its own
+-- the value has a text, which is kept in allocated memory
 abbrev pub holds_text : Value → Bool
 holds_text (Addr text) = true
 holds_text (Weight weight) = false
@@ -27,18 +27,19 @@ abbrev pub flag_word : Bool → List ℕ
 flag_word true = codes "true"
 flag_word false = codes "false"
 
--- a value's two words, its kind and its content, which of a text may have spaces: the one spelling that is read
+-- the two words of a value, its kind and its content: the one spelling that is read. The content of a text may have
+-- spaces
 abbrev pub words_of : Value → List ℕ × List ℕ
 words_of (Addr text) = (codes "addr", text)
 words_of (Weight weight) = (codes "weight", decimal weight)
 words_of (Flag flag) = (codes "flag", flag_word flag)
 words_of (Text text) = (codes "text", printed_text text)
 
--- the text has no space
+-- the text contains no space
 abbrev pub is_word : List ℕ → Bool
 is_word text = list_all (λ byte. not (byte == 32)) text
 
--- the two words as they are printed, with a space between
+-- the two words as they are printed, with a space between them
 abbrev pub line_of : Value → List ℕ
 line_of value = (words_of value).0 ++ 32 ∷ (words_of value).1
 

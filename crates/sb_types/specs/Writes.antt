@@ -10,35 +10,36 @@ pub record Written (writes : List Write) (e : Entry) : Type 0 where
   pub counted : 1 ≤ e.version
   pub found : slice_get writes (e.version - 1) ≡ Some (record { key = e.key; slot = e.slot })
 
--- its key was written again
+-- a later write has its key
 abbrev pub Superseded : List Write → Entry → Type 0
 Superseded writes e = (later : Entry) × Written writes later × (later.key ≡ e.key) × (e.version < later.version)
 
--- a marker that the floor lets go
+-- a tombstone (the marker of a removed key) that a log may drop: its version is at or below the floor
 abbrev pub Gone : ℕ → Entry → Type 0
 Gone floor e = (e.slot ≡ Removed) × (e.version ≤ floor)
 
--- The entries tell of every write above after, up to upto, that is not superseded and no marker at or below the floor.
+-- The entries include every write above after, up to upto, except superseded ones and tombstones at or below the floor.
 pub record Tells (writes : List Write) (floor after upto : ℕ) (entries : List Entry) : Type 0 where
   pub reach : upto ≤ length writes
   pub reach_floor : floor ≤ length writes
   pub true_each : (e : Entry) → Stands entries e → Written writes e
   pub whole : (e : Entry) → Written writes e → after < e.version → e.version ≤ upto → Stands entries e ⊎ (Superseded writes e ⊎ Gone floor e)
-  -- where an entry is older than a marker of its key that may have gone, that key was written again since
+  -- if an entry is older than a tombstone of its key that may be dropped, that key was written again after the
+  -- tombstone
   pub past : (e x : Entry) → Written writes e → Gone floor e → Stands entries x → x.key ≡ e.key → x.version < e.version → Superseded writes e
 
--- the table holds of the writes all that its held version and its floor say
+-- the table has what its held version and its floor promise of the writes
 abbrev pub Holds : List Write → Table → Type 0
 Holds writes t = Tells writes t.floor 0 t.held t.entries
 
 abbrev pub HoldsStage : List Write → Stage → Type 0
 HoldsStage writes s = Tells writes s.floor 0 s.progress s.entries
 
--- the block leaves out nothing between after and upto that is not superseded
+-- the block has every write above after, up to upto, except superseded ones and tombstones at or below the floor
 abbrev pub Honest : List Write → Block → Type 0
 Honest writes b = Tells writes b.floor b.after b.upto b.entries
 
--- the shown table of an owner, and its stage of a floor that the table has not reached
+-- the shown table of an owner, and its stage, whose floor is above the table's held version
 pub record IsHolder (h : Holder) : Type 0 where
   pub shown : IsTable h.shown
   pub stage : IfSome h.stage (λ s. IsRun 0 s.progress s.entries × (h.shown.held < s.floor))

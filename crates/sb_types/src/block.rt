@@ -1,4 +1,4 @@
-//! Blocks: a part of one owner's writes.
+//! Blocks: parts of one owner's writes.
 
 ghost use Rattle.std.specs.Prelude.{◌≡◌, ◌≤◌, ◌+◌, ◌*◌, length, true, if◌then◌else◌, Ok, Err};
 ghost use Rattle.std.specs.List.{list_all};
@@ -16,9 +16,12 @@ use crate::limits::ENTRIES_MOST;
 use crate::text::Name;
 use std::marker::Model;
 
-/// A part of one owner's writes: its entries above the version `after` and at most the version `upto`, in ascending
-/// version, each key once, and the floor at or below which it leaves removals out. It has at most 65,535 entries, and
-/// maybe none; `upto` is above `after`.
+/// A part of one owner's writes: its entries above the version `after`, up to the version `upto`.
+///
+/// - `upto` is above `after`.
+/// - It has at most 65,535 entries, and may have none. They are in ascending version, and each key occurs once.
+/// - Its purge floor is the version up to which it leaves out tombstones, the markers of removed keys. The type does
+///   not test this: any floor is allowed.
 #[derive(Debug, Drop)]
 pub struct Block {
     owner: Name,
@@ -26,7 +29,7 @@ pub struct Block {
     after: u64,
     upto: u64,
     entries: Vec<Entry>,
-    /// How many bytes the entries take.
+    /// How many bytes the entries take in a message.
     length: u64,
 }
 
@@ -46,7 +49,7 @@ impl Model for Block {
     ghost invariant = { λ b. (is_delta_block (block_of_parts b.owner b.floor b.after b.upto b.entries.items) ≡ true) × (b.length ≡ entries_length b.entries.items) × (b.length ≤ ENTRY_LENGTH_MOST * ENTRIES_MOST) };
 }
 
-/// Whether each version is above the one before, and the first above `after`.
+/// Returns whether each version is above the one before it, and the first above `after`.
 fn are_versions_ascending(after: u64, entries: &[Entry]) -> bool
     ensures { result ≡ are_ascending after entries.now }
 {
@@ -61,7 +64,7 @@ fn are_versions_ascending(after: u64, entries: &[Entry]) -> bool
     true
 }
 
-/// The version of the last entry, or `after` where there is none.
+/// Returns the version of the last entry, or `after` if there is no entry.
 fn last_version(after: u64, entries: &[Entry]) -> u64
     ensures { result ≡ last_version after entries.now }
 {
@@ -71,7 +74,7 @@ fn last_version(after: u64, entries: &[Entry]) -> u64
     }
 }
 
-/// How many bytes the entries take in a message.
+/// Returns how many bytes the entries take in a message.
 fn length_of(entries: &[Entry]) -> u64
     requires { length entries.now ≤ ENTRIES_MOST }
     ensures length { result ≡ entries_length entries.now }
@@ -86,9 +89,14 @@ fn length_of(entries: &[Entry]) -> u64
 }
 
 impl Block {
-    /// A block of these parts. `Malformed(KIND_DELTA)`, the entries dropped, where there are more than 65,535 entries,
-    /// where `upto` is not above `after`, where a version is not above the one before, the first not above `after` or the
-    /// last above `upto`, or where a key stands twice. It takes no memory.
+    /// Makes a block of these parts, for any floor. It takes no memory. If a limit is broken, it drops the entries and
+    /// returns `Malformed(KIND_DELTA)`:
+    ///
+    /// - there are more than 65,535 entries;
+    /// - `upto` is not above `after`;
+    /// - a version is not above the one before it, or the first is not above `after`;
+    /// - the last version is above `upto`;
+    /// - two entries have the same key.
     #[tactic(auto, using(crate::proofs::DistinctKeys::ascending_from_zero))]
     pub fn new(
         owner: Name,
@@ -110,13 +118,13 @@ impl Block {
         Ok(Block::from_parts(owner, floor, after, upto, entries))
     }
 
-    /// A block of these parts, which have to be those of a block, as `new` tells them: nothing is tested. It takes no
+    /// Makes a block of these parts without a test. The caller has to show that `new` would accept them. It takes no
     /// memory.
     pub fn from_parts(owner: Name, floor: u64, after: u64, upto: u64, entries: Vec<Entry>) -> Block
         requires { are_block_parts after upto entries.items ≡ true }
         ensures { result ≡ block_of_parts owner floor after upto entries.items }
     {
-        // Does nothing: the call tells the prover that the name keeps its limits.
+        // Proof only: the call shows that the name keeps its limits.
         let _ = owner.bytes();
         let length = length_of(&entries);
         Block {
@@ -129,7 +137,7 @@ impl Block {
         }
     }
 
-    /// Whose writes these are.
+    /// Returns whose writes these are.
     pub fn owner(&self) -> &Name
         ensures owner { result.now ≡ self.now.owner }
         ensures block { is_delta_block self.now ≡ true }
@@ -137,8 +145,8 @@ impl Block {
         &self.owner
     }
 
-    /// The version at or below which the block leaves removals out, and whoever takes it lets go of them. 0 where the
-    /// owner never purged.
+    /// Returns the purge floor. The block leaves out tombstones at or below it, and whoever takes the block drops its
+    /// own. It is 0 if the owner never purged.
     pub fn floor(&self) -> u64
         ensures floor { result ≡ self.now.floor }
         ensures block { is_delta_block self.now ≡ true }
@@ -146,7 +154,7 @@ impl Block {
         self.floor
     }
 
-    /// The version that the block begins after.
+    /// Returns the version after which the block begins.
     pub fn after(&self) -> u64
         ensures after { result ≡ self.now.after }
         ensures block { is_delta_block self.now ≡ true }
@@ -154,8 +162,8 @@ impl Block {
         self.after
     }
 
-    /// The version that the block reaches. It may be above that of its last entry: what lies between was written again,
-    /// or is a removal at or below the floor.
+    /// Returns the version up to which the block reaches. It may be above the version of the last entry. Writes between
+    /// the two were replaced by later ones, or are tombstones at or below the floor.
     pub fn upto(&self) -> u64
         ensures upto { result ≡ self.now.upto }
         ensures block { is_delta_block self.now ≡ true }
@@ -163,7 +171,7 @@ impl Block {
         self.upto
     }
 
-    /// Its entries, in ascending version.
+    /// Returns the entries, in ascending version.
     pub fn entries(&self) -> &[Entry]
         ensures entries { result.now ≡ self.now.entries }
         ensures block { is_delta_block self.now ≡ true }
@@ -171,7 +179,7 @@ impl Block {
         &self.entries
     }
 
-    /// How many bytes it takes in a message: its head of 28 to 59, and its entries.
+    /// Returns how many bytes the block takes in a message: its head of 28 to 59, and its entries.
     pub fn encoded_length(&self) -> u64
         ensures length { result ≡ block_length self.now }
         ensures block { is_delta_block self.now ≡ true }

@@ -1,4 +1,4 @@
-//! Deltas: what a node tells a peer.
+//! Deltas: what a node sends to a peer.
 
 ghost use Rattle.std.specs.Prelude.{◌≡◌, [], nat_le, true, Some, None, OnSome, if◌then◌else◌, Ok, Err};
 ghost use Rattle.std.specs.List.{list_all};
@@ -11,8 +11,8 @@ use crate::format::{BYTE_LENGTH, COUNT_LENGTH, KIND_DELTA};
 use crate::limits::PAYLOAD_MOST;
 use std::marker::Model;
 
-/// What a node tells a peer: blocks of several owners, in ascending order of the owners' names. It may
-/// have none. Its payload has at most 65,530 bytes.
+/// Blocks of several owners that a node sends to a peer, in ascending order of the owners' names. A delta may have no
+/// blocks. Its payload has at most 65,530 bytes.
 #[derive(Debug, Drop)]
 pub struct Delta {
     blocks: Vec<Block>,
@@ -34,7 +34,7 @@ impl Model for Delta {
     ghost invariant = { λ d. (is_delta d.blocks.items ≡ true) × (d.length ≡ delta_length d.blocks.items) };
 }
 
-/// Whether each owner's name is behind the one before.
+/// Returns whether each owner's name is after the one before it.
 fn do_owners_ascend(blocks: &[Block]) -> bool
     ensures { result ≡ are_owners_above [] blocks.now }
 {
@@ -49,7 +49,7 @@ fn do_owners_ascend(blocks: &[Block]) -> bool
     true
 }
 
-/// How many bytes the payload of a delta of these blocks takes, where that is within the limit.
+/// Returns how many bytes the payload of a delta of these blocks takes, if that is within the limit.
 fn length_within(blocks: &[Block]) -> Option<u64>
     ensures length { result ≡ (if nat_le (delta_length blocks.now) PAYLOAD_MOST then Some (delta_length blocks.now) else None) }
     ensures each { OnSome result (list_all is_delta_block blocks.now ≡ true) }
@@ -65,8 +65,11 @@ fn length_within(blocks: &[Block]) -> Option<u64>
 }
 
 impl Delta {
-    /// A delta of these blocks. `Malformed(KIND_DELTA)`, the blocks dropped, where an owner's name is not behind
-    /// the one before, or where the payload would have more than 65,530 bytes. It takes no memory.
+    /// Makes a delta of these blocks. It takes no memory. If a limit is broken, it drops the blocks and returns
+    /// `Malformed(KIND_DELTA)`:
+    ///
+    /// - an owner's name is not after the one before it;
+    /// - the payload would have more than 65,530 bytes.
     pub fn new(blocks: Vec<Block>) -> Result<Delta, Fault>
         ensures { result ≡ (if are_delta_blocks blocks.items then Ok blocks.items else Err (Fault.Malformed KIND_DELTA)) }
     {
@@ -79,7 +82,7 @@ impl Delta {
         Ok(Delta { blocks, length })
     }
 
-    /// Its blocks, in ascending order of their owners' names.
+    /// Returns the blocks, in ascending order of their owners' names.
     pub fn blocks(&self) -> &[Block]
         ensures blocks { result.now ≡ self.now }
         ensures delta { is_delta self.now ≡ true }
@@ -87,7 +90,7 @@ impl Delta {
         &self.blocks
     }
 
-    /// How many bytes its payload takes: 3 to 65,530.
+    /// Returns how many bytes the payload takes: 3 to 65,530.
     pub fn encoded_length(&self) -> u64
         ensures length { result ≡ delta_length self.now }
         ensures delta { is_delta self.now ≡ true }

@@ -1,12 +1,12 @@
-//! Whether the keys of entries differ.
+//! A test for equal keys among entries.
 
 ghost use Rattle.std.specs.Prelude.{◌≡◌, true};
 ghost use Rattle.sb_types.specs.Runs.{are_ascending, are_distinct};
 
 use crate::entry::Entry;
 
-/// Whether no two entries have the same key, of entries in order of version. It takes no memory: the
-/// entries are sorted by key, neighbours compared, and sorted back.
+/// Returns whether all entries have different keys. The entries have to be in ascending version, and are so again
+/// afterwards. It takes no memory: it sorts the entries by key, compares neighbours, and sorts them back.
 pub fn are_keys_distinct(entries: &mut [Entry]) -> bool
     requires { are_ascending 0 entries.old ≡ true }
     ensures value { result ≡ are_distinct entries.old }

@@ -12,7 +12,7 @@ use crate::value::Value;
 use std::alloc::Global;
 use std::marker::Model;
 
-/// What stands under a key: a value, or the marker of a removal.
+/// What is under a key: a value, or a tombstone, which is the marker of a removed key.
 #[derive(Debug, Drop)]
 pub enum Slot {
     Set(Value),
@@ -48,7 +48,7 @@ impl Model for Entry {
 }
 
 impl Slot {
-    /// An equal slot. `NoMemory`, of an address or a text alone.
+    /// Returns an equal slot. Returns `NoMemory` only if it contains an address or a text.
     pub fn copy(&self, alloc: Global) -> Result<Slot, Fault>
         ensures copied { Gives result (Ok self.now) }
         ensures memory { IfErr result (λ _. slot_holds_text self.now ≡ true) }
@@ -59,7 +59,7 @@ impl Slot {
         }
     }
 
-    /// How many bytes it takes in a message, its tag not counted: 0 for a removal, else 1 to 514.
+    /// Returns how many bytes the slot takes in a message, without its tag: 0 for a tombstone, else 1 to 514.
     pub fn encoded_length(&self) -> u64
         ensures length { result ≡ slot_length self.now }
         ensures slot { is_slot self.now ≡ true }
@@ -73,18 +73,18 @@ impl Slot {
 }
 
 impl Entry {
-    /// A write of this version, which has to be at least 1. It takes no memory.
+    /// Makes an entry of this version, which has to be at least 1. It takes no memory.
     pub fn new(key: Key, version: u64, slot: Slot) -> Entry
         requires { 1 ≤ version }
         ensures { result ≡ record { key = key; version = version; slot = slot } }
     {
-        // Does nothing: the calls tell the prover that the key and the slot keep their limits.
+        // Proof only: the calls show that the key and the slot keep their limits.
         let _ = key.bytes();
         let _ = slot.encoded_length();
         Entry { key, version, slot }
     }
 
-    /// What the owner wrote under.
+    /// Returns the key that was written.
     pub fn key(&self) -> &Key
         ensures key { result.now ≡ self.now.key }
         ensures entry { is_entry self.now ≡ true }
@@ -92,7 +92,7 @@ impl Entry {
         &self.key
     }
 
-    /// The version of the write, at least 1.
+    /// Returns the version of the write, at least 1.
     pub fn version(&self) -> u64
         ensures version { result ≡ self.now.version }
         ensures entry { is_entry self.now ≡ true }
@@ -100,7 +100,7 @@ impl Entry {
         self.version
     }
 
-    /// What was written: a value, or a removal.
+    /// Returns what was written: a value or a tombstone.
     pub fn slot(&self) -> &Slot
         ensures slot { result.now ≡ self.now.slot }
         ensures entry { is_entry self.now ≡ true }
@@ -108,7 +108,7 @@ impl Entry {
         &self.slot
     }
 
-    /// An equal entry. `NoMemory`, of an address or a text alone.
+    /// Returns an equal entry. Returns `NoMemory` only if it contains an address or a text.
     pub fn copy(&self, alloc: Global) -> Result<Entry, Fault>
         ensures copied { Gives result (Ok self.now) }
         ensures memory { IfErr result (λ _. slot_holds_text self.now.slot ≡ true) }
@@ -120,7 +120,7 @@ impl Entry {
         })
     }
 
-    /// How many bytes it takes in a message: 11 to 588.
+    /// Returns how many bytes the entry takes in a message: 11 to 588.
     pub fn encoded_length(&self) -> u64
         ensures length { result ≡ entry_length self.now }
         ensures entry { is_entry self.now ≡ true }

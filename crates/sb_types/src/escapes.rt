@@ -1,18 +1,18 @@
-//! The spelling of texts: each control byte, and the backslash, as a backslash and two digits.
+//! The spelling of texts: a backslash and two digits in place of each control byte and of the backslash.
 ghost use Rattle.std.specs.Prelude.{◌≡◌, ◌≢◌, ℕ, ◌<◌, ◌≤◌, ◌/◌, ◌%◌, ◌++◌, ◌∷◌, List, true, IfSome, IfNone, length, take, drop};
 ghost use Rattle.std.specs.Char.{digit_char};
 ghost use Rattle.sb_types.specs.Spelling.{is_escaped, printed_byte, printed_text};
 
 use crate::limits::TEXT_MOST;
 
-/// Whether a byte is spelled by two digits.
+/// Returns whether a byte is spelled by a backslash and two digits.
 fn is_escaped(byte: u8) -> bool
     ensures { result ≡ is_escaped byte }
 {
     byte < 32 || byte == 127 || byte == b'\\'
 }
 
-/// The number that a digit is.
+/// Returns the number of a digit of 0-9 and a-f.
 fn digit_of(byte: u8) -> Option<u8>
     ensures some { IfSome result (λ digit. (digit < 16) × (digit_char digit ≡ byte)) }
     ensures none { IfNone result ((digit : ℕ) → digit < 16 → digit_char digit ≢ byte) }
@@ -24,7 +24,7 @@ fn digit_of(byte: u8) -> Option<u8>
     }
 }
 
-/// The byte that is spelled by two digits.
+/// Returns the byte that two digits spell.
 fn escape_of(high: u8, low: u8) -> Option<u8>
     ensures some { IfSome result (λ byte. (is_escaped byte ≡ true) × (digit_char (byte / 16) ≡ high) × (digit_char (byte % 16) ≡ low)) }
     ensures none { IfNone result ((byte : ℕ) → is_escaped byte ≡ true → digit_char (byte / 16) ≡ high → digit_char (byte % 16) ≢ low) }
@@ -33,7 +33,7 @@ fn escape_of(high: u8, low: u8) -> Option<u8>
     if is_escaped(byte) { Some(byte) } else { None }
 }
 
-/// The byte that is spelled in front, and how many bytes its spelling takes.
+/// Returns the byte that is spelled first, and how many bytes its spelling takes.
 fn first_byte(word: &[u8]) -> Option<(u8, usize)>
     ensures some { IfSome result (λ p. (1 ≤ p.1) × (p.1 ≤ length word.now) × (word.now ≡ printed_byte p.0 ++ drop p.1 word.now)) }
     ensures none { IfNone result ((byte : ℕ) (rest : List ℕ) → word.now ≢ printed_byte byte ++ rest) }
@@ -49,8 +49,8 @@ fn first_byte(word: &[u8]) -> Option<(u8, usize)>
     Some((first, 1))
 }
 
-/// Puts the text that a word spells in front of the room, and says how long it is. Nothing where the word spells
-/// none, or one that is too long.
+/// Writes the bytes that a word spells at the beginning of the room, and returns how many there are. Returns `None` if
+/// the word is not a spelling, or spells more bytes than fit.
 pub(crate) fn unescape(word: &[u8], room: &mut [u8; TEXT_MOST]) -> Option<usize>
     ensures some { IfSome result (λ count. (count ≤ TEXT_MOST) × (word.now ≡ printed_text (take count room.new))) }
     ensures none { IfNone result ((text : List ℕ) → length text ≤ TEXT_MOST → word.now ≢ printed_text text) }

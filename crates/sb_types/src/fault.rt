@@ -8,7 +8,7 @@ use crate::limits::FAULT_NUMBER_MOST;
 use std::alloc::{AllocError, AllocFailed};
 use thiserror::Error;
 
-/// Why a call was refused. Each fault has a number, which scripts and control sockets give.
+/// Why a call was refused. Each fault has a number, which scripts and control sockets report.
 #[derive(Clone, Copy, Debug, PartialEq, Eq, Error)]
 pub enum Fault {
     #[error("there was no memory; free some, or ask for less")]
@@ -76,7 +76,7 @@ pub enum Fault {
 }
 
 impl Fault {
-    /// The fault's number, from 1 to 31.
+    /// Returns the number of the fault, 1 to 31.
     pub fn number(&self) -> u8
         ensures { result ≡ number_of self.now }
     {
@@ -115,7 +115,8 @@ impl Fault {
         }
     }
 
-    /// The fault of a number, 1 to 31, and none of another one. What else the fault carries is 0: a number does not tell it.
+    /// Returns the fault of a number from 1 to 31, and `None` for any other number. If such a fault carries something
+    /// else, that is 0 here: the number does not contain it.
     pub fn of_number(number: u8) -> Option<Fault>
         ensures some { IfSome result (λ fault. (number_of fault ≡ number) × (carried_by fault ≡ 0)) }
         ensures none { IfNone result (is_between 1 FAULT_NUMBER_MOST number ≡ false) }

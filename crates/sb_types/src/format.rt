@@ -1,5 +1,5 @@
-//! The numbers of the format: what begins a frame, the kinds of messages, the tags of slots, the
-//! reasons of a Bye, and how many bytes the parts of a message take. Each stands here alone.
+//! The numbers of the format, each in this file alone. They are the first bytes of a frame, the kinds of messages, the
+//! tags of slots and the reasons of a Bye. The lengths of the parts of a message are here too.
 
 use crate::limits::{KEY_MOST, NAME_MOST, TEXT_MOST};
 
@@ -9,7 +9,7 @@ pub const FRAME_MARK: u8 = 0xa7;
 /// The second byte of a frame, the version of the format.
 pub const FRAME_VERSION: u8 = 3;
 
-/// How many bytes of a frame stand before its payload.
+/// How many bytes of a frame come before its payload.
 pub const HEADER_LENGTH: u64 = 6;
 
 /// The kind of a Hello. A kind is the first byte of a payload.
@@ -39,7 +39,7 @@ pub const KIND_DONE: u8 = 0x13;
 /// The kind of a Refused.
 pub const KIND_REFUSED: u8 = 0x14;
 
-/// The tag of a removal, which has no value.
+/// The tag of a tombstone, the marker of a removed key. It has no value.
 pub const TAG_REMOVED: u8 = 0;
 
 /// The tag of an address.
@@ -54,29 +54,29 @@ pub const TAG_FLAG: u8 = 3;
 /// The tag of a text.
 pub const TAG_TEXT: u8 = 4;
 
-/// The reason of a Bye when the rounds are done.
+/// The reason of a Bye that a node sends when its rounds are done.
 pub const REASON_ROUNDS_DONE: u8 = 1;
 
 /// The greatest reason of a Bye.
 pub const REASON_MOST: u8 = 5;
 
-/// How many bytes each of these takes: a kind, a tag, a flag, a reason, the number of a fault, the length of a
-/// name, a key or an address.
+/// How many bytes a kind, a tag, a flag, a reason and the number of a fault take. The length of a name, of a key or of
+/// an address takes as many.
 pub const BYTE_LENGTH: u64 = 1;
 
-/// How many bytes a count of blocks, entries, pairs or rows takes, and the length of a text.
+/// How many bytes each of these takes: a count of blocks, entries, pairs or rows, and the length of a text.
 pub const COUNT_LENGTH: u64 = 2;
 
-/// How many bytes a version takes, and a weight.
+/// How many bytes each of these takes: a version and a weight.
 pub const NUMBER_LENGTH: u64 = 8;
 
-/// The most bytes that a name takes, with its length.
+/// The most bytes that a name takes, its length included.
 pub const NAME_LENGTH_MOST: u64 = BYTE_LENGTH + NAME_MOST as u64;
 
-/// The most bytes that a key takes, with its length.
+/// The most bytes that a key takes, its length included.
 pub const KEY_LENGTH_MOST: u64 = BYTE_LENGTH + KEY_MOST as u64;
 
-/// The most bytes that a value takes: a text with its length.
+/// The most bytes that a value takes: those of a text, its length included.
 pub const VALUE_LENGTH_MOST: u64 = COUNT_LENGTH + TEXT_MOST as u64;
 
 /// The most bytes that an entry takes: a key, a version, a tag and a value.

@@ -16,7 +16,7 @@ use crate::limits::{
     WORKERS_MOST,
 };
 
-/// Each limit of the directory, as a number.
+/// Each limit of the directory is this number.
 pub fn limits_are_these_numbers()
     ensures name_most { NAME_MOST ≡ 32 }
     ensures key_most { KEY_MOST ≡ 64 }
@@ -35,7 +35,7 @@ pub fn limits_are_these_numbers()
     ensures fault_number_most { FAULT_NUMBER_MOST ≡ 31 }
 {}
 
-/// Each mark, kind, tag and reason of the format, as a number.
+/// Each mark, kind, tag and reason of the format is this number.
 pub fn marks_are_these_numbers()
     ensures frame_mark { FRAME_MARK ≡ 167 }
     ensures frame_version { FRAME_VERSION ≡ 3 }
@@ -57,7 +57,7 @@ pub fn marks_are_these_numbers()
     ensures reason_most { REASON_MOST ≡ 5 }
 {}
 
-/// How many bytes each part of a message takes, as a number.
+/// Each part of a message takes this many bytes.
 pub fn lengths_are_these_numbers()
     ensures header_length { HEADER_LENGTH ≡ 6 }
     ensures byte_length { BYTE_LENGTH ≡ 1 }
@@ -70,15 +70,15 @@ pub fn lengths_are_these_numbers()
     ensures block_head_most { BLOCK_HEAD_MOST ≡ 59 }
 {}
 
-/// No two values have the same words, and a printed value, cut at its first space, is its words. So what
-/// prints a value is read back as that value alone. It has no control byte, so a line with it stays a line.
+/// Different values have different words, and a printed value, cut at its first space, is its two words. So a printed
+/// value is read back as that value alone. It contains no control byte, so a line that contains it stays one line.
 pub fn words_tell_values_apart()
     ensures apart { (a b : values.Value) → values.is_value a ≡ true → values.is_value b ≡ true → values.words_of a ≡ values.words_of b → a ≡ b }
     ensures cut { (a : values.Value) (kind word : List ℕ) → values.is_word kind ≡ true → values.line_of a ≡ kind ++ 32 ∷ word → values.words_of a ≡ (kind, word) }
     ensures line { (a : values.Value) → values.is_value a ≡ true → is_one_line (values.line_of a) ≡ true }
 {}
 
-/// No two texts have the same spelling, of whatever length and bytes they are, and no spelling has a control byte.
+/// Different texts have different spellings, whatever their length and bytes. A spelling contains no control byte.
 pub fn spellings_tell_texts_apart()
     ensures apart { (a b : List ℕ) → printed_text a ≡ printed_text b → a ≡ b }
     ensures line { (text : List ℕ) → is_one_line (printed_text text) ≡ true }

@@ -1,7 +1,7 @@
 //! The values of the directory: names, keys, values, entries, blocks, deltas, settings and faults.
 //!
-//! Each type keeps its limits, so that what exists is within them, and nothing behind has to test it again. Contracts see each
-//! value as plain data: the records of `specs/`.
+//! Each type keeps its limits: a value that exists is within them, so no code above has to test it again. Contracts see
+//! each value as plain data: the records of `specs/`.
 //!
 //! ```rust
 //! /// What an owner wrote under a key, with the version of the write.
@@ -11,6 +11,18 @@
 //!     Ok(Entry::new(key, 1, Slot::Set(value)))
 //! }
 //! ```
+//!
+//! # What no contract refuses
+//!
+//! - `Display` of a `Value` gives up, for instance for a long address. No clause sees that a writer of text refused. A
+//!   test prints the longest address.
+//! - A fault has another text. Tests refuse it.
+//! - `Debug` prints another text. Nothing refuses it.
+//! - `addr`, `text`, `from_words` or `copy` reports `NoMemory` without need, for a valid address or text. Tests run
+//!   each such call with ample memory, and compare exact answers. Clauses refuse it for weights, for flags, and for
+//!   tombstones (the markers of removed keys).
+//! - A vector takes more room than it needs, or a call takes longer than it should. Nothing refuses it; `attrdir_bench`
+//!   measures.
 #![tactic(auto)]
 
 mod block;

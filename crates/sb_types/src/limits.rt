@@ -20,7 +20,7 @@ pub const WEIGHT_MOST: u64 = 9_223_372_036_854_775_807;
 /// The most owners that a node holds, itself included.
 pub const OWNERS_MOST: usize = 1_024;
 
-/// The most keys of one owner, removal markers counted.
+/// The most keys of one owner, tombstones (the markers of removed keys) included.
 pub const KEYS_MOST: usize = 4_096;
 
 /// The most entries of one block.

@@ -10,25 +10,25 @@ use crate::limits::{BUDGET_LEAST, BUDGET_MOST, SEATS_MOST, VERSION_MOST, WORKERS
 use crate::text::Name;
 use std::marker::Model;
 
-/// In which order a delta lists what is available.
+/// The order in which a delta lists what is available.
 #[derive(Clone, Copy, Debug, PartialEq, Eq)]
 pub enum Order {
-    /// The oldest entry of every owner, then the next of every owner, and so on.
+    /// The oldest entry of every owner, then the next entry of every owner, and so on.
     Breadth,
-    /// All of one owner before the next, the owner with most entries first.
+    /// All entries of one owner before the next. The owner with the most entries comes first.
     Depth,
 }
 
-/// Settings as they are given, not yet tested.
+/// Settings as they were given, before any test.
 #[derive(Clone, Copy, Debug)]
 pub struct RawSettings<'a> {
-    /// The cluster's name.
+    /// The cluster's name as unread bytes. A bad name is `BadSetting`, as any other bad setting is.
     pub cluster: &'a [u8],
     /// The greatest length of one frame in bytes, 1,024 to 65,536.
     pub budget: u64,
-    /// In which order a delta lists what is available.
+    /// The order in which a delta lists what is available.
     pub order: Order,
-    /// The greatest version that the owner's log may give, 1 to 2^40 - 1.
+    /// The greatest version that the owner's log may assign, 1 to 2^40 - 1.
     pub max_version: u64,
     /// How many readers a directory has, 1 to 64.
     pub seats: u64,
@@ -69,7 +69,7 @@ fn is_between(least: u64, most: u64, number: u64) -> bool
 }
 
 impl Settings {
-    /// The settings, where each is within its limits. `BadSetting` where one is not.
+    /// Makes settings. Returns `BadSetting` if one of them is outside its limits, the cluster's name included.
     pub fn check(raw: RawSettings) -> Result<Settings, Fault>
         ensures { result ≡ (if are_settings (given raw.entry) then Ok (given raw.entry) else Err Fault.BadSetting) }
     {
@@ -93,7 +93,7 @@ impl Settings {
         })
     }
 
-    /// The cluster's name.
+    /// Returns the cluster's name.
     pub fn cluster(&self) -> Name
         ensures cluster { result ≡ self.now.cluster }
         ensures settings { are_settings self.now ≡ true }
@@ -101,7 +101,7 @@ impl Settings {
         self.cluster
     }
 
-    /// The greatest length of one frame in bytes, 1,024 to 65,536.
+    /// Returns the greatest length of one frame in bytes, 1,024 to 65,536.
     pub fn budget(&self) -> u64
         ensures budget { result ≡ self.now.budget }
         ensures settings { are_settings self.now ≡ true }
@@ -109,7 +109,7 @@ impl Settings {
         self.budget
     }
 
-    /// In which order a delta lists what is available.
+    /// Returns the order in which a delta lists what is available.
     pub fn order(&self) -> Order
         ensures order { result ≡ self.now.order }
         ensures settings { are_settings self.now ≡ true }
@@ -117,7 +117,7 @@ impl Settings {
         self.order
     }
 
-    /// The greatest version that the owner's log may give, 1 to 2^40 - 1.
+    /// Returns the greatest version that the owner's log may assign, 1 to 2^40 - 1.
     pub fn max_version(&self) -> u64
         ensures version { result ≡ self.now.max_version }
         ensures settings { are_settings self.now ≡ true }
@@ -125,7 +125,7 @@ impl Settings {
         self.max_version
     }
 
-    /// How many readers a directory has, 1 to 64.
+    /// Returns how many readers a directory has, 1 to 64.
     pub fn seats(&self) -> u64
         ensures seats { result ≡ self.now.seats }
         ensures settings { are_settings self.now ≡ true }
@@ -133,7 +133,7 @@ impl Settings {
         self.seats
     }
 
-    /// How many connections a node serves at once, 1 to 62.
+    /// Returns how many connections a node serves at once, 1 to 62.
     pub fn workers(&self) -> u64
         ensures workers { result ≡ self.now.workers }
         ensures settings { are_settings self.now ≡ true }

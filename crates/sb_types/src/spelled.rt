@@ -5,8 +5,8 @@ ghost use Rattle.sb_types.specs.Spelling.{is_escaped, printed_char, printed_text
 
 use std::fmt;
 
-/// A text, printed as it is spelled on a line: each of the bytes 00 to 1f, 7f and the backslash as a backslash and two
-/// digits of 0-9 and a-f.
+/// A text, printed in the spelling that it has on a line. Each of the bytes 00 to 1f, 7f and the backslash becomes a
+/// backslash and two digits of 0-9 and a-f.
 #[derive(Drop)]
 pub struct Spelled<'a>(pub &'a str);
 

@@ -37,8 +37,8 @@ fn has_key_bytes(text: &[u8]) -> bool
     text.iter().all(|byte| test_key_byte(*byte))
 }
 
-/// The name of a node, which is also the owner of what it writes, or of a cluster: 1 to 32 of the
-/// bytes `a-z`, `0-9` and `-`. Names are ordered by their bytes.
+/// A name of 1 to 32 of the bytes `a-z`, `0-9` and `-`. It names a cluster, or a node, which is also the owner of the
+/// writes that it makes. Names are ordered by their bytes.
 ///
 /// ```
 /// let name = Name::read(b"node-7")?;
@@ -66,7 +66,7 @@ impl Model for Name {
 }
 
 impl Name {
-    /// Reads a name. `BadName` where the text is not one.
+    /// Reads a name. Returns `BadName` if the text is not a name.
     pub fn read(text: &[u8]) -> Result<Name, Fault>
         ensures { result ≡ (if is_name text.now then Ok text.now else Err Fault.BadName) }
     {
@@ -78,7 +78,7 @@ impl Name {
         })
     }
 
-    /// The bytes of its text.
+    /// Returns the bytes of the name.
     pub fn bytes(&self) -> &[u8]
         ensures text { result.now ≡ self.now }
         ensures name { is_name self.now ≡ true }
@@ -87,8 +87,8 @@ impl Name {
     }
 }
 
-/// What an owner keeps a value under: 1 to 64 of the bytes `a-z`, `0-9`, `.`, `_`, `/` and `-`. Keys
-/// are ordered by their bytes.
+/// A key, under which an owner keeps a value: 1 to 64 of the bytes `a-z`, `0-9`, `.`, `_`, `/` and `-`. Keys are
+/// ordered by their bytes.
 #[derive(Clone, Copy, Debug, PartialEq, Eq, PartialOrd, Ord)]
 pub struct Key {
     text: InlineText<KEY_MOST>,
@@ -108,7 +108,7 @@ impl Model for Key {
 }
 
 impl Key {
-    /// Reads a key. `BadKey` where the text is not one.
+    /// Reads a key. Returns `BadKey` if the text is not a key.
     pub fn read(text: &[u8]) -> Result<Key, Fault>
         ensures { result ≡ (if is_key text.now then Ok text.now else Err Fault.BadKey) }
     {
@@ -120,7 +120,7 @@ impl Key {
         })
     }
 
-    /// The bytes of its text.
+    /// Returns the bytes of the key.
     pub fn bytes(&self) -> &[u8]
         ensures text { result.now ≡ self.now }
         ensures key { is_key self.now ≡ true }
@@ -129,7 +129,7 @@ impl Key {
     }
 }
 
-/// The beginning of keys: 0 to 64 of the bytes of keys.
+/// The beginning of keys: 0 to 64 of the bytes that a key may have. Prefixes are ordered by their bytes.
 #[derive(Clone, Copy, Debug, PartialEq, Eq, PartialOrd, Ord)]
 pub struct Prefix {
     text: InlineText<KEY_MOST>,
@@ -149,7 +149,7 @@ impl Model for Prefix {
 }
 
 impl Prefix {
-    /// Reads a prefix. `BadKey` where the text is not one.
+    /// Reads a prefix. Returns `BadKey` if the text is not a prefix.
     pub fn read(text: &[u8]) -> Result<Prefix, Fault>
         ensures { result ≡ (if is_prefix text.now then Ok text.now else Err Fault.BadKey) }
     {
@@ -161,7 +161,7 @@ impl Prefix {
         })
     }
 
-    /// The bytes of its text.
+    /// Returns the bytes of the prefix.
     pub fn bytes(&self) -> &[u8]
         ensures text { result.now ≡ self.now }
         ensures prefix { is_prefix self.now ≡ true }
@@ -169,7 +169,7 @@ impl Prefix {
         self.text.bytes()
     }
 
-    /// Where the keys begin that do not come before it, for a range of a map by key.
+    /// Returns the bound at which a range of a map by key begins, so that it has just the keys at or after the prefix.
     pub fn start(&self) -> Bound<Key>
         ensures { (key : List ℕ) → is_from_start (slice_cmp nat_cmp) result key ≡ is_le (slice_cmp nat_cmp self.now key) }
     {

@@ -19,7 +19,7 @@ use std::alloc::Global;
 use std::fmt;
 use std::marker::Model;
 
-/// What a value is, with what it holds lent: one variant for each kind.
+/// A view of a value, which borrows its content: one variant for each kind.
 #[derive(Clone, Copy, Debug, PartialEq, Eq)]
 pub enum ValueRef<'a> {
     /// The text of an address.
@@ -38,8 +38,12 @@ enum Content {
     Text(Vec<u8>),
 }
 
-/// What an owner keeps under a key: an address of 1 to 128 printing bytes, a weight below 2^63, a flag, or a text of 1 to
-/// 512 bytes of UTF-8.
+/// What an owner keeps under a key:
+///
+/// - an address of 1 to 128 printing bytes;
+/// - a weight below 2^63;
+/// - a flag;
+/// - a text of 1 to 512 bytes of UTF-8.
 ///
 /// ```
 /// let value = Value::from_words(alloc, b"weight", b"7")?;
@@ -87,10 +91,11 @@ fn test_utf8(text: &[u8]) -> bool
 impl Value {
     ghost use Rattle.sb_types.specs.Content.{lent};
 
-    /// An address. `BadValue` where the text is not one; then `NoMemory`.
+    /// Makes an address. Returns `BadValue` if the text is not an address, without asking for memory. Otherwise it may
+    /// return `NoMemory`.
     pub fn addr(alloc: Global, text: &[u8]) -> Result<Value, Fault>
         ensures exact { Gives result (if is_addr text.now then Ok (values.Addr text.now) else Err Fault.BadValue) }
-        // Text that is no address is told without memory.
+        // Text that is not an address is refused without memory.
         ensures refused { is_addr text.now ≡ false → result ≡ Err Fault.BadValue }
     {
         if text.is_empty() || text.len() > ADDR_MOST || !has_addr_bytes(text) {
@@ -101,7 +106,7 @@ impl Value {
         })
     }
 
-    /// A weight. `BadValue` from 2^63 on.
+    /// Makes a weight. Returns `BadValue` if it is 2^63 or greater. It takes no memory.
     pub fn weight(weight: u64) -> Result<Value, Fault>
         ensures { result ≡ (if values.is_value (values.Weight weight) then Ok (values.Weight weight) else Err Fault.BadValue) }
     {
@@ -113,7 +118,7 @@ impl Value {
         })
     }
 
-    /// A flag. It takes no memory.
+    /// Makes a flag. It takes no memory.
     pub fn flag(flag: bool) -> Value
         ensures { result ≡ values.Flag flag }
     {
@@ -122,10 +127,11 @@ impl Value {
         }
     }
 
-    /// A text. `BadValue` where it is not UTF-8 of 1 to 512 bytes; then `NoMemory`.
+    /// Makes a text. Returns `BadValue` if it is not UTF-8 of 1 to 512 bytes, without asking for memory. Otherwise it
+    /// may return `NoMemory`.
     pub fn text(alloc: Global, text: &[u8]) -> Result<Value, Fault>
         ensures exact { Gives result (if is_text text.now then Ok (values.Text text.now) else Err Fault.BadValue) }
-        // What is no text is told without memory.
+        // What is not a text is refused without memory.
         ensures refused { is_text text.now ≡ false → result ≡ Err Fault.BadValue }
     {
         if text.is_empty() || text.len() > TEXT_MOST || !test_utf8(text) {
@@ -136,10 +142,14 @@ impl Value {
         })
     }
 
-    /// Reads the two words of a value in a script: `addr TEXT`, `weight N`, `flag true|false` or `text SPELLING`, where N
-    /// is decimal, with no sign and no leading zero. The spelling of a text is the text, but that each of the bytes 00 to
-    /// 1f, 7f and the backslash is a backslash and two digits of 0-9 and a-f; it may have spaces. `BadValue` where they
-    /// are another kind or content; then, of an address or a text alone, `NoMemory`.
+    /// Reads the two words of a value in a script: `addr TEXT`, `weight N`, `flag true|false` or `text SPELLING`.
+    ///
+    /// - N is decimal, without sign and without leading zeros.
+    /// - The spelling of a text is the text itself, with a backslash and two digits of 0-9 and a-f in place of each
+    ///   escaped byte. The escaped bytes are 00 to 1f, 7f and the backslash. The spelling may contain spaces.
+    ///
+    /// Returns `BadValue` if the words are not a value in this form. Otherwise it may return `NoMemory`, for an address
+    /// or a text only.
     pub fn from_words(alloc: Global, kind: &[u8], word: &[u8]) -> Result<Value, Fault>
         ensures found { IfOk result (λ value. (values.is_value value ≡ true) × (values.words_of value ≡ (kind.now, word.now))) }
         ensures only { (value : values.Value) → values.is_value value ≡ true → values.words_of value ≡ (kind.now, word.now) → Gives result (Ok value) }
@@ -157,7 +167,7 @@ impl Value {
         }
     }
 
-    /// Which kind it is, and what it holds.
+    /// Returns the kind of the value, and its content.
     pub fn view(&self) -> ValueRef<'_>
         ensures content { lent result ≡ self.now }
         ensures value { values.is_value self.now ≡ true }
@@ -170,7 +180,7 @@ impl Value {
         }
     }
 
-    /// The address, where it is one.
+    /// Returns the address, if the value is one.
     pub fn as_addr(&self) -> Option<&[u8]>
         ensures text { option_copied result ≡ values.addr_of self.now }
         ensures value { values.is_value self.now ≡ true }
@@ -181,7 +191,7 @@ impl Value {
         }
     }
 
-    /// The weight, where it is one.
+    /// Returns the weight, if the value is one.
     pub fn as_weight(&self) -> Option<u64>
         ensures weight { result ≡ values.weight_of self.now }
         ensures value { values.is_value self.now ≡ true }
@@ -192,7 +202,7 @@ impl Value {
         }
     }
 
-    /// The flag, where it is one.
+    /// Returns the flag, if the value is one.
     pub fn as_flag(&self) -> Option<bool>
         ensures flag { result ≡ values.flag_of self.now }
         ensures value { values.is_value self.now ≡ true }
@@ -203,7 +213,7 @@ impl Value {
         }
     }
 
-    /// The bytes of the text, where it is one. They are UTF-8.
+    /// Returns the bytes of the text, if the value is one. They are UTF-8.
     pub fn as_text(&self) -> Option<&[u8]>
         ensures text { option_copied result ≡ values.text_of self.now }
         ensures value { values.is_value self.now ≡ true }
@@ -214,7 +224,7 @@ impl Value {
         }
     }
 
-    /// An equal value. `NoMemory`, of an address or a text alone.
+    /// Returns an equal value. Returns `NoMemory` only if it is an address or a text.
     pub fn copy(&self, alloc: Global) -> Result<Value, Fault>
         ensures copied { Gives result (Ok self.now) }
         // Memory is asked for only to copy an address or a text.
@@ -230,7 +240,7 @@ impl Value {
         })
     }
 
-    /// How many bytes it takes in a message: 1 to 514.
+    /// Returns how many bytes the value takes in a message: 1 to 514.
     pub fn encoded_length(&self) -> u64
         ensures length { result ≡ value_length self.now }
         ensures value { values.is_value self.now ≡ true }
@@ -245,7 +255,7 @@ impl Value {
     }
 }
 
-/// The two words of a value, with a space between: what `from_words` reads.
+/// Prints the two words of the value with a space between them, as `from_words` reads them.
 impl fmt::Display for Value {
     ghost use Rattle.std.specs.Prelude.{Some};
 
@@ -268,7 +278,7 @@ impl fmt::Display for Value {
     }
 }
 
-/// The text of an address, which is ASCII.
+/// Returns the text of an address, which is ASCII.
 fn addr_text(text: &[u8]) -> &str
     requires { is_addr text.now ≡ true }
     ensures { result.now ≡ text.now }
@@ -276,7 +286,7 @@ fn addr_text(text: &[u8]) -> &str
     str::from_utf8(text).unwrap_or("")
 }
 
-/// The text of a text, which is UTF-8.
+/// Returns the text of a text value, which is UTF-8.
 fn utf8_text(text: &[u8]) -> &str
     requires { IsUtf8 text.now }
     ensures { result.now ≡ text.now }
@@ -284,7 +294,7 @@ fn utf8_text(text: &[u8]) -> &str
     str::from_utf8(text).unwrap_or("")
 }
 
-/// The text that a word spells. `BadValue` where it spells none; then `NoMemory`.
+/// Reads the text that a word spells. Returns `BadValue` if it spells no text. Otherwise it may return `NoMemory`.
 #[tactic(auto, using(crate::proofs::TextReading::read_found, crate::proofs::TextReading::read_only, crate::proofs::TextReading::read_fault, crate::proofs::TextReading::read_memory))]
 fn read_text(alloc: Global, word: &[u8]) -> Result<Value, Fault>
     ensures found { IfOk result (λ value. (values.is_value value ≡ true) × (values.words_of value ≡ (codes "text", word.now))) }

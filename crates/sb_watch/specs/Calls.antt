@@ -5,7 +5,7 @@ use Rattle.sb_watch.specs.declared.note.Note.{Note}
 use Rattle.sb_watch.specs.Records.{Hub}
 use Rattle.sb_watch.specs.Hubs.{with_watch, with_push, with_answer, without_watch}
 
--- a call that changes a hub: a watch that was added, a note, a question, and a watch that is dropped
+-- a call that changes a hub: it adds a watch, pushes a note, asks a watch, or drops a watch
 pub data Call : Type 0 where
   adds : Filter → ℕ → Call
   pushes : Note → Call

@@ -21,25 +21,25 @@ is_id id w = w.id == id
 abbrev pub has_watch : Hub → ℕ → Bool
 has_watch hub id = list_any (is_id id) hub.watches
 
--- no further watch may stand, or no id is left that was never used
+-- there is no room for another watch, or no unused id is left
 abbrev pub is_full : Hub → Bool
 is_full hub = nat_le WATCHES_MOST (length hub.watches) || hub.next == 2 ^ 64 - 1
 
--- the id of a watch that is added, or why none is
+-- the id of a watch that is added, or why it cannot be added
 abbrev pub next_id : Hub → ℕ → Result ℕ Fault
 next_id hub capacity =
     if not (is_between 1 RING_MOST capacity) then Err BadSetting
     else (if is_full hub then Err WatchesFull else Ok hub.next)
 
--- the hub with a further watch, whose id no other had or will have
+-- the hub with another watch, whose id no other had or will have
 abbrev pub with_watch : Hub → Filter → ℕ → Hub
 with_watch hub filter capacity = record { watches = hub.watches ++ new_watch hub.next filter capacity ∷ []; next = hub.next + 1 }
 
--- every watch is told of the note
+-- every watch received the note
 abbrev pub with_push : Hub → Note → Hub
 with_push hub note = record { watches = map (told note) hub.watches; next = hub.next }
 
--- the watch with the id, where one stands
+-- the watch of this id, if there is one
 abbrev pub watch_at : Hub → ℕ → Option Watch
 watch_at hub id = find (is_id id) hub.watches
 
@@ -47,19 +47,19 @@ abbrev pub answer_if_found : Option Watch → Result Polled Fault
 answer_if_found None = Err NoWatch
 answer_if_found (Some w) = Ok (answer_of w)
 
--- the answer of the watch with the id
+-- the answer of the watch of this id
 abbrev pub answer_at : Hub → ℕ → Result Polled Fault
 answer_at hub id = answer_if_found (watch_at hub id)
 
--- the watch with the id has answered, and the others are as they were
+-- the watch of this id has answered, and the others are as they were
 abbrev pub with_answer : Hub → ℕ → Hub
 with_answer hub id = record { watches = map (λ w. if is_id id w then answered w else w) hub.watches; next = hub.next }
 
--- the others alone
+-- only the others
 abbrev pub without_watch : Hub → ℕ → Hub
 without_watch hub id = record { watches = filter (λ w. not (is_id id w)) hub.watches; next = hub.next }
 
--- the ids ascend from the least on, and stay below next
+-- the ids ascend from the least on, and are below next
 abbrev pub are_ids : ℕ → ℕ → List ℕ → Bool
 are_ids least next [] = nat_le least next
 are_ids least next (id ∷ ids) = nat_le least id && are_ids (id + 1) next ids
@@ -69,7 +69,7 @@ id_of w = w.id
 
 -- what holds of every hub
 pub record IsHub (hub : Hub) : Type 0 where
-  -- no two watches have the same id, and none the next
+  -- no two watches have the same id, and no watch has the next one
   pub ids : are_ids 0 hub.next (map id_of hub.watches) ≡ true
   pub few : length hub.watches ≤ WATCHES_MOST
 

@@ -1,4 +1,4 @@
--- A watch over a whole run of notes and questions: what it owes, and what it answers of that.
+-- A watch over a whole run of notes and questions: what it owes, and how it answers.
 use Rattle.std.specs.Prelude.{◌≡◌, ◌-◌, ◌<◌, ◌≤◌, if◌then◌else◌, List, [], ◌∷◌, length, drop}
 use Rattle.circular_buffer.specs.Buffer.{keep_last}
 use Rattle.sb_watch.specs.declared.note.Filter.{Filter}
@@ -13,7 +13,7 @@ pub data Deed : Type 0 where
   comes : Note → Deed
   asked : Deed
 
--- the watch after these deeds, one after the other
+-- the watch after these deeds, one after another
 abbrev pub watch_after : List Deed → Watch → Watch
 watch_after [] w = w
 watch_after (comes note ∷ deeds) w = watch_after deeds (told note w)
@@ -31,8 +31,8 @@ came filter [] = []
 came filter (comes note ∷ deeds) = if matches filter note then note ∷ came filter deeds else came filter deeds
 came filter (asked ∷ deeds) = came filter deeds
 
--- The answers account for the notes, up to those that are still owed: each note in its turn is handed out, or is one of
--- so many that are told as lost.
+-- The answers account for the notes, up to those that are still owed. Each note in its turn is handed out, or is among
+-- those reported as lost.
 abbrev pub Account : List Polled → List Note → List Note → Type 0
 Account [] notes owed = notes ≡ owed
 Account (answers.Empty ∷ given) notes owed = Account given notes owed

@@ -11,7 +11,7 @@ pub record Watch : Type 0 where
   pub capacity : ℕ
   -- the notes that were neither handed out nor pushed out, oldest first
   pub notes : List Note
-  -- how many were pushed out since that was last told; 2^64 - 1 for more
+  -- how many were pushed out since that was last reported; 2^64 - 1 if there were more
   pub lost : ℕ
 
 pub record Hub : Type 0 where

@@ -9,7 +9,7 @@ use Rattle.sb_watch.specs.declared.note.Polled.{Polled}
 use Rattle.sb_watch.specs.declared.note.Polled.TheVariants as answers
 use Rattle.sb_watch.specs.Records.{Watch}
 
--- the owner is the wanted one, where one is wanted
+-- the owner is the wanted one, if one is wanted
 abbrev pub is_wanted : Option (List ℕ) → List ℕ → Bool
 is_wanted None owner = true
 is_wanted (Some wanted) owner = pointwise nat_eq wanted owner
@@ -18,21 +18,21 @@ is_wanted (Some wanted) owner = pointwise nat_eq wanted owner
 abbrev pub matches : Filter → Note → Bool
 matches filter note = is_wanted filter.owner note.owner && starts_with nat_eq note.key filter.prefix
 
--- a watch to which no note has come
+-- a watch that received no note yet
 abbrev pub new_watch : ℕ → Filter → ℕ → Watch
 new_watch id filter capacity = record { id = id; filter = filter; capacity = capacity; notes = []; lost = 0 }
 
--- one more is lost where there is no room, up to 2^64 - 1
+-- one more is lost if there is no room, up to 2^64 - 1
 abbrev pub lost_with_one_more : Watch → ℕ
 lost_with_one_more w = if nat_lt (length w.notes) w.capacity then w.lost else min (2 ^ 64 - 1) (w.lost + 1)
 
--- the last notes that there is room for, this one behind the others
+-- the last notes that there is room for, this one after the others
 abbrev pub with_note : Watch → Note → Watch
 with_note w note =
     let notes = keep_last w.capacity (w.notes ++ note ∷ []) in
     record { id = w.id; filter = w.filter; capacity = w.capacity; notes = notes; lost = lost_with_one_more w }
 
--- what a note makes of a watch
+-- the watch after it received a note
 abbrev pub told : Note → Watch → Watch
 told note w = if matches w.filter note then with_note w note else w
 
@@ -40,11 +40,11 @@ abbrev pub oldest : List Note → Polled
 oldest [] = answers.Empty
 oldest (note ∷ notes) = answers.Note note
 
--- what it answers: how many were lost, where that was not told yet, and else the oldest note that is left
+-- what it answers: how many were lost, if it did not report that yet; else the oldest note that is left
 abbrev pub answer_of : Watch → Polled
 answer_of w = if w.lost == 0 then oldest w.notes else answers.Lagged w.lost
 
--- the watch once it has answered: that number is told, or that note is handed out
+-- the watch after it answered: that number was reported, or that note was handed out
 abbrev pub answered : Watch → Watch
 answered w =
     record { id = w.id; filter = w.filter; capacity = w.capacity; notes = if w.lost == 0 then drop 1 w.notes else w.notes; lost = 0 }

@@ -12,8 +12,8 @@ use sb_types::Fault;
 use std::alloc::Global;
 use std::marker::Model;
 
-/// The watches of a node. Each keeps the last notes that its filter matches, as many as its ring has room
-/// for, and counts those that were pushed out.
+/// The watches of a node. Each keeps the last notes that match its filter, as many as its ring has room for. It counts
+/// those that were pushed out.
 ///
 /// ```
 /// let mut hub = Hub::new(alloc);
@@ -43,7 +43,7 @@ impl Model for Hub {
 }
 
 impl Hub {
-    /// A hub without watches. It takes no memory; what it allocates later it allocates by `alloc`.
+    /// Makes a hub without watches. This takes no memory; later calls allocate by `alloc`.
     pub fn new(alloc: Global) -> Hub
         ensures { result ≡ spec.new_hub }
     {
@@ -54,9 +54,12 @@ impl Hub {
         }
     }
 
-    /// Adds a watch with room for 1 to 1,024 notes, and gives its id, which no other watch of this hub had or
-    /// will have. `BadSetting` where the capacity is outside these; `WatchesFull` where 64 watches stand, or all
-    /// ids were used; `NoMemory`. Each of them leaves the hub as it was.
+    /// Adds a watch with room for 1 to 1,024 notes, and returns its id. No other watch of this hub had this id, or will
+    /// have it. Its faults, in this order. Each leaves the hub as it was:
+    ///
+    /// - `BadSetting`: the capacity is not from 1 to 1,024.
+    /// - `WatchesFull`: there are 64 watches, or all ids were used.
+    /// - `NoMemory`.
     pub fn add(&mut self, filter: Filter, capacity: usize) -> Result<WatchId, Fault>
         ensures answer { Gives result (spec.next_id self.old capacity) }
         ensures refused { (fault : Fault) → spec.next_id self.old capacity ≡ Err fault → result ≡ Err fault }
@@ -77,15 +80,16 @@ impl Hub {
         Ok(WatchId::new(id))
     }
 
-    /// Tells every watch of a note; those whose filter matches it keep it, and one whose ring is full loses its
-    /// oldest note. It takes no memory.
+    /// Gives a note to every watch. A watch whose filter matches the note keeps it, and loses its oldest note if its
+    /// ring is full. It takes no memory.
     pub fn push(&mut self, note: &Note)
         ensures { self.new ≡ spec.with_push self.old note.now }
     {
         tell_all(&mut self.watches, note);
     }
 
-    /// Whether a watch with the id stands.
+    /// Returns whether the hub has a watch of this id. With this a directory can answer that there is none before it
+    /// publishes anything.
     pub fn has(&self, id: WatchId) -> bool
         ensures answer { result ≡ spec.has_watch self.now id }
         ensures hub { spec.IsHub self.now }
@@ -93,9 +97,13 @@ impl Hub {
         place_of(&self.watches, id).is_some()
     }
 
-    /// What the watch answers: first how many notes it lost since it last said so, where it lost any; then its
-    /// notes, the oldest first, each once; then that none is left. `NoWatch` where no watch with the id stands,
-    /// which changes nothing. It takes no memory.
+    /// Returns the answer of a watch, which is the first of these that applies:
+    ///
+    /// - `Lagged`: how many notes it lost since it last reported that, if it lost any;
+    /// - `Note`: its oldest note, which it does not hand out again;
+    /// - `Empty`: no note is left.
+    ///
+    /// It takes no memory. Returns `NoWatch` if there is no watch of this id, which changes nothing.
     pub fn take(&mut self, id: WatchId) -> Result<Polled, Fault>
         ensures answer { result ≡ spec.answer_at self.old id }
         ensures left { self.new ≡ spec.with_answer self.old id }
@@ -106,7 +114,8 @@ impl Hub {
         }
     }
 
-    /// Drops a watch with its notes. `NoWatch` where no watch with the id stands, which changes nothing.
+    /// Drops a watch with its notes. Returns `NoWatch` if there is no watch of this id, which changes nothing. It takes
+    /// no memory.
     pub fn drop_watch(&mut self, id: WatchId) -> Result<(), Fault>
         ensures answer { result ≡ (if spec.has_watch self.old id then Ok tt else Err Fault.NoWatch) }
         ensures left { self.new ≡ spec.without_watch self.old id }
@@ -121,7 +130,7 @@ impl Hub {
     }
 }
 
-/// Tells each of the watches of a note.
+/// Gives a note to each of the watches.
 fn tell_all(watches: &mut [Watch], note: &Note)
     ensures { watches.new ≡ map (told note.now) watches.old }
 {
@@ -130,7 +139,7 @@ fn tell_all(watches: &mut [Watch], note: &Note)
     }
 }
 
-/// The place of the watch with the id.
+/// Returns the place of the watch of this id.
 fn place_of(watches: &[Watch], id: WatchId) -> Option<usize>
     ensures { result ≡ position (spec.is_id id) watches.now }
 {

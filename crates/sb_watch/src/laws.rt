@@ -15,24 +15,25 @@ ghost use Rattle.sb_watch.specs.Owed.{Deed, came, answers_after, watch_after, Ac
 
 use crate::limits::{RING_MOST, WATCHES_MOST};
 
-/// Each limit of watches, as a number.
+/// Each limit of watches is this number.
 pub fn limits_are_these_numbers()
     ensures watches_most { WATCHES_MOST ≡ 64 }
     ensures ring_most { RING_MOST ≡ 1024 }
 {}
 
-/// Whatever notes come to a watch, and however often it is asked in between: its answers account for the notes
-/// that it is for, each in its turn handed out or among those that are told as lost, up to those that it still
-/// owes; of these it keeps the last, as many as there is room for, and counts the others. So no note is handed out
-/// twice, or out of turn, or lost in silence. Said of fewer than 2^64 notes.
+/// Any notes may come to a watch, and it may be asked any number of times in between. Its answers account for the notes
+/// that match its filter, up to those that it still owes. Each of these notes was handed out in its turn, or is among
+/// those reported as lost. Of the notes that it owes, the watch keeps the last ones, as many as it has room for, and
+/// counts the others. So no note is handed out twice, or out of turn, or lost in silence. The law covers fewer than
+/// 2^64 notes.
 pub fn answers_account_for_notes()
     ensures { (id capacity : ℕ) (filter : Filter) (deeds : List Deed) → length (came filter deeds) < 2 ^ 64 →
         let watch = new_watch id filter capacity in
         (owed : List Note) × Account (answers_after deeds watch) (came filter deeds) owed × Keeps (watch_after deeds watch) owed }
 {}
 
-/// A test that every note passes that is pushed is passed by every one that is kept, whatever is called, and by every
-/// one that is handed out; and so is one that passes wherever this one does.
+/// Suppose every note that is pushed passes a test. Then every note that is kept or handed out passes it, whatever
+/// calls are made. All these notes also pass every weaker test.
 pub fn notes_keep_what_holds()
     ensures none { (test : Note → Bool) → AllNotes test new_hub }
     ensures pushed { (test : Note → Bool) (hub : Hub) (note : Note) →
@@ -60,14 +61,14 @@ pub fn watches_stand_alone()
     ensures left { (hub : Hub) (id other : ℕ) → other ≢ id → watch_at (without_watch hub id) other ≡ watch_at hub other }
 {}
 
-/// An id that was given, and whose watch was dropped, is never again that of a watch, whatever is called.
+/// If an id was given to a watch and the watch was dropped, no watch ever has that id again, whatever calls are made.
 pub fn ids_are_not_used_again()
     ensures { (calls : List Call) (hub : Hub) (id : ℕ) → id < hub.next →
         has_watch hub id ≡ false → has_watch (hub_after calls hub) id ≡ false }
 {}
 
-/// The greatest number of 64 bits is no id: a hub whose next number is the one before it gives that one, and none any more, whether
-/// its watch stands or was dropped.
+/// The greatest number of 64 bits is not an id. If the next number of a hub is the one before it, the hub still gives
+/// that one. After that it gives no more ids, whether that last watch exists or was dropped.
 pub fn ids_end_with_the_numbers()
     ensures last { next_id (record { watches = []; next = 2 ^ 64 - 2 }) 1 ≡ Ok (2 ^ 64 - 2) }
     ensures full { (filter : Filter) → next_id (with_watch (record { watches = []; next = 2 ^ 64 - 2 }) filter 1) 1 ≡ Err WatchesFull }

@@ -1,7 +1,8 @@
-//! Watches: what a node was told lately, for those who ask.
+//! Watches: the last notes of the writes that a node took, for those who ask.
 //!
-//! A watch has a filter and a ring of notes. It is polled: it wakes nobody. A watch that is polled too late learns how many
-//! notes it lost. The crate stands on `sb_types`; `sb_directory` has a hub and tells it of writes.
+//! A watch has a filter and a ring of notes. It is polled: it wakes nobody. A watch that is polled too late reports how
+//! many notes it lost. The crate uses only `sb_types`. `sb_directory` has a hub, and gives it a note of each write.
+//! `run_node` uses no watches.
 //!
 //! ```rust
 //! /// What a watch of the keys under `net/` answers behind a write of `net/b`.
@@ -18,6 +19,16 @@
 //!     Ok([hub.take(id)?, hub.take(id)?])
 //! }
 //! ```
+//!
+//! # What no contract refuses
+//!
+//! - `Hub::add` reports `NoMemory` without need. Tests run it with ample memory, and once at full size. They compare
+//!   exact answers. `push`, `take` and `drop_watch` cannot: their results have no such case.
+//! - The list of watches takes more room than it needs, or a call takes longer than it should. Nothing refuses it;
+//!   `attrdir_bench` measures.
+//! - `Debug` prints another text. Nothing refuses it.
+//!
+//! The lists of `sb_directory` contain what no contract refuses of its `watch`, `unwatch` and `poll`.
 #![tactic(auto)]
 
 mod hub;

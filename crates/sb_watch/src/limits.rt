@@ -1,6 +1,6 @@
 //! The limits of watches.
 
-/// The most watches that stand at a time.
+/// The most watches of a hub at a time.
 pub const WATCHES_MOST: usize = 64;
 
 /// The most notes that a watch has room for.

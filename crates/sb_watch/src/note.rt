@@ -1,4 +1,4 @@
-//! What watches are told, what they are for, and what they answer.
+//! What watches receive, what they are for, and what they answer.
 
 ghost use Rattle.std.specs.Prelude.{◌≡◌};
 ghost use Rattle.sb_watch.specs.Watches as spec;
@@ -6,8 +6,7 @@ ghost use Rattle.sb_watch.specs.Watches as spec;
 use sb_types::{Key, Name, Prefix};
 use std::marker::Model;
 
-/// What a watch is told of a write: whose it is, under which key, and its version. The value is read
-/// where values are read.
+/// What a watch receives of a write: the owner, the key and the version. The value is read where values are read.
 #[derive(Clone, Copy, Debug, PartialEq, Eq)]
 pub struct Note {
     pub owner: Name,
@@ -15,8 +14,8 @@ pub struct Note {
     pub version: u64,
 }
 
-/// Which notes a watch is for: those of this owner, or of all where none is named, whose keys begin with
-/// the prefix.
+/// Which notes a watch is for: those whose keys begin with the prefix, of this owner, or of all owners if none is
+/// named.
 #[derive(Clone, Copy, Debug)]
 pub struct Filter {
     pub owner: Option<Name>,
@@ -24,7 +23,7 @@ pub struct Filter {
 }
 
 impl Filter {
-    /// Whether a watch with this filter is for the note.
+    /// Returns whether a watch with this filter is for the note.
     pub(crate) fn matches(&self, note: &Note) -> bool
         ensures { result ≡ spec.matches self.now note.now }
     {
@@ -37,10 +36,10 @@ impl Filter {
     }
 }
 
-/// What a watch answers.
+/// The answer of a watch.
 #[derive(Clone, Copy, Debug, PartialEq, Eq)]
 pub enum Polled {
-    /// How many notes were pushed out since this was last told, or 2^64 - 1 for more.
+    /// How many notes were pushed out since this was last reported, or 2^64 - 1 if there were more.
     Lagged(u64),
     /// The oldest note that was neither handed out nor pushed out.
     Note(Note),
@@ -48,7 +47,7 @@ pub enum Polled {
     Empty,
 }
 
-/// Which watch it is. A hub gives each id once.
+/// The id of a watch. A hub gives each id only once.
 #[derive(Clone, Copy, Debug, PartialEq, Eq)]
 pub struct WatchId {
     number: u64,

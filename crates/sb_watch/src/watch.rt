@@ -9,7 +9,7 @@ use sb_types::Fault;
 use std::alloc::Global;
 use std::marker::Model;
 
-/// A watch, whose ring has all its room from the start.
+/// A watch. Its ring has all its room from the start.
 #[derive(Debug, Drop)]
 pub(crate) struct Watch {
     id: u64,
@@ -27,7 +27,7 @@ impl Model for Watch {
 }
 
 impl Watch {
-    /// A watch to which no note has come. `NoMemory`.
+    /// Makes a watch that has no notes. The only fault is `NoMemory`.
     pub(crate) fn new(
         alloc: Global,
         id: u64,
@@ -52,7 +52,7 @@ impl Watch {
         self.id
     }
 
-    /// Takes a note that the filter matches; where the ring is full the oldest one is lost.
+    /// Takes a note if the filter matches it. If the ring is full, the oldest note is lost.
     pub(crate) fn tell(&mut self, note: &Note)
         ensures { self.new ≡ spec.told note.now self.old }
     {
@@ -64,7 +64,8 @@ impl Watch {
         }
     }
 
-    /// How many notes were lost, where that was not told yet, and else the oldest one.
+    /// Returns how many notes were lost, if it did not report that yet; otherwise the oldest note, or that none is
+    /// left.
     pub(crate) fn take(&mut self) -> Polled
         ensures answer { result ≡ spec.answer_of self.old }
         ensures left { self.new ≡ spec.answered self.old }

@@ -6,7 +6,7 @@ ghost use Rattle.sb_codec.specs.Limits.{is_reason};
 use sb_types::{Fault, KIND_BYE, REASON_MOST};
 use std::marker::Model;
 
-/// The end of a session, for a reason from 1 to 5. The reason 1 says that the rounds are done.
+/// The end of a session, with a reason from 1 to 5. Reason 1 means that the rounds are done.
 #[derive(Clone, Copy, Debug)]
 pub struct Bye {
     reason: u8,
@@ -26,7 +26,7 @@ impl Model for Bye {
 }
 
 impl Bye {
-    /// The end for this reason. `Malformed(KIND_BYE)` where the reason is not from 1 to 5.
+    /// Makes the end for this reason. Returns `Malformed(KIND_BYE)` if the reason is not from 1 to 5.
     pub fn new(reason: u8) -> Result<Bye, Fault>
         ensures { result ≡ (if is_reason reason then Ok reason else Err (Fault.Malformed KIND_BYE)) }
     {
@@ -36,7 +36,7 @@ impl Bye {
         Ok(Bye { reason })
     }
 
-    /// Why the session ends, 1 to 5.
+    /// Returns why the session ends, 1 to 5.
     pub fn reason(&self) -> u8
         ensures reason { result ≡ self.now }
         ensures bye { is_reason self.now ≡ true }

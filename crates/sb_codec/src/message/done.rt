@@ -26,7 +26,7 @@ impl Model for Done {
 }
 
 impl Done {
-    /// A write of this version was made. `Malformed(KIND_DONE)` where the version is 0.
+    /// Makes the answer that a write of this version was made. Returns `Malformed(KIND_DONE)` if the version is 0.
     pub fn new(version: u64) -> Result<Done, Fault>
         ensures { result ≡ (if is_version version then Ok version else Err (Fault.Malformed KIND_DONE)) }
     {
@@ -36,7 +36,7 @@ impl Done {
         Ok(Done { version })
     }
 
-    /// The version that the write has.
+    /// Returns the version of the write.
     pub fn version(&self) -> u64
         ensures version { result ≡ self.now }
         ensures done { is_version self.now ≡ true }

@@ -2,7 +2,7 @@
 
 use sb_types::Name;
 
-/// Of which cluster a node is, and its name.
+/// The cluster of a node, and the node's name.
 #[derive(Clone, Copy, Debug)]
 pub struct Hello {
     pub cluster: Name,

@@ -1,4 +1,4 @@
-//! The answer to what was refused.
+//! The answer that something was refused.
 
 ghost use Rattle.std.specs.Prelude.{◌≡◌, true, if◌then◌else◌, Ok, Err};
 ghost use Rattle.sb_types.specs.Faults.{number_of, carried_by};
@@ -7,7 +7,7 @@ ghost use Rattle.sb_codec.specs.Limits.{is_fault_number};
 use sb_types::{FAULT_NUMBER_MOST, Fault, KIND_REFUSED};
 use std::marker::Model;
 
-/// The number, from 1 to 31, of the fault for which something was refused.
+/// The number of the fault for which something was refused, from 1 to 31.
 #[derive(Clone, Copy, Debug)]
 pub struct Refused {
     number: u8,
@@ -27,7 +27,7 @@ impl Model for Refused {
 }
 
 impl Refused {
-    /// A refusal for the fault of this number. `Malformed(KIND_REFUSED)` where no fault has it.
+    /// Makes a refusal for the fault of this number. Returns `Malformed(KIND_REFUSED)` if no fault has the number.
     pub fn new(number: u8) -> Result<Refused, Fault>
         ensures { result ≡ (if is_fault_number number then Ok number else Err (Fault.Malformed KIND_REFUSED)) }
     {
@@ -37,7 +37,7 @@ impl Refused {
         Ok(Refused { number })
     }
 
-    /// The number of the fault, 1 to 31.
+    /// Returns the number of the fault, 1 to 31.
     pub fn number(&self) -> u8
         ensures number { result ≡ self.now }
         ensures refused { is_fault_number self.now ≡ true }
@@ -45,7 +45,8 @@ impl Refused {
         self.number
     }
 
-    /// The fault of this number. What else it carries is 0: a refusal does not tell it.
+    /// Returns the fault of this number. If such a fault carries something else, that is 0 here: a refusal does not
+    /// contain it.
     pub fn fault(&self) -> Fault
         ensures fault { number_of result ≡ self.now }
         ensures bare { carried_by result ≡ 0 }

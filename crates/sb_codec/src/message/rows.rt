@@ -42,13 +42,13 @@ impl Model for Row {
     ghost invariant = { λ r. is_row (row_of r.owner r.key r.version r.value) ≡ true };
 }
 
-/// A page of rows, ascending by owner and then by key, and whether more follow. It may have no row. Its
-/// payload has at most 65,530 bytes.
+/// A page of rows, ascending by owner and then by key, and whether more rows follow. It may have no rows. Its payload
+/// has at most 65,530 bytes.
 #[derive(Debug, Drop)]
 pub struct Rows {
     more: bool,
     rows: Vec<Row>,
-    /// How many bytes its payload takes.
+    /// How many bytes the payload takes.
     length: u64,
 }
 
@@ -67,7 +67,7 @@ impl Model for Rows {
     ghost invariant = { λ r. (is_page (rows_of r.more r.rows.items) ≡ true) × (r.length ≡ rows_length r.rows.items) };
 }
 
-/// Whether each row is behind the one before, by owner and then by key.
+/// Returns whether each row is after the one before it, by owner and then by key.
 fn are_rows_ascending(rows: &[Row]) -> bool
     ensures { result ≡ are_rows_above [] [] rows.now }
 {
@@ -85,7 +85,7 @@ fn are_rows_ascending(rows: &[Row]) -> bool
     true
 }
 
-/// How many bytes the payload of these rows takes, where that is within the limit.
+/// Returns how many bytes the payload of these rows takes, if that is within the limit.
 fn length_within(rows: &[Row]) -> Option<u64>
     ensures length { result ≡ (if nat_le (rows_length rows.now) PAYLOAD_MOST then Some (rows_length rows.now) else None) }
     ensures each { OnSome result (list_all is_row rows.now ≡ true) }
@@ -101,15 +101,15 @@ fn length_within(rows: &[Row]) -> Option<u64>
 }
 
 impl Row {
-    /// A row of these parts. `Malformed(KIND_ROWS)`, the value dropped, where the version is 0. It takes no
-    /// memory.
+    /// Makes a row of these parts. If the version is 0, it drops the value and returns `Malformed(KIND_ROWS)`. It takes
+    /// no memory.
     pub fn new(owner: Name, key: Key, version: u64, value: Value) -> Result<Row, Fault>
         ensures { result ≡ (if is_version version then Ok (row_of owner key version value) else Err (Fault.Malformed KIND_ROWS)) }
     {
         if version == 0 {
             return Err(Fault::Malformed(KIND_ROWS));
         }
-        // Does nothing: the calls tell the prover that the parts keep their limits.
+        // Proof only: the calls show that the parts keep their limits.
         let _ = owner.bytes();
         let _ = key.bytes();
         let _ = value.encoded_length();
@@ -121,7 +121,7 @@ impl Row {
         })
     }
 
-    /// Whose row it is.
+    /// Returns whose row it is.
     pub fn owner(&self) -> &Name
         ensures owner { result.now ≡ self.now.owner }
         ensures row { is_row self.now ≡ true }
@@ -129,7 +129,7 @@ impl Row {
         &self.owner
     }
 
-    /// What the value stands under.
+    /// Returns the key of the value.
     pub fn key(&self) -> &Key
         ensures key { result.now ≡ self.now.key }
         ensures row { is_row self.now ≡ true }
@@ -137,7 +137,7 @@ impl Row {
         &self.key
     }
 
-    /// The version of the write, at least 1.
+    /// Returns the version of the write, at least 1.
     pub fn version(&self) -> u64
         ensures version { result ≡ self.now.version }
         ensures row { is_row self.now ≡ true }
@@ -145,7 +145,7 @@ impl Row {
         self.version
     }
 
-    /// What was written.
+    /// Returns the value that was written.
     pub fn value(&self) -> &Value
         ensures value { result.now ≡ self.now.value }
         ensures row { is_row self.now ≡ true }
@@ -153,7 +153,7 @@ impl Row {
         &self.value
     }
 
-    /// How many bytes it takes in a message: 14 to 236.
+    /// Returns how many bytes the row takes in a message: 14 to 621.
     pub fn encoded_length(&self) -> u64
         ensures length { result ≡ row_length self.now }
         ensures row { is_row self.now ≡ true }
@@ -166,9 +166,11 @@ impl Row {
 }
 
 impl Rows {
-    /// A page of these rows. `Malformed(KIND_ROWS)`, the rows dropped, where a row's owner and key are not
-    /// behind those of the one before, or where the payload would have more than 65,530 bytes. It takes
-    /// no memory.
+    /// Makes a page of these rows. It takes no memory. If a limit is broken, it drops the rows and returns
+    /// `Malformed(KIND_ROWS)`:
+    ///
+    /// - a row's owner and key are not after those of the row before it;
+    /// - the payload would have more than 65,530 bytes.
     pub fn new(more: bool, rows: Vec<Row>) -> Result<Rows, Fault>
         ensures { result ≡ (if are_page_rows rows.items then Ok (rows_of more rows.items) else Err (Fault.Malformed KIND_ROWS)) }
     {
@@ -181,7 +183,7 @@ impl Rows {
         Ok(Rows { more, rows, length })
     }
 
-    /// Whether more rows follow than the page has.
+    /// Returns whether more rows follow after this page.
     pub fn more(&self) -> bool
         ensures more { result ≡ self.now.more }
         ensures page { is_page self.now ≡ true }
@@ -189,7 +191,7 @@ impl Rows {
         self.more
     }
 
-    /// The rows, ascending by owner and then by key.
+    /// Returns the rows, ascending by owner and then by key.
     pub fn rows(&self) -> &[Row]
         ensures rows { result.now ≡ self.now.rows }
         ensures page { is_page self.now ≡ true }
@@ -197,7 +199,7 @@ impl Rows {
         &self.rows
     }
 
-    /// How many bytes its payload takes: 4 to 65,530.
+    /// Returns how many bytes the payload takes: 4 to 65,530.
     pub fn encoded_length(&self) -> u64
         ensures length { result ≡ rows_length self.now.rows }
         ensures page { is_page self.now ≡ true }
