@@ -24,8 +24,8 @@ use Rattle.sb_world.specs.declared.event.Answer.TheVariants as answers
 use Rattle.sb_world.specs.Hearing.{Heard}
 use Rattle.sb_world.specs.Places.{Place}
 
--- what an event adds to the history: nothing, a write of the node's owner, events of the node, bytes that came and what was heard of them,
--- or that the node opened again, with a content of this floor
+-- What an event adds to the history: nothing, a write of the node's owner, events of the node, or bytes that came and what was heard of
+-- them. Or it adds that the node opened again, with a content of this floor.
 pub data Effect : Type 0 where
   rests : Effect
   logs : Write → Effect
@@ -99,7 +99,8 @@ crash_turn p effect log = record {
   frames = [];
 }
 
--- the node goes down before its log is asked, or after that, and keeps nothing of what the log answered; missing memory is no crash
+-- The node goes down before its log is asked, or after that, and keeps nothing of what the log answered. If memory is missing, it does not
+-- crash.
 abbrev pub Crashes : Place → List ℕ → Slot → Bool → Turn → Type 0
 Crashes p key slot false turn = turn ≡ crash_turn p rests p.log
 Crashes p key slot true turn =

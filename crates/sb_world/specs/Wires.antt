@@ -58,8 +58,8 @@ wires_by event answer effect sent wires = wires
 
 -- ---- what is true of it
 
--- what came is the frames of the messages that were taken, and then a rest; with what is left to come it is the frames that were lined up,
--- and each of them was sent
+-- What came is the frames of the messages that were taken, and then a rest. With what is left to come it is the frames that were lined up,
+-- and each of them was sent.
 pub record IsHistory (sent : List (List ℕ)) (w : Wire) (rest left : List ℕ) : Type 0 where
   pub sent_all : (bytes : List ℕ) → Stands w.lined bytes → Stands sent bytes
   pub taken : w.came ≡ flat_map frame w.taken ++ rest
