@@ -20,7 +20,9 @@ use sb_types::{Fault, Name};
 use std::alloc::Global;
 use std::marker::Model;
 
-/// A connection of a node: its session, what came from its queue and was not taken yet, and what is still to come.
+/// A connection of a node: its session, what came from its queue and was not taken yet, and what is still to come. The
+/// queue is a buffer of `bytes`, which drops a piece in front without moving the rest. So a piece costs only as much as
+/// its own bytes.
 #[derive(Drop)]
 pub(crate) struct Connection {
     number: u64,
