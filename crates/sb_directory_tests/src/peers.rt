@@ -54,7 +54,7 @@ fn talk_on<L: Ledger, H: Handler>(
     (got(rt, ended), writer.bytes.as_slice() == SAID_BY_B)
 }
 
-/// How a session of a node b ends with a peer a whose bytes come in such pieces, and whether the peer hears the right
+/// How a session of a node b ends with a peer a whose bytes come in such pieces. Then whether the peer hears the right
 /// answer.
 pub(crate) fn talk<H: Handler>(
     rt: &impl Abort,

@@ -171,7 +171,7 @@ fn run_from<S: DirectoryTag + Send + Sync, R: Wait + Threads + Abort + Sync + Se
     seen
 }
 
-/// The versions up to which the reader was shown a and b at last, whether all that it saw was right, and how many
+/// The versions up to which the reader was shown a and b at last, and whether all that it saw was right. Then how many
 /// events there were.
 type Beside = ([u64; 2], bool, u64);
 

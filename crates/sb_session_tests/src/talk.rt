@@ -219,8 +219,8 @@ const DIALED: Course<'static> = Course {
     ended: Ended::RoundsDone,
 };
 
-/// What comes of a talk: how it ends, whether its last write is reported as failed, whether exactly the pieces were
-/// written up to the room, and how many bytes.
+/// What comes of a talk: how it ends, and whether its last write is reported as failed. Then whether exactly the pieces
+/// were written up to the room, and how many bytes.
 type Outcome = (Result<Ended, Fault>, bool, bool, usize);
 
 /// What comes of a talk of a node that must write these pieces.
@@ -476,8 +476,8 @@ fn writers_and_readers_fail(rt: HostRuntime) {
     dialing_fails(&rt, rt.alloc(), &DIALED);
 }
 
-/// How a talk ends for a node that wrote nothing, whether it wrote exactly these pieces, how many bytes, and how far it
-/// then holds another owner.
+/// How a talk ends for a node that wrote nothing, and whether it wrote exactly these pieces. Then how many bytes it
+/// wrote, and how far it holds another owner.
 type Learned = (Result<Ended, Fault>, bool, usize, u64);
 
 /// What a new node of this name learns of the owner.
