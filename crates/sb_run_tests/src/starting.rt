@@ -29,8 +29,8 @@ fn log_of_two(rt: &impl Abort, alloc: Global) -> PlainLog {
     log
 }
 
-/// How far b holds a after a first session, and whether the owner's write is then done as the third. Then how far b
-/// holds a after a second session.
+/// How far b holds a after a first session. Then whether the owner's write is done as the third, and how far b holds a
+/// after a second session.
 fn hear_twice<R: Net + Abort>(
     rt: &R,
     alloc: Global,

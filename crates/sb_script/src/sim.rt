@@ -44,7 +44,7 @@ pub enum Detail {
 }
 
 impl Ending {
-    /// The exit status of the program for this ending.
+    /// The exit status of the program for this ending: 0 for `Whole`, 2 for `WrongLine`, 3 for `NoWorld`.
     pub fn status(self) -> u8
         ensures { result ≡ status_of self }
     {
@@ -60,7 +60,7 @@ impl Ending {
 ///
 /// The faults of lines are printed. The run itself ends at its first fault:
 ///
-/// - `NoMemory`.
+/// - `NoMemory` if memory is missing.
 /// - `TurnsSpent` if the script takes more reads than `max_reads`.
 /// - `ReadFailed` if a read failed.
 /// - `WriteFailed`, with the number of bytes that the output's writer took.

@@ -201,7 +201,8 @@ impl<L: WriteLog> World<L> {
     ///
     /// What a fault leaves:
     ///
-    /// - After a restart: the node is down, no write waits, and the node has no connection.
+    /// - After a restart: the node is down, no write waits, and the node has no connection. `StoreFailed` and
+    ///   `LogDamaged` also close its log.
     /// - After `StoreFailed` from a commit or a purge: the log is closed.
     /// - After every other fault: everything as it was.
     pub fn step(&mut self, event: &Event) -> Result<Answer, Fault>
