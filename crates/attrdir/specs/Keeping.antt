@@ -1,4 +1,4 @@
--- Which rows a watch keeps while its node is away.
+-- Which rows a watch keeps if it outlasts its node.
 use Rattle.std.specs.Prelude.{Bool, ◌&&◌, nat_eq, nat_le, nat_lt, if◌then◌else◌, List, [], ◌∷◌}
 use Rattle.std.specs.List.{list_any}
 use Rattle.std.specs.Cmp.Lexicographic.{pointwise}

@@ -1,4 +1,4 @@
-//! The rows that a watch keeps while its node is away: a row stays unless the node knows better.
+//! The rows that a watch keeps if it outlasts its node: a row stays unless the node knows better.
 ghost use Rattle.std.specs.Prelude.{◌≡◌, ◌++◌, List, OnOk, IfOk, IfErr};
 ghost use Rattle.sb_codec.specs.Records as records;
 ghost use Rattle.sb_listing.specs.Changes as changes;

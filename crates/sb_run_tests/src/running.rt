@@ -205,7 +205,7 @@ fn an_empty_path_is_refused(rt: HostRuntime) {
     refuses_empty(&rt, rt.alloc(), "empty.sock", "", "empty.sock");
 }
 
-/// Runs a node. If it does not dial so often, connections made here stand in for its dials, so that the player does not
+/// Runs a node. If it does not dial so often, connections made here replace its dials, so that the player does not
 /// wait.
 fn run_and_reach<R: Host + Net<Listener = TcpListener, Stream = TcpStream>>(
     rt: &R,
