@@ -1,5 +1,5 @@
-//! The calls of the layers that are measured: only its own call is timed of each, since the time is read before the units are
-//! counted and before what the call gave is dropped.
+//! The measured calls of the layers. Only the call itself is timed: the time is read before the units are counted, and
+//! before the result is dropped.
 use crate::problem::Problem;
 use crate::report::{Measured, spent_since};
 use crate::sample::{holdings_of, no_holdings};
@@ -17,29 +17,29 @@ use std::time::CpuClock;
 /// A call that is measured.
 #[derive(Clone, Copy, Debug, PartialEq, Eq)]
 pub(crate) enum Call {
-    /// The blocks entered where nothing is held, by the entry.
+    /// Entering the blocks into holdings that are empty, by the entry.
     Apply,
-    /// The digest of all that is held, by the owner.
+    /// Making the digest of all that is held, by the owner.
     Digest,
-    /// What a peer that holds nothing lacks, by the entry.
+    /// Listing what a peer that holds nothing lacks, by the entry.
     Available,
-    /// The order of what such a peer lacks, by the entry.
+    /// Ordering what such a peer lacks, by the entry.
     Breadth,
     Depth,
-    /// The longest front of it within the greatest budget, by the entry that it has.
+    /// Cutting its longest prefix within the greatest budget, by the entry of that prefix.
     Cut,
-    /// The frame of that budget for such a peer, made without a list of the rest.
+    /// Making the delta of that budget for such a peer, without a list of the rest.
     DeltaBreadth,
     DeltaDepth,
-    /// The payload of the greatest delta made, by the entry.
+    /// Making the payload of the greatest delta, by the entry.
     Encode,
-    /// That payload read, by the entry.
+    /// Reading that payload, by the entry.
     Decode,
-    /// The frame of that delta read from a stream in pieces, by the entry.
+    /// Reading the frame of that delta from a stream in pieces, by the entry.
     Frames,
 }
 
-/// How many entries were taken of a block that ended so.
+/// How many entries were taken of a block with this end.
 pub(crate) fn taken(end: BlockEnd) -> u64 {
     match end {
         BlockEnd::Taken(count) | BlockEnd::TooManyKeys(count) | BlockEnd::NoMemory(count) => count,
@@ -47,7 +47,7 @@ pub(crate) fn taken(end: BlockEnd) -> u64 {
     }
 }
 
-/// Enters the blocks, and answers how many entries were taken.
+/// Enters the blocks. Returns how many entries were taken.
 pub(crate) fn enter_all(holdings: &mut Holdings, blocks: &[Block]) -> u64 {
     let mut entries: u64 = 0;
     for block in blocks {
@@ -64,7 +64,7 @@ fn entries_in(delta: &Delta) -> u64 {
     entries
 }
 
-/// The bytes of each piece that a stream comes in.
+/// The number of bytes in each piece of a stream.
 const PIECE_LENGTH: usize = 1024;
 
 /// Feeds the frame in pieces, and takes out what is whole.
@@ -76,8 +76,8 @@ fn read_pieces(stream: &mut Frames, frame: &[u8]) -> Result<(), Fault> {
     Ok(())
 }
 
-/// What the calls are given: what a node holds of blocks, the digest of a peer that holds nothing, and the greatest delta
-/// for it, with the number of its entries, its payload, its frame and the stream that this comes in.
+/// What the calls take: what a node holds, the digest of a peer that holds nothing, and the greatest delta for that
+/// peer. With the delta come the number of its entries, its payload, its frame, and the stream that the frame comes in.
 #[derive(Drop)]
 pub(crate) struct CallInputs<'a> {
     blocks: &'a [Block],
@@ -184,7 +184,7 @@ impl<'a> CallInputs<'a> {
         }
     }
 
-    /// So many times this call, behind one that is not counted: it pays for what was let go of before.
+    /// Measures this call so many times, after one that does not count: that one pays for what was dropped before.
     pub(crate) fn measure(
         &mut self,
         rt: &HostRuntime,

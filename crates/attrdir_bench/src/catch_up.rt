@@ -14,8 +14,8 @@ use sb_types::{Block, Delta, Fault};
 use std::alloc::Global;
 use std::time::CpuClock;
 
-/// How long the catching up took by the entry, and what went over the pipes: how many frames, their bytes, and the
-/// bytes of the entries in them.
+/// How long the catching up took, by the entry, and what went over the pipes: frames, their bytes, and the bytes of
+/// their entries.
 #[derive(Clone, Copy, Debug)]
 pub(crate) struct CatchUpFigures {
     pub(crate) entries: Measured,
@@ -94,7 +94,7 @@ impl End {
         let bytes = from.len();
         self.frames.feed(from)?;
         from.clear();
-        // No message is without a byte.
+        // Each message has at least one byte.
         for _ in 0..bytes {
             let Some(message) = self.frames.next()? else {
                 break;
@@ -106,7 +106,7 @@ impl End {
     }
 }
 
-/// A node that heard these blocks.
+/// Makes a node that heard these blocks.
 fn full_node(alloc: Global, blocks: &[Block]) -> Result<NodeCore, Fault> {
     let mut node = new_node(alloc, b"peer")?;
     for block in blocks {
@@ -153,7 +153,7 @@ impl Talk {
         self.serves.greet(&mut self.back)
     }
 
-    /// What the one asks for, and the other sends; whether it brought anything.
+    /// One exchange: one end asks, and the other sends. Returns whether it brought anything.
     fn round(&mut self, core: &mut NodeCore, full: &mut NodeCore) -> Result<bool, Fault> {
         let before = self.asks.entered;
         self.asks.ask(core, &mut self.there)?;
@@ -172,8 +172,8 @@ impl Talk {
     }
 }
 
-/// A fresh node asks until a round brings it nothing more of so many entries, and answers how many entries, frames and
-/// bytes went over.
+/// Makes a new node that asks until an exchange brings it nothing more of the `all` entries. Returns how many entries,
+/// frames and bytes went over the pipes.
 fn catch_up(alloc: Global, full: &mut NodeCore, all: u64) -> Result<(u64, u64, u64), Fault> {
     let mut core = new_node(alloc, ME)?;
     let mut talk = Talk::new(alloc, &core, full);
@@ -186,7 +186,7 @@ fn catch_up(alloc: Global, full: &mut NodeCore, all: u64) -> Result<(u64, u64, u
     Ok(talk.went())
 }
 
-/// A node that holds nothing caught up with one that holds these blocks, in one session.
+/// Measures how a node that holds nothing catches up with one that holds these blocks, in one session.
 pub(crate) fn measure(
     rt: &HostRuntime,
     plan: Plan,

@@ -1,4 +1,4 @@
-//! The command line of the program, and what it does by it but for measuring readers.
+//! The command line of the program, and what the program does for it, except measuring readers.
 use crate::layers;
 use crate::plan::{Plan, SMALL_LAYERS, SMALL_READERS, Telling};
 use crate::problem::Problem;
@@ -30,16 +30,16 @@ readers at once beside a writer, that of a look-up in one of them, and how many 
 Example:
   $ attrdir_bench readers 1023 1024 4";
 
-/// What is left to do behind the command line.
+/// What is left to do after the command line was read.
 #[derive(Clone, Copy)]
 pub(crate) enum Next {
     /// Nothing: the exit status.
     Ended(u8),
-    /// Readers are to be measured, which is for `main`: nothing else may start threads.
+    /// Measure readers. That is for `main`, since nothing else may start threads.
     Readers(Plan),
 }
 
-/// The exit status of a command line that is wrong.
+/// The exit status of a wrong command line.
 const USAGE_STATUS: u8 = 2;
 
 fn owners<'a>(alloc: Global) -> Arg<'a> {
@@ -105,7 +105,7 @@ fn command<'a>(alloc: Global) -> Result<Command<'a>, AllocError> {
         .subcommand(smoke_command(alloc))
 }
 
-/// What a command line that has all numbers says.
+/// The plan of a command line that has all numbers.
 fn plan_of(given: &ArgMatches<'_>) -> Plan {
     Plan {
         owners: given.get_one("OWNERS").unwrap_or(1),
@@ -115,7 +115,7 @@ fn plan_of(given: &ArgMatches<'_>) -> Plan {
     }
 }
 
-/// Does what a command line says that is one, but for measuring readers.
+/// Runs a command line that is well formed, except that it does not measure readers.
 fn carry_out(rt: &HostRuntime, matches: &ArgMatches<'_>) -> Result<Next, Problem> {
     match matches.subcommand() {
         Some(("layers", given)) => {
@@ -131,7 +131,7 @@ fn carry_out(rt: &HostRuntime, matches: &ArgMatches<'_>) -> Result<Next, Problem
     }
 }
 
-/// Prints why a command line is refused, or the help that it asks for, and answers the exit status.
+/// Prints why a command line is refused, or the help that it asks for. Returns the exit status.
 fn refuse(rt: &HostRuntime, error: &clap::Error) -> Result<u8, Problem> {
     if error.kind() == ErrorKind::OutOfMemory {
         return Err(AllocError.into());
@@ -144,7 +144,7 @@ fn words(rt: &HostRuntime) -> Result<Vec<String>, Problem> {
     Ok(env::args(rt)?.collect(rt.alloc())?)
 }
 
-/// Does what the command line says, but for measuring readers.
+/// Runs the command line, except that it does not measure readers.
 pub(crate) fn follow(rt: &HostRuntime) -> Result<Next, Problem> {
     let words = words(rt)?;
     match command(rt.alloc())?.try_get_matches_from(words.as_slice()) {

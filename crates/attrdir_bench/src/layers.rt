@@ -7,11 +7,14 @@ use crate::sample::{Kinds, blocks};
 use crate::{catch_up, logs, memory, staging};
 use sb_types::Block;
 
-/// A line: its name, the call that it tells of, and the unit that this is told by.
+/// A line: its name, the call that it is about, and the unit that it counts by.
 type Line = (&'static str, Call, &'static str);
 
-/// How a node takes blocks and tells how far it holds them; how a delta is made, step by step with a list of all that is
-/// lacking and without it; and how it becomes bytes and is read of them.
+/// The lines of a delta's way:
+///
+/// - A node takes blocks and makes its digest.
+/// - A delta is made, first step by step from a list of all that is lacking, and then without the list.
+/// - The delta becomes bytes, and is read from them.
 const LINES: [Line; 11] = [
     ("apply", Call::Apply, "entry"),
     ("digest", Call::Digest, "owner"),
@@ -26,7 +29,7 @@ const LINES: [Line; 11] = [
     ("frames", Call::Frames, "entry"),
 ];
 
-/// How a delta of texts alone becomes bytes, and is read of them.
+/// How a delta of texts alone becomes bytes, and is read from them.
 const LINES_OF_TEXTS: [Line; 2] = [
     ("encode-texts", Call::Encode, "entry"),
     ("decode-texts", Call::Decode, "entry"),
@@ -52,7 +55,7 @@ fn measure_texts(rt: &HostRuntime, plan: Plan) -> Result<(), Problem> {
     measure_lines(rt, plan, &blocks, &LINES_OF_TEXTS)
 }
 
-/// How a node catches up with a peer.
+/// Measures how a node catches up with a peer.
 fn measure_session(rt: &HostRuntime, plan: Plan, blocks: &[Block]) -> Result<(), Problem> {
     let caught = catch_up::measure(rt, plan, blocks)?;
     tell(rt, plan.telling, Ok(caught.entries), "catch-up", "entry")?;
@@ -61,7 +64,7 @@ fn measure_session(rt: &HostRuntime, plan: Plan, blocks: &[Block]) -> Result<(),
     tell_count(rt, "catch-up-content", caught.content, "byte")
 }
 
-/// Measures each layer and prints its lines, and those of a log in this file, where one is given.
+/// Measures each layer and prints its lines. If a file is given, it also measures a log in that file.
 pub(crate) fn measure(rt: &HostRuntime, plan: Plan, log: Option<&str>) -> Result<(), Problem> {
     memory::hold(rt, plan)?;
     let blocks = blocks(rt.alloc(), plan.owners, plan.keys, Kinds::Short)?;

@@ -1,4 +1,4 @@
-//! The owner's log, measured: writes in memory and in a file, and the opening of a file.
+//! Measures of the owner's log: writes in memory and in a file, and the opening of a file.
 use crate::plan::{Plan, Telling};
 use crate::problem::Problem;
 use crate::report::{Measured, spent_since, tell};
@@ -10,7 +10,7 @@ use std::fs;
 use std::io::Write;
 use std::time::{CpuClock, Duration, Instant};
 
-/// The bytes of a page, which a bare write is compared with.
+/// The bytes of a page, for a bare write to compare with.
 const PAGE: [u8; 4096] = [0; 4096];
 
 /// Writes weights under the keys in turn.
@@ -23,7 +23,7 @@ fn put_all<L: WriteLog>(rt: &HostRuntime, log: &mut L, puts: u64) -> Result<(), 
     Ok(())
 }
 
-/// Writes into a log in memory, by the write: the time of the processor.
+/// Measures writes into a log in memory, by the write. It takes the time of the processor.
 fn put_in_memory(rt: &HostRuntime, puts: u64) -> Result<Measured, Problem> {
     let mut log = new_log(rt.alloc())?;
     let start = rt.thread_cpu_time()?;
@@ -38,7 +38,8 @@ fn log_in<S: Alter + Drop>(rt: &HostRuntime, conn: Connection<S>) -> Result<SqlL
     }
 }
 
-/// Writes into a log, by the write: the time that passed, for each waits until the disk has it.
+/// Measures writes into a log, by the write. It takes the time that passed, since each write waits until the disk has
+/// it.
 fn put_in<S: Alter + Drop>(
     rt: &HostRuntime,
     conn: Connection<S>,
@@ -52,7 +53,7 @@ fn put_in<S: Alter + Drop>(
     Ok(Measured::new(spent, puts))
 }
 
-/// The opening of a log, begun at `start`, by the key that it has: the time of the processor.
+/// Measures the opening of a log, begun at `start`, by the key that the log has. It takes the time of the processor.
 fn open_in<S: Alter + Drop>(
     rt: &HostRuntime,
     conn: Connection<S>,
@@ -65,14 +66,14 @@ fn open_in<S: Alter + Drop>(
     Ok(Measured::new(spent, keys))
 }
 
-/// What is measured of a log in a file: so many writes, or its opening, begun at this time.
+/// What is measured for a log in a file: so many writes, or its opening, begun at this time.
 #[derive(Clone, Copy)]
 enum LogCall {
     Put(u64),
     Open(Duration),
 }
 
-/// Measures a log in a database, whatever store this is over.
+/// Measures a log in a database, over any store.
 fn measure_in<S: Alter + Drop>(
     rt: &HostRuntime,
     conn: Connection<S>,
@@ -84,8 +85,8 @@ fn measure_in<S: Alter + Drop>(
     }
 }
 
-/// Measures a log in the database in the file, which is made where it is not there. It is the one place that names the store: each
-/// function that does is dear to prove.
+/// Measures a log in the database in the file, which it makes if it does not exist. This is the one place that names
+/// the store: a function that names it is slow to prove.
 fn measure_at(rt: &HostRuntime, path: &str, call: LogCall) -> Result<Measured, Problem> {
     match Connection::open(rt, path) {
         Ok(conn) => measure_in(rt, conn, call),
@@ -93,7 +94,7 @@ fn measure_at(rt: &HostRuntime, path: &str, call: LogCall) -> Result<Measured, P
     }
 }
 
-/// Pages written to a file, each of which waits until the disk has it: the time that passed.
+/// Measures pages written to a file. It takes the time that passed, since each waits until the disk has it.
 fn write_pages(rt: &HostRuntime, path: &str, pages: u64) -> Result<Measured, Problem> {
     let mut file = fs::File::create(rt, path)?;
     let start = Instant::now(rt)?;
@@ -104,7 +105,7 @@ fn write_pages(rt: &HostRuntime, path: &str, pages: u64) -> Result<Measured, Pro
     Ok(Measured::new(start.elapsed(rt)?, pages))
 }
 
-/// Measures a log in a new file at the path, beside bare writes to another, which both stay.
+/// Measures a log in a new file at the path, and bare writes to another file. Both files stay.
 fn measure_file(rt: &HostRuntime, telling: Telling, path: &str, puts: u64) -> Result<(), Problem> {
     let bare = format!(in rt.alloc(); "{path}.bare")?;
     let written = write_pages(rt, bare.as_str(), puts);
@@ -116,7 +117,8 @@ fn measure_file(rt: &HostRuntime, telling: Telling, path: &str, puts: u64) -> Re
     tell(rt, telling, opened, "open", "key")
 }
 
-/// How a log takes writes, each of the keys once a round, and how it opens where a file is given.
+/// Measures how a log takes writes, in each round one under each key. If a file is given, it also measures how the log
+/// opens.
 pub(crate) fn measure(rt: &HostRuntime, plan: Plan, path: Option<&str>) -> Result<(), Problem> {
     let puts = plan.keys.saturating_mul(plan.rounds);
     let put = put_in_memory(rt, puts);

@@ -1,4 +1,9 @@
-//! How long each layer of the directory takes, and how fast threads read it beside a writer.
+//! Measures how long each layer of the directory takes, and how fast threads read it beside a writer.
+//!
+//! # What no contract refuses
+//!
+//! No function of this program has an `ensures`, so every body that is safe and ends would be proved. What the program
+//! prints is tested.
 #![tactic(auto)]
 
 mod calls;

@@ -11,7 +11,7 @@ use std::fs;
 /// The bytes of a page of memory.
 const PAGE: u64 = 4096;
 
-/// The second number of a line, which is how many pages of a process are resident; 0 where there is none.
+/// The second number of a line, which is how many pages of a process are resident. It is 0 if the line has none.
 fn second_number(line: &str) -> u64 {
     match line.split(' ').nth(1) {
         Some(word) => word.parse::<u64>().unwrap_or(0),
@@ -25,7 +25,7 @@ fn resident(rt: &HostRuntime) -> Result<u64, Problem> {
     Ok(second_number(line.as_str()).saturating_mul(PAGE))
 }
 
-/// What a node holds of a block of each owner, with no block beside it.
+/// What a node holds after it took a block of each owner, and dropped the block.
 fn lone_holdings(alloc: Global, plan: Plan) -> Result<Holdings, Fault> {
     let mut holdings = no_holdings(alloc)?;
     for owner in 0..plan.owners {
@@ -34,8 +34,8 @@ fn lone_holdings(alloc: Global, plan: Plan) -> Result<Holdings, Fault> {
     Ok(holdings)
 }
 
-/// Prints the resident bytes of each entry that a node holds, with nothing beside it. It has to come first: what was measured before
-/// leaves memory that is resident and free.
+/// Prints the resident bytes of each entry that a node holds, with nothing else in memory. It has to run first: what
+/// was measured before leaves memory that is resident and free.
 pub(crate) fn hold(rt: &HostRuntime, plan: Plan) -> Result<(), Problem> {
     let entries = plan.owners.saturating_mul(plan.keys);
     let before = resident(rt)?;

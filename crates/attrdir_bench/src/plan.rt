@@ -1,14 +1,13 @@
-//! What a run measures with.
+//! With what a run measures.
 
-/// What the lines tell: the time that each unit took, or how many units there were, which is the same in
-/// every run.
+/// What the lines print: the time that each unit took, or the number of units, which is the same in every run.
 #[derive(Clone, Copy, Debug, PartialEq, Eq)]
 pub(crate) enum Telling {
     Times,
     Counts,
 }
 
-/// How many owners are held, how many keys each has, how often each call is measured, and what the lines tell.
+/// How many owners are held, how many keys each has, how often each call is measured, and what the lines print.
 #[derive(Clone, Copy, Debug)]
 pub(crate) struct Plan {
     pub(crate) owners: u64,

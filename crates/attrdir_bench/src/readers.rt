@@ -1,4 +1,4 @@
-//! Readers of a directory beside a writer, measured, and how soon a write is shown.
+//! Measures readers of a directory beside a writer, and how soon a write is shown.
 ghost use Rattle.std.specs.Prelude.{◌≡◌};
 
 use crate::plan::{Plan, Telling};
@@ -20,21 +20,21 @@ use std::thread;
 use std::thread::Threads;
 use std::time::{Clock, CpuClock, Instant};
 
-/// How many seats there are: three readers' and the writer's.
+/// How many seats there are: those of three readers, and that of the writer.
 const SEATS: usize = 4;
 
 /// The most readers that read at once.
 const READERS_MOST: usize = 3;
 
-/// What readers are given: what to look up, and how often.
+/// What a reader does: what it looks up, and how often.
 #[derive(Clone, Copy)]
 struct Task<'a> {
     asked: &'a [Question],
     rounds: u64,
 }
 
-/// What readers did beside a writer: the reads by the time that passed, the same by the time that each of their threads
-/// ran, and the writes meanwhile.
+/// What readers did beside a writer: reads by the time that passed, reads by the time that their threads ran, and the
+/// writes meanwhile.
 #[derive(Clone, Copy, Debug)]
 struct ConcurrentFigures {
     readers: u64,
@@ -80,7 +80,7 @@ impl Figures {
     }
 }
 
-/// What is left after a measuring: the writer, the seats, and what was measured.
+/// What is left after a measurement: the writer, the seats, and what was measured.
 #[derive(Drop)]
 struct MeasuringEnd<S: NodeTag> {
     writer: Writer<S>,
@@ -102,7 +102,7 @@ fn take_some<S: NodeTag>(
     Ok(some)
 }
 
-/// Each reader in a thread of its own.
+/// Runs each reader in a thread of its own.
 fn read_all<S: DirectoryTag + Send + Sync, R: Threads + CpuClock + Sync>(
     rt: &R,
     seats: Vec<ReaderSeat<S>>,
@@ -115,7 +115,7 @@ fn read_all<S: DirectoryTag + Send + Sync, R: Threads + CpuClock + Sync>(
     )
 }
 
-/// What the readers found, and their seats put back.
+/// Adds up what the readers found, and puts their seats back.
 fn add_up<S: NodeTag>(
     read: Vec<Result<ReadingEnd<S>, Problem>>,
     seats: &mut Vec<ReaderSeat<S>>,
@@ -131,7 +131,7 @@ fn add_up<S: NodeTag>(
 
 type WritingEnd<S> = (Writer<S>, Result<(), Fault>);
 
-/// Readers beside a writer, and the time until the last of them has read.
+/// Runs readers beside a writer. Returns the time until the last of them has read.
 fn run_beside<S: DirectoryTag + Send + Sync, R: Threads + Wait + Clock + CpuClock + Sync + Send>(
     rt: &R,
     directory: &Directory<S, &R>,
@@ -158,7 +158,7 @@ fn run_beside<S: DirectoryTag + Send + Sync, R: Threads + Wait + Clock + CpuCloc
     )
 }
 
-/// These readers beside the writer.
+/// Measures these readers beside the writer.
 fn measure_beside<
     S: DirectoryTag + Send + Sync,
     R: Threads + Wait + Clock + CpuClock + Sync + Send,
@@ -192,7 +192,7 @@ fn measure_beside<
     })
 }
 
-/// One reader, two and three beside the writer.
+/// Measures one reader, two and three beside the writer.
 fn measure_readers<
     S: DirectoryTag + Send + Sync,
     R: Threads + Wait + Clock + CpuClock + Sync + Send,
@@ -218,7 +218,7 @@ fn measure_readers<
     Ok(beside)
 }
 
-/// All that is measured from these seats.
+/// Measures all figures from these seats.
 fn measure_from<S: DirectoryTag + Send + Sync, R: Threads + Wait + Clock + CpuClock + Sync + Send>(
     rt: &R,
     alloc: Global,
@@ -265,7 +265,7 @@ fn measure_node<S: DirectoryTag + Send + Sync, R: Threads + Wait + Clock + CpuCl
     measure_from(rt, alloc, &directory, seats, plan)
 }
 
-/// A node that heard a block of each owner, and wrote nothing.
+/// Makes a node that heard a block of each owner, and wrote nothing.
 fn full_node(alloc: Global, plan: Plan) -> Result<NodeCore, Fault> {
     let mut node = new_node(alloc, ME)?;
     for owner in 0..plan.owners {

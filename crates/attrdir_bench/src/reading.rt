@@ -37,14 +37,14 @@ pub(crate) fn questions(alloc: Global, plan: Plan) -> Result<Vec<Question>, Faul
     Ok(questions)
 }
 
-/// A reader that has read: its seat, and how many it found in the time that its thread ran.
+/// A reader that has read: its seat, and how many rows it found in the time that its thread ran.
 #[derive(Drop)]
 pub(crate) struct ReadingEnd<S: NodeTag> {
     pub(crate) seat: ReaderSeat<S>,
     pub(crate) found: Measured,
 }
 
-/// Enters, looks a key up and leaves; says whether it was found.
+/// Enters, looks up a key and leaves. Returns whether the key was found.
 fn get<S: NodeTag>(seat: ReaderSeat<S>, asked: &Question) -> (ReaderSeat<S>, bool) {
     match seat.enter() {
         Ok(entered) => {
@@ -55,7 +55,7 @@ fn get<S: NodeTag>(seat: ReaderSeat<S>, asked: &Question) -> (ReaderSeat<S>, boo
     }
 }
 
-/// Looks up all of these so many times, and gives how often a key was found.
+/// Looks up all of these so many times. Returns how often a key was found.
 fn get_all<S: NodeTag>(
     seat: ReaderSeat<S>,
     asked: &[Question],
@@ -73,7 +73,7 @@ fn get_all<S: NodeTag>(
     (seat, found)
 }
 
-/// Goes through rows, and gives how many there were.
+/// Goes through rows. Returns how many there were.
 fn count_rows(rows: LiveRows<'_>) -> u64 {
     let mut count: u64 = 0;
     for _row in rows {
@@ -82,7 +82,7 @@ fn count_rows(rows: LiveRows<'_>) -> u64 {
     count
 }
 
-/// Enters, goes through the rows of a prefix and leaves; gives how many there were.
+/// Enters, goes through the rows of a prefix and leaves. Returns how many there were.
 fn list<S: NodeTag>(seat: ReaderSeat<S>, asked: &Question) -> (ReaderSeat<S>, u64) {
     match seat.enter() {
         Ok(entered) => {
@@ -93,7 +93,7 @@ fn list<S: NodeTag>(seat: ReaderSeat<S>, asked: &Question) -> (ReaderSeat<S>, u6
     }
 }
 
-/// Goes through the rows of each of these prefixes, and gives how many there were.
+/// Goes through the rows of each of these prefixes. Returns how many there were.
 fn list_all<S: NodeTag>(seat: ReaderSeat<S>, asked: &[Question]) -> (ReaderSeat<S>, u64) {
     let mut seat = seat;
     let mut rows: u64 = 0;

@@ -11,7 +11,7 @@ pub(crate) fn spent_since<R: CpuClock>(rt: &R, start: Duration) -> io::Result<Du
     Ok(rt.thread_cpu_time()?.saturating_sub(start))
 }
 
-/// How long something took, and of how many units.
+/// How long something took, and how many units it had.
 #[derive(Clone, Copy, Debug)]
 pub(crate) struct Measured {
     spent: Duration,
@@ -34,24 +34,24 @@ impl Measured {
         self.units
     }
 
-    /// Adds what was measured beside it.
+    /// Adds another measurement.
     pub(crate) fn add(&mut self, other: Measured) {
         self.spent = self.spent.saturating_add(other.spent);
         self.units = self.units.saturating_add(other.units);
     }
 
-    /// The time of a unit.
+    /// The time of a unit, in nanoseconds.
     pub(crate) fn nanos(&self) -> u128 {
         self.spent.as_nanos() / u128::from(self.units.max(1))
     }
 
-    /// The units of a second.
+    /// The number of units in a second.
     pub(crate) fn rate(&self) -> u128 {
         u128::from(self.units).saturating_mul(NANOS_IN_SECOND) / self.spent.as_nanos().max(1)
     }
 }
 
-/// Prints a line of how many units there were.
+/// Prints a line with the number of units.
 pub(crate) fn tell_count<R: Print>(
     rt: &R,
     name: &str,
@@ -61,7 +61,7 @@ pub(crate) fn tell_count<R: Print>(
     Ok(println!(rt; "{name} {count} {unit}")?)
 }
 
-/// Prints a line of what was measured, unless that failed.
+/// Prints a line with what was measured, unless that failed.
 pub(crate) fn tell<R: Print>(
     rt: &R,
     telling: Telling,

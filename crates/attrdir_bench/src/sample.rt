@@ -14,10 +14,10 @@ const CLUSTER: &[u8] = b"bench";
 /// The node that is measured.
 pub(crate) const ME: &[u8] = b"node";
 
-/// How many keys stand under a prefix.
+/// How many keys are under a prefix.
 pub(crate) const KEYS_OF_PREFIX: u64 = 16;
 
-/// How many entries a delta has by which a node is filled.
+/// How many entries each delta has that fills a node.
 const ENTRIES_AT_ONCE: usize = 1_000;
 
 /// The name of the node that is measured.
@@ -41,7 +41,7 @@ pub(crate) fn key_at(alloc: Global, index: u64) -> Result<Key, Fault> {
     Key::read(format!(in alloc; "grp-{group:03}/attr-{place:02}x")?.as_bytes())
 }
 
-/// What is written: no text, texts alone, or half and half.
+/// Which values are written: none that is a text, texts alone, or half and half.
 #[derive(Clone, Copy, Debug, PartialEq, Eq)]
 pub(crate) enum Kinds {
     Short,
@@ -70,7 +70,7 @@ fn short_at(alloc: Global, index: u64) -> Result<Value, Fault> {
     }
 }
 
-/// A value of these kinds.
+/// A value of one of these kinds.
 pub(crate) fn value_at(alloc: Global, kinds: Kinds, index: u64) -> Result<Value, Fault> {
     match kinds {
         Kinds::Short => short_at(alloc, index),
@@ -79,7 +79,7 @@ pub(crate) fn value_at(alloc: Global, kinds: Kinds, index: u64) -> Result<Value,
     }
 }
 
-/// Which key an owner writes in its turn: each once, and not in their order, as after some life.
+/// Which key an owner writes in this turn: each key once, and not in their order, as in a log of some age.
 fn scattered(owner: u64, turn: u64, keys: u64) -> u64 {
     if keys % 37 == 0 {
         return turn;
@@ -88,7 +88,7 @@ fn scattered(owner: u64, turn: u64, keys: u64) -> u64 {
     at.checked_rem(keys).unwrap_or(0)
 }
 
-/// An owner's writes behind a version, one under each of its keys.
+/// An owner's writes after a version, one under each of its keys.
 fn entries_of(
     alloc: Global,
     owner: u64,
@@ -106,7 +106,7 @@ fn entries_of(
     Ok(entries)
 }
 
-/// The same, of values that are no texts.
+/// The same, with values that are not texts.
 pub(crate) fn later_entries(
     alloc: Global,
     owner: u64,
@@ -136,7 +136,7 @@ pub(crate) fn blocks(
     Ok(blocks)
 }
 
-/// What a node holds that has written nothing and heard nothing.
+/// What a node holds before it has written or heard anything.
 pub(crate) fn no_holdings(alloc: Global) -> Result<Holdings, Fault> {
     Holdings::new(alloc, me()?, Table::new(alloc))
 }
@@ -150,7 +150,7 @@ pub(crate) fn holdings_of(alloc: Global, blocks: &[Block]) -> Result<Holdings, F
     Ok(holdings)
 }
 
-/// A node of this name that has written nothing and heard nothing.
+/// A node of this name, before it has written or heard anything.
 pub(crate) fn new_node(alloc: Global, name: &[u8]) -> Result<NodeCore, Fault> {
     let settings = Settings::check(RawSettings {
         cluster: CLUSTER,
@@ -175,7 +175,7 @@ fn delta_of(alloc: Global, owner: Name, after: u64, entries: &[Entry]) -> Result
     Delta::new(vec![in alloc; Block::new(owner, 0, after, upto, copies)?]?)
 }
 
-/// Has a node hear a block, in deltas that are not too long.
+/// Makes a node hear a block, in deltas of a limited length.
 pub(crate) fn hear(alloc: Global, node: &mut NodeCore, block: &Block) -> Result<(), Fault> {
     for entries in block.entries().chunks(ENTRIES_AT_ONCE) {
         let after = node.upto(block.owner());

@@ -1,4 +1,5 @@
-//! A table of which all was written again, as a node takes it that holds the former one: plain, and by a stage, as behind a purge.
+//! Measures how a node takes a table in which every key was written again, if it holds the former table. It takes the
+//! later table plainly, and by a stage as after a purge.
 use crate::calls::enter_all;
 use crate::plan::Plan;
 use crate::problem::Problem;
@@ -9,8 +10,8 @@ use sb_types::{Block, Entry, Fault};
 use std::alloc::Global;
 use std::time::CpuClock;
 
-/// What a node holds, and how the later tables come: in a block each, or below a floor in two, of which the last one has
-/// one entry and ends the stage.
+/// What a node holds, and how the later tables come. They come in one block each, or below a floor in two blocks. The
+/// last of the two has one entry and ends the stage.
 #[derive(Drop)]
 struct Later {
     former: Vec<Block>,
@@ -43,7 +44,7 @@ impl Later {
         Ok(later)
     }
 
-    /// Adds the blocks of an owner that wrote under each of so many keys twice.
+    /// Adds the blocks of an owner that wrote twice under each of so many keys.
     fn add(&mut self, alloc: Global, owner: u64, keys: u64) -> Result<(), Fault> {
         let name = owner_at(alloc, owner)?;
         let upto = keys.saturating_mul(2);
@@ -77,7 +78,7 @@ impl Later {
         Ok(Measured::new(spent, staged.saturating_add(ended)))
     }
 
-    /// The last block alone: the stage takes the place of what is shown. Each brings one entry.
+    /// Measures the last block alone, by which the stage replaces the shown table. Each block brings one entry.
     fn swap(&self, rt: &HostRuntime) -> Result<Measured, Problem> {
         let mut holdings = self.held(rt.alloc())?;
         enter_all(&mut holdings, &self.staged);
@@ -87,7 +88,7 @@ impl Later {
     }
 }
 
-/// Measures how such tables are taken, by the entry, and how a stage ends, by the owner, and prints that.
+/// Measures how such tables are taken, by the entry, and how a stage ends, by the owner. Prints both.
 pub(crate) fn measure(rt: &HostRuntime, plan: Plan) -> Result<(), Problem> {
     let later = Later::new(rt.alloc(), plan)?;
     let (mut plain, mut staged, mut swaps) = (

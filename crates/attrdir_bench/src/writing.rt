@@ -18,10 +18,10 @@ const PAUSE: u64 = 1;
 /// The most writes beside readers.
 const WRITES_MOST: u64 = 1_000_000;
 
-/// How many keys the writes go to in turn.
+/// How many keys the writes use in turn.
 const OWN_KEYS: u64 = 99;
 
-/// A seat and the log whose writes are entered from it.
+/// A seat, and the log whose writes are entered from it.
 #[derive(Drop)]
 pub(crate) struct Writer<S: NodeTag> {
     seat: ReaderSeat<S>,
@@ -53,7 +53,7 @@ impl<S: DirectoryTag> Writer<S> {
         Ok(committed)
     }
 
-    /// Commits a write and enters it; says whether it is shown.
+    /// Commits a write and enters it. Returns whether it is shown.
     fn write<R: Wait + Drop, Q: Wait>(
         &mut self,
         rt: &Q,
@@ -64,7 +64,7 @@ impl<S: DirectoryTag> Writer<S> {
         Ok(receipt.shown)
     }
 
-    /// How long entering a committed write takes until it is shown, for so many.
+    /// Measures how long entering a committed write takes until it is shown, for so many writes.
     pub(crate) fn time_writes<R: Wait + Drop, Q: Wait + CpuClock>(
         &mut self,
         rt: &Q,
@@ -81,7 +81,7 @@ impl<S: DirectoryTag> Writer<S> {
         Ok(shown)
     }
 
-    /// Writes each millisecond until it is told to stop.
+    /// Writes each millisecond until the flag stops it.
     pub(crate) fn write_until<R: Wait + Drop, Q: Wait + Clock>(
         &mut self,
         rt: &Q,

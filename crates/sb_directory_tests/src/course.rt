@@ -1,4 +1,4 @@
-//! What a desk goes through: plain calls, or first one that may find no memory.
+//! What happens at a desk: plain calls, or first a call that may find no memory.
 ghost use Rattle.std.specs.Prelude.{◌≡◌};
 
 use crate::desk::{Answer, Call, Case, Desk, play};
@@ -16,46 +16,46 @@ use std::process::Abort;
 use std::sync::Wait;
 use std::sync::ledger::Blank;
 
-/// Nothing happened yet, as far as the reader sees.
+/// What the reader sees before anything happened.
 const NOTHING: Answer = Answer::Read(0, 0, 0);
 
 pub(crate) const TAKE_OF_B: Call = Call::Delta(b"b", 0, b"y");
 
 pub(crate) const TAKEN: Answer = Answer::Ended(BlockEnd::Taken(1));
 
-/// What the desk of a node goes through that was just opened.
+/// What happens at the desk of a node that was just opened.
 #[derive(Clone, Copy)]
 pub(crate) enum Course<'a> {
-    /// These calls, which are answered so.
+    /// These calls, with these answers.
     Calls(&'a [Case]),
-    /// A write of which some allocation may be refused, and then these calls.
+    /// A write with some allocation possibly refused, and then these calls.
     LateWrite(&'a [Case]),
-    /// A delta of which some allocation may be refused, which is shown at last.
+    /// A delta with some allocation possibly refused, which is shown at last.
     LateDelta,
 }
 
-/// A write of which some allocation may be refused, and what makes up for it.
+/// Makes a write with some allocation possibly refused, and what makes up for it.
 fn write_late<S: DirectoryTag, H: Wait + Drop, R: Wait + Abort>(rt: &R, desk: &mut Desk<S, H>) {
     match desk.perform(rt, Call::Take) {
-        // Everything is as it was, and the same write is taken then.
+        // Everything is as before, and then the same write is taken.
         Answer::Refused(Fault::NoMemory) => play(
             rt,
             desk,
             &[(Call::Read, NOTHING), (Call::Take, Answer::Shown)],
         ),
-        // It is entered, and the reader sees what it saw.
+        // It is entered, and the reader sees what it saw before.
         Answer::NotShown => play(rt, desk, &[(Call::Read, NOTHING)]),
         _ => play(rt, desk, &[(Call::Read, Answer::Read(1, 1, 0))]),
     }
 }
 
-/// A delta of which some allocation may be refused, and what makes up for it: how many events that makes.
+/// Takes a delta with some allocation possibly refused, and what makes up for it. Returns how many events that makes.
 fn take_late<S: DirectoryTag, H: Wait + Drop, R: Wait + Abort>(
     rt: &R,
     desk: &mut Desk<S, H>,
 ) -> u64 {
     match desk.perform(rt, TAKE_OF_B) {
-        // Everything is as it was.
+        // Everything is as before.
         Answer::Refused(Fault::NoMemory) => {
             play(rt, desk, &[(Call::Read, NOTHING), (TAKE_OF_B, TAKEN)]);
             1
@@ -69,7 +69,7 @@ fn take_late<S: DirectoryTag, H: Wait + Drop, R: Wait + Abort>(
             );
             2
         }
-        // It is entered, and the reader sees what it saw.
+        // It is entered, and the reader sees what it saw before.
         Answer::NotShown => {
             play(rt, desk, &[(Call::Read, NOTHING)]);
             1
@@ -78,7 +78,7 @@ fn take_late<S: DirectoryTag, H: Wait + Drop, R: Wait + Abort>(
     }
 }
 
-/// The desk of a node that did nothing yet is watched, writes, and then answers these calls so.
+/// Watches the desk of a node that did nothing yet, makes it write, and then tests the answers to these calls.
 fn play_late<S: DirectoryTag, H: Wait + Drop, R: Wait + Abort>(
     rt: &R,
     desk: &mut Desk<S, H>,
@@ -93,7 +93,7 @@ fn play_late<S: DirectoryTag, H: Wait + Drop, R: Wait + Abort>(
     play(rt, desk, cases);
 }
 
-/// A desk takes a delta, and shows it at last.
+/// Tests that a desk takes a delta, and shows it at last.
 fn show_late<S: DirectoryTag, H: Wait + Drop, R: Wait + Abort>(rt: &R, desk: &mut Desk<S, H>) {
     let events = take_late(rt, desk);
     let after = [
@@ -151,17 +151,17 @@ fn go_seated<S: DirectoryTag, R: Wait + Abort>(
     go(rt, node, run);
 }
 
-/// This node goes through this, by itself.
+/// Runs this with this node, by itself.
 pub(crate) fn run_bare<R: Wait + Abort>(rt: &R, core: NodeCore, run: Run<'_>) {
     go_bare::<Brand, _>(rt, NewHistory::new(), core, run);
 }
 
-/// This node goes through this, from the one seat of its directory.
+/// Runs this with this node, from the one seat of its directory.
 pub(crate) fn run_seated<R: Wait + Abort>(rt: &R, core: NodeCore, run: Run<'_>) {
     go_seated::<Brand, _>(rt, NewHistory::new(), Blank::new(1), core, run);
 }
 
-/// A course of a node that wrote nothing.
+/// A course for a node that wrote nothing.
 pub(crate) fn new_run<'a>(rt: &impl Abort, alloc: Global, course: Course<'a>) -> Run<'a> {
     Run {
         log: log_of(rt, alloc, b"a"),
@@ -170,13 +170,13 @@ pub(crate) fn new_run<'a>(rt: &impl Abort, alloc: Global, course: Course<'a>) ->
     }
 }
 
-/// A new node goes through this, by itself.
+/// Runs this course with a new node, by itself.
 pub(crate) fn run_new<R: Wait + Abort>(rt: &R, alloc: Global, course: Course<'_>) {
     let run = new_run(rt, alloc, course);
     run_bare(rt, new_node(rt, alloc), run);
 }
 
-/// A new node goes through this, from the one seat of its directory.
+/// Runs this course with a new node, from the one seat of its directory.
 pub(crate) fn run_new_seated<R: Wait + Abort>(rt: &R, alloc: Global, course: Course<'_>) {
     let run = new_run(rt, alloc, course);
     run_seated(rt, new_node(rt, alloc), run);

@@ -1,4 +1,4 @@
-//! A node with its log and watches beside it; and calls of it as data, with what they answer.
+//! A node, with its log and watches. Its calls as data, with what they answer.
 
 use crate::making::{commit, delta_of, delta_with_floor, first_of, key, name, node_of, prefix};
 use crate::reached::Reach;
@@ -17,20 +17,20 @@ use std::sync::Wait;
 /// A call of the node a.
 #[derive(Clone, Copy)]
 pub(crate) enum Call {
-    /// The log's next write, under a key, is committed and taken.
+    /// The log's next write, under this key, is committed and taken.
     Write(&'static [u8]),
-    /// It is committed alone.
+    /// The log's next write is committed, and not taken.
     Commit(&'static [u8]),
     /// The write that was committed last is taken.
     Take,
     /// The first write of b is taken.
     TakeOfAnother,
-    /// A delta of one block is taken: what an owner wrote under these letters, from the version behind the number on.
+    /// A delta of one block is taken: what an owner wrote under these letters, from the version after the number on.
     Delta(&'static [u8], u64, &'static [u8]),
-    /// A delta of one block of b is taken, of this floor: what b wrote under these letters, from its first version on, up to
-    /// the second number.
+    /// A delta of one block of b with this floor is taken. It has what b wrote under these letters, from its first
+    /// version on, up to the second number.
     Floor(u64, u64, &'static [u8]),
-    /// What b gives for the node's own digest is taken; b has two writes of a.
+    /// The delta of b for the node's own digest is taken. b has two writes of a.
     DeltaOfPeer,
     /// A watch of the keys with a prefix is added, with room for so many notes.
     Watch(&'static [u8], usize),
@@ -38,7 +38,7 @@ pub(crate) enum Call {
     Watches(usize),
     /// The watch that was added at this place is dropped.
     Unwatch(usize),
-    /// It is polled.
+    /// The watch that was added at this place is polled.
     Poll(usize),
     Refresh,
     Conflict,
@@ -46,7 +46,7 @@ pub(crate) enum Call {
     Keys,
     /// The reader enters, and leaves.
     Read,
-    /// It counts the rows of b.
+    /// The reader counts the rows of b.
     Rows,
     /// A digest of all owners is made, and the delta for a peer that holds nothing.
     Tell,
@@ -58,9 +58,9 @@ pub(crate) enum Answer {
     Done,
     /// What happened is shown.
     Shown,
-    /// The block ended so, and what happened is shown.
+    /// The block ended in this way, and what happened is shown.
     Ended(BlockEnd),
-    /// What happened is not shown, for want of memory.
+    /// What happened is not shown, because memory was missing.
     NotShown,
     Polled(Polled),
     Conflict(Option<u64>),
@@ -68,7 +68,7 @@ pub(crate) enum Answer {
     /// How many events the reader has seen, and how far a and b are held.
     Read(u64, u64, u64),
     Rows(usize),
-    /// How far the digest tells that a and b are held, and how many blocks the delta has.
+    /// How far the digest reports that a and b are held, and how many blocks the delta has.
     Told(u64, u64, usize),
     Refused(Fault),
 }
@@ -83,7 +83,7 @@ pub(crate) struct Desk<S: DirectoryTag, H: Wait + Drop> {
     alloc: Global,
 }
 
-/// A watch gives this note.
+/// The answer if a watch gives this note.
 pub(crate) fn noted(rt: &impl Abort, owner: &[u8], text: &[u8], version: u64) -> Answer {
     Answer::Polled(Polled::Note(Note {
         owner: name(rt, owner),
@@ -92,12 +92,12 @@ pub(crate) fn noted(rt: &impl Abort, owner: &[u8], text: &[u8], version: u64) ->
     }))
 }
 
-/// The answer of a call that shows.
+/// The answer to a call that shows what happened.
 fn shown(is_shown: bool, answer: Answer) -> Answer {
     if is_shown { answer } else { Answer::NotShown }
 }
 
-/// The answer of a call that enters a write, and shows.
+/// The answer to a call that enters a write and shows it.
 fn entered(entered: Result<bool, Fault>) -> Answer {
     match entered {
         Ok(is_shown) => shown(is_shown, Answer::Shown),
@@ -113,7 +113,7 @@ fn ended(rt: &impl Abort, ends: &Report) -> Answer {
     }
 }
 
-/// A watch of all owners.
+/// A filter for all owners.
 fn filter_of(rt: &impl Abort, text: &[u8]) -> Filter {
     Filter {
         owner: None,
@@ -126,7 +126,7 @@ fn nothing(rt: &impl Abort, alloc: Global) -> Digest {
     got(rt, Digest::new(false, None, None, Vec::new(alloc)))
 }
 
-/// What a node b that has two writes of a gives for this digest.
+/// The delta for this digest from a node b that has two writes of a.
 fn delta_of_peer(rt: &impl Abort, alloc: Global, digest: &Digest) -> Delta {
     let mut peer = node_of(rt, alloc, b"b", Table::new(alloc));
     let report = got(rt, peer.apply(&delta_of(rt, alloc, b"a", 0, b"xy")));
@@ -151,7 +151,7 @@ impl<S: DirectoryTag, H: Wait + Drop> Desk<S, H> {
         }
     }
 
-    /// What a call answers, or why it is refused.
+    /// Makes a call. Returns what it answers, or why it is refused.
     pub(crate) fn perform<Q: Wait + Abort>(&mut self, rt: &Q, call: Call) -> Answer {
         match call {
             Call::Write(text) => self.write(rt, text),
@@ -282,7 +282,7 @@ impl<S: DirectoryTag, H: Wait + Drop> Desk<S, H> {
         Answer::Told(of_a, of_b, self.blocks_for_nothing(rt))
     }
 
-    /// How far the digest of all owners tells that a and b are held.
+    /// How far the digest of all owners reports that a and b are held.
     fn told<Q: Wait + Abort>(&mut self, rt: &Q) -> (u64, u64) {
         let digest = got(rt, self.node.digest(rt, true));
         (
@@ -298,7 +298,7 @@ impl<S: DirectoryTag, H: Wait + Drop> Desk<S, H> {
     }
 }
 
-/// Ends the test where memory was wanting for a call, for a block, or to show what happened.
+/// Ends the test if memory was missing for a call, for a block, or to show what happened.
 fn has_memory(rt: &impl Abort, answer: Answer) {
     match answer {
         Answer::NotShown
@@ -311,7 +311,7 @@ fn has_memory(rt: &impl Abort, answer: Answer) {
 /// A call, and what it answers.
 pub(crate) type Case = (Call, Answer);
 
-/// These calls are answered so, one after the other.
+/// Tests that these calls have these answers, one after another.
 pub(crate) fn play<S: DirectoryTag, H: Wait + Drop, R: Wait + Abort>(
     rt: &R,
     desk: &mut Desk<S, H>,

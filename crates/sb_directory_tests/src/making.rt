@@ -40,7 +40,7 @@ fn settings(rt: &impl Abort) -> Settings {
     got(rt, Settings::check(raw))
 }
 
-/// A node of the cluster c1, whose own table is this.
+/// A node of the cluster c1 with this own table.
 pub(crate) fn node_of(rt: &impl Abort, alloc: Global, me: &[u8], table: Table) -> NodeCore {
     got(rt, NodeCore::open(alloc, settings(rt), name(rt, me), table))
 }
@@ -65,12 +65,12 @@ pub(crate) fn first_of(rt: &impl Abort, alloc: Global, owner: &[u8], text: &[u8]
     commit(rt, &mut log_of(rt, alloc, owner), text)
 }
 
-/// The write behind this version: the weight 7 under the key.
+/// The write after this version: the weight 7 under the key.
 fn entry_behind(rt: &impl Abort, version: u64, text: &[u8]) -> Entry {
     Entry::new(key(rt, text), version.saturating_add(1), weight(rt, 7))
 }
 
-/// What an owner wrote under these letters, from the version behind `after` on.
+/// What an owner wrote under these letters, from the version after `after` on.
 fn entries_behind(rt: &impl Abort, alloc: Global, after: u64, letters: &[u8]) -> Vec<Entry> {
     let mut entries = Vec::new(alloc);
     let mut version = after;
@@ -81,7 +81,7 @@ fn entries_behind(rt: &impl Abort, alloc: Global, after: u64, letters: &[u8]) ->
     entries
 }
 
-/// A delta of one block: what an owner wrote under these letters, from the version behind `after` on.
+/// A delta of one block: what an owner wrote under these letters, from the version after `after` on.
 pub(crate) fn delta_of(
     rt: &impl Abort,
     alloc: Global,
@@ -108,7 +108,7 @@ pub(crate) fn delta_with_floor(
     got(rt, delta_of_block(alloc, block))
 }
 
-/// A delta of one write: what an owner wrote under this key, behind the version `after`.
+/// A delta of one write: what an owner wrote under this key, after the version `after`.
 pub(crate) fn delta_under(
     rt: &impl Abort,
     alloc: Global,
@@ -120,7 +120,7 @@ pub(crate) fn delta_under(
     got(rt, delta_of_write(alloc, name(rt, owner), entry))
 }
 
-/// The table of an owner that has all of the 4,096 keys that it may have.
+/// The table of an owner with all of the 4,096 keys that it can have.
 pub(crate) fn full_table(rt: &impl Abort, alloc: Global) -> Table {
     let mut log = log_of(rt, alloc, b"a");
     for number in 0..4_096 {

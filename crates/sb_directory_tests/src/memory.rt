@@ -1,13 +1,13 @@
-//! Want of memory: whichever allocation is refused, a call ends in one of the ways that it may, and what was not shown is
-//! shown by the next call that shows. With ample memory these tests are of plain calls; `tools/sweep` refuses each allocation
-//! in turn.
+//! Missing memory: whichever allocation is refused, a call ends in one of the ways that it can. What was not shown is
+//! shown by the next call that shows. With ample memory these tests make plain calls, and `tools/sweep` refuses each
+//! allocation in turn.
 use crate::course::{Course, TAKE_OF_B, TAKEN, run_new};
 use crate::desk::{Answer, Call, noted};
 use std::alloc::Global;
 use std::process::Abort;
 use std::sync::Wait;
 
-/// A new node writes, and then answers this call so, after which the reader sees this.
+/// Tests that a new node writes, and then answers this call in this way, after which the reader sees this.
 fn write_then_call<R: Wait + Abort>(
     rt: &R,
     alloc: Global,
@@ -19,7 +19,7 @@ fn write_then_call<R: Wait + Abort>(
     run_new(rt, alloc, Course::LateWrite(&cases));
 }
 
-/// Whichever call comes next that shows: a refresh, a poll, a write or a delta.
+/// Any call can come next that shows: a refresh, a poll, a write or a delta.
 #[test]
 fn the_next_call_shows_a_write(rt: HostRuntime) {
     let alloc = rt.alloc();

@@ -1,4 +1,4 @@
-//! A peer in a session: what it says and what it hears.
+//! A peer in a session: what it sends and what it hears.
 ghost use Rattle.std.specs.Prelude.{◌≡◌, ◌<◌};
 
 use crate::got;
@@ -12,7 +12,7 @@ use std::marker::Brand;
 use std::process::Abort;
 use std::sync::ledger::{Blank, Ledger};
 
-/// A peer that heard nothing, and has room for all that it is to hear.
+/// A peer that has heard nothing, with room for all that it must hear.
 fn new_hearing(rt: &impl Abort, alloc: Global) -> Hearing {
     Hearing {
         bytes: got(rt, Vec::with_capacity(alloc, 128)),
@@ -54,7 +54,8 @@ fn talk_on<L: Ledger, H: Handler>(
     (got(rt, ended), writer.bytes.as_slice() == SAID_BY_B)
 }
 
-/// How a session of a node b ends with a peer a, whose bytes come in such pieces, and whether the peer hears what b says.
+/// How a session of a node b ends with a peer a whose bytes come in such pieces. Then whether the peer hears the right
+/// answer.
 pub(crate) fn talk<H: Handler>(
     rt: &impl Abort,
     handler: &mut H,

@@ -236,7 +236,8 @@ pub(crate) enum Reach<S: DirectoryTag, H: Wait + Drop> {
     Seated(Seated<S, H>),
 }
 
-/// The calls of a node, each of which answers as the node's own does; those that enter a write say whether it is published.
+/// The calls of a node. Each answers as the node's own call does. Those that enter a write also return whether it is
+/// published.
 impl<S: DirectoryTag, H: Wait + Drop> Reach<S, H> {
     pub(crate) fn take_own<Q: Wait + Abort>(
         &mut self,

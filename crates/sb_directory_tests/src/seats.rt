@@ -1,4 +1,4 @@
-//! The seats of a directory: how many there may be, and what it is closed with.
+//! The seats of a directory: how many it can have, and how it is closed with them.
 ghost use Rattle.std.specs.Prelude.{◌≡◌};
 
 use crate::making::{first_of, name, new_node};
@@ -13,7 +13,7 @@ use std::process::Abort;
 use std::sync::Wait;
 use std::sync::ledger::Blank;
 
-/// How many seats a directory has that is asked for so many.
+/// How many seats a directory has if it is asked for so many.
 fn made<S: DirectoryTag, R: Wait>(
     rt: &R,
     alloc: Global,
@@ -35,7 +35,7 @@ fn made<S: DirectoryTag, R: Wait>(
     }
 }
 
-/// The same of a new node.
+/// The same for a new node.
 fn make_new<R: Wait + Abort>(rt: &R, alloc: Global, seats: usize) -> Result<usize, Fault> {
     let core = new_node(rt, alloc);
     made::<Brand, _>(
@@ -48,7 +48,7 @@ fn make_new<R: Wait + Abort>(rt: &R, alloc: Global, seats: usize) -> Result<usiz
     )
 }
 
-/// A directory that is asked for so many seats has so many, or is refused for this fault.
+/// Tests that a directory that is asked for so many seats has so many, or is refused with this fault.
 fn makes<R: Wait + Abort>(rt: &R, alloc: Global, seats: usize, wanted: Result<usize, Fault>) {
     let found = make_new(rt, alloc, seats);
     if found == Err(Fault::NoMemory) {
@@ -81,7 +81,8 @@ pub(crate) fn close<S: DirectoryTag, H: Wait + Drop, R: Wait + Abort>(
     }
 }
 
-/// What comes back from a directory that is not closed, as these are not all of its seats: the number of the fault, and both.
+/// What comes back if a directory is not closed because these are not all of its seats: the number of the fault, and
+/// both.
 fn refused<S: DirectoryTag, H: Wait + Drop, R: Wait + Abort>(
     rt: &R,
     directory: Directory<S, H>,
@@ -95,8 +96,8 @@ fn refused<S: DirectoryTag, H: Wait + Drop, R: Wait + Abort>(
     }
 }
 
-/// The number of the fault for which a directory was not closed with one of two seats alone, and how many seats came back then;
-/// how many events there were, and how far the node a is held.
+/// The number of the fault if a directory is closed with one of two seats alone, and how many seats came back then.
+/// Then how many events there were, and how far the node a is held.
 type Closed = (u8, usize, u64, u64);
 
 /// Closes a directory with one of its two seats, and then with both.
@@ -120,7 +121,7 @@ fn close_twice<S: DirectoryTag, H: Wait + Drop, R: Wait + Abort>(
     )
 }
 
-/// The version of a write of the node's own, from a seat that sees it.
+/// Makes a write of the node's own from a seat that sees it. Returns its version.
 fn write<S: DirectoryTag, H: Wait + Drop, R: Wait + Abort>(
     rt: &R,
     alloc: Global,
@@ -133,15 +134,15 @@ fn write<S: DirectoryTag, H: Wait + Drop, R: Wait + Abort>(
     receipt.version
 }
 
-/// Ends the test where a call did not show what it was to, for want of memory.
+/// Ends the test if a call did not show what it had to, because memory was missing.
 pub(crate) fn all_shown(rt: &impl Abort, shown: bool) {
     if !shown {
         panic!(rt; "error: NoMemory");
     }
 }
 
-/// The version of a write from one of two seats, how many keys it finds then, and how the directory closes with the other alone,
-/// and with both.
+/// Makes a write from one of two seats. Returns its version, how many keys the seat finds then, and how the directory
+/// closes: with the other seat alone, and with both.
 fn write_and_close<S: DirectoryTag, R: Wait + Abort>(
     rt: &R,
     alloc: Global,

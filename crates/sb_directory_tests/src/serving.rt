@@ -18,7 +18,7 @@ use std::process::Abort;
 use std::sync::Wait;
 use std::sync::ledger::Blank;
 
-/// A session of a node b from its seat, with a peer whose bytes come in such pieces.
+/// Makes a session of a node b from its seat, with a peer whose bytes come in such pieces.
 fn serve_from<S: DirectoryTag, H: Wait + Drop, R: Wait + Abort>(
     rt: &R,
     alloc: Global,
@@ -32,8 +32,8 @@ fn serve_from<S: DirectoryTag, H: Wait + Drop, R: Wait + Abort>(
     talked
 }
 
-/// How a session ended with a peer a, and whether b said just its Hello, its delta and its digest; and how many events there
-/// were.
+/// How a session with a peer a ended, and whether b sent just its Hello, its delta and its digest. Then how many events
+/// there were.
 fn serve_one<S: DirectoryTag, R: Wait + Abort>(
     rt: &R,
     alloc: Global,
@@ -63,7 +63,8 @@ fn flagged(rt: &impl Abort, alloc: Global) -> Table {
     table
 }
 
-/// A new directory of a node b that wrote the flag true under w serves a peer whose bytes come in such pieces.
+/// Tests that a new directory of a node b that wrote the flag true under w serves a peer whose bytes come in such
+/// pieces.
 fn serve_new<R: Wait + Abort>(rt: &R, alloc: Global, piece: usize) {
     let core = node_of(rt, alloc, b"b", flagged(rt, alloc));
     let talked = serve_one::<Brand, _>(rt, alloc, NewHistory::new(), Blank::new(1), core, piece);

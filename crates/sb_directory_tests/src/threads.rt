@@ -17,13 +17,13 @@ use std::sync::Wait;
 use std::sync::ledger::Blank;
 use std::thread::{Threads, join};
 
-/// How many writes of each owner are made beside the reader, each under a key of its own, in the order of the versions.
+/// How many writes of each owner are made beside the reader. Each has a key of its own, in the order of the versions.
 const WRITES: u64 = 64;
 
 /// How often the reader enters.
 const TURNS: u64 = 2_000;
 
-/// The key of the write behind a version below 100.
+/// The key of the write after a version below 100.
 fn key_behind(version: u64) -> [u8; 2] {
     [
         b'0' + (version / 10 % 10) as u8,
@@ -31,8 +31,8 @@ fn key_behind(version: u64) -> [u8; 2] {
     ]
 }
 
-/// What a reader saw of an owner: the version up to which it was shown, and whether that never fell and its rows were
-/// those of its writes up to there.
+/// What a reader saw of an owner: the version up to which it was shown, and whether all was right. That is so if the
+/// version never fell, and the rows were those of its writes up to there.
 #[derive(Clone, Copy)]
 struct OwnerReadings {
     owner: Name,
@@ -48,7 +48,7 @@ fn new_readings(owner: Name) -> OwnerReadings {
     }
 }
 
-/// Whether an owner's rows are those of its versions from 1 on up to this one.
+/// Whether an owner's rows are those of its versions from 1 up to this one.
 fn are_whole(snapshot: &Snapshot<'_>, owner: Name, all: Prefix, upto: u64) -> bool {
     let mut version = 0u64;
     for row in snapshot.rows(Some(owner), all) {
@@ -68,7 +68,7 @@ impl OwnerReadings {
     }
 }
 
-/// What a reader sees that enters in each of so many turns.
+/// What a reader sees if it enters in each of so many turns.
 fn read_along<S: DirectoryTag>(
     mut seat: ReaderSeat<S>,
     all: Prefix,
@@ -89,7 +89,7 @@ fn read_along<S: DirectoryTag>(
     (seat, seen)
 }
 
-/// One write was taken, and shown at once.
+/// Tests that one write was taken, and shown at once.
 fn is_taken(rt: &impl Abort, applied: &Applied) {
     match applied.ends.ends() {
         [BlockEnd::Taken(1)] => all_shown(rt, applied.shown),
@@ -98,7 +98,7 @@ fn is_taken(rt: &impl Abort, applied: &Applied) {
     }
 }
 
-/// The write of b behind this version is taken, and shown at once.
+/// Takes the write of b after this version. Tests that it is shown at once.
 fn take_of_b<S: DirectoryTag, H: Wait + Drop, R: Wait + Abort>(
     rt: &R,
     alloc: Global,
@@ -110,7 +110,7 @@ fn take_of_b<S: DirectoryTag, H: Wait + Drop, R: Wait + Abort>(
     is_taken(rt, &got(rt, directory.apply(rt, seat, &delta)));
 }
 
-/// The next write of the node a is taken, and shown at once.
+/// Takes the next write of the node a. Tests that it is shown at once.
 fn take_own<S: DirectoryTag, H: Wait + Drop, R: Wait + Abort>(
     rt: &R,
     directory: &Directory<S, H>,
@@ -122,7 +122,7 @@ fn take_own<S: DirectoryTag, H: Wait + Drop, R: Wait + Abort>(
     all_shown(rt, got(rt, directory.take_own(rt, seat, &committed)).shown);
 }
 
-/// Writes of the node a and of b, in turn, each shown at once.
+/// Makes writes of the node a and of b in turn, each shown at once.
 fn write_along<S: DirectoryTag, H: Wait + Drop, R: Wait + Abort>(
     rt: &R,
     alloc: Global,
@@ -137,7 +137,7 @@ fn write_along<S: DirectoryTag, H: Wait + Drop, R: Wait + Abort>(
     seat
 }
 
-/// What a reader sees in a thread of its own beside a writer in another, and at last.
+/// What a reader in a thread of its own sees beside a writer in another, and what it sees at last.
 fn run_both<S: DirectoryTag + Send + Sync, R: Wait + Threads + Abort + Sync + Send>(
     rt: &R,
     alloc: Global,
@@ -171,7 +171,8 @@ fn run_from<S: DirectoryTag + Send + Sync, R: Wait + Threads + Abort + Sync + Se
     seen
 }
 
-/// Up to which versions the reader was shown a and b at last; whether all that it saw was right; how many events there were.
+/// The versions up to which the reader was shown a and b at last, and whether all that it saw was right. Then how many
+/// events there were.
 type Beside = ([u64; 2], bool, u64);
 
 fn read_beside<S: DirectoryTag + Send + Sync, R: Wait + Threads + Abort + Sync + Send>(

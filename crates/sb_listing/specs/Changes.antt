@@ -13,7 +13,7 @@ pub data RowChange : Type 0 where
   Set : Row → RowChange
   Gone : Row → RowChange
 
--- by owner and then by key
+-- the order by owner and then by key
 abbrev pub place_order : Row → Row → Ordering
 place_order x y = ordering_then (slice_cmp nat_cmp x.owner y.owner) (slice_cmp nat_cmp x.key y.key)
 
@@ -39,21 +39,21 @@ is_new earlier y = not (list_any (λ x. is_at x y && is_same x y) earlier)
 abbrev pub is_gone : List Row → Row → Bool
 is_gone later x = not (list_any (is_at x) later)
 
--- each row stands before all behind it
+-- each row comes before all rows after it
 abbrev pub AreAscending : List Row → Type 0
 AreAscending [] = Unit {0}
 AreAscending (x ∷ xs) = AllByRecursion (λ y. place_order x y ≡ Less) xs × AreAscending xs
 
--- what is told where a row of the later listing stands at the place of one of the earlier
+-- what is reported if a row of the later listing is at the place of one of the earlier listing
 abbrev pub told_at : Row → Row → List RowChange
 told_at x y = if is_same x y then [] else Set y ∷ []
 
--- the rows of the earlier listing up to the place of y, then y, and then what comes of the rows behind
+-- the rows of the earlier listing up to the place of y, then y, and then what comes of the rows after it
 abbrev pub passing : Row → (List Row → List RowChange) → List Row → List RowChange
 passing y next [] = Set y ∷ next []
 passing y next (x ∷ xs) = match_ordering (place_order x y) (Gone x ∷ passing y next xs) (told_at x y ++ next xs) (Set y ∷ next (x ∷ xs))
 
--- both listings walked through once
+-- one walk through both listings
 abbrev pub merged : List Row → List Row → List RowChange
 merged earlier [] = map Gone earlier
 merged earlier (y ∷ ys) = passing y (λ rest. merged rest ys) earlier

@@ -12,7 +12,7 @@ value_data (Weight weight) = number (unsigned weight)
 value_data (Flag flag) = boolean flag
 value_data (Text text) = string text
 
--- the members stand in the order of their names
+-- the members are in the order of their names
 abbrev pub object_data : List ℕ → List ℕ → List ℕ → Data → ℕ → Data
 object_data key kind owner value version =
     object (member (codes "key") (string key) (member (codes "kind") (string kind) (member (codes "owner") (string owner)
@@ -22,7 +22,7 @@ object_data key kind owner value version =
 unfoldable pub row_data : Row → Data
 row_data row = object_data row.key (words_of row.value).0 row.owner (value_data row.value) row.version
 
--- the text of the object without spaces, and the end of the line
+-- the text of the object, without spaces, and the end of the line
 abbrev pub json_line : Row → List ℕ
 json_line row = compact_text (row_data row) ++ 10 ∷ []
 

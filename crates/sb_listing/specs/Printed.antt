@@ -1,4 +1,4 @@
--- Changes as plain data, and what is printed of them.
+-- Changes as plain data, and what is printed for them.
 use Rattle.std.specs.Prelude.{ℕ, List, [], ◌∷◌, ◌++◌, codes}
 use Rattle.std.specs.List.{flat_map}
 use Rattle.sb_query.specs.Printed.{row_line}
@@ -10,7 +10,7 @@ abbrev pub change_of : rust.RowChange → RowChange
 change_of (lent.Set row) = Set row.now
 change_of (lent.Gone row) = Gone row.now
 
--- a row that is set as its line, and of one that is gone the owner and the key
+-- a row that is set is printed as its line, and one that is gone as its owner and key
 abbrev pub change_line : RowChange → List ℕ
 change_line (Set row) = codes "set" ++ 32 ∷ row_line row
 change_line (Gone row) = codes "gone" ++ 32 ∷ (row.owner ++ 32 ∷ (row.key ++ 10 ∷ []))

@@ -9,16 +9,16 @@ use sb_types::{Fault, Value, ValueRef};
 use std::alloc::Global;
 use std::cmp::Ordering;
 
-/// A difference of two listings, with its row lent.
+/// A difference of two listings. It borrows its row.
 #[derive(Clone, Copy, Debug)]
 pub enum RowChange<'a> {
-    /// A row of the later listing. The earlier one has none at its owner and key, or one of another version or value.
+    /// A row of the later listing. The earlier one has no row of its owner and key, or one of another version or value.
     Set(&'a Row),
-    /// A row of the earlier listing. The later one has none at its owner and key.
+    /// A row of the earlier listing. The later one has no row of its owner and key.
     Gone(&'a Row),
 }
 
-/// How two rows stand, by owner and then by key.
+/// The order of two rows, by owner and then by key.
 fn place_order(one: &Row, other: &Row) -> Ordering
     ensures { result ≡ spec.place_order one.now other.now }
 {
@@ -49,14 +49,16 @@ fn is_same_value(one: &Value, other: &Value) -> bool
     }
 }
 
-/// Whether two rows of one owner and key have one version and value.
+/// Whether two rows of one owner and key have one version and value. The version alone would do if names were unique
+/// and no older log were put back.
 fn is_same(one: &Row, other: &Row) -> bool
     ensures { result ≡ spec.is_same one.now other.now }
 {
     one.version() == other.version() && is_same_value(one.value(), other.value())
 }
 
-/// Tells the rows of an earlier listing up to the place of a row of the later one, and that row, and gives the rows behind it.
+/// Adds the changes up to and including the place of `row`, a row of the later listing. Returns the rows of the earlier
+/// listing after that place. `NoMemory`.
 fn pass_row<'a>(
     found: &mut Vec<RowChange<'a>>,
     earlier: &'a [Row],
@@ -89,7 +91,7 @@ fn pass_row<'a>(
     Ok(rest)
 }
 
-/// Tells that these rows are gone.
+/// Adds that these rows are gone. `NoMemory`.
 fn add_gone<'a>(found: &mut Vec<RowChange<'a>>, rows: &'a [Row]) -> Result<(), Fault>
     ensures found { OnOk result (map change_of found.new.items ≡ map change_of found.old.items ++ map spec.Gone rows.now) }
     ensures memory { IfErr result (λ fault. fault ≡ Fault.NoMemory) }
@@ -100,8 +102,9 @@ fn add_gone<'a>(found: &mut Vec<RowChange<'a>>, rows: &'a [Row]) -> Result<(), F
     Ok(())
 }
 
-/// What changed from an earlier listing to a later one, in ascending owner and key, by one walk through both. Where both ascend by
-/// owner and key, each once, the law `changes_tell_all` says which rows are told. `NoMemory`.
+/// Returns what changed from an earlier listing to a later one, in ascending order of owner and key. It walks once
+/// through both. If both ascend by owner and key, each once, the law `changes_tell_all` states which rows are reported.
+/// `NoMemory`.
 pub fn changes<'a>(
     alloc: Global,
     earlier: &'a [Row],

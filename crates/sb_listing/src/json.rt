@@ -33,7 +33,7 @@ fn kind_of(value: &sb_types::Value) -> &'static str
     }
 }
 
-/// What a value holds: a text as it is and not as it is spelled on lines, a number, or true or false.
+/// What a value holds: a text, a number, or true or false. A text is as it is, and not as lines spell it.
 fn json_of(alloc: Global, value: &sb_types::Value) -> Result<Value, AllocError>
     ensures { IfOk result (λ json. view json ≡ value_data value.now) }
 {
@@ -45,7 +45,8 @@ fn json_of(alloc: Global, value: &sb_types::Value) -> Result<Value, AllocError>
     }
 }
 
-/// The object of these members.
+/// The object of these members. They are in the order of their names: `serde_json` sorts them, and its contract gives
+/// that text. Numbers keep all their digits, and readers that use floats round great ones.
 fn object_with(
     alloc: Global,
     key: &str,
@@ -82,7 +83,7 @@ fn add_json(alloc: Global, out: &mut Vec<u8>, row: &Row) -> Result<(), Fault>
     Ok(())
 }
 
-/// The lines of these rows.
+/// The lines of these rows. `NoMemory`.
 fn lines_of(alloc: Global, rows: &[Row]) -> Result<Vec<u8>, Fault>
     ensures lines { IfOk result (λ lines. lines.items ≡ json_lines rows.now) }
     ensures memory { IfErr result (λ fault. fault ≡ Fault.NoMemory) }
@@ -94,15 +95,16 @@ fn lines_of(alloc: Global, rows: &[Row]) -> Result<Vec<u8>, Fault>
     Ok(out)
 }
 
-/// Prints a page as JSON, a line for each row: an object of its key, kind, owner, value and version. Tells what the last write of the
-/// call answered. `NoMemory`, with nothing written; `WriteFailed` with how many bytes were written, always fewer than all.
+/// Prints a page as JSON: for each row a line with an object of its key, kind, owner, value and version. It also
+/// returns what the last write of the call answered. `NoMemory`, with nothing written. `WriteFailed`, with the number
+/// of bytes written, which is always less than all.
 pub fn print_json_rows<W: Write>(
     alloc: Global,
     writer: &mut W,
     page: &Rows,
 ) -> (Result<(), Fault>, LastWrite)
     ensures prints { Sends (W.contents writer.old) (W.contents writer.new) (json_lines page.now.rows) result.0 }
-    // A write that did not fail, or that was made before the call, is no reason to stop.
+    // Only a write that this call made and that failed is a reason to stop.
     ensures failed { OnlyWhereFailed result.0 result.1 }
 {
     match lines_of(alloc, page.rows()) {

@@ -1,7 +1,7 @@
-//! Listings, which are all rows that a caller asked a node for: what changed from one to the next, the lines of changes, and rows
-//! as JSON.
+//! Listings: what changed from one to the next, the lines of changes, and rows as JSON. A listing is all rows that a
+//! caller asked a node for.
 //!
-//! Two listings are compared in one walk, since both ascend by owner and key. `attrdir watch` prints what comes of it.
+//! Two listings are compared in one walk, since both ascend by owner and key. `attrdir watch` prints the changes.
 //!
 //! ```rust
 //! /// The lines of what changed from one listing to the next.
@@ -12,6 +12,13 @@
 //!     Ok(lines)
 //! }
 //! ```
+//!
+//! # What no contract refuses
+//!
+//! This wrong use would still be proved. `docs/GAPS.md` also has those of every crate.
+//!
+//! - The listings of a watch do not ascend. `attrdir` refuses a page that does not go on after the last one, and each
+//!   page ascends.
 #![tactic(auto)]
 
 mod changing;

@@ -1,4 +1,4 @@
-//! The lines of changes.
+//! How changes are printed as lines.
 ghost use Rattle.std.specs.Prelude.{◌≡◌, ◌++◌, OnOk, IfOk, IfErr};
 ghost use Rattle.sb_frames.specs.Sending.{Sends, OnlyWhereFailed};
 ghost use Rattle.sb_listing.specs.Printed.{printed_line, printed_lines};
@@ -28,7 +28,7 @@ fn add_change(out: &mut Vec<u8>, change: &RowChange<'_>) -> Result<(), Fault>
     }
 }
 
-/// The lines of these changes.
+/// The lines of these changes. `NoMemory`.
 fn lines_of(alloc: Global, changes: &[RowChange<'_>]) -> Result<Vec<u8>, Fault>
     ensures lines { IfOk result (λ lines. lines.items ≡ printed_lines changes.now) }
     ensures memory { IfErr result (λ fault. fault ≡ Fault.NoMemory) }
@@ -40,15 +40,16 @@ fn lines_of(alloc: Global, changes: &[RowChange<'_>]) -> Result<Vec<u8>, Fault>
     Ok(out)
 }
 
-/// Prints changes, a line `set owner key version kind value` or `gone owner key` for each, and tells what the last write of the
-/// call answered. `NoMemory`, with nothing written; `WriteFailed` with how many bytes were written, always fewer than all.
+/// Prints changes: a line `set owner key version kind value` or `gone owner key` for each. It also returns what the
+/// last write of the call answered. `NoMemory`, with nothing written. `WriteFailed`, with the number of bytes written,
+/// which is always less than all.
 pub fn print_changes<W: Write>(
     alloc: Global,
     writer: &mut W,
     changes: &[RowChange<'_>],
 ) -> (Result<(), Fault>, LastWrite)
     ensures prints { Sends (W.contents writer.old) (W.contents writer.new) (printed_lines changes.now) result.0 }
-    // A write that did not fail, or that was made before the call, is no reason to stop.
+    // Only a write that this call made and that failed is a reason to stop.
     ensures failed { OnlyWhereFailed result.0 result.1 }
 {
     match lines_of(alloc, changes) {

@@ -1,5 +1,5 @@
-//! A log of nothing that begins behind a version: what it holds, what is refused, and what stands when it is opened again, on disks of which a
-//! call fails too.
+//! An empty log that begins after a version: what it holds, what is refused, and what is there when it is opened again.
+//! This is also tested on disks that fail a call.
 use crate::disks::{Calls, ENDLESS, new_disks, whole_copy};
 use crate::visits::{
     LogVisit, Looking, OWN, Opening, Reaching, log_in_memory, log_on_disks, numbers_on_disks,
@@ -18,7 +18,7 @@ const SPENT: Answer = Err(Fault::VersionsSpent);
 
 const NOTHING: Answer = Err(Fault::NothingThere);
 
-/// What a log holds that begins behind 7.
+/// What a log holds that begins after 7.
 const BEHIND: Reach = (0, 7, 7);
 
 fn behind(version: u64) -> Opening<'static> {
@@ -28,7 +28,7 @@ fn behind(version: u64) -> Opening<'static> {
     }
 }
 
-/// A log that began behind 7, and gives versions up to 9.
+/// A log that began after 7, and gives versions up to 9.
 #[derive(Drop)]
 struct GoingOn;
 
@@ -50,7 +50,7 @@ impl LogVisit for GoingOn {
     }
 }
 
-/// What such a log holds when it is opened as this says, and the fault where it is not, or does not begin.
+/// What such a log holds when it is opened like this, or the fault if it does not open or begin.
 fn reached(
     rt: &impl Abort,
     alloc: Global,
@@ -65,7 +65,7 @@ fn a_log_in_memory_begins_behind_a_version(rt: HostRuntime) {
     got(&rt, log_in_memory(&rt, rt.alloc(), behind(7), GoingOn));
 }
 
-// No write has a row, and the row of meta says the version twice; so it is opened again, and goes on.
+// No write has a row, and the row of meta has the version twice. So it is opened again, and goes on.
 #[test]
 fn a_log_in_files_begins_behind_a_version(rt: HostRuntime) {
     let alloc = rt.alloc();
@@ -82,7 +82,7 @@ fn a_log_in_files_begins_behind_a_version(rt: HostRuntime) {
     same(&rt, &reached(&rt, alloc, &mut disks, OWN), &Ok((0, 9, 9)));
 }
 
-// It begins once, and tells the version of its next write.
+// It begins once, and reports the version of its next write.
 #[test]
 fn a_log_begins_once(rt: HostRuntime) {
     let alloc = rt.alloc();
@@ -109,7 +109,7 @@ impl LogVisit for Writing {
     }
 }
 
-// Nor does one that has writes, though no key of it has a value.
+// A log that has writes does not begin, even if no key of it has a value.
 #[test]
 fn a_log_with_writes_does_not_begin(rt: HostRuntime) {
     let alloc = rt.alloc();
@@ -134,14 +134,16 @@ fn a_log_begins_within_the_limits(rt: HostRuntime) {
     same(&rt, &last, &Ok((0, VERSION_MOST, VERSION_MOST)));
 }
 
-/// Opened again it holds nothing, or nothing up to 7, and after an acknowledged beginning the latter.
+/// Tests a log that is opened again: it holds nothing, or nothing up to 7. After an acknowledged beginning it holds
+/// nothing up to 7.
 fn recovers(rt: &impl Abort, alloc: Global, disks: &mut Files<Memory>, at: u64, is_done: bool) {
     let found = got(rt, reached(rt, alloc, disks, OWN));
     let is_kept = found == BEHIND || (found == (0, 0, 0) && !is_done);
     same_at(rt, &(at, found), &is_kept, &true);
 }
 
-/// Begins while a call may fail; then what was not synced stays, and is lost. Whether that was acknowledged.
+/// Begins a log while a call can fail. Then what was not synced stays once, and is lost once. Returns whether the
+/// beginning was acknowledged.
 fn stop(rt: &impl Abort, alloc: Global, calls: Calls) -> bool {
     let mut disks = new_disks(alloc);
     let begun = log_on_disks(rt, alloc, &mut disks, calls, behind(7), Looking);
@@ -157,7 +159,7 @@ fn stop(rt: &impl Abort, alloc: Global, calls: Calls) -> bool {
 /// More calls of the log file than an opening and a beginning make.
 const MORE: u64 = 400;
 
-/// Lets each call fail, from the first of the opening to the last of the beginning, and answers how many there were.
+/// Makes each call fail, from the first of the opening to the last of the beginning. Returns how many there were.
 fn miss_each(rt: &impl Abort, alloc: Global) -> u64 {
     for log in 0..MORE {
         if stop(rt, alloc, Calls { log, ..ENDLESS }) {

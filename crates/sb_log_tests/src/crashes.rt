@@ -1,4 +1,4 @@
-//! What a crash leaves of a log in files, on disks of which a call fails, and each one after it or none.
+//! What a crash leaves of a log in files, on disks that fail one call, or that one and each after it.
 use crate::disks::{Calls, ENDLESS, new_disks, whole_copy};
 use crate::faulty::After;
 use crate::visits::{LogVisit, OWN, log_on_disks};
@@ -35,7 +35,8 @@ const ALL: Progress = Progress {
     begun: 3,
 };
 
-/// Where the write behind so many acknowledged ones failed. Where the store did, the log takes no other, be the disk as it may.
+/// The progress after a write failed that came after so many acknowledged ones. If the store failed, the log takes no
+/// other write, whatever the disk does.
 fn failed_after<L: WriteLog>(
     rt: &impl Abort,
     log: &mut L,
@@ -51,7 +52,7 @@ fn failed_after<L: WriteLog>(
     }
 }
 
-/// Writes until a write fails; the second removes what the first set.
+/// Writes until a write fails. The second write removes what the first set.
 fn put_three<L: WriteLog>(rt: &impl Abort, log: &mut L) -> Progress {
     if let Err(fault) = set(rt, log, b"x", 5) {
         return failed_after(rt, log, 0, fault);
@@ -113,7 +114,8 @@ fn is_kept(content: Content, progress: Progress) -> bool {
         || CONTENTS.get(progress.begun) == Some(&content)
 }
 
-/// A log that is opened again holds what was acknowledged, or what was begun, and the next write has the next version.
+/// Tests that a log that is opened again holds what was acknowledged, or what was begun, and that the next write has
+/// the next version.
 fn recovers(rt: &impl Abort, alloc: Global, disks: &mut Files<Memory>, progress: Progress) {
     let found = got(rt, log_on_disks(rt, alloc, disks, ENDLESS, OWN, Reopening));
     let (content, next) = found;
@@ -126,12 +128,12 @@ fn recovers(rt: &impl Abort, alloc: Global, disks: &mut Files<Memory>, progress:
     );
 }
 
-/// The same of the process that ended, whose disks lose nothing.
+/// The same if only the process ended, and its disks lose nothing.
 fn recovers_whole(rt: &impl Abort, alloc: Global, disks: &Files<Memory>, progress: Progress) {
     recovers(rt, alloc, &mut whole_copy(rt, alloc, disks), progress);
 }
 
-/// Lets calls of the disks fail, and then what was not synced stay, and be lost.
+/// Makes calls of the disks fail. Then what was not synced stays once, and is lost once.
 fn stop(rt: &impl Abort, alloc: Global, calls: Calls) -> Progress {
     let mut disks = new_disks(alloc);
     let progress = log_on_disks(rt, alloc, &mut disks, calls, OWN, Writing).unwrap_or(NOTHING);
@@ -154,7 +156,8 @@ fn stop_db(rt: &impl Abort, alloc: Global, from: u64, to: u64) {
     }
 }
 
-// The log file answers 50 calls, and the database file 14, until the third write is acknowledged: each of them is stopped at.
+// The log file answers 50 calls, and the database file 14, until the third write is acknowledged. The tests stop at
+// each of them.
 #[test]
 fn no_call_is_left_out(rt: HostRuntime) {
     let calls = Calls {
@@ -166,7 +169,7 @@ fn no_call_is_left_out(rt: HostRuntime) {
     same(&rt, &progress, &ALL);
 }
 
-// With one call less of the log file the third write fails, and with one less of the database file the log is not opened.
+// With one call less of the log file the third write fails. With one less of the database file the log does not open.
 #[test]
 fn no_call_is_one_too_many(rt: HostRuntime) {
     let log = stop(&rt, rt.alloc(), Calls { log: 49, ..ENDLESS });
@@ -240,7 +243,7 @@ fn the_database_file_stops_at_calls_11_to_14(rt: HostRuntime) {
     stop_db(&rt, rt.alloc(), 10, 14);
 }
 
-/// Lets one call of the log file fail, each from the one to the other in its turn; all others are answered.
+/// Makes one call of the log file fail, each from `from` to `to` in its turn. All others are answered.
 fn miss_log(rt: &impl Abort, alloc: Global, from: u64, to: u64) {
     for log in from..to {
         let after = After::Answering;

@@ -1,4 +1,4 @@
-//! A log in a database: what it keeps, also when it is opened again, and the damage that it tells.
+//! A log in a database: what it keeps, also when it is opened again, and the damage that it reports.
 use crate::disks::{ENDLESS, new_disks};
 use crate::visits::{LogVisit, Looking, OWN, Opening, log_in_memory, log_on_disks, number_of};
 use crate::writes::{Answer, held, remove, set, settled};
@@ -8,7 +8,7 @@ use sb_types::Fault;
 use std::alloc::Global;
 use std::process::Abort;
 
-/// The tables of a log, and the row that says that it is `a`'s.
+/// The tables of a log, and the row that makes it the log of `a`.
 pub const META: &str =
     "CREATE TABLE meta (id INTEGER PRIMARY KEY CHECK (id = 1), form INTEGER NOT NULL, owner TEXT NOT NULL, cluster TEXT NOT NULL, last INTEGER NOT NULL, floor INTEGER NOT NULL) STRICT";
 
@@ -17,14 +17,14 @@ pub const WRITES: &str =
 
 pub const OWN_META_ROW: &str = "INSERT INTO meta VALUES (1, 2, 'a', 'sim', 0, 0)";
 
-/// The same in the form of older releases.
+/// That row in the form of older releases.
 const OLDER: &str = "INSERT INTO meta VALUES (1, 1, 'a', 'sim', 0, 0)";
 
 const SPENT: Answer = Err(Fault::VersionsSpent);
 
 const NOTHING: Answer = Err(Fault::NothingThere);
 
-// Writes to a log of four versions: what each is answered.
+// Writes to a log of four versions. Returns the answer to each.
 fn six_writes<L: WriteLog>(rt: &impl Abort, log: &mut L) -> [Answer; 6] {
     [
         set(rt, log, b"x", 5),
@@ -36,7 +36,7 @@ fn six_writes<L: WriteLog>(rt: &impl Abort, log: &mut L) -> [Answer; 6] {
     ]
 }
 
-// What it holds at first, what each write is answered, and what it holds then.
+// Tests what it holds at first, the answer to each write, and what it holds then.
 fn keeps_writes<L: WriteLog>(rt: &impl Abort, alloc: Global, log: &mut L) {
     same(rt, &held(rt, alloc, log), &(0, 0));
     let answers = settled(rt, six_writes(rt, log));
@@ -45,7 +45,7 @@ fn keeps_writes<L: WriteLog>(rt: &impl Abort, alloc: Global, log: &mut L) {
     same(rt, &held(rt, alloc, log), &(2, 4));
 }
 
-// Opened again: what it holds, and what the next write is answered, with a lesser greatest version.
+// Tests a log that is opened again: what it holds, and the answer to the next write, with a smaller greatest version.
 fn kept<L: WriteLog>(rt: &impl Abort, alloc: Global, log: &mut L) {
     same(rt, &held(rt, alloc, log), &(2, 4));
     same(rt, &settled(rt, [set(rt, log, b"x", 8)]), &[SPENT]);
@@ -91,7 +91,7 @@ fn a_log_in_memory_keeps_writes(rt: HostRuntime) {
     got(&rt, log_in_memory(&rt, rt.alloc(), OF_FOUR, Keeping));
 }
 
-// Opened again it holds the same, and under another name it is another's.
+// When it is opened again it holds the same. Under another name it is another owner's.
 #[test]
 fn a_log_in_files_keeps_writes(rt: HostRuntime) {
     let alloc = rt.alloc();
@@ -104,7 +104,7 @@ fn a_log_in_files_keeps_writes(rt: HostRuntime) {
     same(&rt, &number_of(&rt, refused), &20);
 }
 
-// The third write of a log of two versions.
+// Three writes to a log of two versions.
 fn three_writes<L: WriteLog>(rt: &impl Abort, log: &mut L) -> [Answer; 3] {
     [
         set(rt, log, b"x", 1),
@@ -130,19 +130,19 @@ fn versions_are_spent(rt: HostRuntime) {
     got(&rt, log_in_memory(&rt, rt.alloc(), OF_TWO, Spending));
 }
 
-// Opening after these statements has this fault, 0 where it opens.
+// Tests that opening after these statements has the fault of this number, or opens if that is 0.
 fn tells(rt: &impl Abort, alloc: Global, statements: &[&str], fault: u8) {
     let opening = Opening { statements, ..OWN };
     let found = number_of(rt, log_in_memory(rt, alloc, opening, Looking));
     same_at(rt, &statements, &found, &fault);
 }
 
-// The same of a statement behind those that make both tables.
+// The same for a statement after those that make both tables.
 fn tells_with_tables(rt: &impl Abort, alloc: Global, sql: &str, fault: u8) {
     tells(rt, alloc, &[META, WRITES, sql], fault);
 }
 
-// The same where the log is the owner's.
+// The same if the log is the owner's.
 fn tells_of_own(rt: &impl Abort, alloc: Global, sql: &str, fault: u8) {
     tells(rt, alloc, &[META, WRITES, OWN_META_ROW, sql], fault);
 }
@@ -159,7 +159,8 @@ fn tells_of_tables(rt: &impl Abort, alloc: Global) {
     tells(rt, alloc, &[META, WRITES, unowned], 19);
 }
 
-// Logs of each form that is read, of unknown forms, and those whose floor is above the last version, or that above all.
+// Logs of each form that is read, and of unknown forms. Logs whose floor is above the last version, or whose last
+// version is above all else.
 fn tells_of_meta(rt: &impl Abort, alloc: Global) {
     tells_with_tables(rt, alloc, OWN_META_ROW, 0);
     tells_with_tables(rt, alloc, OLDER, 0);
@@ -201,7 +202,7 @@ fn tells_of_meta(rt: &impl Abort, alloc: Global) {
     );
 }
 
-// Logs of another owner, and of another cluster, which say a last version or a floor that they can't say too.
+// Logs of another owner, and of another cluster. They also have a last version or a floor that they cannot have.
 fn tells_of_others(rt: &impl Abort, alloc: Global) {
     tells_with_tables(
         rt,
@@ -217,7 +218,7 @@ fn tells_of_others(rt: &impl Abort, alloc: Global) {
     );
 }
 
-// The same of a log that says this last version and this floor in place of both 0, and has one row, of version 3.
+// The same for a log that has this last version and this floor instead of 0 and 0, and has one row, of version 3.
 fn tells_of_numbers(rt: &impl Abort, alloc: Global, numbers: &str, fault: u8) {
     let row = "INSERT INTO writes VALUES ('x', 3, 3, 1, NULL)";
     tells(
@@ -228,7 +229,7 @@ fn tells_of_numbers(rt: &impl Abort, alloc: Global, numbers: &str, fault: u8) {
     );
 }
 
-// Last versions and floors that such a log can say, and others.
+// Last versions and floors that such a log can have, and others.
 fn tells_of_floors(rt: &impl Abort, alloc: Global) {
     tells_of_numbers(rt, alloc, "UPDATE meta SET last = 3", 0);
     tells_of_numbers(rt, alloc, "UPDATE meta SET last = 2, floor = 1", 0);
@@ -251,7 +252,7 @@ fn tells_of_floors(rt: &impl Abort, alloc: Global) {
     );
 }
 
-// Writes within the limits, and such that break one.
+// Writes within the limits, and writes that break one.
 fn tells_of_writes(rt: &impl Abort, alloc: Global) {
     tells_of_own(
         rt,
@@ -279,7 +280,7 @@ fn tells_of_writes(rt: &impl Abort, alloc: Global) {
     );
 }
 
-// Texts within their limits and beyond, and one in a log of form 1, which has none.
+// Texts within their limits and beyond, and one in a log of form 1, which cannot have any.
 fn tells_of_texts(rt: &impl Abort, alloc: Global) {
     let texts = "INSERT INTO writes VALUES ('x', 1, 4, NULL, 'é b'), ('y', 2, 1, NULL, 'h:1')";
     tells_of_own(rt, alloc, texts, 0);

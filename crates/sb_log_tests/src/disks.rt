@@ -1,4 +1,4 @@
-//! Databases: in memory alone, and over two disks in memory of which a call fails.
+//! Databases: in memory alone, and over two disks in memory that can fail a call.
 use crate::faulty::{After, Faulty};
 use crate::got;
 use crate::lent::Lent;
@@ -30,7 +30,7 @@ pub fn new_disks(alloc: Global) -> Files<Memory> {
     }
 }
 
-/// The disk of a process that ended: all that was written is there.
+/// The disk after its process ended: all that was written is there.
 fn left_whole(rt: &impl Abort, alloc: Global, disk: &Memory) -> Memory {
     let mut whole = Memory::new(alloc);
     got(rt, whole.write_at(0, disk.bytes()));
@@ -38,7 +38,7 @@ fn left_whole(rt: &impl Abort, alloc: Global, disk: &Memory) -> Memory {
     whole
 }
 
-/// Files with the same bytes, all of which are synced.
+/// Makes files with the same bytes, all of them synced.
 pub fn whole_copy(rt: &impl Abort, alloc: Global, files: &Files<Memory>) -> Files<Memory> {
     Files {
         log: left_whole(rt, alloc, &files.log),
@@ -46,7 +46,7 @@ pub fn whole_copy(rt: &impl Abort, alloc: Global, files: &Files<Memory>) -> File
     }
 }
 
-/// What is done with a database, whatever store it is over.
+/// What is done with a database, over any store.
 pub trait DatabaseVisit {
     type Outcome;
 
@@ -58,7 +58,8 @@ pub trait DatabaseVisit {
     ) -> Self::Outcome;
 }
 
-/// What comes of a visit to a new database in memory. It is the one place that names its store: each function that names one is dear to prove.
+/// Visits a new database in memory, and returns what comes of it. This is the one place that names its store: a
+/// function that names it is slow to prove.
 pub fn in_memory<V: DatabaseVisit + Drop>(
     rt: &impl Abort,
     alloc: Global,
@@ -67,7 +68,8 @@ pub fn in_memory<V: DatabaseVisit + Drop>(
     visitor.visit(rt, alloc, got(rt, Connection::open_in_memory(alloc)))
 }
 
-/// What comes of a visit to a database over both files. `StoreFailed` where it can't be opened. It is the one place that names the disks.
+/// Visits a database over both files, and returns what comes of it. `StoreFailed` if it cannot be opened. This is the
+/// one place that names the disks.
 pub fn on_disks<V: DatabaseVisit + Drop>(
     rt: &impl Abort,
     alloc: Global,

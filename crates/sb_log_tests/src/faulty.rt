@@ -1,4 +1,4 @@
-//! A disk that fails a call: that one alone, or each call from then on.
+//! A disk that fails a call: only that one, or each call from then on.
 ghost use Rattle.std.specs.Prelude.{◌≡◌, ◌+◌, ◌&&◌, false, not};
 ghost use Rattle.sqlite_disk.specs.Disk.{CountsFault};
 ghost use Rattle.sqlite_disk.specs.Refusal.{finds_no_room};
@@ -37,7 +37,7 @@ impl<D: Disk> Faulty<D> {
     }
 }
 
-/// Counts a call, which fails where none is left.
+/// Counts a call. It fails if none is left.
 fn spend(calls_left: &mut u64, after: After, refused: &mut u64) -> io::Result<()>
     ensures faults { CountsFault result refused.old refused.new }
     ensures kind { finds_no_room result ≡ false }

@@ -1,5 +1,5 @@
-//! What a log in a database holds behind many writes, and one in files when it is opened again: the rows of a log in memory that took
-//! the same.
+//! What a log in a database holds after many writes, and what one in files holds when it is opened again. Both hold the
+//! rows of a log in memory that took the same writes.
 use crate::disks::{ENDLESS, new_disks};
 use crate::visits::{LogVisit, OWN, Opening, log_in_memory, log_on_disks, rows_on_disks};
 use crate::writes::{CLUSTER, OWNER, many, name, put, remove, set, settled, slot_parts};
@@ -16,7 +16,7 @@ const LONG: Opening<'static> = Opening {
     ..OWN
 };
 
-/// How many entries of a table another has under the same key, with the same version and value.
+/// How many entries of a table another one has too, with the same key, version and value.
 fn shared(one: &Table, other: &Table) -> usize {
     let mut count: usize = 0;
     for entry in one.after(0) {
@@ -29,7 +29,8 @@ fn shared(one: &Table, other: &Table) -> usize {
     count
 }
 
-/// How many entries a log holds, and shares with a log in memory that took so many rounds of the same writes.
+/// How many entries a log holds, and how many it shares with a log in memory that took so many rounds of the same
+/// writes.
 fn compared<L: WriteLog>(
     rt: &impl Abort,
     alloc: Global,
@@ -47,7 +48,7 @@ fn compared<L: WriteLog>(
     (found.len(), shared(&wanted, &found))
 }
 
-/// Takes so many rounds of writes over ten keys: how many are answered in their turn.
+/// Takes so many rounds of writes over ten keys. Returns how many are answered in their turn.
 #[derive(Drop)]
 struct Many {
     rounds: u64,
@@ -80,7 +81,7 @@ impl LogVisit for Comparing {
     }
 }
 
-/// The one behind the other.
+/// Takes writes, and then compares.
 #[derive(Drop)]
 struct TakingAndComparing {
     rounds: u64,
@@ -144,7 +145,7 @@ impl LogVisit for Five {
     }
 }
 
-/// Prints a log: what was printed.
+/// Prints a log. Returns what was printed.
 #[derive(Drop)]
 struct Printing;
 

@@ -1,5 +1,5 @@
-//! The tests of the owner's log. They stand in a crate of their own, since a crate with tests is proved twice: with them and
-//! without.
+//! The tests of the owner's log. They are in a crate of their own, since a crate with tests is proved twice: with them
+//! and without.
 #![tactic(auto)]
 
 #[cfg(test)]
@@ -36,19 +36,19 @@ use std::fmt::Debug;
 #[cfg(test)]
 use std::process::Abort;
 
-/// The answer; where there is none, the end of the test, which names the fault.
+/// Returns the answer. If it is a fault, ends the test and names the fault.
 #[cfg(test)]
 fn got<T, E: Debug + Drop>(rt: &impl Abort, answer: Result<T, E>) -> T {
     answer.expect(rt, "error")
 }
 
-/// Ends the test where the two differ. As a function it costs the prover a fifth of the macro.
+/// Ends the test if the two differ. As a function it costs the prover a fifth of the macro.
 #[cfg(test)]
 fn same<T: PartialEq + Debug>(rt: &impl Abort, found: &T, wanted: &T) {
     assert_eq!(rt; found, wanted);
 }
 
-/// The same of one of many cases, which is named where the two differ.
+/// The same for one of many cases, which it names if the two differ.
 #[cfg(test)]
 fn same_at<N: Debug, T: PartialEq + Debug>(rt: &impl Abort, at: &N, found: &T, wanted: &T) {
     assert_eq!(rt; found, wanted, "{at:?}");

@@ -14,16 +14,16 @@ use sqlite_disk::{Crash, Memory};
 use std::alloc::Global;
 use std::process::Abort;
 
-/// The version and the weight of a key's last write, of which a removal has none.
+/// The version of a key's last write, and its weight, which a removal does not have.
 type Row = Option<(u64, Option<u64>)>;
 
 /// How many keys a log holds, and the rows of x and y.
 type Rows = (usize, Row, Row);
 
-/// What stands behind the writes of `Writing`.
+/// What a log holds after the writes of `Writing`.
 const ROWS: Rows = (2, Some((3, None)), Some((2, Some(6))));
 
-/// Another's name.
+/// The name of another owner.
 const ANOTHER: &[u8] = b"b";
 
 /// Sets two keys, and removes the first.
@@ -70,7 +70,8 @@ impl LogVisit for Reading {
     }
 }
 
-/// By whom a log is opened that has rows, by which statements it is spoiled before and mended after, and the fault of the opening.
+/// How a log with rows is opened: by which owner, with statements that spoil it before and mend it after. Then the
+/// fault of the opening.
 #[derive(Clone, Copy)]
 struct Case {
     owner: &'static [u8],
@@ -93,7 +94,7 @@ const OTHER_OWNERS_LOG: Case = Case {
     fault: 20,
 };
 
-/// A last version above both the floor and the last row's is damage.
+/// A last version above both the floor and the last row's version is damage.
 const DAMAGED: Case = Case {
     owner: OWNER,
     spoil: &["UPDATE meta SET last = 7"],
@@ -129,7 +130,7 @@ fn written(rt: &impl Abort, alloc: Global, case: Case) -> Files<Memory> {
     disks
 }
 
-/// Opens it while a call may fail. The number of the fault.
+/// Opens it while a call can fail. Returns the number of the fault.
 fn open_once(
     rt: &impl Abort,
     alloc: Global,
@@ -142,7 +143,7 @@ fn open_once(
     number_of(rt, opened)
 }
 
-/// The rows of a log that is mended and opened as its owner's, and the version of its next write.
+/// Mends a log and opens it as its owner's. Returns its rows, and the version of its next write.
 fn rows_of(
     rt: &impl Abort,
     alloc: Global,
@@ -159,14 +160,14 @@ fn rows_of(
     )
 }
 
-/// Lets what was not synced be lost.
+/// Loses what was not synced.
 fn crash(disks: &mut Files<Memory>) {
     disks.log.crash();
     disks.db.crash();
 }
 
-/// Opens a copy of such files while a call may fail, and after a crash again: each row is there, and the next write has the next version.
-/// The number of the first fault.
+/// Opens a copy of such files while a call can fail, and again after a crash. Tests that each row is there, and that
+/// the next write has the next version. Returns the number of the first fault.
 fn open_twice(
     rt: &impl Abort,
     alloc: Global,
@@ -182,7 +183,8 @@ fn open_twice(
     number
 }
 
-/// Lets one call of the log's file fail, each from the one to the other in its turn: no opening succeeds, or says another fault.
+/// Makes one call of the log's file fail, each from `from` to `to` in its turn. Tests that no opening succeeds or
+/// reports another fault.
 fn miss_each(rt: &impl Abort, alloc: Global, case: Case, after: After, from: u64, to: u64) {
     let files = written(rt, alloc, case);
     for log in from..to {
@@ -196,15 +198,17 @@ fn miss_each(rt: &impl Abort, alloc: Global, case: Case, after: After, from: u64
     }
 }
 
-/// Lets the call behind so many of the log's file fail: the opening has ended as it does on disks that don't fail.
+/// Makes the call after so many calls of the log's file fail. Tests that the opening has then ended as on disks that do
+/// not fail.
 fn ends_within(rt: &impl Abort, alloc: Global, case: Case, log: u64) {
     let files = written(rt, alloc, case);
     let number = open_twice(rt, alloc, &files, Calls { log, ..ENDLESS }, case);
     same_at(rt, &log, &number, &case.fault);
 }
 
-// The log's file has 16 frames, and 17 behind a change of the row of meta. An opening reads each four times, and makes 33 other calls:
-// of the lengths, the header, the page behind the last frame, the gate, the five pages, twice, and syncs. Each of them is let fail below.
+// The log's file has 16 frames, and 17 after a change of the row of meta. An opening reads each four times, and makes
+// 33 other calls. They are for the lengths, the header, the page after the last frame, the gate, the five pages twice,
+// and syncs. Each of them fails in one of the tests below.
 #[test]
 fn an_opening_makes_97_calls(rt: HostRuntime) {
     ends_within(&rt, rt.alloc(), WHOLE, 97);
@@ -217,7 +221,7 @@ fn an_opening_behind_a_change_makes_101_calls(rt: HostRuntime) {
     ends_within(&rt, rt.alloc(), OF_ANOTHER_FORM, 101);
 }
 
-// The statement that raises the form makes six of them.
+// The statement that raises the form makes six of these calls.
 #[test]
 fn an_opening_that_raises_the_form_makes_107_calls(rt: HostRuntime) {
     ends_within(&rt, rt.alloc(), OF_FORM_1, 107);
@@ -273,14 +277,16 @@ fn an_opening_of_another_form_that_fails_at_calls_51_to_101_loses_nothing(rt: Ho
     miss_each(&rt, rt.alloc(), OF_ANOTHER_FORM, After::Answering, 50, 101);
 }
 
-/// Opens what an opening left that raises the form: each row is there, the next write has the next version, and the form is 2.
+/// Opens what an opening left that raises the form. Tests that each row is there, the next write has the next version,
+/// and the form is 2.
 fn is_raised(rt: &impl Abort, alloc: Global, disks: &mut Files<Memory>, log: u64) {
     let found = rows_of(rt, alloc, disks, &[]);
     let form = form_on_disks(rt, alloc, disks);
     same_at(rt, &log, &(found, form), &((ROWS, 4), 2));
 }
 
-/// Lets one call fail of an opening that raises the form, each from call 101 on in its turn; then what was not synced stays, and is lost.
+/// Makes one call of an opening fail that raises the form, each from call 101 on in its turn. Then what was not synced
+/// stays once, and is lost once.
 fn miss_raise(rt: &impl Abort, alloc: Global, after: After) {
     let files = written(rt, alloc, OF_FORM_1);
     for log in 100..107 {
@@ -308,7 +314,7 @@ fn an_opening_on_a_disk_that_stops_at_the_raise_loses_nothing(rt: HostRuntime) {
     miss_raise(&rt, rt.alloc(), After::Failing);
 }
 
-/// Opens such files, twice: the fault stays, and so does the form.
+/// Opens such files twice. Tests that the fault stays, and that the form stays.
 fn keeps_form(rt: &impl Abort, alloc: Global, case: Case, form: i64) {
     let mut disks = written(rt, alloc, case);
     for _ in 0..2 {
@@ -318,7 +324,7 @@ fn keeps_form(rt: &impl Abort, alloc: Global, case: Case, form: i64) {
     }
 }
 
-/// The same of a log of form 1 that a statement spoils.
+/// The same for a log of form 1 that a statement spoils.
 fn stays_in_form_1(rt: &impl Abort, alloc: Global, sql: &'static [&'static str], fault: u8) {
     let case = Case {
         spoil: sql,

@@ -25,7 +25,7 @@ fn are_the_last(table: &Table) -> bool {
     }
 }
 
-// x gets weight 5 and is removed, y gets a flag: what each write is answered.
+// Sets x to weight 5 and removes it, and sets y to a flag. Returns the answers.
 fn three_writes<L: WriteLog>(rt: &impl Abort, log: &mut L) -> [Answer; 3] {
     [
         set(rt, log, b"x", 5),
@@ -34,12 +34,12 @@ fn three_writes<L: WriteLog>(rt: &impl Abort, log: &mut L) -> [Answer; 3] {
     ]
 }
 
-// Whether the log holds each key's last of those.
+// Whether the log holds the last of those writes for each key.
 fn holds_the_last<L: WriteLog>(rt: &impl Abort, alloc: Global, log: &mut L) -> bool {
     are_the_last(&got(rt, log.load(alloc)))
 }
 
-// Removals of what is there and of what is not.
+// Removals of what is there, and of what is not.
 fn removals<L: WriteLog>(rt: &impl Abort, log: &mut L) -> [Answer; 6] {
     [
         remove(rt, log, b"x"),
@@ -51,7 +51,7 @@ fn removals<L: WriteLog>(rt: &impl Abort, log: &mut L) -> [Answer; 6] {
     ]
 }
 
-// With versions up to 2: the third write is refused, and an idle removal for its own reason.
+// With versions up to 2, the third write is refused, and an idle removal for its own reason.
 fn past_the_greatest<L: WriteLog>(rt: &impl Abort, log: &mut L) -> [Answer; 5] {
     [
         set(rt, log, b"x", 1),
@@ -62,7 +62,8 @@ fn past_the_greatest<L: WriteLog>(rt: &impl Abort, log: &mut L) -> [Answer; 5] {
     ]
 }
 
-// Behind those, with versions up to 4,097: a new key finds no room, one that is there does, and then the versions are spent.
+// After those, with versions up to 4,097: an old key still has room, and a new one does not. Then the versions are
+// spent.
 fn a_key_too_many<L: WriteLog>(rt: &impl Abort, log: &mut L) -> [Answer; 5] {
     [
         set(rt, log, b"new", 1),

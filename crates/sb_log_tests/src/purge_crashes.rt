@@ -1,4 +1,4 @@
-//! What a purge leaves of a log in files, on disks of which a call fails, and each one after it or none.
+//! What a purge leaves of a log in files, on disks that fail one call, or that one and each after it.
 use crate::disks::{Calls, ENDLESS, new_disks, whole_copy};
 use crate::faulty::After;
 use crate::visits::{LogVisit, OWN, log_on_disks, rows_on_disks};
@@ -42,7 +42,7 @@ fn written(rt: &impl Abort, alloc: Global) -> Files<Memory> {
     disks
 }
 
-/// Raises the floor to 3. Where the store fails the log takes no other call, be the disk as it may.
+/// Raises the floor to 3. If the store fails, the log takes no other call, whatever the disk does.
 #[derive(Drop)]
 struct Purging;
 
@@ -82,7 +82,8 @@ impl LogVisit for Reopening {
     }
 }
 
-/// Opened again it holds what it held before or after the purge, and after an acknowledged one the latter; each of its keys has a row, and no other.
+/// Tests a log that is opened again: it holds what it held before the purge or after it. After an acknowledged purge it
+/// holds what it held after it. Each of its keys has a row, and there is no other row.
 fn recovers(rt: &impl Abort, alloc: Global, disks: &mut Files<Memory>, at: u64, is_done: bool) {
     let (found, next) = got(rt, log_on_disks(rt, alloc, disks, ENDLESS, OWN, Reopening));
     let is_kept = found == AFTER || (found == BEFORE && !is_done);
@@ -92,7 +93,8 @@ fn recovers(rt: &impl Abort, alloc: Global, disks: &mut Files<Memory>, at: u64, 
     same_at(rt, &at, &rows, &wanted);
 }
 
-/// Purges while a call may fail; then what was not synced stays, and is lost. Whether the purge was acknowledged.
+/// Purges while a call can fail. Then what was not synced stays once, and is lost once. Returns whether the purge was
+/// acknowledged.
 fn stop(rt: &impl Abort, alloc: Global, files: &Files<Memory>, calls: Calls) -> bool {
     let mut disks = whole_copy(rt, alloc, files);
     let purged = log_on_disks(rt, alloc, &mut disks, calls, OWN, Purging);
@@ -110,7 +112,7 @@ fn stop(rt: &impl Abort, alloc: Global, files: &Files<Memory>, calls: Calls) -> 
     is_done
 }
 
-/// The calls of the log file that an opening makes, and those that a purge behind it makes too.
+/// The calls of the log file that an opening makes, and those that an opening and a purge make.
 const OPENED: u64 = 97;
 
 const PURGED: u64 = 108;
@@ -127,7 +129,7 @@ fn miss_each(rt: &impl Abort, alloc: Global, after: After) {
     }
 }
 
-// Each call of the purge is let fail below, and with one more it is done.
+// Each call of the purge fails in one of the tests below. With one call more it is done.
 #[test]
 fn no_call_of_a_purge_is_left_out(rt: HostRuntime) {
     let alloc = rt.alloc();

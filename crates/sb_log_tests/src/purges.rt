@@ -1,4 +1,5 @@
-//! A log whose floor is raised, wherever it keeps its writes: what goes, what is refused, and what stands when it is opened again.
+//! A log whose floor is raised, wherever it keeps its writes: what goes, what is refused, and what is there when it is
+//! opened again.
 use crate::database::{META, OWN_META_ROW, WRITES};
 use crate::disks::{ENDLESS, new_disks};
 use crate::visits::{
@@ -28,7 +29,7 @@ fn three_writes<L: WriteLog>(rt: &impl Abort, log: &mut L) {
     same(rt, &settled(rt, answers), &[Ok(1), Ok(2), Ok(3)]);
 }
 
-/// Raises the floor of a log of those, once below the removal and once to it.
+/// Raises the floor of a log of those writes, once below the removal and once to it.
 fn raised_twice<L: WriteLog>(rt: &impl Abort, alloc: Global, log: &mut L) {
     same(rt, &log.purge(4), &TOO_HIGH);
     same(rt, &reach(rt, alloc, log), &(2, 3, 0));
@@ -38,7 +39,7 @@ fn raised_twice<L: WriteLog>(rt: &impl Abort, alloc: Global, log: &mut L) {
     same(rt, &reach(rt, alloc, log), &(1, 3, 3));
 }
 
-/// A floor that is not above the present one changes nothing.
+/// Tests that a floor that is not above the present one changes nothing.
 fn stays_raised<L: WriteLog>(rt: &impl Abort, alloc: Global, log: &mut L) {
     same(rt, &log.purge(3), &Ok(()));
     same(rt, &log.purge(1), &Ok(()));
@@ -46,7 +47,7 @@ fn stays_raised<L: WriteLog>(rt: &impl Abort, alloc: Global, log: &mut L) {
     same(rt, &reach(rt, alloc, log), &(1, 3, 3));
 }
 
-/// The next write has the version after the last; what was removed is not there.
+/// Tests that the next write has the version after the last, and that what was removed is not there.
 fn goes_on<L: WriteLog>(rt: &impl Abort, alloc: Global, log: &mut L) {
     let answers = [
         remove(rt, log, b"x"),
@@ -57,7 +58,7 @@ fn goes_on<L: WriteLog>(rt: &impl Abort, alloc: Global, log: &mut L) {
     same(rt, &reach(rt, alloc, log), &(2, 5, 3));
 }
 
-/// A log of nothing has floor 0, and no other can be raised.
+/// Tests that an empty log has floor 0, and that its floor cannot be raised.
 fn is_empty<L: WriteLog>(rt: &impl Abort, alloc: Global, log: &mut L) {
     same(rt, &log.purge(0), &Ok(()));
     same(rt, &log.purge(1), &TOO_HIGH);
@@ -95,7 +96,7 @@ fn a_log_in_memory_is_purged(rt: HostRuntime) {
     got(&rt, log_in_memory(&rt, rt.alloc(), OWN, Purging));
 }
 
-// The row of the removal is gone, and the row of meta says the last version and the floor, which stay as writes come.
+// The row of the removal is gone. The row of meta has the last version and the floor, which stay as writes come.
 #[test]
 fn a_log_in_files_is_purged(rt: HostRuntime) {
     let alloc = rt.alloc();
@@ -122,7 +123,8 @@ impl LogVisit for Writing {
     }
 }
 
-// A crash behind the first of the two statements: the removal has a row that is none of the content, and the opening takes it out.
+// A crash after the first of the two statements: the removal still has a row, which does not belong to the content. The
+// opening drops it.
 #[test]
 fn a_crash_between_the_statements_leaves_the_floor(rt: HostRuntime) {
     let alloc = rt.alloc();
@@ -144,7 +146,8 @@ fn a_crash_between_the_statements_leaves_the_floor(rt: HostRuntime) {
     same(&rt, &numbers_on_disks(&rt, alloc, &mut disks), &(3, 3));
 }
 
-/// Removes one of as many keys as there may be, the last of which has the version 4,096: no other finds room until its removal is up to the floor.
+/// Removes one key of a log that has as many as there can be, and whose last version is 4,096. Tests that no other key
+/// has room until the floor reaches that removal.
 fn is_freed<L: WriteLog>(rt: &impl Abort, alloc: Global, log: &mut L, full: &[u8]) {
     let answers = [remove(rt, log, full), set(rt, log, b"new", 1)];
     same(rt, &settled(rt, answers), &[Ok(4097), FULL]);
@@ -175,7 +178,7 @@ fn a_purge_frees_a_key_of_a_plain_log(rt: HostRuntime) {
     is_freed(&rt, alloc, &mut log, b"k4096");
 }
 
-/// Makes a log of 4,096 rows: one, and twelve times as many again.
+/// Makes a log of 4,096 rows: one row, and then twelve times as many again.
 const FILLED: [&str; 16] = [
     META,
     WRITES,
@@ -205,7 +208,7 @@ fn a_purge_frees_a_key_in_a_database(rt: HostRuntime) {
     got(&rt, log_in_memory(&rt, rt.alloc(), opening, Freeing));
 }
 
-/// A purge that ends as it may where memory is wanting: the floor is raised, or the log is closed.
+/// A purge that can find no memory. It raises the floor, or the log is closed.
 #[derive(Drop)]
 struct Ending;
 

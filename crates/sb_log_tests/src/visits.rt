@@ -1,4 +1,4 @@
-//! A log that is opened in a database, in memory alone or over two disks, and what is done with it there.
+//! Opens a log in a database, in memory alone or over two disks, and does something with it there.
 use crate::disks::{Calls, DatabaseVisit, ENDLESS, in_memory, on_disks};
 use crate::writes::{CLUSTER, OWNER, Reach, name, reach};
 use crate::{got, same};
@@ -10,8 +10,8 @@ use sqlite_value::value::ValueRef;
 use std::alloc::Global;
 use std::process::Abort;
 
-/// As whose log a database is opened, up to which version, which statements are run in it before, and behind which version the log begins,
-/// where it is to.
+/// How a database is opened as a log: its owner, its greatest version, and the statements that run in it before. The
+/// log can also begin after a version.
 #[derive(Clone, Copy)]
 pub struct Opening<'a> {
     pub owner: &'a [u8],
@@ -34,7 +34,7 @@ pub trait LogVisit {
     fn visit<L: WriteLog + Drop>(self, rt: &impl Abort, alloc: Global, log: L) -> Self::Outcome;
 }
 
-/// A visit to a log that does nothing: it opens.
+/// A visit to a log that does nothing but open it.
 #[derive(Drop)]
 pub struct Looking;
 
@@ -56,7 +56,7 @@ impl LogVisit for Reaching {
     }
 }
 
-// It has no clause, so that the proof of a test does not carry the state of each call.
+// It has no clause, so that the proof of a test does not contain the state of each call.
 fn run<S: Alter>(conn: &mut Connection<S>, sql: &str) -> Result<usize, Error> {
     conn.execute(sql, &[])
 }
@@ -67,7 +67,8 @@ fn run_each<S: Alter>(rt: &impl Abort, conn: &mut Connection<S>, statements: &[&
     }
 }
 
-/// Has a log begin behind a version, where one is given, and visits it. A log whose store failed at that takes no other call.
+/// Begins a log after a version, if one is given, and visits it. If the store fails at that, the log takes no other
+/// call.
 fn begin_and_visit<S: Alter + Drop, V: LogVisit + Drop>(
     rt: &impl Abort,
     alloc: Global,
@@ -89,7 +90,8 @@ fn begin_and_visit<S: Alter + Drop, V: LogVisit + Drop>(
     }
 }
 
-/// Opens a database as a log: the one place that has a log in a database, and that drops what a refused opening hands back.
+/// Opens a database as a log. This is the one place that has a log in a database, and that drops what a refused opening
+/// returns.
 fn open<S: Alter + Drop, V: LogVisit + Drop>(
     rt: &impl Abort,
     alloc: Global,
@@ -104,7 +106,7 @@ fn open<S: Alter + Drop, V: LogVisit + Drop>(
     }
 }
 
-/// Runs statements, opens a log, has it begin behind a version where one is given, and visits it.
+/// Runs statements, opens a log, begins it after a version if one is given, and visits it.
 #[derive(Drop)]
 struct Visiting<'a, V> {
     opening: Opening<'a>,
@@ -126,7 +128,7 @@ impl<V: LogVisit + Drop> DatabaseVisit for Visiting<'_, V> {
     }
 }
 
-/// What comes of a visit to a log in memory, or the fault of its opening.
+/// Visits a log in memory. Returns what comes of that, or the fault of the opening.
 pub fn log_in_memory<V: LogVisit + Drop>(
     rt: &impl Abort,
     alloc: Global,
@@ -136,7 +138,7 @@ pub fn log_in_memory<V: LogVisit + Drop>(
     in_memory(rt, alloc, Visiting { opening, visitor })
 }
 
-/// What comes of a visit to a log on disks of which a call may fail, or the fault of its opening.
+/// Visits a log on disks that can fail a call. Returns what comes of that, or the fault of the opening.
 pub fn log_on_disks<V: LogVisit + Drop>(
     rt: &impl Abort,
     alloc: Global,
@@ -151,7 +153,7 @@ pub fn log_on_disks<V: LogVisit + Drop>(
     }
 }
 
-/// The number of the fault of an opening, 0 where it opens; where memory ran out, the end of the test.
+/// The number of the fault of an opening, or 0 if it opens. Missing memory ends the test.
 pub fn number_of(rt: &impl Abort, opened: Result<(), Fault>) -> u8 {
     match opened {
         Ok(()) => 0,
@@ -209,7 +211,7 @@ pub fn rows_on_disks(rt: &impl Abort, alloc: Global, disks: &mut Files<Memory>) 
     got(rt, on_disks(rt, alloc, disks, ENDLESS, asking))
 }
 
-/// The last version and the floor that a log over disks says.
+/// The last version and the floor of a log over disks.
 pub fn numbers_on_disks(rt: &impl Abort, alloc: Global, disks: &mut Files<Memory>) -> (i64, i64) {
     let last = Asking {
         sql: "SELECT last FROM meta",

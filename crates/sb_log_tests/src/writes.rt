@@ -36,7 +36,7 @@ pub fn is_entry(entry: &Entry, key: &[u8], version: u64, slot: SlotParts) -> boo
     entry.key().bytes() == key && entry.version() == version && slot_parts(entry.slot()) == slot
 }
 
-/// The version of a write; 0, which is none, where it is not the one that was put.
+/// The version of a write. It is 0, which is not a version, if the write is not the one that was put.
 fn version_of(committed: &Committed, key: &Key, slot: &Slot) -> u64 {
     let entry = committed.entry();
     let version = entry.version();
@@ -65,7 +65,7 @@ pub fn remove<L: WriteLog>(rt: &impl Abort, log: &mut L, at: &[u8]) -> Answer {
     put(rt, log, at, Slot::Removed)
 }
 
-/// The answers; where memory ran out at one of them, the end of the test.
+/// Returns the answers. If memory was missing at one of them, the test ends.
 pub fn settled<const N: usize>(rt: &impl Abort, answers: [Answer; N]) -> [Answer; N] {
     if answers.contains(&Err(Fault::NoMemory)) {
         panic!(rt; "error: NoMemory");
@@ -92,7 +92,7 @@ fn numbered_key(rt: &impl Abort, alloc: Global, at: u64) -> Key {
     key(rt, text.as_bytes())
 }
 
-/// How many of the writes of as many keys as there may be, from k1 on, are answered in their turn.
+/// Writes to as many keys as there can be, from k1 on. Returns how many writes are answered in their turn.
 pub fn fill<L: WriteLog>(rt: &impl Abort, alloc: Global, log: &mut L) -> u64 {
     let mut in_turn: u64 = 0;
     for at in 1..=KEYS_MOST as u64 {
@@ -104,7 +104,7 @@ pub fn fill<L: WriteLog>(rt: &impl Abort, alloc: Global, log: &mut L) -> u64 {
     in_turn
 }
 
-/// How many writes are answered in their turn: ten in each round, one of each of ten keys.
+/// Makes ten writes in each round, one to each of ten keys. Returns how many are answered in their turn.
 pub fn many<L: WriteLog>(rt: &impl Abort, log: &mut L, rounds: u64) -> u64 {
     let mut in_turn: u64 = 0;
     let mut version: u64 = 0;

@@ -1,8 +1,8 @@
-//! Words, numbers and values, as lines have them.
+//! Words, numbers and values, as lines contain them.
 //!
-//! What prints rows or logs makes its lines by these three calls, so that all of them spell a number and a value alike. Each
-//! adds bytes behind those that are there, and whoever calls hands the whole to a writer. What they add are the words that
-//! `sb_types` reads and prints.
+//! Everything that prints rows or logs makes its lines with these three calls. So all lines spell a number and a value
+//! alike. Each call adds bytes at the end of the line, and the caller hands the whole line to a writer. The words are
+//! those that `sb_types` reads and prints.
 //!
 //! ```rust
 //! /// The line of what stands under a key: the key, the version and the two words of the value.
@@ -15,6 +15,11 @@
 //!     Ok(line)
 //! }
 //! ```
+//!
+//! # What no contract refuses
+//!
+//! No wrong body of this crate alone is known that would still be proved. As in every crate (`docs/GAPS.md`), a call
+//! can report without need that memory is missing. Tests with ample memory refuse that.
 #![tactic(auto)]
 
 mod adding;

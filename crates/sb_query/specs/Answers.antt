@@ -1,4 +1,4 @@
--- What a message tells to the one who asked.
+-- What a message means to the caller that sent a request.
 use Rattle.std.specs.Prelude.{◌≡◌, ℕ, [], ◌∷◌, take, Result, Ok, Err}
 use Rattle.sb_types.specs.declared.fault.Fault.{Fault}
 use Rattle.sb_types.specs.Faults.{number_of, carried_by}
@@ -9,7 +9,7 @@ use Rattle.sb_codec.specs.Records as records
 use Rattle.sb_query.specs.declared.answers.NoAnswer.{NoAnswer}
 use Rattle.sb_query.specs.declared.answers.NoAnswer.TheVariants as reasons
 
--- the fault of the number that a refusal gives, which carries nothing else; or the kind of another message
+-- the fault whose number a refusal gives, carrying nothing else; or the kind of another message
 abbrev pub IsNoAnswer : Message → NoAnswer → Type 0
 IsNoAnswer (Refused number) reason = (fault : Fault) × (reason ≡ reasons.Refused fault) × (number_of fault ≡ number) × (carried_by fault ≡ 0)
 IsNoAnswer other reason = (kind : ℕ) × (reason ≡ reasons.OtherKind kind) × (take 1 (spelling other) ≡ kind ∷ [])

@@ -7,26 +7,26 @@ use Rattle.sb_codec.specs.Lengths.{rows_length}
 use Rattle.sb_views.specs.NodeViews.{NodeView}
 use Rattle.sb_views.specs.LiveRows as live
 
--- a live row, as an answer tells it
+-- a live row, as a row of an answer
 abbrev pub message_row : live.LiveRow → Row
 message_row row = row_of row.owner row.key row.version row.value
 
--- a row that an answer tells, as a live row
+-- a row of an answer, as a live row
 abbrev pub live_row : Row → live.LiveRow
 live_row row = record { owner = row.owner; key = row.key; value = row.value; version = row.version }
 
--- the live rows that are asked for: of the owner or of all, under the prefix, behind the place
+-- the live rows that are asked for: of the owner or of all owners, under the prefix, after the place
 abbrev pub asked_rows : Ask → NodeView → List Row
 asked_rows ask page = map message_row (live.rows_behind ask.after ask.owner ask.prefix page)
 
--- the same question for what stands behind the row
+-- the same question for the rows after this one
 abbrev pub asking_behind : Row → Ask → Ask
 asking_behind row ask = record { owner = ask.owner; prefix = ask.prefix; after = Some (row.owner, row.key) }
 
 abbrev pub rows_frame_length : List Row → ℕ
 rows_frame_length rows = HEADER_LENGTH + rows_length rows
 
--- the longest front of the rows whose frame has at most budget bytes, and whether rows are left
+-- the longest prefix of the rows whose frame has at most budget bytes, and whether rows are left
 pub record IsLongestPage (budget : ℕ) (asked : List Row) (page : Rows) : Type 0 where
   pub count : ℕ
   pub within : count ≤ length asked

@@ -1,4 +1,4 @@
--- What is printed of a page.
+-- What is printed for a page.
 use Rattle.std.specs.Prelude.{ℕ, List, [], ◌∷◌, ◌++◌, decimal}
 use Rattle.std.specs.List.{flat_map}
 use Rattle.sb_types.specs.Value.{line_of}

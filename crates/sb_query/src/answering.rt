@@ -14,7 +14,7 @@ use std::alloc::Global;
 /// The length of the frame of a page without rows: a header, the kind, whether more follow, and the count.
 const EMPTY_FRAME: u64 = HEADER_LENGTH + BYTE_LENGTH + BYTE_LENGTH + COUNT_LENGTH;
 
-/// The row, copied. `NoMemory`.
+/// Copies the row. `NoMemory`.
 fn copy_of(alloc: Global, row: sb_views::LiveRow<'_>) -> Result<Row, Fault>
     ensures told { IfOk result (λ copy. copy ≡ message_row (row_lent row.entry)) }
     ensures memory { IfErr result (λ fault. fault ≡ Fault.NoMemory) }
@@ -23,7 +23,8 @@ fn copy_of(alloc: Global, row: sb_views::LiveRow<'_>) -> Result<Row, Fault>
     Row::new(*row.owner, *row.key, row.live.version(), value)
 }
 
-/// Whether rows are left, and the longest front of the rows whose page has a frame within the budget.
+/// Returns whether rows are left, and the longest prefix of the rows whose page has a frame within the budget. The
+/// first row without room is copied before it is measured, and then dropped. `NoMemory`.
 fn gather(
     alloc: Global,
     asked: sb_views::LiveRows<'_>,
@@ -49,10 +50,12 @@ fn gather(
     Ok((false, rows))
 }
 
-/// The longest page of the live rows that are asked for whose frame has at most `budget` bytes, 1,024 to 65,536, and
-/// whether rows are left. It has at least one row where one is asked for, so asking behind the last row goes on. It
-/// reads the rows of the page and one more, and of each owner that it passes makes one search, and reads at most one row
-/// beyond the prefix. `NoMemory`.
+/// Returns the longest page of the asked live rows whose frame has at most `budget` bytes, 1,024 to 65,536, and whether
+/// rows are left. The page has at least one row if a row is asked for, so asking after its last row goes on.
+/// `NoMemory`.
+///
+/// The call reads the rows of the page and one more. For each owner that it passes it makes one search, and reads at
+/// most one row beyond the prefix.
 pub fn answer(alloc: Global, snapshot: &Snapshot<'_>, ask: &Ask, budget: u64) -> Result<Rows, Fault>
     requires least { BUDGET_LEAST ≤ budget }
     requires most { budget ≤ BUDGET_MOST }

@@ -1,4 +1,4 @@
-//! What a message tells to the one who asked.
+//! What a message means to the caller that sent a request.
 ghost use Rattle.sb_query.specs.Answers.{IsNoAnswer, TellsVersion, TellsPage};
 
 use sb_codec::{Message, Rows};
@@ -7,9 +7,9 @@ use sb_types::Fault;
 /// Why a message is not the answer to a request.
 #[derive(Clone, Copy)]
 pub enum NoAnswer {
-    /// It refuses the request, for this fault.
+    /// The message refuses the request, for this fault.
     Refused(Fault),
-    /// It is of this kind, which answers no such request.
+    /// The message is of this kind, which does not answer such a request.
     OtherKind(u8),
 }
 
@@ -22,8 +22,8 @@ fn no_answer(message: &Message) -> NoAnswer
     }
 }
 
-/// The version under which a write was made, as the answer to a Put tells it. `Refused` with the fault of a Refused, whatever
-/// else that fault carries being 0; `OtherKind` of any other message.
+/// Returns the version under which a write was made, from the answer to a Put. `Refused` with the fault of a Refused
+/// message, in which a number that the fault carries is 0. `OtherKind` for any other message.
 pub fn version_in(message: &Message) -> Result<u64, NoAnswer>
     ensures { TellsVersion message.now result }
 {
@@ -33,7 +33,7 @@ pub fn version_in(message: &Message) -> Result<u64, NoAnswer>
     }
 }
 
-/// The page that answers an Ask. `Refused` and `OtherKind` as with `version_in`.
+/// Returns the page that answers an Ask. `Refused` and `OtherKind` as in `version_in`.
 pub fn page_in(message: Message) -> Result<Rows, NoAnswer>
     ensures { TellsPage message result }
 {

@@ -1,4 +1,4 @@
-//! What follows from the definitions alone. The function does nothing: its clause is a law.
+//! Laws: what follows from the definitions alone. Their functions do nothing.
 ghost use Rattle.std.specs.Prelude.{◌≡◌, ℕ, ◌∷◌, ◌++◌, List};
 ghost use Rattle.std.specs.List.{flat_map};
 ghost use Rattle.sb_codec.specs.declared.message.ask.Ask as ask;
@@ -10,14 +10,14 @@ ghost use Rattle.sb_query.specs.Paging.{asks, Lists};
 
 use crate::paging::Pager;
 
-/// Who asks again behind the last row of a page is asked for what the page left: no row is passed over, and none comes
-/// twice.
+/// Law: a question that asks again after the last row of a page asks for exactly the rows that the page left. So no row
+/// is skipped, and none comes twice.
 pub fn pages_follow()
     ensures { (question : ask.Ask) (view : NodeView) (front : List Row) (last : Row) (rest : List Row) →
         asked_rows question view ≡ front ++ last ∷ rest → asked_rows (asking_behind last question) view ≡ rest }
 {}
 
-/// Where each page is the answer to its question from one view, all pages have just the rows that are asked for: each once.
+/// Law: if each page answers its question from one view, all pages together have exactly the asked rows, each once.
 pub fn listings_are_whole<P: Pager>()
     ensures { (view : NodeView) → ((old new : P) (question : ask.Ask) (page : records.Rows) → P.step old (asks question page) new
         → (budget : ℕ) × IsLongestPage budget (asked_rows question view) page)

@@ -1,7 +1,7 @@
-//! Questions for rows: the page that answers one, what an answer tells, and the lines of a page.
+//! Questions for rows: the page that answers one, what an answer contains, and the lines of a page.
 //!
-//! A question names an owner or none, a prefix, and the place behind which its rows stand. Its answer is the longest page within a
-//! budget; who wants all rows asks for page after page.
+//! A question names an owner or none, a prefix, and the place after which the rows come. Its answer is the longest page
+//! within a budget. A caller that wants all rows asks for page after page.
 //!
 //! ```rust
 //! /// The lines of the first page of all rows under a prefix.
@@ -22,6 +22,13 @@
 //!     Ok(lines)
 //! }
 //! ```
+//!
+//! # What no contract refuses
+//!
+//! This wrong body would still be proved. `docs/GAPS.md` also has those of every crate.
+//!
+//! - `answer` reads more than one row beyond its page, or rows before its place. Nothing refuses it: that is a matter
+//!   of time.
 #![tactic(auto)]
 
 mod answering;

@@ -9,24 +9,24 @@ ghost use Rattle.sb_query.specs.Paging.{asks, takes, ends_or_has_rows, IsPlaceBe
 use sb_codec::{Ask, Row, Rows};
 use sb_types::{Fault, KIND_ROWS, Key, Name};
 
-/// How many pages are asked for at most.
+/// The most pages that one call asks for.
 const PAGES_MOST: u64 = u64::MAX;
 
-/// Who answers questions for rows with pages, and takes the pages that go on.
+/// Answers questions for rows with pages, and takes the pages that go on.
 pub trait Pager {
     ghost use Rattle.sb_query.specs.Paging.{Act};
 
-    /// By such a call it may come from the one state to the other.
+    /// By this call, the pager can change from the first state to the second.
     ghost step: { Self → Act → Self → Type 0 };
 
     /// Why a call failed.
     type Failure;
 
-    /// The page for a question.
+    /// Returns the page for a question.
     fn ask(&mut self, ask: &Ask) -> Result<Rows, Self::Failure>
         ensures { IfOk result (λ page. step self.old (asks ask.now page) self.new) };
 
-    /// Takes a page.
+    /// Takes a page that goes on.
     fn take(&mut self, page: &Rows) -> Result<(), Self::Failure>
         ensures { OnOk result (step self.old (takes page.now) self.new) };
 }
@@ -36,11 +36,11 @@ pub trait Pager {
 pub enum PagingFault<E> {
     /// The pager failed.
     Failed(E),
-    /// A page does not go on behind the one before, or too many came.
+    /// A page does not go on after the one before, or too many pages came.
     Wrong(Fault),
 }
 
-/// Whether a row lies behind a place.
+/// Whether a row is after a place, in the order of owners and then of keys.
 fn is_behind(row: &Row, after: Option<(Name, Key)>) -> bool
     ensures { result ≡ live.is_behind after (live_row row.now) }
 {
@@ -54,7 +54,8 @@ fn is_behind(row: &Row, after: Option<(Name, Key)>) -> bool
     }
 }
 
-/// Whether each row of a page lies behind the place that was asked for, and it has a row where it says that more follow.
+/// Whether a page goes on after the place that was asked for. Each of its rows is after that place, and it has a row if
+/// it reports that more follow.
 #[tactic(auto, using(crate::proofs::Listing::first_behind, crate::proofs::Listing::none_behind))]
 pub fn goes_on(page: &Rows, after: Option<(Name, Key)>) -> bool
     ensures { result ≡ paging.goes_on after page.now }
@@ -65,7 +66,7 @@ pub fn goes_on(page: &Rows, after: Option<(Name, Key)>) -> bool
     }
 }
 
-/// The place of the last row, where more follow.
+/// The place of the last row, if more rows follow.
 fn place_behind(page: &Rows) -> Option<(Name, Key)>
     requires { ends_or_has_rows page.now.more page.now.rows ≡ true }
     ensures { IsPlaceBehind page.now result }
@@ -77,7 +78,7 @@ fn place_behind(page: &Rows) -> Option<(Name, Key)>
     Some((*row.owner(), *row.key()))
 }
 
-/// Asks for a page and takes it, and answers the place of its last row, where more follow.
+/// Asks for a page and takes it. Returns the place of its last row, if more rows follow.
 fn turn<P: Pager>(pager: &mut P, ask: &Ask) -> Result<Option<(Name, Key)>, PagingFault<P::Failure>>
     ensures ok { IfOk result (λ place. (page : records.Rows) × Turns P.step pager.old ask.now page pager.new × IsPlaceBehind page place) }
     ensures astray { IfErr result (TurnsAside P.step pager.old ask.now pager.new) }
@@ -95,10 +96,16 @@ fn turn<P: Pager>(pager: &mut P, ask: &Ask) -> Result<Option<(Name, Key)>, Pagin
     }
 }
 
-/// Asks for all rows, page after page: first as it was asked, and then behind the last row of each page that says that more
-/// follow. Each page that goes on is taken before the next is asked for. `Failed` where the pager fails; `Wrong` with
-/// `Malformed(KIND_ROWS)` where a page has a row that does not lie behind the place that was asked for, or none though more
-/// are to follow: it is not taken; and with `TurnsSpent` where more are to follow behind 2^64 - 1 pages.
+/// Asks for all rows, page after page. The first question is the given one. Each next one asks for the rows after the
+/// last row of a page that reports that more follow. The pager takes each page that goes on, before it is asked for the
+/// next.
+///
+/// The faults:
+///
+/// - `Failed` if the pager fails.
+/// - `Wrong` with `Malformed(KIND_ROWS)` if a page does not go on, and then it is not taken. A row of it is not after
+///   the place that was asked for, or it has no row although it reports that more follow.
+/// - `Wrong` with `TurnsSpent` if more rows follow after 2^64 - 1 pages.
 pub fn ask_all<P: Pager>(pager: &mut P, asked: Ask) -> Result<(), PagingFault<P::Failure>>
     ensures all { OnOk result ((pages : List records.Rows) × (last : records.Rows) × Lists P.step pager.old asked pages last pager.new) }
     ensures astray { IfErr result (GoesAstray P.step pager.old asked pager.new) }

@@ -1,4 +1,4 @@
-//! The lines of a page.
+//! How a page is printed as lines.
 ghost use Rattle.std.specs.Prelude.{◌≡◌, ◌++◌, OnOk, IfOk, IfErr};
 ghost use Rattle.sb_frames.specs.Sending.{Sends, OnlyWhereFailed};
 ghost use Rattle.sb_query.specs.Printed.{row_line, printed_rows};
@@ -10,7 +10,7 @@ use sb_types::Fault;
 use std::alloc::Global;
 use std::io::Write;
 
-/// Adds the line `owner key version kind value` of a row. `NoMemory`, with a part of it added or nothing.
+/// Adds the line `owner key version kind value` of a row. `NoMemory`, with a part of the line added, or nothing.
 pub fn add_row(out: &mut Vec<u8>, row: &Row) -> Result<(), Fault>
     ensures added { OnOk result (out.new.items ≡ out.old.items ++ row_line row.now) }
     ensures fault { IfErr result (λ fault. fault ≡ Fault.NoMemory) }
@@ -23,7 +23,7 @@ pub fn add_row(out: &mut Vec<u8>, row: &Row) -> Result<(), Fault>
     Ok(())
 }
 
-/// The lines of these rows.
+/// The lines of these rows. `NoMemory`.
 fn lines_of(alloc: Global, rows: &[Row]) -> Result<Vec<u8>, Fault>
     ensures lines { IfOk result (λ lines. lines.items ≡ printed_rows rows.now) }
     ensures fault { IfErr result (λ fault. fault ≡ Fault.NoMemory) }
@@ -35,15 +35,16 @@ fn lines_of(alloc: Global, rows: &[Row]) -> Result<Vec<u8>, Fault>
     Ok(out)
 }
 
-/// Prints a page, a line `owner key version kind value` for each row, and tells what the last write of the call
-/// answered. `NoMemory`, with nothing written; `WriteFailed` with how many bytes were written, always fewer than all.
+/// Prints a page: a line `owner key version kind value` for each row. It also returns what the last write of the call
+/// answered. `NoMemory`, with nothing written. `WriteFailed`, with the number of bytes written, which is always less
+/// than all.
 pub fn print_rows<W: Write>(
     alloc: Global,
     writer: &mut W,
     page: &Rows,
 ) -> (Result<(), Fault>, LastWrite)
     ensures prints { Sends (W.contents writer.old) (W.contents writer.new) (printed_rows page.now.rows) result.0 }
-    // A write that did not fail, or that was made before the call, is no reason to stop.
+    // Only a write that this call made and that failed is a reason to stop.
     ensures failed { OnlyWhereFailed result.0 result.1 }
 {
     match lines_of(alloc, page.rows()) {

@@ -1,4 +1,4 @@
-//! Requests over a reader that holds the answers, against frames that are written out by hand.
+//! Requests over a reader that holds the answers, compared with frames written out by hand.
 ghost use Rattle.std.specs.Prelude.{◌≡◌, ◌<◌};
 
 use crate::making::put_of_w;
@@ -19,7 +19,7 @@ use std::sync::ledger::{Blank, Ledger};
 pub(crate) const ROWS: &[u8] =
     b"\xa7\x03\x00\x00\x00\x19\x11\x00\x00\x01\x01a\x01w\x00\x00\x00\x00\x00\x00\x00\x01\x02\x00\x00\x00\x00\x00\x00\x00\x05";
 
-/// A write that takes so many bytes, and then none.
+/// A writer that takes so many bytes, and then none.
 #[derive(Drop)]
 struct ShortWriter {
     left: usize,
@@ -73,7 +73,7 @@ pub(crate) fn asked<R: io::Read, W: io::Write>(
     ask_on::<Brand, R, W>(alloc, reader, writer, request, max_reads, Blank::new(1))
 }
 
-/// The answer to a request over a reader of these bytes; the request is sent as this frame.
+/// Asks over a reader of these bytes. Returns the answer, and tests that the request is sent as this frame.
 fn answer_to(
     rt: &impl Abort,
     alloc: Global,
@@ -87,7 +87,7 @@ fn answer_to(
     answer
 }
 
-/// The version that this answer tells; none where it is not a Done.
+/// The version in this answer, if it is a Done.
 fn version_of(answer: Message) -> Option<u64> {
     match &answer {
         Message::Done(done) => Some(done.version()),
@@ -101,7 +101,7 @@ fn a_put_is_answered_by_its_version(rt: HostRuntime) {
     same(&rt, &version_of(answer), &Some(1));
 }
 
-/// This answer is of the rows of these lines, and no more follow.
+/// Tests that this answer has the rows of these lines, and that no more follow.
 fn tells_all(rt: &impl Abort, alloc: Global, answer: Message, lines: &[u8]) {
     let Message::Rows(page) = &answer else {
         panic!(rt; "error: no rows");
@@ -118,7 +118,8 @@ fn an_ask_is_answered_by_rows(rt: HostRuntime) {
     tells_all(&rt, rt.alloc(), answer, b"a w 1 weight 5\n");
 }
 
-/// The fault with which a put ends over a reader of these bytes. Want of memory ends the test, as an answer does.
+/// The fault with which a put ends over a reader of these bytes. The test ends if memory is missing, or if there is an
+/// answer.
 fn fault_of<W: io::Write>(
     rt: &impl Abort,
     alloc: Global,
@@ -138,7 +139,7 @@ fn fault_in(rt: &impl Abort, answer: Result<Message, Fault>) -> Fault {
     }
 }
 
-/// A put over a reader of these bytes ends with this fault.
+/// Tests that a put over a reader of these bytes ends with this fault.
 fn ends_with(rt: &impl Abort, alloc: Global, held: &[u8], max_reads: u64, fault: Fault) {
     let mut sent = Vec::new(alloc);
     let met = fault_of(rt, alloc, held, &mut sent, max_reads);
@@ -156,7 +157,7 @@ fn no_whole_answer_is_a_fault(rt: HostRuntime) {
     ends_with(&rt, alloc, unknown, 1, Fault::UnknownKind(0x55));
 }
 
-/// A put to a writer that takes so many bytes ends with a fault that counts them.
+/// Tests that a put to a writer that takes so many bytes ends with a fault that counts them.
 fn counts_sent(rt: &impl Abort, alloc: Global, left: usize) {
     let met = fault_of(rt, alloc, &DONE, &mut ShortWriter { left }, 1);
     same(rt, &met, &Fault::WriteFailed(left as u64));

@@ -1,4 +1,4 @@
-//! A directory with an owner that writes from its only seat.
+//! A directory, with an owner that writes from its only seat.
 ghost use Rattle.std.specs.Prelude.{◌≡◌, ◌<◌};
 
 use crate::making::{key, name, new_log, new_node, weight};
@@ -30,7 +30,7 @@ pub(crate) trait Play {
     fn play<S: DirectoryTag, R: Wait + Abort>(rt: &R, alloc: Global, desk: &mut Desk<S, &R>);
 }
 
-/// This is done at the desk of a new node a with one seat.
+/// Does this at the desk of a new node a with one seat.
 pub(crate) fn play_at_new<P: Play, R: Wait + Abort>(rt: &R, alloc: Global) {
     let core = new_node(rt, alloc, 1);
     play_at::<P, Brand, R>(rt, alloc, NewHistory::new(), Blank::new(1), core);
@@ -69,13 +69,13 @@ impl<S: DirectoryTag, H: Wait + Drop> Desk<S, H> {
         self.owner.put(rt, &self.directory, seat, &key, &slot)
     }
 
-    /// The directory takes a delta.
+    /// Makes the directory take a delta.
     pub(crate) fn apply<Q: Wait + Abort>(&mut self, rt: &Q, delta: &Delta) {
         let seat = there(rt, self.seat.as_mut());
         got(rt, self.directory.apply(rt, seat, delta));
     }
 
-    /// How far readers are shown the writes of a. Want of memory to show all that happened ends the test.
+    /// How far readers are shown the writes of a. If memory is missing to show all that happened, the test ends.
     pub(crate) fn shown_upto<Q: Wait + Abort>(&mut self, rt: &Q) -> u64 {
         let seat = there(rt, self.seat.as_mut());
         if !self.directory.refresh(rt, seat) {

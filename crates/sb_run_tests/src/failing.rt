@@ -17,7 +17,7 @@ const READS_MOST: u64 = 64;
 /// Done, with the version 16.
 const DONE_16: &[u8] = b"\xa7\x03\x00\x00\x00\x09\x13\x00\x00\x00\x00\x00\x00\x00\x10";
 
-/// A writer that takes a byte a write, and is closed once it has taken so many.
+/// A writer that takes one byte in a write, and is closed after so many.
 fn closing(left: usize) -> FailingWriter {
     let mut writer = FailingWriter::new(left);
     writer.piece = 1;
@@ -29,7 +29,7 @@ fn a_request_that_breaks_off_is_not_heard(rt: HostRuntime) {
     play_at_new::<HearParts, _>(&rt, rt.alloc());
 }
 
-/// No part of a Put is answered or heard; the whole one is the first write.
+/// No part of a Put is answered or heard. The whole Put is the first write.
 struct HearParts;
 
 impl Play for HearParts {
@@ -42,7 +42,7 @@ impl Play for HearParts {
     }
 }
 
-/// So many bytes of a Put end with this fault, and nothing is answered.
+/// Tests that so many bytes of a Put end with this fault, and that nothing is answered.
 fn hears_no_part<S: DirectoryTag, R: Wait + Abort>(
     rt: &R,
     alloc: Global,
@@ -57,7 +57,7 @@ fn hears_no_part<S: DirectoryTag, R: Wait + Abort>(
     same(rt, &(ended, answer.len()), &(Err(fault), 0));
 }
 
-/// A whole Put is answered so.
+/// Tests the answer to a whole Put.
 fn hears_all<S: DirectoryTag, R: Wait + Abort>(
     rt: &R,
     alloc: Global,
@@ -75,7 +75,8 @@ fn an_answer_that_breaks_off_leaves_the_write(rt: HostRuntime) {
     play_at_new::<AnswerInParts, _>(&rt, rt.alloc());
 }
 
-/// A Put whose answer of 15 bytes breaks off at each of them is a write each time: the next one is the sixteenth.
+/// A Put whose answer of 15 bytes breaks off at each of them. Each time it is a write, so the next one is the
+/// sixteenth.
 struct AnswerInParts;
 
 impl Play for AnswerInParts {
@@ -89,7 +90,7 @@ impl Play for AnswerInParts {
     }
 }
 
-/// How a request ends over a reader of a part of its answer, and a writer with so much room.
+/// How a request ends with a reader of a part of its answer, and a writer with so much room.
 fn fault_of_parts(
     rt: &impl Abort,
     alloc: Global,
@@ -109,7 +110,7 @@ fn an_answer_that_breaks_off_is_a_fault(rt: HostRuntime) {
     }
 }
 
-/// So many bytes of an answer end with this fault.
+/// Tests that so many bytes of an answer end with this fault.
 fn ends_at(rt: &impl Abort, alloc: Global, length: usize, breaks: bool, fault: Fault) {
     let reader = Pieces::new(DONE.get(..length).unwrap_or(&[]), 1, breaks);
     same(

@@ -1,5 +1,5 @@
-//! The tests of the running node. They stand in a crate of their own, since a crate with tests is proved twice: with them and
-//! without.
+//! The tests of the running node. They are in a crate of their own, since a crate with tests is proved twice: with them
+//! and without.
 #![tactic(auto)]
 
 #[cfg(test)]
@@ -34,25 +34,25 @@ use std::fmt::Debug;
 #[cfg(test)]
 use std::process::Abort;
 
-/// The answer; where there is none, the end of the test, which names the fault.
+/// Returns the answer. If it is a fault, ends the test and names the fault.
 #[cfg(test)]
 fn got<T, E: Debug + Drop>(rt: &impl Abort, answer: Result<T, E>) -> T {
     answer.expect(rt, "error")
 }
 
-/// What has to be there; where it is not, the end of the test.
+/// Returns what must be there. If it is not, ends the test.
 #[cfg(test)]
 fn there<T>(rt: &impl Abort, value: Option<T>) -> T {
     value.expect(rt, "error: none")
 }
 
-/// Ends the test where the two differ. As a function it costs the prover a fifth of the macro.
+/// Ends the test if the two differ. As a function it costs the prover a fifth of the macro.
 #[cfg(test)]
 fn same<T: PartialEq + Debug>(rt: &impl Abort, found: &T, wanted: &T) {
     assert_eq!(rt; found, wanted);
 }
 
-/// Ends the test where this does not hold.
+/// Ends the test if this does not hold.
 #[cfg(test)]
 fn holds(rt: &impl Abort, what: &str, holds: bool) {
     assert!(rt; holds, "{what}");

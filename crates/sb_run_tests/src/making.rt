@@ -22,7 +22,7 @@ pub(crate) fn weight(rt: &impl Abort, weight: u64) -> Slot {
     Slot::Set(got(rt, Value::weight(weight)))
 }
 
-/// Settings of the cluster c1, with such a budget, so many seats and so many workers.
+/// Settings of the cluster c1, with this budget, and so many seats and workers.
 pub(crate) fn settings_with(rt: &impl Abort, budget: u64, seats: u64, workers: u64) -> Settings {
     let raw = RawSettings {
         budget,
@@ -38,12 +38,12 @@ pub(crate) fn settings(rt: &impl Abort, seats: u64) -> Settings {
     settings_with(rt, BUDGET_LEAST, seats, 1)
 }
 
-/// A log of nothing.
+/// An empty log.
 pub(crate) fn new_log(rt: &impl Abort, alloc: Global, owner: &[u8]) -> PlainLog {
     PlainLog::new(alloc, name(rt, owner), name(rt, b"c1"), 100)
 }
 
-/// A node whose own table is this.
+/// A node with this own table.
 pub(crate) fn node_of(
     rt: &impl Abort,
     alloc: Global,

@@ -1,5 +1,5 @@
-//! Writes for which the directory has no room: the log keeps them, and they enter before the next. With ample memory there are none;
-//! `tools/sweep` refuses what they ask for.
+//! Writes for which the directory finds no memory. The log keeps them, and they enter before the next write. With ample
+//! memory there are no such writes, and `tools/sweep` refuses the memory that they ask for.
 use crate::desk::{Desk, Play, play_at_new};
 use crate::same;
 use sb_directory::DirectoryTag;
@@ -18,8 +18,8 @@ struct Versions {
 }
 
 impl Versions {
-    /// Those after a put that ended so, want of memory its only fault, where readers are then shown the own writes up to this version; nothing where no put
-    /// ends so.
+    /// The versions after a put that ended in this way, if readers are then shown the own writes up to `shown`. `None`
+    /// if no put ends so. The only fault of a put here is missing memory.
     fn after(self, ended: Result<Stored, Fault>, shown: u64) -> Option<Versions> {
         let next = self.kept.saturating_add(1);
         match ended {
@@ -51,7 +51,7 @@ fn an_owed_write_enters_before_the_next(rt: HostRuntime) {
     play_at_new::<PutEach, _>(&rt, rt.alloc());
 }
 
-/// Puts under some keys, one after the other, to a new directory.
+/// Puts under some keys, one after another, to a new directory.
 struct PutEach;
 
 impl Play for PutEach {
@@ -67,7 +67,7 @@ impl Play for PutEach {
     }
 }
 
-/// Puts under a key, where the log and the directory are at these versions; those after it.
+/// Puts under a key, if the log and the directory are at these versions. Returns the versions after it.
 fn put_next<S: DirectoryTag, R: Wait + Abort>(
     rt: &R,
     desk: &mut Desk<S, &R>,
@@ -87,7 +87,7 @@ fn an_owed_write_is_answered_by_its_version(rt: HostRuntime) {
     play_at_new::<RequestEach, _>(&rt, rt.alloc());
 }
 
-/// Asks for some puts, one after the other.
+/// Asks for some puts, one after another.
 struct RequestEach;
 
 impl Play for RequestEach {
@@ -99,7 +99,7 @@ impl Play for RequestEach {
     }
 }
 
-/// Asks for a put, where this version was told last; the version that is told last then.
+/// Asks for a put, after this version was the last in an answer. Returns the version that is the last then.
 fn request_next<S: DirectoryTag, R: Wait + Abort>(
     rt: &R,
     alloc: Global,
@@ -111,7 +111,7 @@ fn request_next<S: DirectoryTag, R: Wait + Abort>(
     told_by(rt, &answer, told)
 }
 
-/// The next version where a Done tells it; the same where memory was wanting.
+/// The next version if a Done contains it, or the same version if memory was missing.
 fn told_by(rt: &impl Abort, answer: &[u8], told: u8) -> u8 {
     let next = told.saturating_add(1);
     let mut done = DONE;

@@ -1,4 +1,4 @@
-//! An owner and a control socket over a directory: what is kept, what is shared, and what is answered.
+//! An owner and a control socket with a directory: what is kept, what is shared, and what is answered.
 use crate::asking::ROWS;
 use crate::desk::{Desk, Play, play_at_new};
 use crate::making::{key, name, weight};
@@ -31,7 +31,7 @@ impl Play for AnswerEach {
     }
 }
 
-/// A request is answered so.
+/// Tests the answer to a request.
 fn answers<S: DirectoryTag, R: Wait + Abort>(
     rt: &R,
     alloc: Global,
@@ -49,7 +49,8 @@ fn another_node_under_the_own_name_stops_writes(rt: HostRuntime) {
     play_at_new::<MeetAnother, _>(&rt, rt.alloc());
 }
 
-/// The first put is shared under the version 1; a second one is refused, once the directory took what another node a wrote.
+/// The first put is shared under the version 1. A second one is refused after the directory took what another node a
+/// wrote.
 struct MeetAnother;
 
 impl Play for MeetAnother {
@@ -63,7 +64,7 @@ impl Play for MeetAnother {
     }
 }
 
-/// A delta whose block tells of the second write of a, behind the first.
+/// A delta with a block of the second write of a, after the first.
 fn delta_of_a(rt: &impl Abort, alloc: Global) -> Delta {
     let entry = Entry::new(key(rt, b"y"), 2, weight(rt, 7));
     got(rt, delta_of_write(alloc, name(rt, b"a"), entry))

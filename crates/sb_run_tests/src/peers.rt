@@ -1,4 +1,4 @@
-//! Who talks to a node that runs: its owner at the control socket, and other nodes.
+//! Who talks to a running node: its owner at the control socket, and other nodes.
 ghost use Rattle.std.specs.Prelude.{◌≡◌, ◌<◌};
 
 use crate::got;
@@ -69,7 +69,7 @@ fn talk_on<K: Ledger>(
     ended
 }
 
-/// How a session of this node ends: one that dials for so many rounds, or one that serves.
+/// How a session of this node ends. It dials for so many rounds, or serves.
 pub(crate) fn talk(
     rt: &impl Abort,
     alloc: Global,
@@ -111,7 +111,7 @@ pub(crate) fn put_is_done<R: Net + Abort>(rt: &R, control: &str) -> bool {
     put_is_done_as(rt, control, 1)
 }
 
-/// Hears on a connection until the other end hangs up; whether so many bytes came.
+/// Hears on a connection until the other end hangs up. Returns whether so many bytes came.
 pub(crate) fn hears_only(rt: &impl Abort, stream: &UnixStream, count: usize) -> bool {
     let mut reader = stream;
     let mut heard = [0u8; 64];

@@ -17,7 +17,8 @@ use std::sync::ledger::Blank;
 use std::thread::{Threads, sleep};
 use std::time::{Clock, Duration};
 
-/// Hello of a node b of the cluster c1, the delta of the flag true that it wrote under w as its version 1, and its Bye.
+/// Hello of a node b of the cluster c1, a delta, and its Bye. The delta has the flag true that b wrote under w as its
+/// version 1.
 const TELLING: &[u8] = b"\xa7\x03\x00\x00\x00\x06\x01\x02c1\x01b\
     \xa7\x03\x00\x00\x00\x2b\x03\x00\x01\
     \x01b\x00\x00\x00\x00\x00\x00\x00\x00\x00\x00\x00\x00\x00\x00\x00\x00\
@@ -30,7 +31,7 @@ const ASKING: &[u8] = b"\xa7\x03\x00\x00\x00\x06\x01\x02c1\x01c\
     \x01c\x00\x00\x00\x00\x00\x00\x00\x00\x00\x00\x00\x00\x00\x00\x00\x00\x00\x00\x00\x00\x00\x00\x00\x00\
     \xa7\x03\x00\x00\x00\x02\x04\x01";
 
-/// The peers of the sessions 1 and 2, behind so many connections that could not be had.
+/// The peers of the sessions 1 and 2, after so many connections that failed.
 #[derive(Drop)]
 struct Peers {
     alloc: Global,
@@ -59,8 +60,8 @@ impl Source for Peers {
     }
 }
 
-/// A gate that holds session 1 before it applies a delta, until session 2 has answered a digest, for at most so many
-/// turns of a millisecond.
+/// A gate that holds session 1 before it applies a delta, until session 2 has answered a digest. It holds it for at
+/// most so many turns of a millisecond.
 #[derive(Drop)]
 struct Holding<'a, R> {
     rt: &'a R,
@@ -96,14 +97,14 @@ impl<R: Clock> Gate for Holding<'_, R> {
 /// How many sessions there were, how many faults, and how many events.
 type Met = (u64, u64, u64);
 
-/// How many connections could not be had before the peers came, and how many turns the gate holds at most.
+/// How many connections fail before the peers come, and how many turns the gate holds at most.
 #[derive(Clone, Copy)]
 struct Course {
     lost: usize,
     turns: u64,
 }
 
-/// Serves the peers from these seats, at a gate that holds.
+/// Serves the peers from these seats, with a gate that holds.
 fn serve_from<S: DirectoryTag + Send + Sync, R: Threads + Wait + Clock + Abort + Send + Sync>(
     rt: &R,
     alloc: Global,
@@ -155,7 +156,7 @@ fn pool_of<S: DirectoryTag + Send + Sync, R: Threads + Wait + Clock + Abort + Se
     close(rt, directory, pooled)
 }
 
-/// What the workers met, where the directory takes all seats back.
+/// What the workers met, if the directory takes all seats back.
 fn close<S: DirectoryTag, R: Wait + Abort>(
     rt: &R,
     directory: Directory<S, &R>,
@@ -169,7 +170,7 @@ fn close<S: DirectoryTag, R: Wait + Abort>(
     }
 }
 
-/// What so many workers met, from a new directory of a node a.
+/// What so many workers met, at a new directory of a node a.
 fn pool_new<R: Threads + Wait + Clock + Abort + Send + Sync>(
     rt: &R,
     alloc: Global,
@@ -190,13 +191,13 @@ fn a_session_waits_for_another(rt: HostRuntime) {
     };
     let two = pool_new(&rt, rt.alloc(), 2, long);
     same(&rt, &two, &(2, 0, 1));
-    // The only worker would wait for itself: the gate turns session 1 away before its delta is entered.
+    // The only worker would wait for itself. So the gate turns session 1 away before its delta is entered.
     let short = Course { lost: 0, turns: 20 };
     let one = pool_new(&rt, rt.alloc(), 1, short);
     same(&rt, &one, &(2, 1, 0));
 }
 
-/// A worker goes on behind connections that could not be had, each of which is a fault.
+/// A worker goes on after connections that failed, each of them a fault.
 #[test]
 fn a_connection_that_is_lost_ends_no_worker(rt: HostRuntime) {
     let course = Course { lost: 3, turns: 20 };

@@ -1,4 +1,4 @@
-//! A node that runs on its sockets.
+//! A node that runs with its sockets.
 
 use crate::making::{name, new_log, settings};
 use crate::peers::{hears_only, next_of, node_with, put_is_done, reach, talk};
@@ -18,13 +18,13 @@ use std::sync::atomic::{AtomicBool, Ordering};
 use std::sync::{Mutex, Wait};
 use std::{fs, io, thread};
 
-/// The length of the Hello that a says.
+/// The length of the Hello of a.
 const HELLO: usize = 12;
 
 /// The Hello of the node b of the cluster c2.
 const HELLO_OF_C2: &[u8] = b"\xa7\x03\x00\x00\x00\x06\x01\x02c2\x01b";
 
-/// The Hello of the node b of the cluster c1, and a delta in which a has written the weight 5 under w.
+/// The Hello of the node b of the cluster c1, and a delta by which a wrote the weight 5 under w.
 pub(crate) const WRITTEN_AS_A: &[u8] = b"\xa7\x03\x00\x00\x00\x06\x01\x02c1\x01b\
         \xa7\x03\x00\x00\x00\x32\x03\x00\x01\
         \x01a\x00\x00\x00\x00\x00\x00\x00\x00\x00\x00\x00\x00\x00\x00\x00\x00\
@@ -44,7 +44,7 @@ pub(crate) fn pace(rounds: u64, idle: u64) -> Pace {
     }
 }
 
-/// Where a node has its sockets, and where its peers listen.
+/// The paths of a node's sockets, and of its peers.
 pub(crate) fn paths_of<'a>(sock: &'a str, control: &'a str, peers: &'a [&'a str]) -> Paths<'a> {
     Paths {
         sock,
@@ -53,7 +53,7 @@ pub(crate) fn paths_of<'a>(sock: &'a str, control: &'a str, peers: &'a [&'a str]
     }
 }
 
-/// What a node did that made so many rounds, with so many faults and events.
+/// The result of a node that made so many rounds, with so many faults and events.
 pub(crate) fn ran_of(rounds: u64, faults: u64, events: u64) -> Ran {
     Ran {
         rounds,
@@ -71,7 +71,7 @@ fn are_there(files: &impl Files, paths: &Paths) -> [bool; 2] {
     [is_there(files, paths.sock), is_there(files, paths.control)]
 }
 
-/// What runs a node, and may end the test.
+/// What runs a node, and can end the test.
 pub(crate) trait Host: Runtime + Abort {}
 
 impl<R: Runtime + Abort> Host for R {}
@@ -117,7 +117,7 @@ pub(crate) fn run_log<R: Host + Net<Listener = TcpListener, Stream = TcpStream>>
     run_node(rt, alloc, config, log, &Nobody)
 }
 
-/// Looks whether the sockets are there once the node listens.
+/// Looks whether the sockets are there when the node listens.
 #[derive(Drop)]
 struct Looker<'a> {
     rt: &'a HostRuntime,
@@ -154,7 +154,7 @@ fn rounds_without_peers(rt: HostRuntime) {
     same(&rt, &met, &(true, [false, false]));
 }
 
-/// Whether the file that was there first is as it was; it is removed.
+/// Whether the file that was there first is as before. Removes it.
 fn is_kept(rt: &(impl Files + Abort), alloc: Global) -> bool {
     let file = got(rt, File::open(rt, "taken"));
     let kept = got(rt, io::read_to_string(alloc, file));
@@ -162,7 +162,8 @@ fn is_kept(rt: &(impl Files + Abort), alloc: Global) -> bool {
     kept.as_str() == "kept"
 }
 
-/// A node is refused where there is a file at one of its paths: it is left as it was, and there is none at the other.
+/// Tests that a node is refused if there is a file at one of its paths. The file is left as it was, and there is none
+/// at the other path.
 fn leaves_taken<R: Host + Net<Listener = TcpListener, Stream = TcpStream>>(
     rt: &R,
     alloc: Global,
@@ -184,7 +185,7 @@ fn a_path_that_is_taken_is_left(rt: HostRuntime) {
     leaves_taken(&rt, rt.alloc(), "free.sock", "taken", "free.sock");
 }
 
-/// A node is refused where one of its paths is empty, and there is no file at the other.
+/// Tests that a node is refused if one of its paths is empty, and that there is no file at the other.
 fn refuses_empty<R: Host + Net<Listener = TcpListener, Stream = TcpStream>>(
     rt: &R,
     alloc: Global,
@@ -204,7 +205,8 @@ fn an_empty_path_is_refused(rt: HostRuntime) {
     refuses_empty(&rt, rt.alloc(), "empty.sock", "", "empty.sock");
 }
 
-/// What the node did. Where it did not dial so often, connections stand for it, so that the player does not wait for them.
+/// Runs a node. If it does not dial so often, connections made here replace its dials, so that the player does not
+/// wait.
 fn run_and_reach<R: Host + Net<Listener = TcpListener, Stream = TcpStream>>(
     rt: &R,
     alloc: Global,
@@ -220,8 +222,8 @@ fn run_and_reach<R: Host + Net<Listener = TcpListener, Stream = TcpStream>>(
     got(rt, ran)
 }
 
-/// What the player saw: whether the write was done, how the sessions of c and b ended, and how far c holds a, and b holds a
-/// and c.
+/// What the player saw: whether the write was done, and how the sessions of c and b ended. Then how far c holds a, and
+/// how far b holds a and c.
 #[derive(Clone, Copy, Debug, PartialEq, Eq)]
 struct PlayerFindings {
     done: bool,
@@ -229,7 +231,7 @@ struct PlayerFindings {
     held: [u64; 3],
 }
 
-/// c dials the node: how its session ends, and how far it holds a then.
+/// c dials the node. Returns how the session ends, and how far c holds a then.
 fn dial_as_c<R: Net + Abort>(rt: &R, alloc: Global, sock: &str) -> (Ended, u64) {
     let mut of_c = node_with(rt, alloc, b"c", b"k");
     let stream = reach(rt, sock);
@@ -237,14 +239,14 @@ fn dial_as_c<R: Net + Abort>(rt: &R, alloc: Global, sock: &str) -> (Ended, u64) 
     (by_c, of_c.upto(&name(rt, b"a")))
 }
 
-/// b serves the node: how its session ends, and how far it holds a and c then.
+/// b serves the node. Returns how the session ends, and how far b holds a and c then.
 fn serve_as_b(rt: &impl Abort, alloc: Global, dialed: &UnixStream) -> (Ended, u64, u64) {
     let mut of_b = node_with(rt, alloc, b"b", b"w");
     let by_b = talk(rt, alloc, &mut of_b, dialed, None);
     (by_b, of_b.upto(&name(rt, b"a")), of_b.upto(&name(rt, b"c")))
 }
 
-/// Plays the owner, c which dials, and b which is dialed. The node has bound its sockets once it dials.
+/// Plays the owner, c which dials, and b which is dialed. When the node dials, it has bound its sockets.
 fn play<R: Net + Abort>(
     rt: &R,
     alloc: Global,
@@ -287,7 +289,7 @@ fn a_node_beside_its_owner_and_its_peers(rt: HostRuntime) {
     same(&rt, &ran, &whole);
 }
 
-/// Whether no more than a Hello comes on connections on which nothing is said, until the node hangs up.
+/// Whether no more than a Hello comes on connections on which nothing is sent, until the node hangs up.
 fn hears_no_more<R: Net + Abort>(rt: &R, paths: &Paths) -> bool {
     let control = reach(rt, paths.control);
     let sock = reach(rt, paths.sock);
@@ -296,11 +298,12 @@ fn hears_no_more<R: Net + Abort>(rt: &R, paths: &Paths) -> bool {
     silence && hello
 }
 
-/// Whether no more than a Hello came on the silent connections, whether the write was done, how b's session ended, and how far b
-/// holds a.
+/// Whether no more than a Hello came on the silent connections, and whether the write was done. Then how b's session
+/// ended, and how far b holds a.
 type Heard = (bool, bool, Ended, u64);
 
-/// Says nothing on any connection until the node hangs up; then writes, and serves as b where it is dialed once more.
+/// Sends nothing on any connection until the node hangs up. Then it writes, and serves as b when it is dialed once
+/// more.
 fn stay_silent<R: Net + Abort>(
     rt: &R,
     alloc: Global,
@@ -332,7 +335,8 @@ fn a_connection_that_says_nothing_ends(rt: HostRuntime) {
     same(&rt, &ran, &whole);
 }
 
-/// Keeps what it is told of peers, the path's last byte and how the round ended, and of another node under its name.
+/// Keeps what the node reports of peers: the last byte of the path, and how the round ended. It also keeps reports of
+/// another node under its name.
 #[derive(Drop)]
 struct Keeper<'a, R> {
     rt: &'a R,
@@ -355,7 +359,7 @@ impl<R: Wait + Abort> Observer for Keeper<'_, R> {
     }
 }
 
-/// It was told of nothing yet.
+/// Makes one that has kept nothing yet.
 fn new_keeper<R>(rt: &R, alloc: Global) -> Keeper<'_, R> {
     Keeper {
         rt,
@@ -364,7 +368,7 @@ fn new_keeper<R>(rt: &R, alloc: Global) -> Keeper<'_, R> {
     }
 }
 
-/// Says this and no more where it is dialed next, and hears until the node hangs up.
+/// Sends this and no more when it is dialed next, and hears until the node hangs up.
 pub(crate) fn answer_by(rt: &impl Abort, listener: &UnixListener, says: &[u8]) {
     let dialed = next_of(rt, listener);
     let (mut writer, mut reader) = (&dialed, &dialed);
@@ -378,7 +382,7 @@ pub(crate) fn answer_by(rt: &impl Abort, listener: &UnixListener, says: &[u8]) {
     }
 }
 
-/// Is dialed as b four times: of another cluster in the first two.
+/// Is dialed as b four times, the first two times as a node of another cluster.
 fn change_the_cluster(rt: &impl Abort, alloc: Global, listener: &UnixListener) {
     for _ in 0..2 {
         answer_by(rt, listener, HELLO_OF_C2);
@@ -389,7 +393,7 @@ fn change_the_cluster(rt: &impl Abort, alloc: Global, listener: &UnixListener) {
     }
 }
 
-/// Whether it was told of these rounds and no others.
+/// Whether the node reported these rounds and no others.
 fn was_told<R: Wait>(keeper: &Keeper<R>, rounds: &[(Option<u8>, Result<Ended, Fault>)]) -> bool {
     keeper.told.lock(keeper.rt).as_slice() == rounds
 }

@@ -1,4 +1,5 @@
-//! What a running node starts with, a log with writes and several workers, and how it asks for more owners than one digest tells of.
+//! What a running node starts with: a log with writes, and several workers. And how it asks for more owners than one
+//! digest can name.
 ghost use Rattle.std.specs.Prelude.{◌≤◌};
 
 use crate::making::{key, name, new_log, node_of, settings, settings_with, weight};
@@ -20,7 +21,7 @@ use std::os::unix::net::{UnixListener, UnixStream};
 use std::process::Abort;
 use std::{fs, thread};
 
-/// A log of a, which wrote twice.
+/// A log of a with two writes.
 fn log_of_two(rt: &impl Abort, alloc: Global) -> PlainLog {
     let mut log = new_log(rt, alloc, b"a");
     got(rt, log.put(&key(rt, b"x"), &weight(rt, 5)));
@@ -28,8 +29,8 @@ fn log_of_two(rt: &impl Abort, alloc: Global) -> PlainLog {
     log
 }
 
-/// How far b holds a behind a first session, whether the owner's write is then done as the third, and how far b holds a behind
-/// a second session.
+/// How far b holds a after a first session. Then whether the owner's write is done as the third, and how far b holds a
+/// after a second session.
 fn hear_twice<R: Net + Abort>(
     rt: &R,
     alloc: Global,
@@ -76,14 +77,14 @@ fn be_greeted(rt: &impl Abort, stream: &UnixStream) {
     same(rt, &heard.as_slice(), &HELLO_A);
 }
 
-/// Says Hello and Bye; whether nothing more comes then.
+/// Sends Hello and Bye. Returns whether nothing more comes then.
 fn leave(rt: &impl Abort, stream: &UnixStream) -> bool {
     let mut writer = stream;
     got(rt, writer.write_all(HELLO_AND_BYE_B));
     hears_only(rt, stream, 0)
 }
 
-/// Three peers connect, and each is greeted before any of them says a word; whether each then left in peace.
+/// Three peers connect, and each is greeted before any of them sends a byte. Returns whether each then left in peace.
 fn crowd<R: Net + Abort>(rt: &R, sock: &str) -> [bool; 3] {
     let (first, second, third) = (reach(rt, sock), reach(rt, sock), reach(rt, sock));
     be_greeted(rt, &first);
@@ -92,7 +93,8 @@ fn crowd<R: Net + Abort>(rt: &R, sock: &str) -> [bool; 3] {
     [leave(rt, &first), leave(rt, &second), leave(rt, &third)]
 }
 
-/// With fewer workers the third would be greeted only once another was silent for ten seconds, and was given up with a fault.
+/// With fewer workers the third peer would not be greeted until another was silent for ten seconds, and was given up
+/// with a fault.
 #[test]
 fn as_many_peers_are_served_at_once_as_there_are_workers(rt: HostRuntime) {
     let paths = paths_of("crowd.sock", "crowd.control", &["crowd.b"]);
@@ -123,8 +125,8 @@ fn as_many_peers_are_served_at_once_as_there_are_workers(rt: HostRuntime) {
     same(&rt, &got(&rt, ran), &whole);
 }
 
-/// The owner of this letter, whose name has the most bytes. Of 25 such owners and the node a, a digest of at most 1,024 bytes has a pair
-/// for a and for each of the first 16: with its end at the next name it has 982 bytes.
+/// The owner of this letter, with a name of the most bytes. Take a digest of the node a and 25 such owners, with at
+/// most 1,024 bytes. It has a pair for a and for each of the first 16, ends at the next name, and has 982 bytes.
 fn owner(rt: &impl Abort, letter: u8) -> Name {
     let mut text = [b'o'; 32];
     text[31] = letter;
@@ -149,8 +151,8 @@ fn node_with_owners(rt: &impl Abort, alloc: Global, me: &[u8]) -> NodeCore {
     core
 }
 
-/// c tells the node of 25 owners; b, which holds a second write of the last of them, is dialed; how far c holds that owner
-/// once it asked the node again.
+/// c reports 25 owners to the node. b, which holds a second write of the last of them, is dialed. Returns how far c
+/// holds that owner after it asked the node again.
 fn ask_for_the_last<R: Net + Abort>(
     rt: &R,
     alloc: Global,
@@ -163,7 +165,7 @@ fn ask_for_the_last<R: Net + Abort>(
     );
     got(rt, of_b.apply(&delta_of(rt, alloc, b'y', 2)));
     let first = next_of(rt, listener);
-    // (a second exchange, which is answered once what the first one brought is taken)
+    // (a second exchange, which is answered after what the first one brought is taken)
     talk(rt, alloc, &mut of_c, &reach(rt, sock), Some(2));
     talk(rt, alloc, &mut silent_b(rt, alloc), &first, None);
     talk(rt, alloc, &mut of_b, &next_of(rt, listener), None);
@@ -173,7 +175,8 @@ fn ask_for_the_last<R: Net + Abort>(
     of_c.upto(&owner(rt, b'y'))
 }
 
-/// The second and the third round have two exchanges, and so two deltas come in each; three come of c, and one in the first round.
+/// The second and the third round have two exchanges, so two deltas come in each. Three deltas come from c, and one in
+/// the first round.
 #[test]
 fn owners_behind_the_first_digest_are_asked_for(rt: HostRuntime) {
     let paths = paths_of("owners.sock", "owners.control", &["owners.b"]);

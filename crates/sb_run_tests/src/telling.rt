@@ -1,4 +1,4 @@
-//! What a node that runs tells of how it is.
+//! What a running node reports about itself.
 
 use crate::making::name;
 use crate::peers::{next_of, node_with, put_is_done, reach, talk};
@@ -14,8 +14,11 @@ use std::process::Abort;
 use std::sync::{Mutex, Wait};
 use std::{fs, thread};
 
-/// What was told behind a round: how many rounds were made, and how many had a fault; how many peers connected; how many own keys there
-/// are; whether the log takes writes; and whether another writes under the name.
+/// What was reported after a round:
+///
+/// - How many rounds were made, and how many had a fault.
+/// - How many peers connected, and how many own keys there are.
+/// - Whether the log takes writes, and whether another node writes under the name.
 #[derive(Clone, Copy, Debug, PartialEq, Eq)]
 struct Counted {
     rounds: u64,
@@ -26,7 +29,7 @@ struct Counted {
     conflict: Option<u64>,
 }
 
-/// Of a node that wrote one key, was dialed by one peer, and dialed two, of which one was not there.
+/// For a node that wrote one key, was dialed by one peer, and dialed two, one of them not there.
 const WROTE_ONE: Counted = Counted {
     rounds: 2,
     faults: 1,
@@ -36,13 +39,13 @@ const WROTE_ONE: Counted = Counted {
     conflict: None,
 };
 
-/// How the last round with each of two peers ended, and of which number it was.
+/// How the last round with each of two peers ended, and the number of that round.
 type Ends = [(LastRound, u64); 2];
 
 /// How many owners are shown, and how far a, b and c are.
 type StatusParts = (usize, [u64; 3]);
 
-/// Keeps what was told last behind the round of this number.
+/// Keeps what was reported last after the round of this number.
 #[derive(Drop)]
 struct Listener<'a, R> {
     rt: &'a R,
@@ -106,7 +109,8 @@ fn new_listener<R>(rt: &R, behind: u64) -> Listener<'_, R> {
     }
 }
 
-/// Plays the owner, who writes, c, which dials, and b, which is dialed, each with a write of its own. Whether all of it succeeded.
+/// Plays the owner, who writes, c, which dials, and b, which is dialed, each with a write of its own. Returns whether
+/// all of it succeeded.
 fn write_and_play<R: Net + Abort>(
     rt: &R,
     alloc: Global,

@@ -1,4 +1,4 @@
-//! When a node that runs dials, how long it waits for others, and what it does with a socket that was left behind.
+//! When a running node dials, how long it waits for others, and what it does with a socket that was left over.
 
 use crate::making::{name, node_of, settings};
 use crate::peers::{next_of, node_with, put_is_done, reach, talk};
@@ -22,7 +22,7 @@ pub(crate) fn silent_b(rt: &impl Abort, alloc: Global) -> NodeCore {
     node_of(rt, alloc, settings(rt, 3), b"b", Table::new(alloc))
 }
 
-/// Whether the node dials within two seconds, and serves it.
+/// Whether the node dials within two seconds, and is served.
 fn is_dialed_soon<R: Clock + Abort>(
     rt: &R,
     alloc: Global,
@@ -36,7 +36,8 @@ fn is_dialed_soon<R: Clock + Abort>(
     waited < Duration::from_secs(2) && ended == Ended::Bye(1)
 }
 
-/// Whether b was dialed soon behind the start, behind a write of the owner and behind one of c, and how far it holds a and c.
+/// Whether b was dialed soon after the start, after a write of the owner and after one of c. Then how far b holds a and
+/// c.
 fn hear_as_b<R: Net + Clock + Abort>(
     rt: &R,
     alloc: Global,
@@ -124,7 +125,7 @@ fn a_request_has_to_be_whole_in_time(rt: HostRuntime) {
     same(&rt, &got(&rt, ran).events, &1);
 }
 
-/// Counts the sockets that it is told were removed.
+/// Counts the sockets that are reported as removed.
 #[derive(Drop)]
 struct Counter {
     removed: AtomicU64,

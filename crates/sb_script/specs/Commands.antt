@@ -11,13 +11,13 @@ use Rattle.sb_script.specs.declared.line.Line.TheVariants as lines
 use Rattle.sb_script.specs.declared.command.Command.{Command}
 use Rattle.sb_script.specs.declared.command.Command.TheVariants as commands
 
--- what two words leave under a key is the value of those words; a removal has none
+-- two words give a key the value of these words; a removal gives it none
 abbrev pub IsSlot : Option ValueWords → Slot → Type 0
 IsSlot None slot = slot ≡ Removed
 IsSlot (Some words) (Set value) = words_of value ≡ (words.kind.now, words.content.now)
 IsSlot (Some words) Removed = ⊥
 
--- a line with a write is the command that is made of its slot
+-- the command of a line with a write is made from its slot
 abbrev pub IsOfWrite : WriteWords → (Slot → Command) → Command → Type 0
 IsOfWrite words make command = (slot : Slot) × IsSlot words.value slot × (command ≡ make slot)
 

@@ -1,4 +1,4 @@
--- What a give does to its world and prints of it.
+-- What a give does to its world, and what it prints.
 use Rattle.std.specs.Prelude.{◌≡◌, ℕ, List, [], ◌∷◌, ◌++◌, Option, Some, None, Result, Ok, Err}
 use Rattle.std.specs.Io.KnownBytes.{Appends, Keeps}
 use Rattle.sb_types.specs.declared.fault.Fault.{Fault}
@@ -12,7 +12,7 @@ use Rattle.sb_world.specs.Steps.{Step}
 use Rattle.sb_script.specs.declared.playing.Given.{Given}
 use Rattle.sb_script.specs.Printed.{lines_of, fault_line, shown_frame}
 
--- the frame of a give, where one was sent
+-- the frame of a give is printed, if one was sent
 abbrev pub ShowsSent : List (List ℕ) → Option ℕ → Option (List ℕ) → Option (List ℕ) → Type 0
 ShowsSent sent None before after = Keeps before after
 ShowsSent sent (Some number) before after = Appends before after (shown_frame (frame_at sent number))
@@ -21,12 +21,12 @@ ShowsSent sent (Some number) before after = Appends before after (shown_frame (f
 abbrev pub Happens : Seen → Event → Result Answer Fault → Seen → Type 0
 Happens old event answer new = (effect : Effect) × Step old event answer effect new
 
--- behind a fault nothing else happens, and it is the answer
+-- after a fault nothing else happens, and the fault is the answer
 abbrev pub GoesOn : Result Answer Fault → Seen → Result Answer Fault → Seen → Type 0 → Type 0
 GoesOn (Err fault) old answer new rest = (new ≡ old) × (answer ≡ Err fault)
 GoesOn (Ok _) old answer new rest = rest
 
--- events happen in turn, and then a last one, whose answer it is, up to the first that has a fault
+-- events happen in turn, up to the first that has a fault; then a last one, whose answer it is
 abbrev pub Happen : Seen → List Event → Event → Result Answer Fault → Seen → Type 0
 Happen old [] last answer new = Happens old last answer new
 Happen old (event ∷ events) last answer new =
@@ -58,7 +58,7 @@ abbrev pub given_with : Option ℕ → Result (Option ℕ) Fault → Result Give
 given_with hello (Ok delta) = Ok (record { hello = hello; delta = delta })
 given_with hello (Err fault) = Err fault
 
--- behind a Hello that had a fault nothing is offered
+-- after a Hello with a fault nothing is offered
 abbrev pub OffersNext : Result (Option ℕ) Fault → Seen → List ℕ → ℕ → Result Given Fault → Seen → Type 0
 OffersNext (Err fault) old giver after given new = (new ≡ old) × (given ≡ Err fault)
 OffersNext (Ok hello) old giver after given new =
@@ -74,7 +74,7 @@ abbrev pub lining : Option ℕ → List Event
 lining None = []
 lining (Some number) = events.Line taking number ∷ []
 
--- an answer, of which only its fault is kept
+-- only the fault of an answer
 abbrev pub done_of : Result Answer Fault → Result (Unit {0}) Fault
 done_of (Ok answer) = Ok tt
 done_of (Err fault) = Err fault
@@ -84,26 +84,26 @@ abbrev pub LinesUp : Seen → Option ℕ → Result (Unit {0}) Fault → Seen �
 LinesUp old None result new = (new ≡ old) × (result ≡ Ok tt)
 LinesUp old (Some number) result new = (answer : Result Answer Fault) × Happens old (events.Line taking number) answer new × (result ≡ done_of answer)
 
--- all that is lined up towards the taker comes
+-- all that is in the queue to the taker comes
 abbrev pub all_comes : Event
 all_comes = events.Piece taking 18446744073709551615
 
--- the taker connects, the frames that were sent are lined up towards it, and all of them come at once
+-- the taker connects, the frames that were sent enter its queue, and all of them come at once
 abbrev pub TakesUp : Seen → List ℕ → Given → Result Answer Fault → Seen → Type 0
 TakesUp old taker given answer new = Happen old (events.Connect taker taking ∷ lining given.hello ++ lining given.delta) all_comes answer new
 
--- both connections end, whatever that answers
+-- both connections are closed, whatever the answers are
 abbrev pub Closes : Seen → Seen → Type 0
 Closes old new = (first second : Result Answer Fault) × (middle : Seen) × Happens old (events.Close giving) first middle × Happens middle (events.Close taking) second new
 
--- the delta's frame is printed, where one was sent, and what came of it; a fault of the giver's part is printed alone
+-- the delta's frame is printed, if one was sent, and then what came of it; a fault of the giver's part is printed alone
 abbrev pub PlaysTaking : Result Given Fault → Seen → List ℕ → Option (List ℕ) → Option (List ℕ) → Seen → Type 0
 PlaysTaking (Err fault) old taker before after new = Closes old new × Appends before after (fault_line fault)
 PlaysTaking (Ok given) old taker before after new =
     (answer : Result Answer Fault) × (taken : Seen) × (between : Option (List ℕ))
     × ShowsSent old.sent given.delta before between × TakesUp old taker given answer taken × Closes taken new × Appends between after (lines_of all_comes answer)
 
--- the giver offers, and the taker takes it up
+-- the giver offers, and the taker takes up what it offers
 abbrev pub PlaysGive : Seen → List ℕ → List ℕ → ℕ → Option (List ℕ) → Option (List ℕ) → Seen → Type 0
 PlaysGive old giver taker above before after new =
     (given : Result Given Fault) × (middle : Seen) × Offers old giver above given middle × PlaysTaking given middle taker before after new

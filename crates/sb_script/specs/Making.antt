@@ -7,7 +7,7 @@ use Rattle.sb_world.specs.Places.{Place, Seen, place_at}
 use Rattle.sb_world.specs.Making.{IsMade}
 use Rattle.sb_script.specs.declared.making.WorldLine.{WorldLine}
 
--- what the line gives, and what is the same in each world of a script
+-- the settings that the line gives, and those that are the same in each world of a script
 abbrev pub settings_of : WorldLine → Settings
 settings_of line = record { cluster = codes "sim"; budget = line.budget; order = line.order; max_version = line.max_version; seats = 1; workers = 1 }
 
@@ -15,11 +15,11 @@ settings_of line = record { cluster = codes "sim"; budget = line.budget; order =
 abbrev pub names_in : WorldLine → List (List ℕ)
 names_in line = map (λ word. word.now) line.names.now
 
--- the log of a node to which nothing was written yet
+-- the log of a node before its first write
 abbrev pub empty_log : Settings → List ℕ → Log
 empty_log settings name = new_log name settings.cluster settings.max_version
 
--- a node for each name of the line, in their order, that has just opened with an empty log
+-- a node for each name of the line, in their order; each has just opened with an empty log
 pub record IsWorldOf (line : WorldLine) (world : Seen) : Type 0 where
   pub settings : world.settings ≡ settings_of line
   pub names : map (λ (p : Place). p.me) world.places ≡ names_in line

@@ -1,4 +1,4 @@
--- What the commands of a script do to its world and print of it.
+-- What the commands of a script do to its world, and what they print.
 use Rattle.std.specs.Prelude.{◌≡◌, ◌⊎◌, ℕ, List, Bool, true, false, Option, Result, Ok, Err}
 use Rattle.std.specs.Io.KnownBytes.{Appends, Keeps}
 use Rattle.sb_types.specs.declared.fault.Fault.{Fault}
@@ -20,7 +20,7 @@ abbrev pub PlaysStep : Seen → Event → Option (List ℕ) → Option (List ℕ
 PlaysStep old event before after new =
     (effect : Effect) × (answer : Result Answer Fault) × Step old event answer effect new × Appends before after (lines_of event answer)
 
--- a commit that had a fault prints it; behind any other comes the take
+-- the fault of a commit is printed; after any other answer comes the take
 abbrev pub PlaysTake : Result Answer Fault → Seen → Event → Option (List ℕ) → Option (List ℕ) → Seen → Type 0
 PlaysTake (Err fault) old take before after new = (new ≡ old) × Appends before after (fault_line fault)
 PlaysTake (Ok _) old take before after new =
@@ -36,15 +36,15 @@ Plays old (commands.Write commit take) before after new = PlaysWrite old commit 
 Plays old (commands.Give giver taker above) before after new = PlaysGive old giver taker above before after new
 Plays old (commands.Show frame) before after new = (new ≡ old) × Appends before after (shown_frame (frame_at old.sent frame))
 
--- a line does what it says
+-- a line does what it asks for
 abbrev pub PlaysCommand : Seen → Option (List ℕ) → Option (List ℕ) → Seen → Type 0
 PlaysCommand old before after new = (line : Line) × (command : Command) × IsCommand line command × Plays old command before after new
 
--- a line with a name, a key or a value that is none prints that fault alone, and so does one for which memory is wanting
+-- a line prints a fault alone if one of its words is not a name, a key or a value, or if memory is missing
 abbrev pub PlaysFault : Seen → Option (List ℕ) → Option (List ℕ) → Seen → Type 0
 PlaysFault old before after new = (fault : Fault) × (is_word_fault fault ≡ true) × (new ≡ old) × Appends before after (fault_line fault)
 
--- what is no command does nothing
+-- a line that is not a command does nothing
 abbrev pub PlaysLine : Bool → Seen → Option (List ℕ) → Option (List ℕ) → Seen → Type 0
 PlaysLine false old before after new = (new ≡ old) × Keeps before after
 PlaysLine true old before after new = PlaysCommand old before after new ⊎ PlaysFault old before after new

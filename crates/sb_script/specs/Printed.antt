@@ -16,14 +16,14 @@ use Rattle.sb_world.specs.declared.event.Answer.TheVariants.{Nothing, Committed,
 abbrev pub line : List ℕ → List ℕ
 line text = text ++ 10 ∷ []
 
--- a word and a number behind it
+-- a word, and then a number
 abbrev pub counted : List ℕ → ℕ → List ℕ
 counted word number = line (word ++ decimal number)
 
 abbrev pub fault_line : Fault → List ℕ
 fault_line fault = counted (codes "fault ") (number_of fault)
 
--- the line that is no command, by its number
+-- a line that is not a command, by its number
 abbrev pub wrong_line : ℕ → List ℕ
 wrong_line number = counted (codes "line ") number
 
@@ -48,7 +48,7 @@ abbrev pub item_line : Item → List ℕ
 item_line (Ended end) = end_line end
 item_line (Replied number) = counted (codes "frame ") number
 
--- each item, then the fault; where there is neither, that there is nothing
+-- each item, then the fault; if there is neither, the line `nothing`
 abbrev pub piece_lines : List Item → Option Fault → List ℕ
 piece_lines [] None = line (codes "nothing")
 piece_lines (item ∷ items) None = flat_map item_line (item ∷ items)
@@ -83,12 +83,12 @@ abbrev pub lines_of : Event → Result Answer Fault → List ℕ
 lines_of event (Ok answer) = answer_lines event answer
 lines_of event (Err fault) = fault_line fault
 
--- a write that was entered is told by its version
+-- a write that was entered is printed by its version
 abbrev pub write_lines : Event → Result Answer Fault → List ℕ
 write_lines take (Ok (Took version)) = counted (codes "version ") version
 write_lines take answer = lines_of take answer
 
--- the frame of a number, where one was sent
+-- the frame of a number, if one was sent
 abbrev pub shown_frame : Option (List ℕ) → List ℕ
 shown_frame None = line (codes "nothing")
 shown_frame (Some frame) = frame_line frame

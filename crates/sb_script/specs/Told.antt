@@ -13,7 +13,7 @@ use Rattle.sb_script.specs.Making.{IsWorldOf}
 use Rattle.sb_script.specs.Played.{PlaysLine}
 use Rattle.sb_script.specs.Printed.{fault_line, wrong_line}
 
--- behind what a line answers stand words only where they are asked for
+-- after the answer of a line come words, only if they are asked for
 abbrev pub Explains : Detail → Option (List ℕ) → Option (List ℕ) → Type 0
 Explains Plain before after = Keeps before after
 Explains Explained before after = (words : List ℕ) × Appends before after words
@@ -22,13 +22,13 @@ Explains Explained before after = (words : List ℕ) × Appends before after wor
 abbrev pub PlaysNext : Detail → Seen → Option (List ℕ) → Option (List ℕ) → Seen → Type 0
 PlaysNext detail old before after new = (between : Option (List ℕ)) × PlaysLine true old before between new × Explains detail between after
 
--- so many commands are played in turn
+-- so many commands are played, one after another
 abbrev pub PlaysLines : Detail → ℕ → Seen → Option (List ℕ) → Option (List ℕ) → Seen → Type 0
 PlaysLines detail zero old before after new = (new ≡ old) × Keeps before after
 PlaysLines detail (suc n) old before after new =
     (mid : Seen) × (between : Option (List ℕ)) × PlaysLines detail n old before between mid × PlaysNext detail mid between after new
 
--- the last line: none where the script is whole, else one that is no command, or a fault of the world line
+-- The last line: a whole script has none. Any other ends at a line that is not a command, or at a fault of the world line.
 abbrev pub EndsAt : Ending → Option (List ℕ) → Option (List ℕ) → Type 0
 EndsAt Whole before after = Keeps before after
 EndsAt WrongLine before after = (number : ℕ) × Appends before after (wrong_line number)
@@ -39,7 +39,7 @@ abbrev pub TellsFrom : Seen → Ending → Detail → Option (List ℕ) → Opti
 TellsFrom old ending detail before after =
     (count : ℕ) × (new : Seen) × (between : Option (List ℕ)) × PlaysLines detail count old before between new × EndsAt ending between after
 
--- a run that ends before there is a world, or that plays commands in the one that its first line makes
+-- the run ends before there is a world, or plays commands in the one that its first line makes
 abbrev pub Tells : Ending → Detail → Option (List ℕ) → Option (List ℕ) → Type 0
 Tells ending detail before after =
     EndsAt ending before after ⊎ ((line : WorldLine) × (world : Seen) × IsWorldOf line world × TellsFrom world ending detail before after)

@@ -1,4 +1,4 @@
--- What a script's output was given.
+-- What a script's output received.
 use Rattle.std.specs.Prelude.{ℕ, List, Option}
 use Rattle.std.specs.Io.Buffered.{writer_inner, writer_contents}
 use Rattle.sb_script.specs.declared.output.Output.{Output}
@@ -7,10 +7,10 @@ use Rattle.sb_script.specs.declared.output.Output.{Output}
 abbrev pub taken : {W : Type 0} → Output W → ℕ
 taken output = (writer_inner output.writer).taken
 
--- the bytes that the writer has, where they are known
+-- the bytes that the writer has, if they are known
 abbrev pub written : {W : Type 0} → (W → Option (List ℕ)) → Output W → Option (List ℕ)
 written contents output = contents (writer_inner output.writer).writer
 
--- those, and then the ones that wait to be written
+-- the bytes that the writer has, and then those that wait to be written
 abbrev pub printed : {W : Type 0} → (W → Option (List ℕ)) → Output W → Option (List ℕ)
 printed contents output = writer_contents (λ counting. contents counting.writer) output.writer

@@ -1,4 +1,4 @@
-//! What a line asks of the world, with its names, keys and values read.
+//! What a line asks of the world, after its names, keys and values are read.
 ghost use Rattle.std.specs.Prelude.{◌≡◌, true, IfOk, IfErr, IfSome};
 ghost use Rattle.sb_world.specs.declared.event.Event.TheVariants as events;
 ghost use Rattle.sb_script.specs.declared.command.Command.TheVariants as commands;
@@ -17,25 +17,25 @@ use std::alloc::Global;
 pub(crate) enum Command {
     /// One event, whose answer is printed.
     Step(Event),
-    /// A write, and its entry unless the write has a fault.
+    /// A write, which then is entered, unless the write has a fault.
     Write {
         commit: Event,
         take: Event,
     },
-    /// A node sends another what it wrote above a version.
+    /// A node sends to another what it wrote above a version.
     Give {
         giver: Name,
         taker: Name,
         after: u64,
     },
-    /// The frame of this number is printed.
+    /// The frame of this number, which is printed.
     Show {
         frame: u64,
     },
 }
 
 impl Command {
-    /// A write and its entry. `BadName`; `BadKey`; `BadValue`; `NoMemory`.
+    /// A write that then is entered. `BadName`, `BadKey`, `BadValue`, then `NoMemory`.
     fn of_write(alloc: Global, write: &WriteWords<'_>) -> Result<Command, Fault>
         ensures command { IfOk result (IsOfWrite write.now (λ slot. commands.Write (events.Commit write.now.node.now write.now.key.now slot) (events.Take write.now.node.now))) }
         ensures fault { IfErr result (λ fault. is_word_fault fault ≡ true) }
@@ -46,7 +46,7 @@ impl Command {
         })
     }
 
-    /// `BadName`.
+    /// A give from one node to another. `BadName`.
     fn of_give(giver: &[u8], taker: &[u8], after: u64) -> Result<Command, Fault>
         ensures command { IfOk result (λ command. command ≡ commands.Give giver.now taker.now after) }
         ensures fault { IfErr result (λ fault. is_word_fault fault ≡ true) }
@@ -58,7 +58,8 @@ impl Command {
         })
     }
 
-    /// What the line asks for. `BadName`, `BadKey` and `BadValue`, from left to right; `NoMemory`.
+    /// What the line asks for. `BadName`, `BadKey` and `BadValue` of the first word that has one, from left to right;
+    /// then `NoMemory`.
     fn of_line(alloc: Global, line: &Line<'_>) -> Result<Command, Fault>
         ensures command { IfOk result (IsCommand line.now) }
         ensures fault { IfErr result (λ fault. is_word_fault fault ≡ true) }
@@ -99,8 +100,8 @@ impl Command {
         }
     }
 
-    /// Reads a line, first its shape, then its names, keys and values from left to right. None where it is no command.
-    /// `BadName`, `BadKey` and `BadValue`; `NoMemory`.
+    /// Reads a line: first its shape, then its names, keys and values from left to right. Returns `None` if it is not a
+    /// command. `BadName`, `BadKey` and `BadValue` of the first word that has one; `NoMemory`.
     pub(crate) fn read(alloc: Global, line: &[u8]) -> Result<Option<Command>, Fault>
         ensures command { IfOk result (λ read. IfSome read (λ command. (shape : Line) × IsCommand shape command)) }
         ensures fault { IfErr result (λ fault. is_word_fault fault ≡ true) }

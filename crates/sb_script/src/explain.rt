@@ -38,7 +38,7 @@ fn add_entry(words: &mut String, owner: &Name, entry: &Entry) -> Result<(), Faul
     }
 }
 
-/// Adds the head of a block, and its floor where it has one.
+/// Adds the head of a block, and its floor if it has one.
 fn add_head(words: &mut String, block: &Block) -> Result<(), Fault> {
     let owner = Text(block.owner().bytes());
     match block.floor() {
@@ -74,7 +74,7 @@ fn add_delta(words: &mut String, delta: &Delta) -> Result<(), Fault> {
     Ok(())
 }
 
-/// Adds the end of a digest's range, or that it has none.
+/// Adds one end of a digest's range, or that it has none.
 fn add_bound(
     words: &mut String,
     bound: Option<Name>,
@@ -87,7 +87,7 @@ fn add_bound(
     }
 }
 
-/// Adds how far an owner is held, and of which floor its stage is and how far that has come, where there is one.
+/// Adds how far an owner is held. If the pair has a stage, it also adds the stage's floor and progress.
 fn add_pair(words: &mut String, pair: &Pair) -> Result<(), Fault> {
     let owner = Text(pair.owner.bytes());
     let (upto, floor, progress) = (pair.upto, pair.staged_floor, pair.progress);
@@ -119,7 +119,7 @@ fn add_digest(words: &mut String, digest: &Digest) -> Result<(), Fault> {
     Ok(())
 }
 
-/// Adds the words of a message. Those of callers are named alone, since no node of a world sends one.
+/// Adds the words of a message. Of messages from callers it adds only the name, since no node of a world sends one.
 fn add_message(words: &mut String, message: &Message) -> Result<(), Fault> {
     match message {
         Message::Hello(hello) => {
@@ -140,7 +140,7 @@ fn add_message(words: &mut String, message: &Message) -> Result<(), Fault> {
     }
 }
 
-/// Adds the words of the frame of a number, where there is one. `NoMemory`.
+/// Adds the words of the frame of a number, if there is one. `NoMemory`.
 fn add_frame(
     alloc: Global,
     words: &mut String,
@@ -161,7 +161,7 @@ fn add_frame(
     }
 }
 
-/// How many frames were sent, where it is known of so many.
+/// How many frames were sent, if at least `known` were.
 fn count_sent(world: &World<PlainLog>, known: u64) -> u64 {
     for number in known..u64::MAX {
         if world.frame(number + 1).is_none() {
@@ -171,7 +171,7 @@ fn count_sent(world: &World<PlainLog>, known: u64) -> u64 {
     u64::MAX
 }
 
-/// The number of the frame that a line shows.
+/// The number of the frame that a line shows, if it shows one. `NoMemory`.
 fn shown_by(alloc: Global, line: &[u8]) -> Result<Option<u64>, Fault> {
     let words = words_of(alloc, line)?;
     match Line::parse(&words) {
@@ -180,8 +180,8 @@ fn shown_by(alloc: Global, line: &[u8]) -> Result<Option<u64>, Fault> {
     }
 }
 
-/// The words of the frame that a line shows, and of those that it sent: the ones behind the first `known`, up to `sent`.
-/// `NoMemory`.
+/// The words of the frame that a line shows, and of the frames that it sent: those after the first `known`, up to
+/// `sent`. `NoMemory`.
 fn words_behind(
     alloc: Global,
     world: &World<PlainLog>,
@@ -199,9 +199,9 @@ fn words_behind(
     Ok(words)
 }
 
-/// Prints what is to stand behind the answers of a line: where words are asked for, those of the frame that it shows and
-/// of the frames that were sent since `told` were, each line with two spaces in front, or for want of memory `fault 1`
-/// in their place. `WriteFailed`.
+/// Prints what comes after the answers of a line, if words are asked for. These are the words of the frame that the
+/// line shows, and of the frames that were sent after the first `told`. Each line has two spaces in front. If memory is
+/// missing, it prints `fault 1` in their place. `WriteFailed`.
 pub(crate) fn explain<W: io::Write + Drop>(
     alloc: Global,
     world: &World<PlainLog>,

@@ -1,19 +1,18 @@
-//! The lines of a script below the first. Only their shape is looked at: names, keys and values are words yet.
+//! The lines of a script below the first. Only their shape is checked here: names, keys and values are still words.
 use crate::words::{ValueWords, WriteWords, are_words, connection_of, number_of};
 
-/// A line below the world line, with its words. Numbers of connections are 1 to 999,999.
+/// A line below the world line, with its words. Connections have the numbers 1 to 999,999.
 #[derive(Clone, Copy)]
 pub(crate) enum Line<'a> {
     /// `commit N K KIND VALUE`, `commit N K removed`: the log of node N takes a write. A text is the rest of the line.
     Commit {
         write: WriteWords<'a>,
     },
-    /// `put N K KIND VALUE`, `del N K`: it takes a write, and the oldest that waits is entered.
+    /// `put N K KIND VALUE`, `del N K`: the log of node N takes a write, and the oldest write that waits is entered.
     Write {
         write: WriteWords<'a>,
     },
-    /// `crash N K KIND VALUE kept`, `.. lost`: node N crashes in that commit. A text ends before the space in front of
-    /// the last word.
+    /// `crash N K KIND VALUE kept`, `.. lost`: node N crashes in that commit. A text ends before the last space.
     Crash {
         write: WriteWords<'a>,
         is_kept: bool,
@@ -22,12 +21,12 @@ pub(crate) enum Line<'a> {
     Take {
         node: &'a [u8],
     },
-    /// `purge N F`: the log of node N lets go of its removals up to the version F, and the node goes down.
+    /// `purge N F`: the log of node N drops its tombstones up to the version F, and the node goes down.
     Purge {
         node: &'a [u8],
         floor: u64,
     },
-    /// `restart N`
+    /// `restart N`: node N opens again.
     Restart {
         node: &'a [u8],
     },
@@ -36,11 +35,11 @@ pub(crate) enum Line<'a> {
         node: &'a [u8],
         connection: u64,
     },
-    /// `close C`
+    /// `close C`: the connection is closed.
     Close {
         connection: u64,
     },
-    /// `line C I`: frame I is lined up.
+    /// `line C I`: frame I enters the connection's queue.
     LineUp {
         connection: u64,
         frame: u64,
@@ -66,16 +65,16 @@ pub(crate) enum Line<'a> {
         owner: &'a [u8],
         key: &'a [u8],
     },
-    /// `upto N O`: how far node N holds owner O.
+    /// `upto N O`: node N reports how far it holds owner O.
     Upto {
         node: &'a [u8],
         owner: &'a [u8],
     },
-    /// `show I`: the frame of this number.
+    /// `show I`: the frame of this number is printed.
     Show {
         frame: u64,
     },
-    /// `give A B V`: node A sends node B what it wrote above the version V, on connections of their own.
+    /// `give A B V`: node A sends to node B what it wrote above the version V, on connections of their own.
     Give {
         giver: &'a [u8],
         taker: &'a [u8],
@@ -83,7 +82,7 @@ pub(crate) enum Line<'a> {
     },
 }
 
-/// A line that says what a node writes.
+/// A line that makes a node write.
 fn parse_write<'a>(words: &[&'a [u8]]) -> Option<Line<'a>> {
     let (node, key, value) = match *words {
         [b"del", node, key] | [b"commit", node, key, b"removed"] => (node, key, None),
@@ -158,7 +157,7 @@ fn parse_node<'a>(words: &[&'a [u8]]) -> Option<Line<'a>> {
 }
 
 impl<'a> Line<'a> {
-    /// None where the line is no command.
+    /// Reads the line of these words. Returns `None` if they are not a command.
     pub(crate) fn parse(words: &[&'a [u8]]) -> Option<Line<'a>> {
         if !are_words(words) {
             return None;

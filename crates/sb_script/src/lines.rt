@@ -14,7 +14,7 @@ use std::sync::ledger::Ledger;
 /// How many bytes are read at once.
 const ROOM: usize = 65_536;
 
-/// Reads some bytes, 0 at the end. `TurnsSpent` where no read is left; `ReadFailed`.
+/// Reads some bytes, and returns how many: 0 at the end. `TurnsSpent` if no read is left; `ReadFailed`.
 fn read_some<R: Read, L: Ledger>(
     reader: &mut R,
     bytes: &mut [u8],
@@ -31,8 +31,8 @@ fn read_some<R: Read, L: Ledger>(
     read_within(reader, bytes, left, steps)
 }
 
-/// The lines of what is read, one after the other. A line ends at a newline; a last one without counts.
-/// No more is kept of the script than what is read at once and the line that was met.
+/// The lines of a script, one after another. A line ends at a newline, and a last one without a newline counts. It
+/// keeps the last line, and at most what one read gave.
 #[derive(Drop)]
 pub(crate) struct Lines<R> {
     reader: R,
@@ -50,7 +50,7 @@ pub(crate) struct Lines<R> {
 }
 
 impl<R: Read> Lines<R> {
-    /// Nothing of a script yet.
+    /// Begins with nothing of a script. `NoMemory`.
     fn new(alloc: Global, reader: R, max_reads: u64) -> Result<Lines<R>, Fault>
     where
         R: Drop,
@@ -70,7 +70,7 @@ impl<R: Read> Lines<R> {
         })
     }
 
-    /// Makes the first read. `NoMemory`; `ReadFailed`; `TurnsSpent` where no read is allowed.
+    /// Makes the first read. `NoMemory`; `TurnsSpent` if no read is allowed; `ReadFailed`.
     #[tactic(auto, using(crate::proofs::Runs::memory_fault))]
     pub(crate) fn open<L: Ledger>(
         alloc: Global,
@@ -92,17 +92,18 @@ impl<R: Read> Lines<R> {
         Ok(lines)
     }
 
-    /// The line that was met last.
+    /// The last line.
     pub(crate) fn line(&self) -> &[u8] {
         &self.line
     }
 
-    /// Its number, counted from 1.
+    /// The number of the last line, counted from 1.
     pub(crate) fn number(&self) -> u64 {
         self.number
     }
 
-    /// Goes on to the next line that is not empty, where there is one.
+    /// Goes on to the next line that is not empty. Returns whether there is one. `ReadFailed`, `TurnsSpent` or
+    /// `NoMemory`.
     #[tactic(auto, using(crate::proofs::Runs::counted_later, crate::proofs::Runs::fault_later))]
     pub(crate) fn advance<L: Ledger>(&mut self, steps: &mut Steps<L>) -> Result<bool, Fault>
         ensures counted { AreCounted steps.old self.old.left steps.new self.new.left }
@@ -122,7 +123,7 @@ impl<R: Read> Lines<R> {
         Ok(false)
     }
 
-    /// Goes on to the next line, empty or not.
+    /// Goes on to the next line, empty or not. Returns whether there is one.
     #[tactic(auto, using(crate::proofs::Runs::counted_later, crate::proofs::Runs::fault_later, crate::proofs::Runs::memory_fault))]
     fn next_line<L: Ledger>(&mut self, steps: &mut Steps<L>) -> Result<bool, Fault>
         ensures counted { AreCounted steps.old self.old.left steps.new self.new.left }
@@ -144,7 +145,7 @@ impl<R: Read> Lines<R> {
         Ok(!self.line.is_empty())
     }
 
-    /// Reads where nothing is left of what was read before. Says whether there is something now.
+    /// Reads again if nothing is left of the last read. Returns whether there is something now.
     fn refill<L: Ledger>(&mut self, steps: &mut Steps<L>) -> Result<bool, Fault>
         ensures counted { AreCounted steps.old self.old.left steps.new self.new.left }
         ensures more { IfOk result (λ more. more ≡ true → self.new.at < self.new.end) }
@@ -164,7 +165,7 @@ impl<R: Read> Lines<R> {
         Ok(!self.ended)
     }
 
-    /// Adds to the line what was read of it. Says whether that is all of it.
+    /// Adds to the line what was read of it. Returns whether the line is then whole. `NoMemory`.
     fn take_piece(&mut self) -> Result<bool, Fault>
         requires { self.old.at < self.old.end }
         ensures reader { self.new.reader ≡ self.old.reader }

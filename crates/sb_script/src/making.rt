@@ -14,7 +14,7 @@ use std::alloc::Global;
 /// The cluster of each world of a script.
 const CLUSTER: &[u8] = b"sim";
 
-/// `world BUDGET ORDER MAX NAME..`, with the names as words yet.
+/// `world BUDGET ORDER MAX NAME..`. The names are still words.
 #[derive(Clone, Copy)]
 struct WorldLine<'a> {
     budget: u64,
@@ -32,7 +32,7 @@ fn order_of(word: &[u8]) -> Option<Order> {
 }
 
 impl<'a> WorldLine<'a> {
-    /// None where the line is no command.
+    /// Reads the world line of these words. Returns `None` if they are not one.
     fn parse(words: &'a [&'a [u8]]) -> Option<WorldLine<'a>> {
         match words {
             [b"world", budget, order, max_version, names @ ..]
@@ -48,7 +48,7 @@ impl<'a> WorldLine<'a> {
         }
     }
 
-    /// `BadSetting`.
+    /// The settings of the line. `BadSetting`.
     fn settings(&self) -> Result<Settings, Fault>
         ensures settings { IfOk result (λ settings. settings ≡ settings_of self.now) }
         ensures fault { IfErr result (λ fault. fault ≡ Fault.BadSetting) }
@@ -63,7 +63,8 @@ impl<'a> WorldLine<'a> {
         })
     }
 
-    /// `BadName`; `BadSetting`, for more than 1,024 nodes, too; `SameName`; `NoMemory`.
+    /// Makes the world of the line, with empty logs. `BadName`; `BadSetting`, also for more than 1,024 nodes;
+    /// `SameName`; `NoMemory`.
     #[tactic(auto, using(crate::proofs::Faults::name_fault))]
     fn world(&self, alloc: Global) -> Result<World<PlainLog>, Fault>
         ensures world { IfOk result (IsWorldOf self.now) }
@@ -76,7 +77,7 @@ impl<'a> WorldLine<'a> {
     }
 }
 
-/// The name of a word. `BadName`.
+/// Reads the name of a word. `BadName`.
 fn name_of(word: &[u8]) -> Result<Name, Fault>
     ensures name { IfOk result (λ name. name ≡ word.now) }
     ensures fault { IfErr result (λ fault. fault ≡ Fault.BadName) }
@@ -84,7 +85,7 @@ fn name_of(word: &[u8]) -> Result<Name, Fault>
     Name::read(word)
 }
 
-/// The names of these words. `BadName`; `NoMemory`.
+/// Reads the names of these words. `BadName` or `NoMemory`, at the first word with a fault.
 fn names_of(alloc: Global, words: &[&[u8]]) -> Result<Vec<Name>, Fault>
     ensures names { IfOk result (λ names. names.items ≡ map (λ word. word.now) words.now) }
     ensures fault { IfErr result (λ fault. (fault ≡ Fault.BadName) ⊎ (fault ≡ Fault.NoMemory)) }
@@ -96,7 +97,7 @@ fn names_of(alloc: Global, words: &[&[u8]]) -> Result<Vec<Name>, Fault>
     Ok(names)
 }
 
-/// An empty log for each name. `NoMemory`.
+/// Makes an empty log for each name. `NoMemory`.
 fn logs_of(alloc: Global, settings: &Settings, names: &[Name]) -> Result<Vec<PlainLog>, Fault>
     ensures logs { IfOk result (λ logs. logs.items ≡ map (empty_log settings.now) names.now) }
     ensures memory { IfErr result (λ fault. fault ≡ Fault.NoMemory) }
@@ -109,8 +110,8 @@ fn logs_of(alloc: Global, settings: &Settings, names: &[Name]) -> Result<Vec<Pla
     Ok(logs)
 }
 
-/// The world of the first line, of empty logs. None where that line is no command. `BadName`; `BadSetting`, for more than
-/// 1,024 nodes, too; `SameName`; `NoMemory`.
+/// Makes the world of the first line, with empty logs. Returns `None` if that line is not a command. `BadName`;
+/// `BadSetting`, also for more than 1,024 nodes; `SameName`; `NoMemory`.
 pub(crate) fn make_world(alloc: Global, line: &[u8]) -> Result<Option<World<PlainLog>>, Fault>
     ensures world { IfOk result (λ made. IfSome made (λ world. (line : lines.WorldLine) × IsWorldOf line world)) }
     ensures fault { IfErr result (λ fault. is_world_fault fault ≡ true) }

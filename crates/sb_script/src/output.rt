@@ -11,7 +11,7 @@ use std::io::{self, BufWriter, ErrorKind, Write};
 /// How many bytes are written at once.
 const ROOM: usize = 65_536;
 
-/// A writer that counts the bytes that it took. Nothing more is written behind a write that failed.
+/// A writer that counts the bytes that it took. After a write that failed, it writes nothing more.
 #[derive(Drop)]
 struct Counting<W> {
     writer: W,
@@ -48,15 +48,15 @@ impl<W: Write> Write for Counting<W> {
     }
 }
 
-/// What a script prints, on its way to a writer, which gets many lines at once. It takes its memory when it is made and
-/// none later.
+/// What a script prints, on its way to a writer, which gets many lines at once. It takes its memory when it is made,
+/// and none later.
 #[derive(Drop)]
 pub struct Output<W: Write + Drop> {
     writer: BufWriter<Counting<W>>,
 }
 
 impl<W: Write + Drop> Output<W> {
-    /// An output to a writer, with nothing printed yet. `NoMemory`, with the writer dropped.
+    /// Makes an output to a writer, with nothing printed yet. `NoMemory`, with the writer dropped.
     pub fn new(alloc: Global, writer: W) -> Result<Output<W>, Fault>
         ensures nothing { IfOk result (λ output. printed W.contents output ≡ append_known (W.contents writer) []) }
         ensures fault { IfErr result (λ fault. fault ≡ Fault.NoMemory) }
@@ -72,7 +72,7 @@ impl<W: Write + Drop> Output<W> {
         }
     }
 
-    /// The writer, with what was written. Where a write failed, what still waits to be written is dropped.
+    /// Returns the writer, with what was written. If a write failed, what still waits to be written is dropped.
     pub fn into_writer(self) -> W
         ensures { W.contents result ≡ written W.contents self }
     {
@@ -80,7 +80,7 @@ impl<W: Write + Drop> Output<W> {
         counting.into_writer()
     }
 
-    /// Prints lines. `WriteFailed`, with how many bytes were written in all.
+    /// Prints lines. `WriteFailed`, with the number of bytes that were written in all.
     pub(crate) fn print<D: Display + Drop>(&mut self, lines: D) -> Result<(), Fault>
         ensures printed { OnOk result (IfSome (D.output lines) (Appends (printed W.contents self.old) (printed W.contents self.new))) }
         ensures fault { IfErr result (λ fault. fault ≡ Fault.WriteFailed (taken self.new)) }
@@ -91,7 +91,7 @@ impl<W: Write + Drop> Output<W> {
         }
     }
 
-    /// Writes what waits. `WriteFailed`, with how many bytes were written in all.
+    /// Writes what waits. `WriteFailed`, with the number of bytes that were written in all.
     pub(crate) fn finish(&mut self) -> Result<(), Fault>
         ensures kept { Keeps (printed W.contents self.old) (printed W.contents self.new) }
         ensures written { OnOk result (Keeps (printed W.contents self.old) (written W.contents self.new)) }

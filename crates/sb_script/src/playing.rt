@@ -1,4 +1,4 @@
-//! What the commands of a script do to its world, and what is printed of it.
+//! What the commands of a script do to its world, and what they print.
 ghost use Rattle.std.specs.Prelude.{◌≡◌, OnOk, IfOk, IfErr};
 ghost use Rattle.std.specs.Io.KnownBytes.{Appends};
 ghost use Rattle.sb_world.specs.Places.{frame_at};
@@ -22,17 +22,17 @@ const GIVER: u64 = CONNECTION_MOST + 1;
 
 const TAKER: u64 = CONNECTION_MOST + 2;
 
-/// The frames that a give sends, by their numbers, where it sends them.
+/// The numbers of the frames that a give sends, if it sends them.
 #[derive(Clone, Copy)]
 struct Given {
     hello: Option<u64>,
     delta: Option<u64>,
 }
 
-/// Lets go of what the world answered.
+/// Drops what the world answered.
 fn lose(_answer: Result<Answer, Fault>) {}
 
-/// Lets go of an event.
+/// Drops an event.
 fn lose_event(_event: Event) {}
 
 /// Prints what an event answered. `WriteFailed`.
@@ -53,7 +53,7 @@ fn tell<W: Write + Drop>(
     printed
 }
 
-/// Lets an event happen, and prints what it answers. `WriteFailed`.
+/// Makes an event happen, and prints what it answers. `WriteFailed`.
 fn step<W: Write + Drop>(
     world: &mut World<PlainLog>,
     event: Event,
@@ -66,7 +66,7 @@ fn step<W: Write + Drop>(
     tell(event, answer, output)
 }
 
-/// Prints a frame that was sent, or that none has this number. `WriteFailed`.
+/// Prints the frame of a number, or `nothing` if no frame has it. `WriteFailed`.
 fn show<W: Write + Drop>(
     world: &World<PlainLog>,
     number: u64,
@@ -81,7 +81,7 @@ fn show<W: Write + Drop>(
     }
 }
 
-/// A node's log takes a write, and the oldest of its writes that wait is entered, whose version is printed. `WriteFailed`.
+/// Makes a node's log take a write, enters the oldest of its writes that wait, and prints its version. `WriteFailed`.
 fn write<W: Write + Drop>(
     world: &mut World<PlainLog>,
     commit: Event,
@@ -109,7 +109,7 @@ fn write<W: Write + Drop>(
     }
 }
 
-/// Lets an event happen, and answers the number of the frame that it sent, if it sent one.
+/// Makes an event happen, and returns the number of the frame that it sent, if it sent one.
 fn send(world: &mut World<PlainLog>, event: Event) -> Result<Option<u64>, Fault>
     ensures sent { Sends world.old event result world.new }
 {
@@ -139,7 +139,7 @@ fn line_up(world: &mut World<PlainLog>, frame: Option<u64>) -> Result<(), Fault>
     Ok(())
 }
 
-/// The taker's part of a give, and what came of the frames.
+/// The taker's part of a give. Returns what came of the frames.
 fn take_up(world: &mut World<PlainLog>, taker: Name, given: Given) -> Result<Answer, Fault>
     ensures taken { TakesUp world.old taker given result world.new }
 {
@@ -172,8 +172,8 @@ fn show_sent<W: Write + Drop>(
     }
 }
 
-/// A node sends another what it wrote above a version, on connections of their own. The delta's frame is printed, and
-/// what came of it. `WriteFailed`.
+/// Makes a node send to another what it wrote above a version, on connections of their own. Prints the delta's frame,
+/// and what came of it. `WriteFailed`.
 fn give<W: Write + Drop>(
     world: &mut World<PlainLog>,
     giver: Name,
@@ -204,7 +204,7 @@ fn give<W: Write + Drop>(
     tell(piece, answer, output)
 }
 
-/// Does what a command says, and prints what it answers. `WriteFailed`.
+/// Does what a command asks for, and prints what it answers. `WriteFailed`.
 fn play_command<W: Write + Drop>(
     world: &mut World<PlainLog>,
     command: Command,
@@ -225,7 +225,8 @@ fn play_command<W: Write + Drop>(
     }
 }
 
-/// Does what a line says and prints what it answers, or its fault. False where it is no command. `WriteFailed`.
+/// Does what a line asks for, and prints what it answers, or its fault. Returns false if the line is not a command.
+/// `WriteFailed`.
 pub(crate) fn play_line<W: Write + Drop>(
     alloc: Global,
     world: &mut World<PlainLog>,

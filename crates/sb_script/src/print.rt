@@ -1,4 +1,4 @@
-//! The lines that answers print.
+//! How answers are printed as lines.
 ghost use Rattle.std.specs.Prelude.{◌≡◌, ◌<◌};
 ghost use Rattle.std.specs.Char.{digit_char};
 ghost use Rattle.std.specs.Fmt.{WritesOnOk};
@@ -158,7 +158,7 @@ impl fmt::Display for ValueLine<'_> {
     }
 }
 
-/// Writes the line of a value that was read; no other event shows one.
+/// Writes the line of a value that was read. No other event shows a value.
 fn write_shown<W: fmt::Write>(
     f: &mut fmt::Formatter<W>,
     event: &Event,

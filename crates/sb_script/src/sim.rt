@@ -1,4 +1,4 @@
-//! The run of a script.
+//! How a script is run.
 ghost use Rattle.std.specs.Prelude.{◌≡◌, ◌+◌, ◌<◌, ◌≤◌, true, false, vec_len, OnOk, IfOk, IfErr};
 ghost use Rattle.sb_script.specs.Script.{EndsSo, bytes_to_come, status_of};
 ghost use Rattle.sb_script.specs.Printed.{wrong_line};
@@ -28,23 +28,23 @@ use std::sync::ledger::{Blank, Ledger};
 pub enum Ending {
     /// All of its lines were run.
     Whole,
-    /// A line was no command.
+    /// A line was not a command.
     WrongLine,
     /// The world line had a fault.
     NoWorld,
 }
 
-/// What a script prints beside its answers.
+/// What a script prints besides its answers.
 #[derive(Clone, Copy, Debug, PartialEq, Eq)]
 pub enum Detail {
     /// Nothing.
     Plain,
-    /// Behind the answers of a line, in words, the frames that it sent and the one that it shows.
+    /// After the answers of a line, in words, the frames that it sent and the one that it shows.
     Explained,
 }
 
 impl Ending {
-    /// The exit status of the program.
+    /// The exit status of the program for this ending: 0 for `Whole`, 2 for `WrongLine`, 3 for `NoWorld`.
     pub fn status(self) -> u8
         ensures { result ≡ status_of self }
     {
@@ -56,11 +56,16 @@ impl Ending {
     }
 }
 
-/// Runs a script, and prints what it answers. At most `max_reads` reads are made.
+/// Runs a script, and prints what its commands answer. It makes at most `max_reads` reads.
 ///
-/// The faults of lines are printed. The run's own come back: `ReadFailed`; `WriteFailed`, with how many
-/// bytes the output's writer took; `TurnsSpent` where the script takes more reads; `NoMemory`. What was printed before
-/// the end of the run has been written, but for what a failed write left.
+/// The faults of lines are printed. The run itself ends at its first fault:
+///
+/// - `NoMemory` if memory is missing.
+/// - `TurnsSpent` if the script takes more reads than `max_reads`.
+/// - `ReadFailed` if a read failed.
+/// - `WriteFailed`, with the number of bytes that the output's writer took.
+///
+/// What was printed before the end of the run is then written, except for what a failed write left.
 #[tactic(auto, using(crate::proofs::Runs::memory_fault, crate::proofs::Runs::write_fault, crate::proofs::Runs::fault_later, crate::proofs::Faults::line_tells, crate::proofs::Faults::write_tells))]
 pub fn sim_run<R: Read + Drop, W: Write + Drop, L: Ledger>(
     alloc: Global,
@@ -76,7 +81,8 @@ pub fn sim_run<R: Read + Drop, W: Write + Drop, L: Ledger>(
     ensures early { IfErr result (λ fault. comes_before_reads fault ≡ false → steps.old < steps.new) }
     ensures written { IfErr result (TellsTaken (taken output.new)) }
 
-    // The writer has the lines of commands that were played in turn in a new world, and no others but words that were asked for.
+    // The writer has the lines of commands that were played in turn in a new world, and nothing else, except words that
+    // were asked for.
     ensures told { IfOk result (λ ending. Tells ending detail (printed W.contents output.old) (written W.contents output.new)) }
 {
     let mut lines = Lines::open(alloc, reader, max_reads, steps)?;
@@ -90,7 +96,8 @@ pub fn sim_run<R: Read + Drop, W: Write + Drop, L: Ledger>(
     Ok(ending)
 }
 
-/// `sim_run` for a caller that does not count the reads, of which at most `max_reads` are made. The faults of `sim_run`.
+/// Is `sim_run` for a caller that does not count the reads. It makes at most `max_reads` reads, and has the faults of
+/// `sim_run`.
 pub fn sim_run_uncounted<R: Read + Drop, W: Write + Drop>(
     alloc: Global,
     reader: R,
@@ -107,7 +114,7 @@ pub fn sim_run_uncounted<R: Read + Drop, W: Write + Drop>(
     run_on::<R, W, Brand>(alloc, reader, output, max_reads, detail, Blank::new(1))
 }
 
-/// Runs a script, and counts its reads in a ledger of their own.
+/// Runs a script, and counts its reads in a new ledger.
 fn run_on<R: Read + Drop, W: Write + Drop, L: Ledger>(
     alloc: Global,
     reader: R,
@@ -184,7 +191,7 @@ fn play_in<R: Read, W: Write + Drop, L: Ledger>(
     Ok(Ending::Whole)
 }
 
-/// Ends the run at a line that is no command.
+/// Ends the run at a line that is not a command, and prints its number. `WriteFailed`.
 fn end_at<W: Write + Drop>(number: u64, output: &mut Output<W>) -> Result<Ending, Fault>
     ensures wrong { IfOk result (λ ending. ending ≡ Ending.WrongLine) }
     ensures printed { OnOk result (Appends (printed W.contents output.old) (printed W.contents output.new) (wrong_line number)) }
@@ -194,7 +201,7 @@ fn end_at<W: Write + Drop>(number: u64, output: &mut Output<W>) -> Result<Ending
     Ok(Ending::WrongLine)
 }
 
-/// Ends the run at a world line that has a fault.
+/// Ends the run at a world line that has a fault, and prints the fault. `WriteFailed`.
 fn end_without<W: Write + Drop>(fault: Fault, output: &mut Output<W>) -> Result<Ending, Fault>
     requires kind { is_world_fault fault ≡ true }
     ensures none { IfOk result (λ ending. ending ≡ Ending.NoWorld) }

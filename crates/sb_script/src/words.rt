@@ -16,15 +16,18 @@ fn is_space(byte: &u8) -> bool {
     *byte == b' '
 }
 
-/// Whether a line writes a text: a command, a node, a key and `text` stand in front.
+/// Whether a line writes a text: it begins with a command that writes, a node, a key and `text`.
 fn writes_text(line: &[u8]) -> bool {
     let mut words = line.split(|byte| is_space(byte));
     let is_write = matches!(words.next(), Some(b"put" | b"commit" | b"crash"));
     is_write && words.nth(2) == Some(b"text".as_slice())
 }
 
-/// The words of a line, with one space between two. An empty word stands where that is broken. A text that the line
-/// writes is one word, whatever spaces it has: all behind `text`, in a line `crash` up to the space before the last word.
+/// The words of a line, with one space between two. If there is a space more, or one at an end, an empty word is in
+/// that place. `NoMemory`.
+///
+/// A text that the line writes is one word, with all its spaces. It is everything after `text`, and in a `crash` line
+/// it ends before the last space.
 pub(crate) fn words_of(alloc: Global, line: &[u8]) -> Result<Vec<&[u8]>, Fault>
     ensures memory { IfErr result (λ fault. fault ≡ Fault.NoMemory) }
 {
@@ -38,7 +41,7 @@ pub(crate) fn words_of(alloc: Global, line: &[u8]) -> Result<Vec<&[u8]>, Fault>
     }
 }
 
-/// These words, and behind them the text and the last word, where there are two.
+/// These words, then the text, and then the last word, if there is one. `NoMemory`.
 fn with_end<'a>(
     alloc: Global,
     front: [&'a [u8]; 4],
@@ -57,7 +60,7 @@ fn with_end<'a>(
     Ok(words)
 }
 
-/// Whether no word is empty, but for a text that is written.
+/// Whether no word is empty, except a text that is written.
 pub(crate) fn are_words(words: &[&[u8]]) -> bool {
     match *words {
         [b"put" | b"commit" | b"crash", node, key, b"text", _] => are_filled(&[node, key]),
@@ -70,7 +73,7 @@ fn are_filled(words: &[&[u8]]) -> bool {
     words.iter().all(|word| !word.is_empty())
 }
 
-/// A number in decimal digits, which may have leading zeros.
+/// Reads a number in decimal digits, which may have leading zeros.
 pub(crate) fn number_of(word: &[u8]) -> Option<u64> {
     if !word.iter().all(|byte| byte.is_ascii_digit()) {
         return None;
@@ -78,7 +81,7 @@ pub(crate) fn number_of(word: &[u8]) -> Option<u64> {
     str::from_utf8(word).ok()?.parse().ok()
 }
 
-/// The number of a connection, 1 to 999,999.
+/// Reads the number of a connection, 1 to 999,999.
 pub(crate) fn connection_of(word: &[u8]) -> Option<u64> {
     match number_of(word)? {
         0 => None,
@@ -87,14 +90,14 @@ pub(crate) fn connection_of(word: &[u8]) -> Option<u64> {
     }
 }
 
-/// The two words of a value. Those of a text may have spaces in the second.
+/// The two words of a value. The second word of a text can have spaces.
 #[derive(Clone, Copy)]
 pub(crate) struct ValueWords<'a> {
     pub(crate) kind: &'a [u8],
     pub(crate) content: &'a [u8],
 }
 
-/// The words of a write: a node, a key, and a value where it is no removal.
+/// The words of a write: a node, a key, and a value, unless it is a removal.
 #[derive(Clone, Copy)]
 pub(crate) struct WriteWords<'a> {
     pub(crate) node: &'a [u8],
@@ -103,7 +106,7 @@ pub(crate) struct WriteWords<'a> {
 }
 
 impl WriteWords<'_> {
-    /// What is to stand under the key. `BadValue`; `NoMemory`.
+    /// The slot that the write gives the key. `BadValue`, then `NoMemory`.
     #[tactic(auto, using(crate::proofs::Faults::value_fault))]
     fn slot(&self, alloc: Global) -> Result<Slot, Fault>
         ensures slot { IfOk result (IsSlot self.now.value) }
@@ -115,7 +118,7 @@ impl WriteWords<'_> {
         }
     }
 
-    /// The node commits the write. `BadName`; `BadKey`; `BadValue`; `NoMemory`.
+    /// The event by which the node commits the write. `BadName`, `BadKey`, `BadValue`, then `NoMemory`.
     pub(crate) fn commit(&self, alloc: Global) -> Result<Event, Fault>
         ensures event { IfOk result (λ event. (slot : entries.Slot) × IsSlot self.now.value slot × (event ≡ events.Commit self.now.node.now self.now.key.now slot)) }
         ensures fault { IfErr result (λ fault. is_word_fault fault ≡ true) }
@@ -125,7 +128,8 @@ impl WriteWords<'_> {
         Ok(Event::Commit(node, key, self.slot(alloc)?))
     }
 
-    /// The node crashes in that commit, behind it or before it. The faults of `commit`.
+    /// The event by which the node crashes in that commit, after the write if `is_kept` is true, else before it. The
+    /// faults of `commit`.
     pub(crate) fn crash(&self, alloc: Global, is_kept: bool) -> Result<Event, Fault>
         ensures event { IfOk result (λ event. (slot : entries.Slot) × IsSlot self.now.value slot × (event ≡ events.CrashInCommit self.now.node.now self.now.key.now slot is_kept)) }
         ensures fault { IfErr result (λ fault. is_word_fault fault ≡ true) }

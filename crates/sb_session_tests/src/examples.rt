@@ -1,4 +1,4 @@
-//! The examples that stand at the top of the crates of frames and sessions.
+//! The examples at the top of the crates of frames and sessions.
 use crate::session::Node;
 use crate::{got, same};
 use sb_codec::{Bye, Message};

@@ -1,4 +1,4 @@
-//! Frames by hand, in any pieces and through any writer.
+//! Frames written out by hand, in any pieces and through any writer.
 
 use crate::wire::{greatest_frame, joined};
 use crate::{got, name, same, same_at};
@@ -17,7 +17,8 @@ pub(crate) const FRAME: &[u8] = &DELTA_A;
 const LONG_CLUSTER: &[u8] = b"\xa7\x03\x00\x00\x00\x25\x01\
     \x21abcdefghijklmnopqrstuvwxyz-012345\x01a";
 
-/// Takes a few bytes in each write, and fails once it has no room. Before each of them it is interrupted so often.
+/// A writer that takes a few bytes in each write, and fails if it has no room. Before each of these writes it is
+/// interrupted so often.
 #[derive(Drop)]
 struct Narrow {
     bytes: Vec<u8>,
@@ -55,7 +56,7 @@ impl Write for Narrow {
             return Err(ErrorKind::BrokenPipe.into());
         }
         let taken = buf.get(..self.most.min(room)).unwrap_or(buf);
-        // Once more where memory was refused, as below.
+        // Tries once more if memory was refused, as below.
         if self.bytes.extend_from_slice(taken).is_err() {
             self.bytes.extend_from_slice(taken)?;
         }
@@ -67,7 +68,7 @@ impl Write for Narrow {
     }
 }
 
-// Each call is made once more where memory was refused: nothing may have changed.
+// Each call is made once more if memory was refused: nothing may have changed.
 
 fn fed(frames: &mut Frames, piece: &[u8]) -> Result<(), Fault> {
     match frames.feed(piece) {
@@ -87,12 +88,12 @@ pub(crate) fn feed(rt: &impl Abort, frames: &mut Frames, piece: &[u8]) {
     got(rt, fed(frames, piece));
 }
 
-/// Whether a message comes next, which is lost.
+/// Whether a message comes next. The message is dropped.
 fn has_next(rt: &impl Abort, frames: &mut Frames) -> bool {
     got(rt, taken(frames)).is_some()
 }
 
-/// The next message, which has to come.
+/// Returns the next message, which must come.
 fn next(rt: &impl Abort, frames: &mut Frames) -> Message {
     match got(rt, taken(frames)) {
         Some(message) => message,
@@ -107,8 +108,8 @@ fn sent<W: Write>(alloc: Global, writer: &mut W, message: &Message) -> Result<()
     }
 }
 
-/// What a writer gives a message that takes so many bytes in a write and has room for so many, and whether it has
-/// then written these.
+/// Sends a message to a writer that takes `most` bytes in a write and has room for `room`. Returns the answer, and
+/// whether the writer then has exactly `written`.
 fn sent_to(
     alloc: Global,
     message: &Message,
@@ -121,7 +122,7 @@ fn sent_to(
     (answer, narrow.has_written(written))
 }
 
-/// Whether the frame is what goes out.
+/// Whether exactly the frame goes out.
 fn goes_out_as(rt: &impl Abort, alloc: Global, message: &Message, frame: &[u8]) -> bool {
     let (answer, has_written) = sent_to(alloc, message, 1, 64, frame);
     got(rt, answer);
@@ -142,7 +143,7 @@ fn message(rt: &impl Abort, alloc: Global) -> Message {
     Message::Delta(got(rt, Delta::new(blocks)))
 }
 
-/// Whether a message comes next; it has to be that of `FRAME`.
+/// Whether a message comes next. It must be that of `FRAME`.
 fn comes(rt: &impl Abort, alloc: Global, frames: &mut Frames) -> bool {
     match got(rt, taken(frames)) {
         Some(message) => {
@@ -163,13 +164,13 @@ fn count_messages(rt: &impl Abort, alloc: Global, frames: &mut Frames) -> usize 
     4
 }
 
-/// How many messages come behind this piece.
+/// How many messages come after this piece.
 fn count_behind(rt: &impl Abort, alloc: Global, frames: &mut Frames, piece: &[u8]) -> usize {
     feed(rt, frames, piece);
     count_messages(rt, alloc, frames)
 }
 
-/// How many messages come before the last byte of `FRAME`, which comes byte by byte, and then.
+/// How many messages come before the last byte of `FRAME`, which comes byte by byte, and how many after it.
 fn count_in_bytes(rt: &impl Abort, alloc: Global, frames: &mut Frames) -> [usize; 2] {
     let mut early = 0_usize;
     for byte in FRAME {
@@ -179,7 +180,8 @@ fn count_in_bytes(rt: &impl Abort, alloc: Global, frames: &mut Frames) -> [usize
     [early, count_messages(rt, alloc, frames)]
 }
 
-/// How many messages come behind the front of `FRAME`, its last byte, two of it at once, and nothing.
+/// How many messages come after all but the last byte of `FRAME`, after its last byte, after two frames at once, and
+/// after nothing.
 fn count_in_pieces(rt: &impl Abort, alloc: Global, frames: &mut Frames) -> [usize; 4] {
     let (front, last) = FRAME.split_at(55);
     [
@@ -200,13 +202,13 @@ fn a_frame_in_any_pieces(rt: HostRuntime) {
     same(&rt, &found, &[0, 1, 2, 0]);
 }
 
-/// So many bytes are held before a message is asked for, and one comes or not.
+/// Tests that so many bytes are held before a message is asked for, and whether one comes.
 fn is_held(rt: &impl Abort, frames: &mut Frames, count: usize, comes: bool) {
     let held = frames.held();
     same(rt, &(held, has_next(rt, frames)), &(count, comes));
 }
 
-/// What the end would be there, the fault where a frame comes in its place, and what is then held.
+/// Returns what an end would be there, the fault if a frame comes instead, and how many bytes are then held.
 fn broken_off(rt: &impl Abort, frames: &mut Frames) -> (Result<(), Fault>, Option<Fault>, usize) {
     let end = frames.end();
     feed(rt, frames, FRAME);
@@ -227,7 +229,7 @@ fn what_was_not_handed_out_is_held(rt: HostRuntime) {
     same(&rt, &broken_off(&rt, &mut frames), &wanted);
 }
 
-/// What the frame is read as; it has to be one message.
+/// Reads the frame, which must be one message.
 fn read(rt: &impl Abort, alloc: Global, frame: &[u8]) -> Message {
     let mut frames = Frames::new(alloc);
     feed(rt, &mut frames, frame);
@@ -275,7 +277,7 @@ fn bye(rt: &impl Abort) -> Message {
     Message::Bye(got(rt, Bye::new(1)))
 }
 
-/// This frame of a message is what goes out.
+/// Tests that the message goes out as this frame.
 fn is_spelled(rt: &impl Abort, alloc: Global, message: Message, frame: &[u8]) {
     let is_spelled = goes_out_as(rt, alloc, &message, frame);
     same_at(rt, &frame, &is_spelled, &true);
@@ -293,7 +295,7 @@ fn frames_of_other_kinds(rt: HostRuntime) {
     same(&rt, &is_bye(read(&rt, alloc, BYE)), &true);
 }
 
-/// These bytes have this fault, and then neither bytes are taken nor a message is given.
+/// Tests that these bytes have this fault. After it no bytes are taken, and no message comes.
 fn closes(rt: &impl Abort, alloc: Global, bytes: &[u8], fault: Fault) {
     let mut frames = Frames::new(alloc);
     feed(rt, &mut frames, bytes);
@@ -319,7 +321,8 @@ fn faulty_frames_close(rt: HostRuntime) {
     closes(&rt, alloc, LONG_CLUSTER, Fault::Malformed(1));
 }
 
-/// A writer that takes so many bytes in a write, and has room for so many, gives this answer, and has written these.
+/// Tests that sending to a writer that takes `most` bytes in a write, and has room for `room`, gives this answer and
+/// writes these bytes.
 fn goes_out(
     rt: &impl Abort,
     alloc: Global,
@@ -339,11 +342,11 @@ fn frames_go_out_whole(rt: HostRuntime) {
     let closed = Err(Fault::WriteFailed(0));
     goes_out(&rt, alloc, &message, (1, 64), (Ok(()), FRAME));
     goes_out(&rt, alloc, &message, (1, 17), (broken, &FRAME[..17]));
-    // It takes no byte, and says so.
+    // The writer takes no byte, and reports that.
     goes_out(&rt, alloc, &message, (0, 64), (closed, b""));
 }
 
-/// The message of a frame that comes in pieces of so many bytes. None comes before the last.
+/// Reads the message of a frame that comes in pieces of so many bytes. No message comes before the last piece.
 fn read_in_pieces(rt: &impl Abort, alloc: Global, frame: &[u8], most: usize) -> Message {
     let mut frames = Frames::new(alloc);
     for piece in frame.chunks(most.max(1)) {
@@ -353,7 +356,7 @@ fn read_in_pieces(rt: &impl Abort, alloc: Global, frame: &[u8], most: usize) -> 
     next(rt, &mut frames)
 }
 
-/// The message of a frame goes out as it, where a writer takes 1, 7 and 4,096 bytes in a write.
+/// Tests that the message of a frame goes out as that frame, if the writer takes 1, 7 and 4,096 bytes in a write.
 fn is_read_and_sent(rt: &impl Abort, alloc: Global, frame: &[u8]) {
     let message = read_in_pieces(rt, alloc, frame, 4_099);
     goes_out(rt, alloc, &message, (1, 65_536), (Ok(()), frame));
@@ -368,7 +371,8 @@ fn the_greatest_frame(rt: HostRuntime) {
     is_read_and_sent(&rt, rt.alloc(), &frame);
 }
 
-/// What a writer with room for so many bytes gives a message, and whether its last write is said to have failed.
+/// Sends a message to a writer with room for so many bytes. Returns the answer, and whether the last write is reported
+/// as failed.
 fn told(alloc: Global, room: usize, message: &Message) -> (Result<(), Fault>, bool) {
     let mut narrow = Narrow::new(alloc, 7, room);
     let (answer, last) = match send_telling(alloc, &mut narrow, message) {
@@ -378,7 +382,8 @@ fn told(alloc: Global, room: usize, message: &Message) -> (Result<(), Fault>, bo
     (answer, last.has_failed())
 }
 
-/// A writer with room for so many bytes gives this answer, and its last write is said to have failed where it is a fault.
+/// Tests that a writer with room for so many bytes gives this answer. Its last write is reported as failed if the
+/// answer is a fault.
 fn is_told(
     rt: &impl Abort,
     alloc: Global,
@@ -399,7 +404,8 @@ fn what_the_last_write_answered(rt: HostRuntime) {
     is_told(&rt, alloc, &message, 0, Err(Fault::WriteFailed(0)));
 }
 
-/// What a writer gives a message that is so often interrupted before each write, and whether it has written `FRAME`.
+/// Sends a message to a writer that is interrupted so often before each write. Returns the answer, and whether it has
+/// written `FRAME`.
 fn interrupted(alloc: Global, message: &Message, interruptions: u32) -> (Result<(), Fault>, bool) {
     let mut narrow = Narrow::new(alloc, 20, 64);
     narrow.interruptions = interruptions;
@@ -407,7 +413,8 @@ fn interrupted(alloc: Global, message: &Message, interruptions: u32) -> (Result<
     (answer, narrow.has_written(FRAME))
 }
 
-/// A writer that is so often interrupted gives this answer, and has written `FRAME` where it is no fault.
+/// Tests that a writer that is interrupted so often gives this answer, and that it has written `FRAME` unless the
+/// answer is a fault.
 fn goes_on(
     rt: &impl Abort,
     alloc: Global,
@@ -428,8 +435,8 @@ fn interrupted_writes_go_on(rt: HostRuntime) {
     goes_on(&rt, alloc, &message, 1_001, Err(Fault::WriteFailed(0)));
 }
 
-/// The greatest frame goes out through a writer that takes so many bytes a write, before each of which so many are
-/// interrupted.
+/// Tests that the greatest frame goes out through a writer that takes so many bytes in a write, after so many
+/// interruptions of each.
 fn goes_out_interrupted(
     rt: &impl Abort,
     alloc: Global,
@@ -453,7 +460,7 @@ fn the_greatest_frame_is_interrupted(rt: HostRuntime) {
     goes_out_interrupted(&rt, alloc, &frame, (4_096, 1_000));
 }
 
-/// Takes 28 bytes a write, but for one, which fails; and counts the writes.
+/// A writer that takes 28 bytes in each write except one, which fails. It counts the writes.
 #[derive(Drop)]
 struct Broken {
     fails_at: u32,
@@ -474,7 +481,7 @@ impl Write for Broken {
     }
 }
 
-/// What a writer gives a message one of whose writes fails, and how many writes are made.
+/// Sends a message to a writer with one write that fails. Returns the answer, and how many writes were made.
 fn sent_broken(alloc: Global, message: &Message, fails_at: u32) -> (Result<(), Fault>, u32) {
     let mut writer = Broken {
         fails_at,
@@ -484,7 +491,7 @@ fn sent_broken(alloc: Global, message: &Message, fails_at: u32) -> (Result<(), F
     (answer, writer.writes)
 }
 
-/// No write is made behind one that failed, whether it is the first of the frame's two or the second.
+/// After a write that failed no other is made, whether it was the first of the frame's two or the second.
 #[test]
 fn a_failed_write_is_the_last(rt: HostRuntime) {
     let alloc = rt.alloc();
@@ -496,7 +503,7 @@ fn a_failed_write_is_the_last(rt: HostRuntime) {
     same(&rt, &sent_broken(alloc, &message, 3), &(Ok(()), 2));
 }
 
-/// The example that stands at `Frames`.
+/// The example of `Frames`.
 #[test]
 fn the_example_of_frames(rt: HostRuntime) {
     let mut frames = Frames::new(rt.alloc());

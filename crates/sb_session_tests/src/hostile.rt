@@ -1,4 +1,4 @@
-//! Damaged frames, and made-up bytes, of which each answer is known: `tools/oracle/hostile_bytes.py` works the numbers out.
+//! Damaged frames, and made-up bytes. Each answer is known: `tools/oracle/hostile_bytes.py` computes the numbers.
 ghost use Rattle.std.specs.Prelude.{◌<◌};
 
 use crate::frames::{FRAME, feed, taken};
@@ -13,12 +13,12 @@ use sb_types::Fault;
 use std::alloc::Global;
 use std::process::Abort;
 
-/// The digest of the names from a up to c, of which a is held up to 0 and b up to 7, with a stage of the floor 9 up to 8.
+/// The digest of the names from a up to c. It holds a up to 0, and b up to 7, with a stage of the floor 9 up to 8.
 const DIGEST: &[u8] = b"\xa7\x03\x00\x00\x00\x3c\x02\x01\x01a\x01c\x00\x02\
     \x01a\x00\x00\x00\x00\x00\x00\x00\x00\x00\x00\x00\x00\x00\x00\x00\x00\x00\x00\x00\x00\x00\x00\x00\x00\
     \x01b\x00\x00\x00\x00\x00\x00\x00\x07\x00\x00\x00\x00\x00\x00\x00\x09\x00\x00\x00\x00\x00\x00\x00\x08";
 
-/// Of a a weight and a removal; of b, whose floor is 3, an address, a flag and a text, and nothing of its version 5.
+/// A weight and a removal of a. Of b, whose floor is 3, an address, a flag and a text, and nothing of its version 5.
 const DELTA: &[u8] = b"\xa7\x03\x00\x00\x00\x84\x03\x00\x02\
     \x01a\x00\x00\x00\x00\x00\x00\x00\x00\x00\x00\x00\x00\x00\x00\x00\x00\x00\x00\x00\x00\x00\x00\x00\x02\x00\x02\
     \x01w\x00\x00\x00\x00\x00\x00\x00\x01\x02\x00\x00\x00\x00\x00\x00\x00\x05\
@@ -28,10 +28,10 @@ const DELTA: &[u8] = b"\xa7\x03\x00\x00\x00\x84\x03\x00\x02\
     \x01l\x00\x00\x00\x00\x00\x00\x00\x03\x03\x01\
     \x01m\x00\x00\x00\x00\x00\x00\x00\x04\x04\x00\x03h\xc3\xa9";
 
-/// What a wrote under keys that begin with w/, behind the row of w/x.
+/// Asks for what a wrote under keys that begin with w/, after the row of w/x.
 const ASK: &[u8] = b"\xa7\x03\x00\x00\x00\x0c\x10\x01a\x02w/\x01a\x03w/x";
 
-/// A row of a and one of b, and more follow.
+/// A row of a and one of b. More follow.
 const ROWS: &[u8] = b"\xa7\x03\x00\x00\x00\x2a\x11\x01\x00\x02\
     \x01a\x01w\x00\x00\x00\x00\x00\x00\x00\x01\x02\x00\x00\x00\x00\x00\x00\x00\x05\
     \x01b\x01k\x00\x00\x00\x00\x00\x00\x00\x02\x01\x03p:1";
@@ -51,9 +51,9 @@ const STREAMS: u32 = 100_000;
 /// What a reader of frames answers.
 #[derive(Clone, Copy, Debug, PartialEq, Eq)]
 enum Answer {
-    /// A message, whose frame has so many bytes.
+    /// A message whose frame has so many bytes.
     Message(usize),
-    /// More bytes have to come.
+    /// More bytes must come.
     Waiting,
     Faulty(Fault),
 }
@@ -109,7 +109,7 @@ impl Counts {
     }
 }
 
-/// What a message that came is answered by: it has to go out as it came.
+/// The answer for a message that came. It must go out as it came.
 fn answer_to(rt: &impl Abort, alloc: Global, message: &Message, stream: &[u8]) -> Answer {
     let frame = got(rt, frame_of(alloc, message));
     match stream.starts_with(&frame) {
@@ -118,7 +118,7 @@ fn answer_to(rt: &impl Abort, alloc: Global, message: &Message, stream: &[u8]) -
     }
 }
 
-/// What a fault is answered by: one of a kind has to name it. Want of memory ends the test.
+/// The answer for a fault. A fault of a kind must name that kind. Missing memory ends the test.
 fn answer_to_fault(rt: &impl Abort, fault: Fault, stream: &[u8]) -> Answer {
     match fault {
         Fault::NoMemory => got(rt, Err(Fault::NoMemory)),
@@ -129,7 +129,7 @@ fn answer_to_fault(rt: &impl Abort, fault: Fault, stream: &[u8]) -> Answer {
     }
 }
 
-/// What comes of the next frame; a message has to go out as it came, and a fault of a kind has to name it.
+/// The answer for the next frame. A message must go out as it came, and a fault of a kind must name it.
 fn answer_of(rt: &impl Abort, alloc: Global, frames: &mut Frames, stream: &[u8]) -> Answer {
     match taken(frames) {
         Ok(Some(message)) => answer_to(rt, alloc, &message, stream),
@@ -138,7 +138,7 @@ fn answer_of(rt: &impl Abort, alloc: Global, frames: &mut Frames, stream: &[u8])
     }
 }
 
-/// What comes of a stream that begins with these bytes. Where more have to come, an end there is inside a frame.
+/// The answer for a stream that begins with these bytes. If more must come, an end there is inside a frame.
 fn first_of(rt: &impl Abort, alloc: Global, stream: &[u8]) -> Answer {
     let mut frames = Frames::new(alloc);
     feed(rt, &mut frames, stream);
@@ -149,7 +149,7 @@ fn first_of(rt: &impl Abort, alloc: Global, stream: &[u8]) -> Answer {
     answer
 }
 
-/// Each part of a frame is waited on.
+/// Tests that the reader waits after each part of a frame.
 fn parts_are_waited_on(rt: &impl Abort, alloc: Global, frame: &[u8]) {
     for length in 1..frame.len() {
         let part = frame.get(..length).unwrap_or(&[]);
@@ -164,7 +164,7 @@ fn each_frame_is_cut_short(rt: HostRuntime) {
     }
 }
 
-/// Behind a frame stands one more byte: its message comes, then this, and this is then said of an end.
+/// Tests a frame with one more byte after it. Its message comes, then the answer `then`, and an end there is `end`.
 fn stands_before(
     rt: &impl Abort,
     alloc: Global,
@@ -184,7 +184,7 @@ fn stands_before(
     same_at(rt, &frame, &frames.end(), &end);
 }
 
-/// Each frame is one byte longer: the byte is the mark of the next one, or none.
+/// Each frame is one byte longer. The byte is the mark of the next frame, or another.
 #[test]
 fn each_frame_is_lengthened(rt: HostRuntime) {
     for frame in FRAMES {
@@ -205,12 +205,12 @@ fn changed(rt: &impl Abort, alloc: Global, frame: &[u8], place: usize, value: u8
     changed
 }
 
-/// What comes of a frame with another byte at a place.
+/// The answer for a frame with another byte at a place.
 fn answer_changed(rt: &impl Abort, alloc: Global, frame: &[u8], place: usize, value: u8) -> Answer {
     first_of(rt, alloc, &changed(rt, alloc, frame, place, value))
 }
 
-/// What has to come of a delta of 56 bytes of which one of the first seven is another.
+/// The answer that a delta of 56 bytes must have if one of its first seven bytes is another.
 fn wanted(place: usize, value: u8) -> Option<Answer> {
     match (place, value) {
         (0, _) => Some(Answer::Faulty(Fault::BadMark)),
@@ -226,7 +226,7 @@ fn wanted(place: usize, value: u8) -> Option<Answer> {
     }
 }
 
-/// What has to come of the delta does, with each other byte at a place.
+/// Tests that the delta has the wanted answer with each other byte at a place.
 fn is_damaged_at(rt: &impl Abort, alloc: Global, place: usize, byte: u8) {
     for value in 0..=255_u8 {
         if value != byte {
@@ -245,7 +245,7 @@ fn the_head_of_a_frame_is_damaged(rt: HostRuntime) {
     }
 }
 
-/// Counts what comes of a frame with each other byte at a place.
+/// Counts the answers for a frame with each other byte at a place.
 fn count_damaged(
     rt: &impl Abort,
     alloc: Global,
@@ -261,7 +261,7 @@ fn count_damaged(
     }
 }
 
-/// This comes of a frame of which one byte is another, each byte in turn and each other value.
+/// Tests the counts of answers for a frame with one byte changed: each byte in turn, to each other value.
 fn is_damaged(rt: &impl Abort, alloc: Global, frame: &[u8], wanted: [u64; 7]) {
     let mut counts = Counts::new([0; 7]);
     let mut place = 0_usize;
@@ -272,14 +272,14 @@ fn is_damaged(rt: &impl Abort, alloc: Global, frame: &[u8], wanted: [u64; 7]) {
     same_at(rt, &frame, &counts, &Counts::new(wanted));
 }
 
-/// What comes of a delta of which one byte is another.
+/// The answers for a delta with one byte changed.
 #[test]
 fn each_byte_of_a_delta_is_damaged(rt: HostRuntime) {
     let alloc = rt.alloc();
     is_damaged(&rt, alloc, DELTA, [10_789, 378, 255, 255, 511, 247, 22_755]);
 }
 
-/// The same of each frame of another kind.
+/// The same for a frame of each other kind.
 #[test]
 fn each_byte_is_damaged(rt: HostRuntime) {
     let alloc = rt.alloc();
@@ -301,7 +301,7 @@ fn below(random: &mut Pcg32, limit: usize) -> usize
     random.next_word() as usize % limit
 }
 
-/// Changes a byte, to any value, where there is one.
+/// Changes a byte to any value, if there is one.
 fn change(random: &mut Pcg32, stream: &mut Vec<u8>) {
     if !stream.is_empty() {
         let place = below(random, stream.len());
@@ -326,7 +326,7 @@ fn push_frames(rt: &impl Abort, random: &mut Pcg32, stream: &mut Vec<u8>) {
     }
 }
 
-/// Cuts off the end of a stream, where it has one.
+/// Cuts off the end of a stream, if it has one.
 fn cut_off(random: &mut Pcg32, stream: &mut Vec<u8>) {
     if !stream.is_empty() {
         let length = below(random, stream.len());
@@ -334,7 +334,8 @@ fn cut_off(random: &mut Pcg32, stream: &mut Vec<u8>) {
     }
 }
 
-/// Puts any bytes into a stream; or up to three frames, of which up to three bytes are changed and the end may be cut off.
+/// Puts any bytes into a stream, or up to three frames. Of these frames, up to three bytes change, and the end can be
+/// cut off.
 fn make_up(rt: &impl Abort, random: &mut Pcg32, stream: &mut Vec<u8>) {
     let form = below(random, 4);
     if form == 0 {
@@ -347,7 +348,7 @@ fn make_up(rt: &impl Abort, random: &mut Pcg32, stream: &mut Vec<u8>) {
     }
 }
 
-/// Counts the messages of a stream that was fed and what comes behind them, and tells whether nothing does.
+/// Counts the messages of a stream that was fed, and what comes after them. Returns whether nothing does.
 fn count_all(
     rt: &impl Abort,
     alloc: Global,
@@ -370,14 +371,14 @@ fn count_all(
     false
 }
 
-/// The same of a stream that is fed at once.
+/// The same for a stream that is fed at once.
 fn read_all(rt: &impl Abort, alloc: Global, counts: &mut Counts, stream: &[u8]) -> bool {
     let mut frames = Frames::new(alloc);
     feed(rt, &mut frames, stream);
     count_all(rt, alloc, &mut frames, counts, stream)
 }
 
-/// The same of a stream that is made up.
+/// The same for a stream that is made up.
 fn read_made_up(rt: &impl Abort, alloc: Global, random: &mut Pcg32, counts: &mut Counts) -> bool {
     let mut stream = Vec::new(alloc);
     make_up(rt, random, &mut stream);

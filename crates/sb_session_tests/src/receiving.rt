@@ -1,4 +1,4 @@
-//! Messages out of readers.
+//! Messages that come out of readers.
 ghost use Rattle.std.specs.Prelude.{◌≡◌, ◌<◌};
 
 use crate::frames::FRAME;
@@ -13,10 +13,10 @@ use std::marker::Brand;
 use std::process::Abort;
 use std::sync::ledger::{Blank, Ledger};
 
-/// Bye, since the rounds are done, twice.
+/// Two Byes, since the rounds are done.
 const BYES: &[u8] = b"\xa7\x03\x00\x00\x00\x02\x04\x01\xa7\x03\x00\x00\x00\x02\x04\x01";
 
-/// How many Byes come, and what then: another message, which is no Bye, or the end, or a fault.
+/// How many Byes come, and what comes then: another message, which is not a Bye, or the end, or a fault.
 type Received = (usize, Result<Option<bool>, Fault>);
 
 /// Whether a message that came is a Bye.
@@ -40,7 +40,7 @@ fn next<L: Ledger>(
     }
 }
 
-/// What is received of frames and of a reader, up to four Byes.
+/// Receives up to four Byes from frames and from a reader.
 fn receive_on<L: Ledger>(
     reader: &mut Pieces<'_>,
     frames: &mut Frames,
@@ -61,7 +61,7 @@ fn receive_on<L: Ledger>(
     (4, Ok(Some(true)))
 }
 
-/// What is received of what is held, and of a reader.
+/// Receives what is held already, and then what a reader gives.
 fn received(
     rt: &impl Abort,
     alloc: Global,
@@ -79,7 +79,7 @@ fn whole(bytes: &[u8]) -> Pieces<'_> {
     Pieces::new(bytes, 4_096, false)
 }
 
-/// A reader that gives so many bytes a read, before each of which so many reads are interrupted.
+/// A reader that gives so many bytes in a read. Before each of these, so many reads are interrupted.
 fn in_pieces(bytes: &[u8], (piece, interruptions): (usize, u32)) -> Pieces<'_> {
     let mut reader = whole(bytes);
     reader.piece = piece;
@@ -87,7 +87,7 @@ fn in_pieces(bytes: &[u8], (piece, interruptions): (usize, u32)) -> Pieces<'_> {
     reader
 }
 
-/// Both Byes come, and the end then, of such a reader.
+/// Tests that both Byes come from such a reader, and then the end.
 fn comes_in_pieces(rt: &impl Abort, alloc: Global, pieces: (usize, u32), max_reads: u64) {
     let found = received(rt, alloc, in_pieces(BYES, pieces), b"", max_reads);
     same_at(rt, &pieces, &found, &(2, Ok(None)));
@@ -100,14 +100,14 @@ fn messages_out_of_a_reader(rt: HostRuntime) {
     comes_in_pieces(&rt, alloc, (1, 1), 16);
     comes_in_pieces(&rt, alloc, (5, 0), 2);
     comes_in_pieces(&rt, alloc, (16, 0), 1);
-    // However often a read is interrupted, it is made again while reads are left.
+    // A read that was interrupted is made again, however often, while reads are left.
     comes_in_pieces(&rt, alloc, (16, 5_000), 5_001);
     // What is held comes without a read.
     let found = received(&rt, alloc, whole(b""), BYES, 0);
     same(&rt, &found, &(2, Err(Fault::TurnsSpent)));
 }
 
-/// What is received of a frame with so many reads.
+/// Receives a frame with so many reads.
 fn frame_received(
     rt: &impl Abort,
     alloc: Global,
@@ -118,7 +118,7 @@ fn frame_received(
     received(rt, alloc, in_pieces(frame, pieces), b"", max_reads)
 }
 
-/// A frame, which is no Bye, comes with so many reads and not with one less.
+/// Tests that a frame, which is not a Bye, comes with so many reads, and not with one less.
 fn needs_reads(rt: &impl Abort, alloc: Global, frame: &[u8], pieces: (usize, u32), reads: u64) {
     let found = frame_received(rt, alloc, frame, pieces, reads);
     same_at(rt, &pieces, &found, &(0, Ok(Some(false))));
@@ -137,7 +137,7 @@ fn the_greatest_frame_comes(rt: HostRuntime) {
     needs_reads(&rt, alloc, &frame, (4_096, 3_000), 48_016);
 }
 
-/// So many Byes come of the front of the two, and then this fault.
+/// Tests that so many Byes come from a prefix of the two, and then this fault.
 fn gives_out(
     rt: &impl Abort,
     alloc: Global,
@@ -151,7 +151,7 @@ fn gives_out(
     same_at(rt, &length, &found, &(wanted.0, Err(wanted.1)));
 }
 
-/// No Bye comes of these bytes, but this fault.
+/// Tests that no Bye comes from these bytes, and this fault does.
 fn is_faulty(rt: &impl Abort, alloc: Global, bytes: &[u8], fault: Fault) {
     let found = received(rt, alloc, whole(bytes), b"", 9);
     same_at(rt, &bytes, &found, &(0, Err(fault)));
@@ -168,7 +168,7 @@ fn readers_that_give_out(rt: HostRuntime) {
     is_faulty(&rt, alloc, b"\xa6", Fault::BadMark);
     let unknown = b"\xa7\x03\x00\x00\x00\x01\x55";
     is_faulty(&rt, alloc, unknown, Fault::UnknownKind(0x55));
-    // A delta that does not come whole, and one that may not be read.
+    // A delta that does not come whole, and one without any read left.
     is_faulty(&rt, alloc, &FRAME[..17], Fault::Truncated);
     let found = received(&rt, alloc, whole(FRAME), b"", 0);
     same(&rt, &found, &(0, Err(Fault::TurnsSpent)));

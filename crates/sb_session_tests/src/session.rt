@@ -1,4 +1,4 @@
-//! A session: what it takes, what it refuses, and what stays as it was.
+//! A session: what it takes, what it refuses, and what stays as before.
 ghost use Rattle.std.specs.Prelude.{IfErr};
 ghost use Rattle.sb_session.specs.Handlers.{IsRefusal};
 
@@ -19,10 +19,10 @@ use std::process::Abort;
 /// Hello of a node a of the cluster c2.
 pub(crate) const HELLO_C2: &[u8] = b"\xa7\x03\x00\x00\x00\x06\x01\x02c2\x01a";
 
-/// Rows, of which there are none.
+/// Rows with no row.
 pub(crate) const ROWS: &[u8] = b"\xa7\x03\x00\x00\x00\x04\x11\x00\x00\x00";
 
-/// What a node holds, told and taken up without an order and a budget of deltas, in so many calls.
+/// What a node holds. It answers and takes blocks without an order and a budget of deltas, in so many calls.
 #[derive(Drop)]
 pub(crate) struct Node {
     pub(crate) alloc: Global,
@@ -30,7 +30,7 @@ pub(crate) struct Node {
     pub(crate) holdings: Holdings,
 }
 
-/// What stands in an owner's table above a version, up to what is held.
+/// A block of an owner's table above a version, up to what is held.
 fn block_above(alloc: Global, owner: Name, table: &Table, after: u64) -> Result<Block, Fault> {
     let mut entries = Vec::new(alloc);
     for entry in table.after(after) {
@@ -39,7 +39,7 @@ fn block_above(alloc: Global, owner: Name, table: &Table, after: u64) -> Result<
     Block::new(owner, table.floor(), after, table.upto(), entries)
 }
 
-/// The table of one that wrote nothing, or the flag true under w.
+/// The table of an owner that wrote nothing, or the flag true under w.
 fn table(rt: &impl Abort, alloc: Global, has_written: bool) -> Table {
     let mut table = Table::new(alloc);
     if has_written {
@@ -51,7 +51,7 @@ fn table(rt: &impl Abort, alloc: Global, has_written: bool) -> Table {
 }
 
 impl Node {
-    /// A node that wrote nothing, or the flag true under w.
+    /// Makes a node that wrote nothing, or the flag true under w.
     pub(crate) fn new(rt: &impl Abort, alloc: Global, me: &[u8], has_written: bool) -> Node {
         let table = table(rt, alloc, has_written);
         Node {
@@ -61,7 +61,7 @@ impl Node {
         }
     }
 
-    /// Grants a call, while there are any.
+    /// Grants a call if any is left.
     fn grant(&mut self) -> Result<(), Fault>
         ensures { IfErr result IsRefusal }
     {
@@ -97,7 +97,7 @@ impl Node {
     }
 }
 
-/// What a handler may answer.
+/// Passes on what a handler can answer.
 fn granted<T: Drop>(answer: Result<T, Fault>) -> Result<T, Fault>
     ensures { IfErr result IsRefusal }
 {
@@ -157,13 +157,13 @@ fn is_spelled(rt: &impl Abort, alloc: Global, message: Message, frame: &[u8]) ->
     got(rt, frame_of(alloc, &message)).as_slice() == frame
 }
 
-/// What a session makes of the message of a frame.
+/// Gives a session the message of a frame, which it must take.
 fn take(rt: &impl Abort, session: &mut Session, node: &mut Node, frame: &[u8]) -> Replies {
     let message = read(rt, node.alloc, frame);
     got(rt, session.take(message, node))
 }
 
-/// Why a session does not take the message of a frame, where it does not.
+/// The fault with which a session refuses the message of a frame, if it does.
 fn refusal(rt: &impl Abort, session: &mut Session, node: &mut Node, frame: &[u8]) -> Option<Fault> {
     let message = read(rt, node.alloc, frame);
     session.take(message, node).err()
@@ -179,7 +179,7 @@ fn is_greeted(rt: &impl Abort, session: &mut Session, node: &mut Node, hello: &[
     matches!(take(rt, session, node, hello), Replies::Greeted)
 }
 
-/// Whether the session says Hello as b does, and takes that of a.
+/// Whether the session sends the Hello of b, and takes that of a.
 fn greet(rt: &impl Abort, session: &mut Session, node: &mut Node) -> [bool; 2] {
     let is_hello = is_spelled(rt, node.alloc, session.hello(), HELLO_B);
     [is_hello, is_greeted(rt, session, node, HELLO_A)]
@@ -210,7 +210,7 @@ fn answer(rt: &impl Abort, session: &mut Session, node: &mut Node) -> bool {
     }
 }
 
-/// Why a Bye ends the session, where it does.
+/// The reason with which a Bye ends the session, if it does.
 fn reason(rt: &impl Abort, session: &mut Session, node: &mut Node) -> Option<u8> {
     match take(rt, session, node, BYE) {
         Replies::Ended(bye) => Some(bye.reason()),
@@ -218,7 +218,7 @@ fn reason(rt: &impl Abort, session: &mut Session, node: &mut Node) -> Option<u8>
     }
 }
 
-/// Why a Bye ends the session, and the faults of another Bye, and of asking, then.
+/// The reason with which a Bye ends the session, and then the faults of another Bye and of asking.
 fn end(
     rt: &impl Abort,
     session: &mut Session,
@@ -229,7 +229,7 @@ fn end(
     (reason, [again, session.ask(node).err()])
 }
 
-/// A session of b takes the Hello and the digest of a, its own digest, and a Bye.
+/// Tests that a session of b takes the Hello and the digest of a, its own digest, and a Bye.
 fn takes_what_comes(rt: &impl Abort, session: &mut Session, node: &mut Node) {
     same(rt, &greet(rt, session, node), &[true; 2]);
     same(rt, &exchange(rt, session, node), &[true; 2]);
@@ -244,7 +244,7 @@ fn a_session_takes_what_comes(rt: HostRuntime) {
     takes_what_comes(&rt, &mut session_of(&rt, b"b"), &mut node);
 }
 
-/// How many blocks these are. One that finds no memory ends the test.
+/// How many blocks these are. A block that found no memory ends the test.
 fn settled(rt: &impl Abort, report: &Report) -> usize {
     for end in report.ends() {
         if matches!(end, BlockEnd::NoMemory(_)) {
@@ -254,7 +254,7 @@ fn settled(rt: &impl Abort, report: &Report) -> usize {
     report.len()
 }
 
-/// How many blocks of the delta of b the session applies, where it does.
+/// How many blocks of the delta of b the session applies, if it takes it.
 fn applied(rt: &impl Abort, session: &mut Session, node: &mut Node) -> Option<usize> {
     match take(rt, session, node, DELTA_B) {
         Replies::Applied(report) => Some(settled(rt, &report)),
@@ -268,7 +268,7 @@ fn is_asked(rt: &impl Abort, session: &mut Session, node: &mut Node) -> bool {
     is_spelled(rt, node.alloc, message, DIGEST_A)
 }
 
-/// A session of a asks as it does, and then applies the delta of b.
+/// Tests that a session of a asks as a does, and then applies the delta of b.
 fn asks(rt: &impl Abort, session: &mut Session, node: &mut Node) {
     same(rt, &is_asked(rt, session, node), &true);
     is_greeted(rt, session, node, HELLO_B);
@@ -282,7 +282,7 @@ fn a_session_asks(rt: HostRuntime) {
     asks(&rt, &mut session_of(&rt, b"a"), &mut node);
 }
 
-/// The fault of the last of these messages, where the session is closed then.
+/// The fault of the last of these messages, if the session is closed then.
 fn closing_fault(
     rt: &impl Abort,
     session: &mut Session,
@@ -299,7 +299,7 @@ fn closing_fault(
     }
 }
 
-/// The last of these messages closes a session of b with this fault.
+/// Tests that the last of these messages closes a session of b with this fault.
 fn closes(rt: &impl Abort, alloc: Global, frames: &[&[u8]], fault: Fault) {
     let mut session = session_of(rt, b"b");
     let mut node = Node::new(rt, alloc, b"b", false);
@@ -307,7 +307,7 @@ fn closes(rt: &impl Abort, alloc: Global, frames: &[&[u8]], fault: Fault) {
     same_at(rt, &frames, &found, &Some(fault));
 }
 
-/// A message of this kind closes a session, before Hello and behind it.
+/// Tests that a message of this kind closes a session, before Hello and after it.
 fn has_no_place(rt: &impl Abort, alloc: Global, control: &[u8], kind: u8) {
     closes(rt, alloc, &[control], Fault::UnknownKind(kind));
     closes(rt, alloc, &[HELLO_A, control], Fault::UnknownKind(kind));
@@ -331,7 +331,7 @@ fn messages_out_of_place_close(rt: HostRuntime) {
     has_no_place(&rt, alloc, REFUSED, 0x14);
 }
 
-/// The message of a frame is refused where so many calls of the handler are granted, which are too few.
+/// Tests that the message of a frame is refused if so many calls of the handler are granted, which are too few.
 fn is_ungranted(
     rt: &impl Abort,
     session: &mut Session,
@@ -344,13 +344,13 @@ fn is_ungranted(
     same_at(rt, &(frame, grants), &found, &Some(Fault::TurnsSpent));
 }
 
-/// Whether a digest is answered with a delta and a digest where two calls are granted.
+/// Whether a digest is answered with a delta and a digest if two calls are granted.
 fn is_exchanged(rt: &impl Abort, session: &mut Session, node: &mut Node) -> bool {
     node.grants = 2;
     matches!(take(rt, session, node, DIGEST_A), Replies::Exchanged(_, _))
 }
 
-/// Too few calls are granted for messages behind Hello, and for asking; then a digest is taken.
+/// Tests messages after Hello, and asking, with too few calls granted. Then a digest is taken.
 fn refuses(rt: &impl Abort, session: &mut Session, node: &mut Node) {
     is_greeted(rt, session, node, HELLO_A);
     is_ungranted(rt, session, node, DIGEST_A, 0);

@@ -17,8 +17,8 @@ use std::marker::Brand;
 use std::process::Abort;
 use std::sync::ledger::{Blank, Ledger};
 
-/// Takes one byte in each write, and fails once, at its room: what is written behind that is taken again. Every other write
-/// is interrupted.
+/// A writer that takes one byte in each write, and fails once, at its room. What is written after that it takes again.
+/// Every other write is interrupted.
 #[derive(Drop)]
 struct Room {
     bytes: [u8; 128],
@@ -39,7 +39,7 @@ impl Room {
         }
     }
 
-    /// Whether these pieces were written, one after the other, up to the room.
+    /// Whether these pieces were written, one after another, up to the room.
     fn has_written(&self, pieces: &[&[u8]]) -> bool {
         let mut at = 0;
         for piece in pieces {
@@ -79,9 +79,12 @@ impl Write for Room {
     }
 }
 
-/// What a talk has to go on: the peer's bytes, how many come in a read, whether the reader fails after them,
-/// how many reads are interrupted before each, how many bytes may be written, how many reads may be made, and the
-/// rounds of one that dials.
+/// The terms of a talk:
+///
+/// - The peer's bytes, how many come in a read, and whether the reader fails after them.
+/// - How many reads are interrupted before each that gives bytes.
+/// - How many bytes can be written, and how many reads can be made.
+/// - The rounds, if the node dials.
 #[derive(Clone, Copy)]
 struct Terms<'a> {
     bytes: &'a [u8],
@@ -93,7 +96,7 @@ struct Terms<'a> {
     rounds: Option<u64>,
 }
 
-/// The terms of one that serves with ample reads and room.
+/// The terms of a node that serves, with ample reads and room.
 fn serving(bytes: &[u8]) -> Terms<'_> {
     Terms {
         bytes,
@@ -106,7 +109,7 @@ fn serving(bytes: &[u8]) -> Terms<'_> {
     }
 }
 
-/// The terms of one that dials.
+/// The terms of a node that dials.
 fn dialing(bytes: &[u8], rounds: u64) -> Terms<'_> {
     Terms {
         rounds: Some(rounds),
@@ -158,7 +161,8 @@ fn talk_on<L: Ledger>(
     }
 }
 
-/// A whole talk of a node of the cluster c1, and whether its last write is said to have failed.
+/// Makes a whole talk of a node of the cluster c1. Returns how it ended, and whether its last write is reported as
+/// failed.
 fn talk_telling(
     rt: &impl Abort,
     node: &mut Node,
@@ -171,8 +175,12 @@ fn talk_telling(
     (ended, last.has_failed())
 }
 
-/// A talk that goes well: who speaks, in how many rounds if it dials, what it hears and what it writes; how many
-/// bytes it has written before it has heard so many, and then; and how it ends.
+/// A talk that goes well:
+///
+/// - Who speaks, and in how many rounds if it dials.
+/// - What it hears, and what it writes.
+/// - How many bytes it has written before it has heard `turn` bytes, and how many after that.
+/// - How it ends.
 #[derive(Clone, Copy)]
 struct Course<'a> {
     name: &'a [u8],
@@ -186,7 +194,7 @@ struct Course<'a> {
     ended: Ended,
 }
 
-/// The course of one that serves, and of one that dials.
+/// The courses of a node that serves, and of one that dials.
 const SERVED: Course<'static> = Course {
     name: b"b",
     has_written: true,
@@ -211,11 +219,11 @@ const DIALED: Course<'static> = Course {
     ended: Ended::RoundsDone,
 };
 
-/// What comes of a talk: how it ends, whether its last write is said to have failed, whether just the pieces were written
-/// up to the room, and how many bytes that is.
+/// What comes of a talk: how it ends, and whether its last write is reported as failed. Then whether exactly the pieces
+/// were written up to the room, and how many bytes.
 type Outcome = (Result<Ended, Fault>, bool, bool, usize);
 
-/// What comes of a talk of a node that is to write these pieces.
+/// What comes of a talk of a node that must write these pieces.
 fn outcome(rt: &impl Abort, node: &mut Node, terms: Terms<'_>, pieces: &[&[u8]]) -> Outcome {
     let mut writer = Room::new(terms.room);
     let (ended, has_failed) = talk_telling(rt, node, &mut writer, terms);
@@ -223,7 +231,7 @@ fn outcome(rt: &impl Abort, node: &mut Node, terms: Terms<'_>, pieces: &[&[u8]])
     (ended, has_failed, is_written, writer.written)
 }
 
-/// What comes of a course under these terms, where so many calls of the handler are allowed.
+/// What comes of a course under these terms, if so many calls of the handler are allowed.
 fn follow(
     rt: &impl Abort,
     alloc: Global,
@@ -243,7 +251,7 @@ fn hearing<'a>(course: &Course<'_>, bytes: &'a [u8]) -> Terms<'a> {
     terms
 }
 
-/// The course ends as it is to, where so many bytes come in a read.
+/// Tests that the course ends as it must if so many bytes come in a read.
 fn ends_in_pieces(rt: &impl Abort, alloc: Global, course: &Course<'_>, piece: usize) {
     let input = joined(rt, alloc, &course.heard);
     let mut terms = hearing(course, &input);
@@ -253,7 +261,7 @@ fn ends_in_pieces(rt: &impl Abort, alloc: Global, course: &Course<'_>, piece: us
     same_at(rt, &piece, &found, &wanted);
 }
 
-/// The same of one byte in a read, of some, and of all.
+/// The same for one byte in a read, for some, and for all.
 fn ends_in_any_pieces(rt: &impl Abort, alloc: Global, course: &Course<'_>) {
     ends_in_pieces(rt, alloc, course, 1);
     ends_in_pieces(rt, alloc, course, 7);
@@ -267,7 +275,7 @@ fn bytes_come_in_any_pieces(rt: HostRuntime) {
     ends_in_any_pieces(&rt, rt.alloc(), &DIALED);
 }
 
-/// The course ends as it is to, though so many reads are interrupted before each that gives bytes.
+/// Tests that the course ends as it must although so many reads are interrupted before each that gives bytes.
 fn ends_though_interrupted(
     rt: &impl Abort,
     alloc: Global,
@@ -289,7 +297,7 @@ fn interrupted_reads_end_no_session(rt: HostRuntime) {
     ends_though_interrupted(&rt, rt.alloc(), &DIALED, 5_000);
 }
 
-/// How many of the bytes of a course are not read, where a write fails behind so many that are out.
+/// How many bytes of a course are not read if a write fails after so many bytes.
 fn unread(rt: &impl Abort, alloc: Global, course: &Course<'_>, room: usize) -> usize {
     let input = joined(rt, alloc, &course.heard);
     let mut node = Node::new(rt, alloc, course.name, course.has_written);
@@ -308,7 +316,8 @@ fn unread(rt: &impl Abort, alloc: Global, course: &Course<'_>, room: usize) -> u
     reader.bytes.len()
 }
 
-/// A Hello that fails is behind no read; the delta for the digest, whose last byte is the 50th, behind eight of seven bytes.
+/// Before a Hello that fails nothing was read. The delta for the digest, whose last byte is the 50th, comes after eight
+/// reads of seven bytes.
 #[test]
 fn nothing_is_read_behind_a_failed_write(rt: HostRuntime) {
     let alloc = rt.alloc();
@@ -319,7 +328,7 @@ fn nothing_is_read_behind_a_failed_write(rt: HostRuntime) {
     same(&rt, &unread(&rt, alloc, &DIALED, 12), &99);
 }
 
-/// How many bytes of its piece stand before the byte at a place, of pieces that stand one after the other.
+/// How many bytes of its piece come before the byte at a place, if the pieces come one after another.
 fn within(pieces: &[&[u8]], place: usize) -> usize {
     let mut left = place;
     for piece in pieces {
@@ -331,7 +340,7 @@ fn within(pieces: &[&[u8]], place: usize) -> usize {
     left
 }
 
-/// What came of a talk. Want of memory in it ends the test.
+/// What came of a talk. If memory was missing in it, the test ends.
 fn settled(rt: &impl Abort, outcome: Outcome) -> Outcome {
     match outcome.0 {
         Err(Fault::NoMemory) => got(rt, Err(Fault::NoMemory)),
@@ -339,7 +348,7 @@ fn settled(rt: &impl Abort, outcome: Outcome) -> Outcome {
     }
 }
 
-/// Whether a writer fails at a place and it is told so, with how much of its frame is out.
+/// Whether a talk reports that its writer failed at a place, with how much of the frame is out.
 fn is_told_room(
     rt: &impl Abort,
     alloc: Global,
@@ -355,7 +364,7 @@ fn is_told_room(
     answer == Err(fault) && is_written && has_failed
 }
 
-/// The first place at which a writer fails and it is not told so.
+/// The first place at which a writer fails and the talk does not report that.
 fn wrong_room(rt: &impl Abort, alloc: Global, course: &Course<'_>) -> Option<usize> {
     let input = joined(rt, alloc, &course.heard);
     for room in 0..course.late {
@@ -366,7 +375,7 @@ fn wrong_room(rt: &impl Abort, alloc: Global, course: &Course<'_>) -> Option<usi
     None
 }
 
-/// How a course ends whose reader fails at a place, or comes to its end.
+/// How a course ends if its reader fails at a place, or comes to its end there.
 fn end_at(course: &Course<'_>, breaks: bool, length: usize) -> Result<Ended, Fault> {
     match (breaks, within(&course.heard, length)) {
         (true, _) => Err(Fault::ReadFailed),
@@ -384,7 +393,8 @@ fn written_at(course: &Course<'_>, length: usize) -> usize {
     }
 }
 
-/// Whether a reader fails at the end of these bytes, or comes to its end, it is told so, and nothing else is written.
+/// Whether a talk reports that its reader failed at the end of these bytes, or came to its end, and nothing else is
+/// written.
 fn is_told_end(
     rt: &impl Abort,
     alloc: Global,
@@ -400,7 +410,8 @@ fn is_told_end(
     answer == end_at(course, breaks, length) && written == written_at(course, length)
 }
 
-/// The first place at which a reader fails, or comes to its end, and it is not told so, or something else is written.
+/// The first place at which a reader fails, or comes to its end, and the talk does not report that or writes something
+/// else.
 fn wrong_length(
     rt: &impl Abort,
     alloc: Global,
@@ -417,14 +428,15 @@ fn wrong_length(
     None
 }
 
-/// No place is wrong at which a writer fails, at which a reader fails, or at which it comes to its end.
+/// Tests that no place is wrong: not for a writer that fails, a reader that fails, or a reader that comes to its end.
 fn is_told_everywhere(rt: &impl Abort, alloc: Global, course: &Course<'_>) {
     same(rt, &wrong_room(rt, alloc, course), &None);
     same(rt, &wrong_length(rt, alloc, course, true), &None);
     same(rt, &wrong_length(rt, alloc, course, false), &None);
 }
 
-/// A course is refused where so many reads, or calls of the handler, are allowed, and so many bytes are written.
+/// Tests that a course ends with `TurnsSpent` if so many reads, and so many calls of the handler, are allowed. So many
+/// bytes are written then.
 fn is_spent(
     rt: &impl Abort,
     alloc: Global,
@@ -440,7 +452,7 @@ fn is_spent(
     same_at(rt, &(reads, grants), &(ended, written), &wanted);
 }
 
-/// Where one that serves fails, and where too little is allowed to it.
+/// Tests where a node that serves fails, and that it ends if too little is allowed.
 fn serving_fails(rt: &impl Abort, alloc: Global, course: &Course<'_>) {
     is_told_everywhere(rt, alloc, course);
     is_spent(rt, alloc, course, (0, 9), 12);
@@ -449,7 +461,7 @@ fn serving_fails(rt: &impl Abort, alloc: Global, course: &Course<'_>) {
     is_spent(rt, alloc, course, (99, 1), 12);
 }
 
-/// The same of one that dials.
+/// The same for a node that dials.
 fn dialing_fails(rt: &impl Abort, alloc: Global, course: &Course<'_>) {
     is_told_everywhere(rt, alloc, course);
     is_spent(rt, alloc, course, (3, 9), 50);
@@ -464,8 +476,8 @@ fn writers_and_readers_fail(rt: HostRuntime) {
     dialing_fails(&rt, rt.alloc(), &DIALED);
 }
 
-/// How a talk of a node that wrote nothing ends, whether it wrote just these pieces, how many bytes it wrote, and how far
-/// it then holds another owner.
+/// How a talk ends for a node that wrote nothing, and whether it wrote exactly these pieces. Then how many bytes it
+/// wrote, and how far it holds another owner.
 type Learned = (Result<Ended, Fault>, bool, usize, u64);
 
 /// What a new node of this name learns of the owner.
@@ -482,13 +494,13 @@ fn learn(
     (ended, is_written, written, node.upto(rt, owner))
 }
 
-/// Of one that wrote something and dials for no round.
+/// The course of a node that wrote something and dials for no round.
 const NO_ROUND: Course<'static> = Course {
     written: &[HELLO_B, BYE],
     ..SERVED
 };
 
-/// A node that dials for no round says just Hello and Bye.
+/// Tests that a node that dials for no round sends just Hello and Bye.
 fn no_round_is_asked(rt: &impl Abort, alloc: Global) {
     let terms = dialing(&[], 0);
     let (ended, _, is_written, written) = follow(rt, alloc, &NO_ROUND, terms, 1_000);
@@ -496,7 +508,7 @@ fn no_round_is_asked(rt: &impl Abort, alloc: Global) {
     same(rt, &(ended, is_written, written), &wanted);
 }
 
-/// What a learns of b, which it dials for so many rounds, and which answers one.
+/// What a learns from b, which it dials for so many rounds, and which answers one.
 fn learn_of_one(rt: &impl Abort, alloc: Global, rounds: u64, pieces: &[&[u8]]) -> Learned {
     let input = joined(rt, alloc, &[HELLO_B, DELTA_B, DIGEST_B]);
     learn(rt, alloc, b"a", dialing(&input, rounds), pieces, b"b")
@@ -509,7 +521,7 @@ fn the_other_end_asks(rt: HostRuntime) {
     let pieces = [HELLO_A, DIGEST_A, DELTA_NONE, BYE];
     let found = learn_of_one(&rt, alloc, 1, &pieces);
     same(&rt, &found, &(Ok(Ended::RoundsDone), true, 67, 1));
-    // A second round asks again, and the peer's bytes end.
+    // A second round asks again, and then the peer's bytes end.
     let (ended, _, written, _) = learn_of_one(&rt, alloc, 2, &[]);
     same(&rt, &(ended, written), &(Ok(Ended::End), 12 + 38 + 9 + 64));
 }
@@ -522,8 +534,8 @@ fn ending(rt: &impl Abort, alloc: Global, me: &[u8], terms: Terms<'_>, owner: &[
     (ended, written, held)
 }
 
-/// How a talk of a node that wrote nothing ends with one that says this, so many bytes in a read, where it serves and
-/// where it dials.
+/// How the talks end for a node that wrote nothing, if its peer sends `said`, `piece` bytes in a read. The node serves
+/// in the first, and dials in the second.
 fn endings(
     rt: &impl Abort,
     alloc: Global,
@@ -541,26 +553,26 @@ fn endings(
     ]
 }
 
-/// How the talks of a node b with one a end that says these pieces.
+/// How the talks of a node b end with a node a that sends these pieces.
 fn endings_of(rt: &impl Abort, alloc: Global, pieces: &[&[u8]]) -> [Ending; 2] {
     let input = joined(rt, alloc, pieces);
     endings(rt, alloc, b"b", (&input, 7), b"a")
 }
 
-/// The talks with one that says these pieces end with this fault, and nothing is learned.
+/// Tests that the talks with a peer that sends these pieces end with this fault, and that nothing is learned.
 fn ends_with(rt: &impl Abort, alloc: Global, pieces: &[&[u8]], fault: Fault) {
     let wanted = [(Err(fault), 12, 0), (Err(fault), 50, 0)];
     same_at(rt, &pieces, &endings_of(rt, alloc, pieces), &wanted);
 }
 
-/// The talks end with the fault of this kind where such a message comes behind a greeting.
+/// Tests that the talks end with the fault of this kind if such a message comes after a greeting.
 fn ends_behind(rt: &impl Abort, alloc: Global, greeting: &[u8], control: &[u8], kind: u8) {
     let [served, dialed] = endings_of(rt, alloc, &[greeting, control]);
     let fault = Err(Fault::UnknownKind(kind));
     same_at(rt, &kind, &[served.0, dialed.0], &[fault, fault]);
 }
 
-/// The same of each kind that has no place in a session.
+/// The same for each kind that has no place in a session.
 fn end_behind(rt: &impl Abort, alloc: Global, greeting: &[u8]) {
     ends_behind(rt, alloc, greeting, ASK, 0x10);
     ends_behind(rt, alloc, greeting, ROWS, 0x11);
@@ -569,7 +581,7 @@ fn end_behind(rt: &impl Abort, alloc: Global, greeting: &[u8]) {
     ends_behind(rt, alloc, greeting, REFUSED, 0x14);
 }
 
-/// Messages that may not come there end the talks.
+/// Tests that messages end the talks if they must not come there.
 fn messages_end(rt: &impl Abort, alloc: Global) {
     let flood = [DELTA_B, DELTA_B, DELTA_B, HELLO_A];
     ends_with(rt, alloc, &[DIGEST_A], Fault::NoHello);
@@ -581,7 +593,7 @@ fn messages_end(rt: &impl Abort, alloc: Global) {
     ends_with(rt, alloc, &[HELLO_A, HELLO_C2], Fault::SecondHello);
 }
 
-/// Bytes that are no frame end the talks.
+/// Tests that bytes that are not a frame end the talks.
 fn bytes_end(rt: &impl Abort, alloc: Global) {
     let no_length = b"\xa7\x03\x00\x00\x00\x00";
     let no_kind = b"\xa7\x03\x00\x00\x00\x01\x55";

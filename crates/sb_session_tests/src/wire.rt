@@ -8,7 +8,7 @@ pub(crate) fn add(rt: &impl Abort, bytes: &mut Vec<u8>, more: &[u8]) {
     got(rt, bytes.extend_from_slice(more));
 }
 
-/// The pieces, one after the other.
+/// The pieces, one after another.
 pub(crate) fn joined(rt: &impl Abort, alloc: Global, pieces: &[&[u8]]) -> Vec<u8> {
     let mut bytes = Vec::new(alloc);
     for piece in pieces {
@@ -26,7 +26,7 @@ fn add_entry(rt: &impl Abort, alloc: Global, frame: &mut Vec<u8>, version: u64) 
     add(rt, frame, b"\x02\x00\x00\x00\x00\x00\x00\x00\x05");
 }
 
-/// A frame of 65,536 bytes: a delta of 1,309 entries of 50 bytes and one of 49, behind 31 of its payload.
+/// A frame of 65,536 bytes: a delta of 1,309 entries of 50 bytes and one of 49, after 31 bytes of its payload.
 pub(crate) fn greatest_frame(rt: &impl Abort, alloc: Global) -> Vec<u8> {
     let mut frame = Vec::new(alloc);
     add(rt, &mut frame, b"\xa7\x03\x00\x00\xff\xfa\x03\x00\x01\x01a");

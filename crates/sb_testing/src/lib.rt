@@ -1,6 +1,11 @@
-//! What several of the crates of tests need: frames that are written out by hand, the readers and writers of peers that say
-//! and hear them, settings, and small deltas. Nothing here ends a test: a library may not, so what does (`same`, `got` and the
-//! like) stands in each crate of tests, as a line each over what the toolchain has.
+//! What several crates of tests need: frames written out by hand, readers and writers for peers, settings, and small
+//! deltas. Nothing here ends a test, since a library must not. So what does, such as `same` and `got`, is in each crate
+//! of tests, one line each over the toolchain's own.
+//!
+//! # What no contract refuses
+//!
+//! Nothing here has an `ensures`, so every body that is safe and ends would be proved. The tests that use a function
+//! refuse a wrong one.
 #![tactic(auto)]
 
 pub mod streams;
@@ -9,7 +14,7 @@ pub mod wire;
 use sb_types::{BUDGET_LEAST, Block, Delta, Entry, Fault, Name, Order, RawSettings};
 use std::alloc::Global;
 
-/// Settings that are within their limits: of a node of the cluster c1, with the least budget, two seats and a worker.
+/// Settings within their limits: a node of the cluster c1, with the least budget, two seats and a worker.
 pub const SETTINGS: RawSettings<'static> = RawSettings {
     cluster: b"c1",
     budget: BUDGET_LEAST,
@@ -19,13 +24,13 @@ pub const SETTINGS: RawSettings<'static> = RawSettings {
     workers: 1,
 };
 
-/// A name of 32 bytes, the most that one may have.
+/// A name of 32 bytes, the most that a name can have.
 pub const LONGEST_NAME: &[u8] = b"abcdefghijklmnopqrstuvwxyz-01234";
 
-/// A key of 64 bytes, the most that one may have.
+/// A key of 64 bytes, the most that a key can have.
 pub const LONGEST_KEY: &[u8] = b"abcdefghijklmnopqrstuvwxyz012345.bcdefghijklmnopqrstuvwxyz_/-789";
 
-/// The text of a number, in four letters: another one for each number below 456,976.
+/// The text of a number, in four letters. Each number below 456,976 has another one.
 pub fn letters_of(number: u64) -> [u8; 4] {
     let mut text = [b'a'; 4];
     let mut rest = number;
@@ -41,7 +46,7 @@ pub fn delta_of_block(alloc: Global, block: Block) -> Result<Delta, Fault> {
     Delta::new(vec![in alloc; block]?)
 }
 
-/// A delta of one write of an owner, behind the version before it.
+/// A delta with one write of an owner, which begins after the version before it.
 pub fn delta_of_write(alloc: Global, owner: Name, entry: Entry) -> Result<Delta, Fault> {
     let version = entry.version();
     let before = version.saturating_sub(1);

@@ -1,17 +1,17 @@
-//! Readers and writers of peers that say little at once, break off and close.
+//! Readers and writers for peers that send little at once, break off or close.
 
 use std::alloc::Global;
 use std::io::{self, ErrorKind, Read, Write};
 
-/// A reader that gives its bytes in pieces of at most so many, and then its end, or a failure where it breaks. So many reads are
-/// interrupted before each piece.
+/// A reader that gives its bytes in pieces of at most so many, and then its end, or a failure if it breaks. Before each
+/// piece, so many reads are interrupted.
 #[derive(Drop)]
 pub struct Pieces<'a> {
     /// The bytes that are left.
     pub bytes: &'a [u8],
     /// How many bytes a read gives at most.
     pub piece: usize,
-    /// Whether reading fails behind the last byte.
+    /// Whether reading fails after the last byte.
     pub breaks: bool,
     /// How many reads are interrupted before each that gives a piece.
     pub interruptions: u32,
@@ -50,7 +50,7 @@ impl Read for Pieces<'_> {
     }
 }
 
-/// A writer that keeps what it takes, and is closed once that is so many bytes.
+/// A writer that keeps what it takes, and is closed when that is so many bytes.
 #[derive(Drop)]
 pub struct Hearing {
     /// What it has taken.
@@ -60,7 +60,7 @@ pub struct Hearing {
 }
 
 impl Hearing {
-    /// A writer that took nothing, and takes at most so many bytes.
+    /// A writer that has taken nothing, and takes at most so many bytes.
     pub fn new(alloc: Global, room: usize) -> Hearing {
         Hearing {
             bytes: Vec::new(alloc),
@@ -85,13 +85,13 @@ impl Write for Hearing {
     }
 }
 
-/// A writer that keeps nothing, takes at most so many bytes a write, and fails once none are left that it takes, or at a flush. It
-/// counts the writes that failed.
+/// A writer that keeps nothing, and takes at most so many bytes in a write. It fails if it can take no more bytes, or
+/// at a flush. It counts the writes that failed.
 #[derive(Drop)]
 pub struct FailingWriter {
     /// How many bytes it still takes.
     pub left: usize,
-    /// How many it takes a write at most.
+    /// How many bytes it takes at most in one write.
     pub piece: usize,
     /// Whether a flush succeeds.
     pub is_flushed: bool,
@@ -100,7 +100,7 @@ pub struct FailingWriter {
 }
 
 impl FailingWriter {
-    /// A writer that takes so many bytes, as many in a write as there are, and can be flushed.
+    /// A writer that takes so many bytes, all at once if they come at once, and can be flushed.
     pub fn new(left: usize) -> FailingWriter {
         FailingWriter {
             left,

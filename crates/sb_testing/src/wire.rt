@@ -6,12 +6,12 @@ pub const HELLO_A: &[u8] = b"\xa7\x03\x00\x00\x00\x06\x01\x02c1\x01a";
 /// Hello of a node b of the same cluster.
 pub const HELLO_B: &[u8] = b"\xa7\x03\x00\x00\x00\x06\x01\x02c1\x01b";
 
-/// The digest of a, which holds only itself, with nothing written; one is wanted in answer.
+/// The digest of a, which holds only itself, with nothing written. It asks for a digest in answer.
 pub const DIGEST_A: &[u8] = b"\xa7\x03\x00\x00\x00\x20\x02\x01\x00\x00\
     \x00\x01\x01a\x00\x00\x00\x00\x00\x00\x00\x00\
     \x00\x00\x00\x00\x00\x00\x00\x00\x00\x00\x00\x00\x00\x00\x00\x00";
 
-/// The digest of b, which holds itself up to 1; none is wanted in answer.
+/// The digest of b, which holds itself up to 1. It asks for no digest in answer.
 pub const DIGEST_B: &[u8] = b"\xa7\x03\x00\x00\x00\x20\x02\x00\x00\x00\
     \x00\x01\x01b\x00\x00\x00\x00\x00\x00\x00\x01\
     \x00\x00\x00\x00\x00\x00\x00\x00\x00\x00\x00\x00\x00\x00\x00\x00";
@@ -43,7 +43,7 @@ pub const DELTA_NONE: &[u8] = b"\xa7\x03\x00\x00\x00\x03\x03\x00\x00";
 /// Bye, since the rounds are done.
 pub const BYE: &[u8] = b"\xa7\x03\x00\x00\x00\x02\x04\x01";
 
-/// All that a says which asks once: its Hello, its digest and its Bye.
+/// All that a sends if it asks once: its Hello, its digest and its Bye.
 pub const SAID_BY_A: &[u8] = b"\xa7\x03\x00\x00\x00\x06\x01\x02c1\x01a\
     \xa7\x03\x00\x00\x00\x20\x02\x01\x00\x00\x00\x01\x01a\x00\x00\x00\x00\x00\x00\x00\x00\
     \x00\x00\x00\x00\x00\x00\x00\x00\x00\x00\x00\x00\x00\x00\x00\x00\
@@ -70,5 +70,5 @@ pub const PUT: &[u8] = b"\xa7\x03\x00\x00\x00\x0c\x12\x01w\x02\x00\x00\x00\x00\x
 /// Done, with the version 1, which is its last byte.
 pub const DONE: [u8; 15] = *b"\xa7\x03\x00\x00\x00\x09\x13\x00\x00\x00\x00\x00\x00\x00\x01";
 
-/// Refused, for want of memory.
+/// Refused, because memory was missing.
 pub const REFUSED: &[u8] = b"\xa7\x03\x00\x00\x00\x02\x14\x01";

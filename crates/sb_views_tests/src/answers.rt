@@ -1,4 +1,4 @@
-//! What a message tells to the one who asked.
+//! What a message means to the caller that sent a request.
 use crate::{got, same};
 use sb_codec::{Bye, Done, Message, Refused, Rows};
 use sb_query::{NoAnswer, page_in, version_in};
@@ -13,7 +13,7 @@ fn reason(answer: NoAnswer) -> (Fault, u8) {
     }
 }
 
-/// The version that a message tells; or 0, and why it tells none.
+/// The version that a message contains; or 0, and why it contains none.
 fn version(message: &Message) -> (u64, Fault, u8) {
     match version_in(message) {
         Ok(version) => (version, Fault::Closed, 0),
@@ -24,7 +24,7 @@ fn version(message: &Message) -> (u64, Fault, u8) {
     }
 }
 
-/// Whether a message is a page of which more follow, or of none; or why it is no page.
+/// Whether more rows follow the page in a message, or why it is not a page.
 fn page(message: Message) -> (bool, Fault, u8) {
     match page_in(message) {
         Ok(page) => (page.more(), Fault::NoWatch, 0),

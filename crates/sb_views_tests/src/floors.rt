@@ -1,4 +1,4 @@
-//! Views of tables that are held beyond their last entries, and an owner whose rows are all shown anew.
+//! Views of tables that are held beyond their last entries, and an owner whose rows are all shown again.
 
 ghost use Rattle.std.specs.Prelude.{◌≡◌, ◌∷◌, [], OnOk};
 ghost use Rattle.sb_holdings.specs.Held.{shown_of};
@@ -21,8 +21,8 @@ use std::marker::Brand;
 use std::process::Abort;
 use std::sync::Wait;
 
-/// What is held of a, a write of version 3 up to version 5 with floor 4, and of b, whose stage of floor 2 with a write of
-/// version 1 came up to version 3.
+/// What a node holds: of a a write of version 3, up to version 5, with floor 4. Of b a stage of floor 2, with a write
+/// of version 1, that came up to version 3.
 fn held_beyond(rt: &impl Abort, alloc: Global) -> Holdings {
     let entries = got(rt, vec![in alloc; entry_of(rt, W)]);
     let own = got(rt, Table::restored(alloc, 5, 4, entries));
@@ -33,7 +33,7 @@ fn held_beyond(rt: &impl Abort, alloc: Global) -> Holdings {
     holdings
 }
 
-/// Each owner is shown as far as it is held, and with its rows.
+/// Tests that each owner is shown as far as it is held, with its rows.
 pub(crate) fn beyond_is_shown(rt: &impl Abort, snapshot: &Snapshot<'_>) {
     is_upto(rt, snapshot, b"a", 5);
     is_upto(rt, snapshot, b"b", 3);
@@ -54,7 +54,7 @@ fn an_owner_is_shown_anew_once_published(rt: HostRuntime) {
     same(&rt, &seen, &[((0, None), 0), ((1, Some((1, 1))), 1)]);
 }
 
-/// What is seen under the key of the first write, before all of the node's is shown anew and then.
+/// What a reader sees under the key of the first write, before all rows of the node are shown again, and after that.
 fn publish_anew<R: Wait + Abort>(
     rt: &R,
     alloc: Global,
@@ -91,7 +91,7 @@ fn publish_first<S: NodeTag, R: Wait + Abort>(
     look_around(rt, &mut writer, reader, holdings.me(), &key)
 }
 
-/// Puts behind the others that the owner has this one entry and no other.
+/// Adds to an empty batch that the owner has this one entry and no other.
 fn push_anew(batch: &mut Batch, owner: Name, entry: Entry) -> Result<(), Fault>
     requires { batch.old ≡ [] }
     ensures { OnOk result (batch.new ≡ (owner, Change.Clear) ∷ (owner, Change.Enter entry) ∷ (owner, Change.Hold entry.version) ∷ []) }
@@ -102,7 +102,7 @@ fn push_anew(batch: &mut Batch, owner: Name, entry: Entry) -> Result<(), Fault>
     batch.push_hold(owner, version)
 }
 
-/// Adds the first event of a history, an own write, with which all of the node's is shown anew.
+/// Adds the first event of a history, an own write, and with it all rows of the node again.
 fn append_anew<S: NodeTag, R: Wait + Abort>(
     rt: &R,
     alloc: Global,

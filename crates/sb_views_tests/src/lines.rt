@@ -1,4 +1,4 @@
-//! What no clause says: the lines of a log, and a write that fails.
+//! What no clause promises: the lines of a log, and a write that fails.
 use crate::got;
 use crate::making::{Words, failed_behind, has_lines, key, name, settled, value_of};
 use sb_lines::log_run;
@@ -8,7 +8,7 @@ use sb_types::Slot;
 use std::alloc::Global;
 use std::process::Abort;
 
-// A key and its value, or none where it is removed.
+// A key and its value, or `None` if it is removed.
 type Write = (&'static [u8], Option<Words>);
 
 fn three() -> [Write; 3] {
@@ -19,7 +19,7 @@ fn three() -> [Write; 3] {
     ]
 }
 
-/// An address, a flag and a weight, and x again is last in time.
+/// An address, a flag and a weight. The last write is that of x again.
 fn five() -> [Write; 5] {
     [
         (b"x", Some((b"weight", b"5"))),
@@ -51,7 +51,7 @@ fn log_of(rt: &impl Abort, alloc: Global, writes: &[Write]) -> PlainLog {
     log
 }
 
-/// A log of these writes is printed so, by writes of lines of which none is said to have failed.
+/// Tests that a log of these writes is printed as these lines, and that no write of them is reported as failed.
 fn is_printed(rt: &impl Abort, alloc: Global, writes: &[Write], wanted: &[u8]) {
     let mut log = log_of(rt, alloc, writes);
     let mut lines = Vec::new(alloc);
@@ -85,7 +85,7 @@ fn a_text_is_printed_as_it_is_spelled(rt: HostRuntime) {
     is_printed(&rt, rt.alloc(), &writes, wanted);
 }
 
-/// The printing of the log of five fails at a writer that closes behind so many bytes.
+/// Tests that printing the log of five fails at a writer that closes after so many bytes.
 fn fails_behind(rt: &impl Abort, alloc: Global, left: usize) {
     let mut log = log_of(rt, alloc, &five());
     let printed = log_run(alloc, &mut log, &mut FailingWriter::new(left));

@@ -29,7 +29,7 @@ const A_T: RowParts = (b"a", b"t", 4, (b"text", b"two words"));
 
 const A_T_OTHER: RowParts = (b"a", b"t", 4, (b"text", b"two words "));
 
-// Listings that are compared with others.
+// Listings, to be compared with others.
 fn a_to_b() -> [RowParts; 3] {
     [A_V, A_W, B_A]
 }
@@ -46,7 +46,7 @@ fn a_and_b() -> [RowParts; 2] {
     [A_W, B_A]
 }
 
-/// The lines of what changed from one of these to the other are these.
+/// Tests that these are the lines of what changed from one to the other.
 fn rows_change_to(rt: &impl Abort, alloc: Global, earlier: &[Row], later: &[Row], wanted: &[u8]) {
     let found = got(rt, changes(alloc, earlier, later));
     let mut lines = Vec::new(alloc);
@@ -54,7 +54,7 @@ fn rows_change_to(rt: &impl Abort, alloc: Global, earlier: &[Row], later: &[Row]
     has_lines(rt, printed, &lines, wanted);
 }
 
-/// The same of listings.
+/// The same for listings.
 fn lines_are(
     rt: &impl Abort,
     alloc: Global,
@@ -66,12 +66,12 @@ fn lines_are(
     rows_change_to(rt, alloc, &earlier, &later, wanted);
 }
 
-/// The same of listings of one row each.
+/// The same for listings of one row each.
 fn line_is(rt: &impl Abort, alloc: Global, earlier: RowParts, later: RowParts, wanted: &[u8]) {
     lines_are(rt, alloc, &[earlier], &[later], wanted);
 }
 
-/// The line of a weight of which a later row stands in its place.
+/// Tests the line if a later row replaces a weight.
 fn weight_becomes(rt: &impl Abort, alloc: Global, later: RowParts, wanted: &[u8]) {
     line_is(rt, alloc, A_W, later, wanted);
 }
@@ -95,7 +95,7 @@ fn text_changed(rt: &impl Abort, alloc: Global) {
     line_is(rt, alloc, A_T, A_T_OTHER, b"set a t 4 text two words \n");
 }
 
-/// All rows came, and all went.
+/// Tests that all rows come, and that all go.
 fn all_changed(rt: &impl Abort, alloc: Global) {
     lines_are(
         rt,
@@ -107,7 +107,7 @@ fn all_changed(rt: &impl Abort, alloc: Global) {
     lines_are(rt, alloc, &a_and_aa(), &[], b"gone a v\ngone aa a\n");
 }
 
-/// Rows came, went and changed in turn, with rows on both sides.
+/// Tests rows that come, go and change in turn, with rows on both sides.
 fn each_in_turn(rt: &impl Abort, alloc: Global) {
     lines_are(
         rt,
@@ -138,8 +138,8 @@ fn what_changed_is_printed(rt: HostRuntime) {
     each_in_turn(&rt, alloc);
 }
 
-// An address with a quote and a backslash, the greatest weight, a flag, and a text with a quote, three bytes that are escaped in
-// lines, a letter outside ASCII and a space at its end.
+// An address with a quote and a backslash, the greatest weight, a flag, and a text. The text has a quote, three bytes
+// that are escaped in lines, a letter outside ASCII, and a space at its end.
 const KINDS: [RowParts; 4] = [
     (b"a", b"v", 1, (b"addr", b"\"\\/~h")),
     (b"a", b"w-._/0", 2, (b"weight", b"9223372036854775807")),
@@ -160,14 +160,14 @@ const AS_JSON: &[u8] =
 {\"key\":\"t\",\"kind\":\"text\",\"owner\":\"c\",\"value\":\"\\\"\\\\\\n\x7f\xc3\xa9 \",\"version\":4}
 ";
 
-/// A page as JSON is this.
+/// Tests that a page as JSON is this.
 fn json_is(rt: &impl Abort, alloc: Global, page: &Rows, wanted: &[u8]) {
     let mut lines = Vec::new(alloc);
     let printed = print_json_rows(alloc, &mut lines, page);
     has_lines(rt, printed, &lines, wanted);
 }
 
-/// No rows make no lines.
+/// Tests that no rows make no lines.
 fn no_rows_are_empty(rt: &impl Abort, alloc: Global) {
     json_is(rt, alloc, &got(rt, Rows::new(false, Vec::new(alloc))), b"");
 }
@@ -179,7 +179,7 @@ fn a_page_is_printed_as_json(rt: HostRuntime) {
     no_rows_are_empty(&rt, alloc);
 }
 
-/// How the printing of a change ends at a writer that closes behind so many bytes.
+/// How printing a change ends at a writer that closes after so many bytes.
 fn changes_behind(rt: &impl Abort, alloc: Global, left: usize) -> Ended {
     let rows = rows_of(rt, alloc, &[A_V]);
     let found = got(rt, changes(alloc, &[], &rows));
@@ -189,7 +189,7 @@ fn changes_behind(rt: &impl Abort, alloc: Global, left: usize) -> Ended {
     )
 }
 
-/// The same of that page as JSON.
+/// The same for that page as JSON.
 fn json_behind(rt: &impl Abort, alloc: Global, left: usize) -> Ended {
     let page = page_of_kinds(rt, alloc);
     settled(
@@ -198,7 +198,7 @@ fn json_behind(rt: &impl Abort, alloc: Global, left: usize) -> Ended {
     )
 }
 
-/// Both fail behind so many bytes.
+/// Tests that both fail after so many bytes.
 fn both_fail_behind(rt: &impl Abort, alloc: Global, left: usize) {
     failed_behind(rt, changes_behind(rt, alloc, left), left);
     failed_behind(rt, json_behind(rt, alloc, left), left);

@@ -24,7 +24,7 @@ pub(crate) fn weight(rt: &impl Abort, number: u64) -> Value {
     got(rt, Value::weight(number))
 }
 
-/// What is asked of one owner, or of all where none is named.
+/// The owner to ask about. `None`, for all owners, if the text is empty.
 pub(crate) fn owner_of(rt: &impl Abort, text: &[u8]) -> Option<Name> {
     if text.is_empty() {
         return None;
@@ -32,7 +32,7 @@ pub(crate) fn owner_of(rt: &impl Abort, text: &[u8]) -> Option<Name> {
     Some(name(rt, text))
 }
 
-/// A write of a key, or its removal where there is no value.
+/// A write of a key, or its removal if there is no value.
 pub(crate) fn entry(rt: &impl Abort, text: &[u8], version: u64, value: Option<Value>) -> Entry {
     if version == 0 {
         panic!(rt; "error: version 0");
@@ -72,12 +72,12 @@ pub(crate) fn rows_of(rt: &impl Abort, alloc: Global, parts: &[RowParts]) -> Vec
     rows
 }
 
-/// What a node a holds that has written nothing.
+/// What a node a holds before it has written anything.
 pub(crate) fn holdings_of_a(rt: &impl Abort, alloc: Global) -> Holdings {
     got(rt, Holdings::new(alloc, name(rt, b"a"), Table::new(alloc)))
 }
 
-/// The node takes a block. That there was no memory for it is the end of the test.
+/// The node takes a block. If memory was missing for it, the test ends.
 pub(crate) fn apply(rt: &impl Abort, holdings: &mut Holdings, block: &Block) {
     if let BlockEnd::NoMemory(_) = holdings.apply_block(block) {
         panic!(rt; "error: NoMemory");
@@ -96,7 +96,7 @@ pub(crate) fn settled(rt: &impl Abort, printed: (Result<(), Fault>, LastWrite)) 
     (ended, last.has_failed())
 }
 
-/// The end of a printing of these lines: a fault too where its last write is said to have failed.
+/// How printing these lines ended. It is a fault too if the last write is reported as failed.
 fn whole(printed: (Result<(), Fault>, LastWrite), lines: &[u8]) -> Result<(), Fault> {
     let (ended, last) = printed;
     match (ended, last.has_failed()) {
@@ -105,7 +105,7 @@ fn whole(printed: (Result<(), Fault>, LastWrite), lines: &[u8]) -> Result<(), Fa
     }
 }
 
-/// A printing ended so that these are all its lines, by writes of which none is said to have failed.
+/// Tests that a printing has exactly these lines, and that no write of them is reported as failed.
 pub(crate) fn has_lines(
     rt: &impl Abort,
     printed: (Result<(), Fault>, LastWrite),
@@ -116,7 +116,7 @@ pub(crate) fn has_lines(
     same(rt, &lines, &wanted);
 }
 
-/// A printing ended at the write that failed behind so many bytes.
+/// Tests that a printing ended at a write that failed after so many bytes.
 pub(crate) fn failed_behind(rt: &impl Abort, ended: Ended, left: usize) {
     same(rt, &ended, &(Err(Fault::WriteFailed(left as u64)), true));
 }

@@ -1,4 +1,4 @@
-//! Pages at exact budgets and behind places, and the lines of a page.
+//! Pages at exact budgets and after places, and the lines of a page.
 use crate::making::{
     Ended, apply, entry, failed_behind, has_lines, holdings_of_a, key, name, owner_of, prefix,
     rows_of, settled, weight,
@@ -25,7 +25,7 @@ const LAST_OF_A: Place = (b"a", b"w");
 // An owner, a key and a version.
 type RowVersion = (&'static [u8], &'static [u8], u64);
 
-// The live rows, which take 519, 25, 515, 18 and 515 bytes; a removed x as well.
+// The live rows, which take 519, 25, 515, 18 and 515 bytes. There is a removed x as well.
 const ROWS: [RowVersion; 5] = [
     (b"a", b"net/a", 1),
     (b"a", b"net/b", 2),
@@ -76,7 +76,7 @@ fn place_of(rt: &impl Abort, place: Place) -> Option<(Name, Key)> {
     }
 }
 
-/// What is asked, of all owners where none is named.
+/// A question. It is for all owners if the text of the owner is empty.
 fn ask_of(rt: &impl Abort, owner: &[u8], under: &[u8], after: Place) -> Ask {
     Ask {
         owner: owner_of(rt, owner),
@@ -85,7 +85,7 @@ fn ask_of(rt: &impl Abort, owner: &[u8], under: &[u8], after: Place) -> Ask {
     }
 }
 
-/// The answer, where the budget is one.
+/// The answer. If the budget is not within its limits, the test ends.
 fn page_of(
     rt: &impl Abort,
     alloc: Global,
@@ -120,16 +120,16 @@ fn are_rows(rows: &[Row], wanted: &[usize]) -> bool {
     rows.len() == wanted.len()
 }
 
-/// Of a page: whether more follow, how many rows it has, and whether these are they.
+/// Of a page: whether more follow, how many rows it has, and whether they are the wanted ones.
 fn parts_of(page: &Rows, wanted: &[usize]) -> (bool, usize, bool) {
     let rows = page.rows();
     (page.more(), rows.len(), are_rows(rows, wanted))
 }
 
-/// Which rows a page is to have, and whether more are to follow.
+/// Which rows a page must have, and whether more must follow.
 type Wanted = (&'static [usize], bool);
 
-/// The page that is asked has just these rows.
+/// Tests that the page for a question has just these rows.
 fn page_is(
     rt: &impl Abort,
     alloc: Global,
@@ -143,7 +143,7 @@ fn page_is(
     same_at(rt, &(ask, budget), &found, &(more, rows.len(), true));
 }
 
-/// The first page within a budget.
+/// Tests the first page within a budget.
 fn first_is(
     rt: &impl Abort,
     alloc: Global,
@@ -156,7 +156,8 @@ fn first_is(
     page_is(rt, alloc, snapshot, &ask, budget, (rows, more));
 }
 
-/// All five make a frame of 1,602 bytes, four one of 1,087, three one of 1,069 and two one of 554.
+/// Tests first pages. All five rows make a frame of 1,602 bytes, four make one of 1,087, three one of 1,069, and two
+/// one of 554.
 fn first_pages(rt: &impl Abort, alloc: Global, snapshot: &Snapshot<'_>) {
     first_is(rt, alloc, snapshot, 65_536, &[0, 1, 2, 3, 4], false);
     first_is(rt, alloc, snapshot, 1_602, &[0, 1, 2, 3, 4], false);
@@ -168,7 +169,7 @@ fn first_pages(rt: &impl Abort, alloc: Global, snapshot: &Snapshot<'_>) {
     first_is(rt, alloc, snapshot, 1_024, &[0, 1], true);
 }
 
-/// The page behind a place within a budget.
+/// Tests the page after a place within a budget.
 fn behind_is(
     rt: &impl Abort,
     alloc: Global,
@@ -181,7 +182,7 @@ fn behind_is(
     page_is(rt, alloc, snapshot, &ask, budget, wanted);
 }
 
-/// In the middle of a. The last three rows make a frame of 1,058 bytes.
+/// Tests pages in the middle of a. The last three rows make a frame of 1,058 bytes.
 fn pages_within_a(rt: &impl Abort, alloc: Global, snapshot: &Snapshot<'_>) {
     behind_is(rt, alloc, snapshot, NET_A, 1_083, (&[1, 2, 3, 4], false));
     behind_is(rt, alloc, snapshot, NET_A, 1_082, (&[1, 2, 3], true));
@@ -195,7 +196,7 @@ fn pages_within_a(rt: &impl Abort, alloc: Global, snapshot: &Snapshot<'_>) {
     );
 }
 
-/// At the last key of a, its removed key, an owner that is not there, and the end.
+/// Tests pages after the last key of a, its removed key, an owner that is not there, and the end.
 fn pages_behind_a(rt: &impl Abort, alloc: Global, snapshot: &Snapshot<'_>) {
     behind_is(rt, alloc, snapshot, LAST_OF_A, 1_024, (&[3, 4], false));
     behind_is(rt, alloc, snapshot, (b"a", b"x"), 1_024, (&[3, 4], false));
@@ -211,7 +212,7 @@ fn pages_behind_a(rt: &impl Abort, alloc: Global, snapshot: &Snapshot<'_>) {
     behind_is(rt, alloc, snapshot, (b"c", b"a"), 1_024, (&[], false));
 }
 
-/// The last page under net/ behind a place.
+/// Tests the last page under net/ after a place.
 fn under_net_is(
     rt: &impl Abort,
     alloc: Global,
@@ -223,7 +224,7 @@ fn under_net_is(
     page_is(rt, alloc, snapshot, &ask, 1_024, (rows, false));
 }
 
-/// Under net/, behind nothing, a key of it, a key before it and one behind it.
+/// Tests pages under net/: from the beginning, and after a key under it, a key before it, and a key after it.
 fn pages_under_net(rt: &impl Abort, alloc: Global, snapshot: &Snapshot<'_>) {
     under_net_is(rt, alloc, snapshot, NOWHERE, &[0, 1, 3]);
     under_net_is(rt, alloc, snapshot, NET_A, &[1, 3]);
@@ -231,7 +232,7 @@ fn pages_under_net(rt: &impl Abort, alloc: Global, snapshot: &Snapshot<'_>) {
     under_net_is(rt, alloc, snapshot, LAST_OF_A, &[3]);
 }
 
-/// The last page of one owner behind a place.
+/// Tests the last page of one owner after a place.
 fn of_one_is(
     rt: &impl Abort,
     alloc: Global,
@@ -244,7 +245,7 @@ fn of_one_is(
     page_is(rt, alloc, snapshot, &ask, 1_024, (rows, false));
 }
 
-/// Of one owner, behind places of its own and of others.
+/// Tests pages of one owner, after places of its own and of others.
 fn pages_of_one(rt: &impl Abort, alloc: Global, snapshot: &Snapshot<'_>) {
     of_one_is(rt, alloc, snapshot, b"a", NET_A, &[1, 2]);
     of_one_is(rt, alloc, snapshot, b"b", LAST_OF_A, &[3, 4]);
@@ -253,7 +254,7 @@ fn pages_of_one(rt: &impl Abort, alloc: Global, snapshot: &Snapshot<'_>) {
     of_one_is(rt, alloc, snapshot, b"c", NOWHERE, &[]);
 }
 
-/// Each page that is asked has its rows.
+/// Tests that the page for each question has its rows.
 pub(crate) fn rows_are_answered(rt: &impl Abort, alloc: Global, snapshot: &Snapshot<'_>) {
     first_pages(rt, alloc, snapshot);
     pages_within_a(rt, alloc, snapshot);
@@ -278,7 +279,7 @@ fn pages_follow_one_another(rt: HostRuntime) {
     read(&rt, rt.alloc(), &holdings, Look::Following);
 }
 
-/// The version of the first row, 0 where there is none.
+/// The version of the first row, or 0 if there is none.
 fn first_version(rows: &[Row]) -> u64 {
     match rows.first() {
         Some(row) => row.version(),
@@ -286,14 +287,15 @@ fn first_version(rows: &[Row]) -> u64 {
     }
 }
 
-/// Asks for the page behind this one.
+/// Asks for the page after this one.
 fn ask_behind(ask: &mut Ask, rows: &[Row]) {
     if let Some(last) = rows.last() {
         ask.after = Some((*last.owner(), *last.key()));
     }
 }
 
-/// How many rows a page has, whether more follow, and the version of its first, 0 where there is none. Then the next is asked.
+/// How many rows a page has, whether more follow, and the version of its first row, or 0. Then the question is for the
+/// next page.
 fn turn(
     rt: &impl Abort,
     alloc: Global,
@@ -305,7 +307,7 @@ fn turn(
     (page.rows().len(), page.more(), first_version(page.rows()))
 }
 
-/// At 16 bytes a row a frame of 1,024 has 63, and so 315 rows make five pages.
+/// Tests that pages follow one another. At 16 bytes a row, a frame of 1,024 bytes has 63, so 315 rows make five pages.
 pub(crate) fn pages_follow(rt: &impl Abort, alloc: Global, snapshot: &Snapshot<'_>) {
     let mut ask = ask_of(rt, b"", b"", NOWHERE);
     for number in 1..6u64 {
@@ -315,7 +317,7 @@ pub(crate) fn pages_follow(rt: &impl Abort, alloc: Global, snapshot: &Snapshot<'
     same(rt, &turn(rt, alloc, snapshot, &mut ask), &(0, false, 0));
 }
 
-// A text, whose line is as it is spelled.
+// A text. Its line is as it is spelled.
 const A_TEXT: making::RowParts = (b"a", b"t", 1, (b"text", b" two\\0awords "));
 
 // A weight, an address and a flag: lines of 19, 16 and 16 bytes.
@@ -335,14 +337,14 @@ fn page_of_a_text(rt: &impl Abort, alloc: Global) -> Rows {
     got(rt, Rows::new(false, rows_of(rt, alloc, &[A_TEXT])))
 }
 
-/// These are the lines of a page.
+/// Tests that these are the lines of a page.
 fn is_printed(rt: &impl Abort, alloc: Global, page: &Rows, wanted: &[u8]) {
     let mut lines = Vec::new(alloc);
     let printed = print_rows(alloc, &mut lines, page);
     has_lines(rt, printed, &lines, wanted);
 }
 
-/// No rows make no lines.
+/// Tests that no rows make no lines.
 fn no_rows_are_printed(rt: &impl Abort, alloc: Global) {
     is_printed(rt, alloc, &got(rt, Rows::new(false, Vec::new(alloc))), b"");
 }
@@ -365,7 +367,7 @@ fn a_page_is_printed(rt: HostRuntime) {
     no_rows_are_printed(&rt, alloc);
 }
 
-/// How the printing of three rows ends at a writer that closes behind so many bytes.
+/// How printing three rows ends at a writer that closes after so many bytes.
 fn ended_behind(rt: &impl Abort, alloc: Global, left: usize) -> Ended {
     let page = page_of_three(rt, alloc);
     settled(rt, print_rows(alloc, &mut FailingWriter::new(left), &page))

@@ -1,4 +1,5 @@
-//! What no clause says: that a word, a number, a value and a row are added where there is memory. And the example of `sb_printing`.
+//! What no clause promises: that a word, a number, a value and a row are added if there is memory. And the example of
+//! `sb_printing`.
 use crate::making::{Words, key, rows_of, value_of, weight};
 use crate::{got, same};
 use sb_printing::{add_number, add_value, add_word};
@@ -14,7 +15,7 @@ fn begun(rt: &impl Abort, alloc: Global) -> Vec<u8> {
     out
 }
 
-/// A word makes this of a line that has begun.
+/// Tests that a word added to a line that has begun makes this.
 fn word_makes(rt: &impl Abort, alloc: Global, word: &[u8], end: u8, wanted: &[u8]) {
     let mut out = begun(rt, alloc);
     got(rt, add_word(&mut out, word, end));
@@ -28,7 +29,7 @@ fn a_word_is_added(rt: HostRuntime) {
     word_makes(&rt, alloc, b"web/weight", b'\n', b"a web/weight\n");
 }
 
-/// The same of a number.
+/// The same for a number.
 fn number_makes(rt: &impl Abort, alloc: Global, number: u64, wanted: &[u8]) {
     let mut out = begun(rt, alloc);
     got(rt, add_number(&mut out, number, b'\n'));
@@ -43,7 +44,7 @@ fn a_number_is_added(rt: HostRuntime) {
     number_makes(&rt, alloc, u64::MAX, b"a 18446744073709551615\n");
 }
 
-/// The same of the value of these words.
+/// The same for the value of these words.
 fn value_makes(rt: &impl Abort, alloc: Global, words: Words, wanted: &[u8]) {
     let mut out = begun(rt, alloc);
     got(rt, add_value(&mut out, &value_of(rt, alloc, words)));

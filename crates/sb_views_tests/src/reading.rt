@@ -1,4 +1,4 @@
-//! A reader of a node whose views were just made, and what it is to find.
+//! A reader of a node whose views were just made, and what it must find.
 ghost use Rattle.std.specs.Prelude.{◌≡◌};
 
 use crate::examples::{key_is_looked_up, rows_are_counted, rows_are_printed};
@@ -16,23 +16,23 @@ use std::sync::Wait;
 /// What a reader looks at.
 #[derive(Clone, Copy)]
 pub(crate) enum Look {
-    /// What stands under keys, and rows in order.
+    /// What is under keys, and rows in order.
     Live,
-    /// How far owners are held that have no entry of that version.
+    /// How far owners are held without an entry of that version.
     Beyond,
-    /// Pages at exact budgets and behind places.
+    /// Pages at exact budgets and after places.
     Pages,
     /// Pages that follow one another.
     Following,
-    /// What stands under one key.
+    /// What is under one key.
     Key,
     /// How many rows there are under a prefix.
     Count,
-    /// The rows under a prefix, which are printed.
+    /// The rows under a prefix, as they are printed.
     Print,
 }
 
-/// Makes the views of what is held, and has a reader look at them.
+/// Makes the views of what is held, and makes a reader look at them.
 pub(crate) fn read<R: Wait + Abort>(rt: &R, alloc: Global, holdings: &Holdings, look: Look) {
     read_on::<Brand, _>(rt, alloc, NewHistory::new(), holdings, look);
 }

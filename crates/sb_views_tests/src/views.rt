@@ -1,4 +1,4 @@
-//! Pages by a run of writes, and a write that is shown once it is published.
+//! Views after a run of writes, and a write that is shown when it is published.
 
 ghost use Rattle.std.specs.Prelude.{◌≡◌, ◌+◌, []};
 ghost use Rattle.sb_holdings.specs.Held.{shown_of};
@@ -17,7 +17,7 @@ use std::marker::Brand;
 use std::process::Abort;
 use std::sync::Wait;
 
-// A write of a weight, or its removal where there is none.
+// A write of a weight, or a removal if there is none.
 #[derive(Clone, Copy)]
 pub(crate) struct Case {
     key: &'static [u8],
@@ -69,12 +69,12 @@ fn block_of_b(rt: &impl Abort, alloc: Global) -> Block {
     got(rt, Block::new(name(rt, b"b"), 0, 0, OF_B.version, entries))
 }
 
-/// A write of the node is entered.
+/// Enters a write of the node.
 fn enter(rt: &impl Abort, holdings: &mut Holdings, case: Case) {
     got(rt, holdings.push_own(entry_of(rt, case)));
 }
 
-/// What the node a holds once it took the write of b and made its own but the removal.
+/// What the node a holds after it took the write of b and made its own writes, except the removal.
 fn before_removal(rt: &impl Abort, alloc: Global) -> Holdings {
     let mut holdings = holdings_of_a(rt, alloc);
     apply(rt, &mut holdings, &block_of_b(rt, alloc));
@@ -84,7 +84,7 @@ fn before_removal(rt: &impl Abort, alloc: Global) -> Holdings {
     holdings
 }
 
-/// What it holds behind the removal.
+/// What it holds after the removal.
 pub(crate) fn all_written(rt: &impl Abort, alloc: Global) -> Holdings {
     let mut holdings = before_removal(rt, alloc);
     enter(rt, &mut holdings, NET_B_REMOVED);
@@ -108,12 +108,12 @@ fn shown_under(snapshot: &Snapshot<'_>, owner: &Name, key: &Key) -> KeyFindings 
     (snapshot.upto(owner), weight_of(snapshot.get(owner, key)))
 }
 
-/// An owner is shown so far.
+/// Tests how far an owner is shown.
 pub(crate) fn is_upto(rt: &impl Abort, snapshot: &Snapshot<'_>, owner: &[u8], upto: u64) {
     same(rt, &snapshot.upto(&name(rt, owner)), &upto);
 }
 
-/// This weight and its version stand under an owner's key.
+/// Tests that this weight and its version are under an owner's key.
 pub(crate) fn is_found(
     rt: &impl Abort,
     snapshot: &Snapshot<'_>,
@@ -125,7 +125,7 @@ pub(crate) fn is_found(
     same(rt, &weight_of(snapshot.get(&owner, &key)), &found);
 }
 
-/// How far each owner is shown, and what stands under keys.
+/// Tests how far each owner is shown, and what is under keys.
 fn keys_are_shown(rt: &impl Abort, snapshot: &Snapshot<'_>) {
     is_upto(rt, snapshot, b"a", 4);
     is_upto(rt, snapshot, b"b", 1);
@@ -171,7 +171,8 @@ fn are_rows(mut rows: LiveRows<'_>, wanted: &[RowVersion]) -> bool {
     rows.next().is_none()
 }
 
-/// Just these rows of an owner come under a prefix, in order; of all owners where none is named.
+/// Tests that just these rows of an owner come under a prefix, in order. If the text of the owner is empty, they are
+/// those of all owners.
 fn rows_are(
     rt: &impl Abort,
     snapshot: &Snapshot<'_>,
@@ -183,7 +184,7 @@ fn rows_are(
     holds(rt, "its rows come in order", are_rows(rows, wanted));
 }
 
-/// The rows of each that is asked.
+/// Tests the rows for each question.
 fn rows_come_in_order(rt: &impl Abort, snapshot: &Snapshot<'_>) {
     rows_are(rt, snapshot, b"", b"", &OF_ALL);
     rows_are(rt, snapshot, b"", b"net/", &UNDER_NET);
@@ -209,7 +210,7 @@ fn is_owner(found: Option<(&Name, &OwnerView)>, wanted: OwnerParts) -> bool {
     }
 }
 
-/// The view of each owner of whom something is held comes once, in order.
+/// Tests that the view of each owner that the node holds comes once, in order.
 fn owners_come_in_order(rt: &impl Abort, snapshot: &Snapshot<'_>) {
     let mut owners = snapshot.owners();
     holds(rt, "the view of a", is_owner(owners.next(), OWNER_A));
@@ -243,10 +244,10 @@ fn a_removal_is_shown_once_published(rt: HostRuntime) {
     same(&rt, &seen, &[((3, Some((1, 1))), 0), ((4, None), 1)]);
 }
 
-/// What a reader sees of a key, and of how many events.
+/// What a reader sees of a key, and how many events it has seen.
 pub(crate) type ReaderFindings = (KeyFindings, u64);
 
-/// What is seen under the key of a write behind what is held, before it is published and then.
+/// What a reader sees under the key of the next write, before it is published and after that.
 fn publish_behind<R: Wait + Abort>(
     rt: &R,
     alloc: Global,
@@ -312,7 +313,7 @@ fn append_own<S: NodeTag, R: Wait + Abort>(
     }
 }
 
-/// What a reader sees before all is published, and then.
+/// What a reader sees before all is published, and after that.
 pub(crate) fn look_around<S: NodeTag, R: Wait + Abort>(
     rt: &R,
     writer: &mut ViewWriter<S, &R>,
@@ -368,11 +369,11 @@ fn events_to_add(rt: &impl Abort, alloc: Global) -> Events {
     }
 }
 
-/// Whether an event was added, and then whether the history is that of another.
+/// Whether an event was added, and whether the history is then the same as another.
 type Added = (bool, bool);
 
-/// What comes of adding the own write to two fronts, and the delta to the second, and how many events the first
-/// history and these two have then.
+/// Adds the own write to two prefixes, and the delta to the second. Returns what came of each, and then how many events
+/// the first history and these two have.
 fn add_events<S: NodeTag>(new_history: NewHistory, events: &Events) -> ([Added; 3], (u64, u64, u64))
     requires { new_history.seen.book ≡ S.history }
 {
@@ -399,7 +400,7 @@ fn add_write<S: NodeTag>(
     )
 }
 
-/// Adds nothing where there is not just one event.
+/// Adds nothing unless there is just one event.
 fn add_delta<S: NodeTag>(
     head: &HistoryHead<S>,
     history: &mut HistoryPrefix<S>,

@@ -1,4 +1,4 @@
-//! Watches by small cases.
+//! Watches in small cases.
 
 use crate::making::{key, name, owner_of, prefix};
 use crate::{got, holds, same, same_at};
@@ -24,7 +24,7 @@ fn all_notes(rt: &impl Abort) -> [Note; 5] {
     ]
 }
 
-/// Adds a watch of an owner under a prefix; of all owners where none is named.
+/// Adds a watch of an owner under a prefix. If the text of the owner is empty, it is for all owners.
 fn watch(
     rt: &impl Abort,
     hub: &mut Hub,
@@ -54,7 +54,7 @@ fn note_at(notes: &[Note], place: usize) -> Option<Polled> {
     }
 }
 
-/// Lagged once where some were lost, then the notes at these places, then none.
+/// Tests what a watch answers: Lagged once if some notes were lost, then the notes at these places, then nothing.
 fn answers_are(
     rt: &impl Abort,
     hub: &mut Hub,
@@ -72,7 +72,7 @@ fn answers_are(
     same(rt, &[hub.take(id), hub.take(id)], &[Ok(Polled::Empty); 2]);
 }
 
-/// Four watches under net/ or of all, which may lose notes.
+/// Four watches under net/ or of all keys, which can lose notes.
 fn watch_some(rt: &impl Abort, hub: &mut Hub) -> [WatchId; 4] {
     [
         got(rt, watch(rt, hub, b"a", b"net/", 2)),
@@ -127,7 +127,7 @@ fn watches_keep_the_last_notes(rt: HostRuntime) {
     others_answer(&rt, &mut hub, others, &notes);
 }
 
-/// What a watch with room for two notes answers behind the third, and behind the last.
+/// What a watch with room for two notes answers after the third note, and after the last.
 fn answers_between(rt: &impl Abort, hub: &mut Hub, notes: [Note; 5]) -> [Result<Polled, Fault>; 5] {
     let [first, second, third, fourth, last] = notes;
     let id = added(rt, hub, 2);
@@ -143,7 +143,7 @@ fn answers_between(rt: &impl Abort, hub: &mut Hub, notes: [Note; 5]) -> [Result<
     ]
 }
 
-// The fourth note pushes out the second after the first was answers as lost, and so on.
+// The fourth note pushes out the second after the first was reported as lost, and so on.
 #[test]
 fn lost_notes_are_told_once(rt: HostRuntime) {
     let found = answers_between(&rt, &mut Hub::new(rt.alloc()), all_notes(&rt));
@@ -173,7 +173,7 @@ fn capacities_are_1_to_1024(rt: HostRuntime) {
     holds(&rt, "both stand", hub.has(least) && hub.has(greatest));
 }
 
-/// Adds watches until 64 stand, and gives the first.
+/// Adds watches until there are 64. Returns the first.
 fn fill(rt: &impl Abort, hub: &mut Hub) -> WatchId {
     let first = added(rt, hub, 1);
     for _ in 1..64 {
@@ -182,14 +182,14 @@ fn fill(rt: &impl Abort, hub: &mut Hub) -> WatchId {
     first
 }
 
-/// Two more are refused where 64 stand.
+/// Tests that two more are refused if there are 64.
 fn are_full(rt: &impl Abort, hub: &mut Hub) {
     let refused = [watch_all(rt, hub, 1), watch_all(rt, hub, 0)];
     let wanted = [Err(Fault::WatchesFull), Err(Fault::BadSetting)];
     same(rt, &refused, &wanted);
 }
 
-/// Drops a watch and adds another, which stands and is not the first.
+/// Drops a watch and adds another. Tests that the new one exists and is not the first.
 fn replaced(rt: &impl Abort, hub: &mut Hub, first: WatchId) -> WatchId {
     let dropped = hub.drop_watch(first);
     let last = added(rt, hub, 1);

@@ -1,4 +1,4 @@
--- What a run of the machine keeps, claim by claim.
+-- What is true of a run of the machine, claim by claim.
 use Rattle.std.specs.Prelude.{◌≡◌, ◌⊎◌, ℕ, ◌≤◌, true, false, List, [], ◌∷◌, ◌++◌, length, map, take, Option, Some, None, IfSome, IsSomeAnd, Result, Ok, Err}
 use Rattle.sb_types.specs.declared.entry.Slot.TheVariants.{Set, Removed}
 use Rattle.sb_types.specs.declared.entry.Write.{Write}
@@ -28,7 +28,7 @@ use Rattle.sb_world.specs.Connecting.{fed, listener, heard_by, connections_after
 use Rattle.sb_world.specs.Turns.{with_core}
 use Rattle.sb_world.specs.States.{State, Run, FitsWorld, last_of}
 
--- ---- of each state, and of each step
+-- ---- for each state, and for each step
 
 abbrev pub EachState : (State → Type 0) → State → List State → Type 0
 EachState P first [] = P first
@@ -40,16 +40,16 @@ EachStep P old [] answers states = Unit {0}
 EachStep P old (event ∷ events) [] states = Unit {0}
 EachStep P old (event ∷ events) (answer ∷ answers) [] = Unit {0}
 
--- ---- what is given was written under that version
+-- ---- what a reader is given was written under that version
 
 abbrev pub GivenIsWritten : State → Event → Result Answer Fault → State → Type 0
 GivenIsWritten old event answer new =
     (me owner key : List ℕ) (value : Value) (version : ℕ) → event ≡ Read me owner key → answer ≡ Ok (answers.Shown (Some (value, version))) →
     Written (new.writes owner) (record { key = key; version = version; slot = Set value })
 
--- ---- a reader that holds an owner up to a version gets of each key that was last written at or below it exactly that write
+-- ---- a reader that holds an owner up to a version gets, of each key last written at or below it, exactly that write
 
--- look-up at a node finds it
+-- look-up at this node finds it
 abbrev pub IsExactAt : (List ℕ → List Write) → Place → Type 0
 IsExactAt writes p =
     (owner : List ℕ) (e : Entry) → Written (writes owner) e → (Superseded (writes owner) e → ⊥) → e.version ≤ (shown_of p.core.node.held owner).held →
@@ -59,47 +59,47 @@ IsExactAt writes p =
 abbrev pub IsExact : State → Type 0
 IsExact s = (name : List ℕ) → IfSome (place_at s.now.places name) (IsExactAt s.writes)
 
--- a reader is shown this, unless the node is down or memory is wanting
+-- a reader is shown this, unless the node is down or memory is missing
 abbrev pub IsShown : Option (Value × ℕ) → Place → Result Answer Fault → Type 0
 IsShown found p answer = (answer ≡ Ok (answers.Shown found)) ⊎ ((answer ≡ Err NoMemory) ⊎ ((p.is_up ≡ false) × (answer ≡ Err Closed)))
 
--- a read of a key that was last written at or below the version up to which its node holds the owner shows exactly that write
+-- a read of a key shows exactly its last write, if its node holds the owner up to that write
 abbrev pub ReadIsExact : State → Event → Result Answer Fault → State → Type 0
 ReadIsExact old event answer new =
     (me owner : List ℕ) (e : Entry) → event ≡ Read me owner e.key → Written (old.writes owner) e → (Superseded (old.writes owner) e → ⊥) →
     IfSome (place_at old.now.places me) (λ p. e.version ≤ (shown_of p.core.node.held owner).held → IsShown (shown_slot e.version e.slot) p answer)
 
--- so it is of each read, and of look-up in each state
+-- this holds for each read, and for look-up in each state
 abbrev pub AreExact : State → List Event → List (Result Answer Fault) → List State → Type 0
 AreExact old events answers states = EachStep ReadIsExact old events answers states × EachState IsExact old states
 
 -- ---- whatever joins on is taken up
 
--- by the table that is shown where it joins on there, and by the stage where it joins on there
+-- the shown table takes up a block that joins on to it, and the stage one that joins on to the stage
 abbrev pub BlockIsTakenUp : Node → Block → BlockEnd → Type 0
 BlockIsTakenUp node b end =
     (JoinsOn node.held b → IsTakenUp node b end (node_after_block node b end))
     × ((s : Stage) → JoinsStage node.held b s → IsStagedUp node b s end (node_after_block node b end))
 
--- each block in its turn, at the node that the blocks before it left
+-- each block in its turn, at the node as the blocks before it left it
 abbrev pub AreTakenUp : Node → List Block → List BlockEnd → Node → Type 0
 AreTakenUp node [] [] new = new ≡ node
 AreTakenUp node [] (end ∷ ends) new = ⊥
 AreTakenUp node (b ∷ bs) [] new = ⊥
 AreTakenUp node (b ∷ bs) (end ∷ ends) new = BlockIsTakenUp node b end × AreTakenUp (node_after_block node b end) bs ends new
 
--- and each delta in its turn
+-- each delta in its turn
 abbrev pub AllTakenUp : Node → List Call → Node → Type 0
 AllTakenUp node [] new = new ≡ node
 AllTakenUp node (TookOwn e ∷ calls) new = ⊥
 AllTakenUp node (Applied blocks ends ∷ calls) new = (mid : Node) × AreTakenUp node blocks ends mid × AllTakenUp mid calls new
 
--- what has come is the frames of these messages, and then a rest that begins with no message's frame and is kept
+-- what has come is the frames of these messages, and then a rest, which begins with no message's frame and is kept
 abbrev pub HaveCome : Stream → List Message → Stream → Type 0
 HaveCome (open_with came) messages new = (rest : List ℕ) × Splits came messages rest × (new ≡ open_with rest)
 HaveCome shut messages new = ⊥
 
--- the messages of a piece that have come whole are heard, and each delta among them is taken up
+-- the node hears the messages of a piece that have come whole, and takes up each delta among them
 pub record TakesPiece (old : Seen) (number count : ℕ) (c : Connection) (p : Place) (answer : Result Answer Fault) (new : Seen) : Type 0 where
   pub heard : List Heard
   pub mid : Listener
@@ -107,22 +107,22 @@ pub record TakesPiece (old : Seen) (number count : ℕ) (c : Connection) (p : Pl
   pub fault : Option Fault
   pub items : List Item
   pub frames : List (List ℕ)
-  -- each is heard in its turn
+  -- it hears each in its turn
   pub hears : Hears (listener p.core c count) heard mid
-  -- where no fault is told these are all that have come whole
+  -- if no fault is reported, these are all that have come whole
   pub whole : fault ≡ None → HaveCome (fed c.stream (take count c.left)) (map (λ (h : Heard). h.message) heard) last.stream
-  -- a fault is that of the next, or memory was wanting
+  -- a fault is that of the next message, or memory was missing
   pub tells : Tells (length old.sent) heard mid last fault items frames
-  -- what is told is the answer, and what is replied is sent
+  -- the items and the fault are the answer, and the replies are sent
   pub answered : answer ≡ Ok (answers.Delivered items fault)
   pub sent : new.sent ≡ old.sent ++ frames
-  -- the bytes behind the piece are still to come, and a fault closes the connection
+  -- the bytes after the piece are still to come, and a fault closes the connection
   pub left : new.connections ≡ connections_after fault old.connections number (heard_by c count last)
-  -- each delta is taken up, and so the node is left
+  -- each delta is taken up, and this is how the node is left
   pub taken : AllTakenUp p.core.node (calls_in heard) last.core.node
   pub node : place_at new.places c.me ≡ Some (with_core p last.core)
 
--- each piece of a connection is taken so at its node, unless that is down
+-- a node takes each piece of a connection so, unless it is down
 abbrev pub JoinedIsTaken : State → Event → Result Answer Fault → State → Type 0
 JoinedIsTaken old event answer new =
     (number count : ℕ) → event ≡ Piece number count →
@@ -131,13 +131,13 @@ JoinedIsTaken old event answer new =
 
 -- ---- within a node's run no version falls
 
--- a node's run lies between two openings of it
+-- a node's run is from one opening to the next
 abbrev pub FallsNowhere : State → State → Type 0
 FallsNowhere old new =
     (name : List ℕ) → IfSome (place_at old.now.places name) (λ p. IfSome (place_at new.now.places name) (λ q.
     (old.past name).openings ≡ (new.past name).openings → NodeLater p.core.node q.core.node))
 
--- of each state and each later one
+-- for each state and each later one
 abbrev pub NothingFallsIn : List State → Type 0
 NothingFallsIn [] = Unit {0}
 NothingFallsIn (state ∷ states) = ((later : State) → Stands states later → FallsNowhere state later) × NothingFallsIn states
@@ -160,7 +160,7 @@ pub record IsRemoved (writes : List Write) (key : List ℕ) (version : ℕ) : Ty
   pub written : Written writes (removal_of key version)
   pub last : Superseded writes (removal_of key version) → ⊥
 
--- a node that holds the owner up to it shows nothing of the key
+-- a node that holds the owner up to that version shows nothing of the key
 abbrev pub HidesRemovedAt : (List ℕ → List Write) → Place → Type 0
 HidesRemovedAt writes p =
     (owner key : List ℕ) (version : ℕ) → IsRemoved (writes owner) key version → version ≤ (shown_of p.core.node.held owner).held →
@@ -170,23 +170,23 @@ HidesRemovedAt writes p =
 abbrev pub HidesRemoved : State → Type 0
 HidesRemoved s = (name : List ℕ) → IfSome (place_at s.now.places name) (HidesRemovedAt s.writes)
 
--- and a read of the key there gives nothing
+-- a read of the key there gives nothing
 abbrev pub RemovedIsNotRead : State → Event → Result Answer Fault → State → Type 0
 RemovedIsNotRead old event answer new =
     (me owner key : List ℕ) (version : ℕ) → event ≡ Read me owner key → IsRemoved (old.writes owner) key version →
     IfSome (place_at old.now.places me) (λ p. version ≤ (shown_of p.core.node.held owner).held → IsShown None p answer)
 
--- so it is of each read, and of look-up in each state, whatever frames come
+-- this holds for each read, and for look-up in each state, whatever frames come
 abbrev pub StayRemoved : State → List Event → List (Result Answer Fault) → List State → Type 0
 StayRemoved old events answers states = EachStep RemovedIsNotRead old events answers states × EachState HidesRemoved old states
 
 -- ---- what was purged is gone
 
--- no removal up to its floor stands in the table
+-- the table has no tombstone at or below its floor
 abbrev pub IsPurged : Table → Type 0
 IsPurged t = (e : Entry) → Stands t.entries e → Gone t.floor e → ⊥
 
--- neither in what the log of a node has, where it stands, nor in a table that the node shows
+-- neither the content of the node's log, if it is open, nor a table that the node shows has one
 abbrev pub ArePurgedAt : Place → Type 0
 ArePurgedAt p = (p.log.is_open ≡ true → IsPurged p.log.content) × ((owner : List ℕ) → IsPurged (shown_of p.core.node.held owner))
 
@@ -194,19 +194,19 @@ ArePurgedAt p = (p.log.is_open ≡ true → IsPurged p.log.content) × ((owner :
 abbrev pub ArePurged : State → Type 0
 ArePurged s = (name : List ℕ) → IfSome (place_at s.now.places name) ArePurgedAt
 
--- a purge that is answered leaves the node down, and its log of that floor or of a higher one
+-- a purge that is answered leaves the node down, and its log open with that floor or a higher one
 abbrev pub PurgeIsDone : Event → Result Answer Fault → State → Type 0
 PurgeIsDone event answer new =
     (me : List ℕ) (floor told : ℕ) → event ≡ Purge me floor → answer ≡ Ok (answers.Purged told) →
     (told ≡ floor) × IsSomeAnd (place_at new.now.places me) (λ p. (p.is_up ≡ false) × (p.log.is_open ≡ true) × (floor ≤ p.log.content.floor))
 
--- a restart that is answered opens the node with what its log has
+-- a restart that is answered opens the node with the content of its log
 abbrev pub RestartIsOfLog : Event → Result Answer Fault → State → Type 0
 RestartIsOfLog event answer new =
     (me : List ℕ) (version : ℕ) → event ≡ Restart me → answer ≡ Ok (answers.Restarted version) →
     IsSomeAnd (place_at new.now.places me) (λ p. (p.log.is_open ≡ true) × (p.core.node ≡ opened_node me p.log.content))
 
--- a log that stands stood before, and its floor did not fall
+-- a log that is open was open before, and its floor did not fall
 abbrev pub FloorsStay : State → State → Type 0
 FloorsStay old new =
     (name : List ℕ) → IfSome (place_at old.now.places name) (λ p. IfSome (place_at new.now.places name) (λ q.
@@ -217,11 +217,11 @@ pub record KeepsPurged (old : State) (event : Event) (answer : Result Answer Fau
   pub opened : RestartIsOfLog event answer new
   pub stays : FloorsStay old new
 
--- so it is of each step, and of each state
+-- this holds for each step, and for each state
 abbrev pub StayPurged : State → List Event → List (Result Answer Fault) → List State → Type 0
 StayPurged old events answers states = EachStep KeepsPurged old events answers states × EachState ArePurged old states
 
--- ---- all of them, of one run
+-- ---- all claims about one run
 
 pub record Promise (old : State) (events : List Event) (answers : List (Result Answer Fault)) (states : List State) : Type 0 where
   pub given : EachStep GivenIsWritten old events answers states
@@ -229,11 +229,11 @@ pub record Promise (old : State) (events : List Event) (answers : List (Result A
   pub taken : EachStep JoinedIsTaken old events answers states
   pub later : NothingFalls old states
   pub budget : EachState IsWithinBudget old states
-  -- and what purging adds
+  -- what purging adds
   pub removed : StayRemoved old events answers states
   pub purged : StayPurged old events answers states
 
--- ---- a claim on every run from a state that fits the world, as long as each store keeps its promise
+-- ---- a claim about every run from a state that fits the world, as long as each store keeps its promise
 
 abbrev pub OnEachRun : Seen → List Event → List (Result Answer Fault) → (State → List State → Type 0) → Type 0
 OnEachRun world events answers claim =

@@ -1,4 +1,4 @@
--- What is done with connections.
+-- What a node does with its connections.
 use Rattle.std.specs.Prelude.{◌≡◌, ℕ, ◌≤◌, true, List, [], ◌∷◌, ◌++◌, ◌⊎◌, length, take, drop, Option, Some, None, Result, Ok, Err}
 use Rattle.sb_types.specs.declared.fault.Fault.{Fault}
 use Rattle.sb_types.specs.declared.fault.Fault.TheVariants.{NoMemory}
@@ -24,7 +24,7 @@ Stays p conns answer turn new = (turn ≡ still p answer) × (new ≡ conns)
 
 -- ---- it begins
 
--- its session is of the node, in the cluster of its settings, and nothing has come or is lined up
+-- its session is of the node, in the cluster of its settings, and nothing has come or is in the queue
 abbrev pub begun : Place → Session
 begun p = new_session p.core.settings.cluster p.me
 
@@ -45,7 +45,7 @@ abbrev pub Closes : Option Connection → Place → ℕ → List Connection → 
 Closes None p number conns turn new = Stays p conns (Ok answers.Nothing) turn new
 Closes (Some c) p number conns turn new = (turn ≡ still p (Ok answers.Shut)) × (new ≡ without_connection conns number)
 
--- ---- a frame is lined up
+-- ---- a frame enters the queue
 
 abbrev pub lined : Connection → List ℕ → Connection
 lined c bytes = record { number = c.number; me = c.me; session = c.session; stream = c.stream; left = c.left ++ bytes }
@@ -62,7 +62,7 @@ LinesUp (Some c) (Some bytes) p number conns turn new =
 abbrev pub in_session : Connection → Session → Connection
 in_session c session = record { number = c.number; me = c.me; session = session; stream = c.stream; left = c.left }
 
--- the next digest is sent, or nothing is
+-- the next digest is sent, or nothing
 abbrev pub Asked : Result Message Fault → Place → Connection → Session → ℕ → List Connection → List (List ℕ) → Turn → List Connection → Type 0
 Asked (Err fault) p c session number conns sent turn new = Stays p conns (Err fault) turn new
 Asked (Ok message) p c session number conns sent turn new =
@@ -81,7 +81,7 @@ abbrev pub fed : Stream → List ℕ → Stream
 fed (open_with held) piece = open_with (held ++ piece)
 fed shut piece = shut
 
--- the node at the connection, with the next bytes of the line
+-- the node at the connection, with the next bytes of the queue
 abbrev pub listener : Core → Connection → ℕ → Listener
 listener core c count = listener_of core c.session (fed c.stream (take count c.left))
 
@@ -101,7 +101,7 @@ piece_turn p piece heard items fault core frames = record {
   frames = frames;
 }
 
--- each message that has come whole is taken, and each reply is sent, up to the first fault
+-- the node takes each message that has come whole, and sends each reply, up to the first fault
 pub record Delivers (p : Place) (c : Connection) (number count : ℕ) (conns : List Connection) (sent : List (List ℕ)) (turn : Turn) (new : List Connection) : Type 0 where
   pub heard : List Heard
   pub mid : Listener

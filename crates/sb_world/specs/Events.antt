@@ -11,7 +11,7 @@ use Rattle.sb_world.specs.Places.{Place, Seen, place_at, frame_at}
 use Rattle.sb_world.specs.Turns.{Turn, still, Commits, TakesFirst, Crashes, Purges, Restarts, Offers}
 use Rattle.sb_world.specs.Connecting.{Connects, Closes, LinesUp, AsksOn, Pieces}
 
--- the node of a connection, where that is there
+-- the node of a connection, if that exists
 abbrev pub node_at : List Connection → ℕ → Option (List ℕ)
 node_at conns number = option_map (λ (c : Connection). c.me) (connection_at conns number)
 
@@ -34,7 +34,7 @@ node_of conns (Upto me owner) = Some me
 abbrev pub place_for : Seen → Event → Option Place
 place_for world event = option_and_then (place_at world.places) (node_of world.connections event)
 
--- what comes of an event at its node, and the connections that are left: those of a node go when it goes down or opens anew
+-- what comes of an event at its node, and the connections that are left: a node's own go if it goes down or opens again
 abbrev pub Acts : Event → Place → List Connection → List (List ℕ) → Turn → List Connection → Type 0
 Acts (Commit me key slot) p conns sent turn new = Commits p key slot turn × (new ≡ conns)
 Acts (Take me) p conns sent turn new = TakesFirst p p.waiting turn × (new ≡ conns)
@@ -51,7 +51,7 @@ Acts (Read me owner key) p conns sent turn new =
     ((turn ≡ still p (Err NoMemory)) ⊎ (turn ≡ still p (Ok (answers.Shown (shown_at key (shown_of p.core.node.held owner).entries))))) × (new ≡ conns)
 Acts (Upto me owner) p conns sent turn new = (turn ≡ still p (Ok (answers.Number (shown_of p.core.node.held owner).held))) × (new ≡ conns)
 
--- a node that is down restarts, and does nothing else
+-- a node that is down answers to a restart, and to nothing else
 abbrev pub answers_to : Event → Bool → Bool
 answers_to (Commit me key slot) is_up = is_up
 answers_to (Take me) is_up = is_up

@@ -1,4 +1,4 @@
--- What a node hears on a connection, message by message, and what it answers.
+-- What a node hears on a connection, message by message, and how it replies.
 use Rattle.std.specs.Prelude.{◌≡◌, ℕ, ◌+◌, Bool, true, false, List, [], ◌∷◌, ◌++◌, ◌⊎◌, length, map, Option, Some, None, Result, Ok, Err}
 use Rattle.std.specs.List.{flat_map, list_all}
 use Rattle.sb_types.specs.declared.fault.Fault.{Fault}
@@ -33,7 +33,7 @@ pub record Heard : Type 0 where
   pub message : Message
   pub replies : Replies
 
--- the next message is taken out of what came, and the session takes it; what it replies keeps the limits of messages
+-- the next message is taken out of what came, and the session takes it; its replies keep the limits of messages
 abbrev pub HearsNext : Listener → Heard → Listener → Type 0
 HearsNext a h b =
     TakesNext a.stream (Ok (Some h.message)) b.stream × Takes Steps a.session a.core h.message (Ok h.replies) b.session b.core
@@ -43,18 +43,18 @@ abbrev pub Hears : Listener → List Heard → Listener → Type 0
 Hears a [] b = b ≡ a
 Hears a (h ∷ hs) b = (mid : Listener) × HearsNext a h mid × Hears mid hs b
 
--- no whole message is left; or the next can't be taken out, or the session refuses it
+-- no whole message is left; or the next cannot be taken out, or the session refuses it
 abbrev pub Ends : Listener → Option Fault → Listener → Type 0
 Ends a None b = TakesNext a.stream (Ok None) b.stream × (b.session ≡ a.session) × (b.core ≡ a.core)
 Ends a (Some fault) b =
     (TakesNext a.stream (Err fault) b.stream × (b.core ≡ a.core))
     ⊎ ((message : Message) × (rest : Stream) × TakesNext a.stream (Ok (Some message)) rest × Takes Steps a.session a.core message (Err fault) b.session b.core)
 
--- the deltas that were applied
+-- the calls that applied the deltas among these messages
 abbrev pub calls_in : List Heard → List Call
 calls_in heard = flat_map (λ (h : Heard). taken_of h.message h.replies) heard
 
--- the events of the node that these are
+-- the events of the node by these calls
 abbrev pub events_in : List Heard → List NodeEvent
 events_in heard = flat_map events_of (calls_in heard)
 
@@ -62,7 +62,7 @@ events_in heard = flat_map events_of (calls_in heard)
 abbrev pub frames_of : List Heard → List (List ℕ)
 frames_of heard = flat_map (λ (h : Heard). map frame (messages_of h.replies)) heard
 
--- how each block of a delta ended, and the numbers of the frames that are sent in reply, where so many were sent before
+-- how each block of a delta ended, and the numbers of the frames in reply, if so many frames were sent before
 abbrev pub items_for : ℕ → Replies → List Item
 items_for sent replies.Greeted = []
 items_for sent (replies.Answered blocks) = Replied (sent + 1) ∷ []
@@ -77,13 +77,13 @@ items_of sent (h ∷ hs) = items_for sent h.replies ++ items_of (sent + length (
 abbrev pub IsFront : {X : Type 0} → List X → List X → Type 0
 IsFront {X} front all = (rest : List X) × (all ≡ front ++ rest)
 
--- what is told and sent of all that was heard: everything; or memory was wanting, and a front of it
+-- what is reported and sent of all that was heard: everything; or a prefix of it, because memory was missing
 abbrev pub Tells : ℕ → List Heard → Listener → Listener → Option Fault → List Item → List (List ℕ) → Type 0
 Tells sent heard mid last fault items frames =
     (Ends mid fault last × (items ≡ items_of sent heard) × (frames ≡ frames_of heard))
     ⊎ ((fault ≡ Some NoMemory) × (last.core ≡ mid.core) × IsFront items (items_of sent heard) × IsFront frames (frames_of heard))
 
--- one message more; or nothing that is whole; or a fault, and for want of memory a front of what comes of a message
+-- one message more; or no whole message; or a fault, and if memory was missing, a prefix of what comes of a message
 abbrev pub HearsOnce : Listener → Listener → ℕ → Result Bool Fault → List (List ℕ) → List Item → Type 0
 HearsOnce a b sent (Ok true) frames items =
     (h : Heard) × HearsNext a h b × (frames ≡ map frame (messages_of h.replies)) × (items ≡ items_for sent h.replies)

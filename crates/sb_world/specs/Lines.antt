@@ -1,10 +1,10 @@
--- The bytes of a connection: what came of them and was not taken out yet, and what is to come.
+-- The bytes of a connection: what came and was not taken out yet, and what is still to come.
 use Rattle.std.specs.Prelude.{◌≡◌, ℕ, List, [], ◌∷◌, ◌++◌}
 use Rattle.sb_types.specs.Runs.{Stands}
 use Rattle.sb_frames.specs.Streams.{open_with}
 use Rattle.sb_world.specs.Connections.{Connection}
 
--- laid end to end
+-- these frames, laid end to end
 abbrev pub laid_out : List (List ℕ) → List ℕ
 laid_out [] = []
 laid_out (frame ∷ frames) = frame ++ laid_out frames
@@ -15,7 +15,7 @@ pub record IsLine (sent : List (List ℕ)) (held left : List ℕ) : Type 0 where
   pub each : (bytes : List ℕ) → Stands frames bytes → Stands sent bytes
   pub laid : held ++ left ≡ laid_out frames
 
--- no fault has shut the stream of a connection that stands
+-- no fault has shut the stream of a connection that exists
 pub record IsTrueConnection (sent : List (List ℕ)) (c : Connection) : Type 0 where
   pub held : List ℕ
   pub stands : c.stream ≡ open_with held

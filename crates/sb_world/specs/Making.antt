@@ -13,7 +13,7 @@ use Rattle.sb_log.specs.Records.{Log}
 use Rattle.sb_log.specs.Puts.{IsSure, Stays, Loads}
 use Rattle.sb_world.specs.Places.{Place, Seen, place_at}
 
--- a log has the name
+-- one of the logs has the name
 abbrev pub is_owned : List ℕ → List Log → Bool
 is_owned name logs = list_any (λ log. pointwise nat_eq log.owner name) logs
 
@@ -26,23 +26,23 @@ has_twins (log ∷ logs) = is_owned log.owner logs || has_twins logs
 abbrev pub are_of : List ℕ → List Log → Bool
 are_of cluster logs = list_all (λ log. pointwise nat_eq log.cluster cluster) logs
 
--- why no world is made of these logs, the first reason that holds
+-- why no world can be made from these logs: the first reason that holds
 abbrev pub refusal : Settings → List Log → Option Fault
 refusal settings logs =
     if nat_eq (length logs) 0 || nat_lt OWNERS_MOST (length logs) then Some BadSetting
     else (if has_twins logs then Some SameName
     else (if are_of settings.cluster logs then None else Some WrongCluster))
 
--- why no node opened with what a log has: the log gives this fault when it is read, or it stood and memory was wanting
+-- why no node opened with the content of a log: reading the log gives this fault, or the log was open and memory was missing
 abbrev pub IsOpeningFault : Log → Fault → Type 0
 IsOpeningFault log fault = ((new : Log) × Loads log (Err fault) new) ⊎ ((log.is_open ≡ true) × (fault ≡ NoMemory))
 
--- the fault of the first log with which no node opened: those before it stood
+-- the fault of the first log with which no node opened; the logs before it were open
 abbrev pub IsFirstFault : List Log → Fault → Type 0
 IsFirstFault [] fault = ⊥
 IsFirstFault (log ∷ logs) fault = IsOpeningFault log fault ⊎ ((log.is_open ≡ true) × IsFirstFault logs fault)
 
--- the fault of logs of which no world is made; else that of the first log with which no node opened
+-- the refusal of these logs; if there is none, the fault of the first log with which no node opened
 abbrev pub IsMakingFault : Option Fault → List Log → Fault → Type 0
 IsMakingFault (Some refused) logs fault = fault ≡ refused
 IsMakingFault None logs fault = IsFirstFault logs fault
@@ -51,7 +51,7 @@ IsMakingFault None logs fault = IsFirstFault logs fault
 abbrev pub AreSureLogs : List Log → Type 0
 AreSureLogs logs = (log : Log) → Stands logs log → IsSure log
 
--- a node that has just opened with what its log has
+-- a node that has just opened with the content of its log
 pub record IsNew (of_world : Settings) (p : Place) : Type 0 where
   pub owner : p.log.owner ≡ p.me
   pub is_open : p.log.is_open ≡ true
@@ -61,7 +61,7 @@ pub record IsNew (of_world : Settings) (p : Place) : Type 0 where
   pub waiting : p.waiting ≡ []
   pub up : p.is_up ≡ true
 
--- the node of this log, which has what it had
+-- the node of this log, whose content is as before
 pub record IsNodeOf (given : Log) (p : Place) : Type 0 where
   pub stays : Stays given p.log
   pub content : p.log.is_clean ≡ true → p.log.content ≡ given.content

@@ -16,20 +16,20 @@ use Rattle.sb_world.specs.Hearing.{events_in}
 use Rattle.sb_world.specs.Wires.{Wire, new_wire, wires_by}
 use Rattle.sb_world.specs.Steps.{Step}
 
--- of a node: what it held when it last opened, what happened to it since, and how often it opened anew
+-- for a node: what it held when it last opened, what happened to it since, and how often it opened again
 pub record Past : Type 0 where
   pub opening : Node
   pub since : List NodeEvent
   pub openings : ℕ
 
--- what a world is, all that each owner wrote, each node's past, and what came and went on the connection of each number
+-- what a world shows, all that each owner wrote, each node's past, and what came and went on the connection of each number
 pub record State : Type 0 where
   pub now : Seen
   pub writes : List ℕ → List Write
   pub past : List ℕ → Past
   pub wires : ℕ → Wire
 
--- with another value of one name
+-- with another value for one name
 abbrev pub put_at : {X : Type 0} → (List ℕ → X) → List ℕ → X → List ℕ → X
 put_at f name x other = if pointwise nat_eq other name then x else f other
 
@@ -47,7 +47,7 @@ past_after me writes past (goes events) = record { opening = past.opening; since
 past_after me writes past (listens bytes heard) = record { opening = past.opening; since = past.since ++ events_in heard; openings = past.openings }
 past_after me writes past (opens floor) = record { opening = opened_node me (content_table floor writes); since = []; openings = past.openings + 1 }
 
--- the history goes on by an effect at a node, where there is one
+-- the history goes on by the effect at a node, if there is one
 abbrev pub writes_then : State → Option Place → Effect → List ℕ → List Write
 writes_then old None effect = old.writes
 writes_then old (Some p) effect = put_at old.writes p.me (writes_after (old.writes p.me) effect)
@@ -81,7 +81,7 @@ abbrev pub last_of : State → List State → State
 last_of first [] = first
 last_of first (state ∷ states) = last_of state states
 
--- a node that has just opened with the content of its log, which is that of its owner's writes, purged up to some floor
+-- a node that has just opened with the content of its log: that of its owner's writes, purged up to some floor
 pub record IsFresh (s : State) (p : Place) : Type 0 where
   pub owner : p.log.owner ≡ p.me
   pub content : p.log.content ≡ content_table p.log.content.floor (s.writes p.me)
@@ -109,7 +109,7 @@ pub record IsReached (s : State) : Type 0 where
   pub run : Run start events answers states
   pub last : last_of start states ≡ s
 
--- the state is reached, and is the world's but for the history
+-- the state is reached, and the world shows it, without the history
 pub record FitsWorld (s : State) (world : Seen) : Type 0 where
   pub reached : IsReached s
   pub now : s.now ≡ world
@@ -118,11 +118,11 @@ pub record FitsWorld (s : State) (world : Seen) : Type 0 where
 abbrev pub AreContents : (List ℕ → List Write) → List Place → Type 0
 AreContents writes places = (name : List ℕ) → IfSome (place_at places name) (λ p. p.log.content ≡ content_table p.log.content.floor (writes p.me))
 
--- the floor of a name's log, 0 where none has that name
+-- the floor of a name's log, or 0 if no node has that name
 abbrev pub floor_at : List Place → List ℕ → ℕ
 floor_at places name = option_map_or (λ (p : Place). p.log.content.floor) (place_at places name) 0
 
--- a world that has just been made, of owners that wrote so
+-- a world that has just been made, whose owners wrote this
 abbrev pub start_of : (List ℕ → List Write) → Seen → State
 start_of writes world = record {
   now = world;

@@ -13,7 +13,7 @@ use Rattle.sb_world.specs.Events.{place_for, Does}
 abbrev pub seen_after : Seen → List ℕ → Place → List Connection → List (List ℕ) → Seen
 seen_after old me p conns frames = record { settings = old.settings; places = with_place old.places me p; connections = conns; sent = old.sent ++ frames }
 
--- an event of a node that is not there changes nothing
+-- an event at a node that does not exist changes nothing
 abbrev pub StepAt : Option Place → Seen → Event → Result Answer Fault → Effect → Seen → Type 0
 StepAt None old event answer effect new = (answer ≡ Ok answers.Nothing) × (effect ≡ rests) × (new ≡ old)
 StepAt (Some p) old event answer effect new =

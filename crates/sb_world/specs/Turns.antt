@@ -24,7 +24,8 @@ use Rattle.sb_world.specs.declared.event.Answer.TheVariants as answers
 use Rattle.sb_world.specs.Hearing.{Heard}
 use Rattle.sb_world.specs.Places.{Place}
 
--- what an event adds to the history: nothing, a write of the node's owner, events of the node, bytes that came and what was heard of them, or that the node opened anew, with a content of this floor
+-- What an event adds to the history: nothing, a write of the node's owner, events of the node, or bytes that came and what was heard of
+-- them. Or it adds that the node opened again, with a content of this floor.
 pub data Effect : Type 0 where
   rests : Effect
   logs : Write → Effect
@@ -52,7 +53,7 @@ sent_turn p sent message = record {
   frames = frame message ∷ [];
 }
 
--- the node, with what it holds changed
+-- the node, with another core
 abbrev pub with_core : Place → Core → Place
 with_core p core = record { me = p.me; log = p.log; core = core; waiting = p.waiting; is_up = p.is_up }
 
@@ -61,7 +62,7 @@ with_core p core = record { me = p.me; log = p.log; core = core; waiting = p.wai
 abbrev pub write_of : List ℕ → Slot → Write
 write_of key slot = record { key = key; slot = slot }
 
--- a write that the log took is one of its owner's; of one at which the store failed nobody knows
+-- a write that the log took is one of its owner's; nobody knows whether one at which the store failed is
 abbrev pub IsLogged : List ℕ → Slot → Result Committed Fault → Effect → Type 0
 IsLogged key slot (Ok c) effect = effect ≡ logs (write_of key slot)
 IsLogged key slot (Err fault) effect = (effect ≡ rests) ⊎ ((fault ≡ StoreFailed) × (effect ≡ logs (write_of key slot)))
@@ -74,7 +75,7 @@ abbrev pub commit_answer : Result Committed Fault → Result Answer Fault
 commit_answer (Ok c) = Ok (answers.Committed c.entry.version)
 commit_answer (Err fault) = Err fault
 
--- the log answered so, and a write that it took waits
+-- the log gave this answer, and a write that it took waits
 abbrev pub commit_turn : Place → Result Committed Fault → Effect → Log → Turn
 commit_turn p put effect log = record {
   answer = commit_answer put;
@@ -83,7 +84,7 @@ commit_turn p put effect log = record {
   frames = [];
 }
 
--- the log is asked to take the write, where there is room for it to wait
+-- the log is asked to take the write, if there is room for it to wait
 abbrev pub Commits : Place → List ℕ → Slot → Turn → Type 0
 Commits p key slot turn =
     (turn ≡ still p (Err NoMemory))
@@ -98,7 +99,8 @@ crash_turn p effect log = record {
   frames = [];
 }
 
--- the node goes down before its log is asked, or behind that, and nothing of what the log answered is left to it; want of memory is no crash
+-- The node goes down before its log is asked, or after that, and keeps nothing of what the log answered. If memory is missing, it does not
+-- crash.
 abbrev pub Crashes : Place → List ℕ → Slot → Bool → Turn → Type 0
 Crashes p key slot false turn = turn ≡ crash_turn p rests p.log
 Crashes p key slot true turn =
@@ -107,7 +109,7 @@ Crashes p key slot true turn =
 
 -- ---- a purge
 
--- where the log took the floor the node is down, and where it did not the log alone may have changed
+-- if the log took the floor, the node is down; if not, only the log can have changed
 abbrev pub purge_turn : Place → ℕ → Result (Unit {0}) Fault → Log → Turn
 purge_turn p floor (Ok done) log = record {
   answer = Ok (answers.Purged floor);
@@ -122,13 +124,13 @@ purge_turn p floor (Err fault) log = record {
   frames = [];
 }
 
--- the log is asked to let go of its removals up to a floor
+-- the log is asked to drop its tombstones up to a floor
 abbrev pub Purges : Place → ℕ → Turn → Type 0
 Purges p floor turn = (result : Result (Unit {0}) Fault) × (log : Log) × LogPurges p.log floor result log × (turn ≡ purge_turn p floor result log)
 
 -- ---- an own write enters
 
--- the oldest that waited is entered
+-- the node enters the oldest write that waited
 abbrev pub entered_turn : Place → Committed → List Committed → Turn
 entered_turn p c others = record {
   answer = Ok (answers.Took c.entry.version);
@@ -141,7 +143,7 @@ abbrev pub take_turn : Place → Committed → List Committed → Result (Unit {
 take_turn p c others (Ok done) = entered_turn p c others
 take_turn p c others (Err fault) = still p (Err fault)
 
--- the node answers for the write as it must, and want of memory hides no other fault
+-- the node answers for the write as it must, and missing memory hides no other fault
 abbrev pub TakesFirst : Place → List Committed → Turn → Type 0
 TakesFirst p [] turn = turn ≡ still p (Ok answers.Nothing)
 TakesFirst p (c ∷ others) turn =
@@ -150,7 +152,7 @@ TakesFirst p (c ∷ others) turn =
 
 -- ---- a restart
 
--- the node holds its log's content and nothing else
+-- the node opens with its log's content and holds nothing else
 abbrev pub reopened_turn : Place → Log → Table → Turn
 reopened_turn p log table = record {
   answer = Ok (answers.Restarted table.held);
@@ -178,15 +180,15 @@ Restarts p turn = (result : Result Table Fault) × (log : Log) × Loads p.log re
 
 -- ---- a delta is sent
 
--- of a table that is shown: the number for the owner, how far it is held for each other, and no stage
+-- of a shown table: the number for the owner, how far it is held for each other, and no stage
 abbrev pub numbered_pair : List ℕ → ℕ → List ℕ × Table → Pair
 numbered_pair owner after p = staged_pair p.0 (if pointwise nat_eq p.0 owner then after else p.1.held) None
 
--- a digest of the whole range that has this number for the owner, and of each other what the node itself holds
+-- a digest of the whole range, with this number for the owner, and for each other owner how far the node itself holds it
 abbrev pub asked : Held → List ℕ → ℕ → Digest
 asked held owner after = digest_of false None None (map (numbered_pair owner after) (tables_from None held))
 
--- the node's delta in answer to such a digest is sent, as one frame
+-- the node sends its delta for such a digest, as one frame
 abbrev pub Offers : Place → List (List ℕ) → List ℕ → ℕ → Turn → Type 0
 Offers p sent owner after turn =
     (turn ≡ still p (Err NoMemory))

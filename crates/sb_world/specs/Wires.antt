@@ -16,7 +16,7 @@ use Rattle.sb_world.specs.Lines.{laid_out}
 use Rattle.sb_world.specs.Places.{frame_at}
 use Rattle.sb_world.specs.Turns.{Effect, listens}
 
--- of the connection that last had a number: the frames that were lined up, the bytes that came, and the messages that its session took
+-- for the connection that last had a number: the frames that were lined up, the bytes that came, and the messages that its session took
 pub record Wire : Type 0 where
   pub lined : List (List ℕ)
   pub came : List ℕ
@@ -45,7 +45,7 @@ abbrev pub heard_on : Effect → Wire → Wire
 heard_on (listens bytes heard) w = record { lined = w.lined; came = w.came ++ bytes; taken = w.taken ++ messages_in heard }
 heard_on effect w = w
 
--- with another history of one number
+-- with another history for one number
 abbrev pub wired : (ℕ → Wire) → ℕ → Wire → ℕ → Wire
 wired wires number w other = if nat_eq other number then w else wires other
 
@@ -58,13 +58,14 @@ wires_by event answer effect sent wires = wires
 
 -- ---- what is true of it
 
--- what came is the frames of the messages that were taken, and then a rest; with what is left to come it is the frames that were lined up, and each of them was sent
+-- What came is the frames of the messages that were taken, and then a rest. With what is left to come it is the frames that were lined up,
+-- and each of them was sent.
 pub record IsHistory (sent : List (List ℕ)) (w : Wire) (rest left : List ℕ) : Type 0 where
   pub sent_all : (bytes : List ℕ) → Stands w.lined bytes → Stands sent bytes
   pub taken : w.came ≡ flat_map frame w.taken ++ rest
   pub lined : w.came ++ left ≡ laid_out w.lined
 
--- of a connection that stands the rest is what its stream holds, and what is left is to come
+-- the rest is what the stream of the connection holds, and what is left is its queue
 pub record IsTrueWire (sent : List (List ℕ)) (w : Wire) (c : Connection) : Type 0 where
   pub rest : List ℕ
   pub stands : c.stream ≡ open_with rest
@@ -82,6 +83,6 @@ AreDistinct (c ∷ cs) = ((d : Connection) → Stands cs d → d.number ≢ c.nu
 
 pub record AreTrueWires (sent : List (List ℕ)) (conns : List Connection) (wires : ℕ → Wire) : Type 0 where
   pub standing : (c : Connection) → Stands conns c → IsTrueWire sent (wires c.number) c
-  -- also of those that are gone
+  -- also of connections that are gone
   pub each : (number : ℕ) → IsPastWire sent (wires number)
   pub distinct : AreDistinct conns

@@ -1,4 +1,4 @@
-//! What is done with connections at a node.
+//! What a node does with its connections.
 
 ghost use Rattle.std.specs.Prelude.{◌≡◌, ℕ, List, [], ◌++◌};
 ghost use Rattle.sb_world.specs.Connections.{connection_at};
@@ -17,7 +17,7 @@ use sb_types::Fault;
 use std::alloc::Global;
 
 impl<L: WriteLog> Place<L> {
-    /// A connection of this number begins, and its Hello is sent; `Nothing` where the number is in use. `NoMemory`, with
+    /// Begins a connection of this number, and sends its Hello. `Nothing` if the number is in use. `NoMemory`, with
     /// nothing changed.
     pub(crate) fn connect(
         &self,
@@ -38,14 +38,14 @@ impl<L: WriteLog> Place<L> {
         connections.reserve(1)?;
         sent.reserve(1)?;
         let hello = frame_for(alloc, session.hello())?;
-        // Does nothing: the call tells the prover that a Hello is within each budget.
+        // Proof only: the call shows that a Hello is within each budget.
         let _ = settings.budget();
         sent.push_reserved(hello);
         connections.push_reserved(Connection::new(alloc, number, self.me, session));
         Ok(Answer::Sent(sent.len() as u64))
     }
 
-    /// Closes a connection; `Nothing` where none has the number.
+    /// Closes a connection. `Nothing` if no connection has the number.
     pub(crate) fn close(
         &self,
         connections: &mut Vec<Connection>,
@@ -61,7 +61,8 @@ impl<L: WriteLog> Place<L> {
         Ok(Answer::Shut)
     }
 
-    /// Lines up a frame on a connection; `Nothing` where none has the number, or no frame. `NoMemory`, with nothing changed.
+    /// Adds a frame to the queue of a connection. `Nothing` if no connection has the number, or no frame has the other.
+    /// `NoMemory`, with nothing changed.
     pub(crate) fn line(
         &self,
         connections: &mut Vec<Connection>,
@@ -84,8 +85,8 @@ impl<L: WriteLog> Place<L> {
         }
     }
 
-    /// A connection's session sends its next digest; `Nothing` where none has the number. `Closed` after a Bye; `NoMemory`,
-    /// with nothing changed.
+    /// Sends the next digest of a connection's session. `Nothing` if no connection has the number. `Closed` after a
+    /// Bye, then `NoMemory`, with nothing changed.
     pub(crate) fn ask(
         &mut self,
         alloc: Global,
@@ -116,8 +117,8 @@ impl<L: WriteLog> Place<L> {
         Ok(Answer::Sent(sent.len() as u64))
     }
 
-    /// The next bytes of a connection's line come: each message that has come whole is taken, and each reply is sent. A fault
-    /// closes the connection; what was taken before it stands. `Nothing` where none has the number.
+    /// Takes the next bytes of a connection's queue. Each message that has come whole is taken, and each reply is sent.
+    /// A fault closes the connection, and what was taken before it stays. `Nothing` if no connection has the number.
     pub(crate) fn piece(
         &mut self,
         alloc: Global,

@@ -1,4 +1,4 @@
-//! A connection: a session at a node, and a line of bytes towards it.
+//! A connection: a session at a node, and the queue of bytes that are on their way to it.
 
 ghost use Rattle.std.specs.Prelude.{◌≡◌, ◌<◌, ◌≤◌, ℕ, nat_eq, if◌then◌else◌, List, [], ◌++◌, length, drop, remove, slice_set, slice_get, Some, None, IfSome, IfNone, IfErr, OnOk, OnErr};
 ghost use Rattle.sb_frames.specs.Streams.{open_with};
@@ -20,7 +20,9 @@ use sb_types::{Fault, Name};
 use std::alloc::Global;
 use std::marker::Model;
 
-/// A connection of a node: its session, what came of its line and was not taken yet, and what is still to come.
+/// A connection of a node: its session, what came from its queue and was not taken yet, and what is still to come. The
+/// queue is a buffer of `bytes`, which drops a piece in front without moving the rest. So a piece costs only as much as
+/// its own bytes.
 #[derive(Drop)]
 pub(crate) struct Connection {
     number: u64,
@@ -38,7 +40,7 @@ impl Model for Connection {
     ghost view = { λ c. record { number = c.number; me = c.me; session = c.session; stream = c.frames; left = c.left.items } };
 }
 
-/// Where the connection of a number stands.
+/// The index of the connection of a number.
 pub(crate) fn index_of(connections: &[Connection], number: u64) -> Option<usize>
     ensures none { IfNone result (connection_at connections.now number ≡ None) }
     ensures within { IfSome result (λ i. i < length connections.now) }
@@ -137,14 +139,14 @@ impl Connection {
         self.session
     }
 
-    /// Its session goes on as this one.
+    /// Puts this session in the place of the old one.
     pub(crate) fn go_on(&mut self, session: Session)
         ensures { self.new ≡ in_session self.old session }
     {
         self.session = session;
     }
 
-    /// Lines bytes up behind those that are still to come. `NoMemory`.
+    /// Adds bytes at the end of the queue. `NoMemory`, with nothing changed.
     pub(crate) fn line(&mut self, bytes: &[u8]) -> Result<(), Fault>
         ensures lined { OnOk result (self.new ≡ lined self.old bytes.now) }
         ensures unchanged { OnErr result (self.new ≡ self.old) }
@@ -154,8 +156,8 @@ impl Connection {
         Ok(())
     }
 
-    /// The next so many bytes of the line come, or all that are left, and each message that has come whole is taken, up
-    /// to the first fault.
+    /// Takes the next `count` bytes of the queue, or all that are left. Then it takes each message that has come whole,
+    /// up to the first fault, which it returns.
     pub(crate) fn piece(
         &mut self,
         alloc: Global,

@@ -1,4 +1,4 @@
-//! What may happen in a world, and what is answered.
+//! What can happen in a world, and how the world answers.
 
 ghost use Rattle.std.specs.Prelude.{◌≡◌};
 ghost use Rattle.sb_world.specs.Events.{answers_to};
@@ -7,46 +7,46 @@ use sb_holdings::BlockEnd;
 use sb_types::{Fault, Key, Name, Slot, Value};
 use std::marker::Model;
 
-/// What happens at a node of a world. A first name is the node's; a first number is that of a connection, whose node it
-/// then is.
+/// What happens at a node of a world. If the first part is a name, it names the node. If it is a number, it is the
+/// number of a connection, and the event happens at the node of that connection.
 #[derive(Debug, Drop)]
 pub enum Event {
-    /// Its log is asked to take a write, which then waits to be entered.
+    /// The log of the node is asked to take a write. The write then waits until it is entered.
     Commit(Name, Key, Slot),
-    /// The oldest of its writes that wait is entered.
+    /// The oldest write that waits is entered.
     Take(Name),
-    /// It goes down: behind a write where the last part is true, else before its log is asked. Its connections are gone.
-    /// Where the log finds no memory for the write nothing happens.
+    /// The node goes down, and its connections are gone. If the last part is true, it goes down after its log took the
+    /// write, else before the log is asked. If the log finds no memory for the write, nothing happens.
     CrashInCommit(Name, Key, Slot, bool),
-    /// Its log lets go of its removals up to a floor, and the node goes down, with its connections gone. Where the log
-    /// does not take the floor the node goes on.
+    /// The log drops its tombstones up to a floor. Then the node goes down, and its connections are gone. If the log
+    /// does not take the floor, the node goes on.
     Purge(Name, u64),
-    /// What waits is dropped, its connections too, and the node opens anew with what its log has.
+    /// The writes that wait and the connections are dropped, and the node opens again with the content of its log.
     Restart(Name),
-    /// A connection of this number begins, and its Hello is sent.
+    /// A connection of this number begins, and the node sends its Hello.
     Connect(Name, u64),
-    /// A connection is closed, with what was lined up.
+    /// A connection is closed, and its queue is dropped.
     Close(u64),
-    /// The frame of the second number, counted from 1, is lined up behind what is to come of a connection.
+    /// The frame of the second number, counted from 1, is added at the end of a connection's queue.
     Line(u64, u64),
-    /// The next so many bytes of a connection's line come, or all that are left.
+    /// The next bytes of a connection's queue come: so many, or all that are left.
     Piece(u64, u64),
-    /// A connection's session sends its next digest, which wants one in answer.
+    /// A connection's session sends its next digest, which asks for a digest in return.
     Ask(u64),
-    /// It sends what it holds of an owner above a version, as far as its budget has room.
+    /// The node sends what it holds of an owner above a version, as far as its budget has room.
     Offer(Name, Name, u64),
-    /// Its value of an owner's key is read.
+    /// The node reads the value of an owner's key.
     Read(Name, Name, Key),
-    /// It tells how far it holds an owner.
+    /// The node reports up to which version it holds an owner.
     Upto(Name, Name),
 }
 
 /// What came of a message that a connection took.
 #[derive(Clone, Copy, Debug, PartialEq, Eq)]
 pub enum Item {
-    /// A block of a delta ended so.
+    /// A block of a delta ended in this way.
     Ended(BlockEnd),
-    /// The frame of this number was sent in reply.
+    /// The node sent the frame of this number in reply.
     Replied(u64),
 }
 
@@ -66,7 +66,7 @@ impl Model for Items {
 }
 
 impl Items {
-    /// These items.
+    /// Makes it from these items.
     pub(crate) fn new(items: Vec<Item>) -> Items
         ensures { result ≡ items.items }
     {
@@ -84,7 +84,7 @@ impl Items {
 /// What a world answers to an event.
 #[derive(Debug, Drop)]
 pub enum Answer {
-    /// No such node, connection or frame, a number that is in use, or no write that waits.
+    /// The node, connection or frame does not exist, the number is in use, or no write waits.
     Nothing,
     /// The version under which the log took the write.
     Committed(u64),
@@ -94,25 +94,25 @@ pub enum Answer {
     Crashed,
     /// The floor that was asked for. The node is down.
     Purged(u64),
-    /// The version up to which the node's own writes are held.
+    /// The version up to which the node holds its own writes.
     Restarted(u64),
-    /// The number of the frame that was sent.
+    /// The number of the frame that the node sent.
     Sent(u64),
     /// The connection is closed.
     Shut,
-    /// The frame is lined up.
+    /// The frame is in the queue.
     Lined,
-    /// What came of each message that was taken, in their order, and the fault that closed the connection, if one did. For
-    /// want of memory some of the last may be missing.
+    /// What came of each message that was taken, in their order, and the fault that closed the connection, if one did.
+    /// If memory was missing, some of the last items can be missing.
     Delivered(Items, Option<Fault>),
-    /// The value and the version of its write, where one is shown.
+    /// The value and the version of its write, or `None` if the node shows no value.
     Shown(Option<(Value, u64)>),
-    /// The version up to which the owner is held.
+    /// The version up to which the node holds the owner.
     Number(u64),
 }
 
 impl Event {
-    /// Whether a node answers to it that runs, or that is down.
+    /// Whether a node that is up, or one that is down, answers to this event.
     pub(crate) fn is_answered(&self, is_up: bool) -> bool
         ensures { result ≡ answers_to self.now is_up }
     {

@@ -1,4 +1,4 @@
-//! What a node hears on a connection, and what it replies.
+//! What a node hears on a connection, and how it replies.
 
 ghost use Rattle.std.specs.Prelude.{◌≡◌, ℕ, ◌+◌, true, List, [], ◌∷◌, ◌++◌, length, map, OnOk, OnErr, IfErr};
 ghost use Rattle.std.specs.List.{list_all};
@@ -19,7 +19,7 @@ use sb_session::{Replies, Session};
 use sb_types::Fault;
 use std::alloc::Global;
 
-/// Sends a message, and tells the number of its frame. `NoMemory`, with nothing sent and told.
+/// Sends a message, and adds the number of its frame to the items. `NoMemory`, with nothing sent or added.
 fn say(
     alloc: Global,
     message: Message,
@@ -40,7 +40,7 @@ fn say(
     Ok(())
 }
 
-/// Tells how the blocks of a delta ended. `NoMemory`, with nothing told.
+/// Adds to the items how each block of a delta ended. `NoMemory`, with nothing added.
 fn tell(report: &Report, items: &mut Vec<Item>) -> Result<(), Fault>
     ensures told { OnOk result (items.new.items ≡ items.old.items ++ map Ended report.now) }
     ensures untold { OnErr result (items.new.items ≡ items.old.items) }
@@ -53,7 +53,8 @@ fn tell(report: &Report, items: &mut Vec<Item>) -> Result<(), Fault>
     Ok(())
 }
 
-/// Sends what is replied to a message, and tells what came of it. `NoMemory`, with a front of it sent and told.
+/// Sends the replies to a message, and adds what came of it to the items. `NoMemory`, with a prefix of both sent and
+/// added.
 fn reply(
     alloc: Global,
     replies: Replies,
@@ -69,7 +70,7 @@ fn reply(
     match replies {
         Replies::Greeted | Replies::Ended(_) => Ok(()),
         Replies::Answered(delta) => {
-            // Does nothing, here and below: the call tells the prover that what is replied keeps its limits.
+            // Proof only, here and below: the call shows that a reply keeps its limits.
             let _ = delta.encoded_length();
             say(alloc, Message::Delta(delta), sent, items)
         }
@@ -85,7 +86,7 @@ fn reply(
     }
 }
 
-/// Makes room for all that can be told of a message, so that nothing is lost that is taken.
+/// Makes room for all items that a message can bring, so that nothing that is taken is lost. `NoMemory`.
 fn make_room(message: &Message, items: &mut Vec<Item>) -> Result<(), Fault>
     ensures items { items.new.items ≡ items.old.items }
     ensures memory { IfErr result (λ fault. fault ≡ Fault.NoMemory) }
@@ -97,11 +98,11 @@ fn make_room(message: &Message, items: &mut Vec<Item>) -> Result<(), Fault>
     Ok(())
 }
 
-/// Lets go of a message.
+/// Drops a message.
 pub(crate) fn lose(_message: Message) {}
 
-/// Takes the next message that has come whole, and replies to it; whether there was one. The faults of what came, and
-/// those of the session; `NoMemory`.
+/// Takes the next message that has come whole, and replies to it. Returns whether there was one. The faults of what
+/// came, then those of the session, and `NoMemory`.
 fn hear_next(
     alloc: Global,
     core: &mut NodeCore,
@@ -135,7 +136,7 @@ fn hear_next(
     }
 }
 
-/// Takes each message that has come whole, and replies to it, up to the first fault.
+/// Takes each message that has come whole, and replies to it, up to the first fault. Returns that fault.
 pub(crate) fn hear(
     alloc: Global,
     core: &mut NodeCore,

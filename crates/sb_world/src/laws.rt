@@ -1,4 +1,4 @@
-//! What holds of every run of a world.
+//! What is true of every run of a world.
 
 ghost use Rattle.std.specs.Prelude.{◌≡◌, ℕ, ◌+◌, ◌≤◌, List, [], ◌++◌, length, true, Result, Ok, IfSome};
 ghost use Rattle.sb_types.specs.declared.entry.Write.{Write};
@@ -18,9 +18,9 @@ ghost use Rattle.sb_world.specs.Claims.{EachState, EachStep, GivenIsWritten, Are
 
 use sb_node::{answers_are_honest, calls_keep_truth};
 
-/// On every run of the machine of worlds from a state that fits a world, for every list of events, as long as each
-/// log's store keeps its promise: each state is true (`sound`), and the claims of `World::run` hold (`given`, `exact`,
-/// `taken`, `later`, `budget`, and of purging `removed` and `purged`).
+/// Law: the promise of `World::run`, on every run of the machine of worlds from a state that fits a world, for every
+/// list of events. As long as each log's store keeps its promise, each state is true (`sound`). The claims of
+/// `World::run` hold too: `given`, `exact`, `taken`, `later`, `budget`, and for purging `removed` and `purged`.
 pub fn worlds_keep_their_promise()
     ensures sound { (world : Seen) (events : List Event) (answers : List (Result Answer Fault)) → OnEachRun world events answers (λ old states. EachState IsTrueState old states) }
     ensures given { (world : Seen) (events : List Event) (answers : List (Result Answer Fault)) → OnEachRun world events answers (λ old states. EachStep GivenIsWritten old events answers states) }
@@ -35,8 +35,8 @@ pub fn worlds_keep_their_promise()
     calls_keep_truth();
 }
 
-/// Where nothing can make the store of a log break its promise, that stays so over every step, and each store has kept it at
-/// the end of every run.
+/// Law: if nothing can make the store of a log break its promise, this remains so over every step (`step`, `passes`).
+/// Each store has then kept its promise at the end of every run (`run`).
 pub fn sure_stores_are_trusted()
     ensures step { (world new : Seen) (event : Event) (answer : Result Answer Fault) (effect : Effect) → Step world event answer effect new →
         AreSure world.places → AreSure new.places }
@@ -46,7 +46,8 @@ pub fn sure_stores_are_trusted()
         AreSure old.now.places → IsClean (last_of old states).now.places }
 {}
 
-/// Whatever a world does is a run of the machine of worlds, from each state that fits it to one that fits it afterwards.
+/// Law: whatever a world does is a run of the machine of worlds. It leads from each state that fits the world before to
+/// a state that fits it afterwards.
 pub fn worlds_are_reached()
     ensures step { (world new : Seen) (event : Event) (answer : Result Answer Fault) (effect : Effect) → Step world event answer effect new →
         (old : State) → FitsWorld old world → (state : State) × Moves old event answer state × FitsWorld state new }
@@ -54,9 +55,11 @@ pub fn worlds_are_reached()
         (old : State) → FitsWorld old world → (states : List State) × Run old events answers states × FitsWorld (last_of old states) new }
 {}
 
-/// A log that begins behind a version goes on with one that is lost: whatever was written to that, as long as it had at most 4,096
-/// keys, and so many writes less than the version or fewer, the new one has the content of those writes and of some behind them. So all that
-/// is promised of an owner's writes holds of it.
+/// Law: a log that begins after a version continues a lost log. The new log has the content of all writes to the lost
+/// one, and of some more writes that follow them. So all that is promised about an owner's writes holds for it.
+///
+/// The lost log must have had at most 4,096 keys, and its writes must number at least 4,096 fewer than the version. The
+/// new log's store must have kept its promise. Which writes these were does not matter.
 pub fn lost_logs_go_on()
     ensures { (old new : Log) (after : ℕ) → Begins old after (Ok tt) new → new.is_clean ≡ true →
         (writes : List Write) (floor : ℕ) → length (content_table floor writes).entries ≤ KEYS_MOST → length writes + KEYS_MOST ≤ after →

@@ -1,8 +1,8 @@
-//! A world of nodes that take their steps in any order, and the promise to readers over every such order.
+//! The model: a world of nodes that take their steps in any order, and what readers are promised in every such order.
 //!
-//! A `World` has nodes, their logs, their connections and all frames that they sent. Each step is an event with an answer; a
-//! crash, a purge and a restart are events too. As long as the stores of the logs keep their promise, the promise to readers holds for
-//! every list of events.
+//! A `World` contains nodes, their logs, their connections and all frames that they sent. Each step is an event with an
+//! answer. A crash, a purge and a restart are events too. As long as the stores of the logs keep their promise, the
+//! promise to readers holds for every list of events.
 //!
 //! ```rust
 //! /// What the node `a` answers: to a write, to its entering, and to the question up to where it holds itself.
@@ -19,6 +19,16 @@
 //!     run_in_memory(&mut world, &events)
 //! }
 //! ```
+//!
+//! # What no contract refuses
+//!
+//! Each of these wrong bodies would still be proved. `docs/GAPS.md` also has those of every crate.
+//!
+//! - `World::new` or a restart reports `StoreFailed` in place of `LogDamaged`, or the other way round. Nothing refuses
+//!   it.
+//! - `World::new` reports the fault of a later log than the first that has one. Nothing refuses it.
+//! - `World::new` reports missing memory for a damaged log, since no clause knows the damage before the log is read. A
+//!   test of `World::new` refuses it.
 #![tactic(auto)]
 
 mod connecting;

@@ -1,4 +1,4 @@
-//! A world made of logs.
+//! How a world is made from logs.
 
 ghost use Rattle.std.specs.Prelude.{◌≡◌, true, Err, map, IfOk, IfErr, IfSome, OnOk};
 ghost use Rattle.sb_types.specs.Runs.{Stands};
@@ -53,7 +53,7 @@ fn are_of<L: WriteLog>(cluster: &Name, logs: &[L]) -> bool
     true
 }
 
-/// Why no world is made of these logs, the first reason that holds.
+/// Why no world can be made from these logs: the first reason that holds, or `None`.
 fn refusal<L: WriteLog>(settings: &Settings, logs: &[L]) -> Option<Fault>
     ensures { result ≡ spec.refusal settings.now (map L.seen logs.now) }
 {
@@ -69,7 +69,7 @@ fn refusal<L: WriteLog>(settings: &Settings, logs: &[L]) -> Option<Fault>
     None
 }
 
-/// The node of a log, opened with what that has.
+/// Opens the node of a log with the log's content. The faults of `WriteLog::load`, then `NoMemory`.
 fn opened<L: WriteLog + Drop>(
     alloc: Global,
     settings: Settings,
@@ -97,8 +97,8 @@ fn opened<L: WriteLog + Drop>(
     })
 }
 
-/// The nodes of these logs, in their order, each opened with what its log has. `BadSetting`, `SameName` or
-/// `WrongCluster`, in this order; else, log by log, the faults of `load`, and behind them `NoMemory`.
+/// Opens a node for each log, in their order, with the log's content. `BadSetting`, `SameName` or `WrongCluster`, in
+/// this order. Then, log by log, the faults of `WriteLog::load`, and after them `NoMemory`.
 pub(crate) fn places_of<L: WriteLog + Drop>(
     alloc: Global,
     settings: Settings,

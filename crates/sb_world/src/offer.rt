@@ -1,4 +1,4 @@
-//! What a node is asked for by number.
+//! The digest that asks a node for an owner's writes above a version.
 
 ghost use Rattle.std.specs.Prelude.{◌≡◌, IfOk, IfErr};
 ghost use Rattle.sb_world.specs.Turns as spec;
@@ -8,8 +8,8 @@ use sb_holdings::Holdings;
 use sb_types::{Fault, Name};
 use std::alloc::Global;
 
-/// A digest of the whole range that has this number for the owner, and of each other how far the node holds it. It tells
-/// of no stage. `NoMemory`.
+/// Makes a digest of the whole range. It has `after` for the owner, and for each other owner how far the node holds it.
+/// It has no stage. `NoMemory`.
 pub(crate) fn asked(
     alloc: Global,
     holdings: &Holdings,
@@ -21,7 +21,7 @@ pub(crate) fn asked(
 {
     let mut pairs = Vec::new(alloc);
     for (name, table) in holdings.tables_from(None) {
-        // Does nothing: the call tells the prover that the name keeps its limits.
+        // Proof only: the call shows that the name keeps its limits.
         let _ = name.bytes();
         let upto = if name == owner { after } else { table.upto() };
         pairs.push(Pair::new(*name, upto, None))?;

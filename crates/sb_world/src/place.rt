@@ -47,7 +47,7 @@ impl<L: WriteLog> Model for Place<L> {
     ghost view = { λ p. record { me = p.me; log = L.seen p.log; core = p.core; waiting = p.waiting.items; is_up = p.is_up } };
 }
 
-/// Lets go of what a log answered. `NoMemory` where it answered so.
+/// Drops what a log answered. `NoMemory` if that was the answer.
 fn lose(put: Result<Committed, Fault>) -> Result<(), Fault>
     ensures lost { IfOk result (λ done. put ≢ Err Fault.NoMemory) }
     ensures memory { IfErr result (λ fault. (fault ≡ Fault.NoMemory) × (put ≡ Err Fault.NoMemory)) }
@@ -58,7 +58,7 @@ fn lose(put: Result<Committed, Fault>) -> Result<(), Fault>
     }
 }
 
-/// Lets go of a write that was entered.
+/// Drops a write that was entered.
 fn lose_first(_oldest: Option<Committed>) {}
 
 impl<L: WriteLog> Place<L> {
@@ -76,14 +76,15 @@ impl<L: WriteLog> Place<L> {
         self.me
     }
 
-    /// Whether it answers to other events than a restart.
+    /// Whether it is up, and so answers to other events than a restart.
     pub(crate) fn is_up(&self) -> bool
         ensures { result ≡ self.now.is_up }
     {
         self.is_up
     }
 
-    /// The log takes a write, which then waits.
+    /// Asks the log to take a write, which then waits. `NoMemory`, with nothing changed; then the faults of
+    /// `WriteLog::put`.
     pub(crate) fn commit(&mut self, key: &Key, slot: &Slot) -> Result<Answer, Fault>
         ensures { (effect : Effect) × Commits self.old key.now slot.now (record { answer = result; effect = effect; place = self.new; frames = [] }) }
     {
@@ -98,7 +99,8 @@ impl<L: WriteLog> Place<L> {
         }
     }
 
-    /// The node goes down, behind a write or before it. `NoMemory` where the log answers so, with nothing changed.
+    /// Takes the node down, after a write if `is_kept` is true, else before it. `NoMemory` if the log answers so, with
+    /// nothing changed.
     pub(crate) fn crash(&mut self, key: &Key, slot: &Slot, is_kept: bool) -> Result<Answer, Fault>
         ensures { (effect : Effect) × Crashes self.old key.now slot.now is_kept (record { answer = result; effect = effect; place = self.new; frames = [] }) }
     {
@@ -111,8 +113,8 @@ impl<L: WriteLog> Place<L> {
         Ok(Answer::Crashed)
     }
 
-    /// The log lets go of its removals up to a floor, and the node goes down. Where the log does not take the floor the
-    /// node goes on.
+    /// Asks the log to drop its tombstones up to a floor, and takes the node down. If the log does not take the floor,
+    /// the node goes on. The faults of `WriteLog::purge`.
     pub(crate) fn purge(&mut self, floor: u64) -> Result<Answer, Fault>
         ensures { Purges self.old floor (record { answer = result; effect = rests; place = self.new; frames = [] }) }
     {
@@ -125,7 +127,8 @@ impl<L: WriteLog> Place<L> {
         }
     }
 
-    /// The oldest write that waits is entered.
+    /// Enters the oldest write that waits. `Nothing` if no write waits. The faults of `NodeCore::take_own`, and then
+    /// the write still waits.
     pub(crate) fn take(&mut self) -> Result<Answer, Fault>
         ensures { (effect : Effect) × TakesFirst self.old self.old.waiting (record { answer = result; effect = effect; place = self.new; frames = [] }) }
     {
@@ -142,7 +145,8 @@ impl<L: WriteLog> Place<L> {
         }
     }
 
-    /// The node opens anew with what its log has.
+    /// Drops what waits, and opens the node again with the content of its log. The faults of `WriteLog::load`, then
+    /// `NoMemory`, and then the node is down.
     pub(crate) fn restart(&mut self, alloc: Global) -> Result<Answer, Fault>
         ensures { (effect : Effect) × Restarts self.old (record { answer = result; effect = effect; place = self.new; frames = [] }) }
     {
@@ -161,7 +165,7 @@ impl<L: WriteLog> Place<L> {
         Ok(Answer::Restarted(held))
     }
 
-    /// The frame of what it holds of an owner above a version, as far as its budget has room. `NoMemory`.
+    /// Makes the frame of what the node holds of an owner above a version, as far as its budget has room. `NoMemory`.
     pub(crate) fn offer(&self, alloc: Global, owner: &Name, after: u64) -> Result<Vec<u8>, Fault>
         ensures delta { IfOk result (λ bytes. (blocks : List records.Block) × (is_delta blocks ≡ true)
             × IsDelta self.now.core.settings self.now.core.node.held (spec.asked self.now.core.node.held owner.now after) blocks
@@ -171,19 +175,19 @@ impl<L: WriteLog> Place<L> {
     {
         let digest = asked(alloc, self.core.holdings(), owner, after)?;
         let delta = self.core.deltas(&digest)?;
-        // Does nothing: the call tells the prover that the delta keeps its limits.
+        // Proof only: the call shows that the delta keeps its limits.
         let _ = delta.encoded_length();
         frame_of(alloc, &Message::Delta(delta))
     }
 
-    /// How far it holds an owner.
+    /// The version up to which it holds an owner.
     pub(crate) fn upto(&self, owner: &Name) -> u64
         ensures { result ≡ (shown_of self.now.core.node.held owner.now).held }
     {
         self.core.upto(owner)
     }
 
-    /// What is shown of an owner's key. `NoMemory`.
+    /// The value and the version that it shows for an owner's key. `NoMemory`.
     pub(crate) fn read(&self, alloc: Global, owner: &Name, key: &Key) -> Result<Answer, Fault>
         ensures { Gives result (Ok (answers.Shown (shown_at key.now (shown_of self.now.core.node.held owner.now).entries))) }
     {

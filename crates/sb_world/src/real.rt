@@ -1,4 +1,4 @@
-//! The promise of a world at the logs that stand.
+//! The promise of a world whose logs are in memory, and of one whose logs are databases.
 
 ghost use Rattle.std.specs.Prelude.{◌≡◌, List, IfOk, IfErr, OnErr};
 ghost use Rattle.sb_world.specs.Places.{AreSure};
@@ -13,8 +13,9 @@ use sb_log::{PlainLog, SqlLog};
 use sb_types::Fault;
 use sqlite::Alter;
 
-/// A run of a world whose logs are in memory: `World::run`, whose claims hold here of each run of a sure world, as each
-/// one is that was made of logs in memory (`World::new: sure`) and stays (`sure`): nothing else is assumed of a store.
+/// Runs a world whose logs are in memory, by `World::run`, with the same faults. All claims of `World::run` hold on
+/// each run if the world is sure before it (`promise`), and nothing else is assumed about a store. A world made from
+/// logs in memory is sure (`World::new: sure`), and stays sure (`sure`).
 pub fn run_in_memory(
     world: &mut World<PlainLog>,
     events: &[Event],
@@ -33,8 +34,8 @@ pub fn run_in_memory(
     world.run(events)
 }
 
-/// A run of a world whose logs are databases: `World::run`, whose claims hold here of each run in which each database
-/// kept its promise.
+/// Runs a world whose logs are databases, by `World::run`, with the same faults. All claims of `World::run` hold on
+/// each run in which each database kept its promise (`promise`).
 pub fn run_in_databases<S: Alter + Drop>(
     world: &mut World<SqlLog<S>>,
     events: &[Event],

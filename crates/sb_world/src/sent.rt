@@ -26,7 +26,7 @@ impl Model for Sent {
     ghost view = { λ s. s.bytes.items };
 }
 
-/// The frame of a message. `NoMemory`.
+/// Makes the frame of a message. `NoMemory`.
 pub(crate) fn frame_for(alloc: Global, message: Message) -> Result<Sent, Fault>
     ensures frame { IfOk result (λ sent. sent ≡ frame message) }
     ensures limits { OnOk result (is_message message ≡ true) }
@@ -36,7 +36,7 @@ pub(crate) fn frame_for(alloc: Global, message: Message) -> Result<Sent, Fault>
     Ok(Sent { bytes })
 }
 
-/// The frame of a number, counted from 1.
+/// The frame of a number, counted from 1. `None` if there is no such frame.
 pub(crate) fn frame_in(sent: &[Sent], number: u64) -> Option<&[u8]>
     ensures { option_copied result ≡ frame_at sent.now number }
 {

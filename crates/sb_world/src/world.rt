@@ -1,4 +1,4 @@
-//! A world of nodes, each with its log, their connections, and every frame that they sent.
+//! A world of nodes, each with its log, its connections, and every frame that any of them sent.
 
 ghost use Rattle.std.specs.Prelude.{◌≡◌, ◌<◌, ℕ, List, [], ◌++◌, length, slice_set, slice_get, map, Some, None, Err, IfOk, IfSome, IfNone, IfErr, OnErr};
 ghost use Rattle.std.specs.Option.{option_copied};
@@ -26,7 +26,7 @@ use sb_types::{Fault, Name, Settings};
 use std::alloc::Global;
 use std::marker::Model;
 
-/// Nodes that take their steps in any order, each with its log, their connections, and every frame that they sent.
+/// Nodes that take their steps in any order, each with its log, with their connections and every frame that they sent.
 #[derive(Drop)]
 pub struct World<L: WriteLog> {
     settings: Settings,
@@ -48,7 +48,7 @@ impl<L: WriteLog> Model for World<L> {
     ghost view = { λ w. record { settings = w.settings; places = w.places.items; connections = w.connections.items; sent = w.sent.items } };
 }
 
-/// Where the node of a name stands, the first where several have it.
+/// The index of the node of a name. If several have the name, the first of them.
 fn place_of<L: WriteLog>(places: &[Place<L>], name: &Name) -> Option<usize>
     ensures none { IfNone result (place_at places.now name.now ≡ None) }
     ensures within { IfSome result (λ i. i < length places.now) }
@@ -65,7 +65,7 @@ fn place_of<L: WriteLog>(places: &[Place<L>], name: &Name) -> Option<usize>
     None
 }
 
-/// Sends what a node holds of an owner above a version, as far as its budget has room. `NoMemory`.
+/// Sends what a node holds of an owner above a version, as far as its budget has room. `NoMemory`, with nothing sent.
 fn send<L: WriteLog>(
     alloc: Global,
     place: &Place<L>,
@@ -86,7 +86,7 @@ fn send<L: WriteLog>(
     }
 }
 
-/// What an event does at its node, where that answers to it.
+/// What an event does at its node, if the node answers to it.
 fn perform<L: WriteLog>(
     alloc: Global,
     place: &mut Place<L>,
@@ -127,7 +127,7 @@ fn perform<L: WriteLog>(
     }
 }
 
-/// What an event does at its node: `Closed` where that is down, unless it restarts.
+/// What an event does at its node. `Closed` if the node is down, unless the event is a restart.
 fn act<L: WriteLog>(
     alloc: Global,
     place: &mut Place<L>,
@@ -145,10 +145,18 @@ fn act<L: WriteLog>(
 }
 
 impl<L: WriteLog + Drop> World<L> {
-    /// A world of a node for each log, named as its owner and opened with what the log has, which stays. `BadSetting` where there are
-    /// no logs, or more than 1,024; `SameName` where two have one owner; `WrongCluster` where one is of another cluster
-    /// than the settings'; then, log by log in their order, the faults of `load`, and behind them `NoMemory`: so a closed log
-    /// is told as `Closed`, unless one before it has a fault.
+    /// Makes a world with a node for each log. The node has the name of the log's owner, and opens with the content of
+    /// the log, which stays there.
+    ///
+    /// The faults, in this order:
+    ///
+    /// - `BadSetting` if there are no logs, or more than 1,024.
+    /// - `SameName` if two logs have one owner.
+    /// - `WrongCluster` if a log is of another cluster than the settings.
+    /// - Then, log by log in their order, the faults of `WriteLog::load`, and after them `NoMemory`. So a closed log is
+    ///   reported as `Closed`, unless a log before it has a fault.
+    ///
+    /// After a fault there is no world, and the logs are dropped.
     pub fn new(alloc: Global, settings: Settings, logs: Vec<L>) -> Result<World<L>, Fault>
         ensures refused { IfSome (refusal settings (map L.seen logs.items)) (λ fault. result ≡ Err fault) }
         ensures why { IfErr result (λ fault. IsMakingFault (refusal settings (map L.seen logs.items)) (map L.seen logs.items) fault) }
@@ -158,7 +166,7 @@ impl<L: WriteLog + Drop> World<L> {
         ensures made { IfOk result IsMade }
         ensures sure { AreSureLogs (map L.seen logs.items) → IfOk result (λ w. AreSure w.places) }
 
-        // It fits whatever was written that the logs' contents come of; and something was.
+        // It fits each list of writes that leads to the logs' contents, and there is such a list.
         ensures fits { IfOk result (λ w. IsClean w.places → (writes : List ℕ → List Write) → AreContents writes w.places → FitsWorld (start_of writes w) w) }
         ensures some { IfOk result (λ w. IsClean w.places → (writes : List ℕ → List Write) × AreContents writes w.places) }
     {
@@ -173,16 +181,30 @@ impl<L: WriteLog + Drop> World<L> {
 }
 
 impl<L: WriteLog> World<L> {
-    /// What an event does, in this order: `Nothing` where its node is not there, or its connection; `Closed` where the
-    /// node is down, unless it restarts; `Nothing` where the number of a new connection is in use, a frame is not there, or
-    /// no write waits; then what it asks for.
+    /// Makes an event happen, and returns its answer. The first case that fits decides:
     ///
-    /// Its faults: of a commit `NoMemory`, and those of `WriteLog::put`; of a purge those of `WriteLog::purge`; of a take
-    /// those of `NodeCore::take_own`; of a restart those of `WriteLog::load`, and `NoMemory`; of an ask `Closed` after a Bye;
-    /// and `NoMemory` of a crash behind a write, a new connection, an ask, a frame that is lined up, an offer and a read. A
-    /// fault of a piece is told in its answer, and a crash tells no other fault of its log. A node whose restart has a fault
-    /// is down, with nothing that waits and no connection; `StoreFailed` of a commit or of a purge closes the log; every other
-    /// fault leaves everything as it was.
+    /// 1. `Nothing` if the node or the connection of the event does not exist.
+    /// 2. `Closed` if the node is down, unless the event is a restart.
+    /// 3. `Nothing` if the number of a new connection is in use, a frame does not exist, or no write waits.
+    /// 4. What the event asks for.
+    ///
+    /// The faults of each event, in their order:
+    ///
+    /// - A commit: `NoMemory`, then those of `WriteLog::put`.
+    /// - A purge: those of `WriteLog::purge`.
+    /// - A take: those of `NodeCore::take_own`.
+    /// - A restart: those of `WriteLog::load`, then `NoMemory`.
+    /// - An ask: `Closed` after a Bye, then `NoMemory`.
+    /// - A crash after a write, a new connection, a frame that is lined up, an offer and a read: `NoMemory`.
+    /// - A piece: none. Its answer contains the fault that closed the connection. A crash reports no other fault of its
+    ///   log.
+    ///
+    /// What a fault leaves:
+    ///
+    /// - After a restart: the node is down, no write waits, and the node has no connection. `StoreFailed` and
+    ///   `LogDamaged` also close its log.
+    /// - After `StoreFailed` from a commit or a purge: the log is closed.
+    /// - After every other fault: everything as it was.
     pub fn step(&mut self, event: &Event) -> Result<Answer, Fault>
         ensures step { (effect : Effect) × Step self.old event.now result effect self.new }
         ensures fits { (old : State) → FitsWorld old self.old → (new : State) × Moves old event.now result new × FitsWorld new self.new }
@@ -193,7 +215,7 @@ impl<L: WriteLog> World<L> {
         self.step_once(event)
     }
 
-    /// A step.
+    /// Makes one step.
     fn step_once(&mut self, event: &Event) -> Result<Answer, Fault>
         ensures step { (effect : Effect) × Step self.old event.now result effect self.new }
     {
@@ -212,26 +234,33 @@ impl<L: WriteLog> World<L> {
         )
     }
 
-    /// Each event in turn, with its answers. `NoMemory` where there is no room for the answers, with nothing done.
+    /// Makes the events happen one after another, and returns their answers. `NoMemory` if there is no room for the
+    /// answers, and then nothing has happened.
     ///
-    /// For all that the owners wrote before, and for every list of events, as long as each log's store keeps its promise:
-    /// what a reader is given was written by its owner under that version (`given`); a reader that holds an owner up to a
-    /// version gets of each key that was last written at or below it exactly that write (`exact`); whatever joins on is
-    /// taken up (`taken`); within a node's run no version falls (`later`); no frame exceeds its budget (`budget`). So a key
-    /// whose last write is a removal is shown nowhere where the owner is held up to that, whatever old frames come
-    /// (`removed`); and what was purged stays gone: out of the log, the node that opens with it, and every table of that
-    /// floor (`purged`).
+    /// The following holds for all that the owners wrote before, and for every list of events, as long as each log's
+    /// store keeps its promise:
+    ///
+    /// - `given`: each value that a reader is given was written by its owner under that version.
+    /// - `exact`: a reader that holds an owner up to a version gets, of each key last written at or below it, exactly
+    ///   that write.
+    /// - `taken`: whatever continues what is held is taken up.
+    /// - `later`: within a node's run, from one opening to the next, no version falls.
+    /// - `budget`: no frame exceeds its budget.
+    /// - `removed`: if a key's last write is a removal, no node that holds the owner up to it shows the key, whatever
+    ///   old frames come.
+    /// - `purged`: what was purged stays gone from the log, from the node that opens with it, and from every table of
+    ///   that floor.
     pub fn run(&mut self, events: &[Event]) -> Result<Vec<Result<Answer, Fault>>, Fault>
         ensures passes { IfOk result (λ answers. Passes self.old events.now answers.items self.new) }
         ensures err { OnErr result (self.new ≡ self.old) }
         ensures memory { IfErr result (λ fault. fault ≡ Fault.NoMemory) }
 
-        // From each state that fits before there is a run with these events and these answers to one that fits.
+        // From each state that fits before, there is a run with these events and these answers to one that fits.
         ensures fits { IfOk result (λ answers. (old : State) → FitsWorld old self.old →
             (states : List State) × Run old events.now answers.items states × FitsWorld (last_of old states) self.new) }
         ensures sure { IfOk result (λ answers. AreSure self.old.places → AreSure self.new.places) }
 
-        // And this holds of each such run, as long as each log's store keeps its promise.
+        // This holds on each such run, as long as each log's store keeps its promise.
         ensures sound { IfOk result (λ answers. OnEachRun self.old events.now answers.items (λ old states. EachState IsTrueState old states)) }
         ensures given { IfOk result (λ answers. OnEachRun self.old events.now answers.items (λ old states. EachStep GivenIsWritten old events.now answers.items states)) }
         ensures exact { IfOk result (λ answers. OnEachRun self.old events.now answers.items (λ old states. AreExact old events.now answers.items states)) }
@@ -247,7 +276,7 @@ impl<L: WriteLog> World<L> {
         self.run_each(events)
     }
 
-    /// Each event in turn.
+    /// Makes the events happen one after another. `NoMemory`, and then nothing has happened.
     fn run_each(&mut self, events: &[Event]) -> Result<Vec<Result<Answer, Fault>>, Fault>
         ensures passes { IfOk result (λ answers. Passes self.old events.now answers.items self.new) }
         ensures err { OnErr result (self.new ≡ self.old) }
@@ -261,7 +290,7 @@ impl<L: WriteLog> World<L> {
         Ok(answers)
     }
 
-    /// The frame of a number, counted from 1.
+    /// The frame of a number, counted from 1. `None` if there is no such frame.
     pub fn frame(&self, number: u64) -> Option<&[u8]>
         ensures { option_copied result ≡ frame_at self.now.sent number }
     {

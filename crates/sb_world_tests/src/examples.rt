@@ -1,4 +1,4 @@
-//! The examples that stand at the top of the crates of worlds and of scripts.
+//! The examples at the top of the crates of worlds and of scripts.
 use crate::world::settings;
 use crate::{got, same};
 use sb_log::PlainLog;

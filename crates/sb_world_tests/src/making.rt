@@ -1,4 +1,4 @@
-//! Worlds that are not made, since a log can't be read.
+//! Worlds that are not made, because a log cannot be read.
 ghost use Rattle.std.specs.Prelude.{◌≡◌, [], false};
 ghost use Rattle.sb_table.specs.Plain.{plain_table};
 
@@ -12,7 +12,7 @@ use std::alloc::Global;
 use std::marker::Model;
 use std::process::Abort;
 
-/// A log whose store gives other rows than were written: it closes when it is read, or has done so.
+/// A log whose store gives other rows than were written. It closes when it is read, or is closed already.
 #[derive(Drop)]
 struct Damaged {
     owner: Name,
@@ -85,7 +85,7 @@ fn log(rt: &impl Abort, owner: &[u8], is_open: bool) -> Damaged {
     }
 }
 
-/// Why no world is made of the logs of a and b, of which each is open or closed.
+/// The fault with which no world is made from the logs of a and b, each open or closed.
 fn refusal(rt: &impl Abort, alloc: Global, is_a_open: bool, is_b_open: bool) -> Option<Fault> {
     let mut logs = Vec::new(alloc);
     got(rt, logs.push(log(rt, b"a", is_a_open)));

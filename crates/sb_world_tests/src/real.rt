@@ -36,7 +36,7 @@ fn world<S: Alter + Drop>(
     got(rt, World::new(alloc, settings(rt), logs))
 }
 
-/// What a whole run over these databases answers to seven events.
+/// The answers to seven events in a whole run over these databases.
 fn told_of_run<S: Alter + Drop>(
     rt: &impl Abort,
     alloc: Global,

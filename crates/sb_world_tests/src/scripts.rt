@@ -1,4 +1,4 @@
-//! What no clause says: what scripts print, and the ends of a run.
+//! What no clause promises: what scripts print, and how runs end.
 use crate::transcripts::{TRANSCRIPTS, lines_behind};
 use crate::{got, holds, same};
 use sb_script::{Detail, Ending, Output, sim_run_uncounted};
@@ -21,7 +21,7 @@ taken 1
 a w 1 weight 5
 ";
 
-/// A writer that takes no memory, of so many bytes at most.
+/// A writer that takes no memory, and at most so many bytes.
 #[derive(Drop)]
 struct Page {
     bytes: [u8; 4096],
@@ -40,7 +40,7 @@ impl Page {
         self.bytes.get(..self.used).unwrap_or(&[])
     }
 
-    /// Whether no line tells of want of memory, nor stands in the place of words for which there was none.
+    /// Whether no line reports missing memory, as an answer or in place of words.
     fn had_memory(&self) -> bool {
         for line in self.printed().split(is_newline) {
             if line.ends_with(b"fault 1") || line.starts_with(b"no-memory") {
@@ -50,7 +50,7 @@ impl Page {
         true
     }
 
-    /// Whether just this was printed. Want of memory ends the test.
+    /// Whether just this was printed. Missing memory ends the test.
     fn has_just(&self, rt: &impl Abort, wanted: &[u8]) -> bool {
         holds(rt, "error: NoMemory", self.had_memory());
         self.printed() == wanted
@@ -78,7 +78,7 @@ impl Write for Page {
     }
 }
 
-/// How a run of the example ended. Without want of memory, which ends the test, there is always a world.
+/// How a run of the example ended. Missing memory ends the test, and without it there is always a world.
 fn settled(rt: &impl Abort, ended: Result<Ending, Fault>) -> Result<Ending, Fault> {
     match ended {
         Err(Fault::NoMemory) | Ok(Ending::NoWorld) => got(rt, Err(Fault::NoMemory)),
@@ -98,7 +98,7 @@ fn run_to<R: Read + Drop, W: Write + Drop>(
     sim_run_uncounted(alloc, reader, &mut output, max_reads, detail)
 }
 
-/// How a script ends in ample reads, and whether just this was printed.
+/// How a script ends with ample reads, and whether just this was printed.
 fn ran(
     rt: &impl Abort,
     alloc: Global,
@@ -111,7 +111,7 @@ fn ran(
     (ending, page.has_just(rt, printed))
 }
 
-/// A reader that says so many times that it is at its end, and then fails.
+/// A reader that comes to its end so many times, and then fails.
 #[derive(Drop)]
 struct BreakingReader<'a> {
     bytes: &'a [u8],
@@ -177,7 +177,7 @@ fn add_line(rt: &impl Abort, out: &mut Vec<u8>, line: &[u8]) {
     add(rt, out, b"\n");
 }
 
-/// Adds a line of a transcript where it is one of the script, or one of those that it prints.
+/// Adds a line of a transcript, without its sign, if it belongs to the script, or to what the script prints.
 fn add_line_if(rt: &impl Abort, out: &mut Vec<u8>, line: &[u8], is_printed: bool) {
     match line.strip_prefix(b"> ".as_slice()) {
         Some(printed) if is_printed => add_line(rt, out, printed),
@@ -197,7 +197,7 @@ fn lines_of(rt: &impl Abort, alloc: Global, transcript: &str, are_printed: bool)
     lines
 }
 
-/// Whether the lines of a transcript print just what stands below them.
+/// Whether the lines of a transcript print just what is below them.
 fn prints(rt: &impl Abort, alloc: Global, detail: Detail, transcript: &str) -> bool {
     let script = lines_of(rt, alloc, transcript, false);
     let printed = lines_of(rt, alloc, transcript, true);
@@ -211,7 +211,7 @@ fn lines_print_what_stands_below_them(rt: HostRuntime) {
     }
 }
 
-/// The script ends with this status, and has printed just this.
+/// Tests that the script ends with this status, and has printed just this.
 fn ends_with(rt: &impl Abort, alloc: Global, script: &str, status: u8, printed: &str) {
     let bytes = script.as_bytes();
     let (ending, is_printed) = ran(rt, alloc, bytes, Detail::Plain, printed.as_bytes());
@@ -228,13 +228,13 @@ fn a_wrong_line_ends_the_run(rt: HostRuntime) {
     ends_with(&rt, alloc, "world 1023 breadth 100 a", 3, "fault 5\n");
 }
 
-/// A world of one node, and this line, end with this status, and print just this.
+/// Tests that a world of one node and this line end with this status, and print just this.
 fn line_ends_with(rt: &impl Abort, alloc: Global, line: &str, status: u8, printed: &str) {
     let script = got(rt, format!(in alloc; "world 1024 breadth 100 a\n{line}\n"));
     ends_with(rt, alloc, script.as_str(), status, printed);
 }
 
-/// Behind the kind stands one space, and then all is the text, spaces too; in a crash, up to the last word.
+/// After the kind comes one space, and then all is the text, with its spaces. In a crash it ends before the last word.
 #[test]
 fn lines_with_texts(rt: HostRuntime) {
     let alloc = rt.alloc();
@@ -252,7 +252,7 @@ fn lines_with_texts(rt: HostRuntime) {
     line_ends_with(&rt, alloc, "crash a t text lost lost", 0, "crashed\n");
 }
 
-/// A purge has a node and a floor, which is a number as others are.
+/// A purge has a node and a floor, which is a number like others.
 #[test]
 fn lines_with_floors(rt: HostRuntime) {
     let alloc = rt.alloc();
@@ -266,7 +266,7 @@ fn lines_with_floors(rt: HostRuntime) {
     line_ends_with(&rt, alloc, "purge a 18446744073709551616", 2, "line 2\n");
 }
 
-/// The example ends so in so many reads.
+/// Tests how the example ends with so many reads.
 fn ends_within(rt: &impl Abort, alloc: Global, max_reads: u64, wanted: Result<Ending, Fault>) {
     let script = EXAMPLE.as_bytes();
     let ended = run_to(alloc, script, io::sink(), max_reads, Detail::Plain);
@@ -280,7 +280,8 @@ fn reads_are_counted(rt: HostRuntime) {
     ends_within(&rt, rt.alloc(), 2, Ok(Ending::Whole));
 }
 
-/// A script whose reader is at its end so many times before it fails ends so, and has printed just this.
+/// Tests how a script ends whose reader comes to its end so many times before it fails, and that it has printed just
+/// this.
 fn ends_at_breaks(
     rt: &impl Abort,
     alloc: Global,
@@ -305,7 +306,7 @@ fn a_failed_read_is_no_end_and_the_end_is_read_once(rt: HostRuntime) {
     ends_at_breaks(&rt, alloc, (EXAMPLE, 1), Ok(Ending::Whole), PRINTED);
 }
 
-/// Over such a writer, of which so many writes fail, the example ends so.
+/// Tests how the example ends with such a writer, and that so many writes failed.
 fn ends_at_writer(
     rt: &impl Abort,
     alloc: Global,
@@ -339,7 +340,7 @@ fn are_lines(printed: &[u8], lines: &[&str]) -> bool {
     rest.is_empty()
 }
 
-/// What a whole run of the example prints, as far as there is memory.
+/// What a whole run of the example prints, depending on where memory is missing.
 const WHOLE: [&[&str]; 6] = [
     &["version 1", FRAME, "taken 1", "a w 1 weight 5"],
     &["fault 1", EMPTY_FRAME, "nothing", "none"],
@@ -349,10 +350,10 @@ const WHOLE: [&[&str]; 6] = [
     &["version 1", FRAME, "taken 1", "fault 1"],
 ];
 
-/// What one prints that is not told, for want of memory.
+/// What a run prints before missing memory ends it.
 const UNTOLD: [&[&str]; 3] = [&[], &["version 1"], &["version 1", FRAME, "taken 1"]];
 
-/// Whether these are the lines of one of them.
+/// Whether these are the lines of one of these runs.
 fn are_lines_of_one(printed: &[u8], all: &[&[&str]]) -> bool {
     for lines in all {
         if are_lines(printed, lines) {
@@ -362,7 +363,7 @@ fn are_lines_of_one(printed: &[u8], all: &[&[&str]]) -> bool {
     false
 }
 
-/// Whether a run of the example may end so where any memory may be refused.
+/// Whether a run of the example can end in this way if any memory can be refused.
 fn may_end(ended: Result<Ending, Fault>, printed: &[u8]) -> bool {
     match ended {
         Ok(Ending::Whole) => are_lines_of_one(printed, &WHOLE),

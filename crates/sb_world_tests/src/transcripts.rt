@@ -1,13 +1,15 @@
-//! What lines of scripts print: each transcript is a script, and below each line what it prints, behind a sign.
+//! What lines of scripts print. Each transcript is a script, and below each line what it prints, after a sign.
 use sb_script::Detail;
 
-/// What a run is about, whether words are asked for, and its lines. The lines WRITTEN, OFFERED and LINED stand for several; of the
-/// words of a line T stands for 512 letters, P for 128 and Q for 127 of them, FRAME for the frame of a delta of one weight, and
-/// EMPTY for that of an empty delta.
+/// What a run is about, whether words are asked for, and its lines. The lines WRITTEN, OFFERED and LINED are short for
+/// several lines. In a line these words are short for others:
+///
+/// - T for 512 letters, P for 128 and Q for 127 of them.
+/// - FRAME for the frame of a delta of one weight, and EMPTY for that of an empty delta.
 pub(crate) type Transcript = (&'static str, Detail, &'static str);
 
-/// The lines that a line of a transcript stands for: a first write of a, its Hello and the delta of all its writes, and how b is
-/// to hear both of them.
+/// The lines that a line of a transcript is short for. They are a first write of a, its Hello and the delta of all its
+/// writes, or the way of both to b.
 pub(crate) fn lines_behind(line: &[u8]) -> &[u8] {
     match line {
         b"WRITTEN" => b"put a w weight 5\n> version 1",

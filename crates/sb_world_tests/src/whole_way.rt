@@ -19,7 +19,7 @@ const BUDGET: u64 = 1_024;
 /// How many bytes the network brings at once.
 const PIECE: usize = 100;
 
-/// A node that has written nothing and holds nothing.
+/// A node that has written nothing, and holds nothing.
 fn node(rt: &impl Abort, alloc: Global, text: &[u8]) -> Holdings {
     got(rt, Holdings::new(alloc, name(rt, text), Table::new(alloc)))
 }
@@ -61,7 +61,7 @@ fn digest_from(rt: &impl Abort, alloc: Global, node: &Holdings) -> Digest {
     }
 }
 
-/// Of what the peer lacks, the first of each owner first, the longest front within the budget.
+/// The longest prefix within the budget of what the peer lacks, the first write of each owner first.
 fn front_of(alloc: Global, node: &Holdings, digest: &Digest) -> Result<Delta, Fault> {
     let lacking = available(alloc, node, digest)?;
     let ordered = Breadth.arrange(alloc, lacking)?;
@@ -78,7 +78,7 @@ fn answer_from(rt: &impl Abort, alloc: Global, node: &Holdings, digest: &Digest)
     }
 }
 
-/// The node takes a block. That there was no memory for it ends the test.
+/// The node takes a block. If memory was missing for it, the test ends.
 fn take(rt: &impl Abort, node: &mut Holdings, block: &Block) -> BlockEnd {
     match node.apply_block(block) {
         BlockEnd::NoMemory(_) => got(rt, Err(Fault::NoMemory)),
@@ -94,7 +94,8 @@ fn read(rt: &impl Abort, node: &Holdings, owner: &Name, text: &[u8]) -> Option<u
     }
 }
 
-/// The node takes the one block, which brings it a's write of this version. The same block once more tells it nothing.
+/// The node takes the one block, which brings it the write of this version of a. The same block once more brings it
+/// nothing.
 fn take_twice(rt: &impl Abort, a: &Name, taker: &mut Holdings, block: &Block, version: u64)
     requires { 1 ≤ version }
 {
@@ -104,7 +105,7 @@ fn take_twice(rt: &impl Abort, a: &Name, taker: &mut Holdings, block: &Block, ve
     same(rt, &take(rt, taker, block), &BlockEnd::Stale);
 }
 
-/// In a round b tells how far it holds a, and a answers with the next write above that.
+/// In a round b reports how far it holds a, and a answers with the next write above that.
 fn go_a_round(
     rt: &impl Abort,
     alloc: Global,
@@ -125,7 +126,7 @@ fn go_a_round(
     }
 }
 
-/// How far the node holds an owner, and the versions of what a reader at it sees of the owner under x and y.
+/// How far the node holds an owner, and the versions of the owner's x and y that a reader at it sees.
 fn seen(rt: &impl Abort, node: &Holdings, owner: &Name) -> (u64, Option<u64>, Option<u64>) {
     let x = read(rt, node, owner, b"x");
     let y = read(rt, node, owner, b"y");
@@ -138,7 +139,7 @@ fn left(rt: &impl Abort, alloc: Global, giver: &Holdings, taker: &Holdings) -> u
     answer_from(rt, alloc, giver, &digest).blocks().len()
 }
 
-/// Node a puts two texts. One makes a frame of 562 bytes and both would make one of 1,087, so that a budget of 1,024
+/// Node a puts two texts. One makes a frame of 562 bytes, and both would make one of 1,087. So a budget of 1,024
 /// carries one of them at a time.
 fn giver_of_two(rt: &impl Abort, alloc: Global) -> Holdings {
     let mut giver = node(rt, alloc, b"a");

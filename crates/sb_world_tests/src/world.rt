@@ -34,7 +34,7 @@ fn world(rt: &impl Abort, alloc: Global) -> World<PlainLog> {
     got(rt, World::new(alloc, settings(rt), logs))
 }
 
-/// A crash behind a write, a restart, a write that is entered, and one for which no version is left.
+/// A crash after a write, a restart, a write that is entered, and one for which no version is left.
 pub(crate) fn seven_events(rt: &impl Abort) -> [Event; 7] {
     let (a, b) = (name(rt, b"a"), name(rt, b"b"));
     [
@@ -48,7 +48,8 @@ pub(crate) fn seven_events(rt: &impl Abort) -> [Event; 7] {
     ]
 }
 
-/// A removal that is purged, with a floor that is too high before it and one that comes while the node is down, and a restart.
+/// A write and its removal, a purge with too high a floor, one that succeeds, one while the node is down, and a
+/// restart.
 pub(crate) fn purging_events(rt: &impl Abort) -> [Event; 7] {
     let a = name(rt, b"a");
     [
@@ -62,7 +63,7 @@ pub(crate) fn purging_events(rt: &impl Abort) -> [Event; 7] {
     ]
 }
 
-/// What is told of an answer.
+/// What a test sees of an answer.
 #[derive(Clone, Copy, Debug, PartialEq, Eq)]
 pub(crate) enum Told {
     Crashed,
@@ -75,7 +76,7 @@ pub(crate) enum Told {
     Other,
 }
 
-/// What the seven events are answered.
+/// The answers to the seven events.
 pub(crate) const SEVEN_ANSWERS: [Told; 7] = [
     Told::Crashed,
     Told::Number(0),
@@ -86,7 +87,7 @@ pub(crate) const SEVEN_ANSWERS: [Told; 7] = [
     Told::Number(2),
 ];
 
-/// What the events with a purge are answered.
+/// The answers to the events with a purge.
 pub(crate) const PURGING_ANSWERS: [Told; 7] = [
     Told::Committed(1),
     Told::Committed(2),
@@ -110,7 +111,7 @@ fn told_by(answer: &Result<Answer, Fault>) -> Told {
     }
 }
 
-/// What seven answers tell; where there are more or fewer, nothing of that.
+/// What a test sees of seven answers. If there are more or fewer, it sees nothing.
 pub(crate) fn told_by_seven(answers: &[Result<Answer, Fault>]) -> [Told; 7] {
     match answers {
         [a, b, c, d, e, f, g] => [
@@ -126,7 +127,7 @@ pub(crate) fn told_by_seven(answers: &[Result<Answer, Fault>]) -> [Told; 7] {
     }
 }
 
-/// What a whole run answers to seven events.
+/// The answers to seven events in a whole run.
 fn told_of_run(rt: &impl Abort, alloc: Global, events: &[Event]) -> [Told; 7] {
     let mut world = world(rt, alloc);
     let answers = got(rt, run_in_memory(&mut world, events));
