@@ -1,4 +1,4 @@
-//! What the program does by its command line.
+//! What the program does for each command line.
 use crate::asking::{RowFormat, print_all, put};
 use crate::batch::write_lines;
 use crate::beginning::{Start, begin_log};
@@ -19,19 +19,19 @@ use sb_types::{Fault, Key, Name, Order, RawSettings, Slot, Value};
 use std::alloc::Global;
 use std::{env, io};
 
-/// How many reads a script may take.
+/// How many reads a script can take.
 const READS_OF_A_SCRIPT: u64 = 1_000_000;
 
-/// The exit status of a command line that is wrong.
+/// The exit status of a wrong command line.
 pub(crate) const USAGE_STATUS: u8 = 2;
 
-/// The exit status of `get --key` where there is no such row.
+/// The exit status of `get --key` if there is no such row.
 const NONE_STATUS: u8 = 1;
 
 /// The word that stands for lines of standard input.
 const LINES: &str = "-";
 
-/// The exit status of a run that had a fault.
+/// The exit status of a run that ended with a fault.
 const FAULT_STATUS: u8 = 3;
 
 /// The options of `serve` that take a number.
@@ -59,16 +59,16 @@ const PURGE_NUMBERS: [&str; 1] = ["FLOOR"];
 /// The option of `begin` that takes a number.
 const BEGIN_NUMBERS: [&str; 1] = ["after"];
 
-/// What is left to do behind the command line.
+/// What is left to do after the command line was read.
 #[derive(Drop)]
 pub(crate) enum Next<'a> {
     /// Nothing: the exit status.
     Ended(u8),
-    /// A node is to run, which is for `main`: nothing else may start threads.
+    /// Run a node. That is for `main`, since nothing else may start threads.
     Serve(ServeArguments<'a>),
 }
 
-/// The words of the command line; none where one is not UTF-8, which is told.
+/// The words of the command line. `None` if one is not UTF-8, after printing that. `NoMemory`.
 pub(crate) fn words(rt: &HostRuntime) -> Result<Option<Vec<String>>, Fault> {
     match env::args(rt) {
         Ok(args) => Ok(Some(args.collect(rt.alloc())?)),
@@ -80,7 +80,7 @@ pub(crate) fn words(rt: &HostRuntime) -> Result<Option<Vec<String>>, Fault> {
     }
 }
 
-/// Plays the script on standard input, and answers the exit status.
+/// Plays the script on standard input. Returns the exit status.
 fn play(rt: &HostRuntime, detail: Detail) -> Result<u8, Fault> {
     let mut output = Output::new(rt.alloc(), rt.stdout())?;
     let ending = sim_run_uncounted(
@@ -93,7 +93,7 @@ fn play(rt: &HostRuntime, detail: Detail) -> Result<u8, Fault> {
     Ok(ending.status())
 }
 
-/// What a script is to print, as the command line says.
+/// What a script prints, as the command line asks.
 fn detail_of(given: &ArgMatches<'_>) -> Detail {
     if given.get_flag("explain") {
         Detail::Explained
@@ -102,12 +102,13 @@ fn detail_of(given: &ArgMatches<'_>) -> Detail {
     }
 }
 
-/// The value of an option or a word, and the empty text where none was given.
+/// The value of an option or a word, or the empty text if none was given.
 fn value<'a>(given: &ArgMatches<'a>, name: &str) -> &'a str {
     given.get_str(name).unwrap_or("")
 }
 
-/// Whether the number of one of these options or words has something else than digits, as a sign; the first that has is told.
+/// Whether one of these options or words has another character than digits, such as a sign. It prints the first that
+/// has one.
 fn has_wrong_number(rt: &HostRuntime, given: &ArgMatches<'_>, names: &[&'static str]) -> bool {
     for name in names {
         let text = value(given, name);
@@ -122,7 +123,7 @@ fn has_wrong_number(rt: &HostRuntime, given: &ArgMatches<'_>, names: &[&'static 
     false
 }
 
-/// What `serve` has of settings. Seats that are not given are those of its workers and two more.
+/// The settings that `serve` was given. Without `--seats` there are two more seats than workers.
 fn settings_of<'a>(given: &ArgMatches<'a>) -> RawSettings<'a> {
     let workers = given.get_one::<u64>("workers").unwrap_or(0);
     let order = match value(given, "order") {
@@ -158,7 +159,7 @@ fn pace_of(given: &ArgMatches<'_>) -> Pace {
     }
 }
 
-/// The node that the command line says; none where a number is wrong, which is told.
+/// The node that the command line asks for. If a number is wrong, it prints that, and returns the exit status.
 fn node_of<'a>(rt: &HostRuntime, given: &ArgMatches<'a>) -> Result<Next<'a>, Failure<'a>> {
     if has_wrong_number(rt, given, &NUMBERS) {
         return Ok(Next::Ended(USAGE_STATUS));
@@ -179,7 +180,7 @@ fn node_of<'a>(rt: &HostRuntime, given: &ArgMatches<'a>) -> Result<Next<'a>, Fai
     }))
 }
 
-/// Has a node write, and prints the version of the write.
+/// Makes a node write, and prints the version of the write.
 fn write<'a>(rt: &HostRuntime, control: &'a str, key: Key, slot: Slot) -> Result<u8, Failure<'a>> {
     let version = put(rt, control, key, slot)?;
     match println!(rt; "version {version}") {
@@ -188,7 +189,7 @@ fn write<'a>(rt: &HostRuntime, control: &'a str, key: Key, slot: Slot) -> Result
     }
 }
 
-/// Says what `set` wants behind a key.
+/// Prints what `set` needs after a key. Returns the exit status.
 fn tell_lacking(rt: &HostRuntime) -> u8 {
     let _ = eprintln!(rt;
         "error: KEY wants a KIND and a VALUE behind it; - alone, without --raw, reads lines of standard input"
@@ -196,7 +197,7 @@ fn tell_lacking(rt: &HostRuntime) -> u8 {
     USAGE_STATUS
 }
 
-/// The value that is given. The faults of `Value::from_words`.
+/// The value that was given. The faults of `Value::from_words`.
 fn written_of<'a>(
     alloc: Global,
     given: &ArgMatches<'a>,
@@ -230,7 +231,7 @@ fn run_del<'a>(rt: &HostRuntime, given: &ArgMatches<'a>) -> Result<u8, Failure<'
     write(rt, value(given, "control"), key, Slot::Removed)
 }
 
-/// The owner that is asked for, where one is. `BadName`.
+/// The owner that is asked for, if one is. `BadName`.
 fn owner_of<'a>(given: &ArgMatches<'a>) -> Result<Option<Name>, Failure<'a>> {
     match given.get_str("owner") {
         Some(name) => Ok(Some(name_of("--owner", name)?)),
@@ -238,7 +239,7 @@ fn owner_of<'a>(given: &ArgMatches<'a>) -> Result<Option<Name>, Failure<'a>> {
     }
 }
 
-/// The rows that are asked for. `BadName` of the owner; then `BadKey` of the prefix.
+/// The rows that are asked for. `BadName` of the owner, then `BadKey` of the prefix.
 fn asked_of<'a>(given: &ArgMatches<'a>) -> Result<Ask, Failure<'a>> {
     let owner = owner_of(given)?;
     let prefix = prefix_of(value(given, "prefix"))?;
@@ -260,7 +261,7 @@ fn portion_of(given: &ArgMatches<'_>, format: RowFormat) -> Portion {
     }
 }
 
-/// Prints the row of one key, and says whether there is one.
+/// Prints the row of one key. The exit status is 1 if there is no such row.
 fn run_get_one<'a>(
     rt: &HostRuntime,
     given: &ArgMatches<'a>,
@@ -324,7 +325,7 @@ fn run_log<'a>(rt: &HostRuntime, given: &ArgMatches<'a>) -> Result<u8, Failure<'
     Ok(0)
 }
 
-/// Says what `purge` wants.
+/// Prints what `purge` needs. Returns the exit status.
 fn tell_floors(rt: &HostRuntime) -> u8 {
     let _ = eprintln!(rt; "error: give FLOOR or --all, one of the two");
     USAGE_STATUS
@@ -344,7 +345,7 @@ fn run_purge<'a>(rt: &HostRuntime, given: &ArgMatches<'a>) -> Result<u8, Failure
     Ok(0)
 }
 
-/// Says what `begin` wants.
+/// Prints what `begin` needs. Returns the exit status.
 fn tell_starts(rt: &HostRuntime) -> u8 {
     let _ = eprintln!(rt; "error: give --after or --from, one of the two");
     USAGE_STATUS
@@ -368,7 +369,7 @@ fn run_sim<'a>(rt: &HostRuntime, given: &ArgMatches<'a>) -> Result<u8, Failure<'
     Ok(play(rt, detail_of(given))?)
 }
 
-/// Does what a command says, but for running a node, and answers the exit status.
+/// Runs a command, except `serve`. Returns the exit status.
 fn status_of<'a>(
     rt: &HostRuntime,
     command: &str,
@@ -388,7 +389,7 @@ fn status_of<'a>(
     }
 }
 
-/// Does what a command line says that is one, but for running a node.
+/// Runs a command line that is well formed, except that it does not run a node.
 fn carry_out<'a>(rt: &HostRuntime, matches: &ArgMatches<'a>) -> Result<Next<'a>, Failure<'a>> {
     match matches.subcommand() {
         Some(("serve", given)) => node_of(rt, given),
@@ -397,7 +398,7 @@ fn carry_out<'a>(rt: &HostRuntime, matches: &ArgMatches<'a>) -> Result<Next<'a>,
     }
 }
 
-/// Prints the help that was asked for, or why the words are no command line, and answers the exit status.
+/// Prints the help that was asked for, or what is wrong with the words. Returns the exit status.
 fn tell(rt: &HostRuntime, error: &clap::Error) -> Result<u8, Fault> {
     if error.kind() == ErrorKind::OutOfMemory {
         return Err(Fault::NoMemory);
@@ -408,7 +409,8 @@ fn tell(rt: &HostRuntime, error: &clap::Error) -> Result<u8, Fault> {
     }
 }
 
-/// Does what these words say, but for running a node, with the path of the control socket that is meant where none is given.
+/// Runs these words as a command line, except that it does not run a node. If no control socket is given, `fallback` is
+/// its path.
 pub(crate) fn follow<'a>(
     rt: &HostRuntime,
     words: &'a [String],
@@ -420,7 +422,7 @@ pub(crate) fn follow<'a>(
     }
 }
 
-/// Prints a failure, and answers the exit status.
+/// Prints a failure. Returns the exit status.
 pub(crate) fn print_failure(rt: &HostRuntime, failure: Failure<'_>) -> u8 {
     let _ = eprintln!(rt; "{failure}");
     FAULT_STATUS

@@ -6,35 +6,35 @@ use std::alloc::{AllocError, Global};
 /// How an option or a word is given.
 #[derive(Clone, Copy)]
 enum OptionKind {
-    /// A word that has to be given.
+    /// A word that must be given.
     Word,
     /// Any number of words.
     Words,
     /// An option without a value.
     Flag,
-    /// An option without a value, only beside this option.
+    /// An option without a value, allowed only with this option.
     FlagOf(&'static str),
-    /// A word that may be left out.
+    /// A word that can be left out.
     WordOrNone,
-    /// A number that may be left out.
+    /// A number that can be left out.
     NumberOrNone,
-    /// An option with one value that has to be given.
+    /// An option with one value, which must be given.
     Needed,
-    /// An option with one value, which is that of the environment where it is not given, and has to be given where there is none.
+    /// An option with one value. If it is not given, the environment gives it. If that has none, it must be given.
     Control,
     /// An option with one value.
     Value,
-    /// An option with one value, which is this where none is given.
+    /// An option with one value. This is the default.
     ValueOr(&'static str),
-    /// An option with one value, only beside the first of these options, and not beside the second.
+    /// An option with one value, allowed only with the first of these options, and not with the second.
     ValueBeside(&'static str, &'static str),
-    /// An option without a value, only beside the first of these options, and not beside the second.
+    /// An option without a value, allowed only with the first of these options, and not with the second.
     FlagBeside(&'static str, &'static str),
     /// An option with one number.
     Number,
-    /// An option with one number, which is this where none is given.
+    /// An option with one number. This is the default.
     NumberOr(&'static str),
-    /// An option with one of these values, which is the second where none is given.
+    /// An option with one of these values. The second part is the default.
     OneOf(&'static [&'static str], &'static str),
 }
 
@@ -43,7 +43,7 @@ enum OptionKind {
 struct Part {
     name: &'static str,
     kind: OptionKind,
-    /// What the help calls its value, where it is an option that has one.
+    /// What the help calls its value, if it is an option that has one.
     value: &'static str,
     help: &'static str,
 }
@@ -53,7 +53,7 @@ struct Part {
 struct Task {
     name: &'static str,
     about: &'static str,
-    /// What stands behind its help.
+    /// What comes after its help.
     more: &'static str,
     parts: &'static [Part],
 }
@@ -540,7 +540,7 @@ fn flag<'a>(alloc: Global, part: &Part) -> Arg<'a> {
     word(alloc, part).long(part.name).action(ArgAction::SetTrue)
 }
 
-/// The option of the control socket, which is this path where it is not given; it has to be given where there is none.
+/// The option of the control socket. Its default is this path, and if there is none, it must be given.
 fn control<'a>(alloc: Global, part: &Part, fallback: Option<&'a str>) -> Arg<'a> {
     match fallback {
         Some(path) => option(alloc, part).default_value(path),
@@ -595,7 +595,7 @@ fn command_of<'a>(
     Ok(command)
 }
 
-/// The command line that the program takes, with the path of the control socket that is meant where none is given.
+/// The command line that the program takes. If no control socket is given, `fallback` is its path.
 pub(crate) fn command<'a>(
     alloc: Global,
     fallback: Option<&'a str>,

@@ -1,4 +1,4 @@
-//! What ended a command: the fault, where it was met, and what to do about it.
+//! What ended a command: the fault, the place at which it was met, and what the user can do about it.
 use sb_types::Fault;
 use std::alloc::AllocError;
 use std::fmt;
@@ -15,7 +15,7 @@ pub(crate) enum Setting {
 }
 
 impl Setting {
-    /// Its option.
+    /// The option that gives it.
     fn option(self) -> &'static str {
         match self {
             Setting::Cluster => "--cluster",
@@ -27,7 +27,7 @@ impl Setting {
         }
     }
 
-    /// What to give.
+    /// Which values are within its limits.
     fn limits(self) -> &'static str {
         match self {
             Setting::Cluster => "give 1 to 32 lower-case letters, digits and -",
@@ -40,26 +40,26 @@ impl Setting {
     }
 }
 
-/// Where a fault was met.
+/// The place at which a fault was met.
 #[derive(Clone, Copy)]
 pub(crate) enum FaultPlace<'a> {
-    /// In what the command line gives, or at standard input or output.
+    /// On the command line, or at standard input or output.
     Line,
-    /// In a word of the command line: what it is given for, and the word.
+    /// In a word of the command line: the option or word that it is for, and the word.
     Word(&'a str, &'a str),
     /// In the kind and the word of a value.
     Value(&'a str, &'a str),
     /// In a setting.
     Setting(Setting),
-    /// In the version that the node behind a socket for peers heard of.
+    /// In the version that the node at a socket for peers heard of.
     Heard(&'a str),
     /// At the file of a log.
     Log(&'a str),
-    /// At the file of a log, which is not there.
+    /// At the file of a log, which does not exist.
     NoLog(&'a str),
-    /// At the file of a log, whose folder is not there.
+    /// At the file of a log, whose folder does not exist.
     NoLogFolder(&'a str),
-    /// At the file of a log, which may not be read.
+    /// At the file of a log, which the program is not allowed to read.
     UnreadableLog(&'a str),
     /// At the file of a log, which another process has open.
     LockedLog(&'a str),
@@ -67,25 +67,25 @@ pub(crate) enum FaultPlace<'a> {
     Unreached(&'a str),
     /// On the way of a request to a control socket, or of its answer.
     Control(&'a str),
-    /// In the node behind a control socket, which answered so.
+    /// In the node at a control socket, which answered with this fault.
     Node(&'a str),
     /// At a socket for peers at which nobody could be reached.
     NoPeer(&'a str),
-    /// In a session with the node behind a socket for peers.
+    /// In a session with the node at a socket for peers.
     Session(&'a str),
-    /// At the path of a socket that a node makes, where a file is.
+    /// At the path of a socket that a node makes, because a file is there.
     Taken(&'a str),
-    /// At the path of a socket that a node makes, where another node listens.
+    /// At the path of a socket that a node makes, because another node listens there.
     Listening(&'a str),
     /// At the path of a socket that a node makes, which is too long for one.
     TooLong(&'a str),
-    /// At the path of a socket that a node makes, whose folder is not there.
+    /// At the path of a socket that a node makes, whose folder does not exist.
     NoFolder(&'a str),
     /// At the path of a peer's socket, which is too long for one.
     Peer(&'a str),
     /// At one of the two sockets that a node makes.
     Sockets(&'a str, &'a str),
-    /// At the path for metrics, where something else is.
+    /// At the path for metrics, because something else is there.
     Metrics(&'a str),
 }
 
@@ -94,7 +94,7 @@ pub(crate) enum FaultPlace<'a> {
 pub(crate) struct Failure<'a> {
     fault: Fault,
     place: FaultPlace<'a>,
-    /// At which line of standard input, counted from 1; 0 where it was at none.
+    /// The line of standard input, counted from 1. 0 if it was met at no line.
     line: u64,
 }
 
@@ -116,7 +116,7 @@ impl<'a> Failure<'a> {
         }
     }
 
-    /// Whether it may pass while nothing is changed but the node: it could not be reached, ended, fell silent, or refused.
+    /// Whether it can pass while only the node changes: the node could not be reached, ended, fell silent, or refused.
     pub(crate) fn may_pass(&self) -> bool {
         match (&self.fault, self.place) {
             (_, FaultPlace::Unreached(_) | FaultPlace::Node(_)) => true,
@@ -141,7 +141,7 @@ impl From<Fault> for Failure<'_> {
     }
 }
 
-/// The text of a fault, by where it was met.
+/// Writes the text of a fault, which depends on where it was met.
 fn write_text<W: fmt::Write>(
     fault: &Fault,
     place: FaultPlace<'_>,
@@ -187,7 +187,7 @@ fn write_text<W: fmt::Write>(
     }
 }
 
-/// The text of a fault that a node told by its number: without what the number does not carry.
+/// Writes the text of a fault that a node reported by its number, without what the number does not carry.
 fn write_told<W: fmt::Write>(fault: &Fault, f: &mut fmt::Formatter<W>) -> fmt::Result {
     match fault {
         Fault::UnknownKind(_) => f.write_str("a message of this kind has no place here"),
@@ -201,7 +201,7 @@ fn write_told<W: fmt::Write>(fault: &Fault, f: &mut fmt::Formatter<W>) -> fmt::R
     }
 }
 
-/// What to do where nobody could be reached, a socket could not be made, or input could not be read.
+/// What to do if nobody could be reached, a socket could not be made, or input could not be read.
 fn about_reading(place: FaultPlace<'_>) -> &'static str {
     match place {
         FaultPlace::Unreached(_) => {
@@ -342,7 +342,7 @@ its -wal away, and see `attrdir begin --help`"
     }
 }
 
-/// What to do about a fault that is none of a session as a peer.
+/// What to do about a fault that is not one of a session as a peer.
 fn about_fault(fault: &Fault, place: FaultPlace<'_>) -> &'static str {
     match fault {
         Fault::NoMemory =>
@@ -363,7 +363,7 @@ fn about_fault(fault: &Fault, place: FaultPlace<'_>) -> &'static str {
     }
 }
 
-/// What to do about a fault of a session as a peer, in which nothing is written at the node.
+/// What to do about a fault of a session as a peer, which writes nothing at the node.
 fn about_session(fault: &Fault) -> &'static str {
     match fault {
         Fault::NoMemory => about_fault(fault, FaultPlace::Line),

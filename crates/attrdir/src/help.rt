@@ -1,4 +1,4 @@
-//! What `--help` says behind the options.
+//! What `--help` prints after the options.
 
 pub(crate) const EXAMPLE: &str =
     "A node runs by `serve`; `set`, `del`, `get`, `watch` and `owners` talk to one that runs. `sim` plays many nodes in memory; `log` reads the

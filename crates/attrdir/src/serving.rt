@@ -1,4 +1,4 @@
-//! A node that runs.
+//! The command that runs a node.
 use crate::console::{Console, Shortage};
 use crate::failure::{Failure, FaultPlace, Setting};
 use crate::log_file::{has_folder, open_log, purge_removals};
@@ -16,7 +16,7 @@ use std::os::unix::fs::FileTypeExt;
 /// The most bytes of the path of a socket.
 const SOCKET_PATH_MOST: usize = 107;
 
-/// What the command line says of a node.
+/// What the command line gives for a node.
 #[derive(Drop)]
 pub(crate) struct ServeArguments<'a> {
     pub(crate) name: &'a str,
@@ -26,15 +26,15 @@ pub(crate) struct ServeArguments<'a> {
     pub(crate) control: &'a str,
     pub(crate) peers: Vec<&'a str>,
     pub(crate) pace: Pace,
-    /// From how many removals in its log on they are dropped before it starts; 0 for never.
+    /// From how many tombstones in its log on the node drops them before it starts. 0 is for never.
     pub(crate) purge_removals: u64,
     /// Whether each line on standard error begins with the time.
     pub(crate) has_time: bool,
-    /// The path of the file that tells how the node is.
+    /// The path of the file for metrics.
     pub(crate) metrics: Option<&'a str>,
 }
 
-/// Prints what the node did. `WriteFailed` where standard output does not take it.
+/// Prints what the node did. `WriteFailed` if standard output does not take it.
 fn print_ran(rt: &HostRuntime, ran: Ran) -> Result<(), Failure<'static>> {
     match println!(rt;
         "rounds {} faults {} events {}",
@@ -45,7 +45,7 @@ fn print_ran(rt: &HostRuntime, ran: Ran) -> Result<(), Failure<'static>> {
     }
 }
 
-/// Which of the settings is outside its limits: the seats, where no other is.
+/// Which of the settings is outside its limits. If no other is, it is the seats.
 fn setting_of(raw: &RawSettings<'_>) -> Setting {
     if Name::read(raw.cluster).is_err() {
         Setting::Cluster
@@ -80,7 +80,7 @@ fn socket_of<'a>(rt: &HostRuntime, given: &ServeArguments<'a>) -> FaultPlace<'a>
     FaultPlace::Sockets(given.sock, given.control)
 }
 
-/// The first of the peers whose path is none of a socket.
+/// The first of the peers whose path cannot be that of a socket.
 fn unreachable_peer<'a>(given: &ServeArguments<'a>) -> Option<&'a str> {
     given
         .peers
@@ -89,7 +89,7 @@ fn unreachable_peer<'a>(given: &ServeArguments<'a>) -> Option<&'a str> {
         .find(|path| path.is_empty() || path.len() > SOCKET_PATH_MOST)
 }
 
-/// The path for metrics, where it is empty or these would take the place of something else.
+/// The path for metrics, if it is empty, or if they would replace something else.
 fn taken_for_metrics<'a>(rt: &HostRuntime, given: &ServeArguments<'a>) -> Option<&'a str> {
     let path = given.metrics?;
     for other in [given.log, given.sock, given.control] {
@@ -104,7 +104,7 @@ fn taken_for_metrics<'a>(rt: &HostRuntime, given: &ServeArguments<'a>) -> Option
     }
 }
 
-/// Where a node that does not run met its fault.
+/// The place at which a node met the fault that keeps it from running.
 fn place_of<'a>(rt: &HostRuntime, fault: &Fault, given: &ServeArguments<'a>) -> FaultPlace<'a> {
     match fault {
         Fault::BadSetting => FaultPlace::Setting(setting_of(&given.settings)),
@@ -114,7 +114,7 @@ fn place_of<'a>(rt: &HostRuntime, fault: &Fault, given: &ServeArguments<'a>) -> 
     }
 }
 
-/// Drops the removals of a log where there are many, and says so. The faults of `purge_removals`.
+/// Drops the tombstones of a log if there are many, and prints that. The faults of `purge_removals`.
 fn purge_first<'a, L: WriteLog>(
     rt: &HostRuntime,
     console: &Console<'_, '_>,
@@ -129,8 +129,8 @@ fn purge_first<'a, L: WriteLog>(
     Ok(())
 }
 
-/// Runs a node over a log, from which removals go first where there are many, and prints what it did. The faults of `purge_removals`;
-/// those of `run_node`; then `WriteFailed`.
+/// Runs a node with a log, and prints what it did. If the log has many tombstones, they are dropped first. The faults
+/// of `purge_removals`, then those of `run_node`, then `WriteFailed`.
 fn run<'a, L: WriteLog + Drop, R: Runtime + Net<Listener = TcpListener, Stream = TcpStream>>(
     rt: &HostRuntime,
     runtime: &R,
@@ -175,9 +175,15 @@ fn run<'a, L: WriteLog + Drop, R: Runtime + Net<Listener = TcpListener, Stream =
     }
 }
 
-/// Runs a node. `BadName` of its name, then `BadSetting`, of too few seats too, then `ReadFailed` where the path of a peer is none
-/// of a socket, and `WriteFailed` where metrics would take the place of something else, before the log is opened; then the faults of
-/// `open_log` and of `run_node`, and `WriteFailed` of what is printed at the end.
+/// Runs a node. The faults before it opens the log, in this order:
+///
+/// - `BadName` of its name.
+/// - `BadSetting`, also for too few seats.
+/// - `ReadFailed` if the path of a peer cannot be that of a socket.
+/// - `WriteFailed` if metrics would replace something else.
+///
+/// Then come the faults of `open_log`, those of `purge_removals` and of `run_node`, and `WriteFailed` of what is
+/// printed at the end.
 pub(crate) fn serve<'a, R: Runtime + Net<Listener = TcpListener, Stream = TcpStream>>(
     rt: &HostRuntime,
     runtime: &R,
