@@ -197,7 +197,7 @@ def silence(check):
         with subprocess.Popen([check.program, "get", "--control", str(path)], **how) as ran:
             try:
                 _, said = ran.communicate(timeout=90 if check.is_long else 1)
-                want("a silent node", (ran.returncode, said.splitlines()[:1]), (3, ["fault 16"]))
+                want("a silent node", (ran.returncode, said.splitlines()[:2]), (3, ["fault 16", "the node was silent for 60 s"]))
                 if not 59 <= time.monotonic() - began <= 80:
                     raise Difference(f"a silent node was given up after {time.monotonic() - began:.1f} s")
             except subprocess.TimeoutExpired:
