@@ -99,7 +99,8 @@ fn about_turns(place: FaultPlace<'_>) -> &'static str {
 
 fn about_writing(place: FaultPlace<'_>) -> &'static str {
     match place {
-        FaultPlace::Control(_) => "the node ended the connection: see whether it runs, and try again",
+        FaultPlace::Control(_) =>
+            "the node ended the connection: see whether it runs, and try again",
         FaultPlace::Metrics(_) | FaultPlace::MetricsOver(_) | FaultPlace::MetricsNowhere => {
             "give another path, of a file for metrics alone"
         }
@@ -134,7 +135,8 @@ fn about_value(place: FaultPlace<'_>) -> &'static str {
         FaultPlace::Value("text", _) => {
             "a text has 1 to 512 bytes; write a backslash as \\5c and a newline as \\0a, or give --raw"
         }
-        _ => "give a kind and a word, for example addr 10.0.0.1:80, weight 5, flag true or text 'zone b'",
+        _ =>
+            "give a kind and a word, for example addr 10.0.0.1:80, weight 5, flag true or text 'zone b'",
     }
 }
 
@@ -199,7 +201,8 @@ fn about_fault(fault: &Fault, place: FaultPlace<'_>) -> &'static str {
         Fault::VersionsSpent => {
             "start the node again with a greater --max-version, of at most 1099511627775, or under a new name"
         }
-        Fault::NothingThere => "this node has no value under this key: get prints the keys that it has",
+        Fault::NothingThere =>
+            "this node has no value under this key: get prints the keys that it has",
         fault => about_log(fault, place),
     }
 }

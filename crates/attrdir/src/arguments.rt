@@ -35,7 +35,9 @@ fn number<'a>(alloc: Global, part: &Part, help: &'a str) -> Arg<'a> {
 
 /// An option without a value.
 fn flag<'a>(alloc: Global, part: &Part, help: &'a str) -> Arg<'a> {
-    word(alloc, part, help).long(part.name).action(ArgAction::SetTrue)
+    word(alloc, part, help)
+        .long(part.name)
+        .action(ArgAction::SetTrue)
 }
 
 /// The option of the control socket. This path is its default.
@@ -53,8 +55,12 @@ fn arg_of<'a>(
     fallback: Option<&'a str>,
 ) -> Result<Arg<'a>, AllocError> {
     Ok(match part.kind {
-        Kind::Word => word(alloc, part, help).required(true).action(ArgAction::Set),
-        Kind::Words => word(alloc, part, help).num_args(0..).action(ArgAction::Append),
+        Kind::Word => word(alloc, part, help)
+            .required(true)
+            .action(ArgAction::Set),
+        Kind::Words => word(alloc, part, help)
+            .num_args(0..)
+            .action(ArgAction::Append),
         Kind::WordOrNone => word(alloc, part, help).action(ArgAction::Set),
         Kind::NumberOrNone => word(alloc, part, help)
             .action(ArgAction::Set)

@@ -33,7 +33,10 @@ pub(crate) fn limit(stream: &UnixStream) -> io::Result<()> {
 pub(crate) fn is_silent(stream: &UnixStream) -> bool {
     let mut byte = [0u8; 1];
     let mut reader = stream;
-    if stream.set_read_timeout(Some(Duration::from_millis(1))).is_err() {
+    if stream
+        .set_read_timeout(Some(Duration::from_millis(1)))
+        .is_err()
+    {
         return false;
     }
     match reader.read(&mut byte) {

@@ -5,8 +5,8 @@ use crate::batch::write_lines;
 use crate::beginning::{Start, begin_log};
 use crate::commands::{
     AFTER, ALL, ASKING_NAME, CONTROL, COUNT, EVERY, EXPLAIN, FLOOR, FORMAT, FROM, KEY, KIND, LOG,
-    LOG_CLUSTER, LOG_NAME, MARK, ONE_KEY, OWNER, PEER_SOCK, PREFIX, RAW, RAW_VALUE, REMOVED_KEY, RETRY,
-    VALUE, VALUE_ALONE, lacks_control, serve_arguments, wrong_number,
+    LOG_CLUSTER, LOG_NAME, MARK, ONE_KEY, OWNER, PEER_SOCK, PREFIX, RAW, RAW_VALUE, REMOVED_KEY,
+    RETRY, VALUE, VALUE_ALONE, lacks_control, serve_arguments, wrong_number,
 };
 use crate::failure::Failure;
 use crate::log_file::{Floor, print_log, purge_log};

@@ -615,7 +615,9 @@ fn settings_of<'a>(given: &ArgMatches<'a>) -> RawSettings<'a> {
         budget: BUDGET.number(given),
         order,
         max_version: MAX_VERSION.number(given),
-        seats: SEATS.number_if_any(given).unwrap_or(workers.saturating_add(2)),
+        seats: SEATS
+            .number_if_any(given)
+            .unwrap_or(workers.saturating_add(2)),
         workers,
     }
 }
@@ -764,14 +766,15 @@ fn parts_of(command: &str) -> &'static [Part] {
 
 /// The first option or word of a command that takes a number, and was given something else than digits.
 pub(crate) fn wrong_number(given: &ArgMatches<'_>, command: &str) -> Option<&'static Part> {
-    parts_of(command).iter().find(|part| part.has_wrong_number(given))
+    parts_of(command)
+        .iter()
+        .find(|part| part.has_wrong_number(given))
 }
 
 /// Whether a command needs a control socket, and neither its option nor the environment gives one.
 pub(crate) fn lacks_control(given: &ArgMatches<'_>, command: &str) -> bool {
-    parts_of(command)
-        .iter()
-        .any(|part| matches!(part.kind, Kind::Control) && part.value_if_any(given).is_none())
+    parts_of(command).iter().any(|part| matches!(part.kind, Kind::Control)
+        && part.value_if_any(given).is_none())
 }
 
 /// The place of the first of these options that was given a number outside its range.

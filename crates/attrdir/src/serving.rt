@@ -1,6 +1,6 @@
 //! The command that runs a node.
-use crate::console::{Console, Shortage};
 use crate::commands::SEATS;
+use crate::console::{Console, Shortage};
 use crate::failure::{Failure, FaultPlace};
 use crate::log_file::{has_folder, open_log, purge_removals};
 use crate::metrics_file::{MetricsFile, may_replace, writes_over};
@@ -52,7 +52,10 @@ fn print_ran(rt: &HostRuntime, ran: Ran) -> Result<(), Failure<'static>> {
 fn setting_of<'a>(given: &ServeArguments<'a>) -> FaultPlace<'a> {
     match given.outside {
         Some(place) => place,
-        None => FaultPlace::Word("--cluster", str::from_utf8(given.settings.cluster).unwrap_or("")),
+        None => FaultPlace::Word(
+            "--cluster",
+            str::from_utf8(given.settings.cluster).unwrap_or(""),
+        ),
     }
 }
 
