@@ -1,5 +1,6 @@
 //! The command line that the program takes, made from its commands.
-use crate::commands::{Kind, Part, TASKS, Task};
+use crate::commands::{TASKS, Task};
+use crate::part::{Kind, Part};
 use crate::{help, release};
 use clap::{Arg, ArgAction, Command, value_parser};
 use std::alloc::{AllocError, Global};

@@ -1,7 +1,7 @@
 //! What ended a command: the fault, and the place at which it was met.
 use crate::advice::advice;
 use crate::asking::LONGEST_SILENCE;
-use crate::commands::Range;
+use crate::part::Range;
 use sb_types::Fault;
 use std::alloc::AllocError;
 use std::{fmt, io};

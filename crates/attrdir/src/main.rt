@@ -40,6 +40,7 @@ mod metrics;
 mod metrics_file;
 mod one_row;
 mod owners;
+mod part;
 mod pausing;
 mod release;
 mod serving;
