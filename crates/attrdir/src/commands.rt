@@ -410,7 +410,6 @@ const PURGE_REMOVALS: Part = Part {
 };
 
 /// It is the time of UTC. For systems without a journal that adds it.
-/// Left out: no time
 const LOG_TIME: Part = Part {
     name: "log-time",
     kind: Kind::Flag,
