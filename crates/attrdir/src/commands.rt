@@ -220,7 +220,7 @@ pub(crate) const FROM: Part = Part {
     name: "from",
     kind: Kind::Value,
     value: "PATH",
-    help: "In place of --after: asks the node at this socket for other nodes, and takes the last version of N that it heard of plus 1,048,576",
+    help: "In place of --after: the --sock of a node that heard of N; the version is the last that it heard of, plus 1,048,576",
 };
 
 /// Left out: frames only in hexadecimal

@@ -1,8 +1,8 @@
 //! What `--help` prints after the options.
 
 pub(crate) const EXAMPLE: &str =
-    "`serve` runs a node. `set`, `del`, `get`, `watch` and `owners` ask a node that runs. `log` reads the log of a node that does not run, `purge`
-drops its tombstones, and `begin` makes one for a name whose log is lost. `sim` plays many nodes in memory. `attrdir COMMAND --help` explains
+    "`serve` runs a node. `set`, `del`, `get`, `watch` and `owners` ask a node that runs. `log` reads the log of a node that does not run, and
+`purge` drops its tombstones. `begin` makes a log for a name whose log is lost. `sim` plays many nodes in memory. `attrdir COMMAND --help` explains
 a command.
 
 Example of a node, which is then asked from a second terminal:
@@ -41,16 +41,31 @@ Each other line is a command, and prints its answer:
 VALUE is addr TEXT, weight NUMBER, flag true|false or text SPELLING. SPELLING is the rest of the line, in crash up to the space before
 the last word. It is the text, but each byte 00 to 1f, 7f and \\ is a \\ and two digits, as in \\0a and \\5c.
 
-A fault of a line after the first is printed as `fault N`, and the script goes on: 1 no memory, 2 a name, 3 a key, 4 a value, 6 too many
-keys, 8 no version is left, 9 nothing to remove, 15 the node is down, 21 another node writes under the node's name, 22 to 25 a Hello that is
-missing, of another cluster, of the same name or the second, 30 a version above the last. If a node, a connection or a frame does not exist,
-the answer is `nothing`. A fault of the first line is printed too, and ends the run: 1, 2, 5 a setting, 24 two nodes of one name.
+If a node, a connection or a frame does not exist, the answer is `nothing`. A fault of a line is printed as `fault N`, and the script goes on. A
+fault of the first line is printed too, and ends the run:
+  1       no memory
+  2       a name
+  3       a key
+  4       a value
+  5       a setting, of the first line
+  6       too many keys
+  8       no version is left
+  9       nothing to remove
+  15      the node is down
+  21      another node writes under the node's name
+  22, 25  a Hello is missing; there is a second one
+  23      a Hello is of another cluster
+  24      a Hello is of the same name; two nodes of the first line have one name
+  30      a version is above the last
 
-A fault of the run ends it after its last answer. `fault N`, its text and what to do are on standard error: 1 no memory, 16 the script cannot
-be read, 17 the answers cannot be written, 29 the script takes more than 1,000,000 reads.
+A fault of the run ends it after its last answer. Standard error has `fault N`, its text, and what to do:
+  1       no memory
+  16      the script cannot be read
+  17      the answers cannot be written
+  29      the script takes more than 1,000,000 reads
 
-The exit status is 0 after a whole script, 2 after a line that is not a command (its number is printed as `line N`), and 3 after a fault
-that ended the run.
+The exit status is 0 after a whole script, and 3 after a fault that ended the run. After a line that is not a command it is 2, and `line N` has
+its number.
 
 Example:
   $ printf 'world 1024 breadth 100 a b\\nput a w weight 5\\ngive a b 0\\nread b a w\\n' | attrdir sim
@@ -87,9 +102,13 @@ pub(crate) const LOG: &str =
     "Each key is a line: owner, key, version, kind and value, or `removed -` in place of kind and value. Keys ascend. The last line is the last
 version.
 
-The file has to exist. An empty file becomes a new log. A fault ends the command. `fault N`, its text and what to do are on standard error: 1 no
-memory, 2 a name, 17 the lines cannot be written, 18 the file does not exist, cannot be read or written, or is open in another process, 19
-the file is not a log of this release, or it is damaged, 20 it belongs to another owner or cluster.
+The file has to exist. An empty file becomes a new log. A fault ends the command. Standard error has `fault N`, its text, and what to do:
+  1       no memory
+  2       a name
+  17      the lines cannot be written
+  18      the file does not exist, cannot be read or written, or is open in another process
+  19      the file is not a log of this release, or it is damaged
+  20      the log belongs to another owner or cluster
 
 The exit status is 0, 2 after a wrong command line, and 3 after a fault.
 
@@ -101,14 +120,19 @@ Example:
 
 pub(crate) const PURGE: &str =
     "It drops each tombstone of a version up to FLOOR. Then these removed keys no longer count among the 4,096 that an owner may have. Values stay, and
-so does the last version: the next write has the version after it. The node must not run meanwhile. Once it runs again, a peer that holds it up to less
-than FLOOR takes the whole table again, and shows its old rows until the new table is whole.
+so does the last version: the next write has the version after it. The node must not run meanwhile. A peer that holds less than FLOOR takes the whole table once
+the node runs again. It shows its old rows until the new table is whole.
 
 It prints `purged FLOOR`, also if the log was purged so far before. With --all it drops all tombstones, and prints the last version.
 
-The file has to exist. An empty file becomes a new log. A fault ends the command. `fault N`, its text and what to do are on standard error: 1 no
-memory, 2 a name, 17 the line cannot be written, 18 the file does not exist, cannot be read or written, or is open in another process, 19
-the file is not a log of this release, or it is damaged, 20 it belongs to another owner or cluster, 30 FLOOR is above the last version.
+The file has to exist. An empty file becomes a new log. A fault ends the command. Standard error has `fault N`, its text, and what to do:
+  1       no memory
+  2       a name
+  17      the line cannot be written
+  18      the file does not exist, cannot be read or written, or is open in another process
+  19      the file is not a log of this release, or it is damaged
+  20      the log belongs to another owner or cluster
+  30      FLOOR is above the last version
 
 The exit status is 0, 2 after a wrong command line, and 3 after a fault.
 
@@ -119,21 +143,28 @@ Examples:
   purged 3";
 
 pub(crate) const BEGIN: &str =
-    "A node whose log is lost must not use its old versions again: others hold what it wrote, and would ignore new writes under these versions. This
+    "A node whose log is lost must not use its old versions again. Others hold what it wrote, and would ignore new writes under these versions. This
 command makes a log that begins after a version V. The log holds nothing, and its next write has the version after V. Once the node runs with it, the
 others drop what they hold of the name, and take what it writes then.
 
 First end the node, if it still runs: a process keeps a file that was removed, and takes writes that are lost. V has to be at least 4,096 above the
 last version of the lost log, since the lost log may have had so many keys. With --from, V is the last version that the node at PATH heard of, plus
-1,048,576: the lost log may have had writes that no other node heard of. To end a name for good, run the node once with such a log, and write nothing.
+1,048,576. The lost log may have had so many writes that no other node heard of. To end a name for good, run the node once with such a log, and write nothing.
 
 It prints `begun V`. If the file has writes, or was made by `begin` before, it is refused and stays as it is. To begin in its place, move it and its
 -wal away first.
 
-A fault ends the command. `fault N`, its text and what to do are on standard error: 1 no memory, 2 a name, 5 V is outside 1 to 1099511627775, 9
-the node at PATH heard nothing of the name, 17 the line cannot be written, 18 the file cannot be read or written, or is open in another process, 19
-the file is not a log of this release, or it is damaged, 20 it belongs to another owner or cluster, 31 it has writes, or was made by `begin` before.
-With --from those of `attrdir owners` too, of the node at PATH.
+A fault ends the command. Standard error has `fault N`, its text, and what to do:
+  1       no memory
+  2       a name
+  5       V is outside 1 to 1099511627775
+  9       the node at PATH heard nothing of the name
+  17      the line cannot be written
+  18      the file cannot be read or written, or is open in another process
+  19      the file is not a log of this release, or it is damaged
+  20      the log belongs to another owner or cluster
+  31      the log has writes, or was made by `begin` before
+With --from also those of `attrdir owners`, of the node at PATH.
 
 The exit status is 0, 2 after a wrong command line, and 3 after a fault.
 
@@ -151,19 +182,27 @@ there must be no file, or a socket that a killed node left. At --sock the node s
 The node asks its peers for what it lacks, and gives them what they lack: one peer a round, in turn. It asks some right away if it has news, which is
 a write of its own, or a delta that brought something.
 
-Each line on standard error is `attrdir: LEVEL WHAT: ..`. LEVEL is info, warning or error. The node reports: that it listens; a peer that answers, does
-not answer, or ended a session by a fault, after its first round and then if a round ends differently from the one before; a socket that a killed node
-left; tombstones that it purged; a log that cannot be written; another node with its name; that nine tenths of its keys or owners are used; and a file
-of metrics that cannot be written.
+Each line on standard error is `attrdir: LEVEL WHAT: ..`. LEVEL is info, warning or error. The node reports:
+  - that it listens, or ended after its last round
+  - how its first round with each peer ended, and then each round that ended differently from the one before
+  - that it removed a socket which a killed node left, or purged tombstones
+  - that its log cannot be written, or that another node writes under its name
+  - that nine tenths of its keys or owners are used
+  - that its file of metrics cannot be written
 
 Without --rounds it runs until it is killed. Each write that was answered by a version is in the log. With --rounds it ends after the last round, and
-prints `rounds R faults F events E`: it made R rounds; F rounds and connections had a fault; and E is its own writes and each delta of a peer, also one
-that brought nothing.
+prints `rounds R faults F events E`. R counts its rounds, F the rounds and connections that had a fault. E counts its own writes and each delta of a
+peer, also one that brought nothing.
 
-A fault ends the node. `fault N`, its text and what to do are on standard error: 1 no memory, 2 the name, 5 a setting, 16 a socket cannot be made, or the
-path of a peer cannot be that of a socket, 17 the last line cannot be written, or the path of metrics is taken, 18 the log does not exist, cannot
-be read or written, or is open in another process, or a write failed and the node is to exit then, 19 the file is not a log of this release, or it is
-damaged, 20 it belongs to another owner or cluster. A fault of a connection ends that connection alone, and is counted.
+A fault of a connection ends that connection alone, and is counted. Another fault ends the node. Standard error has `fault N`, its text, and what to do:
+  1       no memory
+  2       the name
+  5       a setting
+  16      a socket cannot be made, or the path of a peer cannot be that of a socket
+  17      the last line cannot be written, or the path of metrics is taken
+  18      the log does not exist, cannot be read or written, or is open in another process
+  19      the file is not a log of this release, or it is damaged
+  20      the log belongs to another owner or cluster
 
 The exit status is 0 after the last round, 2 after a wrong command line, and 3 after a fault.
 
@@ -184,7 +223,7 @@ Examples:
   attrdir_log_open{node=\"a\"} 1";
 
 pub(crate) const SET: &str =
-    "KIND and VALUE are addr TEXT, weight NUMBER, flag true|false or text SPELLING. SPELLING is one argument, as `get` prints it: the text, but
+    "KIND and VALUE are addr TEXT, weight NUMBER, flag true|false or text SPELLING. SPELLING is one argument, as `get` prints it. It is the text, but
 each byte 00 to 1f, 7f and \\ is a \\ and two digits, as in \\0a and \\5c. With --raw it is the text itself. If KEY or VALUE begins
 with -, put -- before KEY. The command prints `version V` once the log of the node has the write. Other nodes have it once they asked: `get`
 shows it there.
@@ -193,10 +232,21 @@ With - alone, and no --raw, it reads lines from standard input: `KEY KIND VALUE`
 rest of the line. It makes the write of each line as the line comes, and prints its version. Other writes may come between. It skips empty lines. The
 first fault ends it, and names the number of its line. The writes of the lines before were made.
 
-A fault ends the command. `fault N`, its text and what to do are on standard error: 1 no memory, 3 the key, 4 the value, 6 the node has 4,096 keys,
-removed ones counted, 8 it has no version left, 9 it has no value under a key that a line removes, 10 to 14 what answers is not a control socket, 15 its
-log met a fault before, 16 no node could be reached, or it was silent for 60 s, 17 the request or the answer cannot be written, 18 its log cannot be
-written, 21 another node writes under its name, 28 it ended before it answered, 29 the answer takes more than 65,536 reads.
+A fault ends the command. Standard error has `fault N`, its text, and what to do:
+  1       no memory
+  3       the key
+  4       the value
+  6       the node has 4,096 keys, removed ones counted
+  8       the node has no version left
+  9       the node has no value under a key that a line removes
+  10-14   what answers is not a control socket
+  15      the log of the node met a fault before
+  16      no node could be reached, or it was silent for 60 s, or it ended the connection
+  17      the request or the answer cannot be written
+  18      the node cannot write its log
+  21      another node writes under the node's name
+  28      the node ended before it answered
+  29      the answer takes more than 65,536 reads
 
 The exit status is 0, 2 after a wrong command line, and 3 after a fault.
 
@@ -211,8 +261,7 @@ pub(crate) const DEL: &str =
     "A removal is a write with a version of its own. The command prints `version V` once the log of the node has it. If KEY begins with -, put --
 before it.
 
-A fault ends the command. `fault N`, its text and what to do are on standard error: those of `attrdir set`, and 9 if the node has no value
-under the key.
+A fault ends the command: those of `attrdir set`, and 9 if the node has no value under the key.
 
 The exit status is 0, 2 after a wrong command line, and 3 after a fault.
 
@@ -229,11 +278,18 @@ page is older than the page before.
 With --owner and --key it prints only the row of that key. With --value too it prints only its value, a text as it is spelled in the row. With
 --raw too it prints a text as it is. If there is no such row it prints nothing, and the exit status is 1.
 
-A fault ends the command. `fault N`, its text and what to do are on standard error: 1 no memory, 2 the owner, 3 the prefix or the key, 10 to 14 what
-answers is not a control socket, 15 the node cannot read, 16 no node could be reached, or it was silent for 60 s, 17 the request or the rows cannot
-be written, 28 the node ended before it answered, 29 a page takes more than 65,536 reads.
+A fault ends the command. Standard error has `fault N`, its text, and what to do:
+  1       no memory
+  2       the owner
+  3       the prefix or the key
+  10-14   what answers is not a control socket
+  15      the node cannot read
+  16      no node could be reached, or it was silent for 60 s, or it ended the connection
+  17      the request or the rows cannot be written
+  28      the node ended before it answered
+  29      a page takes more than 65,536 reads
 
-The exit status is 0, also without rows, 1 if --key is given and there is no such row, 2 after a wrong command line, and 3 after a fault.
+The exit status is 0, also without rows. It is 1 if --key is given and there is no such row, 2 after a wrong command line, and 3 after a fault.
 
 Examples:
   $ attrdir get --control a.ctl
@@ -251,9 +307,16 @@ pub(crate) const OWNERS: &str =
     "It asks the node as another node would, under a name of its own, and writes nothing there. Each line has an owner and the version up to
 which the node holds its writes, in ascending owner. So a script can see whether a node has heard of a write: `set` prints its version.
 
-A fault ends the command. `fault N`, its text and what to do are on standard error: 1 no memory, 2 the cluster or the name, 10 to 14 what answers
-is not a node's socket for other nodes, 16 no node could be reached, or it was silent for 60 s, 17 the session or the lines cannot be written, 23
-the node is of another cluster, 24 the node has this name, 28 it ended before it had named all owners, 29 the session takes more than 65,536 reads.
+A fault ends the command. Standard error has `fault N`, its text, and what to do:
+  1       no memory
+  2       the cluster or the name
+  10-14   what answers is not the socket of a node for other nodes
+  16      no node could be reached, or it was silent for 60 s, or it ended the connection
+  17      the session or the lines cannot be written
+  23      the node is of another cluster
+  24      the node has this name
+  28      the node ended before it had named all owners
+  29      the session takes more than 65,536 reads
 
 The exit status is 0, 2 after a wrong command line, and 3 after a fault.
 
@@ -271,13 +334,13 @@ A script that enters each `set` line and takes out each `gone` line has the rows
 its last state is printed. All lines of one asking are written at once; if nothing changed there are none. With --mark a line `asked` follows each
 asking, also if nothing changed.
 
-A fault ends the command, at the first asking or later. `fault N`, its text and what to do are on standard error: those of `attrdir get`. It prints
-nothing of the asking that had the fault. If standard output is closed, the command ends before it asks again.
+A fault ends the command, at the first asking or later: those of `attrdir get`. It prints nothing of the asking that had the fault. If standard
+output is closed, the command ends before it asks again.
 
 With --retry it goes on if the node cannot be reached, ends or refuses. It prints a line on standard error when the node stops answering, and one when it
-answers again. A node that was started again may know less for a while. So the command waits with `gone` until the node, since its start, has shown a row
-of that owner, among those asked for, with the same version or a later one. It never prints a row with an earlier version than before. --count
-counts the askings that the node answered.
+answers again. A node that was started again may know less for a while. So the command waits with `gone` until the node has shown a row of that owner
+with the same version or a later one. Only rows that it asks for count. It never prints a row with an earlier version than before. --count counts
+the askings that the node answered.
 
 The exit status is 0 after the last of --count, 2 after a wrong command line, and 3 after a fault.
 
