@@ -5,7 +5,7 @@ from pathlib import Path
 ROOT = Path(__file__).resolve().parent.parent.parent
 COMMANDS = ROOT / "crates" / "attrdir" / "src" / "commands.rt"
 # where the numbers of limits are
-LIMITS = [ROOT / "crates" / "sb_types" / "src" / it for it in ("limits.rt", "format.rt")]
+LIMITS = [ROOT / "crates" / "sb_types" / "src" / it for it in ("format.rt", "limits.rt")]
 # what may begin a part of the docstring of an option
 PARTS = ("Greater", "Smaller", "Left out")
 
@@ -66,15 +66,13 @@ def limits_of(kind, numbers):
 
 
 def numbers_of_limits():
-    """The number of each constant of sb_types that is a number."""
+    """The number of each constant of sb_types that is a number, or a sum of such."""
     numbers = {}
-    for path in reversed(LIMITS):
-        for name, value in re.findall(r"pub const (\w+): u(?:8|64|size) = ([\w +*-]+);", path.read_text()):
-            parts = [numbers.get(it, it) for it in re.sub(r"(?<=\d)_(?=\d)", "", value).split()]
-            try:
-                numbers[name] = eval(" ".join(map(str, parts)), {"__builtins__": {}})
-            except (NameError, SyntaxError):
-                continue
+    for path in LIMITS:
+        for name, value in re.findall(r"pub const (\w+): u(?:8|64|size) = ([\w +]+);", path.read_text()):
+            parts = [numbers.get(it, it.replace("_", "")) for it in value.split(" + ")]
+            if all(str(it).isdigit() for it in parts):
+                numbers[name] = sum(map(int, parts))
     return numbers
 
 
