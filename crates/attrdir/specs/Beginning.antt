@@ -1,4 +1,4 @@
--- Behind which version a log begins.
+-- After which version a log begins.
 use Rattle.std.specs.Prelude.{◌≡◌, ℕ, ◌≤◌, ◌<◌}
 use Rattle.sb_types.specs.declared.limits.TheConstants.{VERSION_MOST}
 use Rattle.attrdir.specs.declared.beginning.TheConstants.{UNHEARD_MOST}
@@ -8,7 +8,7 @@ use Rattle.attrdir.specs.declared.beginning.Start.TheVariants.{After, From}
 abbrev pub IsWithinLimits : ℕ → Type 0
 IsWithinLimits version = (1 ≤ version) × (version ≤ VERSION_MOST)
 
--- the version that is given, or one so far behind a version that a node heard of, of which there is at least one
+-- the version that is given, or one so far after the version that a node heard of, which is at least 1
 abbrev pub IsMeant : Start → ℕ → Type 0
 IsMeant (After given) version = version ≡ given
 IsMeant (From sock) version = UNHEARD_MOST < version

@@ -1,4 +1,4 @@
--- Which rows a watch that outlasts its node keeps.
+-- Which rows a watch keeps if it outlasts its node.
 use Rattle.std.specs.Prelude.{Bool, ◌&&◌, nat_eq, nat_le, nat_lt, if◌then◌else◌, List, [], ◌∷◌}
 use Rattle.std.specs.List.{list_any}
 use Rattle.std.specs.Cmp.Lexicographic.{pointwise}
@@ -7,19 +7,19 @@ use Rattle.sb_codec.specs.Records.{Row}
 use Rattle.sb_digest.specs.Digests.{Pair}
 use Rattle.sb_listing.specs.Changes.{place_order}
 
--- the node has shown a row of this owner and of this version or a later one, so it holds the write of this row
+-- the node has shown a row of this owner, of this version or a later one, so it holds the write of this row
 abbrev pub is_known : List Pair → Row → Bool
 is_known shown x = list_any (λ pair. pointwise nat_eq pair.owner x.owner && nat_le x.version pair.held) shown
 
--- of two rows of one owner and key the one of the later version
+-- of two rows with one owner and key, the one of the later version
 abbrev pub later : Row → Row → Row
 later x y = if nat_lt y.version x.version then x else y
 
--- a row before others, but where the node knows better
+-- a row before others, unless the node knows better
 abbrev pub unless_known : List Pair → Row → List Row → List Row
 unless_known shown x xs = if is_known shown x then xs else x ∷ xs
 
--- the rows that were printed up to the place of y, but for those that the node knows better, then y, and then what comes of the rows behind
+-- The printed rows up to the place of y, without those that the node knows better. Then y, and then what comes of the rows after it.
 abbrev pub keeping : List Pair → Row → (List Row → List Row) → List Row → List Row
 keeping shown y next [] = y ∷ next []
 keeping shown y next (x ∷ xs) = match_ordering (place_order x y)
@@ -27,12 +27,12 @@ keeping shown y next (x ∷ xs) = match_ordering (place_order x y)
     (later x y ∷ next xs)
     (y ∷ next (x ∷ xs))
 
--- those that the node does not know better
+-- those rows that the node does not know better
 abbrev pub unknown : List Pair → List Row → List Row
 unknown shown [] = []
 unknown shown (x ∷ xs) = unless_known shown x (unknown shown xs)
 
--- the rows that were printed and those that were found, both walked through once
+-- one walk through the rows that were printed and those that were found
 abbrev pub kept : List Pair → List Row → List Row → List Row
 kept shown held [] = unknown shown held
 kept shown held (y ∷ ys) = keeping shown y (λ rest. kept shown rest ys) held

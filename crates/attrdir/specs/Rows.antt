@@ -3,7 +3,7 @@ use Rattle.std.specs.Prelude.{ℕ, ◌&&◌, nat_eq, if◌then◌else◌, List, 
 use Rattle.std.specs.Cmp.Lexicographic.{pointwise}
 use Rattle.sb_codec.specs.Records.{Row}
 
--- the first row, where it is of this owner and key
+-- the first row, if it is of this owner and key
 abbrev pub first_at : List Row → List ℕ → List ℕ → Option Row
 first_at [] owner key = None
 first_at (x ∷ xs) owner key = if pointwise nat_eq x.owner owner && pointwise nat_eq x.key key then Some x else None

@@ -1,8 +1,8 @@
-//! Requests to a node that runs, over its control socket.
+//! Requests to a running node, over its control socket.
 ghost use Rattle.std.specs.Prelude.{◌≡◌, ◌<◌};
 
 use crate::counting::Output;
-use crate::failure::{Failure, FaultPlace};
+use crate::failure::{Failure, FaultPlace, Obstacle};
 use sb_codec::{Ask, Message, Rows};
 use sb_frames::Steps;
 use sb_listing::print_json_rows;
@@ -10,26 +10,45 @@ use sb_query::{NoAnswer, Pager, PagingFault, ask_all, goes_on, page_in, print_ro
 use sb_run::ask_control;
 use sb_types::{Fault, KIND_ROWS, Key, Slot, Write};
 use std::alloc::Global;
-use std::io;
+use std::io::{self, Read};
 use std::marker::Brand;
 use std::os::unix::net::UnixStream;
 use std::sync::ledger::{Blank, Ledger};
 use std::time::Duration;
 
-/// How many reads one answer, or one session, may take.
+/// How many reads one answer, or one session, can take.
 pub(crate) const READS_OF_ONE: u64 = 65_536;
 
-/// How many seconds no byte may move before a request is given up.
-const LONGEST_SILENCE: u64 = 60;
+/// After how many seconds without a byte a request is given up.
+pub(crate) const LONGEST_SILENCE: u64 = 60;
 
-/// Lets a connection fail where no byte moved for too long.
+/// Makes a connection fail if no byte moves for too long.
 pub(crate) fn limit(stream: &UnixStream) -> io::Result<()> {
     let longest = Some(Duration::from_secs(LONGEST_SILENCE));
     stream.set_read_timeout(longest)?;
     stream.set_write_timeout(longest)
 }
 
-/// One request and its answer over a connection.
+/// Whether a connection is open and nothing comes, after a read of it has failed. Otherwise the node ended it.
+pub(crate) fn is_silent(stream: &UnixStream) -> bool {
+    let mut byte = [0u8; 1];
+    let mut reader = stream;
+    if stream
+        .set_read_timeout(Some(Duration::from_millis(1)))
+        .is_err()
+    {
+        return false;
+    }
+    match reader.read(&mut byte) {
+        Ok(count) => count > 0,
+        Err(error) => matches!(
+            error.kind(),
+            io::ErrorKind::WouldBlock | io::ErrorKind::TimedOut
+        ),
+    }
+}
+
+/// Sends one request over a connection, and returns its answer.
 fn request_answer<K: Ledger>(
     alloc: Global,
     stream: &UnixStream,
@@ -53,26 +72,34 @@ fn request_answer<K: Ledger>(
     answer
 }
 
-/// The answer of the node behind a control socket. `ReadFailed` where it can't be reached, or is silent for a minute; then
-/// the faults of `ask_control`. It waits without limit where so many others wait at the socket that it takes no more.
+/// Returns the answer of the node at a control socket. `ReadFailed` if the node cannot be reached, or is silent for a
+/// minute; then the faults of `ask_control`. If so many others wait at the socket that it takes no more, the call waits
+/// without limit.
 fn answer_of<'a>(
     rt: &HostRuntime,
     control: &'a str,
     request: &Message,
 ) -> Result<Message, Failure<'a>> {
-    let Ok(stream) = UnixStream::connect(rt, control) else {
-        return Err(Failure::at(FaultPlace::Unreached(control), Fault::ReadFailed));
+    let stream = match UnixStream::connect(rt, control) {
+        Ok(stream) => stream,
+        Err(error) => {
+            let place = FaultPlace::Unreached(control, Obstacle::of(&error));
+            return Err(Failure::at(place, Fault::ReadFailed));
+        }
     };
     if limit(&stream).is_err() {
         return Err(Failure::at(FaultPlace::Control(control), Fault::ReadFailed));
     }
     match request_answer::<Brand>(rt.alloc(), &stream, request, Blank::new(1)) {
         Ok(answer) => Ok(answer),
+        Err(Fault::ReadFailed) if is_silent(&stream) => {
+            Err(Failure::at(FaultPlace::Silent(control), Fault::ReadFailed))
+        }
         Err(fault) => Err(Failure::at(FaultPlace::Control(control), fault)),
     }
 }
 
-/// The failure of an answer that is not the one to the request.
+/// The failure if an answer is not the one to the request.
 fn unanswered<'a>(control: &'a str, reason: NoAnswer) -> Failure<'a> {
     match reason {
         NoAnswer::Refused(fault) => Failure::at(FaultPlace::Node(control), fault),
@@ -83,7 +110,7 @@ fn unanswered<'a>(control: &'a str, reason: NoAnswer) -> Failure<'a> {
     }
 }
 
-/// Has a node write, and answers the version of the write.
+/// Makes a node write. Returns the version of the write.
 pub(crate) fn put<'a>(
     rt: &HostRuntime,
     control: &'a str,
@@ -111,7 +138,7 @@ pub(crate) fn page_of<'a>(
     }
 }
 
-/// The first page of a node's rows. `Malformed(KIND_ROWS)` too, where it has none though more are to follow.
+/// The first page of a node's rows. `Malformed(KIND_ROWS)` too, if the page has no row although more follow.
 pub(crate) fn first_page_of<'a>(
     rt: &HostRuntime,
     control: &'a str,
@@ -124,7 +151,7 @@ pub(crate) fn first_page_of<'a>(
     Err(Failure::at(FaultPlace::Control(control), Fault::Malformed(KIND_ROWS)))
 }
 
-/// Why not all pages of the node behind a control socket came.
+/// The failure if not all pages of the node at a control socket came.
 fn paging_failure<'a>(control: &'a str, fault: PagingFault<Failure<'a>>) -> Failure<'a> {
     match fault {
         PagingFault::Failed(failure) => failure,
@@ -132,7 +159,7 @@ fn paging_failure<'a>(control: &'a str, fault: PagingFault<Failure<'a>>) -> Fail
     }
 }
 
-/// Has a pager ask the node behind a control socket for all rows that are asked for.
+/// Makes a pager ask the node at a control socket for all rows that are asked for.
 pub(crate) fn take_all<'a, P: Pager<Failure = Failure<'a>>>(
     control: &'a str,
     pager: &mut P,
@@ -153,7 +180,7 @@ pub(crate) enum RowFormat {
     Json,
 }
 
-/// Prints the rows of a page. `NoMemory`; `WriteFailed` with how many bytes the output took in all.
+/// Prints the rows of a page. `NoMemory`; `WriteFailed`, with the number of bytes that the output took in all.
 pub(crate) fn print_page(
     rt: &HostRuntime,
     output: &mut Output<'_>,
@@ -170,7 +197,7 @@ pub(crate) fn print_page(
     }
 }
 
-/// Asks a node for pages, and prints them.
+/// Asks a node for pages, and prints each page as it comes. So any number of rows takes the memory of one page.
 #[derive(Drop)]
 struct Printer<'r, 'a> {
     rt: &'r HostRuntime,
@@ -194,7 +221,8 @@ impl<'a> Pager for Printer<'_, 'a> {
     }
 }
 
-/// Prints the rows that a node has, page after page: those that are asked for, from their first on.
+/// Prints the asked rows of a node, page after page, from the first on. If it ends with a fault, the rows that it
+/// printed before stay printed.
 pub(crate) fn print_all<'a>(
     rt: &HostRuntime,
     control: &'a str,

@@ -1,4 +1,4 @@
-//! Writes that stand in lines of standard input.
+//! Writes in lines of standard input.
 ghost use Rattle.std.specs.Prelude.{◌≡◌, ◌∷◌, ◌++◌, IfOk, IfSome};
 ghost use Rattle.attrdir.specs.Lines.{slot_words, write_line};
 
@@ -8,7 +8,7 @@ use sb_types::{Fault, Key, Slot, Value, Write};
 use std::alloc::Global;
 use std::io::{BufRead, BufReader, ErrorKind};
 
-/// The part of a line before its first space, and what stands behind that; nothing where there is no space.
+/// The part of a line before its first space, and the part after it. `None` if there is no space.
 fn split_at_space(line: &[u8]) -> Option<(&[u8], &[u8])>
     ensures parts { IfSome result (λ parts. line.now ≡ parts.0.now ++ 32 ∷ parts.1.now) }
 {
@@ -20,7 +20,7 @@ fn split_at_space(line: &[u8]) -> Option<(&[u8], &[u8])>
     }
 }
 
-/// What is to stand under a key: `KIND VALUE`, or `removed`. `BadValue`; `NoMemory`.
+/// The slot for a key: `KIND VALUE`, or `removed`. `BadValue`, then `NoMemory`.
 fn slot_of(alloc: Global, words: &[u8]) -> Result<Slot, Fault>
     ensures words { IfOk result (λ slot. words.now ≡ slot_words slot) }
 {
@@ -33,8 +33,8 @@ fn slot_of(alloc: Global, words: &[u8]) -> Result<Slot, Fault>
     }
 }
 
-/// The write of a line `KEY KIND VALUE` or `KEY removed`, with one space between two words. `BadKey`; then `BadValue` of what stands
-/// behind the key, also where nothing does; `NoMemory`.
+/// The write of a line `KEY KIND VALUE` or `KEY removed`, with one space between two words. `BadKey`; then `BadValue`
+/// of what comes after the key, also if nothing does; then `NoMemory`.
 fn write_of(alloc: Global, line: &[u8]) -> Result<Write, Fault>
     ensures line { IfOk result (λ write. line.now ≡ write_line write.key write.slot) }
 {
@@ -59,7 +59,8 @@ fn without_end(line: &[u8]) -> &[u8] {
     }
 }
 
-/// Reads the next line in place of the one before, with its end, and says whether there was one. `ReadFailed`; `NoMemory`.
+/// Reads the next line, with its end, in place of the one before. Returns whether there was one. `ReadFailed` or
+/// `NoMemory`.
 fn read_line<R: BufRead>(reader: &mut R, line: &mut Vec<u8>) -> Result<bool, Fault> {
     line.clear();
     match reader.read_until(b'\n', line) {
@@ -69,7 +70,8 @@ fn read_line<R: BufRead>(reader: &mut R, line: &mut Vec<u8>) -> Result<bool, Fau
     }
 }
 
-/// Has a node write what a line says, and prints the version of the write. The faults of `write_of` and of `put`; then `WriteFailed`.
+/// Makes a node write what a line asks for, and prints the version of the write. The faults of `write_of` and of `put`,
+/// then `WriteFailed`.
 fn write_line<'a>(rt: &HostRuntime, control: &'a str, line: &[u8]) -> Result<(), Failure<'a>> {
     let write = write_of(rt.alloc(), line)?;
     let version = put(rt, control, write.key, write.slot)?;
@@ -79,8 +81,9 @@ fn write_line<'a>(rt: &HostRuntime, control: &'a str, line: &[u8]) -> Result<(),
     }
 }
 
-/// Has a node make the writes of all lines of standard input, one after the other, each over a connection of its own, and prints the
-/// version of each. A line that is empty is passed over. The first fault ends it, and names its line; what was written before stands.
+/// Makes a node write all lines of standard input, one after another, and prints the version of each write. Each goes
+/// over a connection of its own, and empty lines are skipped. The first fault ends the call and names its line, and the
+/// writes before it stay.
 pub(crate) fn write_lines<'a>(rt: &HostRuntime, control: &'a str) -> Result<(), Failure<'a>> {
     let Ok(mut reader) = BufReader::new(rt.alloc(), rt.stdin()) else {
         return Err(Failure::from(Fault::NoMemory));

@@ -1,27 +1,28 @@
-//! The log of a name whose log is lost, or that is to end.
+//! A new log for an owner whose log is lost, or is to end.
 ghost use Rattle.std.specs.Prelude.{◌≡◌, ◌+◌, IfOk, Ok};
 ghost use Rattle.attrdir.specs.declared.beginning.TheConstants.{UNHEARD_MOST};
 ghost use Rattle.attrdir.specs.Beginning as spec;
 
-use crate::failure::{Failure, FaultPlace, Setting};
+use crate::commands::AFTER;
+use crate::failure::{Failure, FaultPlace};
 use crate::log_file::make_log;
 use crate::owners::ask_greatest;
 use crate::words::name_of;
 use sb_log::WriteLog;
 use sb_types::{Fault, Name, VERSION_MOST};
 
-/// How many versions more than a node heard of the lost log may have had.
+/// How many more versions the lost log can have had than a node heard of.
 const UNHEARD_MOST: u64 = 1 << 20;
 
-/// Behind which version a log begins.
+/// The version after which a log begins.
 #[derive(Clone, Copy)]
 pub(crate) enum Start<'a> {
     After(u64),
-    /// As far as the node behind this socket for peers heard of the owner, and as much further as nobody may have heard.
+    /// The last version that the node at this socket for peers heard of, plus as many as perhaps nobody heard of.
     From(&'a str),
 }
 
-/// A version within the limits. `BadSetting` at this place.
+/// Returns a version that is within the limits. `BadSetting` at this place.
 fn within_limits<'a>(version: u64, place: FaultPlace<'a>) -> Result<u64, Failure<'a>>
     ensures given { IfOk result (λ v. v ≡ version) }
     ensures limits { IfOk result spec.IsWithinLimits }
@@ -33,7 +34,8 @@ fn within_limits<'a>(version: u64, place: FaultPlace<'a>) -> Result<u64, Failure
     Ok(version)
 }
 
-/// As far behind a version that the node behind this socket heard as its owner may have been, unheard. `BadSetting` outside the limits.
+/// Returns `heard`, which the node at this socket heard of, plus as many versions as its owner can have written
+/// unheard. `BadSetting` outside the limits.
 fn version_beyond<'a>(heard: u64, sock: &'a str) -> Result<u64, Failure<'a>>
     ensures far { IfOk result (λ version. version ≡ heard + UNHEARD_MOST) }
     ensures limits { IfOk result spec.IsWithinLimits }
@@ -41,7 +43,7 @@ fn version_beyond<'a>(heard: u64, sock: &'a str) -> Result<u64, Failure<'a>>
     within_limits(heard.saturating_add(UNHEARD_MOST), FaultPlace::Heard(sock))
 }
 
-/// The version that is meant. `BadSetting` outside the limits; the faults of `ask_greatest`.
+/// The version that is meant. If a node is asked, the faults of `ask_greatest`; then `BadSetting` outside the limits.
 fn version_of<'a>(
     rt: &HostRuntime,
     start: Start<'a>,
@@ -52,7 +54,7 @@ fn version_of<'a>(
     ensures limits { IfOk result spec.IsWithinLimits }
 {
     match start {
-        Start::After(version) => within_limits(version, FaultPlace::Setting(Setting::After)),
+        Start::After(version) => within_limits(version, AFTER.place()),
         Start::From(sock) => {
             let heard = ask_greatest(rt, sock, cluster, owner)?;
             version_beyond(heard, sock)
@@ -60,7 +62,7 @@ fn version_of<'a>(
     }
 }
 
-/// Prints behind which version a log began, and warns where there is none behind it. `WriteFailed`.
+/// Prints after which version a log began, and warns if no version is left. `WriteFailed`.
 fn print_begun<'a>(rt: &HostRuntime, path: &'a str, version: u64) -> Result<(), Failure<'a>> {
     if version == VERSION_MOST {
         let _ = eprintln!(rt;
@@ -73,8 +75,12 @@ fn print_begun<'a>(rt: &HostRuntime, path: &'a str, version: u64) -> Result<(), 
     }
 }
 
-/// Makes the log of an owner of a cluster begin behind a version, and prints that. `BadName` of either name, then the faults of `version_of`,
-/// before the file is looked for; then those of `make_log`, of `SqlLog::begin` and of `close`; `WriteFailed`, behind which the log has begun.
+/// Makes a log of an owner in a cluster, which begins after a version, and prints that version. The faults, in this
+/// order:
+///
+/// - `BadName` of either name, and the faults of `version_of`. These come before it looks for the file.
+/// - Those of `make_log`, of `SqlLog::begin` and of `close`.
+/// - `WriteFailed`, and then the log has begun.
 pub(crate) fn begin_log<'a>(
     rt: &HostRuntime,
     path: &'a str,

@@ -1,4 +1,4 @@
-//! Standard output, with a count of what it took.
+//! Standard output, with a count of the bytes that it took.
 use std::io::{self, Write};
 
 /// Standard output, which counts the bytes that it took.

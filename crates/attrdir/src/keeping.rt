@@ -1,4 +1,4 @@
-//! The rows that a watch that outlasts its node keeps: what the node does not know better stays.
+//! The rows that a watch keeps if it outlasts its node: a row stays unless the node knows better.
 ghost use Rattle.std.specs.Prelude.{◌≡◌, ◌++◌, List, OnOk, IfOk, IfErr};
 ghost use Rattle.sb_codec.specs.Records as records;
 ghost use Rattle.sb_listing.specs.Changes as changes;
@@ -10,7 +10,7 @@ use sb_types::{Fault, Name};
 use std::alloc::Global;
 use std::cmp::Ordering;
 
-/// How two rows stand, by owner and then by key.
+/// The order of two rows, by owner and then by key.
 fn place_order(one: &Row, other: &Row) -> Ordering
     ensures { result ≡ changes.place_order one.now other.now }
 {
@@ -18,15 +18,15 @@ fn place_order(one: &Row, other: &Row) -> Ordering
     owners.then(one.key().bytes().cmp(other.key().bytes()))
 }
 
-/// Whether the node has shown a row of the same owner and of the same version or a later one. If it has, and has no row of this key, then
-/// the owner removed the key, or wrote it again and the node does not hold that write yet.
+/// Whether the node has shown a row of the same owner, of the same version or a later one. If it has, and has no row of
+/// this key, the owner removed the key. Or the owner wrote it again, and the node does not hold that write yet.
 fn is_known(shown: &[Pair], row: &Row) -> bool
     ensures { result ≡ spec.is_known shown.now row.now }
 {
     shown.iter().any(|pair| pair.owner == *row.owner() && row.version() <= pair.upto)
 }
 
-/// An equal row. `NoMemory`.
+/// Copies a row. `NoMemory`.
 pub(crate) fn copy_of(alloc: Global, row: &Row) -> Result<Row, Fault>
     ensures equal { IfOk result (λ copy. copy ≡ row.now) }
     ensures memory { IfErr result (λ fault. fault ≡ Fault.NoMemory) }
@@ -35,7 +35,7 @@ pub(crate) fn copy_of(alloc: Global, row: &Row) -> Result<Row, Fault>
     Row::new(*row.owner(), *row.key(), row.version(), value)
 }
 
-/// Of two rows of one owner and key the one of the later version.
+/// Of two rows with one owner and key, the one of the later version.
 fn later<'a>(held: &'a Row, found: &'a Row) -> &'a Row
     ensures { result.now ≡ spec.later held.now found.now }
 {
@@ -46,7 +46,7 @@ fn later<'a>(held: &'a Row, found: &'a Row) -> &'a Row
     }
 }
 
-/// Keeps a row, where the node does not know better.
+/// Keeps a row, unless the node knows better. `NoMemory`.
 fn keep_unknown(alloc: Global, kept: &mut Vec<Row>, row: &Row, shown: &[Pair]) -> Result<(), Fault>
     ensures kept { OnOk result ((next : List records.Row) → kept.new.items ++ next ≡ kept.old.items ++ spec.unless_known shown.now row.now next) }
     ensures memory { IfErr result (λ fault. fault ≡ Fault.NoMemory) }
@@ -57,7 +57,8 @@ fn keep_unknown(alloc: Global, kept: &mut Vec<Row>, row: &Row, shown: &[Pair]) -
     Ok(())
 }
 
-/// Keeps the rows that were printed up to the place of a row that was found, and that row, and gives the rows behind it.
+/// Keeps the printed rows up to the place of a row that was found, and that row. Returns the printed rows after that
+/// place. `NoMemory`.
 fn keep_to<'a>(
     alloc: Global,
     kept: &mut Vec<Row>,
@@ -90,7 +91,7 @@ fn keep_to<'a>(
     Ok(rest)
 }
 
-/// Keeps of these rows those that the node does not know better.
+/// Keeps those of these rows that the node does not know better. `NoMemory`.
 fn keep_rest(alloc: Global, kept: &mut Vec<Row>, rows: &[Row], shown: &[Pair]) -> Result<(), Fault>
     ensures kept { OnOk result (kept.new.items ≡ kept.old.items ++ spec.unknown shown.now rows.now) }
     ensures memory { IfErr result (λ fault. fault ≡ Fault.NoMemory) }
@@ -101,9 +102,13 @@ fn keep_rest(alloc: Global, kept: &mut Vec<Row>, rows: &[Row], shown: &[Pair]) -
     Ok(())
 }
 
-/// The rows that stand once a listing was found where others were printed before, by one walk through both: each row of the listing, but
-/// a later one of the same owner and key that was printed; and each row that was printed, that the listing has none of, and that the
-/// node does not know better. `shown` has of each owner the last version that this node has shown. `NoMemory`.
+/// Returns the rows that a watch shows after it found a listing. It walks once through the rows that were printed
+/// before (`held`) and the rows of the listing (`found`). It keeps:
+///
+/// - Each row of the listing. If a later version of the same owner and key was printed, it keeps that row instead.
+/// - Each printed row of an owner and key that the listing does not have, unless the node knows better.
+///
+/// `shown` has for each owner the last version that this node has shown. `NoMemory`.
 pub(crate) fn kept_rows(
     alloc: Global,
     held: &[Row],
@@ -122,7 +127,7 @@ pub(crate) fn kept_rows(
     Ok(kept)
 }
 
-/// Enters that a node has shown so much of an owner. `NoMemory`.
+/// Notes that a node has shown an owner up to a version. `NoMemory`.
 fn enter(shown: &mut Vec<Pair>, found: &Pair) -> Result<(), Fault> {
     for pair in shown.iter_mut() {
         if pair.owner == found.owner {
@@ -134,7 +139,7 @@ fn enter(shown: &mut Vec<Pair>, found: &Pair) -> Result<(), Fault> {
     Ok(())
 }
 
-/// What is shown of the owner of a row, behind what the rows before it showed of theirs.
+/// How far the owner of a row is shown by it, and by the rows before it.
 fn with_row(before: &Option<Pair>, row: &Row) -> Pair {
     let upto = match before {
         Some(pair) if pair.owner == *row.owner() => pair.upto.max(row.version()),
@@ -143,7 +148,7 @@ fn with_row(before: &Option<Pair>, row: &Row) -> Pair {
     Pair::new(*row.owner(), upto, None)
 }
 
-/// Enters what a listing shows. `NoMemory`.
+/// Notes what a listing shows of each owner. `NoMemory`.
 pub(crate) fn enter_all(shown: &mut Vec<Pair>, rows: &[Row]) -> Result<(), Fault> {
     let mut last = None;
     for row in rows {

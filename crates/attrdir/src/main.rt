@@ -1,6 +1,29 @@
 //! The node attribute directory as a program.
+//!
+//! # What no contract refuses
+//!
+//! Most functions of the program have no `ensures`: no contract can name what a file or a socket contains, or what a
+//! terminal received. The functions that its commands join are proved. So each of these wrong bodies would still be
+//! proved. `docs/GAPS.md` also has those of every crate.
+//!
+//! - `serve` reports another of two wrong options than the first. Nothing promises which; `tools/check-node` tries
+//!   wrong ones.
+//! - `log`, `purge` or `begin` opens another file, prints nothing, or ends with another fault. `tools/check-logs` and
+//!   `tools/check-node` refuse it.
+//! - `begin` begins after another version within the limits, or asks another node. `tools/check-logs` and
+//!   `tools/check-node` refuse it.
+//! - `serve`, `set`, `del`, `get`, `watch` or `owners` opens another file or socket, sends another request, or prints
+//!   something else. `tools/check-node` refuses it.
+//! - The file of `serve --metrics` has other numbers, is read half written, replaces another file, or outlives the
+//!   node. The tests of `sb_run` and `tools/check-node` refuse it.
+//! - `serve` prints nothing when keys or owners run out. The tests of `sb_run` and `tools/check-node` refuse it.
+//! - `watch --retry` counts wrongly what a node has shown (`enter_all`). It then prints a row as gone, or keeps it.
+//!   `tools/check-node` refuses it.
+//! - `--help` prints another text. `tools/check-help` compares options and defaults. Nothing refuses other words.
 #![tactic(auto)]
 
+mod advice;
+mod arguments;
 mod asking;
 mod batch;
 mod beginning;
@@ -17,30 +40,35 @@ mod metrics;
 mod metrics_file;
 mod one_row;
 mod owners;
+mod part;
 mod pausing;
 mod release;
 mod serving;
 mod watching;
 mod words;
 
+use crate::arguments::help_texts;
 use crate::command_line::{Next, USAGE_STATUS, follow, print_failure, words};
 use crate::environment::{control_path, text_of};
 use crate::failure::Failure;
 use crate::serving::serve;
+use sb_types::Fault;
 use std::process::ExitCode;
 
 fn main(rt: HostRuntime) -> ExitCode {
     let status = match words(&rt) {
-        Ok(Some(words)) => match control_path(&rt) {
-            Ok(fallback) => match follow(&rt, words.as_slice(), text_of(&fallback)) {
-                Ok(Next::Ended(status)) => status,
-                Ok(Next::Serve(node)) => match serve(&rt, &rt, &node) {
-                    Ok(()) => 0,
+        Ok(Some(words)) => match (control_path(&rt), help_texts(rt.alloc())) {
+            (Ok(fallback), Ok(texts)) => {
+                match follow(&rt, words.as_slice(), texts.as_slice(), text_of(&fallback)) {
+                    Ok(Next::Ended(status)) => status,
+                    Ok(Next::Serve(node)) => match serve(&rt, &rt, &node) {
+                        Ok(()) => 0,
+                        Err(failure) => print_failure(&rt, failure),
+                    },
                     Err(failure) => print_failure(&rt, failure),
-                },
-                Err(failure) => print_failure(&rt, failure),
-            },
-            Err(fault) => print_failure(&rt, Failure::from(fault)),
+                }
+            }
+            _ => print_failure(&rt, Failure::from(Fault::NoMemory)),
         },
         Ok(None) => USAGE_STATUS,
         Err(fault) => print_failure(&rt, Failure::from(fault)),

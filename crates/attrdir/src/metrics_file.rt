@@ -1,27 +1,27 @@
-//! The file in which a node tells how it is.
+//! The file in which a node reports its metrics.
 use crate::metrics::Metrics;
 use std::io::Read;
 use std::sync::atomic::{AtomicBool, Ordering};
 use std::{fs, io};
 
-/// What a file of metrics begins with.
+/// The first bytes of a file of metrics.
 const HEAD: [u8; 15] = *b"# HELP attrdir_";
 
-/// What stands behind the path of the file that takes its place.
+/// The end of the path of the file that replaces it.
 const BESIDE: &str = ".new";
 
-/// The file in which a node tells how it is.
+/// The file in which a node reports its metrics.
 #[derive(Drop)]
 pub(crate) struct MetricsFile<'a> {
     path: &'a str,
     /// Whether this node has written it.
     is_own: AtomicBool,
-    /// Whether it could not be written the last time.
+    /// Whether the last write failed.
     has_failed: AtomicBool,
 }
 
 impl<'a> MetricsFile<'a> {
-    /// The file at this path, which is not written yet.
+    /// The file at this path, before its first write.
     pub(crate) fn new(path: &'a str) -> MetricsFile<'a> {
         MetricsFile {
             path,
@@ -34,8 +34,8 @@ impl<'a> MetricsFile<'a> {
         self.path
     }
 
-    /// Writes it as a whole: another file is written beside it and takes its place. Where that fails what was there stays, and
-    /// nothing is left beside it.
+    /// Writes the file as a whole: it writes another file beside it, which then replaces it. If that fails, the old
+    /// file stays, and nothing is left beside it.
     pub(crate) fn write(&self, rt: &HostRuntime, metrics: &Metrics<'_, '_>) -> io::Result<()> {
         let beside = format!(in rt.alloc(); "{}{}", self.path, BESIDE)?;
         let text = format!(in rt.alloc(); "{metrics}")?;
@@ -49,13 +49,13 @@ impl<'a> MetricsFile<'a> {
         replaced
     }
 
-    /// Takes down whether it could be written, and says whether that is otherwise than the last time.
+    /// Notes whether it could be written. Returns whether that differs from the last time.
     pub(crate) fn note(&self, written: &io::Result<()>) -> bool {
         let has_failed = written.is_err();
         self.has_failed.swap(has_failed, Ordering::SeqCst) != has_failed
     }
 
-    /// Removes it, where this node has written it.
+    /// Removes it, if this node has written it.
     pub(crate) fn remove(&self, rt: &HostRuntime) {
         if self.is_own.load(Ordering::SeqCst) {
             let _ = fs::remove_file(rt, self.path);
@@ -63,13 +63,13 @@ impl<'a> MetricsFile<'a> {
     }
 }
 
-/// Writes a text to a file beside the one at a path, and puts it in its place.
+/// Writes a text to a file beside the one at a path, and then replaces that one by it.
 fn replace(rt: &HostRuntime, path: &str, beside: &str, text: &str) -> io::Result<()> {
     fs::write(rt, beside, text)?;
     fs::rename(rt, beside, path)
 }
 
-/// Whether the file at a path is empty or begins as metrics do.
+/// Whether the file at a path is empty, or begins as metrics do.
 fn has_metrics(rt: &HostRuntime, path: &str) -> bool {
     let Ok(mut file) = fs::open(rt, path) else {
         return false;
@@ -81,7 +81,7 @@ fn has_metrics(rt: &HostRuntime, path: &str) -> bool {
     }
 }
 
-/// Whether metrics may take the place of what is at a path: of nothing, of an empty file, or of metrics.
+/// Whether metrics can replace what is at a path: nothing, an empty file, or metrics.
 pub(crate) fn may_replace(rt: &HostRuntime, path: &str) -> bool {
     match fs::metadata(rt, path) {
         Ok(found) => found.is_file() && has_metrics(rt, path),
@@ -89,7 +89,7 @@ pub(crate) fn may_replace(rt: &HostRuntime, path: &str) -> bool {
     }
 }
 
-/// Whether writing metrics to a path would write over another one of a node's files.
+/// Whether writing metrics to a path would write over another file of the node.
 pub(crate) fn writes_over(path: &str, other: &str) -> bool {
     path == other
         || other.strip_suffix(BESIDE) == Some(path)

@@ -15,9 +15,9 @@ use std::io::Write;
 #[derive(Clone, Copy)]
 pub(crate) enum Portion {
     Row(RowFormat),
-    /// The value alone, a text as it is spelled in a row.
+    /// The value alone. A text is spelled as in a row.
     Value,
-    /// The value alone, a text as it is.
+    /// The value alone. A text is as it is.
     RawValue,
 }
 
@@ -29,8 +29,8 @@ pub(crate) struct RowQuery {
     pub(crate) portion: Portion,
 }
 
-/// The first row, where it is that of this owner and key. On a page of an owner's rows whose keys begin with this key no other row
-/// can be it.
+/// The first row, if it has this owner and key. A page of an owner's rows whose keys begin with this key has that row
+/// first, if it has it at all.
 fn first_at<'a>(rows: &'a [Row], owner: &Name, key: &Key) -> Option<&'a Row>
     ensures { option_copied result ≡ spec.first_at rows.now owner.now key.now }
 {
@@ -46,15 +46,15 @@ fn first_at<'a>(rows: &'a [Row], owner: &Name, key: &Key) -> Option<&'a Row>
     }
 }
 
-/// A page of this row alone. `NoMemory`.
+/// Makes a page of this row alone. `NoMemory`.
 fn page_with(alloc: Global, row: &Row) -> Result<Rows, Fault> {
     let value = row.value().copy(alloc)?;
     let copy = Row::new(*row.owner(), *row.key(), row.version(), value)?;
     Rows::new(false, vec![in alloc; copy]?)
 }
 
-/// Prints a value alone, with a line's end behind it, a text as it is spelled or, raw, as it is. `WriteFailed` with how many bytes the
-/// output took.
+/// Prints a value alone, and the end of a line. It prints a text as it is spelled, or as it is if `is_raw` is true.
+/// `WriteFailed`, with the number of bytes that the output took.
 fn print_value(rt: &HostRuntime, value: &Value, is_raw: bool) -> Result<(), Fault> {
     let mut output = Output::new(rt);
     let printed = match value.view() {
@@ -73,8 +73,8 @@ fn print_value(rt: &HostRuntime, value: &Value, is_raw: bool) -> Result<(), Faul
     }
 }
 
-/// Prints the row of one owner and key, or its value alone, and says whether there is one. The faults of asking; then `NoMemory` and
-/// `WriteFailed`.
+/// Prints the row of one owner and key, or its value alone. Returns whether there is one. The faults of asking, then
+/// `NoMemory` and `WriteFailed`.
 pub(crate) fn print_one<'a>(
     rt: &HostRuntime,
     control: &'a str,

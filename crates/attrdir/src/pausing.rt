@@ -9,20 +9,21 @@ use std::time::Duration;
 /// The descriptor of standard output.
 const STANDARD_OUTPUT: RawFd = 1;
 
-/// How long a watch waits, and whether standard output is closed.
+/// How long a watch waits, and whether standard output is closed. A watch waits for a whole pause after each asking,
+/// and not by the clock. So its askings never crowd.
 #[derive(Drop)]
 pub(crate) struct Pauses {
     every: Duration,
-    /// What tells that standard output is closed; none where nothing can, as of a file.
+    /// What notices that standard output is closed. `None` if nothing can, as for a file.
     poll: Option<Poll>,
     events: Events,
 }
 
-/// What waits for the end of standard output, where that can be waited for.
+/// What waits for the end of standard output, if it is possible to wait for that.
 fn poll_of_output(rt: &HostRuntime) -> Option<Poll> {
     let poll = Poll::new(rt).ok()?;
     let descriptor = STANDARD_OUTPUT;
-    // An end is told whatever is asked for; this alone would also be told of data out of band.
+    // The end is reported whatever is asked for. This interest adds only data out of band.
     let asked = Interest::PRIORITY;
     match poll
         .registry()
@@ -34,7 +35,7 @@ fn poll_of_output(rt: &HostRuntime) -> Option<Poll> {
 }
 
 impl Pauses {
-    /// Pauses of so many milliseconds.
+    /// Makes pauses of `every` milliseconds each.
     pub(crate) fn new(rt: &HostRuntime, every: u64) -> Result<Pauses, AllocError> {
         Ok(Pauses {
             every: Duration::from_millis(every),
@@ -43,7 +44,7 @@ impl Pauses {
         })
     }
 
-    /// Waits for one pause, or until standard output is closed, and says whether it is.
+    /// Waits for one pause, or until standard output is closed. Returns whether it is closed.
     pub(crate) fn wait(&mut self, rt: &HostRuntime) -> bool {
         match &mut self.poll {
             Some(poll) => {

@@ -7,7 +7,7 @@ pub(crate) const RELEASE: &str = "0.2.0";
 /// The version of the frames between nodes, and of those at a control socket.
 pub(crate) const FRAMES: &str = "3";
 
-/// The form of a log.
+/// The form of the logs.
 pub(crate) const LOGS: &str = "2";
 
 /// The release with the formats that it reads and writes.

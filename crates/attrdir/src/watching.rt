@@ -1,4 +1,4 @@
-//! What changes at a node that runs, which is asked again and again.
+//! What changes at a running node, which a watch asks again and again.
 use crate::asking::{page_of, take_all};
 use crate::failure::{Failure, FaultPlace};
 use crate::keeping::{copy_of, enter_all, kept_rows};
@@ -18,9 +18,9 @@ pub(crate) struct WatchQuery {
     pub(crate) asked: Ask,
     /// How many milliseconds it waits before it asks again.
     pub(crate) every: u64,
-    /// How many times it asks; 0 for without end.
+    /// How many times it asks. 0 is for without end.
     pub(crate) count: u64,
-    /// Whether it says that it has asked.
+    /// Whether it prints `asked` after each asking.
     pub(crate) prints_asked: bool,
 }
 
@@ -55,7 +55,7 @@ impl<'a> Pager for Collector<'_, 'a> {
     }
 }
 
-/// All rows that are asked for, page after page.
+/// Asks for all rows, page after page, and returns them.
 fn listing<'a>(rt: &HostRuntime, control: &'a str, asked: &Ask) -> Result<Vec<Row>, Failure<'a>> {
     let rows = Vec::new(rt.alloc());
     let mut collector = Collector { rt, control, rows };
@@ -63,8 +63,8 @@ fn listing<'a>(rt: &HostRuntime, control: &'a str, asked: &Ask) -> Result<Vec<Ro
     Ok(collector.rows)
 }
 
-/// Prints what changed from one listing to the next, in one piece, and behind it that it has asked, where it says so. `NoMemory`;
-/// `WriteFailed`.
+/// Prints what changed from one listing to the next, in one piece. After it comes the line `asked`, if `prints_asked`
+/// is true. `NoMemory`; `WriteFailed`.
 fn print_difference(
     rt: &HostRuntime,
     earlier: &[Row],
@@ -80,7 +80,7 @@ fn print_difference(
     Ok(())
 }
 
-/// Waits until it is time to ask again. `WriteFailed` where standard output is closed.
+/// Waits until it is time to ask again. `WriteFailed` if standard output is closed.
 fn wait(rt: &HostRuntime, pauses: &mut Pauses) -> Result<(), Fault> {
     if pauses.wait(rt) {
         return Err(Fault::WriteFailed(0));
@@ -88,9 +88,9 @@ fn wait(rt: &HostRuntime, pauses: &mut Pauses) -> Result<(), Fault> {
     Ok(())
 }
 
-/// Asks a node for rows, again and again, and prints what changed since it asked before; at first, each row. The faults of asking,
-/// the first time and later: nothing is printed of pages that are not all there. `WriteFailed`, also where standard output was closed
-/// since it asked.
+/// Asks a node for rows again and again, and prints what changed since the last asking. The first time it prints each
+/// row. The first fault of an asking ends it, also a later one, and it prints nothing of a listing whose pages did not
+/// all come. `WriteFailed`, also if standard output was closed since it asked.
 pub(crate) fn watch<'a>(
     rt: &HostRuntime,
     control: &'a str,
@@ -113,7 +113,7 @@ pub(crate) fn watch<'a>(
     Ok(())
 }
 
-/// Which socket stands at a path: another one once a node was started again.
+/// Identifies the socket at a path. Each start of a node makes another one.
 #[derive(Clone, Copy, PartialEq, Eq, Drop)]
 struct SocketStamp {
     device: u64,
@@ -122,7 +122,7 @@ struct SocketStamp {
     nanoseconds: i64,
 }
 
-/// The socket at a path; none where there is none.
+/// The socket at a path, if there is one.
 fn stamp_of(rt: &HostRuntime, path: &str) -> Option<SocketStamp> {
     let found = metadata(rt, path).ok()?;
     Some(SocketStamp {
@@ -133,15 +133,15 @@ fn stamp_of(rt: &HostRuntime, path: &str) -> Option<SocketStamp> {
     })
 }
 
-/// What was printed of a node's rows, and what the node that runs now has shown.
+/// The rows that were printed, and what the node has shown since its last start.
 #[derive(Drop)]
 struct PrintedRows {
     rows: Vec<Row>,
     /// The socket of the last asking.
     stamp: Option<SocketStamp>,
-    /// Of each owner the last version that was shown since the node was started.
+    /// For each owner, the last version that was shown since the node was started.
     shown: Vec<Pair>,
-    /// Whether it was said that the node does not answer.
+    /// Whether the last line about the node was that it does not answer.
     is_away: bool,
     /// How many askings were answered.
     count: u64,
@@ -170,7 +170,7 @@ impl PrintedRows {
             self.shown.clear();
         }
         self.stamp = stamp;
-        // The pages of a listing are not of one moment: only what was shown before its first page is known on each.
+        // The pages of a listing are not from one moment. Only what was shown before its first page is known on each.
         let rows = kept_rows(rt.alloc(), &self.rows, found, &self.shown)?;
         enter_all(&mut self.shown, found)?;
         print_difference(rt, &self.rows, &rows, prints_asked)?;
@@ -179,7 +179,7 @@ impl PrintedRows {
         Ok(())
     }
 
-    /// Says whether the node answers, where that is otherwise than was said last; at first it is taken to answer.
+    /// Prints whether the node answers, if that has changed. At first the node is taken to answer.
     fn tell(&mut self, rt: &HostRuntime, control: &str, is_away: bool) {
         if is_away != self.is_away {
             self.is_away = is_away;
@@ -191,7 +191,7 @@ impl PrintedRows {
         }
     }
 
-    /// Asks once. Of rows that came while the node was started again nothing is taken.
+    /// Asks once. If the node was started again in the meantime, it takes none of the rows.
     fn ask<'a>(
         &mut self,
         rt: &HostRuntime,
@@ -216,9 +216,11 @@ impl PrintedRows {
     }
 }
 
-/// Does what `watch` does, and goes on where the node does not answer: what was printed stands. That a row is gone is printed only once
-/// the node, since it was started, has shown at an asking before a row of that owner of the same version or a later one; and a row of an earlier version
-/// than was printed is not printed. It ends after as many askings that were answered as it is to make.
+/// Does what `watch` does, and goes on if the node does not answer. What was printed stays.
+///
+/// It prints that a row is gone only if the node knows it. The node knows it if it has shown that owner since its last
+/// start, at an earlier asking, by a row of the same version or a later one. It does not print a row of an earlier
+/// version than it printed before. It ends after `count` askings that were answered.
 pub(crate) fn watch_on<'a>(
     rt: &HostRuntime,
     control: &'a str,

@@ -1,9 +1,9 @@
-//! Words of the command line, read as what they stand for. A failure names the word.
+//! Words of the command line, read as names, keys and values. A failure names the word.
 use crate::failure::{Failure, FaultPlace};
 use sb_types::{Key, Name, Prefix, Value};
 use std::alloc::Global;
 
-/// The name that is given by an option. `BadName`.
+/// Reads the name that an option gives. `BadName`.
 pub(crate) fn name_of<'a>(option: &'a str, word: &'a str) -> Result<Name, Failure<'a>> {
     match Name::read(word.as_bytes()) {
         Ok(name) => Ok(name),
@@ -11,7 +11,7 @@ pub(crate) fn name_of<'a>(option: &'a str, word: &'a str) -> Result<Name, Failur
     }
 }
 
-/// A key. `BadKey`.
+/// Reads a key. `BadKey`.
 pub(crate) fn key_of(word: &str) -> Result<Key, Failure<'_>> {
     match Key::read(word.as_bytes()) {
         Ok(key) => Ok(key),
@@ -19,7 +19,7 @@ pub(crate) fn key_of(word: &str) -> Result<Key, Failure<'_>> {
     }
 }
 
-/// What keys begin with. `BadKey`.
+/// Reads the prefix of keys. `BadKey`.
 pub(crate) fn prefix_of(word: &str) -> Result<Prefix, Failure<'_>> {
     match Prefix::read(word.as_bytes()) {
         Ok(prefix) => Ok(prefix),
@@ -27,7 +27,7 @@ pub(crate) fn prefix_of(word: &str) -> Result<Prefix, Failure<'_>> {
     }
 }
 
-/// A text of these bytes, whatever they would spell. The faults of `Value::text`.
+/// Makes a text of these bytes, whatever they would spell. The faults of `Value::text`.
 pub(crate) fn text_of<'a>(alloc: Global, word: &'a str) -> Result<Value, Failure<'a>> {
     match Value::text(alloc, word.as_bytes()) {
         Ok(value) => Ok(value),
@@ -35,7 +35,7 @@ pub(crate) fn text_of<'a>(alloc: Global, word: &'a str) -> Result<Value, Failure
     }
 }
 
-/// A value, by its kind and its word. The faults of `Value::from_words`.
+/// Reads a value from its kind and its word. The faults of `Value::from_words`.
 pub(crate) fn value_of<'a>(
     alloc: Global,
     kind: &'a str,
