@@ -159,7 +159,9 @@ impl From<Fault> for Failure<'_> {
 /// The text of `ReadFailed`, if the place has a closer one.
 fn text_of_reading(place: FaultPlace<'_>) -> Option<&'static str> {
     Some(match place {
-        FaultPlace::Unreached(_, obstacle) | FaultPlace::NoPeer(_, obstacle) => obstacle.text(),
+        FaultPlace::Unreached(_, obstacle) | FaultPlace::NoPeer(_, obstacle) => {
+            return Some(obstacle.text());
+        }
         FaultPlace::Control(_) | FaultPlace::Session(_) => "the node ended the connection",
         FaultPlace::Peer(_) => "a peer can never be reached: this cannot be the path of a socket",
         FaultPlace::Taken(_) => {
