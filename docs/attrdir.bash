@@ -1,18 +1,42 @@
-# Completes attrdir's command line in bash: source this file, or lay it where bash looks for completions under the name attrdir, as in
-# /usr/share/bash-completion/completions/. tools/check-help compares it with what the program takes.
+# Completes the command line of attrdir in bash: source this file, or copy it to where bash looks for completions under the name attrdir, for
+# example /usr/share/bash-completion/completions/. tools/check-help compares it with what the program takes.
 
 _attrdir() {
   local word=${COMP_WORDS[COMP_CWORD]} command='' value_of='' place=0 kind='' it at
   COMPREPLY=()
 
-  # The command, the option whose value comes next, and how many words have stood by themselves.
+  # what is completed, by tools/options
+  local commands='serve set del get watch owners log purge begin sim'
+  local flags='--log-time --raw --value --mark --retry --all --explain --help --version -h -V --'
+  local paths='--log --sock --control --metrics --from'
+  local -A values_of=(
+    [--order]='breadth depth'
+    [--on-log-fault]='serve exit'
+    [--format]='text json'
+  )
+  local -A options_of=(
+    [serve]='--name --cluster --log --sock --control --budget --order --max-version --workers --seats --rounds --pause --fanout --idle --dial-idle --request --max-reads --on-log-fault --purge-removals --log-time --metrics --help'
+    [set]='--control --raw --help'
+    [del]='--control --help'
+    [get]='--control --owner --prefix --key --value --raw --format --help'
+    [watch]='--control --owner --prefix --every --count --mark --retry --help'
+    [owners]='--sock --cluster --name --help'
+    [log]='--log --name --cluster --help'
+    [purge]='--log --name --cluster --all --help'
+    [begin]='--log --name --cluster --after --from --help'
+    [sim]='--explain --help'
+  )
+  local kinds='addr weight flag text'
+  # end of options
+
+  # The command, the option whose value comes next, and how many words there are that are no options.
   for ((at = 1; at < COMP_CWORD; at++)); do
     it=${COMP_WORDS[at]}
     if [[ $it == = ]]; then
       continue
     elif [[ $value_of ]]; then
       value_of=''
-    elif [[ $it == --explain || $it == --log-time || $it == --all || $it == --value || $it == --raw || $it == --mark || $it == --retry || $it == --help || $it == --version || $it == -h || $it == -V || $it == -- ]]; then
+    elif [[ " $flags " == *" $it "* ]]; then
       :
     elif [[ $it == --* ]]; then
       value_of=$it
@@ -25,49 +49,26 @@ _attrdir() {
   done
   [[ $word == = ]] && word=''
 
-  case $value_of in
-    '') ;;
-    --log | --sock | --control | --metrics | --from)
+  if [[ $value_of ]]; then
+    if [[ " $paths " == *" $value_of "* ]]; then
       compopt -o filenames 2>/dev/null
       mapfile -t COMPREPLY < <(compgen -f -- "$word")
-      return
-      ;;
-    --order)
-      mapfile -t COMPREPLY < <(compgen -W 'breadth depth' -- "$word")
-      return
-      ;;
-    --on-log-fault)
-      mapfile -t COMPREPLY < <(compgen -W 'serve exit' -- "$word")
-      return
-      ;;
-    --format)
-      mapfile -t COMPREPLY < <(compgen -W 'text json' -- "$word")
-      return
-      ;;
-    *) return ;;
-  esac
+    elif [[ ${values_of[$value_of]-} ]]; then
+      mapfile -t COMPREPLY < <(compgen -W "${values_of[$value_of]}" -- "$word")
+    fi
+    return
+  fi
 
   local options=''
   case $command in
-    '') options='serve set del get watch owners log purge begin sim --help --version' ;;
-    serve)
-      options='--name --cluster --log --sock --control --budget --order --max-version --seats --workers --rounds --pause --fanout --idle --dial-idle --request --max-reads --on-log-fault --purge-removals --log-time --metrics --help'
-      ;;
-    set) options='--control --raw --help' ;;
-    del) options='--control --help' ;;
-    get) options='--control --owner --prefix --key --value --raw --format --help' ;;
-    watch) options='--control --owner --prefix --every --count --mark --retry --help' ;;
-    owners) options='--sock --cluster --name --help' ;;
-    log) options='--log --name --cluster --help' ;;
-    purge) options='--log --name --cluster --all --help' ;;
-    begin) options='--log --name --cluster --after --from --help' ;;
-    sim) options='--explain --help' ;;
-    help) options='serve set del get watch owners log purge begin sim' ;;
+    '') options="$commands --help --version" ;;
+    help) options=$commands ;;
+    *) options=${options_of[$command]-} ;;
   esac
 
   if [[ $word != -* ]]; then
     case $command:$place:$kind in
-      set:1:*) options='addr weight flag text' ;;
+      set:1:*) options=$kinds ;;
       set:2:flag) options='true false' ;;
       set:2:* | set:0:* | del:*) options='' ;;
       serve:*)

@@ -197,13 +197,29 @@ def silence(check):
         with subprocess.Popen([check.program, "get", "--control", str(path)], **how) as ran:
             try:
                 _, said = ran.communicate(timeout=90 if check.is_long else 1)
-                want("a silent node", (ran.returncode, said.splitlines()[:1]), (3, ["fault 16"]))
+                want("a silent node", (ran.returncode, said.splitlines()[:2]), (3, ["fault 16", "the node was silent for 60 s"]))
                 if not 59 <= time.monotonic() - began <= 80:
                     raise Difference(f"a silent node was given up after {time.monotonic() - began:.1f} s")
             except subprocess.TimeoutExpired:
                 ran.kill()
                 if check.is_long:
                     raise
+
+
+def broken_connections(check):
+    """A node that ends a connection and has not read the request."""
+    path = check.folder() / "made.ctl"
+    with socket.socket(socket.AF_UNIX, socket.SOCK_STREAM) as door:
+        door.bind(str(path))
+        door.listen(8)
+        for words in (["get", "--control"], ["owners", "--cluster", "c", "--sock"]):
+            with subprocess.Popen([check.program, *words, str(path)], stdin=subprocess.DEVNULL, stderr=subprocess.PIPE, text=True) as ran:
+                stream, _ = door.accept()
+                # (a stream that is closed with bytes in it, as those of a request, is reset)
+                stream.recv(1, socket.MSG_PEEK)
+                stream.close()
+                said = ran.communicate(timeout=SECONDS)[1]
+                want(f"the end of {words}", (ran.returncode, said.splitlines()[:2]), (3, ["fault 16", "the node ended the connection"]))
 
 
 def full_output(check):
@@ -312,5 +328,5 @@ def helps(check):
 
 
 PARTS = (
-    requests, watched_requests, watched_times, wrong_answers, pages_that_turn_back, refusals, answers_in_pieces, silence, full_output, scripts, helps,
+    requests, watched_requests, watched_times, wrong_answers, pages_that_turn_back, refusals, answers_in_pieces, silence, broken_connections, full_output, scripts, helps,
 )

@@ -46,7 +46,7 @@ def begin_words(check):
     node.start()
     want_fault("a log of a node that runs", begin(check, node, "--after", 9), 18, "another process has the log open")
     nowhere = node.log.with_name("nowhere") / "a.log"
-    want_fault("a log in no folder", begin(check, node, "--after", 9, log=nowhere), 18, "the folder of this path is not there")
+    want_fault("a log in no folder", begin(check, node, "--after", 9, log=nowhere), 18, "its folder does not exist")
     want("the next version", node.put("x", 1), 8)
     node.kill()
     want_fault("a log with writes", begin(check, node, "--after", 99), 31, "its next write has version 9")
@@ -75,7 +75,7 @@ def lost_log(check):
         node.awaits("the rows of a", lambda found: found == rows)
     lost.kill()
     lost.log.unlink()
-    want_fault("a node that is not there", begin(check, lost, "--from", lost.sock), 16)
+    want_fault("a node that is not there", begin(check, lost, "--from", lost.sock), 16, "no node could be reached")
     want_fault("the name of the node that is asked", begin(check, lost, "--from", peer.sock, name="b"), 24)
     want_fault("a name of which nothing was heard", begin(check, lost, "--from", peer.sock, name="zz"), 9, "heard nothing of this name")
     want("nothing was made", lost.log.exists(), False)
@@ -121,7 +121,7 @@ def ended_name(check):
     ended.log.unlink()
     want("what begin prints of the greatest version", begin(check, ended, "--after", GREATEST)[:2], (0, f"begun {GREATEST}\n"))
     want("its end", ended.start().ended()[0], 0)
-    want_fault("a log for which no version is left", begin(check, ended, "--from", peer.sock, log=ended.log.with_name("none.log")), 5, "1,048,576 more")
+    want_fault("a log for which no version is left", begin(check, ended, "--from", peer.sock, log=ended.log.with_name("none.log")), 5, "1,048,576")
 
 
 def written_back(node, lines):

@@ -196,10 +196,11 @@ def metrics_elsewhere(check):
     node.kill()
     other = folder / "other"
     other.write_text("no metrics\n")
+    over, not_metrics = "the path is that of the node's log or of a socket", "the path is taken by a file that is not metrics"
     for taken in (node.log, node.sock, node.control, folder / "a.log-wal", folder, other):
         node.options = ("--metrics", str(taken))
         status, printed, said = run(*map(str, node.words()))
-        want(f"metrics at {taken.name}", (status, printed, said.splitlines()[:2]), (3, "", ["fault 17", "metrics could not be written"]))
+        want(f"metrics at {taken.name}", (status, printed, said.splitlines()[:2]), (3, "", ["fault 17", not_metrics if taken in (folder, other) else over]))
         want("the path that is named", f"metrics {taken}: " in said, True)
     want("what is there still", other.read_text(), "no metrics\n")
     want("its log", run(check.program, "log", "--log", str(node.log), "--name", "a", "--cluster", "c")[1].splitlines()[-1], "last 2")

@@ -153,7 +153,7 @@ def environment(check):
     wrong("an option that wins", ask("get", "--control", nowhere), 3, "fault 16", nowhere)
     want("an option that wins", ask("get", "--control", str(node.control), ATTRDIR_CONTROL=nowhere), (0, "", ""))
     wrong("an environment that leads nowhere", ask("get", ATTRDIR_CONTROL=nowhere), 3, "fault 16", nowhere)
-    wrong("an empty one", ask("get", ATTRDIR_CONTROL=""), 2, None, "--control")
+    wrong("an empty one", ask("get", ATTRDIR_CONTROL=""), 2, None, "error: no control socket: give --control PATH, or set ATTRDIR_CONTROL")
     words = [it for it in node.words()[1:] if it not in ("--control", str(node.control))]
     wrong("a node, which makes its socket", ended(check.program, words, env=env), 2, None, "--control")
 

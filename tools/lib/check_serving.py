@@ -1,6 +1,9 @@
 """A part of tools/check-node: what the options and the words of `attrdir serve` do, by docs/REFERENCE.md. Frames that are made by hand tell of each
 what it changes."""
+import os
+import shutil
 import socket
+import subprocess
 import threading
 import time
 
@@ -111,6 +114,35 @@ def paths(check):
         faults([path], run(*map(str, node.words())), 16, f"peer {path}: ")
     node.peers = []
     faults(["log"], run(*map(str, node.words())), 18, str(node.log))
+
+
+def permissions(check):
+    """What its user is not permitted to open or to make, a command says. Root, who is permitted all, runs it as another user."""
+    folder = check.folder()
+    closed, program = folder / "closed", folder / "attrdir"
+    shutil.copy(check.program, program)
+    for path in (check.room, folder):
+        os.chmod(path, 0o755)
+    node = check.node("a", folder=folder)
+    os.chmod(node.log, 0o666)
+    closed.mkdir()
+    os.chmod(closed, 0o000)
+    node.program, other = program, 65534
+    become = (lambda: os.setuid(other)) if os.geteuid() == 0 else None
+
+    def ends(words, fault, text):
+        ran = subprocess.run([str(it) for it in words], stdin=subprocess.DEVNULL, capture_output=True, text=True, timeout=SECONDS, preexec_fn=become)
+        want(f"the end of {words}", (ran.returncode, ran.stderr.splitlines()[:2]), (3, [f"fault {fault}", text]))
+
+    ends([program, "get", "--control", closed / "a.ctl"], 16, "no node could be reached: not permitted")
+    ends([program, "owners", "--sock", closed / "a.sock", "--cluster", "c"], 16, "no node could be reached: not permitted")
+    ends([program, "log", "--log", closed / "a.log", "--name", "a", "--cluster", "c"], 18, "the log cannot be opened")
+    os.chmod(folder, 0o777)
+    node.sock = closed / "a.sock"
+    ends(node.words(), 16, "a socket could not be made: not permitted")
+    os.chmod(closed, 0o555)
+    ends(node.words(), 16, "a socket could not be made: not permitted")
+    want("what is in the folder", list(closed.iterdir()), [])
 
 
 class Peer:
@@ -262,4 +294,4 @@ def workers(check):
         check.node("a", *options).start().kill()
 
 
-PARTS = (orders, budgets, versions, paths, turns, changes, paces, reads, workers)
+PARTS = (orders, budgets, versions, paths, permissions, turns, changes, paces, reads, workers)

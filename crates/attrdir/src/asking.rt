@@ -2,7 +2,7 @@
 ghost use Rattle.std.specs.Prelude.{◌≡◌, ◌<◌};
 
 use crate::counting::Output;
-use crate::failure::{Failure, FaultPlace};
+use crate::failure::{Failure, FaultPlace, Obstacle};
 use sb_codec::{Ask, Message, Rows};
 use sb_frames::Steps;
 use sb_listing::print_json_rows;
@@ -10,7 +10,7 @@ use sb_query::{NoAnswer, Pager, PagingFault, ask_all, goes_on, page_in, print_ro
 use sb_run::ask_control;
 use sb_types::{Fault, KIND_ROWS, Key, Slot, Write};
 use std::alloc::Global;
-use std::io;
+use std::io::{self, Read};
 use std::marker::Brand;
 use std::os::unix::net::UnixStream;
 use std::sync::ledger::{Blank, Ledger};
@@ -20,13 +20,32 @@ use std::time::Duration;
 pub(crate) const READS_OF_ONE: u64 = 65_536;
 
 /// After how many seconds without a byte a request is given up.
-const LONGEST_SILENCE: u64 = 60;
+pub(crate) const LONGEST_SILENCE: u64 = 60;
 
 /// Makes a connection fail if no byte moves for too long.
 pub(crate) fn limit(stream: &UnixStream) -> io::Result<()> {
     let longest = Some(Duration::from_secs(LONGEST_SILENCE));
     stream.set_read_timeout(longest)?;
     stream.set_write_timeout(longest)
+}
+
+/// Whether a connection is open and nothing comes, after a read of it has failed. Otherwise the node ended it.
+pub(crate) fn is_silent(stream: &UnixStream) -> bool {
+    let mut byte = [0u8; 1];
+    let mut reader = stream;
+    if stream
+        .set_read_timeout(Some(Duration::from_millis(1)))
+        .is_err()
+    {
+        return false;
+    }
+    match reader.read(&mut byte) {
+        Ok(count) => count > 0,
+        Err(error) => matches!(
+            error.kind(),
+            io::ErrorKind::WouldBlock | io::ErrorKind::TimedOut
+        ),
+    }
 }
 
 /// Sends one request over a connection, and returns its answer.
@@ -61,14 +80,21 @@ fn answer_of<'a>(
     control: &'a str,
     request: &Message,
 ) -> Result<Message, Failure<'a>> {
-    let Ok(stream) = UnixStream::connect(rt, control) else {
-        return Err(Failure::at(FaultPlace::Unreached(control), Fault::ReadFailed));
+    let stream = match UnixStream::connect(rt, control) {
+        Ok(stream) => stream,
+        Err(error) => {
+            let place = FaultPlace::Unreached(control, Obstacle::of(&error));
+            return Err(Failure::at(place, Fault::ReadFailed));
+        }
     };
     if limit(&stream).is_err() {
         return Err(Failure::at(FaultPlace::Control(control), Fault::ReadFailed));
     }
     match request_answer::<Brand>(rt.alloc(), &stream, request, Blank::new(1)) {
         Ok(answer) => Ok(answer),
+        Err(Fault::ReadFailed) if is_silent(&stream) => {
+            Err(Failure::at(FaultPlace::Silent(control), Fault::ReadFailed))
+        }
         Err(fault) => Err(Failure::at(FaultPlace::Control(control), fault)),
     }
 }

@@ -3,7 +3,8 @@ ghost use Rattle.std.specs.Prelude.{◌≡◌, ◌+◌, IfOk, Ok};
 ghost use Rattle.attrdir.specs.declared.beginning.TheConstants.{UNHEARD_MOST};
 ghost use Rattle.attrdir.specs.Beginning as spec;
 
-use crate::failure::{Failure, FaultPlace, Setting};
+use crate::commands::AFTER;
+use crate::failure::{Failure, FaultPlace};
 use crate::log_file::make_log;
 use crate::owners::ask_greatest;
 use crate::words::name_of;
@@ -53,7 +54,7 @@ fn version_of<'a>(
     ensures limits { IfOk result spec.IsWithinLimits }
 {
     match start {
-        Start::After(version) => within_limits(version, FaultPlace::Setting(Setting::After)),
+        Start::After(version) => within_limits(version, AFTER.place()),
         Start::From(sock) => {
             let heard = ask_greatest(rt, sock, cluster, owner)?;
             version_beyond(heard, sock)

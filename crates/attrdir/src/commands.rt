@@ -1,406 +1,488 @@
-//! The commands, their options and words.
-use crate::{help, release};
-use clap::{Arg, ArgAction, Command, value_parser};
+//! The commands, and their options and words: what the command line can contain, and where the values go.
+//!
+//! An option is described here once. From its `Part` come its parsing, its default, its limits and its help. `tools/options`
+//! writes the same into `docs/attrdir.1`, `docs/attrdir.bash` and `docs/REFERENCE.md`. The docstring of a `Part` is what
+//! the pages add to the help: sentences, and then what a `Greater:` and a `Smaller:` value change. `Left out:` says what
+//! holds without the option, if it has no default.
+use crate::failure::FaultPlace;
+use crate::help;
+use crate::part::{Kind, Part, Range};
+use crate::serving::ServeArguments;
+use clap::ArgMatches;
+use sb_run::{OnLogFault, Pace};
+use sb_types::{
+    BUDGET_LEAST, BUDGET_MOST, Order, RawSettings, SEATS_MOST, VERSION_MOST, WORKERS_MOST,
+};
 use std::alloc::{AllocError, Global};
-
-/// How an option or a word is given.
-#[derive(Clone, Copy)]
-enum OptionKind {
-    /// A word that must be given.
-    Word,
-    /// Any number of words.
-    Words,
-    /// An option without a value.
-    Flag,
-    /// An option without a value, allowed only with this option.
-    FlagOf(&'static str),
-    /// A word that can be left out.
-    WordOrNone,
-    /// A number that can be left out.
-    NumberOrNone,
-    /// An option with one value, which must be given.
-    Needed,
-    /// An option with one value. If it is not given, the environment gives it. If that has none, it must be given.
-    Control,
-    /// An option with one value.
-    Value,
-    /// An option with one value. This is the default.
-    ValueOr(&'static str),
-    /// An option with one value, allowed only with the first of these options, and not with the second.
-    ValueBeside(&'static str, &'static str),
-    /// An option without a value, allowed only with the first of these options, and not with the second.
-    FlagBeside(&'static str, &'static str),
-    /// An option with one number.
-    Number,
-    /// An option with one number. This is the default.
-    NumberOr(&'static str),
-    /// An option with one of these values. The second part is the default.
-    OneOf(&'static [&'static str], &'static str),
-}
-
-/// An option or a word of a command.
-#[derive(Clone, Copy)]
-struct Part {
-    name: &'static str,
-    kind: OptionKind,
-    /// What the help calls its value, if it is an option that has one.
-    value: &'static str,
-    help: &'static str,
-}
 
 /// A command.
 #[derive(Clone, Copy)]
-struct Task {
-    name: &'static str,
-    about: &'static str,
+pub(crate) struct Task {
+    pub(crate) name: &'static str,
+    pub(crate) about: &'static str,
     /// What comes after its help.
-    more: &'static str,
-    parts: &'static [Part],
+    pub(crate) more: &'static str,
+    pub(crate) parts: &'static [Part],
 }
 
-const CONTROL: Part = Part {
+pub(crate) const CONTROL: Part = Part {
     name: "control",
-    kind: OptionKind::Control,
+    kind: Kind::Control,
     value: "PATH",
     help: "The control socket of the node, or ATTRDIR_CONTROL in the environment",
 };
 
-const KEY: Part = Part {
+pub(crate) const KEY: Part = Part {
     name: "KEY",
-    kind: OptionKind::Word,
+    kind: Kind::Word,
     value: "",
-    help: "What it is written under; - alone for lines of standard input",
+    help: "The key of the write; - alone reads lines from standard input",
 };
 
-const KIND: Part = Part {
+pub(crate) const KIND: Part = Part {
     name: "KIND",
-    kind: OptionKind::WordOrNone,
+    kind: Kind::WordOrNone,
     value: "",
     help: "addr, weight, flag or text",
 };
 
-const VALUE: Part = Part {
+pub(crate) const VALUE: Part = Part {
     name: "VALUE",
-    kind: OptionKind::WordOrNone,
+    kind: Kind::WordOrNone,
     value: "",
     help: "What is written",
 };
 
-const RAW: Part = Part {
+/// Left out: VALUE is a SPELLING
+pub(crate) const RAW: Part = Part {
     name: "raw",
-    kind: OptionKind::Flag,
+    kind: Kind::Flag,
     value: "",
-    help: "Takes the bytes of VALUE as they are, where KIND is text",
+    help: "Takes the bytes of VALUE as they are, if KIND is text",
 };
 
-const REMOVED_KEY: Part = Part {
+pub(crate) const REMOVED_KEY: Part = Part {
     name: "KEY",
-    kind: OptionKind::Word,
+    kind: Kind::Word,
     value: "",
-    help: "What was written under",
+    help: "The key to remove",
 };
 
-const OWNER: Part = Part {
+/// Left out: rows of all owners
+pub(crate) const OWNER: Part = Part {
     name: "owner",
-    kind: OptionKind::Value,
+    kind: Kind::Value,
     value: "O",
     help: "Only what this node wrote",
 };
 
-const PREFIX: Part = Part {
+/// Left out: all keys
+pub(crate) const PREFIX: Part = Part {
     name: "prefix",
-    kind: OptionKind::Value,
+    kind: Kind::Value,
     value: "P",
-    help: "Only keys that begin so",
+    help: "Only keys that begin with P",
 };
 
-const ONE_KEY: Part = Part {
+/// The exit status is 1 if there is no such row.
+/// Left out: all rows
+pub(crate) const ONE_KEY: Part = Part {
     name: "key",
-    kind: OptionKind::ValueBeside("owner", "prefix"),
+    kind: Kind::ValueBeside("owner", "prefix"),
     value: "K",
-    help: "Only the row of this key; it wants --owner",
+    help: "Only the row of this key; needs --owner",
 };
 
-const VALUE_ALONE: Part = Part {
+/// A text is spelled as in the row.
+/// Left out: the whole row
+pub(crate) const VALUE_ALONE: Part = Part {
     name: "value",
-    kind: OptionKind::FlagBeside("key", "format"),
+    kind: Kind::FlagBeside("key", "format"),
     value: "",
-    help: "Prints the value alone; it wants --key",
+    help: "Prints only the value; needs --key",
 };
 
-const RAW_VALUE: Part = Part {
+/// Left out: a text as it is spelled
+pub(crate) const RAW_VALUE: Part = Part {
     name: "raw",
-    kind: OptionKind::FlagOf("value"),
+    kind: Kind::FlagOf("value"),
     value: "",
-    help: "Prints a text as it is, not as it is spelled; it wants --value",
+    help: "Prints a text as it is, without its spelling; needs --value",
 };
 
-const FORMAT: Part = Part {
+pub(crate) const FORMAT: Part = Part {
     name: "format",
-    kind: OptionKind::OneOf(&["text", "json"], "text"),
+    kind: Kind::OneOf(&["text", "json"], "text"),
     value: "FORMAT",
-    help: "Words of a row, or a JSON object of it",
+    help: "Prints the words of each row, or a JSON object for each row",
 };
 
-const EVERY: Part = Part {
+pub(crate) const EVERY: Part = Part {
     name: "every",
-    kind: OptionKind::NumberOr("200"),
+    kind: Kind::NumberOr(Range::Any, "200"),
     value: "MS",
     help: "How many milliseconds it waits before it asks again",
 };
 
-const COUNT: Part = Part {
+pub(crate) const COUNT: Part = Part {
     name: "count",
-    kind: OptionKind::NumberOr("0"),
+    kind: Kind::NumberOr(Range::Any, "0"),
     value: "N",
-    help: "After how many times it ends, 0 for never",
+    help: "After how many askings it ends, 0 for never",
 };
 
-const MARK: Part = Part {
+/// Left out: no `asked` lines
+pub(crate) const MARK: Part = Part {
     name: "mark",
-    kind: OptionKind::Flag,
+    kind: Kind::Flag,
     value: "",
-    help: "Prints a line 'asked' behind what each asking brought",
+    help: "Prints a line 'asked' after each asking",
 };
 
-const RETRY: Part = Part {
+/// After a new start of the node it waits with gone until the node has shown a row of the same owner with the same version
+/// or a later one.
+/// Left out: a fault ends it
+pub(crate) const RETRY: Part = Part {
     name: "retry",
-    kind: OptionKind::Flag,
+    kind: Kind::Flag,
     value: "",
-    help: "Goes on where the node does not answer, and keeps its rows",
+    help: "Goes on if the node does not answer, and keeps its rows",
 };
 
-const PEER_SOCK: Part = Part {
+pub(crate) const PEER_SOCK: Part = Part {
     name: "sock",
-    kind: OptionKind::Needed,
+    kind: Kind::Needed,
     value: "PATH",
     help: "The socket of the node for other nodes",
 };
 
-const ASKING_NAME: Part = Part {
+pub(crate) const ASKING_NAME: Part = Part {
     name: "name",
-    kind: OptionKind::ValueOr("attrdir-owners"),
+    kind: Kind::ValueOr("attrdir-owners"),
     value: "N",
-    help: "The name under which it asks, another than the node's",
+    help: "The name under which it asks; it must differ from the node's name",
 };
 
-const LOG: Part = Part {
+pub(crate) const LOG: Part = Part {
     name: "log",
-    kind: OptionKind::Needed,
+    kind: Kind::Needed,
     value: "FILE",
     help: "The file of the log",
 };
 
-const LOG_NAME: Part = Part {
+pub(crate) const LOG_NAME: Part = Part {
     name: "name",
-    kind: OptionKind::Needed,
+    kind: Kind::Needed,
     value: "N",
-    help: "The owner, as a node's name",
+    help: "The owner of the log: the name of its node",
 };
 
-const LOG_CLUSTER: Part = Part {
+pub(crate) const LOG_CLUSTER: Part = Part {
     name: "cluster",
-    kind: OptionKind::Needed,
+    kind: Kind::Needed,
     value: "C",
     help: "The name of its cluster",
 };
 
-const FLOOR: Part = Part {
+pub(crate) const FLOOR: Part = Part {
     name: "FLOOR",
-    kind: OptionKind::NumberOrNone,
+    kind: Kind::NumberOrNone,
     value: "",
-    help: "The version up to which removals go, at most the last version of the log",
+    help: "The version up to which tombstones are dropped, at most the last version of the log",
 };
 
-const ALL: Part = Part {
+/// Left out: FLOOR has to be given
+pub(crate) const ALL: Part = Part {
     name: "all",
-    kind: OptionKind::Flag,
+    kind: Kind::Flag,
     value: "",
-    help: "Up to the last version of the log, in place of FLOOR",
+    help: "Drops up to the last version of the log, in place of FLOOR",
 };
 
 const NEW_LOG: Part = Part {
     name: "log",
-    kind: OptionKind::Needed,
+    kind: Kind::Needed,
     value: "FILE",
-    help: "The file of the log, which is made where it is not there",
+    help: "The file of the log; it is made if it does not exist",
 };
 
-const AFTER: Part = Part {
+/// It has to be at least 4,096 above the last version of the lost log.
+/// Left out: `--from` has to be given
+pub(crate) const AFTER: Part = Part {
     name: "after",
-    kind: OptionKind::Number,
+    kind: Kind::Number(Range::Within(1, VERSION_MOST)),
     value: "V",
-    help: "The version behind which the log begins, 1 to 1099511627775",
+    help: "The version after which the log begins",
 };
 
-const FROM: Part = Part {
+/// Left out: `--after` has to be given
+pub(crate) const FROM: Part = Part {
     name: "from",
-    kind: OptionKind::Value,
+    kind: Kind::Value,
     value: "PATH",
-    help: "The socket for other nodes of a node that heard of the name, in place of --after: the version is the last that it heard of, and \
-1,048,576 more",
+    help: "In place of --after: the --sock of a node that heard of N; the version is the last that it heard of, plus 1,048,576",
 };
 
-const EXPLAIN: Part = Part {
+/// Left out: frames only in hexadecimal
+pub(crate) const EXPLAIN: Part = Part {
     name: "explain",
-    kind: OptionKind::Flag,
+    kind: Kind::Flag,
     value: "",
-    help: "Says in words what the frames hold",
+    help: "Describes in words what the frames contain",
 };
 
+/// In the whole cluster only one node may have it.
 const NODE_NAME: Part = Part {
     name: "name",
-    kind: OptionKind::Needed,
+    kind: Kind::Needed,
     value: "N",
-    help: "The name of the node, under which it writes",
+    help: "The name under which the node writes",
 };
 
+/// A node refuses sessions with nodes of another cluster.
 const NODE_CLUSTER: Part = Part {
     name: "cluster",
-    kind: OptionKind::Needed,
+    kind: Kind::Needed,
     value: "C",
     help: "The name of the cluster, the same at each node",
 };
 
+/// An empty file becomes a new log.
 const NODE_LOG: Part = Part {
     name: "log",
-    kind: OptionKind::Needed,
+    kind: Kind::Needed,
     value: "FILE",
-    help: "The file of its log",
+    help: "The log of the node, a file that exists",
 };
 
+/// At the path there must be no file, or a socket that a killed node left.
 const SOCK: Part = Part {
     name: "sock",
-    kind: OptionKind::Needed,
+    kind: Kind::Needed,
     value: "PATH",
-    help: "The socket that it makes for other nodes",
+    help: "The socket that the node makes for other nodes",
 };
 
+/// At the path there must be no file, or a socket that a killed node left.
 const NODE_CONTROL: Part = Part {
     name: "control",
-    kind: OptionKind::Needed,
+    kind: Kind::Needed,
     value: "PATH",
-    help: "The socket that it makes for set, del, get and watch",
+    help: "The socket that the node makes for set, del, get and watch",
 };
 
+/// Each path has 1 to 107 bytes.
+/// Greater: Each peer is dialed less often.
+/// Smaller: A node that nobody dials, and that dials nobody, hears nothing.
+/// Left out: none
 const PEERS: Part = Part {
     name: "PEER",
-    kind: OptionKind::Words,
+    kind: Kind::Words,
     value: "",
-    help: "The sockets of the nodes that it asks, one a round, in turn",
+    help: "The --sock of another node; the node dials its peers one a round, in turn",
 };
 
+/// See [The budget](#the-budget).
+/// Greater: A round carries more. Each session takes more memory.
+/// Smaller: Catching up takes more rounds.
 const BUDGET: Part = Part {
     name: "budget",
-    kind: OptionKind::NumberOr("65536"),
+    kind: Kind::NumberOr(Range::Within(BUDGET_LEAST, BUDGET_MOST), "65536"),
     value: "B",
-    help: "The most bytes of a frame, 1024 to 65536",
+    help: "The most bytes of a frame",
 };
 
+/// See [The order](#the-order).
 const ORDER: Part = Part {
     name: "order",
-    kind: OptionKind::OneOf(&["breadth", "depth"], "breadth"),
+    kind: Kind::OneOf(&["breadth", "depth"], "breadth"),
     value: "ORDER",
-    help: "Which writes a frame takes first, of each owner one or of one owner all",
+    help: "Which writes go first if a frame has no room for all: one of each owner, or all of one owner",
 };
 
+/// A write after it is fault 8.
+/// Smaller: Only to try that fault.
 const MAX_VERSION: Part = Part {
     name: "max-version",
-    kind: OptionKind::NumberOr("1099511627775"),
+    kind: Kind::NumberOr(Range::Within(1, VERSION_MOST), "1099511627775"),
     value: "V",
-    help: "The last version that it gives, 1 to 1099511627775",
+    help: "The last version that the node gives",
 };
 
-const SEATS: Part = Part {
-    name: "seats",
-    kind: OptionKind::Number,
-    value: "S",
-    help: "How many threads read and write at most, up to 64 [default: workers and 2]",
-};
-
+/// Greater: More peers at a time. Each worker is a thread.
+/// Smaller: Silent peers keep others waiting sooner.
 const WORKERS: Part = Part {
     name: "workers",
-    kind: OptionKind::NumberOr("4"),
+    kind: Kind::NumberOr(Range::Within(1, WORKERS_MOST), "4"),
     value: "W",
-    help: "How many nodes it serves at once, 1 to 62",
+    help: "How many connections of peers the node serves at once",
+};
+
+/// Greater: The additional seats stay empty.
+/// Smaller: Fault 5.
+pub(crate) const SEATS: Part = Part {
+    name: "seats",
+    kind: Kind::NumberElse(Range::Seats(SEATS_MOST), "workers and 2"),
+    value: "S",
+    help: "How many threads read and write the directory",
 };
 
 const ROUNDS: Part = Part {
     name: "rounds",
-    kind: OptionKind::NumberOr("0"),
+    kind: Kind::NumberOr(Range::Any, "0"),
     value: "R",
-    help: "After how many rounds it ends, 0 for never",
+    help: "After how many rounds the node ends by itself, 0 for never",
 };
 
+/// Greater: Writes that a burst missed arrive later. Less work.
+/// Smaller: They arrive sooner, at more work. 0 is for tests: if no peer answers it keeps a processor busy.
 const PAUSE: Part = Part {
     name: "pause",
-    kind: OptionKind::NumberOr("1000"),
+    kind: Kind::NumberOr(Range::Any, "1000"),
     value: "MS",
-    help: "How many milliseconds it waits after a round",
+    help: "How many milliseconds the node waits after each round in turn",
 };
 
+/// Each of these dials is a round. See [News](#news).
+/// Greater: News is everywhere sooner, in more rounds.
+/// Smaller: With 0, news waits for the rounds in turn.
 const FANOUT: Part = Part {
     name: "fanout",
-    kind: OptionKind::NumberOr("3"),
+    kind: Kind::NumberOr(Range::Any, "3"),
     value: "K",
-    help: "How many nodes it asks right away, one after another, when it has news, 0 for none",
+    help: "How many peers the node dials right away, one after another, if it has news, 0 for none",
 };
 
+/// Greater: A silent peer that has dialed holds a worker for longer.
+/// Smaller: A peer over a slow link is cut off.
 const IDLE: Part = Part {
     name: "idle",
-    kind: OptionKind::NumberOr("30000"),
+    kind: Kind::NumberOr(Range::Any, "30000"),
     value: "MS",
-    help: "After how many milliseconds without a byte it ends a connection, 0 for never",
+    help: "After how many milliseconds without a byte the node ends a connection, 0 for never",
 };
 
+/// A peer that made the node wait so long is passed over in its next seven turns. See
+/// [Silent peers and callers](#silent-peers-and-callers).
+/// Greater: A silent peer delays the dialing of the others for longer.
+/// Smaller: A peer over a slow link is cut off.
 const DIAL_IDLE: Part = Part {
     name: "dial-idle",
-    kind: OptionKind::NumberOr("2000"),
+    kind: Kind::NumberOr(Range::Any, "2000"),
     value: "MS",
-    help: "The same where it asks a node, 0 for never",
+    help: "After how many milliseconds without a byte it gives up a peer that it dials, 0 for never",
 };
 
+/// Greater: A silent caller holds the control socket for longer.
+/// Smaller: A slow caller is cut off.
 const REQUEST: Part = Part {
     name: "request",
-    kind: OptionKind::NumberOr("2000"),
+    kind: Kind::NumberOr(Range::Any, "2000"),
     value: "MS",
-    help: "How many milliseconds a request may take to come, and its answer to be read, 0 for no limit",
+    help: "How many milliseconds a request may take to arrive, and then the reading of its answer, 0 for no limit",
 };
 
+/// A read takes at most 4,096 bytes.
+/// Smaller: A peer that sends byte by byte is ended sooner. 10000 is ample for whole sessions.
 const MAX_READS: Part = Part {
     name: "max-reads",
-    kind: OptionKind::Number,
+    kind: Kind::NumberElse(Range::Any, "without limit"),
     value: "M",
-    help: "How many reads a connection may take [default: without limit]",
+    help: "How many reads a connection may take",
 };
 
+/// With exit the status is 3. See [A log that fails](#a-log-that-fails).
 const ON_LOG_FAULT: Part = Part {
     name: "on-log-fault",
-    kind: OptionKind::OneOf(&["serve", "exit"], "serve"),
+    kind: Kind::OneOf(&["serve", "exit"], "serve"),
     value: "WHAT",
-    help: "What it does when its log cannot be written: go on without writes, or end",
+    help: "What the node does if it cannot write its log: goes on without writes, or ends",
 };
 
-const METRICS: Part = Part {
-    name: "metrics",
-    kind: OptionKind::Value,
-    value: "FILE",
-    help: "The file in which it tells how it is, as Prometheus reads it [default: none]",
-};
-
+/// See [Purging](OPERATING.md#purging).
+/// Greater: Keys run out sooner if many come and go.
+/// Smaller: Peers that were away take the whole table more often.
 const PURGE_REMOVALS: Part = Part {
     name: "purge-removals",
-    kind: OptionKind::NumberOr("1024"),
+    kind: Kind::NumberOr(Range::Any, "1024"),
     value: "N",
-    help: "From how many removals in its log on it drops them before it starts, 0 for never",
+    help: "If the log has N tombstones or more at the start, the node drops them all first, 0 for never",
 };
 
+/// It is the time of UTC. For systems without a journal that adds it.
 const LOG_TIME: Part = Part {
     name: "log-time",
-    kind: OptionKind::Flag,
+    kind: Kind::Flag,
     value: "",
     help: "Begins each line on standard error with the time",
 };
+
+/// The node writes it as a whole, at most once a second and when a peer changed, and removes it when it ends by itself. A
+/// file that exists there already has to be such a file, or empty. See [Metrics](#metrics).
+const METRICS: Part = Part {
+    name: "metrics",
+    kind: Kind::ValueElse("none"),
+    value: "FILE",
+    help: "The file in which the node reports how it is, in the text format of Prometheus",
+};
+
+/// What the command line gives for a node. `NoMemory`.
+pub(crate) fn serve_arguments<'a>(
+    alloc: Global,
+    given: &ArgMatches<'a>,
+) -> Result<ServeArguments<'a>, AllocError> {
+    let mut peers = Vec::new(alloc);
+    peers.extend_from_slice(given.get_strs(PEERS.name).unwrap_or(&[]))?;
+    Ok(ServeArguments {
+        name: NODE_NAME.value(given),
+        log: NODE_LOG.value(given),
+        settings: settings_of(given),
+        outside: first_outside(given, SERVE_TASK.parts),
+        sock: SOCK.value(given),
+        control: NODE_CONTROL.value(given),
+        peers,
+        pace: pace_of(given),
+        purge_removals: PURGE_REMOVALS.number(given),
+        has_time: LOG_TIME.is_given(given),
+        metrics: METRICS.value_if_any(given),
+    })
+}
+
+/// The settings of a node. Without `--seats` there are two more seats than workers.
+fn settings_of<'a>(given: &ArgMatches<'a>) -> RawSettings<'a> {
+    let workers = WORKERS.number(given);
+    let order = match ORDER.value(given) {
+        "depth" => Order::Depth,
+        _ => Order::Breadth,
+    };
+    RawSettings {
+        cluster: NODE_CLUSTER.value(given).as_bytes(),
+        budget: BUDGET.number(given),
+        order,
+        max_version: MAX_VERSION.number(given),
+        seats: SEATS
+            .number_if_any(given)
+            .unwrap_or(workers.saturating_add(2)),
+        workers,
+    }
+}
+
+fn pace_of(given: &ArgMatches<'_>) -> Pace {
+    let on_log_fault = match ON_LOG_FAULT.value(given) {
+        "exit" => OnLogFault::Exit,
+        _ => OnLogFault::Serve,
+    };
+    Pace {
+        rounds: ROUNDS.number(given),
+        pause: PAUSE.number(given),
+        fanout: FANOUT.number(given),
+        idle: IDLE.number(given),
+        dial_idle: DIAL_IDLE.number(given),
+        request: REQUEST.number(given),
+        max_reads: MAX_READS.number_if_any(given).unwrap_or(u64::MAX),
+        on_log_fault,
+    }
+}
 
 const SERVE_TASK: Task = Task {
     name: "serve",
@@ -416,8 +498,8 @@ const SERVE_TASK: Task = Task {
         BUDGET,
         ORDER,
         MAX_VERSION,
-        SEATS,
         WORKERS,
+        SEATS,
         ROUNDS,
         PAUSE,
         FANOUT,
@@ -448,7 +530,7 @@ const DEL_TASK: Task = Task {
 
 const GET_TASK: Task = Task {
     name: "get",
-    about: "Prints what a node has, its own and what it heard of others",
+    about: "Prints the rows of a node: its own and those that it heard of others",
     more: help::GET,
     parts: &[
         CONTROL,
@@ -470,21 +552,21 @@ const WATCH_TASK: Task = Task {
 
 const OWNERS_TASK: Task = Task {
     name: "owners",
-    about: "Prints how far a node holds each owner",
+    about: "Prints up to which version a node holds each owner",
     more: help::OWNERS,
     parts: &[PEER_SOCK, LOG_CLUSTER, ASKING_NAME],
 };
 
 const LOG_TASK: Task = Task {
     name: "log",
-    about: "Prints what the log of an owner holds",
+    about: "Prints the log of a node that does not run",
     more: help::LOG,
     parts: &[LOG, LOG_NAME, LOG_CLUSTER],
 };
 
 const PURGE_TASK: Task = Task {
     name: "purge",
-    about: "Drops the removals of a log, so that their keys count no more",
+    about: "Drops the tombstones of a log, so that their keys no longer count",
     more: help::PURGE,
     parts: &[LOG, LOG_NAME, LOG_CLUSTER, FLOOR, ALL],
 };
@@ -498,13 +580,13 @@ const BEGIN_TASK: Task = Task {
 
 const SIM_TASK: Task = Task {
     name: "sim",
-    about: "Runs a script of nodes, from standard input to standard output",
+    about: "Plays a script of many nodes in memory, from standard input to standard output",
     more: help::SCRIPT,
     parts: &[EXPLAIN],
 };
 
 /// The commands, in the order of the help.
-const TASKS: [Task; 10] = [
+pub(crate) const TASKS: [Task; 10] = [
     SERVE_TASK,
     SET_TASK,
     DEL_TASK,
@@ -517,96 +599,30 @@ const TASKS: [Task; 10] = [
     SIM_TASK,
 ];
 
-/// An option with one value.
-fn option<'a>(alloc: Global, part: &Part) -> Arg<'a> {
-    Arg::new(alloc, part.name)
-        .long(part.name)
-        .value_name(part.value)
-        .action(ArgAction::Set)
-        .help(part.help)
-}
-
-/// An option with one number.
-fn number<'a>(alloc: Global, part: &Part) -> Arg<'a> {
-    option(alloc, part).value_parser(value_parser!(u64))
-}
-
-fn word<'a>(alloc: Global, part: &Part) -> Arg<'a> {
-    Arg::new(alloc, part.name).help(part.help)
-}
-
-/// An option without a value.
-fn flag<'a>(alloc: Global, part: &Part) -> Arg<'a> {
-    word(alloc, part).long(part.name).action(ArgAction::SetTrue)
-}
-
-/// The option of the control socket. Its default is this path, and if there is none, it must be given.
-fn control<'a>(alloc: Global, part: &Part, fallback: Option<&'a str>) -> Arg<'a> {
-    match fallback {
-        Some(path) => option(alloc, part).default_value(path),
-        None => option(alloc, part).required(true),
-    }
-}
-
-fn arg_of<'a>(
-    alloc: Global,
-    part: &Part,
-    fallback: Option<&'a str>,
-) -> Result<Arg<'a>, AllocError> {
-    Ok(match part.kind {
-        OptionKind::Word => word(alloc, part).required(true).action(ArgAction::Set),
-        OptionKind::Words => word(alloc, part).num_args(0..).action(ArgAction::Append),
-        OptionKind::WordOrNone => word(alloc, part).action(ArgAction::Set),
-        OptionKind::NumberOrNone => word(alloc, part)
-            .action(ArgAction::Set)
-            .value_parser(value_parser!(u64)),
-        OptionKind::Flag => flag(alloc, part),
-        OptionKind::FlagOf(beside) => flag(alloc, part).requires_arg(beside)?,
-        OptionKind::Needed => option(alloc, part).required(true),
-        OptionKind::Control => control(alloc, part, fallback),
-        OptionKind::Value => option(alloc, part),
-        OptionKind::ValueOr(default) => option(alloc, part).default_value(default),
-        OptionKind::ValueBeside(beside, other) => option(alloc, part)
-            .requires_arg(beside)?
-            .conflicts_with(other)?,
-        OptionKind::FlagBeside(beside, other) => flag(alloc, part)
-            .requires_arg(beside)?
-            .conflicts_with(other)?,
-        OptionKind::Number => number(alloc, part),
-        OptionKind::NumberOr(default) => number(alloc, part).default_value(default),
-        OptionKind::OneOf(values, default) => option(alloc, part)
-            .value_parser(values)
-            .default_value(default),
-    })
-}
-
-/// A command with its options and words.
-fn command_of<'a>(
-    alloc: Global,
-    task: &Task,
-    fallback: Option<&'a str>,
-) -> Result<Command<'a>, AllocError> {
-    let mut command = Command::new(alloc, task.name)
-        .about(task.about)
-        .after_help(task.more);
-    for part in task.parts {
-        command = command.arg(arg_of(alloc, part, fallback)?)?;
-    }
-    Ok(command)
-}
-
-/// The command line that the program takes. If no control socket is given, `fallback` is its path.
-pub(crate) fn command<'a>(
-    alloc: Global,
-    fallback: Option<&'a str>,
-) -> Result<Command<'a>, AllocError> {
-    let mut command = Command::new(alloc, "attrdir")
-        .version(release::VERSION)
-        .about("A directory of the attributes of nodes")
-        .after_help(help::EXAMPLE)
-        .subcommand_required(true);
+/// The options and words of a command. There are none if no command has this name.
+fn parts_of(command: &str) -> &'static [Part] {
     for task in TASKS.iter() {
-        command = command.subcommand(command_of(alloc, task, fallback)?)?;
+        if task.name == command {
+            return task.parts;
+        }
     }
-    Ok(command)
+    &[]
+}
+
+/// The first option or word of a command that takes a number, and was given something else than digits.
+pub(crate) fn wrong_number(given: &ArgMatches<'_>, command: &str) -> Option<&'static Part> {
+    parts_of(command)
+        .iter()
+        .find(|part| part.has_wrong_number(given))
+}
+
+/// Whether a command needs a control socket, and neither its option nor the environment gives one.
+pub(crate) fn lacks_control(given: &ArgMatches<'_>, command: &str) -> bool {
+    parts_of(command).iter().any(|part| matches!(part.kind, Kind::Control)
+        && part.value_if_any(given).is_none())
+}
+
+/// The place of the first of these options that was given a number outside its range.
+fn first_outside(given: &ArgMatches<'_>, parts: &[Part]) -> Option<FaultPlace<'static>> {
+    Some(parts.iter().find(|part| part.is_outside(given))?.place())
 }

@@ -1,41 +1,46 @@
-//! What ended a command: the fault, the place at which it was met, and what the user can do about it.
+//! What ended a command: the fault, and the place at which it was met.
+use crate::advice::advice;
+use crate::asking::LONGEST_SILENCE;
+use crate::part::Range;
 use sb_types::Fault;
 use std::alloc::AllocError;
-use std::fmt;
+use std::{fmt, io};
 
-/// A setting of a node.
+/// Why a connection to a socket was not made.
 #[derive(Clone, Copy)]
-pub(crate) enum Setting {
-    Cluster,
-    Budget,
-    MaxVersion,
-    Workers,
-    Seats,
-    After,
+pub(crate) enum Obstacle {
+    /// There is no file at the path.
+    NoFile,
+    /// Nobody listens at the path.
+    Refused,
+    /// The program is not permitted to open the socket.
+    Forbidden,
+    /// The path cannot be that of a socket.
+    BadPath,
+    /// Something else.
+    Other,
 }
 
-impl Setting {
-    /// The option that gives it.
-    fn option(self) -> &'static str {
-        match self {
-            Setting::Cluster => "--cluster",
-            Setting::Budget => "--budget",
-            Setting::MaxVersion => "--max-version",
-            Setting::Workers => "--workers",
-            Setting::Seats => "--seats",
-            Setting::After => "--after",
+impl Obstacle {
+    /// What an error of connecting means.
+    pub(crate) fn of(error: &io::Error) -> Obstacle {
+        match error.kind() {
+            io::ErrorKind::NotFound | io::ErrorKind::NotADirectory => Obstacle::NoFile,
+            io::ErrorKind::ConnectionRefused => Obstacle::Refused,
+            io::ErrorKind::PermissionDenied => Obstacle::Forbidden,
+            io::ErrorKind::InvalidInput | io::ErrorKind::InvalidFilename => Obstacle::BadPath,
+            _ => Obstacle::Other,
         }
     }
 
-    /// Which values are within its limits.
-    fn limits(self) -> &'static str {
+    /// The text of fault 16 with this obstacle.
+    fn text(self) -> &'static str {
         match self {
-            Setting::Cluster => "give 1 to 32 lower-case letters, digits and -",
-            Setting::Budget => "give 1024 to 65536",
-            Setting::MaxVersion => "give 1 to 1099511627775",
-            Setting::Workers => "give 1 to 62",
-            Setting::Seats => "give at least the workers and 2 more, and at most 64",
-            Setting::After => "give 1 to 1099511627775",
+            Obstacle::NoFile => "no node could be reached: no such file",
+            Obstacle::Refused => "no node could be reached: refused, no node listens there",
+            Obstacle::Forbidden => "no node could be reached: not permitted",
+            Obstacle::BadPath => "no node could be reached: this cannot be the path of a socket",
+            Obstacle::Other => "no node could be reached",
         }
     }
 }
@@ -49,8 +54,8 @@ pub(crate) enum FaultPlace<'a> {
     Word(&'a str, &'a str),
     /// In the kind and the word of a value.
     Value(&'a str, &'a str),
-    /// In a setting.
-    Setting(Setting),
+    /// In the number of an option: its name, and the numbers that it takes.
+    Number(&'a str, Range),
     /// In the version that the node at a socket for peers heard of.
     Heard(&'a str),
     /// At the file of a log.
@@ -59,34 +64,44 @@ pub(crate) enum FaultPlace<'a> {
     NoLog(&'a str),
     /// At the file of a log, whose folder does not exist.
     NoLogFolder(&'a str),
-    /// At the file of a log, which the program is not allowed to read.
+    /// At the file of a log, which cannot be opened.
     UnreadableLog(&'a str),
     /// At the file of a log, which another process has open.
     LockedLog(&'a str),
-    /// At a control socket at which nobody could be reached.
-    Unreached(&'a str),
+    /// At a control socket at which no node could be reached.
+    Unreached(&'a str, Obstacle),
+    /// At a control socket whose node moved no byte for too long.
+    Silent(&'a str),
     /// On the way of a request to a control socket, or of its answer.
     Control(&'a str),
     /// In the node at a control socket, which answered with this fault.
     Node(&'a str),
-    /// At a socket for peers at which nobody could be reached.
-    NoPeer(&'a str),
+    /// At a socket for peers at which no node could be reached.
+    NoPeer(&'a str, Obstacle),
+    /// At a socket for peers whose node moved no byte for too long.
+    SilentPeer(&'a str),
     /// In a session with the node at a socket for peers.
     Session(&'a str),
     /// At the path of a socket that a node makes, because a file is there.
     Taken(&'a str),
     /// At the path of a socket that a node makes, because another node listens there.
     Listening(&'a str),
-    /// At the path of a socket that a node makes, which is too long for one.
+    /// At the path of a socket that a node makes, which is empty or too long for one.
     TooLong(&'a str),
     /// At the path of a socket that a node makes, whose folder does not exist.
     NoFolder(&'a str),
-    /// At the path of a peer's socket, which is too long for one.
+    /// At the path of a socket that a node makes, in whose folder it is not permitted to write.
+    Forbidden(&'a str),
+    /// At the path of a peer's socket, which is empty or too long for one.
     Peer(&'a str),
     /// At one of the two sockets that a node makes.
     Sockets(&'a str, &'a str),
     /// At the path for metrics, because something else is there.
     Metrics(&'a str),
+    /// At the path for metrics, because it is also that of the node's log or of a socket.
+    MetricsOver(&'a str),
+    /// At the path for metrics, because it is empty.
+    MetricsNowhere,
 }
 
 /// A fault that ended a command.
@@ -116,10 +131,10 @@ impl<'a> Failure<'a> {
         }
     }
 
-    /// Whether it can pass while only the node changes: the node could not be reached, ended, fell silent, or refused.
+    /// Whether it can pass while only the node changes: the node could not be reached, ended, was silent, or refused.
     pub(crate) fn may_pass(&self) -> bool {
         match (&self.fault, self.place) {
-            (_, FaultPlace::Unreached(_) | FaultPlace::Node(_)) => true,
+            (_, FaultPlace::Unreached(..) | FaultPlace::Silent(_) | FaultPlace::Node(_)) => true,
             (
                 Fault::ReadFailed | Fault::WriteFailed(_) | Fault::Truncated,
                 FaultPlace::Control(_),
@@ -141,6 +156,67 @@ impl From<Fault> for Failure<'_> {
     }
 }
 
+/// The text of `ReadFailed`, if the place has a closer one.
+fn text_of_reading(place: FaultPlace<'_>) -> Option<&'static str> {
+    Some(match place {
+        FaultPlace::Unreached(_, obstacle) | FaultPlace::NoPeer(_, obstacle) => {
+            return Some(obstacle.text());
+        }
+        FaultPlace::Control(_) | FaultPlace::Session(_) => "the node ended the connection",
+        FaultPlace::Peer(_) => "a peer can never be reached: this cannot be the path of a socket",
+        FaultPlace::Taken(_) => {
+            "a socket could not be made: a file that is not a socket is at its path"
+        }
+        FaultPlace::Listening(_) => {
+            "a socket could not be made: a node listens at its path already"
+        }
+        FaultPlace::TooLong(_) => {
+            "a socket could not be made: its path is empty, or has more than 107 bytes"
+        }
+        FaultPlace::NoFolder(_) => "a socket could not be made: its folder does not exist",
+        FaultPlace::Forbidden(_) => "a socket could not be made: not permitted",
+        FaultPlace::Sockets(..) => "a socket could not be made",
+        _ => return None,
+    })
+}
+
+/// The text of `WriteFailed`, if the place has a closer one.
+fn text_of_writing(place: FaultPlace<'_>) -> Option<&'static str> {
+    Some(match place {
+        FaultPlace::Metrics(_) => "the path is taken by a file that is not metrics",
+        FaultPlace::MetricsOver(_) => "the path is that of the node's log or of a socket",
+        FaultPlace::MetricsNowhere => "the path is empty",
+        _ => return None,
+    })
+}
+
+/// The text of `StoreFailed`, if the place has a closer one.
+fn text_of_store(place: FaultPlace<'_>) -> Option<&'static str> {
+    Some(match place {
+        FaultPlace::NoLog(_) => "there is no such log",
+        FaultPlace::NoLogFolder(_) => "there is no such log: its folder does not exist",
+        FaultPlace::UnreadableLog(_) => "the log cannot be opened",
+        FaultPlace::LockedLog(_) => "another process has the log open",
+        _ => return None,
+    })
+}
+
+/// The text of a fault that its place makes closer than the fault alone.
+fn closer_text(fault: &Fault, place: FaultPlace<'_>) -> Option<&'static str> {
+    match (fault, place) {
+        (Fault::ReadFailed, _) => text_of_reading(place),
+        (Fault::WriteFailed(_), _) => text_of_writing(place),
+        (Fault::StoreFailed, _) => text_of_store(place),
+        (Fault::LogDamaged, _) => Some(
+            "the file is not a log that this release reads, or it is damaged",
+        ),
+        (Fault::NothingThere, FaultPlace::Session(_)) => Some(
+            "the node has heard nothing of this name",
+        ),
+        _ => None,
+    }
+}
+
 /// Writes the text of a fault, which depends on where it was met.
 fn write_text<W: fmt::Write>(
     fault: &Fault,
@@ -148,42 +224,18 @@ fn write_text<W: fmt::Write>(
     f: &mut fmt::Formatter<W>,
 ) -> fmt::Result {
     match (fault, place) {
-        (fault, FaultPlace::Node(_)) => write_told(fault, f),
-        (Fault::ReadFailed, FaultPlace::Unreached(_) | FaultPlace::NoPeer(_)) => f.write_str(
-            "no node could be reached",
-        ),
-        (Fault::ReadFailed, FaultPlace::Peer(_)) => f.write_str("a peer can never be reached"),
-        (
-            Fault::ReadFailed,
-            FaultPlace::Taken(_)
-            | FaultPlace::Listening(_)
-            | FaultPlace::TooLong(_)
-            | FaultPlace::NoFolder(_)
-            | FaultPlace::Sockets(..),
-        ) => f.write_str("a socket could not be made"),
-        (Fault::WriteFailed(_), FaultPlace::Metrics(_)) => f.write_str(
-            "metrics could not be written",
-        ),
-        (Fault::StoreFailed, FaultPlace::NoLog(_) | FaultPlace::NoLogFolder(_)) => f.write_str(
-            "there is no such log",
-        ),
-        (Fault::StoreFailed, FaultPlace::UnreadableLog(_)) => f.write_str(
-            "the log may not be read",
-        ),
-        (Fault::StoreFailed, FaultPlace::LockedLog(_)) => f.write_str(
-            "another process has the log open",
-        ),
-        (Fault::LogDamaged, _) => f.write_str(
-            "the file is no log that this release reads, or a damaged one",
-        ),
-        (Fault::NothingThere, FaultPlace::Session(_)) => f.write_str(
-            "the node heard nothing of this name",
-        ),
+        (_, FaultPlace::Node(_)) => write_told(fault, f),
+        (Fault::ReadFailed, FaultPlace::Silent(_) | FaultPlace::SilentPeer(_)) => {
+            write!(f, "the node was silent for {LONGEST_SILENCE} s")
+        }
         (Fault::OutOfTurn(next), FaultPlace::Log(_)) => write!(
             f,
-            "the log has writes, or began so before: its next write has version {next}"
+            "the log has writes, or was made by begin: its next write has version {next}"
         ),
-        (fault, _) => write!(f, "{fault}"),
+        _ => match closer_text(fault, place) {
+            Some(text) => f.write_str(text),
+            None => write!(f, "{fault}"),
+        },
     }
 }
 
@@ -201,223 +253,50 @@ fn write_told<W: fmt::Write>(fault: &Fault, f: &mut fmt::Formatter<W>) -> fmt::R
     }
 }
 
-/// What to do if nobody could be reached, a socket could not be made, or input could not be read.
-fn about_reading(place: FaultPlace<'_>) -> &'static str {
-    match place {
-        FaultPlace::Unreached(_) => {
-            "no node answers at this path, or you may not open it: see that a node runs with this --control, that the path is right and has \
-1 to 107 bytes, and that you may write to the socket"
-        }
-        FaultPlace::Control(_) | FaultPlace::Node(_) => {
-            "the node fell silent, or ended: see whether it runs; where this was a write, it was made or may yet be: ask for it with get \
-once the node answers"
-        }
-        FaultPlace::Taken(_) => {
-            "a file is at this path that is no socket: give another path, or remove the file"
-        }
-        FaultPlace::Listening(_) => { "a node listens at this path: end it, or give another path" }
-        FaultPlace::TooLong(_) | FaultPlace::Peer(_) => {
-            "the path of a socket has 1 to 107 bytes: give another one, as from the folder in which the node is started"
-        }
-        FaultPlace::NoFolder(_) =>
-            "the folder of this path is not there: make it, or give another path",
-        FaultPlace::Sockets(..) =>
-            "see that these are two paths, of 1 to 107 bytes each, that you may write to the folder of each, and that the process may open more files (ulimit -n)",
-        _ => "see where standard input comes from",
-    }
-}
-
-fn about_store(place: FaultPlace<'_>) -> &'static str {
-    match place {
-        FaultPlace::NoLog(_) => {
-            "there is no such file; to begin a new log, make an empty file, as with touch, and start again"
-        }
-        FaultPlace::NoLogFolder(_) =>
-            "the folder of this path is not there: make it, or give another path",
-        FaultPlace::UnreadableLog(_) => {
-            "see that it is a file that you may read and write, as the user that made it, and that the process may open more files (ulimit -n)"
-        }
-        FaultPlace::LockedLog(_) => {
-            "a process has it open, as a node that runs: end that first; to read what the node has, use get at its control socket"
-        }
-        FaultPlace::Node(_) => {
-            "the node could not write its log, and takes no more writes: see that its disk has room and works, and start it again"
-        }
-        _ => {
-            "see that its disk has room, that it is a file that you may read and write, that it has one name, that no -journal file lies \
-beside it, that you may write to its folder, where a file of its name with -wal is made, and that the process may open more files (ulimit -n)"
-        }
-    }
-}
-
-fn about_turns(place: FaultPlace<'_>) -> &'static str {
-    match place {
-        FaultPlace::Control(_) =>
-            "the answer takes more than 65,536 reads: see what answers at this path",
-        FaultPlace::Node(_) => "start the node again",
-        _ => "a script may take 1,000,000 reads: play it in parts",
-    }
-}
-
-/// What to do about a fault of a request, its answer or what they carry.
-fn about_exchange(fault: &Fault, place: FaultPlace<'_>) -> &'static str {
-    match fault {
-        Fault::BadMark
-        | Fault::BadVersion
-        | Fault::BadLength
-        | Fault::UnknownKind(_)
-        | Fault::Malformed(_) => {
-            "give the control socket of a node of the same release, which is not the socket for its peers"
-        }
-        Fault::Closed =>
-            "the node takes no more, as after a write that met a fault of its log: see to its disk, and start the node again",
-        Fault::WriteFailed(_) => match place {
-            FaultPlace::Control(_) =>
-                "the node ended the connection: see whether it runs, and try again",
-            FaultPlace::Metrics(_) =>
-                "give another path: this one is empty, or that of the node's log or of a socket, or what is there is no file of metrics",
-            _ =>
-                "see where standard output goes; what was printed before stands, and so does a write that was asked for",
-        },
-        Fault::Truncated => {
-            "the node ended before it answered: see whether it runs; where this was a write, it may have been made: ask for it with get"
-        }
-        Fault::TurnsSpent => about_turns(place),
-        _ => about_reading(place),
-    }
-}
-
-fn about_value(place: FaultPlace<'_>) -> &'static str {
-    match place {
-        FaultPlace::Value("text", _) =>
-            "a text has 1 to 512 bytes; write a backslash as \\5c and a newline as \\0a, or give --raw",
-        _ => "give a kind and a word, as: addr 10.0.0.1:80, weight 5, flag true, text 'zone b'",
-    }
-}
-
-/// What to do about a setting that is outside its limits.
-fn about_setting(place: FaultPlace<'_>) -> &'static str {
-    match place {
-        FaultPlace::Setting(setting) => setting.limits(),
-        FaultPlace::Heard(_) => {
-            "the version that this node heard of, and 1,048,576 more, is above 1099511627775: give --after, at least 4,096 above the last version; \
-where there is no room, end the name by --after 1099511627775, and take a new one"
-        }
-        _ => {
-            "--cluster is a name, --budget 1024 to 65536, --max-version 1 to 1099511627775, --workers 1 to 62, and --seats from the \
-workers and 2 more up to 64"
-        }
-    }
-}
-
-/// What to do about a fault of a log or of names, or of an exchange.
-fn about_log(fault: &Fault, place: FaultPlace<'_>) -> &'static str {
-    match fault {
-        Fault::OutOfTurn(_) if matches!(place, FaultPlace::Log(_)) => {
-            "a log that is there goes on by itself: start the node with it; where that ends in fault 21, move the file and its -wal away, \
-and begin anew"
-        }
-        Fault::FloorTooHigh =>
-            "give a FLOOR of at most the last version, which `attrdir log` prints last, or --all",
-        Fault::StoreFailed => about_store(place),
-        Fault::LogDamaged => {
-            "see that this is the log; one of a later release wants that release; where it is damaged move it and its -wal away, and see \
-`attrdir begin --help`; a copy of it is of use only where its node wrote nothing since"
-        }
-        Fault::WrongOwner =>
-            "give --name and --cluster as the log has them (sqlite3 FILE 'SELECT owner, cluster FROM meta'), or give this node's log",
-        Fault::OwnerConflict(_) => {
-            "end the other node of this name; where there is none, the log is an older copy, or began too low: end this node, move its log and \
-its -wal away, and see `attrdir begin --help`"
-        }
-        Fault::NoHello
-        | Fault::WrongCluster
-        | Fault::SameName
-        | Fault::SecondHello
-        | Fault::NoWatch
-        | Fault::WatchesFull
-        | Fault::OutOfTurn(_) =>
-            "give each node a name and a log of its own, and all nodes one cluster, and start the node again",
-        fault => about_exchange(fault, place),
-    }
-}
-
-/// What to do about a fault that is not one of a session as a peer.
-fn about_fault(fault: &Fault, place: FaultPlace<'_>) -> &'static str {
-    match fault {
-        Fault::NoMemory =>
-            "end other programs, or give the machine or the process more memory or threads, and try again",
-        Fault::BadName => "give 1 to 32 lower-case letters, digits and -",
-        Fault::BadKey => "give at most 64 lower-case letters, digits and the signs . _ / -",
-        Fault::BadValue => about_value(place),
-        Fault::BadSetting => about_setting(place),
-        Fault::TableFull => {
-            "a removed key counts until its removal is purged: start the node again with --purge-removals 1; else write under keys that it has"
-        }
-        Fault::OwnersFull => "start the node again without owners that are gone",
-        Fault::VersionsSpent => {
-            "start the node again with a greater --max-version, of at most 1099511627775, or under a new name"
-        }
-        Fault::NothingThere => "get prints the keys that the node has",
-        fault => about_log(fault, place),
-    }
-}
-
-/// What to do about a fault of a session as a peer, which writes nothing at the node.
-fn about_session(fault: &Fault) -> &'static str {
-    match fault {
-        Fault::NoMemory => about_fault(fault, FaultPlace::Line),
-        Fault::WrongCluster => "give --cluster as the node has it",
-        Fault::SameName =>
-            "the node has this very name: give another --name; for `begin` end that node, and ask another one",
-        Fault::NothingThere =>
-            "a node that was started since has forgotten it: give the --sock of one that runs for longer, or --after; only a name that never \
-wrote needs no more than an empty file",
-        Fault::ReadFailed | Fault::WriteFailed(_) | Fault::Truncated => {
-            "the node ended the session, or fell silent: see whether it runs, and try again"
-        }
-        _ => "give the --sock of a node of the same release, which is not its control socket",
-    }
-}
-
-/// What to do about a fault, in one line.
-fn advice(fault: &Fault, place: FaultPlace<'_>) -> &'static str {
-    match place {
-        FaultPlace::NoPeer(_) => {
-            "no node answers at this path, or you may not open it: see that a node runs with this --sock, that the path is right and has \
-1 to 107 bytes, and that you may write to the socket"
-        }
-        FaultPlace::Session(_) => about_session(fault),
-        _ => about_fault(fault, place),
-    }
-}
-
 impl fmt::Display for FaultPlace<'_> {
     fn fmt<W: fmt::Write>(&self, f: &mut fmt::Formatter<W>) -> fmt::Result {
         match self {
             FaultPlace::Line => Ok(()),
             FaultPlace::Word(what, word) => write!(f, "{what} '{word}': "),
             FaultPlace::Value(kind, word) => write!(f, "value '{kind} {word}': "),
-            FaultPlace::Setting(setting) => write!(f, "{}: ", setting.option()),
+            FaultPlace::Number(name, _) => write!(f, "--{name}: "),
             FaultPlace::Log(path)
             | FaultPlace::NoLog(path)
             | FaultPlace::NoLogFolder(path)
             | FaultPlace::UnreadableLog(path)
             | FaultPlace::LockedLog(path) => write!(f, "log {path}: "),
-            FaultPlace::Unreached(path) | FaultPlace::Control(path) | FaultPlace::Node(path) => {
-                write!(f, "control socket {path}: ")
-            }
-            FaultPlace::NoPeer(path)
+            FaultPlace::Unreached(path, _)
+            | FaultPlace::Silent(path)
+            | FaultPlace::Control(path)
+            | FaultPlace::Node(path) => write!(f, "control socket {path}: "),
+            FaultPlace::NoPeer(path, _)
+            | FaultPlace::SilentPeer(path)
             | FaultPlace::Heard(path)
             | FaultPlace::Session(path)
             | FaultPlace::Taken(path)
             | FaultPlace::Listening(path)
             | FaultPlace::TooLong(path)
-            | FaultPlace::NoFolder(path) => write!(f, "socket {path}: "),
+            | FaultPlace::NoFolder(path)
+            | FaultPlace::Forbidden(path) => write!(f, "socket {path}: "),
             FaultPlace::Peer(path) => write!(f, "peer {path}: "),
             FaultPlace::Sockets(sock, control) => write!(f, "sockets {sock} and {control}: "),
-            FaultPlace::Metrics(path) => write!(f, "metrics {path}: "),
+            FaultPlace::Metrics(path) | FaultPlace::MetricsOver(path) => {
+                write!(f, "metrics {path}: ")
+            }
+            FaultPlace::MetricsNowhere => f.write_str("metrics : "),
         }
+    }
+}
+
+/// Writes what to do about a fault, in one line.
+fn write_advice<W: fmt::Write>(
+    fault: &Fault,
+    place: FaultPlace<'_>,
+    f: &mut fmt::Formatter<W>,
+) -> fmt::Result {
+    match (fault, place) {
+        (Fault::BadSetting, FaultPlace::Number(_, range)) => write!(f, "give {range}"),
+        _ => f.write_str(advice(fault, place)),
     }
 }
 
@@ -430,6 +309,7 @@ impl fmt::Display for Failure<'_> {
         if self.line > 0 {
             write!(f, "line {}: ", self.line)?;
         }
-        write!(f, "{}{}", self.place, advice(&self.fault, self.place))
+        write!(f, "{}", self.place)?;
+        write_advice(&self.fault, self.place, f)
     }
 }

@@ -1,9 +1,9 @@
 //! What `--help` prints after the options.
 
 pub(crate) const EXAMPLE: &str =
-    "A node runs by `serve`; `set`, `del`, `get`, `watch` and `owners` talk to one that runs. `sim` plays many nodes in memory; `log` reads the
-log of a node that does not run, `purge` drops its removals, and `begin` makes one for a name whose log is lost. `attrdir COMMAND --help` says
-more of each.
+    "`serve` runs a node. `set`, `del`, `get`, `watch` and `owners` ask a node that runs. `log` reads the log of a node that does not run, and
+`purge` drops its tombstones. `begin` makes a log for a name whose log is lost. `sim` plays many nodes in memory. `attrdir COMMAND --help` explains
+a command.
 
 Example of a node, which is then asked from a second terminal:
   $ touch a.log
@@ -25,33 +25,47 @@ pub(crate) const SCRIPT: &str = "The first line of a script makes the nodes, eac
   world BUDGET ORDER MAX NAME..   frames of at most BUDGET bytes, ORDER breadth or depth, versions up to MAX
 
 Each other line is a command, and prints its answer:
-  put N K VALUE, del N K          node N writes under the key K, or removes what stands there: `version V`
-  commit N K VALUE, take N        the two halves of a put: the log takes it, the oldest that waits is entered
+  put N K VALUE, del N K          node N writes under the key K, or removes its value: `version V`
+  commit N K VALUE, take N        the two halves of a put: the log takes the write; the node enters the oldest that waits
   commit N K removed              the first half of a del
-  crash N K VALUE kept|lost       node N goes down, behind the commit or before it
-  restart N                       node N opens anew with what its log has
-  purge N F                       the log of node N drops its removals up to the version F, and node N goes down: `purged F`
+  crash N K VALUE kept|lost       node N goes down after the commit of a write, or before it
+  restart N                       node N starts again with what its log has
+  purge N F                       the log of node N drops its tombstones up to the version F, and node N goes down: `purged F`
   give A B V                      node A sends node B what it wrote above the version V, as far as a frame has room
   offer N O V                     node N sends what it holds of owner O above the version V: `frame I`
-  connect N C, close C            a connection of the number C begins at node N, and its Hello is sent; it ends
+  connect N C, close C            a connection with the number C begins at node N, and its Hello is sent; the connection ends
   ask C                           it sends its next digest
-  line C I, piece C n             frame I is lined up towards it; the next n bytes of its line come
+  line C I, piece C n             frame I is put in line to it; the next n bytes of its line arrive
   read N O K, upto N O            what node N has of owner O under the key K; up to which version it holds O
-  show I                          the frame of the number I, in hexadecimal
+  show I                          the frame with the number I, in hexadecimal
 VALUE is addr TEXT, weight NUMBER, flag true|false or text SPELLING. SPELLING is the rest of the line, in crash up to the space before
-the last word: the text, but that each byte 00 to 1f, 7f and \\ is a \\ and two digits, as \\0a and \\5c.
+the last word. It is the text, but each byte 00 to 1f, 7f and \\ is a \\ and two digits, as in \\0a and \\5c.
 
-A fault of a line below the first is printed as `fault N`, and the script goes on: 1 no memory, 2 a name, 3 a key, 4 a value that
-is none, 6 a key too many, 8 no version is left, 9 nothing to remove, 15 the node is down, 21 another writes under
-the node's name, 22 to 25 a Hello that is missing, of another cluster, of the same name or the second, 30 a version above the
-last. Where a node, a connection or a frame is not there, the answer is `nothing`. A fault of the first line is printed too (1, 2, 5 a setting, 24 two
-nodes of one name) and ends the run.
+If a node, a connection or a frame does not exist, the answer is `nothing`. A fault of a line is printed as `fault N`, and the script goes on. A
+fault of the first line is printed too, and ends the run:
+  1       no memory
+  2       a name
+  3       a key
+  4       a value
+  5       a setting, of the first line
+  6       too many keys
+  8       no version is left
+  9       nothing to remove
+  15      the node is down
+  21      another node writes under the node's name
+  22, 25  a Hello is missing; there is a second one
+  23      a Hello is of another cluster
+  24      a Hello is of the same name; two nodes of the first line have one name
+  30      a version is above the last
 
-A fault of the run ends it, after what was answered, with `fault N`, its text and what to do about it on standard error: 1 no
-memory, 16 the script cannot be read, 17 the answers cannot be written, 29 the script takes more than 1,000,000 reads.
+A fault of the run ends it after its last answer. Standard error has `fault N`, its text, and what to do:
+  1       no memory
+  16      the script cannot be read
+  17      the answers cannot be written
+  29      the script takes more than 1,000,000 reads
 
-The exit status is 0 after a whole script, 2 after a line that is none of these, whose number is printed as `line N`, and 3 after a
-fault that ended the run.
+The exit status is 0 after a whole script, and 3 after a fault that ended the run. After a line that is not a command it is 2, and `line N` has
+its number.
 
 Example:
   $ printf 'world 1024 breadth 100 a b\\nput a w weight 5\\ngive a b 0\\nread b a w\\n' | attrdir sim
@@ -60,7 +74,7 @@ Example:
   taken 1
   a w 1 weight 5
 
-With --explain each frame that a line sent or shows is said in words behind what the line prints:
+With --explain each frame that a line sent or shows is described after what the line prints:
   $ printf 'world 1024 breadth 100 a b\\nput a w weight 5\\ngive a b 0\\nread b a w\\n' | attrdir sim --explain
   version 1
   a703000000320300010161000000000000000000000000000000000000000000000001000101770000000000000001020000000000000005
@@ -85,14 +99,18 @@ piece 2 20\\npiece 2 49\\n' | attrdir sim
   taken 1";
 
 pub(crate) const LOG: &str =
-    "Each write that still stands is a line of the owner, the key, the version, the kind and the value, in ascending key, or
-`removed -` where the key was removed. The last line is the last version.
+    "Each key is a line: owner, key, version, kind and value, or `removed -` in place of kind and value. Keys ascend. The last line is the last
+version.
 
-The file has to be there; an empty one becomes a new log. A fault ends the run, with `fault N`, its text and what to do about it on
-standard error: 1 no memory, 2 a name, 17 the lines cannot be written, 18 the file is not there, cannot be read or written, or is open
-elsewhere, 19 the file is no log of this release, or a damaged one, 20 it belongs to another owner or cluster.
+The file has to exist. An empty file becomes a new log. A fault ends the command. Standard error has `fault N`, its text, and what to do:
+  1       no memory
+  2       a name
+  17      the lines cannot be written
+  18      the file does not exist, cannot be read or written, or is open in another process
+  19      the file is not a log of this release, or it is damaged
+  20      the log belongs to another owner or cluster
 
-The exit status is 0, 2 after a command line that is wrong, and 3 after a fault.
+The exit status is 0, 2 after a wrong command line, and 3 after a fault.
 
 Example:
   $ attrdir log --log a.log --name a --cluster c
@@ -101,18 +119,22 @@ Example:
   last 3";
 
 pub(crate) const PURGE: &str =
-    "Each removal of a version up to FLOOR goes, so that its key counts no more among the 4,096 that an owner may have. What was written and not
-removed stays, and so does the last version: the next write has the one behind it. The node must not run meanwhile. Once it runs again, a peer that
-holds less than up to FLOOR takes the whole table anew, and shows the rows that it has until that is whole.
+    "It drops each tombstone of a version up to FLOOR. Then these removed keys no longer count among the 4,096 that an owner may have. Values stay, and
+so does the last version: the next write has the version after it. The node must not run meanwhile. A peer that holds less than FLOOR takes the whole table once
+the node runs again. It shows its old rows until the new table is whole.
 
-It prints `purged FLOOR`, also where the log was purged so far before. With --all it goes up to the last version, and prints that.
+It prints `purged FLOOR`, also if the log was purged so far before. With --all it drops all tombstones, and prints the last version.
 
-The file has to be there; an empty one becomes a new log. A fault ends the run, with `fault N`, its text and what to do about it on
-standard error: 1 no memory, 2 a name, 17 the line cannot be written, 18 the file is not there, cannot be read or written, or is open
-elsewhere, 19 the file is no log of this release, or a damaged one, 20 it belongs to another owner or cluster, 30 FLOOR is above the
-last version.
+The file has to exist. An empty file becomes a new log. A fault ends the command. Standard error has `fault N`, its text, and what to do:
+  1       no memory
+  2       a name
+  17      the line cannot be written
+  18      the file does not exist, cannot be read or written, or is open in another process
+  19      the file is not a log of this release, or it is damaged
+  20      the log belongs to another owner or cluster
+  30      FLOOR is above the last version
 
-The exit status is 0, 2 after a command line that is wrong, and 3 after a fault.
+The exit status is 0, 2 after a wrong command line, and 3 after a fault.
 
 Examples:
   $ attrdir purge --log a.log --name a --cluster c 2
@@ -121,58 +143,68 @@ Examples:
   purged 3";
 
 pub(crate) const BEGIN: &str =
-    "A node whose log is lost must not write under its old versions again: the others hold what it wrote, and would pass its new writes over. This
-makes a log that begins behind a version V. It holds nothing, and its next write has the version behind V. Once the node runs with it, the others
-drop what they hold of the name, and take what it writes then.
+    "A node whose log is lost must not use its old versions again. Others hold what it wrote, and would ignore new writes under these versions. This
+command makes a log that begins after a version V. The log holds nothing, and its next write has the version after V. Once the node runs with it, the
+others drop what they hold of the name, and take what it writes then.
 
-End the node first, where it still runs: a process keeps a file that was removed, and takes writes that are lost. V has to be at least 4,096 above the
-last version that the lost log gave, one for each key that it may have had. With --from it is the last version that the node behind PATH heard of,
-and 1,048,576 more, since the lost log may have had writes of which that node never heard. To end a name for good, run the node once with such
-a log and write nothing.
+First end the node, if it still runs: a process keeps a file that was removed, and takes writes that are lost. V has to be at least 4,096 above the
+last version of the lost log, since the lost log may have had so many keys. With --from, V is the last version that the node at PATH heard of, plus
+1,048,576. The lost log may have had so many writes that no other node heard of. To end a name for good, run the node once with such a log, and write nothing.
 
-It prints `begun V`. A log that has writes, or began so before, is refused and stays as it is: move it and its -wal away, to begin in its place.
+It prints `begun V`. If the file has writes, or was made by `begin` before, it is refused and stays as it is. To begin in its place, move it and its
+-wal away first.
 
-A fault ends the run, with `fault N`, its text and what to do about it on standard error: 1 no memory, 2 a name, 5 V is none of 1 to
-1099511627775, 9 the node behind PATH heard nothing of the name, 17 the line cannot be written, 18 the file cannot be read or written, or is
-open elsewhere, 19 the file is no log of this release, or a damaged one, 20 it belongs to another owner or cluster, 31 it has writes, or
-began so before; and those of `attrdir owners`, of the node behind PATH.
+A fault ends the command. Standard error has `fault N`, its text, and what to do:
+  1       no memory
+  2       a name
+  5       V is outside 1 to 1099511627775
+  9       the node at PATH heard nothing of the name
+  17      the line cannot be written
+  18      the file cannot be read or written, or is open in another process
+  19      the file is not a log of this release, or it is damaged
+  20      the log belongs to another owner or cluster
+  31      the log has writes, or was made by `begin` before
+With --from also those of `attrdir owners`, of the node at PATH.
 
-The exit status is 0, 2 after a command line that is wrong, and 3 after a fault.
+The exit status is 0, 2 after a wrong command line, and 3 after a fault.
 
-Examples, where the file of node a is gone, and node b heard of its version 4:
+Examples, in which the file of node a is gone, and node b heard of its version 4:
   $ attrdir begin --log a.log --name a --cluster c --from b.sock
   begun 1048580
   $ attrdir begin --log old.log --name old --cluster c --after 5000
   begun 5000";
 
 pub(crate) const SERVE: &str =
-    "The log is a file that is there; an empty one becomes a new log. The node makes both sockets, each at a path where no file is or where
-a node that no longer runs left its socket, and removes them when it ends. On --sock it serves other nodes, and each PEER is the path of
-the --sock of another node. On --control it answers `set`, `del`, `get` and `watch`. Peers and callers are not authenticated: whoever may
-open a socket may use it.
+    "The log is a file that exists. An empty file becomes a new log. The node makes both sockets, and removes them when it ends by itself. At each path
+there must be no file, or a socket that a killed node left. At --sock the node serves other nodes. At --control it answers `set`, `del`, `get` and
+`watch`. Each PEER is the path of the --sock of another node. Nobody has to prove who they are: whoever can open a socket can use it.
 
-Where its log has --purge-removals removals or more, they go before the node starts, as by `attrdir purge --all`, and a line says so.
+The node asks its peers for what it lacks, and gives them what they lack: one peer a round, in turn. It asks some right away if it has news, which is
+a write of its own, or a delta that brought something.
 
-It asks its peers for what it lacks, and gives them what they lack: one a round, in turn, with a --pause after each. When its own owner
-writes, or a peer has news, it asks --fanout of them right away. A peer that keeps it waiting for --dial-idle is passed over in its next seven
-turns. A request that has not come whole within --request is dropped.
+Each line on standard error is `attrdir: LEVEL WHAT: ..`. LEVEL is info, warning or error. The node reports:
+  - that it listens, or ended after its last round
+  - how its first round with each peer ended, and then each round that ended differently from the one before
+  - that it removed a socket which a killed node left, or purged tombstones
+  - that its log cannot be written, or that another node writes under its name
+  - that nine tenths of its keys or owners are used
+  - that its file of metrics cannot be written
 
-Each line on standard error is `attrdir: LEVEL WHAT: ..`, where LEVEL is info, warning or error: the node listens; a peer answers, does
-not, or ended its session by a fault, after its first round and then whenever a round ends otherwise than the one before; a socket was left
-and is removed; the log cannot be written, or another node writes under this name; nine tenths of the keys, or of the owners, that a node
-may have are used; the file of --metrics cannot be written. That file tells of the node while it runs: it is written anew behind rounds, at
-most once a second and where a peer changed, and removed when the node ends by itself. With --rounds the node ends after the last one and
-prints `rounds R faults F events E` on standard output: R rounds were made, F of them and of the connections that came had a fault, and E
-events were seen, its own writes and each delta of a peer, also one that brought nothing. Without --rounds it runs until it is killed; each
-write that was answered by a version is in the log.
+Without --rounds it runs until it is killed. Each write that was answered by a version is in the log. With --rounds it ends after the last round, and
+prints `rounds R faults F events E`. R counts its rounds, F the rounds and connections that had a fault. E counts its own writes and each delta of a
+peer, also one that brought nothing.
 
-A fault ends the node, with `fault N`, its text and what to do about it on standard error: 1 no memory, 2 the name, 5 a setting, 16 a
-socket cannot be made, as where a node listens or a file is at its path, or the path of a peer has none or more than 107 bytes, 17 the
-last line cannot be written, or what is at the path of --metrics is no file of metrics, 18 the log is not there, cannot be read or
-written, or is open elsewhere, or a write failed and --on-log-fault is exit, 19 the file is no log of this release, or a damaged one, 20
-it belongs to another owner or cluster. A fault of a connection ends that connection alone, and is counted.
+A fault of a connection ends that connection alone, and is counted. Another fault ends the node. Standard error has `fault N`, its text, and what to do:
+  1       no memory
+  2       the name
+  5       a setting
+  16      a socket cannot be made, or the path of a peer cannot be that of a socket
+  17      the last line cannot be written, or the path of metrics is taken
+  18      the log does not exist, cannot be read or written, or is open in another process
+  19      the file is not a log of this release, or it is damaged
+  20      the log belongs to another owner or cluster
 
-The exit status is 0 after the last round, 2 after a command line that is wrong, and 3 after a fault.
+The exit status is 0 after the last round, 2 after a wrong command line, and 3 after a fault.
 
 Examples:
   $ touch a.log b.log
@@ -191,22 +223,32 @@ Examples:
   attrdir_log_open{node=\"a\"} 1";
 
 pub(crate) const SET: &str =
-    "KIND and VALUE are addr TEXT, weight NUMBER, flag true|false or text SPELLING. SPELLING is one argument, as `get` prints it: the text, but
-that each byte 00 to 1f, 7f and \\ is a \\ and two digits, as \\0a and \\5c. With --raw it is the text itself. Where KEY or VALUE begins
-with -, put -- before KEY. The node answers when its log has the write, and this prints `version V`. Other nodes have it once they asked, as
-is seen by `get` there.
+    "KIND and VALUE are addr TEXT, weight NUMBER, flag true|false or text SPELLING. SPELLING is one argument, as `get` prints it. It is the text, but
+each byte 00 to 1f, 7f and \\ is a \\ and two digits, as in \\0a and \\5c. With --raw it is the text itself. If KEY or VALUE begins
+with -, put -- before KEY. The command prints `version V` once the log of the node has the write. Other nodes have it once they asked: `get`
+shows it there.
 
-With - alone, and no --raw, it reads lines `KEY KIND VALUE` and `KEY removed` from standard input, with one space between two words (a text is all behind its kind), and makes the write of
-each as it comes, one after the other: other writes may come between them. It prints the version of each. An empty line is passed over. The
-first fault ends it, and says the number of its line; the writes of the lines before stand.
+With - alone, and no --raw, it reads lines from standard input: `KEY KIND VALUE` or `KEY removed`. One space separates two words; a text is the
+rest of the line. It makes the write of each line as the line comes, and prints its version. Other writes may come between. It skips empty lines. The
+first fault ends it, and names the number of its line. The writes of the lines before were made.
 
-A fault ends the command, with `fault N`, its text and what to do about it on standard error: 1 no memory, 3 the key, 4 the value, 6
-the node has 4,096 keys, removed ones counted (see --purge-removals of serve), 8 it has no version left, 9 nothing stands under a key that a
-line removes, 10 to 14 what answers is no control socket, 15 its log met
-a fault before, 16 no node answers, or it is silent for a minute, 17 the request or the answer cannot be written, 18 its log cannot be
-written, 21 another node writes under its name, 28 it ended before it answered, 29 the answer takes more than 65,536 reads.
+A fault ends the command. Standard error has `fault N`, its text, and what to do:
+  1       no memory
+  3       the key
+  4       the value
+  6       the node has 4,096 keys, removed ones counted
+  8       the node has no version left
+  9       the node has no value under a key that a line removes
+  10-14   what answers is not a control socket
+  15      the log of the node met a fault before
+  16      no node could be reached, or it was silent for 60 s, or it ended the connection
+  17      the request or the answer cannot be written
+  18      the node cannot write its log
+  21      another node writes under the node's name
+  28      the node ended before it answered
+  29      the answer takes more than 65,536 reads
 
-The exit status is 0, 2 after a command line that is wrong, and 3 after a fault.
+The exit status is 0, 2 after a wrong command line, and 3 after a fault.
 
 Examples:
   $ attrdir set --control a.ctl web/addr addr 10.0.0.1:80
@@ -216,33 +258,38 @@ Examples:
   version 3";
 
 pub(crate) const DEL: &str =
-    "The node answers when its log has the removal, which is a write of its own, and this prints `version V`. Where KEY begins with -,
-put -- before it.
+    "A removal is a write with a version of its own. The command prints `version V` once the log of the node has it. If KEY begins with -, put --
+before it.
 
-A fault ends the command, with `fault N`, its text and what to do about it on standard error: those of `attrdir set`, and 9 where
-nothing stands under the key.
+A fault ends the command: those of `attrdir set`, and 9 if the node has no value under the key.
 
-The exit status is 0, 2 after a command line that is wrong, and 3 after a fault.
+The exit status is 0, 2 after a wrong command line, and 3 after a fault.
 
 Example:
   $ attrdir del --control a.ctl web/up
   version 4";
 
 pub(crate) const GET: &str =
-    "Each row is a line of the owner, the key, the version, the kind and the value, in ascending owner and then key; removed keys have
-none. With --format json it is a JSON object of key, kind, owner, value and version, where the value of an addr or a text is a
-string, that of a weight a number, and that of a flag true or false. What others wrote stands as far as the node has heard of it. The rows
-come page by page: each page is what the node has at one time, and a later page is never older.
+    "Each row is a line: owner, key, version, kind and value, in ascending owner and then key. A removed key has no row. With --format json it is a
+JSON object of key, kind, owner, value and version. There the value of an addr or a text is a string, of a weight a number, and of a flag true
+or false. Rows of other owners are as far as the node has heard of them. Rows come page by page: each page is one state of the node, and no
+page is older than the page before.
 
-With --owner and --key it prints the row of that key alone, and with --value too only its value, a text as it is spelled there; with
---raw beside --value a text is printed as it is. Where there is no such row it prints nothing, and the exit status is 1.
+With --owner and --key it prints only the row of that key. With --value too it prints only its value, a text as it is spelled in the row. With
+--raw too it prints a text as it is. If there is no such row it prints nothing, and the exit status is 1.
 
-A fault ends the command, with `fault N`, its text and what to do about it on standard error: 1 no memory, 2 the owner, 3 the
-prefix or the key, 10 to 14 what answers is no control socket, 15 the node cannot read, 16 no node answers, or it is silent for a minute, 17 the
-request or the rows cannot be written, 28 the node ended before it answered, 29 a page takes more than 65,536 reads.
+A fault ends the command. Standard error has `fault N`, its text, and what to do:
+  1       no memory
+  2       the owner
+  3       the prefix or the key
+  10-14   what answers is not a control socket
+  15      the node cannot read
+  16      no node could be reached, or it was silent for 60 s, or it ended the connection
+  17      the request or the rows cannot be written
+  28      the node ended before it answered
+  29      a page takes more than 65,536 reads
 
-The exit status is 0, also where there is no row, 1 where --key is given and there is none, 2 after a command line that is wrong, and 3
-after a fault.
+The exit status is 0, also without rows. It is 1 if --key is given and there is no such row, 2 after a wrong command line, and 3 after a fault.
 
 Examples:
   $ attrdir get --control a.ctl
@@ -257,15 +304,21 @@ Examples:
   {\"key\":\"web/addr\",\"kind\":\"addr\",\"owner\":\"b\",\"value\":\"10.0.0.2:80\",\"version\":1}";
 
 pub(crate) const OWNERS: &str =
-    "It asks the node as another node would, under a name of its own, and writes nothing there. Each line has an owner and the last version up
-to which the node holds its writes, in ascending owner. So a script can tell whether a node has heard of a write: `set` prints its version.
+    "It asks the node as another node would, under a name of its own, and writes nothing there. Each line has an owner and the version up to
+which the node holds its writes, in ascending owner. So a script can see whether a node has heard of a write: `set` prints its version.
 
-A fault ends the command, with `fault N`, its text and what to do about it on standard error: 1 no memory, 2 the cluster or the name, 10 to
-14 what answers is no node's socket for other nodes, 16 no node answers, or it is silent for a minute, 17 the session or the lines cannot be
-written, 23 the node is of another cluster, 24 the node has this name, 28 it ended before it told all, 29 the session takes more than 65,536
-reads.
+A fault ends the command. Standard error has `fault N`, its text, and what to do:
+  1       no memory
+  2       the cluster or the name
+  10-14   what answers is not the socket of a node for other nodes
+  16      no node could be reached, or it was silent for 60 s, or it ended the connection
+  17      the session or the lines cannot be written
+  23      the node is of another cluster
+  24      the node has this name
+  28      the node ended before it had named all owners
+  29      the session takes more than 65,536 reads
 
-The exit status is 0, 2 after a command line that is wrong, and 3 after a fault.
+The exit status is 0, 2 after a wrong command line, and 3 after a fault.
 
 Example:
   $ attrdir owners --sock a.sock --cluster c
@@ -273,26 +326,25 @@ Example:
   b 1";
 
 pub(crate) const WATCH: &str =
-    "It asks as `attrdir get` does, page after page until it has all rows, waits, and asks again. Each time it prints what changed since it
-asked before, at first each row, in ascending owner and then key:
+    "It asks for all rows as `attrdir get` does, waits, and asks again. Each time it prints what changed since the asking before. The first time it
+prints each row. Lines are in ascending owner and then key:
   set OWNER KEY VERSION KIND VALUE   the row is new, or has another version or value
-  gone OWNER KEY                     there is no row any more
-Who enters each line in turn has the rows of the last asking. Of what changed between two askings only the last is seen. The lines of one
-asking are written at once, and where nothing changed nothing is printed. With --mark a line `asked` follows each asking, also where nothing
-changed.
+  gone OWNER KEY                     the row is gone
+A script that enters each `set` line and takes out each `gone` line has the rows of the last asking. If a row changed twice between two askings, only
+its last state is printed. All lines of one asking are written at once; if nothing changed there are none. With --mark a line `asked` follows each
+asking, also if nothing changed.
 
-A fault ends the command, the first time that it asks and later, with `fault N`, its text and what to do about it on standard error:
-those of `attrdir get`. Of an asking that has a fault nothing is printed; what was printed before stands. Standard output that is closed ends
-it before it asks again.
+A fault ends the command, at the first asking or later: those of `attrdir get`. It prints nothing of the asking that had the fault. If standard
+output is closed, the command ends before it asks again.
 
-With --retry it goes on where the node can't be reached, ends or refuses, and says so on standard error, once each time that this changes;
-what was printed stands. A node that was started again may know less for a while. So `gone` is only printed once the node, since it was
-started, has shown that row, or another of that owner among those asked for with the same version or a later one; and a row is not printed
-with an earlier version than before. --count counts the askings that were answered.
+With --retry it goes on if the node cannot be reached, ends or refuses. It prints a line on standard error when the node stops answering, and one when it
+answers again. A node that was started again may know less for a while. So the command waits with `gone` until the node has shown a row of that owner
+with the same version or a later one. Only rows that it asks for count. It never prints a row with an earlier version than before. --count counts
+the askings that the node answered.
 
-The exit status is 0 after the last of --count, 2 after a command line that is wrong, and 3 after a fault.
+The exit status is 0 after the last of --count, 2 after a wrong command line, and 3 after a fault.
 
-Example, where a second terminal writes and then removes a weight:
+Example, in which a second terminal writes and then removes a weight:
   $ attrdir watch --control a.ctl --prefix web/ --every 500
   set a web/addr 1 addr 10.0.0.1:80
   set a web/weight 2 weight 5

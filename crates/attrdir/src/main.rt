@@ -22,6 +22,8 @@
 //! - `--help` prints another text. `tools/check-help` compares options and defaults. Nothing refuses other words.
 #![tactic(auto)]
 
+mod advice;
+mod arguments;
 mod asking;
 mod batch;
 mod beginning;
@@ -38,30 +40,35 @@ mod metrics;
 mod metrics_file;
 mod one_row;
 mod owners;
+mod part;
 mod pausing;
 mod release;
 mod serving;
 mod watching;
 mod words;
 
+use crate::arguments::help_texts;
 use crate::command_line::{Next, USAGE_STATUS, follow, print_failure, words};
 use crate::environment::{control_path, text_of};
 use crate::failure::Failure;
 use crate::serving::serve;
+use sb_types::Fault;
 use std::process::ExitCode;
 
 fn main(rt: HostRuntime) -> ExitCode {
     let status = match words(&rt) {
-        Ok(Some(words)) => match control_path(&rt) {
-            Ok(fallback) => match follow(&rt, words.as_slice(), text_of(&fallback)) {
-                Ok(Next::Ended(status)) => status,
-                Ok(Next::Serve(node)) => match serve(&rt, &rt, &node) {
-                    Ok(()) => 0,
+        Ok(Some(words)) => match (control_path(&rt), help_texts(rt.alloc())) {
+            (Ok(fallback), Ok(texts)) => {
+                match follow(&rt, words.as_slice(), texts.as_slice(), text_of(&fallback)) {
+                    Ok(Next::Ended(status)) => status,
+                    Ok(Next::Serve(node)) => match serve(&rt, &rt, &node) {
+                        Ok(()) => 0,
+                        Err(failure) => print_failure(&rt, failure),
+                    },
                     Err(failure) => print_failure(&rt, failure),
-                },
-                Err(failure) => print_failure(&rt, failure),
-            },
-            Err(fault) => print_failure(&rt, Failure::from(fault)),
+                }
+            }
+            _ => print_failure(&rt, Failure::from(Fault::NoMemory)),
         },
         Ok(None) => USAGE_STATUS,
         Err(fault) => print_failure(&rt, Failure::from(fault)),

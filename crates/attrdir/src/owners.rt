@@ -3,8 +3,8 @@ ghost use Rattle.std.specs.Prelude.{◌≡◌, ◌<◌, IfOk, IfErr};
 ghost use Rattle.sb_session.specs.Handlers.{IsRefusal};
 ghost use Rattle.attrdir.specs.Owners as spec;
 
-use crate::asking::{READS_OF_ONE, limit};
-use crate::failure::{Failure, FaultPlace};
+use crate::asking::{READS_OF_ONE, is_silent, limit};
+use crate::failure::{Failure, FaultPlace, Obstacle};
 use sb_codec::{Bye, Message};
 use sb_digest::{Digest, Pair};
 use sb_frames::{Frames, LastRead, Steps, receive_within, send};
@@ -204,8 +204,12 @@ fn ask_pairs<'a>(
     cluster: Name,
     name: Name,
 ) -> Result<Vec<Pair>, Failure<'a>> {
-    let Ok(stream) = UnixStream::connect(rt, sock) else {
-        return Err(Failure::at(FaultPlace::NoPeer(sock), Fault::ReadFailed));
+    let stream = match UnixStream::connect(rt, sock) {
+        Ok(stream) => stream,
+        Err(error) => {
+            let place = FaultPlace::NoPeer(sock, Obstacle::of(&error));
+            return Err(Failure::at(place, Fault::ReadFailed));
+        }
     };
     if limit(&stream).is_err() {
         return Err(Failure::at(FaultPlace::Session(sock), Fault::ReadFailed));
@@ -214,6 +218,9 @@ fn ask_pairs<'a>(
     let session = Session::new(cluster, name);
     match hear_from::<Brand>(&stream, session, &mut heard, Blank::new(1)) {
         Ok(()) => Ok(heard.pairs),
+        Err(Fault::ReadFailed) if is_silent(&stream) => {
+            Err(Failure::at(FaultPlace::SilentPeer(sock), Fault::ReadFailed))
+        }
         Err(fault) => Err(Failure::at(FaultPlace::Session(sock), fault)),
     }
 }

@@ -1,17 +1,18 @@
 //! The command that runs a node.
+use crate::commands::SEATS;
 use crate::console::{Console, Shortage};
-use crate::failure::{Failure, FaultPlace, Setting};
+use crate::failure::{Failure, FaultPlace};
 use crate::log_file::{has_folder, open_log, purge_removals};
 use crate::metrics_file::{MetricsFile, may_replace, writes_over};
 use crate::words::name_of;
 use sb_log::WriteLog;
 use sb_run::{NodeConfig, Pace, Paths, Ran, Runtime, run_node};
-use sb_types::{
-    BUDGET_LEAST, BUDGET_MOST, Fault, Name, RawSettings, Settings, VERSION_MOST, WORKERS_MOST,
-};
-use std::fs::symlink_metadata;
+use sb_types::{Fault, RawSettings, Settings};
+use std::fs::{remove_file, symlink_metadata};
+use std::io::ErrorKind;
 use std::net::{Net, TcpListener, TcpStream};
 use std::os::unix::fs::FileTypeExt;
+use std::os::unix::net::UnixListener;
 
 /// The most bytes of the path of a socket.
 const SOCKET_PATH_MOST: usize = 107;
@@ -22,6 +23,8 @@ pub(crate) struct ServeArguments<'a> {
     pub(crate) name: &'a str,
     pub(crate) log: &'a str,
     pub(crate) settings: RawSettings<'a>,
+    /// The place of the first option whose number is outside its range.
+    pub(crate) outside: Option<FaultPlace<'static>>,
     pub(crate) sock: &'a str,
     pub(crate) control: &'a str,
     pub(crate) peers: Vec<&'a str>,
@@ -45,36 +48,53 @@ fn print_ran(rt: &HostRuntime, ran: Ran) -> Result<(), Failure<'static>> {
     }
 }
 
-/// Which of the settings is outside its limits. If no other is, it is the seats.
-fn setting_of(raw: &RawSettings<'_>) -> Setting {
-    if Name::read(raw.cluster).is_err() {
-        Setting::Cluster
-    } else if raw.budget < BUDGET_LEAST || raw.budget > BUDGET_MOST {
-        Setting::Budget
-    } else if raw.max_version < 1 || raw.max_version > VERSION_MOST {
-        Setting::MaxVersion
-    } else if raw.workers < 1 || raw.workers > WORKERS_MOST {
-        Setting::Workers
-    } else {
-        Setting::Seats
+/// Which of the settings is outside its limits. If no number is, it is the name of the cluster.
+fn setting_of<'a>(given: &ServeArguments<'a>) -> FaultPlace<'a> {
+    match given.outside {
+        Some(place) => place,
+        None => FaultPlace::Word(
+            "--cluster",
+            str::from_utf8(given.settings.cluster).unwrap_or(""),
+        ),
     }
 }
 
-/// Which of its sockets a node could not make, as far as their paths show it.
+/// Whether the program is not permitted to make a socket at a path where no file is.
+fn is_forbidden(rt: &HostRuntime, path: &str) -> bool {
+    match UnixListener::bind(rt, path) {
+        Ok(_) => {
+            let _ = remove_file(rt, path);
+            false
+        }
+        Err(error) => matches!(
+            error.kind(),
+            ErrorKind::PermissionDenied | ErrorKind::ReadOnlyFilesystem
+        ),
+    }
+}
+
+/// Why a node could not make a socket at a path, as far as the path shows it.
+fn obstacle_at<'a>(rt: &HostRuntime, path: &'a str) -> Option<FaultPlace<'a>> {
+    if path.is_empty() || path.len() > SOCKET_PATH_MOST {
+        return Some(FaultPlace::TooLong(path));
+    }
+    match symlink_metadata(rt, path) {
+        Ok(found) if found.file_type().is_socket() => Some(FaultPlace::Listening(path)),
+        Ok(_) => Some(FaultPlace::Taken(path)),
+        Err(error) if error.kind() == ErrorKind::PermissionDenied => {
+            Some(FaultPlace::Forbidden(path))
+        }
+        Err(_) if !has_folder(rt, path) => Some(FaultPlace::NoFolder(path)),
+        Err(_) if is_forbidden(rt, path) => Some(FaultPlace::Forbidden(path)),
+        Err(_) => None,
+    }
+}
+
+/// Which of its sockets a node could not make, and why, as far as their paths show it.
 fn socket_of<'a>(rt: &HostRuntime, given: &ServeArguments<'a>) -> FaultPlace<'a> {
     for path in [given.sock, given.control] {
-        if path.len() > SOCKET_PATH_MOST {
-            return FaultPlace::TooLong(path);
-        }
-        if let Ok(found) = symlink_metadata(rt, path) {
-            return if found.file_type().is_socket() {
-                FaultPlace::Listening(path)
-            } else {
-                FaultPlace::Taken(path)
-            };
-        }
-        if !has_folder(rt, path) {
-            return FaultPlace::NoFolder(path);
+        if let Some(place) = obstacle_at(rt, path) {
+            return place;
         }
     }
     FaultPlace::Sockets(given.sock, given.control)
@@ -90,24 +110,27 @@ fn unreachable_peer<'a>(given: &ServeArguments<'a>) -> Option<&'a str> {
 }
 
 /// The path for metrics, if it is empty, or if they would replace something else.
-fn taken_for_metrics<'a>(rt: &HostRuntime, given: &ServeArguments<'a>) -> Option<&'a str> {
+fn taken_for_metrics<'a>(rt: &HostRuntime, given: &ServeArguments<'a>) -> Option<FaultPlace<'a>> {
     let path = given.metrics?;
+    if path.is_empty() {
+        return Some(FaultPlace::MetricsNowhere);
+    }
     for other in [given.log, given.sock, given.control] {
         if writes_over(path, other) {
-            return Some(path);
+            return Some(FaultPlace::MetricsOver(path));
         }
     }
-    if !path.is_empty() && may_replace(rt, path) {
+    if may_replace(rt, path) {
         None
     } else {
-        Some(path)
+        Some(FaultPlace::Metrics(path))
     }
 }
 
 /// The place at which a node met the fault that keeps it from running.
 fn place_of<'a>(rt: &HostRuntime, fault: &Fault, given: &ServeArguments<'a>) -> FaultPlace<'a> {
     match fault {
-        Fault::BadSetting => FaultPlace::Setting(setting_of(&given.settings)),
+        Fault::BadSetting => setting_of(given),
         Fault::ReadFailed => socket_of(rt, given),
         Fault::Closed | Fault::StoreFailed | Fault::LogDamaged => FaultPlace::Log(given.log),
         _ => FaultPlace::Line,
@@ -195,13 +218,13 @@ pub(crate) fn serve<'a, R: Runtime + Net<Listener = TcpListener, Stream = TcpStr
         Err(fault) => return Err(Failure::at(place_of(rt, &fault, given), fault)),
     };
     if settings.seats() < settings.workers() + 2 {
-        return Err(Failure::at(FaultPlace::Setting(Setting::Seats), Fault::BadSetting));
+        return Err(Failure::at(SEATS.place(), Fault::BadSetting));
     }
     if let Some(path) = unreachable_peer(given) {
         return Err(Failure::at(FaultPlace::Peer(path), Fault::ReadFailed));
     }
-    if let Some(path) = taken_for_metrics(rt, given) {
-        return Err(Failure::at(FaultPlace::Metrics(path), Fault::WriteFailed(0)));
+    if let Some(place) = taken_for_metrics(rt, given) {
+        return Err(Failure::at(place, Fault::WriteFailed(0)));
     }
     let (cluster, max_version) = (settings.cluster(), settings.max_version());
     let log = open_log(rt, given.log, name, cluster, max_version)?;
