@@ -24,20 +24,21 @@ pub struct ViewWriter<S: NodeTag, R: Wait + Drop> {
     writer: Writer<ViewCopy, Operation, u64, ViewRule<S>>,
     // What is appended and not yet handed to the writer, so that no reader meets a part of a batch.
     queue: VecDeque<Operation>,
+    published: HistoryPrefix<S>,
     queued: HistoryPrefix<S>,
     rt: R,
 }
 
 impl<S: NodeTag, R: Wait + Drop> Model for ViewWriter<S, R> {
-    ghost use Rattle.std.specs.Prelude.{◌++◌, drop, fold};
+    ghost use Rattle.std.specs.Prelude.{◌≡◌, ◌++◌, drop, fold};
     ghost use Rattle.sb_views.specs.Operations.{after_operation};
     ghost use Rattle.sb_views.specs.Publishing as spec;
 
     ghost Value = { spec.Views };
 
-    ghost view = { λ w. record { published = w.writer.desk.shown.value.position.events; queued = w.queued } };
+    ghost view = { λ w. record { published = w.published; queued = w.queued } };
 
-    ghost invariant = { λ w. spec.IsQueued S.history S.opening w.queued w.writer.desk.shown.value
+    ghost invariant = { λ w. (w.writer.desk.shown.value.position.events ≡ w.published) × spec.IsQueued S.history S.opening w.queued w.writer.desk.shown.value
         (fold after_operation w.writer.desk.shown.value (drop w.writer.behind w.writer.log.items ++ w.queue.items)) };
 }
 
@@ -75,6 +76,20 @@ fn queue_all(
     Ok(())
 }
 
+/// The prefix that is published after a publish that ended so.
+fn prefix_after<S: NodeTag>(
+    end: &Result<(), AllocError>,
+    published: HistoryPrefix<S>,
+    queued: &HistoryPrefix<S>,
+) -> HistoryPrefix<S>
+    ensures { MatchResult end.now (λ _. result ≡ queued.now) (λ _. result ≡ published) }
+{
+    match end {
+        Ok(()) => queued.copy(),
+        Err(_) => published,
+    }
+}
+
 impl<S: NodeTag, R: Wait + Drop> ViewWriter<S, R> {
     /// A writer of two equal copies, with room for so many readers. `NoMemory`.
     pub(crate) fn new(
@@ -97,6 +112,7 @@ impl<S: NodeTag, R: Wait + Drop> ViewWriter<S, R> {
             Ok(writer) => Ok(ViewWriter {
                 writer,
                 queue: VecDeque::new(alloc),
+                published: start.copy(),
                 queued: start,
                 rt,
             }),
@@ -146,38 +162,50 @@ impl<S: NodeTag, R: Wait + Drop> ViewWriter<S, R> {
         }
     }
 
-    fn published(self) -> (ViewWriter<S, R>, Result<(), AllocError>)
+    /// The events that are published.
+    pub fn published_prefix(&self) -> &HistoryPrefix<S>
+        ensures { result.now ≡ self.now.published }
+    {
+        &self.published
+    }
+
+    /// The events that are published once all that is queued is.
+    pub fn queued_prefix(&self) -> &HistoryPrefix<S>
+        ensures { result.now ≡ self.now.queued }
+    {
+        &self.queued
+    }
+
+    fn publish_queue(self) -> (ViewWriter<S, R>, Result<(), AllocError>)
         ensures { MatchResult result.1 (λ _. result.0 ≡ record { published = self.queued; queued = self.queued }) (λ _. result.0 ≡ self) }
     {
         let ViewWriter {
             mut writer,
             mut queue,
+            published,
             queued,
             rt,
         } = self;
-        match hand_over(&mut writer, &mut queue) {
-            Ok(()) => {
-                let (writer, end) = writer.publish_as::<PublishOutcome, R>(&rt);
-                (
-                    ViewWriter {
-                        writer,
-                        queue,
-                        queued,
-                        rt,
-                    },
-                    end,
-                )
-            }
-            Err(fault) => (
-                ViewWriter {
-                    writer,
-                    queue,
-                    queued,
-                    rt,
-                },
-                Err(fault),
-            ),
+        if let Err(fault) = hand_over(&mut writer, &mut queue) {
+            let writer = ViewWriter {
+                writer,
+                queue,
+                published,
+                queued,
+                rt,
+            };
+            return (writer, Err(fault));
         }
+        let (writer, end) = writer.publish_as::<PublishOutcome, R>(&rt);
+        let published = prefix_after(&end, published, &queued);
+        let writer = ViewWriter {
+            writer,
+            queue,
+            published,
+            queued,
+            rt,
+        };
+        (writer, end)
     }
 
     /// Publishes all that is queued. It waits for those that still read what was published before the last time.
@@ -186,7 +214,7 @@ impl<S: NodeTag, R: Wait + Drop> ViewWriter<S, R> {
         ensures end { MatchResult result (λ _. self.new ≡ record { published = self.old.queued; queued = self.old.queued }) (λ _. self.new ≡ self.old) }
         ensures memory { IfErr result (λ fault. fault ≡ Fault.NoMemory) }
     {
-        match replace_with(self, (), |writer, _| writer.published()) {
+        match replace_with(self, (), |writer, _| writer.publish_queue()) {
             Ok(()) => Ok(()),
             Err(_) => Err(Fault::NoMemory),
         }
@@ -198,7 +226,8 @@ impl<S: NodeTag, R: Wait + Drop> Drop for ViewWriter<S, R> {
         let Self {
             writer,
             queue: _queue,
-            queued: _ready,
+            published: _published,
+            queued: _queued,
             rt,
         } = self;
         drop(writer.take(&rt));
