@@ -16,7 +16,6 @@ ghost use Rattle.sb_watch.specs.Hubs.{next_id, has_watch, answer_at};
 ghost use Rattle.sb_directory.specs.Seats as spec;
 ghost use Rattle.sb_directory.specs.Serving.{AnswersAfter};
 
-use crate::locked::Locked;
 use crate::receipt::{Applied, Closing, Receipt};
 use crate::seat::ReaderSeat;
 use crate::shares::seat_all;
@@ -26,7 +25,7 @@ use sb_digest::Digest;
 use sb_log::Committed;
 use sb_node::NodeCore;
 use sb_types::{Delta, Fault, Name, SEATS_MOST, Settings};
-use sb_views::NewHistory;
+use sb_views::{NewHistory, views};
 use sb_watch::{Filter, Polled, WatchId};
 use std::alloc::Global;
 use std::marker::PhantomData;
@@ -53,7 +52,7 @@ struct Identity<S: DirectoryTag> {
 /// crate makes a directory, writes from a seat, reads what it wrote, and closes the directory.
 #[derive(Drop)]
 pub struct Directory<S: DirectoryTag, R: Wait + Drop> {
-    locked: Mutex<Locked<S, R>>,
+    node: Mutex<ViewedNode<S, R>>,
     identity: Identity<S>,
 }
 
@@ -89,12 +88,13 @@ impl<S: DirectoryTag, R: Wait + Drop> Directory<S, R> {
             name: *core.name(),
             of: PhantomData,
         };
-        let (head, start) = history.named::<S>();
-        let (node, readers) = ViewedNode::open(alloc, rt, head, start, core, seats)?;
+        let history = history.named::<S>();
+        let start = history.prefix().copy();
+        let (writer, readers) = views::<S, R>(alloc, rt, start, core.holdings(), seats)?;
         let (book, mut rest) = blank.open::<S>();
         let made = seat_all(alloc, readers, &mut rest)?;
-        let locked = Mutex::new(Locked::new(node, book, rest));
-        Ok((Directory { locked, identity }, made))
+        let node = Mutex::new(ViewedNode::new(alloc, core, history, writer, book, rest));
+        Ok((Directory { node, identity }, made))
     }
 
     /// The settings of the node. It takes no lock.
@@ -133,7 +133,7 @@ impl<S: DirectoryTag, R: Wait + Drop> Directory<S, R> {
         ensures grows { IsPrefix seat.old.seen seat.new.seen }
         ensures version { IfOk result (λ receipt. receipt.version ≡ committed.now.entry.version) }
     {
-        self.locked.lock(rt).take_own(rt, seat, committed)
+        self.node.lock(rt).take_own(seat, committed)
     }
 
     /// Takes each block of a delta in turn, notes each entry that it entered in watches, and publishes all that happened;
@@ -156,7 +156,7 @@ impl<S: DirectoryTag, R: Wait + Drop> Directory<S, R> {
         ensures count { OnOk result (seat.new.events ≡ seat.old.events + 1) }
         ensures grows { IsPrefix seat.old.seen seat.new.seen }
     {
-        self.locked.lock(rt).apply(rt, seat, delta)
+        self.node.lock(rt).apply(seat, delta)
     }
 
     /// The digest of the owners from a name on, or of all, as of the node; `want` says whether a digest is wanted in
@@ -173,7 +173,7 @@ impl<S: DirectoryTag, R: Wait + Drop> Directory<S, R> {
         ensures seat { seat.new ≡ spec.with_last_call seat.old seat.new.last_call }
         ensures memory { IfErr result (λ fault. fault ≡ Fault.NoMemory) }
     {
-        self.locked.lock(rt).core_for(rt, seat).digest(from, want)
+        self.node.lock(rt).core_for(seat).digest(from, want)
     }
 
     /// What a peer that sent this digest lacks, as of the node. `NoMemory`. Either way it is noted as the seat's last call.
@@ -188,7 +188,7 @@ impl<S: DirectoryTag, R: Wait + Drop> Directory<S, R> {
         ensures seat { seat.new ≡ spec.with_last_call seat.old seat.new.last_call }
         ensures memory { IfErr result (λ fault. fault ≡ Fault.NoMemory) }
     {
-        self.locked.lock(rt).core_for(rt, seat).deltas(digest)
+        self.node.lock(rt).core_for(seat).deltas(digest)
     }
 
     /// The greatest version under the own name that a block told of and the node never wrote; none where no block did. It is
@@ -198,7 +198,7 @@ impl<S: DirectoryTag, R: Wait + Drop> Directory<S, R> {
         ensures begins { spec.Begins seat.new.last_call seat.old }
         ensures seat { seat.new ≡ spec.with_last_call seat.old seat.new.last_call }
     {
-        self.locked.lock(rt).core_for(rt, seat).conflict()
+        self.node.lock(rt).core_for(seat).conflict()
     }
 
     /// How many keys the node's own table has, removed ones counted. It is noted as the seat's last call.
@@ -207,7 +207,7 @@ impl<S: DirectoryTag, R: Wait + Drop> Directory<S, R> {
         ensures begins { spec.Begins seat.new.last_call seat.old }
         ensures seat { seat.new ≡ spec.with_last_call seat.old seat.new.last_call }
     {
-        self.locked.lock(rt).core_for(rt, seat).keys()
+        self.node.lock(rt).core_for(seat).keys()
     }
 
     /// Adds a watch with room for 1 to 1,024 notes, and gives its id, by which any seat may poll it. `BadSetting` where the room
@@ -216,14 +216,14 @@ impl<S: DirectoryTag, R: Wait + Drop> Directory<S, R> {
     pub fn watch<Q: Wait>(&self, rt: &Q, filter: Filter, capacity: usize) -> Result<WatchId, Fault>
         ensures { (hub : Hub) × Gives result (next_id hub capacity) × ((fault : Fault) → next_id hub capacity ≡ Err fault → result ≡ Err fault) }
     {
-        self.locked.lock(rt).watch(filter, capacity)
+        self.node.lock(rt).watch(filter, capacity)
     }
 
     /// Drops a watch with its notes. `NoWatch` where no watch with the id stands, which changes nothing.
     pub fn unwatch<Q: Wait>(&self, rt: &Q, id: WatchId) -> Result<(), Fault>
         ensures { (hub : Hub) × (result ≡ (if has_watch hub id then Ok tt else Err Fault.NoWatch)) }
     {
-        self.locked.lock(rt).unwatch(id)
+        self.node.lock(rt).unwatch(id)
     }
 
     /// Publishes all that happened, and says whether the seat has seen it: then it has seen at least as many events as its own
@@ -236,7 +236,7 @@ impl<S: DirectoryTag, R: Wait + Drop> Directory<S, R> {
         ensures grows { IsPrefix seat.old.seen seat.new.seen }
         ensures count { seat.new.events ≡ seat.old.events }
     {
-        self.locked.lock(rt).refresh(rt, seat)
+        self.node.lock(rt).refresh(seat)
     }
 
     /// Publishes all that happened, lets the seat see it, and gives the watch's next answer, one a call: `Lagged` with how many
@@ -259,14 +259,14 @@ impl<S: DirectoryTag, R: Wait + Drop> Directory<S, R> {
         ensures grows { IsPrefix seat.old.seen seat.new.seen }
         ensures count { seat.new.events ≡ seat.old.events }
     {
-        self.locked.lock(rt).poll(rt, seat, id)
+        self.node.lock(rt).poll(seat, id)
     }
 
     /// Ends a directory, and gives its node, whose settings are as they were, with the number of events. `BadSetting` where
     /// these are not all of its seats: then directory and seats come back as they were.
     pub fn close<Q: Wait>(
         self,
-        rt: &Q,
+        _rt: &Q,
         seats: Vec<ReaderSeat<S>>,
     ) -> Result<Closing, (Fault, Directory<S, R>, Vec<ReaderSeat<S>>)>
         requires { S.seats ≡ S.parts }
@@ -280,9 +280,9 @@ impl<S: DirectoryTag, R: Wait + Drop> Directory<S, R> {
             return Err((Fault::BadSetting, self, seats));
         }
         let Self {
-            locked,
+            node,
             identity: _identity,
         } = self;
-        Ok(locked.into_inner().close(rt, seats))
+        Ok(node.into_inner().close(seats))
     }
 }

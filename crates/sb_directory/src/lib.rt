@@ -51,11 +51,9 @@
 #![tactic(auto)]
 
 mod directory;
-mod events;
 mod lacked;
 mod lacking_owners;
 mod laws;
-mod locked;
 mod notes;
 mod receipt;
 mod seat;
@@ -63,7 +61,6 @@ mod seat_handler;
 mod shares;
 mod tag;
 mod viewed_node;
-mod views;
 
 pub use directory::Directory;
 pub use laws::held_never_falls;
@@ -71,4 +68,3 @@ pub use receipt::{Applied, Closing, Receipt};
 pub use seat::{EnteredSeat, ReaderSeat};
 pub use seat_handler::SeatHandler;
 pub use tag::DirectoryTag;
-pub use viewed_node::ViewedNode;

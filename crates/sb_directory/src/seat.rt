@@ -6,9 +6,8 @@ ghost use Rattle.sb_views.specs.Publishing.{IsView};
 ghost use Rattle.sb_directory.specs.Seats as spec;
 
 use core::mem::replace_with;
-use sb_views::{Entered, HistoryPrefix, NodeTag, Reader, Snapshot};
+use sb_views::{Entered, History, HistoryPrefix, NodeTag, Reader, Snapshot};
 use std::marker::Model;
-use std::sync::Wait;
 use std::sync::ledger::{Book, Share};
 
 /// A seat: one thread's place at a directory. The thread reads from it, without the lock, and passes it to the calls that take the
@@ -141,24 +140,15 @@ impl<S: NodeTag> ReaderSeat<S> {
         history.is_same(self.reader.seen())
     }
 
-    /// Notes a call that is answered after this history, which begins with what the seat has seen and with its last call. Where
-    /// it did not, which no run has found, this does not return.
-    pub(crate) fn call_at<Q: Wait>(&mut self, rt: &Q, history: &HistoryPrefix<S>)
-        ensures begins { spec.Begins history.now self.old }
-        ensures last_call { self.new ≡ spec.with_last_call self.old history.now }
+    /// Notes a call that is answered after this history, which begins with what the seat has seen and with its last call.
+    pub(crate) fn call_at(&mut self, history: &mut History<S>)
+        ensures begins { spec.Begins history.old self.old }
+        ensures last_call { self.new ≡ spec.with_last_call self.old history.old }
+        ensures history { history.new ≡ history.old }
     {
-        if !self.reader.seen().is_prefix_of(history) || !self.last_call.is_prefix_of(history) {
-            for _ in rt.forever() {}
-            unreachable!();
-        }
-        self.set_last_call(history);
-    }
-
-    /// Notes that its last call was answered after this history.
-    pub(crate) fn set_last_call(&mut self, history: &HistoryPrefix<S>)
-        ensures { self.new ≡ spec.with_last_call self.old history.now }
-    {
-        self.last_call = history.copy();
+        history.audit(self.reader.seen());
+        history.audit(&self.last_call);
+        self.last_call = history.prefix().copy();
     }
 
     /// Its part of the ledger, with the number of events that its calls made.
