@@ -12,7 +12,7 @@ ghost use Rattle.sb_views.specs.declared.event.Event.TheVariants as events;
 ghost use Rattle.sb_watch.specs.declared.note.Polled.TheVariants as answers;
 ghost use Rattle.sb_watch.specs.declared.note.Note.{Note};
 ghost use Rattle.sb_watch.specs.Records.{Hub};
-ghost use Rattle.sb_watch.specs.Hubs.{next_id, has_watch, answer_at};
+ghost use Rattle.sb_watch.specs.Hubs.{new_hub, next_id, has_watch, answer_at};
 ghost use Rattle.sb_directory.specs.Seats as spec;
 ghost use Rattle.sb_directory.specs.Serving.{AnswersAfter};
 
@@ -93,8 +93,19 @@ impl<S: DirectoryTag, R: Wait + Drop> Directory<S, R> {
         let (writer, readers) = views::<S, R>(alloc, rt, start, core.holdings(), seats)?;
         let (book, mut rest) = blank.open::<S>();
         let made = seat_all(alloc, readers, &mut rest)?;
-        let node = Mutex::new(ViewedNode::new(alloc, core, history, writer, book, rest));
-        Ok((Directory { node, identity }, made))
+        let node = ViewedNode::new(alloc, core, history, writer, book, rest);
+        Ok((Directory::of(node, identity), made))
+    }
+
+    /// The directory of a node to which nothing happened yet.
+    fn of(node: ViewedNode<S, R>, identity: Identity<S>) -> Directory<S, R>
+        requires history { node.history ≡ [] }
+        requires hub { node.hub ≡ new_hub }
+    {
+        Directory {
+            node: Mutex::new(node),
+            identity,
+        }
     }
 
     /// The settings of the node. It takes no lock.

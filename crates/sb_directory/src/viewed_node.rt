@@ -7,7 +7,7 @@ ghost use Rattle.sb_holdings.specs.Treats.{Treats};
 ghost use Rattle.sb_session.specs.Handlers.{IsRefusal};
 ghost use Rattle.sb_watch.specs.declared.note.Note.{Note};
 ghost use Rattle.sb_watch.specs.declared.note.Polled.TheVariants as answers;
-ghost use Rattle.sb_watch.specs.Hubs.{next_id, has_watch, answer_at, with_watch, with_answer, without_watch};
+ghost use Rattle.sb_watch.specs.Hubs.{new_hub, next_id, has_watch, answer_at, with_watch, with_answer, without_watch};
 ghost use Rattle.sb_views.specs.declared.event.Event.TheVariants as events;
 ghost use Rattle.sb_views.specs.Histories.{node_after};
 ghost use Rattle.sb_directory.specs.ViewedNodes as nodes;
@@ -77,6 +77,7 @@ impl<S: DirectoryTag, R: Wait + Drop> ViewedNode<S, R> {
         requires views { views ≡ record { published = []; queued = [] } }
         requires total { book.total ≡ 0 }
         requires rest { (rest.parts ≡ 0) × (rest.amount ≡ 0) }
+        ensures { result ≡ record { core = core; hub = new_hub; history = []; published = [] } }
     {
         ViewedNode {
             core,
@@ -124,10 +125,9 @@ impl<S: DirectoryTag, R: Wait + Drop> ViewedNode<S, R> {
         self.history.add(EventRef::TookOwn(entry));
         push_note(&mut self.hub, &me, entry);
         seat.count(&mut self.book);
-        let shown = self.refresh(seat);
         Ok(Receipt {
             version: entry.version(),
-            shown,
+            shown: self.refresh(seat),
         })
     }
 

@@ -1,5 +1,5 @@
-//! A node, by itself and from a seat of its directory: what its calls answer, and what readers see of it.
-use crate::course::{Course, Run, run_bare, run_new, run_new_seated, run_seated};
+//! A node, from a seat of its directory: what its calls answer, and what readers see of it.
+use crate::course::{Course, Run, run_new, run_seated};
 use crate::desk::{Answer, Call, Case, noted};
 use crate::got;
 use crate::making::{full_table, node_of, written_log};
@@ -11,10 +11,9 @@ use std::alloc::Global;
 use std::process::Abort;
 use std::sync::Wait;
 
-/// A new node answers these calls so, whichever way they reach it.
+/// A new node answers these calls so.
 fn answers<R: Wait + Abort>(rt: &R, alloc: Global, cases: &[Case]) {
     run_new(rt, alloc, Course::Calls(cases));
-    run_new_seated(rt, alloc, Course::Calls(cases));
 }
 
 fn refused(fault: Fault) -> Answer {
@@ -182,7 +181,7 @@ fn a_full_table_takes_no_new_key(rt: HostRuntime) {
         course: Course::Calls(&cases),
         alloc,
     };
-    run_bare(&rt, node_of(&rt, alloc, b"a", full_table(&rt, alloc)), run);
+    run_seated(&rt, node_of(&rt, alloc, b"a", full_table(&rt, alloc)), run);
 }
 
 /// A node that is opened with one write, as from a copy of its log, where b has a second one; the log's next write is not taken.

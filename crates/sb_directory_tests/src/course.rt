@@ -3,7 +3,7 @@ ghost use Rattle.std.specs.Prelude.{◌≡◌};
 
 use crate::desk::{Answer, Call, Case, Desk, play};
 use crate::making::{log_of, new_node};
-use crate::reached::{Reach, bare_of, seated_of};
+use crate::reached::{Seated, seated_of};
 use sb_directory::DirectoryTag;
 use sb_holdings::BlockEnd;
 use sb_log::PlainLog;
@@ -111,26 +111,13 @@ pub(crate) struct Run<'a> {
     pub(crate) alloc: Global,
 }
 
-fn go<S: DirectoryTag, H: Wait + Drop, R: Wait + Abort>(rt: &R, node: Reach<S, H>, run: Run<'_>) {
+fn go<S: DirectoryTag, H: Wait + Drop, R: Wait + Abort>(rt: &R, node: Seated<S, H>, run: Run<'_>) {
     let mut desk = Desk::new(node, run.log, run.alloc);
     match run.course {
         Course::Calls(cases) => play(rt, &mut desk, cases),
         Course::LateWrite(cases) => play_late(rt, &mut desk, cases),
         Course::LateDelta => show_late(rt, &mut desk),
     }
-}
-
-fn go_bare<S: DirectoryTag, R: Wait + Abort>(
-    rt: &R,
-    history: NewHistory,
-    core: NodeCore,
-    run: Run<'_>,
-)
-    requires history { history.seen.book ≡ S.history }
-    requires opening { S.opening ≡ core.node }
-{
-    let node = bare_of::<S, R>(rt, history, core, run.alloc);
-    go(rt, node, run);
 }
 
 fn go_seated<S: DirectoryTag, R: Wait + Abort>(
@@ -151,11 +138,6 @@ fn go_seated<S: DirectoryTag, R: Wait + Abort>(
     go(rt, node, run);
 }
 
-/// This node goes through this, by itself.
-pub(crate) fn run_bare<R: Wait + Abort>(rt: &R, core: NodeCore, run: Run<'_>) {
-    go_bare::<Brand, _>(rt, NewHistory::new(), core, run);
-}
-
 /// This node goes through this, from the one seat of its directory.
 pub(crate) fn run_seated<R: Wait + Abort>(rt: &R, core: NodeCore, run: Run<'_>) {
     go_seated::<Brand, _>(rt, NewHistory::new(), Blank::new(1), core, run);
@@ -170,14 +152,8 @@ pub(crate) fn new_run<'a>(rt: &impl Abort, alloc: Global, course: Course<'a>) ->
     }
 }
 
-/// A new node goes through this, by itself.
-pub(crate) fn run_new<R: Wait + Abort>(rt: &R, alloc: Global, course: Course<'_>) {
-    let run = new_run(rt, alloc, course);
-    run_bare(rt, new_node(rt, alloc), run);
-}
-
 /// A new node goes through this, from the one seat of its directory.
-pub(crate) fn run_new_seated<R: Wait + Abort>(rt: &R, alloc: Global, course: Course<'_>) {
+pub(crate) fn run_new<R: Wait + Abort>(rt: &R, alloc: Global, course: Course<'_>) {
     let run = new_run(rt, alloc, course);
     run_seated(rt, new_node(rt, alloc), run);
 }

@@ -9,7 +9,7 @@ use crate::{got, holds, same, there};
 use sb_holdings::{BlockEnd, Holdings, Report};
 use sb_types::{Block, Delta, Entry, Key, Name, Value, ValueRef};
 use sb_views::{
-    Batch, EventRef, HistoryHead, HistoryPrefix, LiveRow, LiveRows, NewHistory, NodeTag, OwnerView,
+    Batch, EventRef, History, LiveRow, LiveRows, NewHistory, NodeTag, OwnerView,
     Reader, Snapshot, ViewWriter, views,
 };
 use std::alloc::Global;
@@ -273,12 +273,13 @@ fn publish_one<S: NodeTag, R: Wait + Abort>(
     requires next { entry.version ≡ (shown_of holdings.now holdings.now.me).held + 1 }
 {
     let key = *entry.key();
-    let (head, start) = new_history.named::<S>();
-    let (mut writer, mut readers) = match views::<S, &R>(alloc, rt, start.copy(), holdings, 2) {
+    let history = new_history.named::<S>();
+    let start = history.prefix().copy();
+    let (mut writer, mut readers) = match views::<S, &R>(alloc, rt, start, holdings, 2) {
         Ok(made) => made,
         Err(fault) => panic!(rt; "error: {fault:?}"),
     };
-    append_own(rt, alloc, &head, start, &mut writer, holdings, entry);
+    append_own(rt, alloc, history, &mut writer, holdings, entry);
     let reader = there(rt, readers.pop());
     look_around(rt, &mut writer, reader, holdings.me(), &key)
 }
@@ -287,27 +288,23 @@ fn publish_one<S: NodeTag, R: Wait + Abort>(
 fn append_own<S: NodeTag, R: Wait + Abort>(
     rt: &R,
     alloc: Global,
-    head: &HistoryHead<S>,
-    mut upto: HistoryPrefix<S>,
+    mut history: History<S>,
     writer: &mut ViewWriter<S, &R>,
     holdings: &Holdings,
     entry: Entry,
 )
-    requires start { upto ≡ [] }
+    requires start { history ≡ [] }
     requires queued { writer.old.queued ≡ [] }
     requires opening { S.opening.held ≡ holdings.now }
     requires next { entry.version ≡ (shown_of holdings.now holdings.now.me).held + 1 }
 {
-    let added = upto.add(head, EventRef::TookOwn(&entry));
+    history.add(EventRef::TookOwn(&entry));
     let mut batch = Batch::new(alloc);
     match batch.push(*holdings.me(), entry) {
         Ok(()) => {}
         Err(fault) => panic!(rt; "error: {fault:?}"),
     }
-    if !added {
-        panic!(rt; "error: a write is not added");
-    }
-    if writer.append(batch, &upto).is_err() {
+    if writer.append(batch, history.prefix()).is_err() {
         panic!(rt; "error: NoMemory");
     }
 }
@@ -339,10 +336,10 @@ fn look_once<S: NodeTag>(
 }
 
 #[test]
-fn events_are_added_behind_others(rt: HostRuntime) {
+fn a_history_grows_and_its_prefixes_stay(rt: HostRuntime) {
     let events = events_to_add(&rt, rt.alloc());
-    let (added, counts) = add_events::<Brand>(NewHistory::new(), &events);
-    same(&rt, &added, &[(true, false), (false, true), (true, false)]);
+    let (are_whole, counts) = add_events::<Brand>(NewHistory::new(), &events);
+    same(&rt, &are_whole, &[false, false, true]);
     same(&rt, &counts, &(0, 1, 2));
 }
 
@@ -368,45 +365,23 @@ fn events_to_add(rt: &impl Abort, alloc: Global) -> Events {
     }
 }
 
-/// Whether an event was added, and then whether the history is that of another.
-type Added = (bool, bool);
-
-/// What comes of adding the own write to two fronts, and the delta to the second, and how many events the first
-/// history and these two have then.
-fn add_events<S: NodeTag>(new_history: NewHistory, events: &Events) -> ([Added; 3], (u64, u64, u64))
+/// Which of the prefixes before, between and after two events is the whole history then, and how many events each has.
+fn add_events<S: NodeTag>(new_history: NewHistory, events: &Events) -> ([bool; 3], (u64, u64, u64))
     requires { new_history.seen.book ≡ S.history }
 {
-    let (head, start) = new_history.named::<S>();
-    let (mut one, mut two) = (start.copy(), start.copy());
-    let first = add_write(&head, &mut one, &start, &events.own);
-    let again = add_write(&head, &mut two, &one, &events.own);
-    let applied = add_delta(&head, &mut two, &one, events);
-    let counts = (start.len(), one.len(), two.len());
-    ([first, again, applied], counts)
-}
-
-fn add_write<S: NodeTag>(
-    head: &HistoryHead<S>,
-    history: &mut HistoryPrefix<S>,
-    other: &HistoryPrefix<S>,
-    entry: &Entry,
-) -> Added
-    requires { history.old ≡ [] }
-{
+    let mut history = new_history.named::<S>();
+    let before = history.prefix().copy();
+    history.add(EventRef::TookOwn(&events.own));
+    let between = history.prefix().copy();
+    history.add(EventRef::Applied(&events.delta, &events.ends));
+    history.audit(&between);
+    let after = history.prefix();
     (
-        history.add(head, EventRef::TookOwn(entry)),
-        history.is_same(other),
+        [
+            before.is_same(after),
+            between.is_same(after),
+            after.is_same(after),
+        ],
+        (before.len(), between.len(), history.len()),
     )
-}
-
-/// Adds nothing where there is not just one event.
-fn add_delta<S: NodeTag>(
-    head: &HistoryHead<S>,
-    history: &mut HistoryPrefix<S>,
-    other: &HistoryPrefix<S>,
-    events: &Events,
-) -> Added {
-    let added = history.len() == 1
-        && history.add(head, EventRef::Applied(&events.delta, &events.ends));
-    (added, history.is_same(other))
 }
