@@ -44,12 +44,13 @@ struct Identity<S: DirectoryTag> {
     ghost named: { name ≡ S.opening.held.me },
 }
 
-/// A node that threads share, each from a seat of its own. Each call but `settings` and `name` takes the one lock, which guards
-/// the node, its watches and the writing of its views; reading from a seat that has entered takes none. A call from a seat is
-/// answered as the node is after its history up to then. That begins with what the seat has seen and with its last call, and is
-/// the seat's last call from then on. Of the histories of two seats one begins the other, since each is a `HistoryPrefix` of the
-/// one history; and once the directory is closed, that has as many events as the calls of all seats made. The example at the top of the
-/// crate makes a directory, writes from a seat, reads what it wrote, and closes the directory.
+/// A node that threads share, each from a seat of its own. Each call but `settings` and `name` takes the one lock. It guards the node,
+/// its watches and the writing of its views. Reading from a seat that has entered takes no lock. No call waits while it has the lock,
+/// except to publish: then it waits for readers that entered before the last publish. A call from a seat is answered as the node is
+/// after its history up to then. That history begins with what the seat has seen and with its last call, and is the seat's last call
+/// from then on. Each seat's history is a `HistoryPrefix` of the one history, so of two seats' histories one begins the other. Once the
+/// directory is closed, the history has as many events as the calls of all seats made. The example at the top of the crate makes a
+/// directory, writes from a seat, reads what it wrote, and closes the directory.
 #[derive(Drop)]
 pub struct Directory<S: DirectoryTag, R: Wait + Drop> {
     node: Mutex<ViewedNode<S, R>>,
@@ -58,8 +59,8 @@ pub struct Directory<S: DirectoryTag, R: Wait + Drop> {
 
 impl<S: DirectoryTag, R: Wait + Drop> Directory<S, R> {
     /// A directory of a node as it was opened, and its seats, which have seen nothing. `history` is a `NewHistory::new()` and
-    /// `blank` a `Blank::new(seats)`: by these proofs tell the node's events, and count them by seat. It keeps `rt` to wait for
-    /// readers that still read when it publishes. `BadSetting` where there are not 1 to 64 seats; `NoMemory`. Each drops what was
+    /// `blank` a `Blank::new(seats)`: by these, proofs name the node's events and count them by seat. It keeps `rt` to wait for
+    /// readers that still read when it publishes. `BadSetting` if there are not 1 to 64 seats; `NoMemory`. Each fault drops what was
     /// given.
     pub fn make(
         rt: R,
@@ -122,12 +123,18 @@ impl<S: DirectoryTag, R: Wait + Drop> Directory<S, R> {
         &self.identity.name
     }
 
-    /// Enters a committed write of the node's own, notes it in watches, and publishes all that happened; gives its version,
-    /// and whether the seat has seen it. Where it has not, the next call that publishes makes up for it. `WrongOwner` where the
-    /// write is another's; `OwnerConflict` where a block told of a version under the own name that the node never gave;
-    /// `OutOfTurn` where the write has another version than the next; `TableFull` where its key is new beside 4,096 others,
-    /// removed ones counted; `TurnsSpent` after 2^64 - 1 events; `NoMemory`. Each leaves everything as it was, but for the seat's
-    /// last call.
+    /// Enters a committed write of the node's own, notes it in watches, and publishes all that happened. It gives the write's
+    /// version, and says whether the seat has seen it. If it has not, the next call that publishes makes up for it. Its faults, in
+    /// this order:
+    ///
+    /// - `WrongOwner` if the write is another's.
+    /// - `OwnerConflict` if a block came with a version under the own name that the node never gave.
+    /// - `OutOfTurn` if the write does not have the next version.
+    /// - `TableFull` if its key is new and the table has 4,096 others, removed ones counted.
+    /// - `TurnsSpent` after 2^64 - 1 events.
+    /// - `NoMemory`.
+    ///
+    /// Each changes nothing except the seat's last call.
     pub fn take_own<Q: Wait>(
         &self,
         rt: &Q,
@@ -147,10 +154,10 @@ impl<S: DirectoryTag, R: Wait + Drop> Directory<S, R> {
         self.node.lock(rt).take_own(seat, committed)
     }
 
-    /// Takes each block of a delta in turn, notes each entry that it entered in watches, and publishes all that happened;
-    /// gives how the blocks ended, and whether the seat has seen it. Where it has not, the next call that publishes makes up
-    /// for it. `TurnsSpent` after 2^64 - 1 events; `NoMemory` where there is no room for the ends, or to note of which owners
-    /// watches and views lack writes. Each leaves everything as it was, but for the seat's last call.
+    /// Takes each block of a delta in turn, notes each entry that it entered in watches, and publishes all that happened. It gives
+    /// how the blocks ended, and says whether the seat has seen it. If it has not, the next call that publishes makes up for it.
+    /// `TurnsSpent` after 2^64 - 1 events; `NoMemory` if there is no room for the ends, or to note whose writes watches and views
+    /// lack. Each changes nothing except the seat's last call.
     pub fn apply<Q: Wait>(
         &self,
         rt: &Q,
@@ -170,8 +177,8 @@ impl<S: DirectoryTag, R: Wait + Drop> Directory<S, R> {
         self.node.lock(rt).apply(seat, delta)
     }
 
-    /// The digest of the owners from a name on, or of all, as of the node; `want` says whether a digest is wanted in
-    /// answer. `NoMemory`. Either way it is noted as the seat's last call.
+    /// The digest of the owners from a name on, or of all, as of the node. `want` says whether a digest is wanted in answer.
+    /// `NoMemory`. Either way it is the seat's last call.
     pub fn digest<Q: Wait>(
         &self,
         rt: &Q,
@@ -187,7 +194,7 @@ impl<S: DirectoryTag, R: Wait + Drop> Directory<S, R> {
         self.node.lock(rt).core_for(seat).digest(from, want)
     }
 
-    /// What a peer that sent this digest lacks, as of the node. `NoMemory`. Either way it is noted as the seat's last call.
+    /// What a peer that sent this digest lacks, as of the node. `NoMemory`. Either way it is the seat's last call.
     pub fn deltas<Q: Wait>(
         &self,
         rt: &Q,
@@ -202,8 +209,8 @@ impl<S: DirectoryTag, R: Wait + Drop> Directory<S, R> {
         self.node.lock(rt).core_for(seat).deltas(digest)
     }
 
-    /// The greatest version under the own name that a block told of and the node never wrote; none where no block did. It is
-    /// noted as the seat's last call.
+    /// The greatest version under the own name with which a block came and that the node never wrote; none if no block did. It is the
+    /// seat's last call.
     pub fn conflict<Q: Wait>(&self, rt: &Q, seat: &mut ReaderSeat<S>) -> Option<u64>
         ensures answer { result ≡ (node_after S.opening seat.new.last_call).conflict }
         ensures begins { spec.Begins seat.new.last_call seat.old }
@@ -212,7 +219,7 @@ impl<S: DirectoryTag, R: Wait + Drop> Directory<S, R> {
         self.node.lock(rt).core_for(seat).conflict()
     }
 
-    /// How many keys the node's own table has, removed ones counted. It is noted as the seat's last call.
+    /// How many keys the node's own table has, removed ones counted. It is the seat's last call.
     pub fn keys<Q: Wait>(&self, rt: &Q, seat: &mut ReaderSeat<S>) -> usize
         ensures answer { result ≡ own_keys (node_after S.opening seat.new.last_call) }
         ensures begins { spec.Begins seat.new.last_call seat.old }
@@ -221,25 +228,25 @@ impl<S: DirectoryTag, R: Wait + Drop> Directory<S, R> {
         self.node.lock(rt).core_for(seat).keys()
     }
 
-    /// Adds a watch with room for 1 to 1,024 notes, and gives its id, by which any seat may poll it. `BadSetting` where the room
-    /// is outside these; `WatchesFull` where 64 watches stand, or all ids were used; `NoMemory`. Each leaves everything as it
-    /// was. The command `attrdir watch` uses none: it asks for pages.
+    /// Adds a watch with room for 1 to 1,024 notes, and gives its id, by which any seat may poll it. `BadSetting` if the room is
+    /// outside these; `WatchesFull` if there are 64 watches, or all ids were used; `NoMemory`. Each leaves everything as it was. The
+    /// command `attrdir watch` uses no watch: it asks for pages.
     pub fn watch<Q: Wait>(&self, rt: &Q, filter: Filter, capacity: usize) -> Result<WatchId, Fault>
         ensures { (hub : Hub) × Gives result (next_id hub capacity) × ((fault : Fault) → next_id hub capacity ≡ Err fault → result ≡ Err fault) }
     {
         self.node.lock(rt).watch(filter, capacity)
     }
 
-    /// Drops a watch with its notes. `NoWatch` where no watch with the id stands, which changes nothing.
+    /// Drops a watch with its notes. `NoWatch` if there is no watch with the id, which changes nothing.
     pub fn unwatch<Q: Wait>(&self, rt: &Q, id: WatchId) -> Result<(), Fault>
         ensures { (hub : Hub) × (result ≡ (if has_watch hub id then Ok tt else Err Fault.NoWatch)) }
     {
         self.node.lock(rt).unwatch(id)
     }
 
-    /// Publishes all that happened, and says whether the seat has seen it: then it has seen at least as many events as its own
-    /// calls made. Where there is no memory to publish it, what is published stays; where the seat cannot enter, it is published
-    /// all the same. Either way it is noted as the seat's last call.
+    /// Publishes all that happened, and says whether the seat has seen it. Then it has seen at least as many events as its own calls
+    /// made. If there is no memory to publish it, what is published stays. If the seat can't enter, it is published all the same.
+    /// Either way it is the seat's last call.
     pub fn refresh<Q: Wait>(&self, rt: &Q, seat: &mut ReaderSeat<S>) -> bool
         ensures seen { result ≡ true → seat.new.seen ≡ seat.new.last_call }
         ensures begins { spec.Begins seat.new.last_call seat.old }
@@ -250,11 +257,11 @@ impl<S: DirectoryTag, R: Wait + Drop> Directory<S, R> {
         self.node.lock(rt).refresh(seat)
     }
 
-    /// Publishes all that happened, lets the seat see it, and gives the watch's next answer, one a call: `Lagged` with how many
-    /// notes it lost since it last said so, where it lost any; else `Note` with its oldest note, which it then no longer has;
-    /// else `Empty`. `NoWatch` where no watch with
-    /// the id stands, before anything is published: it is noted as the seat's last call, and nothing else changes. `NoMemory`
-    /// where there is none to publish what happened, or the seat cannot enter, and then the note is still to come.
+    /// Publishes all that happened, lets the seat see it, and gives the watch's next answer, one a call. If the watch lost notes
+    /// since its last `Lagged`, the answer is `Lagged` with how many. Else it is `Note` with its oldest note, which it then no longer has;
+    /// else `Empty`. `NoWatch` if there is no watch with the id, before anything is published: it is the seat's last call, and
+    /// nothing else changes. `NoMemory` if there is none to publish what happened, or the seat can't enter: then the note is still to
+    /// come.
     pub fn poll<Q: Wait>(
         &self,
         rt: &Q,
@@ -273,8 +280,8 @@ impl<S: DirectoryTag, R: Wait + Drop> Directory<S, R> {
         self.node.lock(rt).poll(seat, id)
     }
 
-    /// Ends a directory, and gives its node, whose settings are as they were, with the number of events. `BadSetting` where
-    /// these are not all of its seats: then directory and seats come back as they were.
+    /// Ends a directory, and gives its node, whose settings are as they were, with the number of events. `BadSetting` if these are
+    /// not all of its seats: then it gives directory and seats back as they were.
     pub fn close<Q: Wait>(
         self,
         _rt: &Q,

@@ -17,8 +17,8 @@ use sb_views::{Batch, HistoryPrefix, NodeTag, ViewWriter};
 use std::alloc::Global;
 use std::sync::Wait;
 
-/// Puts an owner's entries above a version behind the others, and gives the version of the last one; the version itself
-/// where there is none. `NoMemory`.
+/// Adds an owner's entries above a version to the batch, and gives the version of the last one. If there is none, it gives the
+/// version itself. `NoMemory`.
 fn push_entries(
     alloc: Global,
     batch: &mut Batch,
@@ -38,7 +38,7 @@ fn push_entries(
     Ok(last)
 }
 
-/// Puts behind the others what an owner's table has above a version, and up to which it is held. `NoMemory`.
+/// Adds to the batch what an owner's table has above a version, and up to which version it is held. `NoMemory`.
 fn push_above(
     alloc: Global,
     batch: &mut Batch,
@@ -56,8 +56,8 @@ fn push_above(
     batch.push_hold(*owner, table.upto())
 }
 
-/// Puts behind the others what views lack of an owner's table that have it up to a version and with a floor: where the
-/// floor rose all of it anew, since keys that they show may be gone with their removals. `NoMemory`.
+/// Adds to the batch what views lack of an owner's table. They have it up to a version, and with a floor. If the floor rose they lack
+/// all of the table, since keys that they show may be gone with their removals. `NoMemory`.
 fn push_lacked(
     alloc: Global,
     batch: &mut Batch,

@@ -1,8 +1,8 @@
 //! The directory: one node that threads share, each from a seat of its own.
 //!
-//! From its seat a thread reads a snapshot of the node without the lock, and makes its calls, each of which takes the one lock.
-//! Each write of the node's own and each delta that it takes is an event of its history: what it entered is noted in watches and
-//! published to readers.
+//! From its seat a thread reads a snapshot of the node without the lock. It also makes its calls from there, and each call takes the
+//! one lock. Each write of the node's own is an event of its history, and so is each delta that it takes. Watches get a note of what
+//! an event entered, and readers get its view.
 //!
 //! ```rust
 //! /// Takes a write from a seat, and gives how far the seat then sees the node's own writes, without the lock.

@@ -1,4 +1,4 @@
-//! A node with its history, its views, its watches and the book of its seats: what a directory keeps behind its lock.
+//! What the lock of a directory guards: a node with its history, its views, its watches and the book of its seats.
 ghost use Rattle.std.specs.Prelude.{◌≡◌, ◌≤◌, ◌+◌, ◌++◌, ◌∷◌, [], true, false, length, if◌then◌else◌, Ok, Err, IfOk, IfErr, OnOk, OnErr};
 ghost use mathlib.Core.List.{IsPrefix};
 ghost use Rattle.sb_types.specs.Faults.{Gives};
@@ -62,7 +62,7 @@ impl<S: DirectoryTag, R: Wait + Drop> Model for ViewedNode<S, R> {
 }
 
 impl<S: DirectoryTag, R: Wait + Drop> ViewedNode<S, R> {
-    /// A node as it was opened, with its views, and the book of a ledger of which each seat has one part.
+    /// A node as it was opened, with its views, and the book of a ledger. Each seat has one part of the ledger, and `rest` none.
     pub(crate) fn new(
         alloc: Global,
         core: NodeCore,
@@ -91,7 +91,8 @@ impl<S: DirectoryTag, R: Wait + Drop> ViewedNode<S, R> {
         }
     }
 
-    /// Enters a committed write for a seat, notes it in watches, and publishes all that happened.
+    /// Enters a committed write for a seat, notes it in watches, and publishes all that happened. Its faults are those of
+    /// `Directory::take_own`.
     pub(crate) fn take_own(
         &mut self,
         seat: &mut ReaderSeat<S>,
@@ -131,7 +132,8 @@ impl<S: DirectoryTag, R: Wait + Drop> ViewedNode<S, R> {
         })
     }
 
-    /// Takes each block of a delta for a seat, notes each entry that it entered in watches, and publishes all that happened.
+    /// Takes each block of a delta for a seat, notes each entry that it entered in watches, and publishes all that happened. Its faults
+    /// are those of `Directory::apply`.
     pub(crate) fn apply(
         &mut self,
         seat: &mut ReaderSeat<S>,
@@ -238,8 +240,8 @@ impl<S: DirectoryTag, R: Wait + Drop> ViewedNode<S, R> {
         seat.look(self.history.prefix())
     }
 
-    /// Publishes all that happened, lets the seat see it, and gives what the watch answers, so that a note is given out once its write
-    /// is published.
+    /// Publishes all that happened, lets the seat see it, and gives what the watch answers. So it gives a note only once the note's
+    /// write is published.
     pub(crate) fn poll(&mut self, seat: &mut ReaderSeat<S>, id: WatchId) -> Result<Polled, Fault>
         ensures answer { Gives result (answer_at self.old.hub id) }
         ensures refused { IfErr (answer_at self.old.hub id) (λ fault. result ≡ Err fault) }
@@ -266,7 +268,7 @@ impl<S: DirectoryTag, R: Wait + Drop> ViewedNode<S, R> {
         self.hub.take(id)
     }
 
-    /// The node and how many events there were, where these are all seats.
+    /// The node, and how many events there were. These are all its seats.
     pub(crate) fn close(self, seats: Vec<ReaderSeat<S>>) -> Closing
         requires all { length seats.items ≡ S.parts }
         ensures node { result.core.node ≡ node_after S.opening self.history }

@@ -52,7 +52,7 @@ impl Entries<(), Event> for NoEvent {
     ghost entries = { λ nothing. [] };
 }
 
-/// Which running node it is, in proofs alone: its state when it was opened, its history, and how many seats it has.
+/// Which running node it is. It exists in proofs alone: the node's state when it was opened, its history, and how many seats it has.
 pub trait NodeTag: Ledger {
     ghost use Rattle.std.specs.Prelude.{ℕ};
     ghost use Rattle.logbook.specs.Pages.{Book};
@@ -153,7 +153,7 @@ impl Position {
         self.events == other.events
     }
 
-    /// Whether the other has all the events of this one, and may be others behind them.
+    /// Whether the other has all the events of this one, and maybe more after them.
     pub(crate) fn is_prefix_of(&self, other: &Position) -> bool
         requires { other.now.book ≡ self.now.book }
         ensures { MatchBool result (IsPrefix self.now.events other.now.events) (IsLonger other.now.events self.now.events) }
@@ -163,7 +163,7 @@ impl Position {
         self.events <= other.events
     }
 
-    /// The longer of two prefixes of one history, of which the shorter is a prefix.
+    /// The longer of two prefixes of one history. The other is a prefix of it.
     pub(crate) fn longer(&self, other: &Position) -> Position
         requires { other.now.book ≡ self.now.book }
         ensures one { (result ≡ self.now) ⊎ (result ≡ other.now) }
@@ -220,8 +220,8 @@ impl<S: NodeTag> HistoryPrefix<S> {
         self.position.is_same(&other.position)
     }
 
-    /// Whether the other has all the events of this one, and may be others behind them. Where it has not, this one
-    /// goes on beyond the other.
+    /// Whether the other has all the events of this one, and maybe more after them. If not, this one goes on beyond the
+    /// other.
     pub fn is_prefix_of(&self, other: &HistoryPrefix<S>) -> bool
         ensures { MatchBool result (IsPrefix self.now other.now) (IsLonger other.now self.now) }
     {
@@ -261,7 +261,7 @@ impl<S: NodeTag> HistoryPrefix<S> {
         position.events += 1;
     }
 
-    /// Shows the prover that another prefix begins this one, where this one is the whole history.
+    /// Shows the prover that another prefix begins this one, which is the whole history.
     fn audit(&self, pen: &mut Pen, prefix: &HistoryPrefix<S>)
         requires pen { HasLength S.history pen.old (length self.now) }
         ensures begins { IsPrefix prefix.now self.now }
@@ -273,7 +273,7 @@ impl<S: NodeTag> HistoryPrefix<S> {
     }
 }
 
-/// The whole history of the node that the tag names. It cannot be copied, and only who has it adds events. Contracts see it as its
+/// The whole history of the node that the tag names. It can't be copied, and only its owner adds events. Contracts see it as its
 /// events.
 #[derive(Drop)]
 pub struct History<S: NodeTag> {

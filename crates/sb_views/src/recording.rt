@@ -10,8 +10,8 @@ pub(crate) trait Entries<X, E> {
     ghost entries: { X → List E };
 }
 
-/// Adds the entries of a value to a log, and as many to the cell of the pen. It does nothing at run time. The pen is the right to make
-/// the word of its cell, and no word is made: so nobody else sets the cell, and its value stays what the pen says.
+/// Adds the entries of a value to a log, and their number to the cell of the pen. It does nothing at run time. The pen is the right to
+/// make the word of its cell. Nobody makes that word, so nobody else sets the cell, and it holds what the pen says.
 pub(crate) fn record<E, A, P: Rule<E, A>, X, M: Entries<X, E>>(
     pen: &mut Pen,
     seen: &mut Seen<E, A, P>,

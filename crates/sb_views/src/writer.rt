@@ -18,8 +18,8 @@ use std::collections::VecDeque;
 use std::marker::Model;
 use std::sync::Wait;
 
-/// The one writer of the views of a node. Contracts see it as two prefixes of the history: `published`, whose view readers get when
-/// they enter, and `queued`, whose view they get once all that is queued is published.
+/// The one writer of the views of a node. Contracts see it as two prefixes of the history. Readers who enter get the view of
+/// `published`. They get that of `queued` once all that is queued is published.
 pub struct ViewWriter<S: NodeTag, R: Wait + Drop> {
     writer: Writer<ViewCopy, Operation, u64, ViewRule<S>>,
     // What is appended and not yet handed to the writer, so that no reader meets a part of a batch.
@@ -42,7 +42,7 @@ impl<S: NodeTag, R: Wait + Drop> Model for ViewWriter<S, R> {
         (fold after_operation w.writer.desk.shown.value (drop w.writer.behind w.writer.log.items ++ w.queue.items)) };
 }
 
-/// Hands all that is queued to the writer, or as much as there is memory for.
+/// Hands all that is queued to the writer, or as much as memory allows.
 fn hand_over<S: NodeTag>(
     writer: &mut Writer<ViewCopy, Operation, u64, ViewRule<S>>,
     queue: &mut VecDeque<Operation>,
@@ -60,7 +60,7 @@ fn hand_over<S: NodeTag>(
     Ok(())
 }
 
-/// Queues operations and then how far they lead, or nothing where there is no memory for all.
+/// Queues operations and then how far they lead. If there is no memory for all, it queues nothing.
 fn queue_all(
     queue: &mut VecDeque<Operation>,
     steps: &mut VecDeque<Operation>,
@@ -146,7 +146,7 @@ impl<S: NodeTag, R: Wait + Drop> ViewWriter<S, R> {
     }
 
     /// Queues a batch, which leads from the view of what is queued to that of the events up to `upto`. Readers see nothing of
-    /// it until it is published. Where memory is wanting the batch comes back and nothing changes.
+    /// it until it is published. If memory is wanting, it gives the batch back, and nothing changes.
     pub fn append(&mut self, batch: Batch, upto: &HistoryPrefix<S>) -> Result<(), Batch>
         requires begins { IsPrefix self.old.queued upto.now }
         requires leads { Leads (node_after S.opening self.old.queued).held (node_after S.opening upto.now).held batch }
@@ -169,7 +169,7 @@ impl<S: NodeTag, R: Wait + Drop> ViewWriter<S, R> {
         &self.published
     }
 
-    /// The events that are published once all that is queued is.
+    /// The events that are published once all that is queued is published.
     pub fn queued_prefix(&self) -> &HistoryPrefix<S>
         ensures { result.now ≡ self.now.queued }
     {
@@ -209,7 +209,7 @@ impl<S: NodeTag, R: Wait + Drop> ViewWriter<S, R> {
     }
 
     /// Publishes all that is queued. It waits for those that still read what was published before the last time.
-    /// `NoMemory`, where neither what is published nor what is queued changes.
+    /// `NoMemory`, which changes neither what is published nor what is queued.
     pub fn publish(&mut self) -> Result<(), Fault>
         ensures end { MatchResult result (λ _. self.new ≡ record { published = self.old.queued; queued = self.old.queued }) (λ _. self.new ≡ self.old) }
         ensures memory { IfErr result (λ fault. fault ≡ Fault.NoMemory) }
