@@ -191,7 +191,9 @@ impl<S: DirectoryTag, R: Wait + Drop> Directory<S, R> {
         ensures seat { seat.new ≡ spec.with_last_call seat.old seat.new.last_call }
         ensures memory { IfErr result (λ fault. fault ≡ Fault.NoMemory) }
     {
-        self.node.lock(rt).core_for(seat).digest(from, want)
+        let mut node = self.node.lock(rt);
+        node.note_call(seat);
+        node.core().digest(from, want)
     }
 
     /// What a peer that sent this digest lacks, as of the node. `NoMemory`. Either way it is the seat's last call.
@@ -206,7 +208,9 @@ impl<S: DirectoryTag, R: Wait + Drop> Directory<S, R> {
         ensures seat { seat.new ≡ spec.with_last_call seat.old seat.new.last_call }
         ensures memory { IfErr result (λ fault. fault ≡ Fault.NoMemory) }
     {
-        self.node.lock(rt).core_for(seat).deltas(digest)
+        let mut node = self.node.lock(rt);
+        node.note_call(seat);
+        node.core().deltas(digest)
     }
 
     /// The greatest version under the own name with which a block came and that the node never wrote; none if no block did. It is the
@@ -216,7 +220,9 @@ impl<S: DirectoryTag, R: Wait + Drop> Directory<S, R> {
         ensures begins { spec.Begins seat.new.last_call seat.old }
         ensures seat { seat.new ≡ spec.with_last_call seat.old seat.new.last_call }
     {
-        self.node.lock(rt).core_for(seat).conflict()
+        let mut node = self.node.lock(rt);
+        node.note_call(seat);
+        node.core().conflict()
     }
 
     /// How many keys the node's own table has, removed ones counted. It is the seat's last call.
@@ -225,7 +231,9 @@ impl<S: DirectoryTag, R: Wait + Drop> Directory<S, R> {
         ensures begins { spec.Begins seat.new.last_call seat.old }
         ensures seat { seat.new ≡ spec.with_last_call seat.old seat.new.last_call }
     {
-        self.node.lock(rt).core_for(seat).keys()
+        let mut node = self.node.lock(rt);
+        node.note_call(seat);
+        node.core().keys()
     }
 
     /// Adds a watch with room for 1 to 1,024 notes, and gives its id, by which any seat may poll it. `BadSetting` if the room is

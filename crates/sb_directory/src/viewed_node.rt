@@ -3,6 +3,7 @@ ghost use Rattle.std.specs.Prelude.{◌≡◌, ◌≤◌, ◌+◌, ◌++◌, ◌
 ghost use mathlib.Core.List.{IsPrefix};
 ghost use Rattle.sb_types.specs.Faults.{Gives};
 ghost use Rattle.sb_holdings.specs.Held.{shown_of};
+ghost use Rattle.sb_holdings.specs.Plain.{IsHoldings};
 ghost use Rattle.sb_holdings.specs.Treats.{Treats};
 ghost use Rattle.sb_session.specs.Handlers.{IsRefusal};
 ghost use Rattle.sb_watch.specs.declared.note.Note.{Note};
@@ -72,6 +73,7 @@ impl<S: DirectoryTag, R: Wait + Drop> ViewedNode<S, R> {
         rest: Share<S>,
     ) -> ViewedNode<S, R>
         requires opening { S.opening ≡ core.node }
+        requires holdings { IsHoldings core.node.held }
         requires settings { core.settings ≡ S.settings }
         requires history { history ≡ [] }
         requires views { views ≡ record { published = []; queued = [] } }
@@ -168,15 +170,20 @@ impl<S: DirectoryTag, R: Wait + Drop> ViewedNode<S, R> {
         Ok(Applied { ends, shown })
     }
 
-    /// Notes a call of a seat, and lends the node that it asks.
-    pub(crate) fn core_for(&mut self, seat: &mut ReaderSeat<S>) -> &NodeCore
-        ensures node { result.now.node ≡ node_after S.opening self.old.history }
-        ensures settings { result.now.settings ≡ S.settings }
+    /// Notes a call of a seat, which changes nothing else.
+    pub(crate) fn note_call(&mut self, seat: &mut ReaderSeat<S>)
         ensures same { self.new ≡ self.old }
         ensures begins { spec.Begins self.old.history seat.old }
         ensures last_call { seat.new ≡ spec.with_last_call seat.old self.old.history }
     {
         seat.call_at(&mut self.history);
+    }
+
+    /// The node core, for calls that only read it.
+    pub(crate) fn core(&self) -> &NodeCore
+        ensures node { result.now.node ≡ node_after S.opening self.now.history }
+        ensures settings { result.now.settings ≡ S.settings }
+    {
         &self.core
     }
 
