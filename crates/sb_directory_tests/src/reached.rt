@@ -74,14 +74,22 @@ fn read_seated<S: NodeTag>(
 
 /// The calls of a node; those that enter a write say whether the seat has seen it.
 impl<S: DirectoryTag, H: Wait + Drop> Seated<S, H> {
-    pub(crate) fn take_own<Q: Wait + Abort>(&mut self, rt: &Q, write: &Committed) -> Result<bool, Fault> {
+    pub(crate) fn take_own<Q: Wait + Abort>(
+        &mut self,
+        rt: &Q,
+        write: &Committed,
+    ) -> Result<bool, Fault> {
         let seat = there(rt, self.seat.as_mut());
         let receipt = self.directory.take_own(rt, seat, write)?;
         same(rt, &receipt.version, &write.entry().version());
         Ok(receipt.shown)
     }
 
-    pub(crate) fn apply<Q: Wait + Abort>(&mut self, rt: &Q, delta: &Delta) -> Result<(Report, bool), Fault> {
+    pub(crate) fn apply<Q: Wait + Abort>(
+        &mut self,
+        rt: &Q,
+        delta: &Delta,
+    ) -> Result<(Report, bool), Fault> {
         let seat = there(rt, self.seat.as_mut());
         let applied = self.directory.apply(rt, seat, delta)?;
         Ok((applied.ends, applied.shown))
@@ -92,7 +100,11 @@ impl<S: DirectoryTag, H: Wait + Drop> Seated<S, H> {
         self.directory.digest(rt, seat, None, want)
     }
 
-    pub(crate) fn deltas<Q: Wait + Abort>(&mut self, rt: &Q, digest: &Digest) -> Result<Delta, Fault> {
+    pub(crate) fn deltas<Q: Wait + Abort>(
+        &mut self,
+        rt: &Q,
+        digest: &Digest,
+    ) -> Result<Delta, Fault> {
         let seat = there(rt, self.seat.as_mut());
         self.directory.deltas(rt, seat, digest)
     }

@@ -13,8 +13,7 @@ use sb_holdings::Holdings;
 use sb_table::Table;
 use sb_types::{Block, Entry, Fault, Name};
 use sb_views::{
-    Batch, Change, EventRef, History, NewHistory, NodeTag, Snapshot, ViewWriter,
-    views,
+    Batch, Change, EventRef, History, NewHistory, NodeTag, Snapshot, ViewWriter, views,
 };
 use std::alloc::Global;
 use std::marker::Brand;

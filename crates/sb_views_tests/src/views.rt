@@ -9,8 +9,8 @@ use crate::{got, holds, same, there};
 use sb_holdings::{BlockEnd, Holdings, Report};
 use sb_types::{Block, Delta, Entry, Key, Name, Value, ValueRef};
 use sb_views::{
-    Batch, EventRef, History, LiveRow, LiveRows, NewHistory, NodeTag, OwnerView,
-    Reader, Snapshot, ViewWriter, views,
+    Batch, EventRef, History, LiveRow, LiveRows, NewHistory, NodeTag, OwnerView, Reader, Snapshot,
+    ViewWriter, views,
 };
 use std::alloc::Global;
 use std::marker::Brand;
