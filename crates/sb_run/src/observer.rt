@@ -25,20 +25,20 @@ use sb_types::Fault;
 /// }
 ///
 /// /// Runs the node of a log until it has made its rounds, and gives whether it listened.
-/// fn run_and_note<
-///     R: Runtime + Net<Listener = TcpListener, Stream = TcpStream>,
-///     L: WriteLog + Drop,
-/// >(
-///     rt: &R,
-///     alloc: Global,
-///     config: NodeConfig,
-///     log: L,
+/// fn run_and_note<R: Runtime + Net<Listener = TcpListener, Stream = TcpStream>, L: WriteLog + Drop>(
+///     rt: &R, alloc: Global,
+///     settings: Settings, paths: &Paths, pace: Pace, log: L,
 /// ) -> Result<bool, Fault> {
-///     let observer = Listening {
-///         is_noted: AtomicBool::new(false),
+///     let observer = Listening { is_noted: AtomicBool::new(false) };
+///     let config = NodeConfig {
+///         settings,
+///         paths: *paths,
+///         pace,
 ///     };
-///     run_node(rt, alloc, config, log, &observer)?;
-///     Ok(observer.is_noted.load(Ordering::SeqCst))
+///     match run_node(rt, alloc, config, log, &observer) {
+///         Ok(_) => Ok(observer.is_noted.load(Ordering::SeqCst)),
+///         Err(fault) => Err(fault),
+///     }
 /// }
 /// ```
 pub trait Observer {

@@ -63,24 +63,29 @@ impl Observer for Listening {
 fn run_and_note<R: Runtime + Net<Listener = TcpListener, Stream = TcpStream>, L: WriteLog + Drop>(
     rt: &R,
     alloc: Global,
-    config: NodeConfig,
+    settings: Settings,
+    paths: &Paths,
+    pace: Pace,
     log: L,
 ) -> Result<bool, Fault> {
     let observer = Listening {
         is_noted: AtomicBool::new(false),
     };
-    run_node(rt, alloc, config, log, &observer)?;
-    Ok(observer.is_noted.load(Ordering::SeqCst))
+    let config = NodeConfig {
+        settings,
+        paths: *paths,
+        pace,
+    };
+    match run_node(rt, alloc, config, log, &observer) {
+        Ok(_) => Ok(observer.is_noted.load(Ordering::SeqCst)),
+        Err(fault) => Err(fault),
+    }
 }
 
 #[test]
 fn example_of_an_observer(rt: HostRuntime) {
-    let alloc = rt.alloc();
-    let config = NodeConfig {
-        settings: settings(&rt, 3),
-        paths: paths_of("observed.sock", "observed.control", &[]),
-        pace: pace(1, 0),
-    };
-    let listened = run_and_note(&rt, alloc, config, new_log(&rt, alloc, b"a"));
+    let paths = paths_of("observed.sock", "observed.control", &[]);
+    let log = new_log(&rt, rt.alloc(), b"a");
+    let listened = run_and_note(&rt, rt.alloc(), settings(&rt, 3), &paths, pace(1, 0), log);
     same(&rt, &got(&rt, listened), &true);
 }
