@@ -1,12 +1,12 @@
 -- A viewed node stays a replay of its history.
-use Rattle.std.proofs.Common.{◌≡◌, ℕ, ◌+◌, ◌≤◌, ◌<◌, ◌^◌, ◌==◌, Bool, true, false, cond, not, List, [], ◌∷◌, ◌++◌, map, flat_map, Result, Ok, Err, MatchResult, le-leb, leb-true, eqb-true, refl, sym, ap, subst, ◌∙◌, arith, append-nil}
+use Rattle.std.proofs.Common.{◌≡◌, ℕ, ◌+◌, ◌<◌, ◌^◌, ◌==◌, Bool, true, false, cond, not, List, [], ◌∷◌, ◌++◌, map, flat_map, Result, Ok, Err, MatchResult, le-leb, leb-true, eqb-true, refl, sym, ap, subst, ◌∙◌, arith, append-nil}
 use Rattle.std.proofs.lemmas.Grind.{flat_map-append}
 use Rattle.std.specs.FinMap.{contains_key}
 use mathlib.Core.List.{IsPrefix}
 use Rattle.sb_types.specs.declared.fault.Fault.{Fault}
 use Rattle.sb_types.specs.declared.fault.Fault.TheVariants.{OutOfTurn}
 use Rattle.sb_types.specs.Limits.{is_entry, is_delta}
-use Rattle.sb_types.specs.Records.{Entry, Table, Block}
+use Rattle.sb_types.specs.Records.{Entry, Block}
 use Rattle.sb_types.proofs.Texts.{text_same}
 use Rattle.sb_holdings.specs.declared.ends.BlockEnd.{BlockEnd}
 use Rattle.sb_holdings.specs.Held.{Held, shown_of, written}

@@ -12,7 +12,7 @@ use types.Logic.{Logic, sem}
 use types.Growing.{latest_grows, latest_shows, latest_bounds}
 use types.Kit.{‵, raw, ◌⊛◌, some, given, later, ◌$◌, ◌∵◌, !, qed, by, move, keep, drop, split, split3, join, fsplit, fsplit3, fjoin, fjoin3, fpick, fpack, pick, learn, show, check, frame, assume, suffices, settle, done, use1, use2, use3, rewrite}
 use denote.Steps.{nothing}
-use Rattle.logbook.specs.Pages.{Cell, cell, Book, Nib, Calm, Right, may_make_home, nib}
+use Rattle.logbook.specs.Pages.{Cell, cell, Book, Calm, Right, may_make_home, nib}
 use Rattle.logbook.specs.Kept.{part, roster, nib_holds, pen_owns, logs, Rules, reached, standing, contents, seen_owns}
 use Rattle.logbook.proofs.Roster.{prefix_out, prefix_in, resets, joined, Reset, at_home}
 use Rattle.sb_views.specs.Recording.{Lengthens, StandsAt}

@@ -1,6 +1,5 @@
 use Rattle.std.proofs.Common.{sym, ap, subst, ◌∙◌}
 use Rattle.std.specs.FinMap.{empty}
-use Rattle.sb_holdings.specs.Held.{Held}
 use Rattle.sb_views.specs.Growing.{AreGrown}
 use Rattle.sb_views.specs.Histories.{node_after}
 use Rattle.sb_views.specs.Publishing.{Views}

@@ -1,5 +1,5 @@
 -- `record` opens what both hold, and takes one step of the book.
-use Rattle.std.proofs.Common.{◌≡◌, ℕ, ◌+◌, List, [], ◌∷◌, ◌++◌, length, sym, refl}
+use Rattle.std.proofs.Common.{◌+◌, List, [], ◌∷◌, ◌++◌, length, sym, refl}
 use mir.Syntax.{a_type, dcons, dnil, named}
 use mir.Val.{Val, vunit, vptr}
 use mir.MapTy.{inst_fn}

@@ -1,4 +1,4 @@
-use Rattle.std.proofs.Common.{◌≡◌, ◌+◌, List, [], ◌∷◌, ◌++◌, length, refl, sym, ap, subst, ◌∙◌, arith, length-append}
+use Rattle.std.proofs.Common.{◌≡◌, List, [], ◌∷◌, ◌++◌, length, sym, ap, subst, ◌∙◌, arith, length-append}
 use Rattle.sb_holdings.specs.Held.{Held}
 use Rattle.sb_holdings.specs.Nodes.{replay_node}
 use Rattle.sb_holdings.specs.Plain.{IsHoldings}
@@ -7,7 +7,7 @@ use Rattle.sb_node.specs.Cores.{Core}
 use Rattle.sb_views.specs.declared.event.Event.{Event}
 use Rattle.sb_views.specs.declared.event.Event.TheVariants.{Applied}
 use Rattle.sb_views.specs.Histories.{node_after}
-use Rattle.sb_directory.specs.Lacking.{LackingOwners, HasOwners, AreSince}
+use Rattle.sb_directory.specs.Lacking.{HasOwners, AreSince}
 use Rattle.sb_directory.specs.Notes.{with_notes, entries_since, versions_of, entered_of}
 use Rattle.sb_directory.specs.ViewedNodes.{ViewedNode, IsViewedNode}
 use Rattle.sb_directory.proofs.Keeping.{noted, delta-there}

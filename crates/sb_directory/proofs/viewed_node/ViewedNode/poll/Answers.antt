@@ -1,4 +1,4 @@
-use Rattle.std.proofs.Common.{◌≡◌, ◌≤◌, Bool, true, leb-true, List, Result, Err, IfErr, sym, ap, subst, ◌∙◌}
+use Rattle.std.proofs.Common.{◌≡◌, ◌≤◌, Bool, true, leb-true, Result, Err, IfErr, sym, ap, subst, ◌∙◌}
 use Rattle.sb_holdings.specs.Held.{shown_of}
 use Rattle.sb_holdings.specs.Nodes.{Node}
 use Rattle.sb_types.specs.Faults.{Gives}

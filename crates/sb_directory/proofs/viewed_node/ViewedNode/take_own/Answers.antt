@@ -1,14 +1,11 @@
-use Rattle.std.proofs.Common.{◌≡◌, ℕ, ◌+◌, ◌<◌, ◌^◌, List, [], ◌∷◌, ◌++◌, length, refl, sym, ap, subst, ◌∙◌, arith, length-append}
-use Rattle.sb_types.specs.Records.{Entry}
-use Rattle.sb_holdings.specs.Held.{Held, shown_of}
+use Rattle.std.proofs.Common.{◌≡◌, ℕ, ◌<◌, ◌^◌, List, [], ◌∷◌, ◌++◌, length, sym, ap, subst, ◌∙◌, arith, length-append}
+use Rattle.sb_holdings.specs.Held.{shown_of}
 use Rattle.sb_node.specs.Cores.{Core}
-use Rattle.sb_watch.specs.Records.{Hub}
 use Rattle.sb_views.specs.declared.event.Event.{Event}
 use Rattle.sb_views.specs.declared.event.Event.TheVariants.{TookOwn}
 use Rattle.sb_directory.specs.Notes.{with_notes}
 use Rattle.sb_directory.specs.ViewedNodes.{ViewedNode, IsViewedNode}
 use Rattle.sb_directory.proofs.Keeping.{since-read, added-locked, added-there, own-there}
-use Rattle.sb_directory.proofs.Showing.{said-since}
 use Rattle.sb_directory.proofs.viewed_node.ViewedNode.take_own.Goals as goal
 
 pub invariant_of-self-2 : goal.invariant_of-self-2
