@@ -1,12 +1,12 @@
 -- A viewed node stays a replay of its history.
-use Rattle.std.proofs.Common.{◌≡◌, ℕ, ◌+◌, ◌≤◌, ◌<◌, ◌^◌, ◌==◌, Bool, true, false, cond, not, List, [], ◌∷◌, ◌++◌, map, flat_map, Result, Ok, Err, le-leb, leb-true, eqb-true, refl, sym, ap, subst, ◌∙◌, arith, append-nil}
+use Rattle.std.proofs.Common.{◌≡◌, ℕ, ◌+◌, ◌<◌, ◌^◌, ◌==◌, Bool, true, false, cond, not, List, [], ◌∷◌, ◌++◌, map, flat_map, Result, Ok, Err, MatchResult, le-leb, leb-true, eqb-true, refl, sym, ap, subst, ◌∙◌, arith, append-nil}
 use Rattle.std.proofs.lemmas.Grind.{flat_map-append}
 use Rattle.std.specs.FinMap.{contains_key}
 use mathlib.Core.List.{IsPrefix}
 use Rattle.sb_types.specs.declared.fault.Fault.{Fault}
 use Rattle.sb_types.specs.declared.fault.Fault.TheVariants.{OutOfTurn}
 use Rattle.sb_types.specs.Limits.{is_entry, is_delta}
-use Rattle.sb_types.specs.Records.{Entry, Table, Block}
+use Rattle.sb_types.specs.Records.{Entry, Block}
 use Rattle.sb_types.proofs.Texts.{text_same}
 use Rattle.sb_holdings.specs.declared.ends.BlockEnd.{BlockEnd}
 use Rattle.sb_holdings.specs.Held.{Held, shown_of, written}
@@ -27,7 +27,8 @@ use Rattle.sb_views.specs.declared.change.Change.TheVariants.{Enter}
 use Rattle.sb_views.specs.Changes.{table_with_all}
 use Rattle.sb_views.specs.Growing.{AreGrown}
 use Rattle.sb_views.specs.Histories.{node_events_of, node_after}
-use Rattle.sb_views.proofs.Prefixes.{prefix_trans}
+use Rattle.sb_views.specs.Publishing.{Views}
+use Rattle.sb_views.proofs.Prefixes.{prefix_self, prefix_trans}
 use Rattle.sb_views.proofs.Growing.{grown-on, own-grown, delta-grown}
 use Rattle.sb_views.proofs.Leading.{own-leads}
 use Rattle.sb_directory.specs.Lacking.{LackingOwners, since_of, with_owner, HasOwners, AreSince}
@@ -152,6 +153,19 @@ module _ (opening : Node) (queued : List Event) (lacking : LackingOwners) (old :
 pub moved : (opening : Node) (queued later : List Event) (lacking left : LackingOwners) (l : ViewedNode) (published : List Event) → IsViewedNode opening queued lacking l → IsPrefix later l.history
     → AreGrown (node_after opening later).held l.core.node.held → AreSince (node_after opening later).held l.core.node.held left → IsViewedNode opening later left (with_published l published)
 moved opening queued later lacking left l published is begins grown since = record { node = is.node; begins = begins; grown = grown; since = since; notes = is.notes }
+
+queued-stays : (end : Result (Unit {0}) Fault) (views new : Views) → MatchResult end (λ _. new ≡ record { published = views.queued; queued = views.queued }) (λ _. new ≡ views) → new.queued ≡ views.queued
+queued-stays (Ok u) views new step = ap (λ (v : Views). v.queued) step
+queued-stays (Err fault) views new step = ap (λ (v : Views). v.queued) step
+
+-- what is published, or could not be, where all is queued
+pub published-there : (opening : Node) (queued : List Event) (lacking left : LackingOwners) (l : ViewedNode) (views new : Views) (end : Result (Unit {0}) Fault) → IsViewedNode opening queued lacking l
+    → views.queued ≡ l.history → AreGrown (node_after opening views.queued).held l.core.node.held → AreSince (node_after opening views.queued).held l.core.node.held left
+    → MatchResult end (λ _. new ≡ record { published = views.queued; queued = views.queued }) (λ _. new ≡ views) → IsViewedNode opening new.queued left (with_published l new.published)
+published-there opening queued lacking left l views new end is all grown since step =
+    let here : IsViewedNode opening views.queued left (with_published l new.published) =
+    moved opening queued views.queued lacking left l new.published is (subst (λ (h : List Event). IsPrefix views.queued h) all (prefix_self views.queued)) grown since in
+    subst (λ (q : List Event). IsViewedNode opening q left (with_published l new.published)) (sym (queued-stays end views new step)) here
 
 pub hub-locked : (opening : Node) (queued : List Event) (lacking : LackingOwners) (l : ViewedNode) (hub : Hub) → IsViewedNode opening queued lacking l → AllNotes (is_held l.core.node.held) hub
     → IsViewedNode opening queued lacking (with_hub l hub)

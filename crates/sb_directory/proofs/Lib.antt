@@ -6,5 +6,4 @@ pub mod Following
 pub mod Keeping
 pub mod Polling
 pub mod Sharing
-pub mod Showing
 pub mod Entering

@@ -1,4 +1,4 @@
--- A node with its history, its views and its watches, and what its calls leave.
+-- A node with its history, its views and its watches, and what calls make of it.
 use Rattle.std.specs.Prelude.{◌≡◌, ◌-◌, ◌^◌, ◌==◌, Bool, MatchBool, if◌then◌else◌, List, [], ◌∷◌, ◌++◌, length, Result, Ok, Err}
 use mathlib.Core.List.{IsPrefix}
 use Rattle.sb_types.specs.declared.fault.Fault.{Fault}
@@ -7,8 +7,7 @@ use Rattle.sb_types.specs.Records.{Entry, Block}
 use Rattle.sb_holdings.specs.declared.ends.BlockEnd.{BlockEnd}
 use Rattle.sb_holdings.specs.Nodes.{Node, Wrote, node_after_event, replay_node}
 use Rattle.sb_holdings.specs.Treats.{took_each}
-use Rattle.sb_log.specs.Records.{Committed}
-use Rattle.sb_node.specs.Cores.{Core, with_node, committed_answer}
+use Rattle.sb_node.specs.Cores.{Core, with_node}
 use Rattle.sb_watch.specs.Records.{Hub}
 use Rattle.sb_watch.specs.Hubs.{AllNotes}
 use Rattle.sb_views.specs.declared.event.Event.{Event}
@@ -30,17 +29,10 @@ pub record ViewedNode : Type 0 where
 abbrev pub are_spent : List Event → Bool
 are_spent history = length history == 2 ^ 64 - 1
 
+-- this answer, unless no further event can be counted
 abbrev pub unless_spent : List Event → Result (Unit {0}) Fault → Result (Unit {0}) Fault
 unless_spent history (Err fault) = Err fault
 unless_spent history (Ok u) = if are_spent history then Err TurnsSpent else Ok u
-
--- what a committed write is answered, where there is memory
-abbrev pub own_due : ViewedNode → Committed → Result (Unit {0}) Fault
-own_due l c = unless_spent l.history (committed_answer l.core.node c)
-
--- what a delta is answered, where there is memory
-abbrev pub delta_due : ViewedNode → Result (Unit {0}) Fault
-delta_due l = unless_spent l.history (Ok tt)
 
 -- the write is entered and noted in watches, and it is the last event of the history
 abbrev pub after_own : ViewedNode → Entry → List Event → ViewedNode

@@ -12,11 +12,10 @@ ghost use Rattle.sb_views.specs.declared.event.Event.TheVariants as events;
 ghost use Rattle.sb_watch.specs.declared.note.Polled.TheVariants as answers;
 ghost use Rattle.sb_watch.specs.declared.note.Note.{Note};
 ghost use Rattle.sb_watch.specs.Records.{Hub};
-ghost use Rattle.sb_watch.specs.Hubs.{next_id, has_watch, answer_at};
+ghost use Rattle.sb_watch.specs.Hubs.{new_hub, next_id, has_watch, answer_at};
 ghost use Rattle.sb_directory.specs.Seats as spec;
 ghost use Rattle.sb_directory.specs.Serving.{AnswersAfter};
 
-use crate::locked::Locked;
 use crate::receipt::{Applied, Closing, Receipt};
 use crate::seat::ReaderSeat;
 use crate::shares::seat_all;
@@ -26,7 +25,7 @@ use sb_digest::Digest;
 use sb_log::Committed;
 use sb_node::NodeCore;
 use sb_types::{Delta, Fault, Name, SEATS_MOST, Settings};
-use sb_views::NewHistory;
+use sb_views::{NewHistory, views};
 use sb_watch::{Filter, Polled, WatchId};
 use std::alloc::Global;
 use std::marker::PhantomData;
@@ -45,22 +44,23 @@ struct Identity<S: DirectoryTag> {
     ghost named: { name ≡ S.opening.held.me },
 }
 
-/// A node that threads share, each from a seat of its own. Each call but `settings` and `name` takes the one lock, which guards
-/// the node, its watches and the writing of its views; reading from a seat that has entered takes none. A call from a seat is
-/// answered as the node is after its history up to then. That begins with what the seat has seen and with its last call, and is
-/// the seat's last call from then on. Of the histories of two seats one begins the other, since each is a `HistoryPrefix` of the
-/// one history; and once the directory is closed, that has as many events as the calls of all seats made. The example at the top of the
-/// crate makes a directory, writes from a seat, reads what it wrote, and closes the directory.
+/// A node that threads share, each from a seat of its own. Each call but `settings` and `name` takes the one lock. It guards the node,
+/// its watches and the writing of its views. Reading from a seat that has entered takes no lock. No call waits while it has the lock,
+/// except to publish: then it waits for readers that entered before the last publish. A call from a seat is answered as the node is
+/// after its history up to then. That history begins with what the seat has seen and with its last call, and is the seat's last call
+/// from then on. Each seat's history is a `HistoryPrefix` of the one history, so of two seats' histories one begins the other. Once the
+/// directory is closed, the history has as many events as the calls of all seats made. The example at the top of the crate makes a
+/// directory, writes from a seat, reads what it wrote, and closes the directory.
 #[derive(Drop)]
 pub struct Directory<S: DirectoryTag, R: Wait + Drop> {
-    locked: Mutex<Locked<S, R>>,
+    node: Mutex<ViewedNode<S, R>>,
     identity: Identity<S>,
 }
 
 impl<S: DirectoryTag, R: Wait + Drop> Directory<S, R> {
     /// A directory of a node as it was opened, and its seats, which have seen nothing. `history` is a `NewHistory::new()` and
-    /// `blank` a `Blank::new(seats)`: by these proofs tell the node's events, and count them by seat. It keeps `rt` to wait for
-    /// readers that still read when it publishes. `BadSetting` where there are not 1 to 64 seats; `NoMemory`. Each drops what was
+    /// `blank` a `Blank::new(seats)`: by these, proofs name the node's events and count them by seat. It keeps `rt` to wait for
+    /// readers that still read when it publishes. `BadSetting` if there are not 1 to 64 seats; `NoMemory`. Each fault drops what was
     /// given.
     pub fn make(
         rt: R,
@@ -89,12 +89,24 @@ impl<S: DirectoryTag, R: Wait + Drop> Directory<S, R> {
             name: *core.name(),
             of: PhantomData,
         };
-        let (head, start) = history.named::<S>();
-        let (node, readers) = ViewedNode::open(alloc, rt, head, start, core, seats)?;
+        let history = history.named::<S>();
+        let start = history.prefix().copy();
+        let (writer, readers) = views::<S, R>(alloc, rt, start, core.holdings(), seats)?;
         let (book, mut rest) = blank.open::<S>();
         let made = seat_all(alloc, readers, &mut rest)?;
-        let locked = Mutex::new(Locked::new(node, book, rest));
-        Ok((Directory { locked, identity }, made))
+        let node = ViewedNode::new(alloc, core, history, writer, book, rest);
+        Ok((Directory::of(node, identity), made))
+    }
+
+    /// The directory of a node to which nothing happened yet.
+    fn of(node: ViewedNode<S, R>, identity: Identity<S>) -> Directory<S, R>
+        requires history { node.history ≡ [] }
+        requires hub { node.hub ≡ new_hub }
+    {
+        Directory {
+            node: Mutex::new(node),
+            identity,
+        }
     }
 
     /// The settings of the node. It takes no lock.
@@ -111,12 +123,18 @@ impl<S: DirectoryTag, R: Wait + Drop> Directory<S, R> {
         &self.identity.name
     }
 
-    /// Enters a committed write of the node's own, notes it in watches, and publishes all that happened; gives its version,
-    /// and whether the seat has seen it. Where it has not, the next call that publishes makes up for it. `WrongOwner` where the
-    /// write is another's; `OwnerConflict` where a block told of a version under the own name that the node never gave;
-    /// `OutOfTurn` where the write has another version than the next; `TableFull` where its key is new beside 4,096 others,
-    /// removed ones counted; `TurnsSpent` after 2^64 - 1 events; `NoMemory`. Each leaves everything as it was, but for the seat's
-    /// last call.
+    /// Enters a committed write of the node's own, notes it in watches, and publishes all that happened. It gives the write's
+    /// version, and says whether the seat has seen it. If it has not, the next call that publishes makes up for it. Its faults, in
+    /// this order:
+    ///
+    /// - `WrongOwner` if the write is another's.
+    /// - `OwnerConflict` if a block came with a version under the own name that the node never gave.
+    /// - `OutOfTurn` if the write does not have the next version.
+    /// - `TableFull` if its key is new and the table has 4,096 others, removed ones counted.
+    /// - `TurnsSpent` after 2^64 - 1 events.
+    /// - `NoMemory`.
+    ///
+    /// Each changes nothing except the seat's last call.
     pub fn take_own<Q: Wait>(
         &self,
         rt: &Q,
@@ -133,13 +151,13 @@ impl<S: DirectoryTag, R: Wait + Drop> Directory<S, R> {
         ensures grows { IsPrefix seat.old.seen seat.new.seen }
         ensures version { IfOk result (λ receipt. receipt.version ≡ committed.now.entry.version) }
     {
-        self.locked.lock(rt).take_own(rt, seat, committed)
+        self.node.lock(rt).take_own(seat, committed)
     }
 
-    /// Takes each block of a delta in turn, notes each entry that it entered in watches, and publishes all that happened;
-    /// gives how the blocks ended, and whether the seat has seen it. Where it has not, the next call that publishes makes up
-    /// for it. `TurnsSpent` after 2^64 - 1 events; `NoMemory` where there is no room for the ends, or to note of which owners
-    /// watches and views lack writes. Each leaves everything as it was, but for the seat's last call.
+    /// Takes each block of a delta in turn, notes each entry that it entered in watches, and publishes all that happened. It gives
+    /// how the blocks ended, and says whether the seat has seen it. If it has not, the next call that publishes makes up for it.
+    /// `TurnsSpent` after 2^64 - 1 events; `NoMemory` if there is no room for the ends, or to note whose writes watches and views
+    /// lack. Each changes nothing except the seat's last call.
     pub fn apply<Q: Wait>(
         &self,
         rt: &Q,
@@ -156,11 +174,11 @@ impl<S: DirectoryTag, R: Wait + Drop> Directory<S, R> {
         ensures count { OnOk result (seat.new.events ≡ seat.old.events + 1) }
         ensures grows { IsPrefix seat.old.seen seat.new.seen }
     {
-        self.locked.lock(rt).apply(rt, seat, delta)
+        self.node.lock(rt).apply(seat, delta)
     }
 
-    /// The digest of the owners from a name on, or of all, as of the node; `want` says whether a digest is wanted in
-    /// answer. `NoMemory`. Either way it is noted as the seat's last call.
+    /// The digest of the owners from a name on, or of all, as of the node. `want` says whether a digest is wanted in answer.
+    /// `NoMemory`. Either way it is the seat's last call.
     pub fn digest<Q: Wait>(
         &self,
         rt: &Q,
@@ -173,10 +191,12 @@ impl<S: DirectoryTag, R: Wait + Drop> Directory<S, R> {
         ensures seat { seat.new ≡ spec.with_last_call seat.old seat.new.last_call }
         ensures memory { IfErr result (λ fault. fault ≡ Fault.NoMemory) }
     {
-        self.locked.lock(rt).core_for(rt, seat).digest(from, want)
+        let mut node = self.node.lock(rt);
+        node.note_call(seat);
+        node.core().digest(from, want)
     }
 
-    /// What a peer that sent this digest lacks, as of the node. `NoMemory`. Either way it is noted as the seat's last call.
+    /// What a peer that sent this digest lacks, as of the node. `NoMemory`. Either way it is the seat's last call.
     pub fn deltas<Q: Wait>(
         &self,
         rt: &Q,
@@ -188,47 +208,53 @@ impl<S: DirectoryTag, R: Wait + Drop> Directory<S, R> {
         ensures seat { seat.new ≡ spec.with_last_call seat.old seat.new.last_call }
         ensures memory { IfErr result (λ fault. fault ≡ Fault.NoMemory) }
     {
-        self.locked.lock(rt).core_for(rt, seat).deltas(digest)
+        let mut node = self.node.lock(rt);
+        node.note_call(seat);
+        node.core().deltas(digest)
     }
 
-    /// The greatest version under the own name that a block told of and the node never wrote; none where no block did. It is
-    /// noted as the seat's last call.
+    /// The greatest version under the own name with which a block came and that the node never wrote; none if no block did. It is the
+    /// seat's last call.
     pub fn conflict<Q: Wait>(&self, rt: &Q, seat: &mut ReaderSeat<S>) -> Option<u64>
         ensures answer { result ≡ (node_after S.opening seat.new.last_call).conflict }
         ensures begins { spec.Begins seat.new.last_call seat.old }
         ensures seat { seat.new ≡ spec.with_last_call seat.old seat.new.last_call }
     {
-        self.locked.lock(rt).core_for(rt, seat).conflict()
+        let mut node = self.node.lock(rt);
+        node.note_call(seat);
+        node.core().conflict()
     }
 
-    /// How many keys the node's own table has, removed ones counted. It is noted as the seat's last call.
+    /// How many keys the node's own table has, removed ones counted. It is the seat's last call.
     pub fn keys<Q: Wait>(&self, rt: &Q, seat: &mut ReaderSeat<S>) -> usize
         ensures answer { result ≡ own_keys (node_after S.opening seat.new.last_call) }
         ensures begins { spec.Begins seat.new.last_call seat.old }
         ensures seat { seat.new ≡ spec.with_last_call seat.old seat.new.last_call }
     {
-        self.locked.lock(rt).core_for(rt, seat).keys()
+        let mut node = self.node.lock(rt);
+        node.note_call(seat);
+        node.core().keys()
     }
 
-    /// Adds a watch with room for 1 to 1,024 notes, and gives its id, by which any seat may poll it. `BadSetting` where the room
-    /// is outside these; `WatchesFull` where 64 watches stand, or all ids were used; `NoMemory`. Each leaves everything as it
-    /// was. The command `attrdir watch` uses none: it asks for pages.
+    /// Adds a watch with room for 1 to 1,024 notes, and gives its id, by which any seat may poll it. `BadSetting` if the room is
+    /// outside these; `WatchesFull` if there are 64 watches, or all ids were used; `NoMemory`. Each leaves everything as it was. The
+    /// command `attrdir watch` uses no watch: it asks for pages.
     pub fn watch<Q: Wait>(&self, rt: &Q, filter: Filter, capacity: usize) -> Result<WatchId, Fault>
         ensures { (hub : Hub) × Gives result (next_id hub capacity) × ((fault : Fault) → next_id hub capacity ≡ Err fault → result ≡ Err fault) }
     {
-        self.locked.lock(rt).watch(filter, capacity)
+        self.node.lock(rt).watch(filter, capacity)
     }
 
-    /// Drops a watch with its notes. `NoWatch` where no watch with the id stands, which changes nothing.
+    /// Drops a watch with its notes. `NoWatch` if there is no watch with the id, which changes nothing.
     pub fn unwatch<Q: Wait>(&self, rt: &Q, id: WatchId) -> Result<(), Fault>
         ensures { (hub : Hub) × (result ≡ (if has_watch hub id then Ok tt else Err Fault.NoWatch)) }
     {
-        self.locked.lock(rt).unwatch(id)
+        self.node.lock(rt).unwatch(id)
     }
 
-    /// Publishes all that happened, and says whether the seat has seen it: then it has seen at least as many events as its own
-    /// calls made. Where there is no memory to publish it, what is published stays; where the seat cannot enter, it is published
-    /// all the same. Either way it is noted as the seat's last call.
+    /// Publishes all that happened, and says whether the seat has seen it. Then it has seen at least as many events as its own calls
+    /// made. If there is no memory to publish it, what is published stays. If the seat can't enter, it is published all the same.
+    /// Either way it is the seat's last call.
     pub fn refresh<Q: Wait>(&self, rt: &Q, seat: &mut ReaderSeat<S>) -> bool
         ensures seen { result ≡ true → seat.new.seen ≡ seat.new.last_call }
         ensures begins { spec.Begins seat.new.last_call seat.old }
@@ -236,14 +262,14 @@ impl<S: DirectoryTag, R: Wait + Drop> Directory<S, R> {
         ensures grows { IsPrefix seat.old.seen seat.new.seen }
         ensures count { seat.new.events ≡ seat.old.events }
     {
-        self.locked.lock(rt).refresh(rt, seat)
+        self.node.lock(rt).refresh(seat)
     }
 
-    /// Publishes all that happened, lets the seat see it, and gives the watch's next answer, one a call: `Lagged` with how many
-    /// notes it lost since it last said so, where it lost any; else `Note` with its oldest note, which it then no longer has;
-    /// else `Empty`. `NoWatch` where no watch with
-    /// the id stands, before anything is published: it is noted as the seat's last call, and nothing else changes. `NoMemory`
-    /// where there is none to publish what happened, or the seat cannot enter, and then the note is still to come.
+    /// Publishes all that happened, lets the seat see it, and gives the watch's next answer, one a call. If the watch lost notes
+    /// since its last `Lagged`, the answer is `Lagged` with how many. Else it is `Note` with its oldest note, which it then no longer has;
+    /// else `Empty`. `NoWatch` if there is no watch with the id, before anything is published: it is the seat's last call, and
+    /// nothing else changes. `NoMemory` if there is none to publish what happened, or the seat can't enter: then the note is still to
+    /// come.
     pub fn poll<Q: Wait>(
         &self,
         rt: &Q,
@@ -259,14 +285,14 @@ impl<S: DirectoryTag, R: Wait + Drop> Directory<S, R> {
         ensures grows { IsPrefix seat.old.seen seat.new.seen }
         ensures count { seat.new.events ≡ seat.old.events }
     {
-        self.locked.lock(rt).poll(rt, seat, id)
+        self.node.lock(rt).poll(seat, id)
     }
 
-    /// Ends a directory, and gives its node, whose settings are as they were, with the number of events. `BadSetting` where
-    /// these are not all of its seats: then directory and seats come back as they were.
+    /// Ends a directory, and gives its node, whose settings are as they were, with the number of events. `BadSetting` if these are
+    /// not all of its seats: then it gives directory and seats back as they were.
     pub fn close<Q: Wait>(
         self,
-        rt: &Q,
+        _rt: &Q,
         seats: Vec<ReaderSeat<S>>,
     ) -> Result<Closing, (Fault, Directory<S, R>, Vec<ReaderSeat<S>>)>
         requires { S.seats ≡ S.parts }
@@ -280,9 +306,9 @@ impl<S: DirectoryTag, R: Wait + Drop> Directory<S, R> {
             return Err((Fault::BadSetting, self, seats));
         }
         let Self {
-            locked,
+            node,
             identity: _identity,
         } = self;
-        Ok(locked.into_inner().close(rt, seats))
+        Ok(node.into_inner().close(seats))
     }
 }

@@ -1,19 +1,24 @@
 //! What views lack.
-ghost use Rattle.std.specs.Prelude.{◌≡◌, ◌++◌, map, IfOk, IfErr, OnOk};
+ghost use Rattle.std.specs.Prelude.{◌≡◌, ◌++◌, map, MatchBool, IfOk, IfErr, OnOk};
+ghost use mathlib.Core.List.{IsPrefix};
 ghost use Rattle.sb_types.specs.Runs.{above, last_version};
 ghost use Rattle.sb_views.specs.declared.change.Change.TheVariants as changes;
 ghost use Rattle.sb_views.specs.Changes.{owned, changes_above, lacked_of};
+ghost use Rattle.sb_views.specs.Growing.{AreGrown};
+ghost use Rattle.sb_views.specs.Histories.{node_after};
 ghost use Rattle.sb_directory.specs.Lacking as spec;
 
 use crate::lacking_owners::LackingOwners;
 use sb_holdings::Holdings;
+use sb_node::NodeCore;
 use sb_table::Table;
 use sb_types::{Fault, Name};
-use sb_views::Batch;
+use sb_views::{Batch, HistoryPrefix, NodeTag, ViewWriter};
 use std::alloc::Global;
+use std::sync::Wait;
 
-/// Puts an owner's entries above a version behind the others, and gives the version of the last one; the version itself
-/// where there is none. `NoMemory`.
+/// Adds an owner's entries above a version to the batch, and gives the version of the last one. If there is none, it gives the
+/// version itself. `NoMemory`.
 fn push_entries(
     alloc: Global,
     batch: &mut Batch,
@@ -33,7 +38,7 @@ fn push_entries(
     Ok(last)
 }
 
-/// Puts behind the others what an owner's table has above a version, and up to which it is held. `NoMemory`.
+/// Adds to the batch what an owner's table has above a version, and up to which version it is held. `NoMemory`.
 fn push_above(
     alloc: Global,
     batch: &mut Batch,
@@ -51,8 +56,8 @@ fn push_above(
     batch.push_hold(*owner, table.upto())
 }
 
-/// Puts behind the others what views lack of an owner's table that have it up to a version and with a floor: where the
-/// floor rose all of it anew, since keys that they show may be gone with their removals. `NoMemory`.
+/// Adds to the batch what views lack of an owner's table. They have it up to a version, and with a floor. If the floor rose they lack
+/// all of the table, since keys that they show may be gone with their removals. `NoMemory`.
 fn push_lacked(
     alloc: Global,
     batch: &mut Batch,
@@ -72,7 +77,7 @@ fn push_lacked(
 }
 
 /// All that views lack, owner by owner. `NoMemory`.
-pub(crate) fn lacked_changes(
+fn lacked_changes(
     alloc: Global,
     holdings: &Holdings,
     lacking: &LackingOwners,
@@ -87,4 +92,39 @@ pub(crate) fn lacked_changes(
         }
     }
     Ok(batch)
+}
+
+/// Queues all that views lack of the node as it is after this history, and says whether there was memory for it. If there was none,
+/// nothing changes.
+pub(crate) fn catch_up<S: NodeTag, R: Wait + Drop>(
+    alloc: Global,
+    views: &mut ViewWriter<S, R>,
+    core: &NodeCore,
+    history: &HistoryPrefix<S>,
+    lacking: &mut LackingOwners,
+) -> bool
+    requires node { core.now.node ≡ node_after S.opening history.now }
+    requires begins { IsPrefix views.old.queued history.now }
+    requires grown { AreGrown (node_after S.opening views.old.queued).held core.now.node.held }
+    requires since { spec.AreSince (node_after S.opening views.old.queued).held core.now.node.held lacking.old }
+    ensures queued { MatchBool result (views.new ≡ record { published = views.old.published; queued = history.now }) (views.new ≡ views.old) }
+    ensures grown { AreGrown (node_after S.opening views.new.queued).held core.now.node.held }
+    ensures since { spec.AreSince (node_after S.opening views.new.queued).held core.now.node.held lacking.new }
+{
+    if views.queued_prefix().is_same(history) {
+        return true;
+    }
+    let Ok(batch) = lacked_changes(alloc, core.holdings(), lacking) else {
+        return false;
+    };
+    match views.append(batch, history) {
+        Ok(()) => {
+            lacking.clear();
+            true
+        }
+        Err(batch) => {
+            drop(batch);
+            false
+        }
+    }
 }

@@ -1,8 +1,8 @@
 //! The directory: one node that threads share, each from a seat of its own.
 //!
-//! From its seat a thread reads a snapshot of the node without the lock, and makes its calls, each of which takes the one lock.
-//! Each write of the node's own and each delta that it takes is an event of its history: what it entered is noted in watches and
-//! published to readers.
+//! From its seat a thread reads a snapshot of the node without the lock. It also makes its calls from there, and each call takes the
+//! one lock. Each write of the node's own is an event of its history, and so is each delta that it takes. Watches get a note of what
+//! an event entered, and readers get its view.
 //!
 //! ```rust
 //! /// Takes a write from a seat, and gives how far the seat then sees the node's own writes, without the lock.
@@ -51,11 +51,9 @@
 #![tactic(auto)]
 
 mod directory;
-mod events;
 mod lacked;
 mod lacking_owners;
 mod laws;
-mod locked;
 mod notes;
 mod receipt;
 mod seat;
@@ -63,7 +61,6 @@ mod seat_handler;
 mod shares;
 mod tag;
 mod viewed_node;
-mod views;
 
 pub use directory::Directory;
 pub use laws::held_never_falls;
@@ -71,4 +68,3 @@ pub use receipt::{Applied, Closing, Receipt};
 pub use seat::{EnteredSeat, ReaderSeat};
 pub use seat_handler::SeatHandler;
 pub use tag::DirectoryTag;
-pub use viewed_node::ViewedNode;

@@ -6,14 +6,13 @@ ghost use Rattle.sb_views.specs.Publishing.{IsView};
 ghost use Rattle.sb_directory.specs.Seats as spec;
 
 use core::mem::replace_with;
-use sb_views::{Entered, HistoryPrefix, NodeTag, Reader, Snapshot};
+use sb_views::{Entered, History, HistoryPrefix, NodeTag, Reader, Snapshot};
 use std::marker::Model;
-use std::sync::Wait;
 use std::sync::ledger::{Book, Share};
 
 /// A seat: one thread's place at a directory. The thread reads from it, without the lock, and passes it to the calls that take the
-/// lock. Contracts see it as two prefixes of the history and a number: `seen`, whose view its reader entered last or was let see
-/// by a call; `last_call`, the history as it was when its last call was answered; `events`, how many its calls made.
+/// lock. Contracts see it as two prefixes of the history and a number. Its reader entered the view of `seen` last, or a call let it see
+/// that view. `last_call` is the history as it was when its last call was answered. `events` says how many events its calls made.
 ///
 /// ```rust
 /// /// The version of the row that an owner has under a key, if there is one, and the seat, which has left again.
@@ -86,8 +85,8 @@ impl<S: NodeTag> ReaderSeat<S> {
     }
 
     /// Enters the snapshot that is published, which does not change until the seat leaves. It takes no memory, and no lock: for
-    /// that a call needs a `Wait`, and this one has none. So it waits for nobody. Where it is refused, as when the directory is
-    /// gone, the seat comes back unchanged.
+    /// that a call needs a `Wait`, and this one has none. So it waits for nobody. If it is refused, as when the directory is
+    /// gone, it gives the seat back unchanged.
     pub fn enter(self) -> Result<EnteredSeat<S>, ReaderSeat<S>>
         ensures { MatchResult result (λ entered. IsPrefix self.seen entered.seen × (entered.last_call ≡ self.last_call) × (entered.events ≡ self.events))
             (λ seat. seat ≡ self) }
@@ -118,7 +117,7 @@ impl<S: NodeTag> ReaderSeat<S> {
         self.reader.seen()
     }
 
-    // Enters and leaves at once, where that is not refused.
+    // Enters and leaves at once, unless that is refused.
     fn entered_and_left(self) -> (ReaderSeat<S>, ())
         ensures grows { IsPrefix self.seen result.0.seen }
         ensures last_call { result.0.last_call ≡ self.last_call }
@@ -141,24 +140,16 @@ impl<S: NodeTag> ReaderSeat<S> {
         history.is_same(self.reader.seen())
     }
 
-    /// Notes a call that is answered after this history, which begins with what the seat has seen and with its last call. Where
-    /// it did not, which no run has found, this does not return.
-    pub(crate) fn call_at<Q: Wait>(&mut self, rt: &Q, history: &HistoryPrefix<S>)
-        ensures begins { spec.Begins history.now self.old }
-        ensures last_call { self.new ≡ spec.with_last_call self.old history.now }
+    /// Notes a call that is answered after this history. It needs no test: the lock guards the whole history, and what the seat has
+    /// seen and its last call are prefixes of it.
+    pub(crate) fn call_at(&mut self, history: &mut History<S>)
+        ensures begins { spec.Begins history.old self.old }
+        ensures last_call { self.new ≡ spec.with_last_call self.old history.old }
+        ensures history { history.new ≡ history.old }
     {
-        if !self.reader.seen().is_prefix_of(history) || !self.last_call.is_prefix_of(history) {
-            for _ in rt.forever() {}
-            unreachable!();
-        }
-        self.set_last_call(history);
-    }
-
-    /// Notes that its last call was answered after this history.
-    pub(crate) fn set_last_call(&mut self, history: &HistoryPrefix<S>)
-        ensures { self.new ≡ spec.with_last_call self.old history.now }
-    {
-        self.last_call = history.copy();
+        history.audit(self.reader.seen());
+        history.audit(&self.last_call);
+        self.last_call = history.prefix().copy();
     }
 
     /// Its part of the ledger, with the number of events that its calls made.

@@ -4,9 +4,8 @@ ghost use Rattle.sb_directory.specs.Seats as spec;
 
 use crate::seat::ReaderSeat;
 use sb_types::Fault;
-use sb_views::{HistoryPrefix, NodeTag, Reader};
+use sb_views::{History, NodeTag, Reader};
 use std::alloc::Global;
-use std::sync::Wait;
 use std::sync::ledger::Share;
 
 /// Gives each of these readers a seat, with one part of what is left. `NoMemory`.
@@ -31,11 +30,10 @@ pub(crate) fn seat_all<S: NodeTag>(
     Ok(seats)
 }
 
-/// Joins the parts of these seats. The history up to here begins with what each of them has seen, and with its last call.
+/// Joins the parts of these seats. The history begins with what each of them has seen, and with its last call.
 #[tactic(auto, using(crate::proofs::Sharing::joining_goes_on, crate::proofs::Sharing::joining_ends))]
-pub(crate) fn join_all<S: NodeTag, Q: Wait>(
-    rt: &Q,
-    history: &HistoryPrefix<S>,
+pub(crate) fn join_all<S: NodeTag>(
+    history: &mut History<S>,
     rest: Share<S>,
     seats: Vec<ReaderSeat<S>>,
 ) -> Share<S>
@@ -43,11 +41,12 @@ pub(crate) fn join_all<S: NodeTag, Q: Wait>(
     requires amount { rest.amount ≡ 0 }
     ensures parts { result.parts ≡ length seats.items }
     ensures amount { result.amount ≡ spec.events_of_all seats.items }
-    ensures seen { spec.AllBegin history.now seats.items }
+    ensures seen { spec.AllBegin history.old seats.items }
+    ensures history { history.new ≡ history.old }
 {
     let mut all = rest;
     for mut seat in seats {
-        seat.call_at(rt, history);
+        seat.call_at(history);
         all.merge(seat.into_share());
     }
     all

@@ -1,98 +1,119 @@
-//! A node with its history, its views and its watches.
-ghost use Rattle.std.specs.Prelude.{◌≡◌, ◌≢◌, ◌<◌, ◌≤◌, ◌^◌, [], length, replicate, Ok, Err, if◌then◌else◌, OnOk, OnErr, IfOk, IfErr};
+//! What the lock of a directory guards: a node with its history, its views, its watches and the book of its seats.
+ghost use Rattle.std.specs.Prelude.{◌≡◌, ◌≤◌, ◌+◌, ◌++◌, ◌∷◌, [], true, false, length, if◌then◌else◌, Ok, Err, IfOk, IfErr, OnOk, OnErr};
+ghost use mathlib.Core.List.{IsPrefix};
 ghost use Rattle.sb_types.specs.Faults.{Gives};
 ghost use Rattle.sb_holdings.specs.Held.{shown_of};
+ghost use Rattle.sb_holdings.specs.Plain.{IsHoldings};
 ghost use Rattle.sb_holdings.specs.Treats.{Treats};
 ghost use Rattle.sb_session.specs.Handlers.{IsRefusal};
 ghost use Rattle.sb_watch.specs.declared.note.Note.{Note};
 ghost use Rattle.sb_watch.specs.declared.note.Polled.TheVariants as answers;
 ghost use Rattle.sb_watch.specs.Hubs.{new_hub, next_id, has_watch, answer_at, with_watch, with_answer, without_watch};
+ghost use Rattle.sb_views.specs.declared.event.Event.TheVariants as events;
 ghost use Rattle.sb_views.specs.Histories.{node_after};
-ghost use Rattle.sb_directory.specs.ViewedNodes as spec;
+ghost use Rattle.sb_directory.specs.ViewedNodes as nodes;
+ghost use Rattle.sb_directory.specs.Seats as spec;
 
-use crate::events::add_event;
+use crate::lacked::catch_up;
 use crate::lacking_owners::LackingOwners;
 use crate::notes::{push_note, push_notes_since, versions_of};
-use crate::views::Views;
-use sb_holdings::Report;
+use crate::receipt::{Applied, Closing, Receipt};
+use crate::seat::ReaderSeat;
+use crate::shares::join_all;
+use crate::tag::DirectoryTag;
 use sb_log::Committed;
 use sb_node::NodeCore;
 use sb_types::{Delta, Fault};
-use sb_views::{EventRef, HistoryHead, HistoryPrefix, NodeTag, Reader};
+use sb_views::{EventRef, History, ViewWriter};
 use sb_watch::{Filter, Hub, Polled, WatchId};
 use std::alloc::Global;
 use std::marker::Model;
 use std::sync::Wait;
+use std::sync::ledger::{Book, Share};
 
-/// A node with its history, its views and its watches, which one thread uses at a time: a directory keeps it behind its lock.
-/// Contracts see it as the core, the watches, the history, and the prefix of it that is published.
+/// A node with its history, its views, its watches and the book of its seats, which one thread uses at a time. Contracts see it as the
+/// core, the watches, the history, and the prefix of it that is published.
 #[derive(Drop)]
-pub struct ViewedNode<S: NodeTag, R: Wait + Drop> {
+pub(crate) struct ViewedNode<S: DirectoryTag, R: Wait + Drop> {
     core: NodeCore,
     hub: Hub,
-    head: HistoryHead<S>,
-    history: HistoryPrefix<S>,
-    views: Views<S, R>,
+    history: History<S>,
+    views: ViewWriter<S, R>,
     lacking: LackingOwners,
+    book: Book<S>,
+    // What is left of the ledger once each seat has its part.
+    rest: Share<S>,
     alloc: Global,
 }
 
-impl<S: NodeTag, R: Wait + Drop> Model for ViewedNode<S, R> {
+impl<S: DirectoryTag, R: Wait + Drop> Model for ViewedNode<S, R> {
+    ghost use Rattle.std.specs.Prelude.{◌≡◌, length};
     ghost use Rattle.std.specs.Coded.{codes};
     ghost use Rattle.std.specs.FinMap.{code};
-    ghost use Rattle.sb_directory.specs.ViewedNodes as spec;
+    ghost use Rattle.sb_directory.specs.ViewedNodes as nodes;
 
-    ghost Value = { spec.ViewedNode };
+    ghost Value = { nodes.ViewedNode };
 
     ghost coded = { Prim.hlevel (codes, code) };
 
     ghost view = { λ l. record { core = l.core; hub = l.hub; history = l.history; published = l.views.published } };
 
-    ghost invariant = { λ l. spec.IsViewedNode S.opening l.views.queued l.lacking (record { core = l.core; hub = l.hub; history = l.history; published = l.views.published }) };
+    ghost invariant = { λ l. nodes.IsViewedNode S.opening l.views.queued l.lacking (record { core = l.core; hub = l.hub; history = l.history; published = l.views.published })
+        × (l.book.total ≡ length l.history) × (l.core.settings ≡ S.settings) × (l.rest.parts ≡ 0) × (l.rest.amount ≡ 0) };
 }
 
-impl<S: NodeTag, R: Wait + Drop> ViewedNode<S, R> {
-    /// A node as it is opened, with so many readers that have seen nothing. `NoMemory`.
-    pub fn open(
+impl<S: DirectoryTag, R: Wait + Drop> ViewedNode<S, R> {
+    /// A node as it was opened, with its views, and the book of a ledger. Each seat has one part of the ledger, and `rest` none.
+    pub(crate) fn new(
         alloc: Global,
-        rt: R,
-        head: HistoryHead<S>,
-        start: HistoryPrefix<S>,
         core: NodeCore,
-        seats: usize,
-    ) -> Result<(ViewedNode<S, R>, Vec<Reader<S>>), Fault>
+        history: History<S>,
+        views: ViewWriter<S, R>,
+        book: Book<S>,
+        rest: Share<S>,
+    ) -> ViewedNode<S, R>
         requires opening { S.opening ≡ core.node }
-        requires start { start ≡ [] }
-        requires seats { (0 < seats) × (seats < 2 ^ 32) }
-        ensures node { IfOk result (λ l. l.0 ≡ record { core = core; hub = new_hub; history = []; published = [] }) }
-        ensures readers { IfOk result (λ l. l.1.items ≡ replicate seats []) }
-        ensures memory { IfErr result (λ fault. fault ≡ Fault.NoMemory) }
+        requires holdings { IsHoldings core.node.held }
+        requires settings { core.settings ≡ S.settings }
+        requires history { history ≡ [] }
+        requires views { views ≡ record { published = []; queued = [] } }
+        requires total { book.total ≡ 0 }
+        requires rest { (rest.parts ≡ 0) × (rest.amount ≡ 0) }
+        ensures { result ≡ record { core = core; hub = new_hub; history = []; published = [] } }
     {
-        let (views, readers) = Views::open(alloc, rt, &start, &core, seats)?;
-        let node = ViewedNode {
+        ViewedNode {
             core,
             hub: Hub::new(alloc),
-            head,
-            history: start,
+            history,
             views,
             lacking: LackingOwners::new(alloc),
+            book,
+            rest,
             alloc,
-        };
-        Ok((node, readers))
+        }
     }
 
-    /// Enters a committed write of the node's own, notes it in watches, and publishes all that happened; says whether
-    /// there was memory to publish it. Where there was none, the next call that publishes makes up for it.
-    /// `WrongOwner`, `OwnerConflict`, `OutOfTurn` and `TableFull` as of the node; `TurnsSpent` after 2^64 - 1 events;
-    /// `NoMemory`. Each leaves everything as it was.
-    pub fn take_own<Q: Wait>(&mut self, rt: &Q, committed: &Committed) -> Result<bool, Fault>
-        ensures answer { IfErr result (λ fault. fault ≢ Fault.NoMemory → spec.own_due self.old committed.now ≡ Err fault) }
-        ensures refused { IfErr (spec.own_due self.old committed.now) (λ fault. result ≡ Err fault) }
-        ensures due { OnOk result (spec.own_due self.old committed.now ≡ Ok tt) }
-        ensures taken { IfOk result (λ _. self.new ≡ spec.after_own self.old committed.now.entry self.new.published) }
-        ensures publishes { IfOk result (λ is_published. spec.Publishes is_published self.old self.new) }
+    /// Enters a committed write for a seat, notes it in watches, and publishes all that happened. Its faults are those of
+    /// `Directory::take_own`.
+    pub(crate) fn take_own(
+        &mut self,
+        seat: &mut ReaderSeat<S>,
+        committed: &Committed,
+    ) -> Result<Receipt, Fault>
+        ensures taken { IfOk result (λ _. self.new ≡ nodes.after_own self.old committed.now.entry self.new.published) }
+        ensures shown { IfOk result (λ receipt. spec.PublishesWhereSaid receipt.shown self.old self.new) }
         ensures err { OnErr result (self.new ≡ self.old) }
+        ensures due { OnOk result (spec.own_due_after S.opening self.old.history committed.now ≡ Ok tt) }
+        ensures last_call { OnOk result (seat.new.last_call ≡ self.old.history ++ events.TookOwn committed.now.entry ∷ []) }
+        ensures seen { IfOk result (λ receipt. receipt.shown ≡ true → seat.new.seen ≡ seat.new.last_call) }
+        ensures count { OnOk result (seat.new.events ≡ seat.old.events + 1) }
+        ensures refused { IfErr result (spec.Refuses (spec.own_due_after S.opening self.old.history committed.now)) }
+        ensures seat { OnErr result (seat.new ≡ spec.with_last_call seat.old self.old.history) }
+        ensures begins { spec.Begins self.old.history seat.old }
+        ensures grows { IsPrefix seat.old.seen seat.new.seen }
+        ensures version { IfOk result (λ receipt. receipt.version ≡ committed.now.entry.version) }
     {
+        seat.call_at(&mut self.history);
         if let Some(fault) = self.core.refusal(committed) {
             return Err(fault);
         }
@@ -104,28 +125,37 @@ impl<S: NodeTag, R: Wait + Drop> ViewedNode<S, R> {
         let since = (self.core.upto(&me), self.core.holdings().floor(&me));
         self.lacking.add(me, since)?;
         self.core.take_own(committed)?;
-        add_event(rt, &self.head, &mut self.history, EventRef::TookOwn(entry));
+        self.history.add(EventRef::TookOwn(entry));
         push_note(&mut self.hub, &me, entry);
-        Ok(
-            self.views
-                .publish_history(&self.core, &self.history, &mut self.lacking),
-        )
+        seat.count(&mut self.book);
+        Ok(Receipt {
+            version: entry.version(),
+            shown: self.refresh(seat),
+        })
     }
 
-    /// Takes each block of a delta in turn, notes each entry that it entered in watches, and publishes all that
-    /// happened; gives how the blocks ended, and says whether there was memory to publish it. Where there was none, the
-    /// next call that publishes makes up for it. `TurnsSpent` after 2^64 - 1 events; `NoMemory` where there is no room
-    /// for the ends, or to note of which owners watches and views lack writes. Each leaves everything as it was.
-    pub fn apply<Q: Wait>(&mut self, rt: &Q, delta: &Delta) -> Result<(Report, bool), Fault>
-        ensures answer { IfErr result (λ fault. fault ≢ Fault.NoMemory → spec.delta_due self.old ≡ Err fault) }
-        ensures refused { IfErr (spec.delta_due self.old) (λ fault. result ≡ Err fault) }
-        ensures fault { IfErr result IsRefusal }
-        ensures due { OnOk result (spec.delta_due self.old ≡ Ok tt) }
-        ensures ends { IfOk result (λ r. Treats self.old.core.node delta.now r.0) }
-        ensures taken { IfOk result (λ r. self.new ≡ spec.after_delta self.old delta.now r.0 self.new.published) }
-        ensures publishes { IfOk result (λ r. spec.Publishes r.1 self.old self.new) }
+    /// Takes each block of a delta for a seat, notes each entry that it entered in watches, and publishes all that happened. Its faults
+    /// are those of `Directory::apply`.
+    pub(crate) fn apply(
+        &mut self,
+        seat: &mut ReaderSeat<S>,
+        delta: &Delta,
+    ) -> Result<Applied, Fault>
+        ensures taken { IfOk result (λ applied. self.new ≡ nodes.after_delta self.old delta.now applied.ends self.new.published) }
+        ensures shown { IfOk result (λ applied. spec.PublishesWhereSaid applied.shown self.old self.new) }
         ensures err { OnErr result (self.new ≡ self.old) }
+        ensures due { OnOk result (spec.delta_due_after self.old.history ≡ Ok tt) }
+        ensures ends { IfOk result (λ applied. Treats (node_after S.opening self.old.history) delta.now applied.ends) }
+        ensures last_call { IfOk result (λ applied. seat.new.last_call ≡ self.old.history ++ events.Applied delta.now applied.ends ∷ []) }
+        ensures seen { IfOk result (λ applied. applied.shown ≡ true → seat.new.seen ≡ seat.new.last_call) }
+        ensures count { OnOk result (seat.new.events ≡ seat.old.events + 1) }
+        ensures refused { IfErr result (spec.Refuses (spec.delta_due_after self.old.history)) }
+        ensures fault { IfErr result IsRefusal }
+        ensures seat { OnErr result (seat.new ≡ spec.with_last_call seat.old self.old.history) }
+        ensures begins { spec.Begins self.old.history seat.old }
+        ensures grows { IsPrefix seat.old.seen seat.new.seen }
     {
+        seat.call_at(&mut self.history);
         if self.history.len() == u64::MAX {
             return Err(Fault::TurnsSpent);
         }
@@ -133,28 +163,35 @@ impl<S: NodeTag, R: Wait + Drop> ViewedNode<S, R> {
         let versions = versions_of(self.alloc, self.core.holdings(), blocks)?;
         self.lacking.add_owners(self.core.holdings(), blocks)?;
         let ends = self.core.apply(delta)?;
-        let event = EventRef::Applied(delta, &ends);
-        add_event(rt, &self.head, &mut self.history, event);
+        self.history.add(EventRef::Applied(delta, &ends));
         push_notes_since(&mut self.hub, self.core.holdings(), versions);
-        let is_published = self
-            .views
-            .publish_history(&self.core, &self.history, &mut self.lacking);
-        Ok((ends, is_published))
+        seat.count(&mut self.book);
+        let shown = self.refresh(seat);
+        Ok(Applied { ends, shown })
     }
 
-    /// The node, for calls that only read it.
-    pub fn core(&self) -> &NodeCore
-        ensures { result.now ≡ self.now.core }
+    /// Notes a call of a seat, which changes nothing else.
+    pub(crate) fn note_call(&mut self, seat: &mut ReaderSeat<S>)
+        ensures same { self.new ≡ self.old }
+        ensures begins { spec.Begins self.old.history seat.old }
+        ensures last_call { seat.new ≡ spec.with_last_call seat.old self.old.history }
+    {
+        seat.call_at(&mut self.history);
+    }
+
+    /// The node core, for calls that only read it.
+    pub(crate) fn core(&self) -> &NodeCore
+        ensures node { result.now.node ≡ node_after S.opening self.now.history }
+        ensures settings { result.now.settings ≡ S.settings }
     {
         &self.core
     }
 
-    /// Adds a watch with room for 1 to 1,024 notes, and gives its id. `BadSetting`, `WatchesFull` and `NoMemory` as of
-    /// the watches. Each leaves everything as it was.
-    pub fn watch(&mut self, filter: Filter, capacity: usize) -> Result<WatchId, Fault>
+    /// Adds a watch.
+    pub(crate) fn watch(&mut self, filter: Filter, capacity: usize) -> Result<WatchId, Fault>
         ensures answer { Gives result (next_id self.old.hub capacity) }
         ensures refused { (fault : Fault) → next_id self.old.hub capacity ≡ Err fault → result ≡ Err fault }
-        ensures ok { OnOk result (self.new ≡ spec.with_hub self.old (with_watch self.old.hub filter capacity)) }
+        ensures ok { OnOk result (self.new ≡ nodes.with_hub self.old (with_watch self.old.hub filter capacity)) }
         ensures err { OnErr result (self.new ≡ self.old) }
     {
         match self.hub.add(filter, capacity) {
@@ -163,81 +200,105 @@ impl<S: NodeTag, R: Wait + Drop> ViewedNode<S, R> {
         }
     }
 
-    /// Whether a watch with the id stands.
-    pub fn has_watch(&self, id: WatchId) -> bool
-        ensures { result ≡ has_watch self.now.hub id }
-    {
-        self.hub.has(id)
-    }
-
-    /// Drops a watch with its notes. `NoWatch` where no watch with the id stands, which changes nothing.
-    pub fn unwatch(&mut self, id: WatchId) -> Result<(), Fault>
+    /// Drops a watch with its notes.
+    pub(crate) fn unwatch(&mut self, id: WatchId) -> Result<(), Fault>
         ensures answer { result ≡ (if has_watch self.old.hub id then Ok tt else Err Fault.NoWatch) }
-        ensures left { self.new ≡ spec.with_hub self.old (without_watch self.old.hub id) }
+        ensures left { self.new ≡ nodes.with_hub self.old (without_watch self.old.hub id) }
     {
         self.hub.drop_watch(id)
     }
 
-    /// Publishes all that happened, and says whether there was memory for it. Where there was none, what is published
-    /// stays.
-    pub fn refresh(&mut self) -> bool
-        ensures left { self.new ≡ spec.with_published self.old self.new.published }
-        ensures publishes { spec.Publishes result self.old self.new }
+    /// Publishes all that happened, and says whether there was memory for it. If there was none, what is published stays, and what
+    /// could not be queued is queued by the next call.
+    fn publish(&mut self) -> bool
+        ensures left { self.new ≡ nodes.with_published self.old self.new.published }
+        ensures publishes { nodes.Publishes result self.old self.new }
     {
-        self.views
-            .publish_history(&self.core, &self.history, &mut self.lacking)
+        let history = self.history.prefix();
+        if self.views.published_prefix().is_same(history) {
+            return true;
+        }
+        let views = &mut self.views;
+        if !catch_up(self.alloc, views, &self.core, history, &mut self.lacking) {
+            return false;
+        }
+        match self.views.publish() {
+            Ok(()) => true,
+            Err(_) => false,
+        }
     }
 
-    /// Publishes all that happened, and gives what the watch answers, so that a note is handed out once its write is
-    /// published. `NoWatch` where no watch with the id stands; `NoMemory` where there is none to publish what happened.
-    /// Each leaves everything as it was.
-    pub fn poll(&mut self, id: WatchId) -> Result<Polled, Fault>
+    /// Publishes all that happened, and lets the seat see it; says whether it did.
+    pub(crate) fn refresh(&mut self, seat: &mut ReaderSeat<S>) -> bool
+        ensures left { self.new ≡ nodes.with_published self.old self.new.published }
+        ensures shown { spec.PublishesWhereSaid result self.old self.new }
+        ensures begins { spec.Begins self.old.history seat.old }
+        ensures last_call { seat.new.last_call ≡ self.old.history }
+        ensures grows { IsPrefix seat.old.seen seat.new.seen }
+        ensures count { seat.new.events ≡ seat.old.events }
+        ensures seen { result ≡ true → seat.new.seen ≡ self.new.history }
+        ensures made { result ≡ true → seat.new.events ≤ length seat.new.seen }
+    {
+        seat.call_at(&mut self.history);
+        seat.audit(&mut self.book);
+        if !self.publish() {
+            return false;
+        }
+        seat.look(self.history.prefix())
+    }
+
+    /// Publishes all that happened, lets the seat see it, and gives what the watch answers. So it gives a note only once the note's
+    /// write is published.
+    pub(crate) fn poll(&mut self, seat: &mut ReaderSeat<S>, id: WatchId) -> Result<Polled, Fault>
         ensures answer { Gives result (answer_at self.old.hub id) }
         ensures refused { IfErr (answer_at self.old.hub id) (λ fault. result ≡ Err fault) }
-        ensures ok { OnOk result (self.new ≡ spec.with_published (spec.with_hub self.old (with_answer self.old.hub id)) self.old.history) }
-        ensures held { (note : Note) → result ≡ Ok (answers.Note note) → note.version ≤ (shown_of self.old.core.node.held note.owner).held }
-        ensures err { OnErr result (self.new ≡ self.old) }
+        ensures held { (note : Note) → result ≡ Ok (answers.Note note) → note.version ≤ (shown_of (node_after S.opening seat.new.seen).held note.owner).held }
+        ensures ok { OnOk result (self.new ≡ nodes.with_published (nodes.with_hub self.old (with_answer self.old.hub id)) self.old.history) }
+        ensures err { OnErr result (self.new ≡ nodes.with_published self.old self.new.published) }
+        ensures shown { OnErr result (spec.PublishesWhereSaid false self.old self.new) }
+        ensures none { result ≡ Err Fault.NoWatch → self.new ≡ self.old }
+        ensures seat { result ≡ Err Fault.NoWatch → seat.new ≡ spec.with_last_call seat.old seat.new.last_call }
+        ensures begins { spec.Begins self.old.history seat.old }
+        ensures last_call { seat.new.last_call ≡ self.old.history }
+        ensures grows { IsPrefix seat.old.seen seat.new.seen }
+        ensures count { seat.new.events ≡ seat.old.events }
+        ensures seen { OnOk result (seat.new.seen ≡ self.new.history) }
+        ensures made { OnOk result (seat.new.events ≤ length seat.new.seen) }
     {
+        seat.call_at(&mut self.history);
         if !self.hub.has(id) {
             return Err(Fault::NoWatch);
         }
-        if !self
-            .views
-            .publish_history(&self.core, &self.history, &mut self.lacking)
-        {
+        if !self.refresh(seat) {
             return Err(Fault::NoMemory);
         }
         self.hub.take(id)
     }
 
-    /// All events that happened.
-    pub fn history(&self) -> &HistoryPrefix<S>
-        ensures history { result.now ≡ self.now.history }
-        ensures node { self.now.core.node ≡ node_after S.opening self.now.history }
-    {
-        &self.history
-    }
-
-    /// The events that are published.
-    pub fn published(&self) -> &HistoryPrefix<S>
-        ensures { result.now ≡ self.now.published }
-    {
-        self.views.published()
-    }
-
-    /// The node; readers that have entered keep their snapshot, and no other enters.
-    pub fn into_core(self) -> NodeCore
-        ensures { result ≡ self.core }
+    /// The node, and how many events there were. These are all its seats.
+    pub(crate) fn close(self, seats: Vec<ReaderSeat<S>>) -> Closing
+        requires all { length seats.items ≡ S.parts }
+        ensures node { result.core.node ≡ node_after S.opening self.history }
+        ensures settings { result.core.settings ≡ S.settings }
+        ensures events { result.events ≡ length self.history }
+        ensures made { result.events ≡ spec.events_of_all seats.items }
+        ensures begin { spec.AllBegin self.history seats.items }
     {
         let Self {
             core,
             hub: _hub,
-            head: _head,
-            history: _history,
+            mut history,
             views: _views,
             lacking: _lacking,
+            mut book,
+            rest,
             alloc: _,
         } = self;
-        core
+        let mut all = join_all(&mut history, rest, seats);
+        book.audit(&mut all);
+        Closing {
+            core,
+            events: history.len(),
+        }
     }
 }

@@ -1,5 +1,5 @@
-//! A node, by itself and from a seat of its directory: what its calls answer, and what readers see.
-use crate::course::{Course, Run, run_bare, run_new, run_new_seated, run_seated};
+//! A node, from a seat of its directory: what its calls answer, and what readers see of it.
+use crate::course::{Course, Run, run_new, run_seated};
 use crate::desk::{Answer, Call, Case, noted};
 use crate::got;
 use crate::making::{full_table, node_of, written_log};
@@ -11,17 +11,16 @@ use std::alloc::Global;
 use std::process::Abort;
 use std::sync::Wait;
 
-/// Tests that a new node answers these calls in this way, by itself and from a seat.
+/// A new node answers these calls so.
 fn answers<R: Wait + Abort>(rt: &R, alloc: Global, cases: &[Case]) {
     run_new(rt, alloc, Course::Calls(cases));
-    run_new_seated(rt, alloc, Course::Calls(cases));
 }
 
 fn refused(fault: Fault) -> Answer {
     Answer::Refused(fault)
 }
 
-/// The answer if the block of a delta ends in this way.
+/// The block of a delta ends so.
 fn ended(end: BlockEnd) -> Answer {
     Answer::Ended(end)
 }
@@ -50,7 +49,7 @@ fn watches_tell_what_is_shown(rt: HostRuntime) {
     answers(&rt, rt.alloc(), &cases);
 }
 
-/// Own writes and those of others are noted once in a watch of everything.
+/// Own writes, and those of others, are noted once in a watch of everything.
 #[test]
 fn writes_are_noted_once(rt: HostRuntime) {
     let own = noted(&rt, b"a", b"x", 1);
@@ -150,8 +149,8 @@ fn writes_of_others_are_shown(rt: HostRuntime) {
     answers(&rt, rt.alloc(), &cases);
 }
 
-/// A stage whose floor is above all that is held replaces what is shown. Keys that it lacks are not shown any longer,
-/// and a key with an older write in it stays as before. Then a block without entries reports how far b is held.
+/// A stage whose floor is above all that is held takes the place of what is shown: keys that it lacks are shown no longer,
+/// and those that it tells of older writes of stay as they were. Then a block without entries tells how far b is held.
 #[test]
 fn a_floor_takes_rows(rt: HostRuntime) {
     let cases = [
@@ -169,7 +168,7 @@ fn a_floor_takes_rows(rt: HostRuntime) {
     answers(&rt, rt.alloc(), &cases);
 }
 
-/// The log's next write, its 4,097th, has a key for which the node has no room.
+/// The log's next write, its 4,097th, is under a key that the node has no room for.
 #[test]
 fn a_full_table_takes_no_new_key(rt: HostRuntime) {
     let alloc = rt.alloc();
@@ -182,11 +181,10 @@ fn a_full_table_takes_no_new_key(rt: HostRuntime) {
         course: Course::Calls(&cases),
         alloc,
     };
-    run_bare(&rt, node_of(&rt, alloc, b"a", full_table(&rt, alloc)), run);
+    run_seated(&rt, node_of(&rt, alloc, b"a", full_table(&rt, alloc)), run);
 }
 
-/// A node that is opened with one write, as from a copy of its log, while b has a second one. The node does not take
-/// the log's next write.
+/// A node that is opened with one write, as from a copy of its log, where b has a second one; the log's next write is not taken.
 #[test]
 fn a_peer_has_later_writes(rt: HostRuntime) {
     let alloc = rt.alloc();

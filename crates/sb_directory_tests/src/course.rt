@@ -1,9 +1,9 @@
-//! What happens at a desk: plain calls, or first a call that may find no memory.
+//! What a desk goes through: plain calls, or first one that may find no memory.
 ghost use Rattle.std.specs.Prelude.{◌≡◌};
 
 use crate::desk::{Answer, Call, Case, Desk, play};
 use crate::making::{log_of, new_node};
-use crate::reached::{Reach, bare_of, seated_of};
+use crate::reached::{Seated, seated_of};
 use sb_directory::DirectoryTag;
 use sb_holdings::BlockEnd;
 use sb_log::PlainLog;
@@ -16,46 +16,46 @@ use std::process::Abort;
 use std::sync::Wait;
 use std::sync::ledger::Blank;
 
-/// What the reader sees before anything happened.
+/// Nothing happened yet, as far as the reader sees.
 const NOTHING: Answer = Answer::Read(0, 0, 0);
 
 pub(crate) const TAKE_OF_B: Call = Call::Delta(b"b", 0, b"y");
 
 pub(crate) const TAKEN: Answer = Answer::Ended(BlockEnd::Taken(1));
 
-/// What happens at the desk of a node that was just opened.
+/// What the desk of a node goes through that was just opened.
 #[derive(Clone, Copy)]
 pub(crate) enum Course<'a> {
-    /// These calls, with these answers.
+    /// These calls, which are answered so.
     Calls(&'a [Case]),
-    /// A write with some allocation possibly refused, and then these calls.
+    /// A write of which some allocation may be refused, and then these calls.
     LateWrite(&'a [Case]),
-    /// A delta with some allocation possibly refused, which is shown at last.
+    /// A delta of which some allocation may be refused, which is shown at last.
     LateDelta,
 }
 
-/// Makes a write with some allocation possibly refused, and what makes up for it.
+/// A write of which some allocation may be refused, and what makes up for it.
 fn write_late<S: DirectoryTag, H: Wait + Drop, R: Wait + Abort>(rt: &R, desk: &mut Desk<S, H>) {
     match desk.perform(rt, Call::Take) {
-        // Everything is as before, and then the same write is taken.
+        // Everything is as it was, and the same write is taken then.
         Answer::Refused(Fault::NoMemory) => play(
             rt,
             desk,
             &[(Call::Read, NOTHING), (Call::Take, Answer::Shown)],
         ),
-        // It is entered, and the reader sees what it saw before.
+        // It is entered, and the reader sees what it saw.
         Answer::NotShown => play(rt, desk, &[(Call::Read, NOTHING)]),
         _ => play(rt, desk, &[(Call::Read, Answer::Read(1, 1, 0))]),
     }
 }
 
-/// Takes a delta with some allocation possibly refused, and what makes up for it. Returns how many events that makes.
+/// A delta of which some allocation may be refused, and what makes up for it: how many events that makes.
 fn take_late<S: DirectoryTag, H: Wait + Drop, R: Wait + Abort>(
     rt: &R,
     desk: &mut Desk<S, H>,
 ) -> u64 {
     match desk.perform(rt, TAKE_OF_B) {
-        // Everything is as before.
+        // Everything is as it was.
         Answer::Refused(Fault::NoMemory) => {
             play(rt, desk, &[(Call::Read, NOTHING), (TAKE_OF_B, TAKEN)]);
             1
@@ -69,7 +69,7 @@ fn take_late<S: DirectoryTag, H: Wait + Drop, R: Wait + Abort>(
             );
             2
         }
-        // It is entered, and the reader sees what it saw before.
+        // It is entered, and the reader sees what it saw.
         Answer::NotShown => {
             play(rt, desk, &[(Call::Read, NOTHING)]);
             1
@@ -78,7 +78,7 @@ fn take_late<S: DirectoryTag, H: Wait + Drop, R: Wait + Abort>(
     }
 }
 
-/// Watches the desk of a node that did nothing yet, makes it write, and then tests the answers to these calls.
+/// The desk of a node that did nothing yet is watched, writes, and then answers these calls so.
 fn play_late<S: DirectoryTag, H: Wait + Drop, R: Wait + Abort>(
     rt: &R,
     desk: &mut Desk<S, H>,
@@ -93,7 +93,7 @@ fn play_late<S: DirectoryTag, H: Wait + Drop, R: Wait + Abort>(
     play(rt, desk, cases);
 }
 
-/// Tests that a desk takes a delta, and shows it at last.
+/// A desk takes a delta, and shows it at last.
 fn show_late<S: DirectoryTag, H: Wait + Drop, R: Wait + Abort>(rt: &R, desk: &mut Desk<S, H>) {
     let events = take_late(rt, desk);
     let after = [
@@ -111,26 +111,13 @@ pub(crate) struct Run<'a> {
     pub(crate) alloc: Global,
 }
 
-fn go<S: DirectoryTag, H: Wait + Drop, R: Wait + Abort>(rt: &R, node: Reach<S, H>, run: Run<'_>) {
+fn go<S: DirectoryTag, H: Wait + Drop, R: Wait + Abort>(rt: &R, node: Seated<S, H>, run: Run<'_>) {
     let mut desk = Desk::new(node, run.log, run.alloc);
     match run.course {
         Course::Calls(cases) => play(rt, &mut desk, cases),
         Course::LateWrite(cases) => play_late(rt, &mut desk, cases),
         Course::LateDelta => show_late(rt, &mut desk),
     }
-}
-
-fn go_bare<S: DirectoryTag, R: Wait + Abort>(
-    rt: &R,
-    history: NewHistory,
-    core: NodeCore,
-    run: Run<'_>,
-)
-    requires history { history.seen.book ≡ S.history }
-    requires opening { S.opening ≡ core.node }
-{
-    let node = bare_of::<S, R>(rt, history, core, run.alloc);
-    go(rt, node, run);
 }
 
 fn go_seated<S: DirectoryTag, R: Wait + Abort>(
@@ -151,17 +138,12 @@ fn go_seated<S: DirectoryTag, R: Wait + Abort>(
     go(rt, node, run);
 }
 
-/// Runs this with this node, by itself.
-pub(crate) fn run_bare<R: Wait + Abort>(rt: &R, core: NodeCore, run: Run<'_>) {
-    go_bare::<Brand, _>(rt, NewHistory::new(), core, run);
-}
-
-/// Runs this with this node, from the one seat of its directory.
+/// This node goes through this, from the one seat of its directory.
 pub(crate) fn run_seated<R: Wait + Abort>(rt: &R, core: NodeCore, run: Run<'_>) {
     go_seated::<Brand, _>(rt, NewHistory::new(), Blank::new(1), core, run);
 }
 
-/// A course for a node that wrote nothing.
+/// A course of a node that wrote nothing.
 pub(crate) fn new_run<'a>(rt: &impl Abort, alloc: Global, course: Course<'a>) -> Run<'a> {
     Run {
         log: log_of(rt, alloc, b"a"),
@@ -170,14 +152,8 @@ pub(crate) fn new_run<'a>(rt: &impl Abort, alloc: Global, course: Course<'a>) ->
     }
 }
 
-/// Runs this course with a new node, by itself.
+/// A new node goes through this, from the one seat of its directory.
 pub(crate) fn run_new<R: Wait + Abort>(rt: &R, alloc: Global, course: Course<'_>) {
-    let run = new_run(rt, alloc, course);
-    run_bare(rt, new_node(rt, alloc), run);
-}
-
-/// Runs this course with a new node, from the one seat of its directory.
-pub(crate) fn run_new_seated<R: Wait + Abort>(rt: &R, alloc: Global, course: Course<'_>) {
     let run = new_run(rt, alloc, course);
     run_seated(rt, new_node(rt, alloc), run);
 }

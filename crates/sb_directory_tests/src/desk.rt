@@ -1,7 +1,7 @@
 //! A node, with its log and watches. Its calls as data, with what they answer.
 
 use crate::making::{commit, delta_of, delta_with_floor, first_of, key, name, node_of, prefix};
-use crate::reached::Reach;
+use crate::reached::Seated;
 use crate::{got, same_at, there};
 use sb_digest::Digest;
 use sb_directory::DirectoryTag;
@@ -76,7 +76,7 @@ pub(crate) enum Answer {
 /// A node with its log, the write that was committed last, and its watches.
 #[derive(Drop)]
 pub(crate) struct Desk<S: DirectoryTag, H: Wait + Drop> {
-    node: Reach<S, H>,
+    node: Seated<S, H>,
     log: PlainLog,
     committed: Option<Committed>,
     watches: Vec<WatchId>,
@@ -141,7 +141,7 @@ fn delta_of_peer(rt: &impl Abort, alloc: Global, digest: &Digest) -> Delta {
 
 impl<S: DirectoryTag, H: Wait + Drop> Desk<S, H> {
     /// The desk of a node that was just opened.
-    pub(crate) fn new(node: Reach<S, H>, log: PlainLog, alloc: Global) -> Desk<S, H> {
+    pub(crate) fn new(node: Seated<S, H>, log: PlainLog, alloc: Global) -> Desk<S, H> {
         Desk {
             node,
             log,

@@ -1,5 +1,5 @@
 pub mod Prefixes
-pub mod Adding
+pub mod Recorded
 pub mod ByText
 pub mod Turning
 pub mod Changing

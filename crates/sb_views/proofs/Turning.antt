@@ -65,3 +65,11 @@ module _ (history : Book) (opening : Node) where
         let next : IsQueued history opening queued new new = subst (λ (s : ViewCopy). IsQueued history opening queued s s) (sym e.0) (is_published shown (fold after_operation shown log) is) in
         rw (e.1, none) next
     after_publish shown new log left queue (Err fault) is none e = rw (e.0, e.1, none, append-nil log) is
+
+    -- the prefix that is published is that of what is shown
+    pub now_published : (published after : List Event) (shown new next : ViewCopy) (log left : List Operation) (r : Result (Unit {0}) AllocError)
+        → shown.position.events ≡ published → IsQueued history opening queued shown next
+        → MatchResult r (λ _. (new ≡ next) × (left ≡ [])) (λ _. (new ≡ shown) × (left ≡ log)) → MatchResult r (λ _. after ≡ queued) (λ _. after ≡ published)
+        → new.position.events ≡ after
+    now_published published after shown new next log left (Ok u) same is e then = ap (λ (c : ViewCopy). c.position.events) e.0 ∙ is.reaches ∙ sym then
+    now_published published after shown new next log left (Err fault) same is e then = ap (λ (c : ViewCopy). c.position.events) e.0 ∙ same ∙ sym then

@@ -1,5 +1,6 @@
 pub mod Histories
 pub mod Rules
+pub mod Recording
 pub mod NodeViews
 pub mod Changes
 pub mod Growing

@@ -1,15 +1,13 @@
--- The rule of a history, and what its steps tell.
-use Rattle.std.specs.Prelude.{ℕ, ◌≡◌, ◌==◌, true, List, [], ◌∷◌, ◌++◌, length, MatchBool}
-use Rattle.logbook.specs.Pages.{Cell, Step, View, Book, Named}
+-- The rule of a history, and the right to set its length.
+use Rattle.std.specs.Prelude.{ℕ, ◌≡◌, true, List, [], ◌∷◌, length}
+use Rattle.logbook.specs.Pages.{Cell, Book, nib, may_make_home}
+use Rattle.logbook.specs.declared.tokens.Pen.{Pen}
 use Rattle.sb_views.specs.declared.event.Event.{Event}
 
--- the first word is the length of the history. A book has two words, of which this one leaves the second at 0
+-- the first cell is the length of the history. A book has two cells, and this one leaves the second at 0
 abbrev pub IsKept : List Cell → List Event → Type 0
 IsKept cells log = cells ≡ (length log, true) ∷ (0, true) ∷ []
 
-abbrev pub head_of : Book → Named
-head_of b = record { tracked = true; key = 0; book = b }
-
--- the event was added to all that had been seen; or the history was longer, and was seen
-abbrev pub Adds : Step Event → View Event ℕ → ℕ → View Event ℕ → Type 0
-Adds s v found w = MatchBool (found == s.old) (w.0 ≡ v.0 ++ s.ask ∷ []) (length w.0 ≡ found)
+-- the pen is the right to set the first cell of this book, which holds n
+abbrev pub HasLength : Book → Pen → ℕ → Type 0
+HasLength history pen n = (pen.book ≡ history) × (pen.nib ≡ nib may_make_home 0 n)

@@ -1,19 +1,21 @@
 //! The history of a node: all its events since it was opened, in one order. It exists in proofs alone; at run time there is only its
 //! length.
-ghost use Rattle.std.specs.Prelude.{◌≡◌, ◌≢◌, ◌+◌, ◌<◌, ◌≤◌, ◌-◌, ◌^◌, ◌++◌, ◌∷◌, ◌⊎◌, [], length, MatchBool, ◌==◌};
+ghost use Rattle.std.specs.Prelude.{◌≡◌, ◌≢◌, ◌<◌, ◌≤◌, ◌-◌, ◌^◌, ◌++◌, ◌∷◌, ◌⊎◌, [], length, MatchBool};
 ghost use mathlib.Core.List.{IsPrefix};
+ghost use Rattle.logbook.specs.Pages.{nib, may_make_home};
 ghost use Rattle.sb_views.specs.Histories.{IsLonger, event_of};
-ghost use Rattle.sb_views.specs.Rules.{head_of};
+ghost use Rattle.sb_views.specs.Rules.{HasLength};
 
 use crate::event::{Event, EventRef};
-use logbook::{Gain, Offer, Plain, Play, Rule, Seen, Start, Word};
+use crate::recording::{Entries, record};
+use logbook::{Pen, Rule, Seen, Start};
 use std::marker::{Brand, Model, PhantomData};
 use std::sync::ledger::Ledger;
 
-/// The rule of a history: its word is its length.
+/// The rule of a history: its first cell is its length.
 pub struct LengthRule;
 
-impl Rule<Event, u64> for LengthRule {
+impl Rule<Event, ()> for LengthRule {
     ghost use Rattle.std.specs.Prelude.{[]};
     ghost use base.Fml.{ftrue};
     ghost use Rattle.sb_views.specs.Rules.{IsKept};
@@ -31,32 +33,26 @@ impl Rule<Event, u64> for LengthRule {
     ghost moves = { λ ask before after answer. Unit {0} };
 }
 
-struct NoGain;
+/// One event is added.
+struct OneEvent;
 
-impl Gain<Event, u64> for NoGain {
-    ghost use base.Fml.{ftrue};
-
-    ghost after = { λ names about answer. ftrue };
-}
-
-struct AddEvent;
-
-impl Play<Event, u64> for AddEvent {
-    ghost use Rattle.sb_views.specs.Rules.{Adds};
-
-    ghost then = { Adds };
-}
-
-impl<'a> Plain<EventRef<'a>, Event, u64> for AddEvent {
-    ghost use Rattle.std.specs.Prelude.{None};
+impl<'a> Entries<EventRef<'a>, Event> for OneEvent {
+    ghost use Rattle.std.specs.Prelude.{[], ◌∷◌};
     ghost use Rattle.sb_views.specs.Histories.{event_of};
 
-    ghost ask = { λ event. event_of event };
-
-    ghost state = { λ event. None };
+    ghost entries = { λ event. event_of event ∷ [] };
 }
 
-/// Which running node it is, in proofs alone: its state when it was opened, its history, and how many seats it has.
+/// Nothing is added.
+struct NoEvent;
+
+impl Entries<(), Event> for NoEvent {
+    ghost use Rattle.std.specs.Prelude.{[]};
+
+    ghost entries = { λ nothing. [] };
+}
+
+/// Which running node it is. It exists in proofs alone: the node's state when it was opened, its history, and how many seats it has.
 pub trait NodeTag: Ledger {
     ghost use Rattle.std.specs.Prelude.{ℕ};
     ghost use Rattle.logbook.specs.Pages.{Book};
@@ -83,54 +79,39 @@ impl NodeTag for Brand {
 /// A history without events, which names no node yet.
 #[derive(Drop)]
 pub struct NewHistory {
-    head: Word<Event, u64, LengthRule>,
-    seen: Seen<Event, u64, LengthRule>,
+    pen: Pen,
+    seen: Seen<Event, (), LengthRule>,
     pub ghost empty: { seen.log ≡ [] },
-    pub ghost head_is: { head ≡ head_of seen.book },
+    pub ghost pen_is: { (pen.book ≡ seen.book) × (pen.nib ≡ nib may_make_home 0 0) },
 }
 
 impl NewHistory {
     /// A history without events. It takes no memory.
     pub fn new() -> NewHistory {
-        let (seen, mut first, _second) = Seen::open(Start::alone(), 0, 0);
-        NewHistory {
-            head: Word::tracked(0, &mut first),
-            seen,
-        }
+        let (seen, pen, _second) = Seen::open(Start::alone(), 0, 0);
+        NewHistory { pen, seen }
     }
 
-    /// The head of the history of the node that the tag names, and its empty prefix.
-    pub fn named<S: NodeTag>(self) -> (HistoryHead<S>, HistoryPrefix<S>)
+    /// The history of the node that the tag names, still without events.
+    pub fn named<S: NodeTag>(self) -> History<S>
         requires { self.seen.book ≡ S.history }
-        ensures { result.1 ≡ [] }
+        ensures { result ≡ [] }
     {
-        let NewHistory { head, seen } = self;
-        (
-            HistoryHead {
-                head,
-                of: PhantomData,
-            },
-            HistoryPrefix {
-                position: Position { events: 0, seen },
-                of: PhantomData,
-            },
-        )
+        let NewHistory { pen, seen } = self;
+        let position = Position { events: 0, seen };
+        let whole = HistoryPrefix {
+            position,
+            of: PhantomData,
+        };
+        History { pen, whole }
     }
-}
-
-/// The head of a history, which all threads share: how many events there are.
-#[derive(Drop)]
-pub struct HistoryHead<S: NodeTag> {
-    head: Word<Event, u64, LengthRule>,
-    of: PhantomData<S>,
-    ghost head_is: { head ≡ head_of S.history },
 }
 
 /// How far a prefix of some history goes: the number of its events at run time, and the events in proofs.
 #[derive(Drop)]
 pub struct Position {
     events: u64,
-    seen: Seen<Event, u64, LengthRule>,
+    seen: Seen<Event, (), LengthRule>,
 }
 
 impl Model for Position {
@@ -172,7 +153,7 @@ impl Position {
         self.events == other.events
     }
 
-    /// Whether the other has all the events of this one, and may be others behind them.
+    /// Whether the other has all the events of this one, and maybe more after them.
     pub(crate) fn is_prefix_of(&self, other: &Position) -> bool
         requires { other.now.book ≡ self.now.book }
         ensures { MatchBool result (IsPrefix self.now.events other.now.events) (IsLonger other.now.events self.now.events) }
@@ -182,7 +163,7 @@ impl Position {
         self.events <= other.events
     }
 
-    /// The longer of two prefixes of one history, of which the shorter is a prefix.
+    /// The longer of two prefixes of one history. The other is a prefix of it.
     pub(crate) fn longer(&self, other: &Position) -> Position
         requires { other.now.book ≡ self.now.book }
         ensures one { (result ≡ self.now) ⊎ (result ≡ other.now) }
@@ -239,8 +220,8 @@ impl<S: NodeTag> HistoryPrefix<S> {
         self.position.is_same(&other.position)
     }
 
-    /// Whether the other has all the events of this one, and may be others behind them. Where it has not, this one
-    /// goes on beyond the other.
+    /// Whether the other has all the events of this one, and maybe more after them. If not, this one goes on beyond the
+    /// other.
     pub fn is_prefix_of(&self, other: &HistoryPrefix<S>) -> bool
         ensures { MatchBool result (IsPrefix self.now other.now) (IsLonger other.now self.now) }
     {
@@ -268,44 +249,78 @@ impl<S: NodeTag> HistoryPrefix<S> {
         self.position = longer;
     }
 
-    /// Adds an event behind all events of this prefix, and says whether it did. It did not where the history is longer: then this
-    /// is a longer prefix of it, and nothing is added.
-    pub fn add(&mut self, history: &HistoryHead<S>, event: EventRef<'_>) -> bool
-        requires { length self.old < 2 ^ 64 - 1 }
-        ensures { MatchBool result (self.new ≡ self.old ++ event_of event.entry ∷ []) (IsLonger self.old self.new) }
+    /// Adds an event, by the right to set the length of the history.
+    fn grow(&mut self, pen: &mut Pen, event: EventRef<'_>)
+        requires pen { HasLength S.history pen.old (length self.old) }
+        requires room { length self.old < 2 ^ 64 - 1 }
+        ensures event { self.new ≡ self.old ++ event_of event.entry ∷ [] }
+        ensures pen { HasLength S.history pen.new (length self.new) }
     {
         let position = &mut self.position;
-        let mut offer: Offer<Event, u64, LengthRule, NoGain> = position
-            .seen
-            .plain::<NoGain, EventRef<'_>, AddEvent>(&event);
-        let found = exchange(
-            &history.head,
-            position.events,
-            &mut position.seen,
-            &mut offer,
-        );
-        let added = found == position.events;
-        position.events = if added { found + 1 } else { found };
-        added
+        record::<Event, (), LengthRule, EventRef<'_>, OneEvent>(pen, &mut position.seen, &event);
+        position.events += 1;
+    }
+
+    /// Shows the prover that another prefix begins this one, which is the whole history.
+    fn audit(&self, pen: &mut Pen, prefix: &HistoryPrefix<S>)
+        requires pen { HasLength S.history pen.old (length self.now) }
+        ensures begins { IsPrefix prefix.now self.now }
+        ensures pen { HasLength S.history pen.new (length self.now) }
+    {
+        let mut both = self.position.seen.again();
+        both.learn(&prefix.position.seen);
+        record::<Event, (), LengthRule, (), NoEvent>(pen, &mut both, &());
     }
 }
 
-// Adds what the offer asks for to all that was seen, unless there is more; gives the length that was found.
-fn exchange(
-    head: &Word<Event, u64, LengthRule>,
-    events: u64,
-    seen: &mut Seen<Event, u64, LengthRule>,
-    offer: &mut Offer<Event, u64, LengthRule, NoGain>,
-) -> u64
-    requires head { head.now ≡ head_of seen.old.book }
-    requires seen { events ≡ length seen.old.log }
-    requires room { events < 2 ^ 64 - 1 }
-    requires names { offer.old.names ≡ seen.old.names }
-    requires state { offer.old.state ≡ None }
-    ensures book { seen.new.book ≡ seen.old.book }
-    ensures begins { IsPrefix seen.old.log seen.new.log }
-    ensures found { MatchBool (result == events) (seen.new.log ≡ seen.old.log ++ offer.old.ask ∷ []) (length seen.new.log ≡ result) }
-{
-    let mut pen = seen.no_pen();
-    head.compare_exchange::<AddEvent, NoGain>(events, events + 1, seen, offer, &mut pen)
+/// The whole history of the node that the tag names. It can't be copied, and only its owner adds events. Contracts see it as its
+/// events.
+#[derive(Drop)]
+pub struct History<S: NodeTag> {
+    pen: Pen,
+    whole: HistoryPrefix<S>,
+}
+
+impl<S: NodeTag> Model for History<S> {
+    ghost use Rattle.std.specs.Prelude.{List, length};
+    ghost use Rattle.sb_views.specs.declared.event.Event.{Event};
+    ghost use Rattle.sb_views.specs.Rules.{HasLength};
+
+    ghost Value = { List Event };
+
+    ghost view = { λ h. h.whole };
+
+    ghost invariant = { λ h. HasLength S.history h.pen (length h.whole) };
+}
+
+impl<S: NodeTag> History<S> {
+    /// How many events it has.
+    pub fn len(&self) -> u64
+        ensures { result ≡ length self.now }
+    {
+        self.whole.len()
+    }
+
+    /// All events so far, as a prefix.
+    pub fn prefix(&self) -> &HistoryPrefix<S>
+        ensures { result.now ≡ self.now }
+    {
+        &self.whole
+    }
+
+    /// Adds an event after all others.
+    pub fn add(&mut self, event: EventRef<'_>)
+        requires { length self.old < 2 ^ 64 - 1 }
+        ensures { self.new ≡ self.old ++ event_of event.entry ∷ [] }
+    {
+        self.whole.grow(&mut self.pen, event);
+    }
+
+    /// Shows the prover that the history begins with a prefix. It does nothing at run time.
+    pub fn audit(&mut self, prefix: &HistoryPrefix<S>)
+        ensures begins { IsPrefix prefix.now self.old }
+        ensures same { self.new ≡ self.old }
+    {
+        self.whole.audit(&mut self.pen, prefix);
+    }
 }

@@ -27,6 +27,7 @@ mod opening;
 mod owner_view;
 mod owner_views;
 mod reader;
+mod recording;
 mod rows;
 mod rule;
 mod snapshot;
@@ -36,7 +37,7 @@ mod writer;
 pub use batch::Batch;
 pub use change::{Change, ChangeRef};
 pub use event::{Event, EventRef};
-pub use history::{HistoryHead, HistoryPrefix, NewHistory, NodeTag, Position};
+pub use history::{History, HistoryPrefix, NewHistory, NodeTag, Position};
 pub use laws::{
     new_changes_lead, own_writes_lead, rows_ascend, tables_grow, views_show_what_is_held,
 };

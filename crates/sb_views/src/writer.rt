@@ -18,30 +18,31 @@ use std::collections::VecDeque;
 use std::marker::Model;
 use std::sync::Wait;
 
-/// The one writer of the views of a node. Contracts see it as two prefixes of the history: `published`, whose view readers get when
-/// they enter, and `queued`, whose view they get once all that is queued is published.
+/// The one writer of the views of a node. Contracts see it as two prefixes of the history. Readers who enter get the view of
+/// `published`. They get that of `queued` once all that is queued is published.
 pub struct ViewWriter<S: NodeTag, R: Wait + Drop> {
     writer: Writer<ViewCopy, Operation, u64, ViewRule<S>>,
     // What is appended and not yet handed to the writer, so that no reader meets a part of a batch.
     queue: VecDeque<Operation>,
+    published: HistoryPrefix<S>,
     queued: HistoryPrefix<S>,
     rt: R,
 }
 
 impl<S: NodeTag, R: Wait + Drop> Model for ViewWriter<S, R> {
-    ghost use Rattle.std.specs.Prelude.{◌++◌, drop, fold};
+    ghost use Rattle.std.specs.Prelude.{◌≡◌, ◌++◌, drop, fold};
     ghost use Rattle.sb_views.specs.Operations.{after_operation};
     ghost use Rattle.sb_views.specs.Publishing as spec;
 
     ghost Value = { spec.Views };
 
-    ghost view = { λ w. record { published = w.writer.desk.shown.value.position.events; queued = w.queued } };
+    ghost view = { λ w. record { published = w.published; queued = w.queued } };
 
-    ghost invariant = { λ w. spec.IsQueued S.history S.opening w.queued w.writer.desk.shown.value
+    ghost invariant = { λ w. (w.writer.desk.shown.value.position.events ≡ w.published) × spec.IsQueued S.history S.opening w.queued w.writer.desk.shown.value
         (fold after_operation w.writer.desk.shown.value (drop w.writer.behind w.writer.log.items ++ w.queue.items)) };
 }
 
-/// Hands all that is queued to the writer, or as much as there is memory for.
+/// Hands all that is queued to the writer, or as much as memory allows.
 fn hand_over<S: NodeTag>(
     writer: &mut Writer<ViewCopy, Operation, u64, ViewRule<S>>,
     queue: &mut VecDeque<Operation>,
@@ -59,7 +60,7 @@ fn hand_over<S: NodeTag>(
     Ok(())
 }
 
-/// Queues operations and then how far they lead, or nothing where there is no memory for all.
+/// Queues operations and then how far they lead. If there is no memory for all, it queues nothing.
 fn queue_all(
     queue: &mut VecDeque<Operation>,
     steps: &mut VecDeque<Operation>,
@@ -73,6 +74,20 @@ fn queue_all(
     queue.append(steps)?;
     queue.push_back_reserved(Operation::Reach(position.copy()));
     Ok(())
+}
+
+/// The prefix that is published after a publish that ended so.
+fn prefix_after<S: NodeTag>(
+    end: &Result<(), AllocError>,
+    published: HistoryPrefix<S>,
+    queued: &HistoryPrefix<S>,
+) -> HistoryPrefix<S>
+    ensures { MatchResult end.now (λ _. result ≡ queued.now) (λ _. result ≡ published) }
+{
+    match end {
+        Ok(()) => queued.copy(),
+        Err(_) => published,
+    }
 }
 
 impl<S: NodeTag, R: Wait + Drop> ViewWriter<S, R> {
@@ -97,6 +112,7 @@ impl<S: NodeTag, R: Wait + Drop> ViewWriter<S, R> {
             Ok(writer) => Ok(ViewWriter {
                 writer,
                 queue: VecDeque::new(alloc),
+                published: start.copy(),
                 queued: start,
                 rt,
             }),
@@ -130,7 +146,7 @@ impl<S: NodeTag, R: Wait + Drop> ViewWriter<S, R> {
     }
 
     /// Queues a batch, which leads from the view of what is queued to that of the events up to `upto`. Readers see nothing of
-    /// it until it is published. Where memory is wanting the batch comes back and nothing changes.
+    /// it until it is published. If memory is wanting, it gives the batch back, and nothing changes.
     pub fn append(&mut self, batch: Batch, upto: &HistoryPrefix<S>) -> Result<(), Batch>
         requires begins { IsPrefix self.old.queued upto.now }
         requires leads { Leads (node_after S.opening self.old.queued).held (node_after S.opening upto.now).held batch }
@@ -146,47 +162,59 @@ impl<S: NodeTag, R: Wait + Drop> ViewWriter<S, R> {
         }
     }
 
-    fn published(self) -> (ViewWriter<S, R>, Result<(), AllocError>)
+    /// The events that are published.
+    pub fn published_prefix(&self) -> &HistoryPrefix<S>
+        ensures { result.now ≡ self.now.published }
+    {
+        &self.published
+    }
+
+    /// The events that are published once all that is queued is published.
+    pub fn queued_prefix(&self) -> &HistoryPrefix<S>
+        ensures { result.now ≡ self.now.queued }
+    {
+        &self.queued
+    }
+
+    fn publish_queue(self) -> (ViewWriter<S, R>, Result<(), AllocError>)
         ensures { MatchResult result.1 (λ _. result.0 ≡ record { published = self.queued; queued = self.queued }) (λ _. result.0 ≡ self) }
     {
         let ViewWriter {
             mut writer,
             mut queue,
+            published,
             queued,
             rt,
         } = self;
-        match hand_over(&mut writer, &mut queue) {
-            Ok(()) => {
-                let (writer, end) = writer.publish_as::<PublishOutcome, R>(&rt);
-                (
-                    ViewWriter {
-                        writer,
-                        queue,
-                        queued,
-                        rt,
-                    },
-                    end,
-                )
-            }
-            Err(fault) => (
-                ViewWriter {
-                    writer,
-                    queue,
-                    queued,
-                    rt,
-                },
-                Err(fault),
-            ),
+        if let Err(fault) = hand_over(&mut writer, &mut queue) {
+            let writer = ViewWriter {
+                writer,
+                queue,
+                published,
+                queued,
+                rt,
+            };
+            return (writer, Err(fault));
         }
+        let (writer, end) = writer.publish_as::<PublishOutcome, R>(&rt);
+        let published = prefix_after(&end, published, &queued);
+        let writer = ViewWriter {
+            writer,
+            queue,
+            published,
+            queued,
+            rt,
+        };
+        (writer, end)
     }
 
     /// Publishes all that is queued. It waits for those that still read what was published before the last time.
-    /// `NoMemory`, where neither what is published nor what is queued changes.
+    /// `NoMemory`, which changes neither what is published nor what is queued.
     pub fn publish(&mut self) -> Result<(), Fault>
         ensures end { MatchResult result (λ _. self.new ≡ record { published = self.old.queued; queued = self.old.queued }) (λ _. self.new ≡ self.old) }
         ensures memory { IfErr result (λ fault. fault ≡ Fault.NoMemory) }
     {
-        match replace_with(self, (), |writer, _| writer.published()) {
+        match replace_with(self, (), |writer, _| writer.publish_queue()) {
             Ok(()) => Ok(()),
             Err(_) => Err(Fault::NoMemory),
         }
@@ -198,7 +226,8 @@ impl<S: NodeTag, R: Wait + Drop> Drop for ViewWriter<S, R> {
         let Self {
             writer,
             queue: _queue,
-            queued: _ready,
+            published: _published,
+            queued: _queued,
             rt,
         } = self;
         drop(writer.take(&rt));

@@ -13,8 +13,7 @@ use sb_holdings::Holdings;
 use sb_table::Table;
 use sb_types::{Block, Entry, Fault, Name};
 use sb_views::{
-    Batch, Change, EventRef, HistoryHead, HistoryPrefix, NewHistory, NodeTag, Snapshot, ViewWriter,
-    views,
+    Batch, Change, EventRef, History, NewHistory, NodeTag, Snapshot, ViewWriter, views,
 };
 use std::alloc::Global;
 use std::marker::Brand;
@@ -81,12 +80,13 @@ fn publish_first<S: NodeTag, R: Wait + Abort>(
     requires first { entry.version ≡ 1 }
 {
     let key = *entry.key();
-    let (head, start) = new_history.named::<S>();
-    let (mut writer, mut readers) = match views::<S, &R>(alloc, rt, start.copy(), holdings, 2) {
+    let history = new_history.named::<S>();
+    let start = history.prefix().copy();
+    let (mut writer, mut readers) = match views::<S, &R>(alloc, rt, start, holdings, 2) {
         Ok(made) => made,
         Err(fault) => panic!(rt; "error: {fault:?}"),
     };
-    append_anew(rt, alloc, &head, start, &mut writer, holdings, entry);
+    append_anew(rt, alloc, history, &mut writer, holdings, entry);
     let reader = there(rt, readers.pop());
     look_around(rt, &mut writer, reader, holdings.me(), &key)
 }
@@ -106,28 +106,24 @@ fn push_anew(batch: &mut Batch, owner: Name, entry: Entry) -> Result<(), Fault>
 fn append_anew<S: NodeTag, R: Wait + Abort>(
     rt: &R,
     alloc: Global,
-    head: &HistoryHead<S>,
-    mut upto: HistoryPrefix<S>,
+    mut history: History<S>,
     writer: &mut ViewWriter<S, &R>,
     holdings: &Holdings,
     entry: Entry,
 )
-    requires start { upto ≡ [] }
+    requires start { history ≡ [] }
     requires queued { writer.old.queued ≡ [] }
     requires opening { S.opening.held ≡ holdings.now }
     requires nothing { (shown_of holdings.now holdings.now.me).held ≡ 0 }
     requires first { entry.version ≡ 1 }
 {
-    let added = upto.add(head, EventRef::TookOwn(&entry));
+    history.add(EventRef::TookOwn(&entry));
     let mut batch = Batch::new(alloc);
     match push_anew(&mut batch, *holdings.me(), entry) {
         Ok(()) => {}
         Err(fault) => panic!(rt; "error: {fault:?}"),
     }
-    if !added {
-        panic!(rt; "error: a write is not added");
-    }
-    if writer.append(batch, &upto).is_err() {
+    if writer.append(batch, history.prefix()).is_err() {
         panic!(rt; "error: NoMemory");
     }
 }

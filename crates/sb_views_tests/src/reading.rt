@@ -47,7 +47,7 @@ fn read_on<S: NodeTag, R: Wait + Abort>(
     requires history { new_history.seen.book ≡ S.history }
     requires opening { S.opening.held ≡ holdings.now }
 {
-    let (_head, start) = new_history.named::<S>();
+    let start = new_history.named::<S>().prefix().copy();
     let (_writer, mut readers) = got(rt, views::<S, &R>(alloc, rt, start, holdings, 1));
     look_at(rt, alloc, &entered(rt, there(rt, readers.pop())), look);
 }

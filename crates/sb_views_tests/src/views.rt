@@ -1,4 +1,4 @@
-//! Views after a run of writes, and a write that is shown when it is published.
+//! Pages by a run of writes, and a write that is shown once it is published.
 
 ghost use Rattle.std.specs.Prelude.{◌≡◌, ◌+◌, []};
 ghost use Rattle.sb_holdings.specs.Held.{shown_of};
@@ -9,15 +9,15 @@ use crate::{got, holds, same, there};
 use sb_holdings::{BlockEnd, Holdings, Report};
 use sb_types::{Block, Delta, Entry, Key, Name, Value, ValueRef};
 use sb_views::{
-    Batch, EventRef, HistoryHead, HistoryPrefix, LiveRow, LiveRows, NewHistory, NodeTag, OwnerView,
-    Reader, Snapshot, ViewWriter, views,
+    Batch, EventRef, History, LiveRow, LiveRows, NewHistory, NodeTag, OwnerView, Reader, Snapshot,
+    ViewWriter, views,
 };
 use std::alloc::Global;
 use std::marker::Brand;
 use std::process::Abort;
 use std::sync::Wait;
 
-// A write of a weight, or a removal if there is none.
+// A write of a weight, or its removal where there is none.
 #[derive(Clone, Copy)]
 pub(crate) struct Case {
     key: &'static [u8],
@@ -69,12 +69,12 @@ fn block_of_b(rt: &impl Abort, alloc: Global) -> Block {
     got(rt, Block::new(name(rt, b"b"), 0, 0, OF_B.version, entries))
 }
 
-/// Enters a write of the node.
+/// A write of the node is entered.
 fn enter(rt: &impl Abort, holdings: &mut Holdings, case: Case) {
     got(rt, holdings.push_own(entry_of(rt, case)));
 }
 
-/// What the node a holds after it took the write of b and made its own writes, except the removal.
+/// What the node a holds once it took the write of b and made its own but the removal.
 fn before_removal(rt: &impl Abort, alloc: Global) -> Holdings {
     let mut holdings = holdings_of_a(rt, alloc);
     apply(rt, &mut holdings, &block_of_b(rt, alloc));
@@ -84,7 +84,7 @@ fn before_removal(rt: &impl Abort, alloc: Global) -> Holdings {
     holdings
 }
 
-/// What it holds after the removal.
+/// What it holds behind the removal.
 pub(crate) fn all_written(rt: &impl Abort, alloc: Global) -> Holdings {
     let mut holdings = before_removal(rt, alloc);
     enter(rt, &mut holdings, NET_B_REMOVED);
@@ -108,12 +108,12 @@ fn shown_under(snapshot: &Snapshot<'_>, owner: &Name, key: &Key) -> KeyFindings 
     (snapshot.upto(owner), weight_of(snapshot.get(owner, key)))
 }
 
-/// Tests how far an owner is shown.
+/// An owner is shown so far.
 pub(crate) fn is_upto(rt: &impl Abort, snapshot: &Snapshot<'_>, owner: &[u8], upto: u64) {
     same(rt, &snapshot.upto(&name(rt, owner)), &upto);
 }
 
-/// Tests that this weight and its version are under an owner's key.
+/// This weight and its version stand under an owner's key.
 pub(crate) fn is_found(
     rt: &impl Abort,
     snapshot: &Snapshot<'_>,
@@ -125,7 +125,7 @@ pub(crate) fn is_found(
     same(rt, &weight_of(snapshot.get(&owner, &key)), &found);
 }
 
-/// Tests how far each owner is shown, and what is under keys.
+/// How far each owner is shown, and what stands under keys.
 fn keys_are_shown(rt: &impl Abort, snapshot: &Snapshot<'_>) {
     is_upto(rt, snapshot, b"a", 4);
     is_upto(rt, snapshot, b"b", 1);
@@ -171,8 +171,7 @@ fn are_rows(mut rows: LiveRows<'_>, wanted: &[RowVersion]) -> bool {
     rows.next().is_none()
 }
 
-/// Tests that just these rows of an owner come under a prefix, in order. If the text of the owner is empty, they are
-/// those of all owners.
+/// Just these rows of an owner come under a prefix, in order; of all owners where none is named.
 fn rows_are(
     rt: &impl Abort,
     snapshot: &Snapshot<'_>,
@@ -184,7 +183,7 @@ fn rows_are(
     holds(rt, "its rows come in order", are_rows(rows, wanted));
 }
 
-/// Tests the rows for each question.
+/// The rows of each that is asked.
 fn rows_come_in_order(rt: &impl Abort, snapshot: &Snapshot<'_>) {
     rows_are(rt, snapshot, b"", b"", &OF_ALL);
     rows_are(rt, snapshot, b"", b"net/", &UNDER_NET);
@@ -210,7 +209,7 @@ fn is_owner(found: Option<(&Name, &OwnerView)>, wanted: OwnerParts) -> bool {
     }
 }
 
-/// Tests that the view of each owner that the node holds comes once, in order.
+/// The view of each owner of whom something is held comes once, in order.
 fn owners_come_in_order(rt: &impl Abort, snapshot: &Snapshot<'_>) {
     let mut owners = snapshot.owners();
     holds(rt, "the view of a", is_owner(owners.next(), OWNER_A));
@@ -244,10 +243,10 @@ fn a_removal_is_shown_once_published(rt: HostRuntime) {
     same(&rt, &seen, &[((3, Some((1, 1))), 0), ((4, None), 1)]);
 }
 
-/// What a reader sees of a key, and how many events it has seen.
+/// What a reader sees of a key, and of how many events.
 pub(crate) type ReaderFindings = (KeyFindings, u64);
 
-/// What a reader sees under the key of the next write, before it is published and after that.
+/// What is seen under the key of a write behind what is held, before it is published and then.
 fn publish_behind<R: Wait + Abort>(
     rt: &R,
     alloc: Global,
@@ -274,12 +273,13 @@ fn publish_one<S: NodeTag, R: Wait + Abort>(
     requires next { entry.version ≡ (shown_of holdings.now holdings.now.me).held + 1 }
 {
     let key = *entry.key();
-    let (head, start) = new_history.named::<S>();
-    let (mut writer, mut readers) = match views::<S, &R>(alloc, rt, start.copy(), holdings, 2) {
+    let history = new_history.named::<S>();
+    let start = history.prefix().copy();
+    let (mut writer, mut readers) = match views::<S, &R>(alloc, rt, start, holdings, 2) {
         Ok(made) => made,
         Err(fault) => panic!(rt; "error: {fault:?}"),
     };
-    append_own(rt, alloc, &head, start, &mut writer, holdings, entry);
+    append_own(rt, alloc, history, &mut writer, holdings, entry);
     let reader = there(rt, readers.pop());
     look_around(rt, &mut writer, reader, holdings.me(), &key)
 }
@@ -288,32 +288,28 @@ fn publish_one<S: NodeTag, R: Wait + Abort>(
 fn append_own<S: NodeTag, R: Wait + Abort>(
     rt: &R,
     alloc: Global,
-    head: &HistoryHead<S>,
-    mut upto: HistoryPrefix<S>,
+    mut history: History<S>,
     writer: &mut ViewWriter<S, &R>,
     holdings: &Holdings,
     entry: Entry,
 )
-    requires start { upto ≡ [] }
+    requires start { history ≡ [] }
     requires queued { writer.old.queued ≡ [] }
     requires opening { S.opening.held ≡ holdings.now }
     requires next { entry.version ≡ (shown_of holdings.now holdings.now.me).held + 1 }
 {
-    let added = upto.add(head, EventRef::TookOwn(&entry));
+    history.add(EventRef::TookOwn(&entry));
     let mut batch = Batch::new(alloc);
     match batch.push(*holdings.me(), entry) {
         Ok(()) => {}
         Err(fault) => panic!(rt; "error: {fault:?}"),
     }
-    if !added {
-        panic!(rt; "error: a write is not added");
-    }
-    if writer.append(batch, &upto).is_err() {
+    if writer.append(batch, history.prefix()).is_err() {
         panic!(rt; "error: NoMemory");
     }
 }
 
-/// What a reader sees before all is published, and after that.
+/// What a reader sees before all is published, and then.
 pub(crate) fn look_around<S: NodeTag, R: Wait + Abort>(
     rt: &R,
     writer: &mut ViewWriter<S, &R>,
@@ -340,10 +336,10 @@ fn look_once<S: NodeTag>(
 }
 
 #[test]
-fn events_are_added_behind_others(rt: HostRuntime) {
+fn a_history_grows_and_its_prefixes_stay(rt: HostRuntime) {
     let events = events_to_add(&rt, rt.alloc());
-    let (added, counts) = add_events::<Brand>(NewHistory::new(), &events);
-    same(&rt, &added, &[(true, false), (false, true), (true, false)]);
+    let (are_whole, counts) = add_events::<Brand>(NewHistory::new(), &events);
+    same(&rt, &are_whole, &[false, false, true]);
     same(&rt, &counts, &(0, 1, 2));
 }
 
@@ -369,45 +365,23 @@ fn events_to_add(rt: &impl Abort, alloc: Global) -> Events {
     }
 }
 
-/// Whether an event was added, and whether the history is then the same as another.
-type Added = (bool, bool);
-
-/// Adds the own write to two prefixes, and the delta to the second. Returns what came of each, and then how many events
-/// the first history and these two have.
-fn add_events<S: NodeTag>(new_history: NewHistory, events: &Events) -> ([Added; 3], (u64, u64, u64))
+/// Which of the prefixes before, between and after two events is the whole history then, and how many events each has.
+fn add_events<S: NodeTag>(new_history: NewHistory, events: &Events) -> ([bool; 3], (u64, u64, u64))
     requires { new_history.seen.book ≡ S.history }
 {
-    let (head, start) = new_history.named::<S>();
-    let (mut one, mut two) = (start.copy(), start.copy());
-    let first = add_write(&head, &mut one, &start, &events.own);
-    let again = add_write(&head, &mut two, &one, &events.own);
-    let applied = add_delta(&head, &mut two, &one, events);
-    let counts = (start.len(), one.len(), two.len());
-    ([first, again, applied], counts)
-}
-
-fn add_write<S: NodeTag>(
-    head: &HistoryHead<S>,
-    history: &mut HistoryPrefix<S>,
-    other: &HistoryPrefix<S>,
-    entry: &Entry,
-) -> Added
-    requires { history.old ≡ [] }
-{
+    let mut history = new_history.named::<S>();
+    let before = history.prefix().copy();
+    history.add(EventRef::TookOwn(&events.own));
+    let between = history.prefix().copy();
+    history.add(EventRef::Applied(&events.delta, &events.ends));
+    history.audit(&between);
+    let after = history.prefix();
     (
-        history.add(head, EventRef::TookOwn(entry)),
-        history.is_same(other),
+        [
+            before.is_same(after),
+            between.is_same(after),
+            after.is_same(after),
+        ],
+        (before.len(), between.len(), history.len()),
     )
-}
-
-/// Adds nothing unless there is just one event.
-fn add_delta<S: NodeTag>(
-    head: &HistoryHead<S>,
-    history: &mut HistoryPrefix<S>,
-    other: &HistoryPrefix<S>,
-    events: &Events,
-) -> Added {
-    let added = history.len() == 1
-        && history.add(head, EventRef::Applied(&events.delta, &events.ends));
-    (added, history.is_same(other))
 }

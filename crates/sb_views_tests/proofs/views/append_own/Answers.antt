@@ -9,10 +9,10 @@ use Rattle.sb_views_tests.proofs.views.append_own.Goals as goal
 pub append-requires-clause-leads : goal.append-requires-clause-leads
 append-requires-clause-leads g c =
     let entry = c.args.entry in
-    let upto : c.add-added.new.self ≡ TookOwn entry ∷ [] =
-    c.if-not-added.ensures ∙ ap (λ (l : List Event). l ++ TookOwn entry ∷ []) c.requires.start in
+    let upto : c.prefix.result.now ≡ TookOwn entry ∷ [] =
+    c.prefix.ensures ∙ c.add.ensures ∙ ap (λ (l : List Event). l ++ TookOwn entry ∷ []) c.requires.start in
     let batch : c.push.new.self ≡ (c.args.holdings.now.me, Enter entry) ∷ [] =
     c.in-Ok.ensures.ok ∙ ap (λ (b : List (List ℕ × Change)). b ++ (c.me.result.now, Enter entry) ∷ []) c.new-batch.ensures
     ∙ ap (λ (o : List ℕ). (o, Enter entry) ∷ []) c.me.ensures.name in
-    first-leads g.S.NodeTag.opening c.args.holdings.now entry c.args.writer.now.queued c.add-added.new.self c.push.new.self
+    first-leads g.S.NodeTag.opening c.args.holdings.now entry c.args.writer.now.queued c.prefix.result.now c.push.new.self
     c.requires.opening c.requires.next c.requires.queued upto batch

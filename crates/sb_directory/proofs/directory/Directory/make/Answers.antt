@@ -5,4 +5,4 @@ use Rattle.sb_directory.proofs.Sharing.{all-new}
 use Rattle.sb_directory.proofs.directory.Directory.make.Goals as goal
 
 pub returns-clause-seats : goal.returns-clause-seats
-returns-clause-seats g c = c.in_ok-made.ensures.seats ∙ ap (λ (seen : List (List Event)). map new_seat seen) c.in_ok-node.ensures.readers ∙ all-new c.args.seats
+returns-clause-seats g c = c.in_ok-made.ensures.seats ∙ ap (λ (seen : List (List Event)). map new_seat seen) c.in_ok-writer.ensures.readers ∙ all-new c.args.seats

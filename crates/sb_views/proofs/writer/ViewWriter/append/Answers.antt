@@ -30,6 +30,8 @@ invariant_of-self g c =
     subst (λ (l : List Event). Leads (node_after opening l).held (node_after opening upto).held (changes_of operations)) same changes in
     let is_queued : dropped ++ c.queue_all.new.queue.items ≡ (dropped ++ queue) ++ (operations ++ Reach position ∷ []) =
     ap (λ (q : List Operation). dropped ++ q) (c.in-Ok.ensures ∙ ap (λ (m : Position). queue ++ (operations ++ Reach m ∷ [])) c.position.ensures)
-    ∙ sym (append_assoc dropped queue (operations ++ Reach position ∷ [])) in
-    subst (λ (l : List Event). IsQueued history opening l shown (fold after_operation shown (dropped ++ c.queue_all.new.queue.items))) (sym c.copy.ensures)
-    (appended history opening queued upto shown (dropped ++ queue) operations c.self.invariant c.into_operations-steps.ensures.alone begins leads (dropped ++ c.queue_all.new.queue.items) is_queued)
+    ∙ sym (append_assoc dropped queue (operations ++ Reach position ∷ [])) in (
+      c.self.invariant.0,
+      subst (λ (l : List Event). IsQueued history opening l shown (fold after_operation shown (dropped ++ c.queue_all.new.queue.items))) (sym c.copy.ensures)
+          (appended history opening queued upto shown (dropped ++ queue) operations c.self.invariant.1 c.into_operations-steps.ensures.alone begins leads (dropped ++ c.queue_all.new.queue.items) is_queued),
+    )

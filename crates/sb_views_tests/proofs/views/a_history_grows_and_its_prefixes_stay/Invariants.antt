@@ -1,6 +1,6 @@
 use Rattle.std.specs.Prelude.{None, []}
 use Rattle.std.specs.FinMap.{empty}
-use Rattle.sb_views_tests.proofs.views.events_are_added_behind_others.Given as goal
+use Rattle.sb_views_tests.proofs.views.a_history_grows_and_its_prefixes_stay.Given as goal
 
 abbrev pub ghosts-add_events-S-Ledger : goal.ghosts-add_events-S-Ledger
 ghosts-add_events-S-Ledger g a = record { name = 0; parts = 0 }
