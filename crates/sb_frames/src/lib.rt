@@ -20,6 +20,7 @@
 //! ```
 #![tactic(auto)]
 
+mod connection;
 mod frames;
 mod front;
 mod last_read;
@@ -29,6 +30,7 @@ mod receiving;
 mod sending;
 mod steps;
 
+pub use connection::Connection;
 pub use frames::{Frames, READ_LENGTH};
 pub use last_read::LastRead;
 pub use last_write::LastWrite;

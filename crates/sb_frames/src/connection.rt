@@ -1,0 +1,147 @@
+//! A connection: messages out of a reader, and messages onto a writer.
+
+ghost use Rattle.std.specs.Prelude.{◌≡◌, ◌+◌, ◌*◌, ◌<◌, false, length, IfOk, IfSome};
+ghost use Rattle.sb_frames.specs.Frames.{frame};
+ghost use Rattle.sb_frames.specs.Receiving.{held_of, OnlyWhereReadFailed};
+ghost use Rattle.sb_frames.specs.Sending.{Sends, has_failed, OnlyWhereFailed};
+ghost use Rattle.sb_frames.specs.Connections.{new_connection, Starts, KeepsInput, KeepsOutput, ReceivesOn};
+ghost use Rattle.sb_frames.specs.declared.frames.TheConstants.{READ_LENGTH};
+
+use crate::frames::Frames;
+use crate::last_read::LastRead;
+use crate::last_write::LastWrite;
+use crate::receiving::receive_within;
+use crate::sending::send_on;
+use crate::steps::Steps;
+use sb_codec::Message;
+use sb_types::Fault;
+use std::alloc::Global;
+use std::io::{Read, Write};
+use std::marker::Model;
+use std::sync::ledger::Ledger;
+
+/// Both ways of a stream of messages.
+#[derive(Drop)]
+pub struct Connection<R: Read, W: Write, L: Ledger> {
+    reader: R,
+    writer: W,
+    frames: Frames,
+    /// The frame that was written last. Its memory is used again.
+    buffer: Vec<u8>,
+    /// How many reads may still be made.
+    left: u64,
+    steps: Steps<L>,
+    last_read: LastRead,
+    last_write: LastWrite,
+}
+
+impl<R: Read, W: Write, L: Ledger> Model for Connection<R, W, L> {
+    ghost use Rattle.sb_frames.specs.Connections as connections;
+
+    ghost Value = { connections.Connection };
+
+    ghost view = { λ c. record {
+        input = R.remaining c.reader;
+        output = W.contents c.writer;
+        stream = c.frames;
+        left = c.left;
+        steps = c.steps;
+        read_failed = c.last_read;
+        last_write = c.last_write;
+    } };
+}
+
+impl<R: Read, W: Write, L: Ledger> Connection<R, W, L> {
+    /// A connection of which nothing was read, and which may make so many reads. It takes no memory.
+    pub fn new(
+        alloc: Global,
+        reader: R,
+        writer: W,
+        max_reads: u64,
+        steps: Steps<L>,
+    ) -> Connection<R, W, L>
+        ensures { result ≡ new_connection (R.remaining reader) (W.contents writer) max_reads steps }
+    {
+        Connection {
+            reader,
+            writer,
+            frames: Frames::new(alloc),
+            buffer: Vec::new(alloc),
+            left: max_reads,
+            steps,
+            last_read: LastRead::new(),
+            last_write: LastWrite::new(),
+        }
+    }
+
+    /// Starts a talk. From now on the connection says of no read and no write that was made before that it failed. What is
+    /// held and the reads that are left stay. `Closed` after a faulty frame, with nothing changed.
+    pub fn start(&mut self) -> Result<(), Fault>
+        ensures { Starts self.old result self.new }
+    {
+        if self.frames.is_shut() {
+            return Err(Fault::Closed);
+        }
+        self.last_read = LastRead::new();
+        self.last_write = LastWrite::new();
+        Ok(())
+    }
+
+    /// Writes the message's frame.
+    pub fn send(&mut self, message: &Message) -> Result<(), Fault>
+        requires goes_on { has_failed self.old.last_write ≡ false }
+        ensures sends { Sends self.old.output self.new.output (frame message.now) result }
+        ensures failed { OnlyWhereFailed result self.new.last_write }
+        ensures goes_on { IfOk result (λ _. has_failed self.new.last_write ≡ false) }
+        ensures kept { KeepsInput self.old self.new }
+    {
+        send_on(
+            &mut self.buffer,
+            &mut self.writer,
+            message,
+            &mut self.last_write,
+        )
+    }
+
+    /// The next message.
+    pub fn receive(&mut self) -> Result<Option<Message>, Fault>
+        ensures gives { ReceivesOn self.old self.new result }
+        ensures counted { self.new.steps + self.new.left ≡ self.old.steps + self.old.left }
+        // What is held and what may still be read grows less with each message.
+        ensures goes { IfOk result (λ found. IfSome found (λ _.
+            length (held_of self.new.stream) + READ_LENGTH * self.new.left < length (held_of self.old.stream) + READ_LENGTH * self.old.left)) }
+        // A read that was interrupted, or that was made before the call, is no reason to stop.
+        ensures failed { OnlyWhereReadFailed result self.new.read_failed }
+        ensures kept { KeepsOutput self.old self.new }
+    {
+        receive_within(
+            &mut self.reader,
+            &mut self.frames,
+            &mut self.left,
+            &mut self.steps,
+            &mut self.last_read,
+        )
+    }
+
+    /// Whether the last read failed.
+    pub fn has_read_failed(&self) -> bool
+        ensures { result ≡ self.now.read_failed }
+    {
+        self.last_read.has_failed()
+    }
+
+    /// Whether the last write failed.
+    pub fn has_write_failed(&self) -> bool
+        ensures { result ≡ has_failed self.now.last_write }
+    {
+        self.last_write.has_failed()
+    }
+
+    /// The reader and the writer.
+    pub fn into_parts(self) -> (R, W)
+        ensures input { R.remaining result.0 ≡ self.input }
+        ensures output { W.contents result.1 ≡ self.output }
+    {
+        (self.reader, self.writer)
+    }
+}
