@@ -20,13 +20,24 @@ use std::io::{Read, Write};
 use std::marker::Model;
 use std::sync::ledger::Ledger;
 
-/// Both ways of a stream of messages.
+/// A reader and a writer of messages, which are often the two ways of one stream, and all that is kept from one message to the
+/// next.
+///
+/// ```
+/// let mut connection = Connection::new(alloc, b"".as_slice(), Vec::new(alloc), 1, steps);
+/// connection.send(&bye)?;
+/// let is_over = connection.receive()?.is_none();
+/// let (_, sent) = connection.into_parts();
+/// assert!(is_over && sent.as_slice() == b"\xa7\x03\x00\x00\x00\x02\x04\x01");
+/// ```
+///
+/// The test `the_example_of_connections` runs these lines.
 #[derive(Drop)]
 pub struct Connection<R: Read, W: Write, L: Ledger> {
     reader: R,
     writer: W,
     frames: Frames,
-    /// The frame that was written last. Its memory is used again.
+    /// The frame that was written last; the next one takes its memory.
     buffer: Vec<u8>,
     /// How many reads may still be made.
     left: u64,
@@ -52,7 +63,8 @@ impl<R: Read, W: Write, L: Ledger> Model for Connection<R, W, L> {
 }
 
 impl<R: Read, W: Write, L: Ledger> Connection<R, W, L> {
-    /// A connection of which nothing was read, and which may make so many reads. It takes no memory.
+    /// A connection over a reader and a writer, which makes at most `max_reads` reads in all. It has read and written nothing
+    /// yet. It takes no memory.
     pub fn new(
         alloc: Global,
         reader: R,
@@ -74,8 +86,8 @@ impl<R: Read, W: Write, L: Ledger> Connection<R, W, L> {
         }
     }
 
-    /// Starts a talk. From now on the connection says of no read and no write that was made before that it failed. What is
-    /// held and the reads that are left stay. `Closed` after a faulty frame, with nothing changed.
+    /// Starts a talk: the connection forgets whether its last read and its last write failed. It keeps the bytes that it holds,
+    /// and the reads that are left. `Closed` after a faulty frame, with nothing changed.
     pub fn start(&mut self) -> Result<(), Fault>
         ensures { Starts self.old result self.new }
     {
@@ -87,7 +99,9 @@ impl<R: Read, W: Write, L: Ledger> Connection<R, W, L> {
         Ok(())
     }
 
-    /// Writes the message's frame.
+    /// Writes the message's frame, after a write that did not fail. It takes memory only if the frame is longer than each one
+    /// before. `NoMemory`, with nothing written; `WriteFailed` with how many bytes of the frame were written, always fewer than
+    /// all. A write that takes no byte has failed, and so has one that was interrupted 1,001 times in a row.
     pub fn send(&mut self, message: &Message) -> Result<(), Fault>
         requires goes_on { has_failed self.old.last_write ≡ false }
         ensures sends { Sends self.old.output self.new.output (frame message.now) result }
@@ -103,7 +117,12 @@ impl<R: Read, W: Write, L: Ledger> Connection<R, W, L> {
         )
     }
 
-    /// The next message.
+    /// The next message; nothing at an end between frames. The bytes that the connection holds are handed out before it reads.
+    ///
+    /// `Closed` after a faulty frame; `BadMark`, `BadVersion`, `BadLength`, `UnknownKind` or `Malformed` of the frame that comes
+    /// next, and the connection is closed from then on; `ReadFailed`; `Truncated` at an end inside a frame; `TurnsSpent` if it
+    /// needs one more read than are left; `NoMemory`. After the last four faults every byte that was read is held, and the call
+    /// may be made again.
     pub fn receive(&mut self) -> Result<Option<Message>, Fault>
         ensures gives { ReceivesOn self.old self.new result }
         ensures counted { self.new.steps + self.new.left ≡ self.old.steps + self.old.left }
@@ -123,21 +142,22 @@ impl<R: Read, W: Write, L: Ledger> Connection<R, W, L> {
         )
     }
 
-    /// Whether the last read failed.
+    /// Whether the last read of the last `receive` failed and was not interrupted; false if none was made since `start`.
     pub fn has_read_failed(&self) -> bool
         ensures { result ≡ self.now.read_failed }
     {
         self.last_read.has_failed()
     }
 
-    /// Whether the last write failed.
+    /// Whether the last write failed, took no byte, or was one of more than 1,000 in a row that were interrupted; false if none
+    /// was made since `start`. No message can be sent after such a write, unless `start` is called first.
     pub fn has_write_failed(&self) -> bool
         ensures { result ≡ has_failed self.now.last_write }
     {
         self.last_write.has_failed()
     }
 
-    /// The reader and the writer.
+    /// Gives the reader and the writer back. The bytes that were read and not handed out are lost.
     pub fn into_parts(self) -> (R, W)
         ensures input { R.remaining result.0 ≡ self.input }
         ensures output { W.contents result.1 ≡ self.output }
