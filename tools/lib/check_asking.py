@@ -1,5 +1,5 @@
 """A part of tools/check-node: what the commands that ask a node send, and what they make of each answer. They ask a made-up node, which keeps the
-requests and answers as it was told. What is wanted is what docs/FORMATS.md, docs/FAULTS.md and docs/OPERATING.md say."""
+requests and sends the answers that it was given. docs/FORMATS.md and docs/REFERENCE.md have what is wanted."""
 import fcntl
 import os
 import re
@@ -13,7 +13,7 @@ from concurrent.futures import ThreadPoolExecutor
 from nodes import BYE, DONE, FRAME_FRONT, REFUSED, ROOT, SECONDS, Difference
 from nodes import ask, delta, digest, frame, hello, number, page, put, read_frame, run, send_in_pieces, text, want, weight
 
-# the reads that a script may take, by docs/FAULTS.md
+# the reads that a script may take, by docs/REFERENCE.md
 SCRIPT_READS = 1_000_000
 # the faults whose text has a number that a Refused does not carry
 CARRIES_MORE = (13, 14, 17, 21, 31)
@@ -37,9 +37,9 @@ def address(word):
 
 
 def texts():
-    """The text of each fault, by its number, as docs/FAULTS.md has it."""
-    told = (ROOT / "docs" / "FAULTS.md").read_text()
-    return {int(at): words for at, words in re.findall(r"^\| (\d+) \| `\w+(?:\(N\))?` \| (.*?) \|", told, re.M)}
+    """The text of each fault, by its number, as docs/REFERENCE.md has it."""
+    reference = (ROOT / "docs" / "REFERENCE.md").read_text()
+    return {int(at): words for at, words in re.findall(r"^\| (\d+) \| `\w+(?:\(N\))?` \| (.*?) \|", reference, re.M)}
 
 
 class MadeUp:

@@ -10,6 +10,7 @@ from nodes import BYE, SECONDS, Difference, block, connect, delta, frame, hello,
 
 # each metric, in the order of the file, with its type and the labels of its values beside that of the node
 METRICS = {
+    "attrdir_build_info": ("gauge", ("version", "frames", "logs")),
     "attrdir_rounds_total": ("counter", ()),
     "attrdir_round_faults_total": ("counter", ()),
     "attrdir_sessions_total": ("counter", ()),
@@ -154,7 +155,8 @@ def metrics_of_state(check):
     node = check.node("a", "--pause", "10", "--metrics", str(path), folder=folder).start()
     none = {("attrdir_owners",): 1, ("attrdir_keys",): 0, ("attrdir_round_faults_total",): 0, ("attrdir_sessions_total",): 0}
     found = awaits(path, "a", none)
-    want("the owners and the peers", [it for it in found if len(it) > 1], [])
+    release = ("attrdir_build_info", "0.2.0", "3", "2")
+    want("the release, and no owners or peers", [it for it in found if len(it) > 1], [release])
     give(node, delta("b", 0, [("k", 1, weight(5))]))
     give(node, delta("a", 0, [("k", 1, weight(6))]))
     awaits(path, "a", {("attrdir_owners",): 2, ("attrdir_name_conflict",): 1, ("attrdir_sessions_total",): 2, ("attrdir_held_version", "b"): 1})

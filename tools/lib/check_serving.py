@@ -1,4 +1,4 @@
-"""A part of tools/check-node: what the options and the words of `attrdir serve` do, by docs/OPERATING.md. Frames that are made by hand tell of each
+"""A part of tools/check-node: what the options and the words of `attrdir serve` do, by docs/REFERENCE.md. Frames that are made by hand tell of each
 what it changes."""
 import socket
 import threading
