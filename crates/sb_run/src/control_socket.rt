@@ -13,7 +13,7 @@ use crate::pool::Source;
 use crate::rounds::RoundsTag;
 use crate::timed::Timed;
 use sb_directory::ReaderSeat;
-use sb_frames::Steps;
+use sb_frames::{Connection, Steps};
 use sb_log::WriteLog;
 use sb_types::Fault;
 use std::marker::Brand;
@@ -23,31 +23,30 @@ use std::sync::Wait;
 use std::sync::ledger::{Blank, Ledger};
 use std::time::Clock;
 
-/// Serves one connection: a request and its answer, each whole within the node's `request`. Says whether it ended with a
-/// fault. It makes at most the node's `max_reads` reads.
+/// Both ways of a connection at the control socket.
+type TimedConnection<'a, Q, K> = Connection<Timed<'a, Q>, Timed<'a, Q>, K>;
+
+/// Serves one connection, a request and its answer, and says whether it ended with a fault. It makes at most the node's
+/// `max_reads` reads.
 fn answer_one<L: WriteLog, S: RoundsTag, H: Wait + Drop, Q: Wait + Clock, K: Ledger>(
     node: &NodeContext<S, H, Q>,
     writes: &mut OwnWrites<L>,
-    input: &UnixStream,
-    output: &UnixStream,
+    connection: &mut TimedConnection<'_, Q, K>,
     seat: ReaderSeat<S>,
-    steps: &mut Steps<K>,
 ) -> (ReaderSeat<S>, bool)
-    ensures reads { steps.new ≤ steps.old + node.now.pace.max_reads }
+    requires limit { connection.old.left ≤ node.now.pace.max_reads }
+    ensures reads { connection.new.steps ≤ connection.old.steps + node.now.pace.max_reads }
     ensures closes { (L.seen writes.old.log).is_open ≡ true → (L.seen writes.new.log).is_open ≡ false → writes.new.has_failed ≡ true }
     // A request was answered, or nothing came of what was read.
     ensures answers { AnswersOne L.seen S.opening S.settings.budget writes.old.log writes.old.owed seat writes.new.log writes.new.owed result.0 }
 {
-    let pace = &node.pace;
-    let mut request = Timed::new(node.rt, input, pace.idle, pace.request);
-    let mut reply = Timed::new(node.rt, output, pace.idle, pace.request);
     let serving = node.serving();
-    let (seat, ended, _) = serve_control(&serving, &mut request, &mut reply, writes, seat, steps);
+    let (seat, ended) = serve_control(&serving, connection, writes, seat);
     (seat, ended.is_err())
 }
 
-/// Serves a connection that was accepted, or not, and says whether that ended with a fault. Its reads are the first of a
-/// ledger.
+/// Serves a connection that was accepted, or not, and says whether that ended with a fault. Its request comes whole within the
+/// node's `request`, and so does its answer. Its reads are the first of a ledger.
 fn serve_accepted<L: WriteLog, S: RoundsTag, H: Wait + Drop, Q: Wait + Clock, K: Ledger>(
     node: &NodeContext<S, H, Q>,
     writes: &mut OwnWrites<L>,
@@ -64,8 +63,12 @@ fn serve_accepted<L: WriteLog, S: RoundsTag, H: Wait + Drop, Q: Wait + Clock, K:
     let Ok((_, input, output)) = accepted else {
         return (seat, true);
     };
-    let mut steps = Steps::<K>::new(blank);
-    answer_one(node, writes, &input, &output, seat, &mut steps)
+    let pace = &node.pace;
+    let request = Timed::new(node.rt, &input, pace.idle, pace.request);
+    let reply = Timed::new(node.rt, &output, pace.idle, pace.request);
+    let steps = Steps::<K>::new(blank);
+    let mut connection = Connection::new(node.alloc, request, reply, pace.max_reads, steps);
+    answer_one(node, writes, &mut connection, seat)
 }
 
 /// What comes of the control socket.

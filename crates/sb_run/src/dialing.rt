@@ -9,7 +9,7 @@ use crate::greeting::session_of;
 use crate::rounds::RoundsTag;
 use crate::sockets::{connect, limit};
 use sb_directory::{ReaderSeat, SeatHandler};
-use sb_frames::Steps;
+use sb_frames::{Connection, Steps};
 use sb_session::{Ended, dial};
 use sb_types::{Fault, OWNERS_MOST};
 use std::io::{Read, Write};
@@ -44,28 +44,19 @@ pub(crate) fn digests_of_all<S: RoundsTag, H: Wait + Drop, Q: Wait>(
 /// `max_reads` reads. What it enters is news.
 fn talk<S: RoundsTag, H: Wait + Drop, Q: Wait, I: Read, O: Write, K: Ledger>(
     node: &NodeContext<S, H, Q>,
-    input: &mut I,
-    output: &mut O,
+    connection: &mut Connection<I, O, K>,
     seat: ReaderSeat<S>,
     exchanges: u64,
-    steps: &mut Steps<K>,
 ) -> (ReaderSeat<S>, Result<Ended, Fault>)
+    requires limit { connection.old.left ≤ node.now.pace.max_reads }
     ensures later { IsLater seat result.0 }
-    ensures greets { Greets S.settings.cluster S.opening.held.me (O.contents output.old) (O.contents output.new) }
-    ensures reads { steps.new ≤ steps.old + node.now.pace.max_reads }
+    ensures greets { Greets S.settings.cluster S.opening.held.me connection.old.output connection.new.output }
+    ensures reads { connection.new.steps ≤ connection.old.steps + node.now.pace.max_reads }
 {
     let served = SeatHandler::new(node.rt, node.directory, seat);
     let mut handler = GatedHandler::new(served, node.bell, 0);
-    let (ended, _) = dial(
-        node.alloc,
-        input,
-        output,
-        session_of(node.directory),
-        &mut handler,
-        exchanges,
-        node.pace.max_reads,
-        steps,
-    );
+    let session = session_of(node.directory);
+    let ended = dial(connection, session, &mut handler, exchanges);
     (handler.into_inner().into_seat(), ended)
 }
 
@@ -86,9 +77,10 @@ fn dial_stream<S: RoundsTag, H: Wait + Drop, Q: Wait, K: Ledger>(
     if limit(&stream, node.pace.dial_idle).is_err() {
         return (seat, Err(Fault::ReadFailed));
     }
-    let mut steps = Steps::<K>::new(blank);
-    let (mut input, mut output) = (&stream, &stream);
-    talk(node, &mut input, &mut output, seat, exchanges, &mut steps)
+    let max_reads = node.pace.max_reads;
+    let steps = Steps::<K>::new(blank);
+    let mut connection = Connection::new(node.alloc, &stream, &stream, max_reads, steps);
+    talk(node, &mut connection, seat, exchanges)
 }
 
 /// Dials the peer at a path, for so many exchanges, and how that ended: by `ReadFailed` also where the peer can't be reached.

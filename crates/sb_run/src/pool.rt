@@ -10,7 +10,7 @@ use crate::greeting::session_of;
 use crate::serving::Serving;
 use core::mem::replace_with;
 use sb_directory::{DirectoryTag, ReaderSeat, SeatHandler};
-use sb_frames::Steps;
+use sb_frames::{Connection, Steps};
 use sb_session::serve;
 use sb_types::Fault;
 use std::io::{Read, Write};
@@ -60,25 +60,18 @@ fn serve_session<S: DirectoryTag, H: Wait + Drop, Q: Wait, I: Read, O: Write, G:
     serving: &Serving<S, H, Q>,
     gate: &G,
     number: u64,
-    streams: &mut (I, O),
+    connection: &mut Connection<I, O, K>,
     seat: ReaderSeat<S>,
-    steps: &mut Steps<K>,
 ) -> (ReaderSeat<S>, bool)
+    requires limit { connection.old.left ≤ serving.now.max_reads }
     ensures kept { IsKept (IsShut (G.lets gate.now number)) seat result.0 }
-    ensures greets { Greets S.settings.cluster S.opening.held.me (O.contents streams.old.1) (O.contents streams.new.1) }
-    ensures reads { steps.new ≤ steps.old + serving.now.max_reads }
+    ensures greets { Greets S.settings.cluster S.opening.held.me connection.old.output connection.new.output }
+    ensures reads { connection.new.steps ≤ connection.old.steps + serving.now.max_reads }
 {
     let served = SeatHandler::new(serving.rt, serving.directory, seat);
     let mut handler = GatedHandler::new(served, gate, number);
-    let (ended, _) = serve(
-        serving.alloc,
-        &mut streams.0,
-        &mut streams.1,
-        session_of(serving.directory),
-        &mut handler,
-        serving.max_reads,
-        steps,
-    );
+    let session = session_of(serving.directory);
+    let ended = serve(connection, session, &mut handler);
     (handler.into_inner().into_seat(), ended.is_err())
 }
 
@@ -106,10 +99,11 @@ fn serve_taken<
     ensures { IsKept (IsShut (G.lets gate.now taken.0)) seat result }
 {
     tally.sessions.fetch_add(1, Ordering::SeqCst);
-    let mut steps = Steps::<K>::new(blank);
     let (number, input, output) = taken;
-    let mut streams = (input, output);
-    let (seat, failed) = serve_session(serving, gate, number, &mut streams, seat, &mut steps);
+    let max_reads = serving.max_reads;
+    let steps = Steps::<K>::new(blank);
+    let mut connection = Connection::new(serving.alloc, input, output, max_reads, steps);
+    let (seat, failed) = serve_session(serving, gate, number, &mut connection, seat);
     if failed {
         tally.faults.fetch_add(1, Ordering::SeqCst);
     }
